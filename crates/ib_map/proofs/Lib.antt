@@ -1,0 +1,12 @@
+pub mod KeyLaws
+pub mod RiseLaws
+pub mod PairLaws
+pub mod CutLaws
+pub mod PlaceLaws
+pub mod MapLaws
+pub mod HistoryLaws
+pub mod FitsLaws
+pub mod RunLaws
+pub mod ChunkLaws
+pub mod FullRecordLaws
+mod WorkedRows

@@ -1,0 +1,144 @@
+-- The definitions tried on small scripts whose outcome was worked out by hand.
+use Rattle.std.proofs.Common.{◌≡◌, ℕ, zero, suc, ◌-◌, ◌^◌, List, [], ◌∷◌, refl, arith, eqb, false, lit≤}
+use Rattle.std.proofs.lemmas.Bool.{ne_eqb}
+use Rattle.ib_map.specs.Keys.{rank}
+use Rattle.ib_map.specs.Pairs.{Pairs, cut}
+use Rattle.ib_map.specs.Map.{answer_of, effect_of}
+use Rattle.ib_map.specs.History.{History, map_with, changes_of, IsLegalHistory}
+use Rattle.ib_map.specs.Replies.{FullRecord, Fits}
+use Rattle.ib_map.specs.Runs.{IsLegalSession, IsLegalRun}
+use Rattle.ib_map.specs.declared.call.Call.TheVariants.{Insert, Delete, Get}
+use Rattle.ib_map.specs.declared.call.Change.TheVariants.{Insert as InsertChange, Delete as DeleteChange}
+use Rattle.ib_map.specs.declared.call.Reply.TheVariants.{Inserted, Duplicate, Deleted, Missing, Found, NotFound}
+use Rattle.ib_map.proofs.HistoryLaws.{IsLegalHistory-none, IsLegalHistory-push}
+
+-- a second insert of a key is a duplicate, and the first value stays
+pub first_insert : answer_of [] (InsertChange 10 100) ≡ Inserted
+unfolding rank
+first_insert = refl
+
+pub second_insert : answer_of (effect_of [] (InsertChange 10 100)) (InsertChange 10 7) ≡ Duplicate
+unfolding rank
+second_insert = refl
+
+pub first_value_stays : effect_of (effect_of [] (InsertChange 10 100)) (InsertChange 10 7) ≡ (10, 100) ∷ []
+unfolding rank
+first_value_stays = refl
+
+-- a delete of a key that is not there is missing
+pub delete_of_none : answer_of [] (DeleteChange 5) ≡ Missing
+delete_of_none = refl
+
+pub delete_of_none_changes_nothing : effect_of [] (DeleteChange 5) ≡ []
+delete_of_none_changes_nothing = refl
+
+-- the least and the greatest key, and a scan of both
+abbrev pub both_ends : Pairs
+both_ends = effect_of (effect_of [] (InsertChange (2 ^ 64 - 1) 1)) (InsertChange 0 2)
+
+pub both_ends_in_order : both_ends ≡ (0, 2) ∷ (2 ^ 64 - 1, 1) ∷ []
+unfolding rank
+both_ends_in_order = refl
+
+pub scan_of_all : cut both_ends 0 (2 ^ 64 - 1) ≡ (0, 2) ∷ (2 ^ 64 - 1, 1) ∷ []
+unfolding rank
+scan_of_all = refl
+
+pub scan_of_none : cut both_ends 5 3 ≡ []
+unfolding rank
+scan_of_none = refl
+
+-- one session inserts a key, reads it, deletes it, and reads it again
+abbrev pub put_and_taken : History
+put_and_taken = record { session = 1; number = 1; change = InsertChange 10 100 } ∷ record { session = 1; number = 2; change = DeleteChange 10 } ∷ []
+
+abbrev pub four_records : List FullRecord
+four_records =
+    record { call = Insert 10 100; reply = Inserted; place = 0; spans = [] }
+    ∷ record { call = Get 10; reply = Found 100; place = 1; spans = [] }
+    ∷ record { call = Delete 10; reply = Deleted 100; place = 1; spans = [] }
+    ∷ record { call = Get 10; reply = NotFound; place = 2; spans = [] }
+    ∷ []
+
+pub put_and_taken-map : map_with [] put_and_taken ≡ []
+unfolding rank
+put_and_taken-map = refl
+
+pub put_and_taken-legal : IsLegalHistory put_and_taken
+unfolding rank
+put_and_taken-legal =
+    IsLegalHistory-push (record { session = 1; number = 1; change = InsertChange 10 100 } ∷ []) (record { session = 1; number = 2; change = DeleteChange 10 })
+    (IsLegalHistory-push [] (record { session = 1; number = 1; change = InsertChange 10 100 }) IsLegalHistory-none refl refl) refl refl
+
+-- a session beside the first has no changes there
+no_changes : (n : ℕ) → changes_of (suc (suc n)) put_and_taken ≡ []
+no_changes n = let other : eqb 1 (suc (suc n)) ≡ false = ne_eqb 1 (suc (suc n)) (λ e. omega arith) in rw other refl
+
+pub four_records-legal : IsLegalRun Fits put_and_taken (four_records ∷ [])
+unfolding rank
+four_records-legal zero = record { answers = tt; changes = refl }
+four_records-legal (suc zero) = record {
+  answers = (
+    (lit≤ tt, ((refl, (record { session = 1; number = 1; change = InsertChange 10 100 }, refl, refl, refl)), refl)),
+    lit≤ tt,
+    lit≤ tt,
+    (
+      (lit≤ tt, (refl, refl)),
+      lit≤ tt,
+      lit≤ tt,
+      (
+        (lit≤ tt, ((refl, (record { session = 1; number = 2; change = DeleteChange 10 }, refl, refl, refl)), refl)),
+        lit≤ tt,
+        lit≤ tt,
+        ((lit≤ tt, (refl, refl)), lit≤ tt, lit≤ tt, tt),
+      ),
+    ),
+  );
+  changes = refl;
+}
+four_records-legal (suc (suc n)) = record { answers = tt; changes = no_changes n }
+
+-- two sessions: the first inserts a key and reads it, the second deletes it after that
+abbrev pub handed_over : History
+handed_over = record { session = 1; number = 1; change = InsertChange 7 1 } ∷ record { session = 2; number = 1; change = DeleteChange 7 } ∷ []
+
+abbrev pub first_session : List FullRecord
+first_session = record { call = Insert 7 1; reply = Inserted; place = 0; spans = [] } ∷ record { call = Get 7; reply = Found 1; place = 1; spans = [] } ∷ []
+
+abbrev pub second_session : List FullRecord
+second_session = record { call = Delete 7; reply = Deleted 1; place = 1; spans = [] } ∷ []
+
+pub handed_over-legal : IsLegalRun Fits handed_over (first_session ∷ second_session ∷ [])
+unfolding rank
+handed_over-legal zero = record { answers = tt; changes = refl }
+handed_over-legal (suc zero) = record {
+  answers = (
+    (lit≤ tt, ((refl, (record { session = 1; number = 1; change = InsertChange 7 1 }, refl, refl, refl)), refl)),
+    lit≤ tt,
+    lit≤ tt,
+    ((lit≤ tt, (refl, refl)), lit≤ tt, lit≤ tt, tt),
+  );
+  changes = refl;
+}
+handed_over-legal (suc (suc zero)) = record {
+  answers = ((lit≤ tt, ((refl, (record { session = 2; number = 1; change = DeleteChange 7 }, refl, refl, refl)), refl)), lit≤ tt, lit≤ tt, tt);
+  changes = refl;
+}
+handed_over-legal (suc (suc (suc n))) =
+    let first : eqb 1 (suc (suc (suc n))) ≡ false = ne_eqb 1 (suc (suc (suc n))) (λ e. omega arith) in
+    let second : eqb 2 (suc (suc (suc n))) ≡ false = ne_eqb 2 (suc (suc (suc n))) (λ e. omega arith) in
+    record { answers = tt; changes = rw (first, second) refl }
+
+-- the first session does not read the key as gone before it is deleted
+pub gone_too_early : Fits handed_over 1 (record { call = Get 7; reply = NotFound; place = 1; spans = [] }) → ⊥
+unfolding rank
+gone_too_early fits = let wrong = fits.1.0 in cc
+
+-- nor does it read the older map once it has seen its own change
+pub older_map : IsLegalSession (Fits handed_over 1) handed_over 1
+    (record { call = Insert 7 1; reply = Inserted; place = 0; spans = [] } ∷ record { call = Get 7; reply = NotFound; place = 0; spans = [] } ∷ []) → ⊥
+older_map legal = let seen = legal.answers.3.1 in omega arith
+
+-- and a change that nobody reports is no part of a legal run
+pub unreported_change : IsLegalSession (Fits handed_over 1) handed_over 1 [] → ⊥
+unreported_change legal = let changes = legal.changes in cc

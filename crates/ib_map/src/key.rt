@@ -1,0 +1,42 @@
+ghost use Rattle.std.specs.Prelude.{IsNone, IfSome, ◌≤◌, ◌≡◌, ◌<◌, ◌↔◌, IsTrue};
+ghost use Rattle.ib_map.specs.Keys.{MapKey, rank, end_rank, key_after};
+
+/// A key of the index. Code outside this crate copies keys and compares them by the calls below.
+pub type Key = u64;
+
+/// No key is below this one.
+pub const LEAST: Key = 0;
+
+/// No key is above this one.
+pub const GREATEST: Key = u64::MAX;
+
+/// The next key: no key lies between. None exactly for `GREATEST`.
+#[tactic(auto, unfolding(crate::specs::Keys::rank, crate::specs::Keys::key_after))]
+pub fn after(key: Key) -> Option<Key>
+    ensures next { result ≡ key_after key }
+    ensures last { IsNone result ↔ (key ≡ GREATEST) }
+    ensures above { IfSome result (λ next. rank key < rank next) }
+    ensures adjacent { IfSome result (λ next. (other : MapKey) → rank key < rank other → rank next ≤ rank other) }
+{
+    key.checked_add(1)
+}
+
+/// Whether `a` stands before `b` in the order of keys.
+#[tactic(auto, unfolding(crate::specs::Keys::rank, crate::specs::Keys::end_rank))]
+pub fn is_below(a: Key, b: Key) -> bool
+    ensures below { IsTrue result ↔ (rank a < rank b) }
+    ensures first { rank a < end_rank }
+    ensures second { rank b < end_rank }
+{
+    a < b
+}
+
+/// Whether both are the same key.
+#[tactic(auto, unfolding(crate::specs::Keys::rank, crate::specs::Keys::end_rank))]
+pub fn is_same(a: Key, b: Key) -> bool
+    ensures same { IsTrue result ↔ (rank a ≡ rank b) }
+    ensures first { rank a < end_rank }
+    ensures second { rank b < end_rank }
+{
+    a == b
+}
