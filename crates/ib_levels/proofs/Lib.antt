@@ -1,0 +1,3 @@
+pub mod Orderly
+pub mod Holdings
+pub mod Counts

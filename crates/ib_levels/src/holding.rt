@@ -1,0 +1,72 @@
+//! What a session has on each of its latches, and which latch it may take beside them.
+
+ghost use Rattle.std.specs.Prelude.{◌≡◌, ◌↔◌, ◌⊎◌, ◌++◌, ◌∷◌, [], IsTrue, IsOk};
+ghost use Rattle.ib_levels.specs.Level.{IsOrderly, MayTake, first_against};
+ghost use Rattle.ib_levels.specs.Held.{answer_to};
+ghost use Rattle.ib_levels.specs.Holding.{held_of, is_held, levels_of};
+
+use crate::held::{Against, Held};
+use crate::latch::Latch;
+use crate::level::{Level, Mode};
+
+/// What a session has on one latch: the level of its first acquisition, and the grants by mode.
+/// A reservation of X counts as a grant of X.
+#[derive(Clone, Copy, PartialEq, Eq, Debug)]
+pub struct Holding {
+    pub latch: Latch,
+    pub level: Level,
+    pub s: u32,
+    pub sx: u32,
+    pub x: u32,
+}
+
+impl Holding {
+    /// The holding as one element of a list: its strongest mode, at its level.
+    pub fn held(&self) -> Held
+        ensures { result ≡ held_of self.now }
+    {
+        let mode = if self.x > 0 {
+            Mode::X
+        } else if self.sx > 0 {
+            Mode::Sx
+        } else {
+            Mode::S
+        };
+        Held {
+            latch: self.latch,
+            mode,
+            level: self.level,
+        }
+    }
+}
+
+/// Whether one of these is on the latch.
+pub fn holds(held: &[Holding], latch: Latch) -> bool
+    ensures { result ≡ is_held latch.0 held.now }
+{
+    held.iter().any(|h| h.latch == latch)
+}
+
+/// The first level of these that forbids a request at the level wanted.
+fn first_forbidding(held: &[Holding], wanted: Level) -> Option<Level>
+    ensures { result ≡ first_against wanted (levels_of held.now) }
+{
+    held.iter()
+        .map(|h| h.level)
+        .find(|l| !wanted.may_follow(*l))
+}
+
+/// The same as `may_take`, for a session's holdings.
+pub fn may_add(held: &[Holding], latch: Latch, level: Level) -> Result<(), Against>
+    ensures answer { result ≡ answer_to (is_held latch.0 held.now) level (levels_of held.now) }
+    ensures ok { IsOk result
+        ↔ (IsTrue (is_held latch.0 held.now) ⊎ MayTake level (levels_of held.now)) }
+    ensures orderly { IsOrderly (levels_of held.now)
+        → (IsOk result ↔ (IsTrue (is_held latch.0 held.now)
+        ⊎ IsOrderly (levels_of held.now ++ level ∷ []))) }
+{
+    if holds(held, latch) {
+        return Ok(());
+    }
+    Against::unless_none(first_forbidding(held, level), level)
+}

@@ -1,0 +1,26 @@
+//! The latches of a space, by number.
+
+ghost use Rattle.std.specs.Prelude.{◌≡◌, ◌+◌, ◌<◌};
+
+/// The most pages that a space has.
+pub const MOST_PAGES: u32 = 4096;
+
+/// A latch: the log's is 0, the index's is 1, and that of page p is p + 2.
+#[derive(Clone, Copy, PartialEq, Eq, Debug)]
+pub struct Latch(pub u32);
+
+impl Latch {
+    /// The latch of the log.
+    pub const LOG: Latch = Latch(0);
+
+    /// The latch of the index (dict_index_t::lock).
+    pub const INDEX: Latch = Latch(1);
+
+    /// The latch of a page (buf_block_t::lock). Pages are numbered from 0.
+    pub fn page(p: u32) -> Latch
+        requires { p < MOST_PAGES }
+        ensures { result ≡ record { 0 = p + 2 } }
+    {
+        Latch(p + 2)
+    }
+}
