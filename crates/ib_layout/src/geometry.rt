@@ -1,0 +1,93 @@
+ghost use Rattle.std.specs.Prelude.{◌≡◌, ◌↔◌, ◌&&◌, true, false, IfOk, IsOk};
+ghost use Rattle.ib_layout.specs.Geometry.{has_log, has_pages};
+
+use ib_levels::MOST_PAGES;
+use std::marker::Model;
+use thiserror::Error;
+
+/// The fewest pages that a space has.
+pub const LEAST_PAGES: u32 = 16;
+
+/// The fewest words that a log has: those of the longest entry.
+pub const LEAST_LOG_WORDS: u32 = 8196;
+
+/// The most words that a log has.
+pub const MOST_LOG_WORDS: u32 = 16_777_216;
+
+/// Why there is no space of these sizes.
+#[derive(Clone, Copy, Debug, PartialEq, Eq, Error)]
+pub enum LayoutFault {
+    /// Not `LEAST_PAGES` to `MOST_PAGES` pages.
+    #[error("{given} pages")]
+    BadPages { given: u32 },
+    /// Not `LEAST_LOG_WORDS` to `MOST_LOG_WORDS` log words.
+    #[error("{given} log words")]
+    BadLog { given: u32 },
+}
+
+/// The sizes of a space: its pages, and the words of its log.
+#[derive(Clone, Copy, Debug, PartialEq, Eq)]
+pub struct Geometry {
+    pages: u32,
+    log_words: u32,
+}
+
+impl Model for Geometry {
+    ghost use Rattle.std.specs.Prelude.{◌≡◌, true};
+    ghost use Rattle.ib_layout.specs.Geometry.{Sizes, has_log, has_pages, sizes_code};
+
+    ghost Value = { Sizes };
+
+    ghost coded = { sizes_code };
+
+    ghost view = { λ g. record { pages = g.pages; log_words = g.log_words } };
+
+    ghost invariant = { λ g. (has_pages g.pages ≡ true) × (has_log g.log_words ≡ true) };
+
+    ghost inverse = { λ s. record { pages = s.pages; log_words = s.log_words } };
+}
+
+impl Geometry {
+    /// Refused as `BadPages` exactly where the pages are out of range, and then as `BadLog` exactly where the log words are.
+    pub fn new(pages: u32, log_words: u32) -> Result<Geometry, LayoutFault>
+        ensures sizes { IfOk result (λ g. g ≡ record { pages = pages; log_words = log_words }) }
+        ensures ok { IsOk result ↔ (has_pages pages && has_log log_words ≡ true) }
+        ensures bad_pages { (result ≡ Err (LayoutFault.BadPages pages)) ↔ (has_pages pages ≡ false) }
+        ensures bad_log { (result ≡ Err (LayoutFault.BadLog log_words)) ↔ ((has_pages pages ≡ true) × (has_log log_words ≡ false)) }
+    {
+        if !(LEAST_PAGES..=MOST_PAGES).contains(&pages) {
+            return Err(LayoutFault::BadPages { given: pages });
+        }
+        if !(LEAST_LOG_WORDS..=MOST_LOG_WORDS).contains(&log_words) {
+            return Err(LayoutFault::BadLog { given: log_words });
+        }
+        Ok(Geometry { pages, log_words })
+    }
+
+    /// How many pages the space has, `LEAST_PAGES` to `MOST_PAGES`.
+    pub fn pages(&self) -> u32
+        ensures pages { result ≡ self.now.pages }
+        ensures in_range { has_pages result ≡ true }
+    {
+        self.pages
+    }
+
+    /// How many words its log has, `LEAST_LOG_WORDS` to `MOST_LOG_WORDS`.
+    pub fn log_words(&self) -> u32
+        ensures words { result ≡ self.now.log_words }
+        ensures in_range { has_log result ≡ true }
+    {
+        self.log_words
+    }
+
+    /// The largest space.
+    pub fn largest() -> Geometry
+        ensures pages { result.pages ≡ MOST_PAGES }
+        ensures words { result.log_words ≡ MOST_LOG_WORDS }
+    {
+        Geometry {
+            pages: MOST_PAGES,
+            log_words: MOST_LOG_WORDS,
+        }
+    }
+}

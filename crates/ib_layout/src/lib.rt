@@ -1,0 +1,8 @@
+//! How large a space is, and where its words stand.
+#![tactic(auto)]
+
+mod geometry;
+#[cfg(test)]
+mod tests;
+
+pub use geometry::{Geometry, LEAST_LOG_WORDS, LEAST_PAGES, LayoutFault, MOST_LOG_WORDS};
