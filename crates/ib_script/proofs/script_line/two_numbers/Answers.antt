@@ -1,0 +1,8 @@
+use Rattle.std.proofs.Common.{sym}
+use Rattle.ib_script.specs.Script.{fields_behind}
+use Rattle.ib_script.proofs.Fields.{two-more}
+use Rattle.ib_script.proofs.script_line.two_numbers.Goals as goal
+
+pub returns-in-Some : goal.returns-in-Some
+returns-in-Some c = sym (two-more (fields_behind c.args.fields) c.first_field.result.0.now c.in_ok-ok_or-2.field-0.now c.first_field-2.result.0.now c.in-Some.field-0.now
+    (rw c.in_ok-ok_or.ensures.ok_part (rw c.in_ok-ok_or-2.ensures.ok_part at c.first_field.ensures)) (rw c.in-Some.is at c.first_field-2.ensures))

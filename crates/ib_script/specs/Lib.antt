@@ -1,0 +1,10 @@
+pub mod Faults
+pub mod Lines
+pub mod Lists
+pub mod Building
+pub mod Numbers
+pub mod Output
+pub mod Script
+pub mod Spans
+pub mod Writer
+pub mod FaultText

@@ -1,0 +1,123 @@
+ghost use Rattle.std.specs.Prelude.{◌≡◌, ◌≤◌, ◌-◌, ◌<◌, ◌^◌, ℕ, None, Some, Ok, Err, [], length, slice_index_or, vec_len, IfOk};
+ghost use Rattle.ib_script.specs.Lists.{lists_of};
+ghost use Rattle.ib_script.specs.Script.{IsScript, IsSmall, first_fault, readings_of};
+ghost use Rattle.ib_script.specs.declared.script_line.LineKind.{LineKind};
+ghost use Rattle.ib_script.specs.declared.script_line.TheConstants.{MOST_SESSIONS};
+
+use crate::builder::{Builder, LineFault};
+use crate::line::first_line;
+use crate::script_line::{LineKind, MOST_SESSIONS};
+use ib_layout::Geometry;
+use ib_map::Call;
+use std::alloc::Global;
+use std::marker::Model;
+use thiserror::Error;
+
+/// Why a script is not read.
+#[derive(Debug, Drop, Error)]
+pub enum ScriptFault {
+    /// The first bad line, counted from 1 over all lines.
+    #[error("line {line} is bad")]
+    BadLine { line: u32, kind: LineKind },
+    #[error("out of memory")]
+    OutOfMemory,
+}
+
+/// A script: how large a space it asks for, and what each session does there.
+#[derive(Drop)]
+pub struct Script {
+    geometry: Geometry,
+    sessions: Vec<Vec<Call>>,
+}
+
+impl Model for Script {
+    ghost use Rattle.std.specs.Prelude.{◌≤◌, vec_len};
+    ghost use Rattle.ib_script.specs.Lists.{lists_of};
+    ghost use Rattle.ib_script.specs.Script.{ScriptValue};
+    ghost use Rattle.ib_script.specs.declared.script_line.TheConstants.{MOST_SESSIONS};
+
+    ghost Value = { ScriptValue };
+
+    ghost view = { λ s. record { sizes = s.geometry; commands = lists_of s.sessions.items } };
+
+    ghost invariant = { λ s. vec_len s.sessions ≤ MOST_SESSIONS };
+}
+
+impl Script {
+    // The commands of each session: session n's at place n - 1.
+    pub(crate) fn new(geometry: Geometry, sessions: Vec<Vec<Call>>) -> Script
+        requires { vec_len sessions ≤ MOST_SESSIONS }
+        ensures { result ≡ record { sizes = geometry; commands = lists_of sessions.items } }
+    {
+        Script { geometry, sessions }
+    }
+
+    /// How large its space is: as its `space` line says, or else the largest.
+    pub fn geometry(&self) -> Geometry
+        ensures { result ≡ self.now.sizes }
+    {
+        self.geometry
+    }
+
+    /// The greatest session that has a command, at most `MOST_SESSIONS`, or 0.
+    pub fn sessions(&self) -> u32
+        ensures sessions { result ≡ length self.now.commands }
+        ensures few { result ≤ MOST_SESSIONS }
+    {
+        self.sessions.len() as u32
+    }
+
+    /// The commands of a session, in order. Sessions are counted from 1; session 0 and those beyond the last have none.
+    pub fn commands(&self, session: u32) -> &[Call]
+        ensures some { 1 ≤ session → result.now ≡ slice_index_or self.now.commands (session - 1) [] }
+        ensures none { session ≡ 0 → result.now ≡ [] }
+    {
+        if session == 0 {
+            return &[];
+        }
+        match self.sessions.get(session as usize - 1) {
+            Some(commands) => commands.as_slice(),
+            None => &[],
+        }
+    }
+}
+
+impl LineFault {
+    ghost use Rattle.std.specs.Prelude.{◌≡◌};
+    ghost use Rattle.ib_script.specs.Building.{fault_at};
+
+    // The fault, where the line has this number.
+    fn at(self, line: u32) -> ScriptFault
+        ensures { result ≡ fault_at line self }
+    {
+        match self {
+            LineFault::Bad(kind) => ScriptFault::BadLine { line, kind },
+            LineFault::OutOfMemory => ScriptFault::OutOfMemory,
+        }
+    }
+}
+
+/// The script that these bytes spell, or its first bad line, or want of memory. Linear in the bytes.
+///
+/// Lines are empty, or begin with `#`, or are `space PAGES LOGWORDS` before all others, `session N`, `insert K V`,
+/// `delete K`, `get K` and `scan L H`.
+pub fn read_script(alloc: Global, bytes: &[u8]) -> Result<Script, ScriptFault>
+    requires { length bytes.now < 2 ^ 32 - 1 }
+    ensures good { IfOk result (λ _. first_fault [] (readings_of bytes.now) ≡ None) }
+    ensures script { IfOk result (IsScript (readings_of bytes.now)) }
+    ensures small { IfOk result IsSmall }
+    ensures bad { (line : ℕ) (kind : LineKind) → result ≡ Err (ScriptFault.BadLine line kind) → first_fault [] (readings_of bytes.now) ≡ Some (line, kind) }
+{
+    let mut builder = Builder::new(alloc);
+    let mut rest = bytes;
+    let mut count = 0;
+    while !rest.is_empty() {
+        let (line, after) = first_line(rest);
+        count += 1;
+        match builder.take(alloc, line) {
+            Ok(()) => rest = after,
+            Err(fault) => return Err(fault.at(count)),
+        }
+    }
+    Ok(builder.finish())
+}
