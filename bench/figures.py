@@ -1,0 +1,74 @@
+#!/usr/bin/env python3
+"""Prints how long the program takes on three large scripts, and its peak of resident memory.
+
+The scripts are made here, from a fixed seed, in a folder that is removed afterwards. Nothing is judged.
+"""
+
+import os
+import random
+import subprocess
+import sys
+import tempfile
+import time
+
+TOP = os.path.dirname(os.path.dirname(os.path.abspath(__file__)))
+PROGRAM = os.path.join(TOP, "ib_tool")
+
+
+def ascending(count):
+    for key in range(count):
+        yield f"insert {key * 9000000000000} {key}\n"
+
+
+def gets(count):
+    for key in range(0, 20000, 2):
+        yield f"insert {key} {key}\n"
+    for call in range(count - 10000):
+        yield f"get {call * 7919 % 20000}\n"
+
+
+def mixed(count, sessions, keys):
+    dice = random.Random(57)
+    for session in range(1, sessions + 1):
+        yield f"session {session}\n"
+        for _ in range(count // sessions):
+            key = dice.randrange(keys)
+            kind = dice.randrange(10)
+            if kind < 4:
+                yield f"insert {key} {dice.randrange(1000)}\n"
+            elif kind < 7:
+                yield f"delete {key}\n"
+            elif kind < 9:
+                yield f"get {key}\n"
+            else:
+                yield f"scan {key} {key + 20}\n"
+
+
+def measure(name, lines, folder):
+    script = os.path.join(folder, "script")
+    with open(script, "w") as file:
+        file.writelines(lines)
+    output = os.path.join(folder, "output")
+    with open(script) as given, open(output, "w") as taken:
+        start = time.monotonic()
+        child = subprocess.Popen([PROGRAM, "run"], stdin=given, stdout=taken)
+        _, status, usage = os.wait4(child.pid, 0)
+        seconds = time.monotonic() - start
+    print(
+        f"{name}: status {os.waitstatus_to_exitcode(status)}, {seconds:.2f} s, "
+        f"{usage.ru_maxrss / 1024:.0f} MB, {os.path.getsize(script) / 1e6:.1f} MB in, "
+        f"{os.path.getsize(output) / 1e6:.1f} MB out"
+    )
+
+
+def main():
+    subprocess.run([PROGRAM, "run"], stdin=subprocess.DEVNULL, stdout=subprocess.DEVNULL, check=True)
+    with tempfile.TemporaryDirectory() as folder:
+        measure("1,000,000 ascending inserts", ascending(1_000_000), folder)
+        measure("200,000 mixed commands of 4 sessions over 20,000 keys", mixed(200_000, 4, 20_000), folder)
+        measure("1,000,000 commands, 990,000 of them gets", gets(1_000_000), folder)
+    return 0
+
+
+if __name__ == "__main__":
+    sys.exit(main())

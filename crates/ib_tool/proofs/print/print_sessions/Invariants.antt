@@ -1,0 +1,10 @@
+use Rattle.std.proofs.Common.{◌≡◌, ◌+◌, take}
+use Rattle.ib_script.specs.Output.{sessions_from}
+use Rattle.ib_script.specs.Writer.{Puts}
+use Rattle.ib_tool.proofs.print.print_sessions.Given as goal
+
+abbrev pub invariant-loop-out : goal.invariant-loop-out
+invariant-loop-out g l = record {
+  puts : Puts g.K.Sink.written g.K.Sink.faults l.fn.writer l.writer (sessions_from 1 (take l.out-index l.sessions));
+  count : l.number ≡ 1 + l.out-index;
+}

@@ -1,0 +1,7 @@
+pub mod Input
+pub mod Memory
+pub mod Status
+pub mod Told
+pub mod PlainRun
+pub mod Words
+pub mod Answers

@@ -1,0 +1,35 @@
+use super::*;
+use std::alloc::Global;
+use std::process::Abort;
+use std::test::Fail;
+
+mod limits;
+mod lines;
+mod rows;
+mod sides;
+
+// Runs the words on an input that comes in pieces of 1,000 bytes, into a sink that takes 1,000 bytes a call.
+fn told(alloc: Global, words: &[&str], input: &[u8]) -> Result<(Status, MemSink), Fail> {
+    let mut given = Vec::new(alloc);
+    for word in words {
+        given.push(String::from_str(alloc, word)?)?;
+    }
+    let mut source = MemSource::new(Vec::from_slice(alloc, input)?, 1000, Vec::new(alloc));
+    let mut sink = MemSink::new(alloc, 1000, Vec::new(alloc));
+    let status = top(alloc, &given, &mut source, &mut sink, &OpenGate);
+    Ok((status, sink))
+}
+
+// The status and the text that `run` gives for this script.
+fn check(
+    rt: &impl Abort,
+    alloc: Global,
+    script: &[u8],
+    status: Status,
+    text: &[u8],
+) -> Result<(), Fail> {
+    let (found, sink) = told(alloc, &["run"], script)?;
+    assert_eq!(rt; found, status);
+    assert_eq!(rt; sink.bytes(), text);
+    Ok(())
+}

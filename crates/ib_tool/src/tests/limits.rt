@@ -1,0 +1,57 @@
+use super::*;
+
+// The line, so many times.
+fn lines(alloc: Global, line: &[u8], count: u32) -> Result<Vec<u8>, Fail> {
+    let mut script = Vec::new(alloc);
+    for _ in 0..count {
+        script.extend_from_slice(line)?;
+    }
+    Ok(script)
+}
+
+fn accepted(rt: &impl Abort, alloc: Global, script: &[u8]) -> Result<(), Fail> {
+    let (status, _) = told(alloc, &["run"], script)?;
+    assert_eq!(rt; status, Status::Done);
+    Ok(())
+}
+
+#[test]
+fn a_million_commands(rt: HostRuntime) -> Result<(), Fail> {
+    let alloc = rt.alloc();
+    let mut script = lines(alloc, b"get 0\n", 1_000_000)?;
+    accepted(&rt, alloc, &script)?;
+    script.extend_from_slice(b"get 0\n")?;
+    check(
+        &rt,
+        alloc,
+        &script,
+        Status::Script,
+        b"script: line 1000001: many\n",
+    )
+}
+
+#[test]
+fn a_hundred_thousand_scans(rt: HostRuntime) -> Result<(), Fail> {
+    let alloc = rt.alloc();
+    let mut script = lines(alloc, b"scan 0 9\n", 100_000)?;
+    script.extend_from_slice(b"get 1\n")?;
+    accepted(&rt, alloc, &script)?;
+    script.extend_from_slice(b"scan 9 0\n")?;
+    check(
+        &rt,
+        alloc,
+        &script,
+        Status::Script,
+        b"script: line 100002: many\n",
+    )
+}
+
+#[test]
+fn the_greatest_numbers(rt: HostRuntime) -> Result<(), Fail> {
+    let alloc = rt.alloc();
+    accepted(
+        &rt,
+        alloc,
+        b"space 4096 16777216\nsession 64\ninsert 18446744073709551615 18446744073709551615\n",
+    )
+}

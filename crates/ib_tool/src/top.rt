@@ -1,0 +1,129 @@
+ghost use Rattle.std.specs.Prelude.{◌≡◌, ◌≤◌, true, length, map, string_bytes, IfSome};
+ghost use Rattle.ib_script.specs.Faults.{Rose};
+ghost use Rattle.ib_script.specs.Script.{IsSmall};
+ghost use Rattle.ib_tool.specs.Answers.{AnswersInput, IsOwedAt, IsSilent, IsValid, Owes, OwesOutcome, OwesRefusal};
+ghost use Rattle.ib_tool.specs.Told.{IsComplete, IsMemory, Told};
+ghost use Rattle.ib_tool.specs.Words.{is_run};
+
+use crate::gate::Gate;
+use crate::print::write_run;
+use crate::read::{INPUT_BYTES, ReadError, read_all};
+use crate::run_script::run_script;
+use crate::source::Source;
+use crate::status::Status;
+use ib_script::{LineKind, Script, ScriptFault, Sink, read_script, write_all, write_fault};
+use std::alloc::Global;
+
+const USAGE: &[u8] = b"usage: ib_tool run | raw | latch | replay | gen N SEED SESSIONS\n";
+
+const LARGE: &[u8] = b"too large\n";
+
+// Whether the words are the one form that is built.
+fn is_run(words: &[String]) -> bool
+    ensures { result ≡ is_run (map (λ w. string_bytes w) words.now) }
+{
+    match words {
+        [word] => word.as_bytes() == b"run".as_slice(),
+        _ => false,
+    }
+}
+
+// Runs a script, and writes all that is printed of the run.
+fn run<K: Sink>(alloc: Global, script: &Script, sink: &mut K) -> Status
+    requires { IsSmall script.now }
+    ensures told { Told (OwesOutcome script.now.commands) IsMemory (K.written sink.old) (K.written sink.new) result }
+    ensures write { result ≡ Status.WriteFault → Rose (K.faults sink.old) (K.faults sink.new) }
+{
+    let run = match run_script(alloc, script) {
+        Ok(run) => run,
+        Err(_) => return Status::Memory,
+    };
+    match write_run(sink, &run) {
+        Ok(()) => Status::Done,
+        Err(_) => Status::WriteFault,
+    }
+}
+
+// Writes where a script is refused, and why.
+fn refuse<K: Sink>(sink: &mut K, line: u32, kind: LineKind) -> Status
+    ensures told { Told (OwesRefusal line kind) IsMemory (K.written sink.old) (K.written sink.new) result }
+    ensures write { result ≡ Status.WriteFault → Rose (K.faults sink.old) (K.faults sink.new) }
+{
+    match write_fault(sink, line, kind) {
+        Ok(()) => Status::Script,
+        Err(_) => Status::WriteFault,
+    }
+}
+
+// Answers an input that was read: runs its script, or tells where it is refused and why.
+fn answer<K: Sink>(alloc: Global, input: &[u8], sink: &mut K) -> Status
+    requires { length input.now ≤ INPUT_BYTES }
+    ensures told { Told (AnswersInput input.now) IsMemory (K.written sink.old) (K.written sink.new) result }
+    ensures write { result ≡ Status.WriteFault → Rose (K.faults sink.old) (K.faults sink.new) }
+{
+    match read_script(alloc, input) {
+        Ok(script) => run(alloc, &script, sink),
+        Err(ScriptFault::OutOfMemory) => Status::Memory,
+        Err(ScriptFault::BadLine { line, kind }) => refuse(sink, line, kind),
+    }
+}
+
+// Reads the input, and answers it.
+fn read_and_answer<S: Source, K: Sink>(alloc: Global, source: &mut S, sink: &mut K) -> Status
+    ensures told { Told (IsOwedAt (S.left source.old) (S.left source.new)) (IsSilent (S.left source.old) (S.left source.new)) (K.written sink.old) (K.written sink.new) result }
+    ensures read { result ≡ Status.ReadFault → Rose (S.faults source.old) (S.faults source.new) }
+    ensures write { result ≡ Status.WriteFault → Rose (K.faults sink.old) (K.faults sink.new) }
+{
+    match read_all(alloc, source, INPUT_BYTES) {
+        Ok(input) => answer(alloc, &input, sink),
+        Err(ReadError::Memory) => Status::Memory,
+        Err(ReadError::Fault) => Status::ReadFault,
+        Err(ReadError::TooLarge) => match write_all(sink, LARGE) {
+            Ok(()) => Status::TooLarge,
+            Err(_) => Status::WriteFault,
+        },
+    }
+}
+
+// Reads the words, and does what they say.
+fn obey<S: Source, K: Sink>(alloc: Global, words: &[String], source: &mut S, sink: &mut K) -> Status
+    ensures told { Told (Owes (map (λ w. string_bytes w) words.now) (S.left source.old) (S.left source.new))
+        (IsSilent (S.left source.old) (S.left source.new)) (K.written sink.old) (K.written sink.new) result }
+    ensures read { result ≡ Status.ReadFault → Rose (S.faults source.old) (S.faults source.new) }
+    ensures write { result ≡ Status.WriteFault → Rose (K.faults sink.old) (K.faults sink.new) }
+{
+    if is_run(words) {
+        return read_and_answer(alloc, source, sink);
+    }
+    match write_all(sink, USAGE) {
+        Ok(()) => Status::Usage,
+        Err(_) => Status::WriteFault,
+    }
+}
+
+/// The program, from the words of its command line and the bytes that it reads to the bytes that it writes.
+///
+/// `run`, alone, reads a script, answers its sessions by number, and writes what each was answered, the log and the
+/// map in the end. Any other words get the usage line. The gate is not called yet.
+pub fn top<S: Source, K: Sink, G: Gate + Sync>(
+    alloc: Global,
+    words: &[String],
+    source: &mut S,
+    sink: &mut K,
+    _gate: &G,
+) -> Status
+    // Which status owes which text, and how much of it was written.
+    ensures told { Told (Owes (map (λ w. string_bytes w) words.now) (S.left source.old) (S.left source.new))
+        (IsSilent (S.left source.old) (S.left source.new)) (K.written sink.old) (K.written sink.new) result }
+
+    // A fault is told only where that object's count rose in this call.
+    ensures read { result ≡ Status.ReadFault → Rose (S.faults source.old) (S.faults source.new) }
+    ensures write { result ≡ Status.WriteFault → Rose (K.faults sink.old) (K.faults sink.new) }
+
+    // A valid script is run and its whole output written, unless memory runs out or one side fails.
+    ensures complete { IfSome (S.left source.old) (λ input. is_run (map (λ w. string_bytes w) words.now) ≡ true → IsValid input →
+        (Rose (S.faults source.old) (S.faults source.new) → ⊥) → (Rose (K.faults sink.old) (K.faults sink.new) → ⊥) →
+        IsComplete (Owes (map (λ w. string_bytes w) words.now) (S.left source.old) (S.left source.new)) (K.written sink.old) (K.written sink.new) result) }
+{
+    obey(alloc, words, source, sink)
+}
