@@ -1,0 +1,10 @@
+pub mod Sessions
+pub mod Replies
+pub mod Grants
+pub mod Table
+pub mod Good
+pub mod Holders
+pub mod Member
+pub mod Machine
+pub mod Runs
+pub mod Counted

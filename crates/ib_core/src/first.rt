@@ -1,0 +1,92 @@
+//! The first grant of a session on a latch, and the place of the next writer.
+
+ghost use Rattle.std.specs.Prelude.{◌≡◌, ◌≤◌, ◌-ℤ◌, pos, IsTrue, SomeIff, vec_capacity};
+ghost use Rattle.ib_core.specs.Member.{CanStep, HasRoom, SameSum, session_of};
+ghost use Rattle.ib_core.specs.Sessions.{holdings};
+ghost use Rattle.ib_core.specs.Grants.{first, first_holding, first_weight, is_given_at, reserving};
+ghost use Rattle.ib_core.specs.Replies.{answered};
+
+use crate::event::Answer;
+use crate::holdings::add;
+use crate::member::Member;
+use crate::phase::Phase;
+use ib_levels::{Holding, Latch, Level, Mode};
+use ib_word::{LockWord, owes_ex, take_s, take_sx, take_x};
+
+/// The word after a first grant of the mode, None where the word refuses it.
+fn word_after(word: LockWord, mode: Mode) -> Option<LockWord>
+    ensures { SomeIff result (IsTrue (is_given_at mode word.0))
+        (record { 0 = word.0 -ℤ pos (first_weight mode) }) }
+{
+    match mode {
+        Mode::S => take_s(word),
+        Mode::Sx => take_sx(word),
+        Mode::X => take_x(word),
+    }
+}
+
+/// The holding with one grant of the mode.
+fn with_one(latch: Latch, mode: Mode, level: Level) -> Holding
+    ensures { result ≡ first_holding mode latch.0 level }
+{
+    Holding {
+        latch,
+        level,
+        s: u32::from(mode == Mode::S),
+        sx: u32::from(mode == Mode::Sx),
+        x: u32::from(mode == Mode::X),
+    }
+}
+
+impl Member {
+    /// X was taken off the word, which is this one now: the session owns X where no reader
+    /// remains, and else it is the next writer (sync0rw, `rw_lock_x_lock_wait`).
+    pub(crate) fn reserve(&mut self, word: LockWord, latch: Latch, level: Level) -> Answer
+        ensures replies { answered result (session_of self.new)
+            ≡ reserving latch.0 level word.0 self.old.held.items }
+        ensures held { self.new.held.items ≡ self.old.held.items }
+        ensures capacity { vec_capacity self.old.held ≤ vec_capacity self.new.held }
+    {
+        if owes_ex(word) {
+            self.phase = Phase::Free;
+            return Answer::Granted;
+        }
+        self.phase = Phase::Next {
+            latch: latch.0,
+            level,
+        };
+        Answer::Reserved
+    }
+
+    /// A wish of a session that holds nothing on the latch. Where the word refuses it, the
+    /// session waits in this phase.
+    pub(crate) fn take_first(
+        &mut self,
+        word: &mut LockWord,
+        latch: Latch,
+        mode: Mode,
+        level: Level,
+        waiting: Phase,
+    ) -> Answer
+        requires can { CanStep latch.0 word.old.0 (session_of self.old) }
+        requires none { holdings latch.0 (session_of self.old) ≡ 0 }
+        requires room { HasRoom latch.0 self.old }
+        ensures replies { answered result (session_of self.new)
+            ≡ first mode latch.0 level waiting word.old.0 self.old.held.items }
+        ensures weighs { SameSum latch.0 word.old.0 (session_of self.old)
+            word.new.0 (session_of self.new) }
+        ensures capacity { vec_capacity self.old.held ≤ vec_capacity self.new.held }
+    {
+        let Some(after) = word_after(*word, mode) else {
+            self.phase = waiting;
+            return Answer::Busy { word: *word };
+        };
+        *word = after;
+        add(&mut self.held, with_one(latch, mode, level));
+        if mode == Mode::X {
+            return self.reserve(after, latch, level);
+        }
+        self.phase = Phase::Free;
+        Answer::Granted
+    }
+}
