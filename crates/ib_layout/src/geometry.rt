@@ -1,7 +1,9 @@
-ghost use Rattle.std.specs.Prelude.{◌≡◌, ◌↔◌, ◌&&◌, true, false, IfOk, IsOk};
+ghost use Rattle.std.specs.Prelude.{◌≡◌, ◌<◌, ◌^◌, ◌↔◌, ◌&&◌, true, false, IfOk, IsOk};
 ghost use Rattle.ib_layout.specs.Geometry.{has_log, has_pages};
+ghost use Rattle.ib_layout.specs.Places.{lock_place, waiters_place, writer_place, gen_place, ex_gen_place, latches_of, page_place, log_place, words_of};
 
-use ib_levels::MOST_PAGES;
+use ib_levels::{Latch, MOST_PAGES};
+use ib_map::PAGE_WORDS;
 use std::marker::Model;
 use thiserror::Error;
 
@@ -13,6 +15,11 @@ pub const LEAST_LOG_WORDS: u32 = 8196;
 
 /// The most words that a log has.
 pub const MOST_LOG_WORDS: u32 = 16_777_216;
+
+// Where the words of the latches begin, and how many each has.
+const LATCHES: usize = 2;
+
+const LATCH_WORDS: usize = 5;
 
 /// Why there is no space of these sizes.
 #[derive(Clone, Copy, Debug, PartialEq, Eq, Error)]
@@ -78,6 +85,85 @@ impl Geometry {
         ensures in_range { has_log result ≡ true }
     {
         self.log_words
+    }
+
+    /// The place of a latch's lock word in the table of words. The latch is one of this space.
+    pub fn lock_place(&self, l: Latch) -> usize
+        requires { l.0 < latches_of self.now }
+        ensures place { result ≡ lock_place l.0 }
+        ensures in_range { result < words_of self.now }
+    {
+        LATCHES + LATCH_WORDS * l.0 as usize
+    }
+
+    /// The place of its waiters flag.
+    pub fn waiters_place(&self, l: Latch) -> usize
+        requires { l.0 < latches_of self.now }
+        ensures place { result ≡ waiters_place l.0 }
+        ensures in_range { result < words_of self.now }
+    {
+        self.lock_place(l) + 1
+    }
+
+    /// The place of the number of the session that last took it in SX or X.
+    pub fn writer_place(&self, l: Latch) -> usize
+        requires { l.0 < latches_of self.now }
+        ensures place { result ≡ writer_place l.0 }
+        ensures in_range { result < words_of self.now }
+    {
+        self.lock_place(l) + 2
+    }
+
+    /// The place of its generation, which each signal to sleepers raises.
+    pub fn gen_place(&self, l: Latch) -> usize
+        requires { l.0 < latches_of self.now }
+        ensures place { result ≡ gen_place l.0 }
+        ensures in_range { result < words_of self.now }
+    {
+        self.lock_place(l) + 3
+    }
+
+    /// The place of its ex generation, which each signal to a next writer raises.
+    pub fn ex_gen_place(&self, l: Latch) -> usize
+        requires { l.0 < latches_of self.now }
+        ensures place { result ≡ ex_gen_place l.0 }
+        ensures in_range { result < words_of self.now }
+    {
+        self.lock_place(l) + 4
+    }
+
+    /// The place of a word of a page.
+    pub fn page_place(&self, page: u32, index: u32) -> usize
+        requires page { page < self.now.pages }
+        requires index { index < PAGE_WORDS }
+        ensures place { result ≡ page_place self.now page index }
+        ensures in_range { result < words_of self.now }
+    {
+        self.pages_place() + PAGE_WORDS * page as usize + index as usize
+    }
+
+    /// The place of a word of the log.
+    pub fn log_place(&self, word: u32) -> usize
+        requires { word < self.now.log_words }
+        ensures place { result ≡ log_place self.now word }
+        ensures in_range { result < words_of self.now }
+    {
+        self.pages_place() + PAGE_WORDS * self.pages as usize + word as usize
+    }
+
+    /// How many words the table has.
+    pub fn words(&self) -> usize
+        ensures words { result ≡ words_of self.now }
+    {
+        self.pages_place() + PAGE_WORDS * self.pages as usize + self.log_words as usize
+    }
+
+    // Where the words of the pages begin.
+    fn pages_place(&self) -> usize
+        ensures place { result ≡ page_place self.now 0 0 }
+        ensures in_range { result < 2 ^ 16 }
+    {
+        LATCHES + LATCH_WORDS * (self.pages as usize + 2)
     }
 
     /// The largest space.

@@ -1,0 +1,47 @@
+-- Where the words of a space stand in its table: two words, five words for each latch, the words of the pages, the log.
+use Rattle.std.specs.Prelude.{ℕ, ◌+◌, ◌*◌}
+use Rattle.ib_map.specs.declared.TheConstants.{PAGE_WORDS}
+use Rattle.ib_layout.specs.Geometry.{Sizes}
+
+-- how many sessions were drawn, and the end of the log
+abbrev pub drawn_place : ℕ
+drawn_place = 0
+
+abbrev pub end_place : ℕ
+end_place = 1
+
+-- the lock word of a latch
+abbrev pub lock_place : ℕ → ℕ
+lock_place latch = 2 + 5 * latch
+
+-- its waiters flag
+abbrev pub waiters_place : ℕ → ℕ
+waiters_place latch = 3 + 5 * latch
+
+-- the session that last took it in SX or X
+abbrev pub writer_place : ℕ → ℕ
+writer_place latch = 4 + 5 * latch
+
+-- its generation
+abbrev pub gen_place : ℕ → ℕ
+gen_place latch = 5 + 5 * latch
+
+-- its generation of next writers
+abbrev pub ex_gen_place : ℕ → ℕ
+ex_gen_place latch = 6 + 5 * latch
+
+-- how many latches a space has: the log's, the index's and one a page
+abbrev pub latches_of : Sizes → ℕ
+latches_of sizes = sizes.pages + 2
+
+-- a word of a page
+abbrev pub page_place : Sizes → ℕ → ℕ → ℕ
+page_place sizes page index = 2 + 5 * (sizes.pages + 2) + PAGE_WORDS * page + index
+
+-- a word of the log
+abbrev pub log_place : Sizes → ℕ → ℕ
+log_place sizes word = 2 + 5 * (sizes.pages + 2) + PAGE_WORDS * sizes.pages + word
+
+-- how many words the table has
+abbrev pub words_of : Sizes → ℕ
+words_of sizes = 2 + 5 * (sizes.pages + 2) + PAGE_WORDS * sizes.pages + sizes.log_words
