@@ -1,0 +1,32 @@
+-- Each push has room, and all rooms are spare at the end.
+use Rattle.std.proofs.Common.{◌≡◌, ◌+◌, ◌∷◌, ◌++◌, [], true, is_ok, ap, arith, ◌∙◌, ℕ, cond, ltb}
+use Rattle.ib_page.specs.declared.work.TheConstants.{MOST_WORK_PAGES}
+use Rattle.std.proofs.lemmas.List.{length_push}
+use Rattle.ib_page.proofs.WorkLaws.{once_more, new_work}
+use Rattle.ib_page.proofs.work.WorkSet.with_room.Goals as goal
+
+pub loop-room-preserved : goal.loop-room-preserved
+loop-room-preserved c =
+    let pushed : is_ok c.push.result ≡ true = c.push.ensures.succeeds (omega (arith, c.loop-room.invariant.count, c.loop-room.invariant.capacity, c.loop-room.spare.ok)) in
+    let items : c.push.new.self.items ≡ c.loop-room.spare.items ++ c.loop-room.room ∷ [] = rw pushed at c.push.ensures.items in
+    record {
+      count = rw items (length_push c.loop-room.spare.items c.loop-room.room ∙ ap (λ n. n + 1) c.loop-room.invariant.count);
+      once = λ r. rw items (once_more c.loop-room.spare.items c.loop-room.room r (c.loop-room.invariant.once r));
+      capacity = omega (arith, c.push.ensures.capacity, c.loop-room.invariant.capacity);
+    }
+
+pub invariant_of-result : goal.invariant_of-result
+invariant_of-result c =
+    let count = c.loop-room.invariant.count in
+    let ended : c.loop-room.room ≡ MOST_WORK_PAGES = omega arith in
+    let none : c.in_ok-order.order.items ≡ [] = c.in_ok-order.ensures.items in
+    record {
+      work = rw none (new_work c.in_ok-before.before.items c.in_ok-changed.changed.items c.loop-room.spare.items
+          (omega (arith, c.in_ok-before.ensures.len, c.in_ok-before.before.ok)) (omega (arith, c.in_ok-changed.ensures.len, c.in_ok-changed.changed.ok)) (omega arith)
+          (λ r. c.loop-room.invariant.once r ∙ ap (λ (n : ℕ). cond {A = ℕ} (ltb r n) 1 0) ended));
+      order_room = omega (arith, c.in_ok-order.ensures.capacity);
+      spare_room = c.loop-room.invariant.capacity;
+    }
+
+pub returns : goal.returns
+returns c = (c.in_ok-order.ensures.items, (invariant_of-result c).work)

@@ -1,0 +1,355 @@
+ghost use Rattle.std.specs.Prelude.{◌≡◌, ◌≢◌, ◌+◌, ◌<◌, ◌≤◌, ◌^◌, ◌++◌, [], length, take, drop, slice_get, slice_index, slice_set, IsTrue, IsSome, IsNone, IsSomeAnd, OnOk, OnErr, IfOk, IfErr, IfSome, MatchResult, ◌↔◌, Some, None};
+ghost use Rattle.std.specs.List.Sorted.{IsSearchInRange};
+ghost use Rattle.ib_map.specs.Keys.{rank, end_rank};
+ghost use Rattle.ib_map.specs.Pairs.{Rises, put, without, value_at, place_of, place_after};
+ghost use Rattle.ib_page.specs.Page.PageValue.{Tree, Free};
+ghost use Rattle.ib_page.specs.Form.{page_of};
+ghost use Rattle.ib_page.specs.Image.{IsTree, IsFormed, level_of, prev_of, next_of, clock_of, records_of, with_records, with_links, with_level, with_clock};
+ghost use Rattle.ib_page.specs.Kind.{kind_of};
+ghost use Rattle.ib_page.specs.Differences.{differences};
+
+use crate::{MOST_LEVEL, MOST_RECORDS, form};
+use ib_map::{Key, PAGE_WORDS, is_below, is_same};
+use std::marker::Model;
+use thiserror::Error;
+
+/// What a page is used for.
+#[derive(Clone, Copy, Debug, PartialEq, Eq)]
+pub enum Kind {
+    Free,
+    Leaf,
+    Node,
+}
+
+/// Why a page does not do what it was asked.
+#[derive(Clone, Copy, Debug, PartialEq, Eq, Error)]
+pub enum PageFault {
+    #[error("the key is there")]
+    Duplicate,
+    #[error("the page is full")]
+    PageFull,
+    #[error("the key is not there")]
+    Missing,
+}
+
+/// An image of a page: `PAGE_WORDS` words. It holds a free page, a page of the tree with its records in
+/// ascending order of keys (page0page, page0cur), or nothing that can be read.
+#[derive(Clone, Copy, Drop)]
+pub struct Image {
+    words: [u64; PAGE_WORDS],
+}
+
+impl Model for Image {
+    ghost use Rattle.std.specs.Prelude.{List, ℕ};
+
+    ghost Value = { List ℕ };
+
+    ghost view = { λ i. i.words };
+
+    ghost inverse = { λ ws. record { words = ws } };
+}
+
+impl Image {
+    /// An empty leaf.
+    pub fn leaf(clock: u64) -> Image
+        ensures { page_of result ≡ Tree (record { level = 0; prev = 0; next = 0; clock = clock; records = [] }) }
+    {
+        Image {
+            words: form::empty_page(0, clock),
+        }
+    }
+
+    /// An empty node, of level 1 to `MOST_LEVEL`.
+    pub fn node(level: u32, clock: u64) -> Image
+        requires above_leaves { 0 < level }
+        requires low { level ≤ MOST_LEVEL }
+        ensures { page_of result ≡ Tree (record { level = level; prev = 0; next = 0; clock = clock; records = [] }) }
+    {
+        Image {
+            words: form::empty_page(level, clock),
+        }
+    }
+
+    /// A free page.
+    pub fn free(clock: u64) -> Image
+        ensures { page_of result ≡ Free clock }
+    {
+        Image {
+            words: form::free_page(clock),
+        }
+    }
+
+    /// Whether the image holds a page, free or of the tree.
+    pub fn is_formed(&self) -> bool
+        ensures { IsTrue result ↔ IsFormed self.now }
+    {
+        form::is_formed(&self.words)
+    }
+
+    /// Whether the page is free, a leaf or a node.
+    pub fn kind(&self) -> Kind
+        requires { IsFormed self.now }
+        ensures { result ≡ kind_of (page_of self.now) }
+    {
+        if !form::is_tree(&self.words) {
+            Kind::Free
+        } else if form::level(&self.words) == 0 {
+            Kind::Leaf
+        } else {
+            Kind::Node
+        }
+    }
+
+    /// The level, 0 to `MOST_LEVEL`: 0 for a leaf, and for a free page.
+    pub fn level(&self) -> u32
+        requires { IsFormed self.now }
+        ensures level { result ≡ level_of self.now }
+        ensures low { result ≤ MOST_LEVEL }
+    {
+        form::level(&self.words)
+    }
+
+    /// How many records the page has, at most `MOST_RECORDS`.
+    pub fn len(&self) -> usize
+        requires { IsFormed self.now }
+        ensures count { result ≡ length (records_of self.now) }
+        ensures few { result ≤ MOST_RECORDS }
+    {
+        form::count(&self.words)
+    }
+
+    /// Whether the page has no record.
+    pub fn is_empty(&self) -> bool
+        requires { IsFormed self.now }
+        ensures { IsTrue result ↔ (length (records_of self.now) ≡ 0) }
+    {
+        self.len() == 0
+    }
+
+    /// The leaf before this one, 0 for none.
+    pub fn prev(&self) -> u32
+        requires { IsFormed self.now }
+        ensures { result ≡ prev_of self.now }
+    {
+        form::prev(&self.words)
+    }
+
+    /// The leaf behind this one, 0 for none.
+    pub fn next(&self) -> u32
+        requires { IsFormed self.now }
+        ensures { result ≡ next_of self.now }
+    {
+        form::next(&self.words)
+    }
+
+    /// The modify clock.
+    pub fn clock(&self) -> u64
+        requires { IsFormed self.now }
+        ensures { result ≡ clock_of self.now }
+    {
+        form::clock(&self.words)
+    }
+
+    /// A word of the image.
+    pub fn word(&self, i: usize) -> u64
+        requires { i < PAGE_WORDS }
+        ensures word { result ≡ slice_index self.now i }
+        ensures size { length self.now ≡ PAGE_WORDS }
+    {
+        self.words[i]
+    }
+
+    /// Sets a word of the image; all others stay.
+    pub fn set_word(&mut self, i: usize, value: u64)
+        requires { i < PAGE_WORDS }
+        ensures word { self.new ≡ slice_set self.old i value }
+        ensures size { length self.old ≡ PAGE_WORDS }
+    {
+        self.words[i] = value;
+    }
+
+    // The words of another module's image, and back.
+    pub(crate) fn from_words(words: [u64; PAGE_WORDS]) -> Image
+        ensures { result ≡ words }
+    {
+        Image { words }
+    }
+
+    pub(crate) fn to_words(&self) -> [u64; PAGE_WORDS]
+        ensures { result ≡ self.now }
+    {
+        self.words
+    }
+
+    // In how many words two images differ.
+    pub(crate) fn differences(&self, other: &Image) -> usize
+        ensures count { result ≡ differences self.now other.now }
+        ensures few { result ≤ PAGE_WORDS }
+    {
+        let mut count = 0;
+        for i in 0..PAGE_WORDS {
+            if self.words[i] != other.words[i] {
+                count += 1;
+            }
+        }
+        count
+    }
+
+    /// A record, by its place in the order of keys.
+    pub fn record_at(&self, i: usize) -> (Key, u64)
+        requires tree { IsTree self.now }
+        requires in_range { i < length (records_of self.now) }
+        ensures { slice_get (records_of self.now) i ≡ Some result }
+    {
+        form::record_at(&self.words, i)
+    }
+
+    /// The place of a key, or the place at which it would stand. By binary search.
+    pub fn find(&self, key: Key) -> Result<usize, usize>
+        requires { IsTree self.now }
+        ensures place { let place = place_of key (records_of self.now) in MatchResult result (λ i. i ≡ place) (λ i. i ≡ place) }
+        ensures in_range { IsSearchInRange result (length (records_of self.now)) }
+        ensures found { IfOk result (λ i. IsSomeAnd (slice_get (records_of self.now) i) (λ r. r.0 ≡ key)) }
+        ensures value { IfOk result (λ i. IsSomeAnd (slice_get (records_of self.now) i) (λ r. value_at key (records_of self.now) ≡ Some r.1)) }
+        ensures absent { IfErr result (λ i. value_at key (records_of self.now) ≡ None) }
+    {
+        let place = place_of(&self.words, key);
+        if place == form::count(&self.words) {
+            return Err(place);
+        }
+        if is_same(form::record_at(&self.words, place).0, key) {
+            Ok(place)
+        } else {
+            Err(place)
+        }
+    }
+
+    /// The last record with a key that is not above this one: in a node, the one of the child to which
+    /// the key belongs. The first record must have such a key.
+    pub fn route(&self, key: Key) -> usize
+        requires tree { IsTree self.now }
+        requires first { IsSomeAnd (slice_get (records_of self.now) 0) (λ r. rank r.0 ≤ rank key) }
+        ensures place { result + 1 ≡ place_after key (records_of self.now) }
+        ensures in_range { result < length (records_of self.now) }
+        ensures not_above { IsSomeAnd (slice_get (records_of self.now) result) (λ r. rank r.0 ≤ rank key) }
+        ensures next_above { IfSome (slice_get (records_of self.now) (result + 1)) (λ r. rank key < rank r.0) }
+    {
+        match self.find(key) {
+            Ok(place) => place,
+            Err(place) => place - 1,
+        }
+    }
+
+    /// Puts a record in. Refused as `Duplicate` exactly where the key is there, and then as `PageFull`
+    /// exactly where there are `MOST_RECORDS` records.
+    pub fn insert(&mut self, key: Key, value: u64) -> Result<(), PageFault>
+        requires { IsTree self.old }
+        ensures inserted { OnOk result (page_of self.new ≡ with_records (put key value (records_of self.old)) (page_of self.old)) }
+        ensures tree { IsTree self.new }
+        ensures duplicate { (result ≡ Err PageFault.Duplicate) ↔ IsSome (value_at key (records_of self.old)) }
+        ensures full { (result ≡ Err PageFault.PageFull) ↔ (IsNone (value_at key (records_of self.old)) × (length (records_of self.old) ≡ MOST_RECORDS)) }
+        ensures never_missing { result ≢ Err PageFault.Missing }
+        ensures unchanged { OnErr result (self.new ≡ self.old) }
+    {
+        match self.find(key) {
+            Ok(_) => Err(PageFault::Duplicate),
+            Err(place) => {
+                if form::count(&self.words) == MOST_RECORDS {
+                    return Err(PageFault::PageFull);
+                }
+                form::put(&mut self.words, place, key, value);
+                Ok(())
+            }
+        }
+    }
+
+    /// Takes a record out, and gives its value. Refused as `Missing` exactly where the key is not there,
+    /// and for no other reason.
+    pub fn remove(&mut self, key: Key) -> Result<u64, PageFault>
+        requires { IsTree self.old }
+        ensures value { IfOk result (λ value. value_at key (records_of self.old) ≡ Some value) }
+        ensures removed { OnOk result (page_of self.new ≡ with_records (without key (records_of self.old)) (page_of self.old)) }
+        ensures tree { IsTree self.new }
+        ensures missing { (result ≡ Err PageFault.Missing) ↔ IsNone (value_at key (records_of self.old)) }
+        ensures only_missing { IfErr result (λ fault. fault ≡ PageFault.Missing) }
+        ensures unchanged { OnErr result (self.new ≡ self.old) }
+    {
+        match self.find(key) {
+            Ok(place) => Ok(form::take(&mut self.words, place)),
+            Err(_) => Err(PageFault::Missing),
+        }
+    }
+
+    /// Moves the records from `at` on to `right`, which has none; both pages keep all else.
+    pub fn cut(&mut self, at: usize, right: &mut Image)
+        requires tree { IsTree self.old }
+        requires right_tree { IsTree right.old }
+        requires empty { records_of right.old ≡ [] }
+        requires in_range { at ≤ length (records_of self.old) }
+        ensures left { page_of self.new ≡ with_records (take at (records_of self.old)) (page_of self.old) }
+        ensures right { page_of right.new ≡ with_records (drop at (records_of self.old)) (page_of right.old) }
+    {
+        form::move_tail(&mut self.words, at, &mut right.words);
+    }
+
+    /// Appends the records of `right`, whose keys stand above all of this page; both pages keep all else.
+    pub fn join(&mut self, right: &Image)
+        requires tree { IsTree self.old }
+        requires right_tree { IsTree right.now }
+        requires few { length (records_of self.old) + length (records_of right.now) ≤ MOST_RECORDS }
+        requires ascends { Rises 0 (records_of self.old ++ records_of right.now) end_rank }
+        ensures { page_of self.new ≡ with_records (records_of self.old ++ records_of right.now) (page_of self.old) }
+    {
+        form::append(&mut self.words, &right.words);
+    }
+
+    /// Sets both links. A node's are 0.
+    pub fn set_links(&mut self, prev: u32, next: u32)
+        requires tree { IsTree self.old }
+        requires prev { 0 < level_of self.old → prev ≡ 0 }
+        requires next { 0 < level_of self.old → next ≡ 0 }
+        ensures { page_of self.new ≡ with_links prev next (page_of self.old) }
+    {
+        form::set_links(&mut self.words, prev, next);
+    }
+
+    /// Sets the level, 0 to `MOST_LEVEL`. Only a page with no links becomes a node.
+    pub fn set_level(&mut self, level: u32)
+        requires tree { IsTree self.old }
+        requires low { level ≤ MOST_LEVEL }
+        requires prev { 0 < level → prev_of self.old ≡ 0 }
+        requires next { 0 < level → next_of self.old ≡ 0 }
+        ensures { page_of self.new ≡ with_level level (page_of self.old) }
+    {
+        form::set_level(&mut self.words, level);
+    }
+
+    /// Adds 1 to the modify clock, which is below 2^63.
+    pub fn touch(&mut self)
+        requires formed { IsFormed self.old }
+        requires room { clock_of self.old < 2 ^ 63 }
+        ensures { page_of self.new ≡ with_clock (clock_of self.old + 1) (page_of self.old) }
+    {
+        let clock = form::clock(&self.words);
+        form::set_clock(&mut self.words, clock + 1);
+    }
+}
+
+// How many records stand before the key.
+fn place_of(words: &[u64], key: Key) -> usize
+    requires { IsTree words.now }
+    ensures place { result ≡ place_of key (records_of words.now) }
+    ensures in_range { result ≤ length (records_of words.now) }
+{
+    let mut low = 0;
+    let mut high = form::count(words);
+    while low < high {
+        let middle = low + (high - low) / 2;
+        if is_below(form::record_at(words, middle).0, key) {
+            low = middle + 1;
+        } else {
+            high = middle;
+        }
+    }
+    low
+}

@@ -1,0 +1,138 @@
+ghost use Rattle.std.specs.Prelude.{◌≡◌, ◌+◌, ◌<◌, ◌≤◌, ◌^◌, ℕ, true, false, nat_lt, length, IsTrue, ◌↔◌, IsNone, IfSome};
+ghost use Rattle.ib_page.specs.Space.{is_taken, space_clock_of, with_space_clock, free_below, SetsBit, IsSpacePage};
+
+use crate::image::Image;
+use ib_map::PAGE_WORDS;
+use std::marker::Model;
+
+/// The pages for which the space page has a bit.
+pub const MAPPED_PAGES: u32 = 4096;
+
+// The bits of a word, and the word of the clock.
+const WORD_BITS: u32 = 64;
+
+const CLOCK: usize = 64;
+
+// The bits of pages 0 and 1.
+const FIRST_PAGES: u64 = 3;
+
+/// An image of page 0: which pages are taken, and a modify clock (fsp0fsp).
+#[derive(Clone, Copy, Drop)]
+pub struct SpaceImage {
+    words: [u64; PAGE_WORDS],
+}
+
+impl Model for SpaceImage {
+    ghost use Rattle.std.specs.Prelude.{List, ℕ};
+
+    ghost Value = { List ℕ };
+
+    ghost view = { λ s. s.words };
+
+    ghost inverse = { λ ws. record { words = ws } };
+}
+
+impl SpaceImage {
+    /// The space page of a new space of so many pages, at least 2: pages 0 and 1 are taken.
+    pub fn opening(pages: u32) -> SpaceImage
+        requires { 2 ≤ pages }
+        ensures taken { (page : ℕ) → page < MAPPED_PAGES → is_taken result page ≡ nat_lt page 2 }
+        ensures clock { space_clock_of result ≡ 0 }
+        ensures formed { IsSpacePage pages result }
+    {
+        let mut words = [0; PAGE_WORDS];
+        words[0] = FIRST_PAGES;
+        SpaceImage { words }
+    }
+
+    /// The space page that these words are.
+    pub fn from_image(image: &Image) -> SpaceImage
+        ensures { result ≡ image.now }
+    {
+        SpaceImage {
+            words: image.to_words(),
+        }
+    }
+
+    /// The words of the space page.
+    pub fn to_image(&self) -> Image
+        ensures { result ≡ self.now }
+    {
+        Image::from_words(self.words)
+    }
+
+    /// Whether a page is taken.
+    pub fn is_taken(&self, page: u32) -> bool
+        requires { page < MAPPED_PAGES }
+        ensures { result ≡ is_taken self.now page }
+    {
+        bit(&self.words, page)
+    }
+
+    /// How many of the first `pages` pages are free.
+    pub fn free_count(&self, pages: u32) -> u32
+        requires { pages ≤ MAPPED_PAGES }
+        ensures count { result ≡ free_below self.now pages }
+        ensures in_range { result ≤ pages }
+    {
+        let mut count = 0;
+        for page in 0..pages {
+            if !bit(&self.words, page) {
+                count += 1;
+            }
+        }
+        count
+    }
+
+    /// The lowest free one of the first `pages` pages. None exactly where none is free.
+    pub fn lowest_free(&self, pages: u32) -> Option<u32>
+        requires { pages ≤ MAPPED_PAGES }
+        ensures none { IsNone result ↔ ((page : ℕ) → page < pages → is_taken self.now page ≡ true) }
+        ensures in_range { IfSome result (λ page. page < pages) }
+        ensures free { IfSome result (λ page. is_taken self.now page ≡ false) }
+        ensures lowest { IfSome result (λ page. (lower : ℕ) → lower < page → is_taken self.now lower ≡ true) }
+    {
+        for page in 0..pages {
+            if !bit(&self.words, page) {
+                return Some(page);
+            }
+        }
+        None
+    }
+
+    /// Takes a page that is free.
+    pub fn take(&mut self, page: u32)
+        requires in_range { page < MAPPED_PAGES }
+        requires free { is_taken self.old page ≡ false }
+        ensures { SetsBit self.old self.new page true }
+    {
+        self.words[(page / WORD_BITS) as usize] |= 1 << (page % WORD_BITS);
+    }
+
+    /// Gives a page back that is taken.
+    pub fn give(&mut self, page: u32)
+        requires in_range { page < MAPPED_PAGES }
+        requires taken { is_taken self.old page ≡ true }
+        ensures { SetsBit self.old self.new page false }
+    {
+        self.words[(page / WORD_BITS) as usize] &= !(1 << (page % WORD_BITS));
+    }
+
+    /// Adds 1 to the modify clock, which is below 2^63.
+    pub fn touch(&mut self)
+        requires { space_clock_of self.old < 2 ^ 63 }
+        ensures touched { self.new ≡ with_space_clock (space_clock_of self.old + 1) self.old }
+        ensures bits { (page : ℕ) → page < MAPPED_PAGES → is_taken self.new page ≡ is_taken self.old page }
+    {
+        self.words[CLOCK] += 1;
+    }
+}
+
+// Whether the bit of a page is set.
+fn bit(words: &[u64], page: u32) -> bool
+    requires size { length words.now ≡ PAGE_WORDS }
+    requires in_range { page < MAPPED_PAGES }
+    ensures { result ≡ is_taken words.now page }
+{
+    (words[(page / WORD_BITS) as usize] >> (page % WORD_BITS)) & 1 == 1
+}
