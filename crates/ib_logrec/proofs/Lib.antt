@@ -1,0 +1,11 @@
+pub mod KeyLaws
+pub mod PlaceLaws
+pub mod HeadLaws
+pub mod WriteLaws
+pub mod EntryLaws
+pub mod WordLaws
+pub mod ReadLaws
+pub mod LogLaws
+pub mod Spelled
+pub mod HeadFaults
+pub mod Written

@@ -1,0 +1,31 @@
+-- Lists of entries: their words, the memory after them, and their history.
+use Rattle.std.specs.Prelude.{ℕ, List, [], ◌∷◌, length, map}
+use Rattle.std.specs.List.{flat_map}
+use Rattle.ib_map.specs.History.{History}
+use Rattle.ib_logrec.specs.declared.entry.Entry.{Entry}
+use Rattle.ib_logrec.specs.Places.{page_of, index_of, stored}
+use Rattle.ib_logrec.specs.Words.{words_of_entry}
+
+-- the words of the entries, one after another, and how many they are
+abbrev pub log_words : List Entry → List ℕ
+log_words log = flat_map words_of_entry log
+
+abbrev pub used : List Entry → ℕ
+used log = length (log_words log)
+
+-- the word at a place after the entries, where it was `word`
+abbrev pub after : List Entry → ℕ → ℕ → ℕ
+after [] place word = word
+after (e ∷ es) place word = after es place (stored e.writes place word)
+
+-- the memory after the entries
+abbrev pub memory_after : (ℕ → ℕ) → List Entry → ℕ → ℕ
+memory_after opening log place = after log place (opening place)
+
+-- the opening memory by places, from a law's words by page and index
+abbrev pub by_place : (ℕ → ℕ → ℕ → ℕ) → ℕ → ℕ → ℕ
+by_place opening pages place = opening pages (page_of place) (index_of place)
+
+-- the changes of the entries
+abbrev pub history_of : List Entry → History
+history_of log = map (λ e. record { session = e.session; number = e.number; change = e.change }) log

@@ -1,0 +1,24 @@
+use crate::writes::Writes;
+use ib_map::Change;
+
+/// How many words stand before an entry's writes: session, flags and number of writes in the first one,
+/// then the change's number, its key and its value.
+pub const HEAD_WORDS: usize = 4;
+
+/// The most writes of an entry.
+pub const MOST_WRITES: usize = 4096;
+
+/// The greatest session number.
+pub const MOST_SESSIONS: u32 = 1024;
+
+/// What one commit of a mini-transaction appends to the log: whose change it is, which of that session's
+/// changes, counted from 1, and the words of pages that differ afterwards. `structural` says that the
+/// writes lie on more than one page.
+#[derive(Debug, Drop)]
+pub struct Entry {
+    pub session: u32,
+    pub number: u32,
+    pub change: Change,
+    pub structural: bool,
+    pub writes: Writes,
+}

@@ -1,0 +1,4 @@
+pub mod FileLaws
+pub mod StoreLaws
+pub mod ReplayLaws
+pub mod OnlyLog

@@ -1,0 +1,87 @@
+-- The words of a lawful log are no other log's, and have no fault.
+use Rattle.std.proofs.Common.{◌≡◌, ℕ, ◌+◌, ◌<◌, true, List, [], ◌∷◌, ◌++◌, length, None, refl, sym, ap, subst, ◌∙◌, arith, append_assoc, length-append}
+use Rattle.std.specs.Prelude.{Result, Ok, Err, IfOk, IfErr, MatchResult}
+use Rattle.std.proofs.Math.Seq.{take-length}
+use Rattle.std.proofs.lemmas.Bool.{eq-eqb}
+use Rattle.std.proofs.lemmas.List.{append_cancel_left}
+use Rattle.ib_map.specs.Pairs.{Pairs}
+use Rattle.ib_map.specs.Map.{answer_of, is_made}
+use Rattle.ib_map.specs.History.{History, map_with, changes_of, IsLegalEntry, IsLegalHistory}
+use Rattle.ib_map.proofs.HistoryLaws.{map_after-length, IsLegalHistory-front, IsLegalEntry-shorter, slice_get-last}
+use Rattle.ib_logrec.specs.declared.entry.Entry.{Entry}
+use Rattle.ib_logrec.specs.declared.fault.LogFault.{LogFault}
+use Rattle.ib_logrec.specs.declared.fault.LogFault.TheVariants.{OutOfMemory}
+use Rattle.ib_logrec.specs.Words.{words_of_entry, entry_of}
+use Rattle.ib_logrec.specs.Grammar.{Formed, fault_at}
+use Rattle.ib_logrec.specs.Law.{AreFormed}
+use Rattle.ib_logrec.specs.Log.{log_words, used, history_of}
+use Rattle.ib_logrec.proofs.EntryLaws.{length-words_of_entry, entry_of-words, fault_at-words}
+use Rattle.ib_logrec.proofs.WordLaws.{words_of_entry-one}
+use Rattle.ib_logrec.proofs.LogLaws.{history_of-append}
+use Rattle.ib_replay.specs.declared.log_replay.Replayed.{Replayed}
+use Rattle.ib_replay.specs.Replays.{IsLawful, change_fault, fault_behind, IsFirstFault, IsReplayFault}
+use Rattle.ib_replay.proofs.ReplayLaws.{logged}
+
+-- what begins with an entry's words goes on with what stands behind them
+same_rest : (pages : ℕ) (e f : Entry) (x y : List ℕ) → Formed pages e → Formed pages f → words_of_entry e ++ x ≡ words_of_entry f ++ y → (e ≡ f) × (x ≡ y)
+same_rest pages e f x y e_formed f_formed same =
+    let is = words_of_entry-one pages e f x y e_formed f_formed same in
+    (is, append_cancel_left (words_of_entry e) x y (same ∙ ap (λ (g : Entry). words_of_entry g ++ y) (sym is)))
+
+pub log_words-one : (pages : ℕ) (xs ys : List Entry) → AreFormed pages xs → AreFormed pages ys → log_words xs ≡ log_words ys → xs ≡ ys
+log_words-one pages [] [] x_formed y_formed same = refl
+log_words-one pages [] (y ∷ ys) x_formed y_formed same = absurd (omega (arith, ap length same, length-append (words_of_entry y) (log_words ys), length-words_of_entry y))
+log_words-one pages (x ∷ xs) [] x_formed y_formed same = absurd (omega (arith, ap length same, length-append (words_of_entry x) (log_words xs), length-words_of_entry x))
+log_words-one pages (x ∷ xs) (y ∷ ys) x_formed y_formed same =
+    let parts = same_rest pages x y (log_words xs) (log_words ys) x_formed.0 y_formed.0 same in
+    let rest = log_words-one pages xs ys x_formed.1 y_formed.1 parts.1 in
+    λ i. parts.0 i ∷ rest i
+
+-- the entry of a log that stands behind a shorter one
+next_entry : (pages : ℕ) (front log : List Entry) (rest : List ℕ) → AreFormed pages front → AreFormed pages log → log_words log ≡ log_words front ++ rest → 0 < length rest
+    → (e : Entry) × (more : List Entry) × (log ≡ front ++ e ∷ more) × (rest ≡ words_of_entry e ++ log_words more) × Formed pages e
+next_entry pages [] [] rest front_formed formed same some = absurd (omega (arith, ap length same))
+next_entry pages [] (e ∷ more) rest front_formed formed same some = (e, more, refl, sym same, formed.0)
+next_entry pages (f ∷ front) [] rest front_formed formed same some =
+    absurd (omega (arith, ap length same, length-append (words_of_entry f ++ log_words front) rest, length-append (words_of_entry f) (log_words front), length-words_of_entry f))
+next_entry pages (f ∷ front) (g ∷ log) rest front_formed formed same some =
+    let parts = same_rest pages g f (log_words log) (log_words front ++ rest) formed.0 front_formed.0 (same ∙ append_assoc (words_of_entry f) (log_words front) rest) in
+    let found = next_entry pages front log rest front_formed.1 formed.1 parts.1 some in
+    (found.0, found.1, λ i. parts.0 i ∷ found.2 i, found.3, found.4)
+
+-- an entry that a legal history has behind a shorter one
+legal_next : (front more : List Entry) (e : Entry) → IsLegalHistory (history_of (front ++ e ∷ more)) → IsLegalEntry (history_of front) (length (history_of front)) (logged e)
+legal_next front more e legal =
+    let whole : history_of (front ++ e ∷ more) ≡ (history_of front ++ logged e ∷ []) ++ history_of more =
+    history_of-append front (e ∷ more) ∙ sym (append_assoc (history_of front) (logged e ∷ []) (history_of more)) in
+    let shorter = IsLegalHistory-front (history_of front ++ logged e ∷ []) (history_of more) (subst IsLegalHistory whole legal) in
+    IsLegalEntry-shorter (history_of front) (logged e ∷ []) (length (history_of front)) (logged e) (omega arith)
+    (shorter (length (history_of front)) (logged e) (slice_get-last (history_of front) (logged e)))
+
+no_change_fault : (place : ℕ) (front : List Entry) (e : Entry) → IsLegalEntry (history_of front) (length (history_of front)) (logged e)
+    → change_fault place (length (changes_of e.session (history_of front))) (map_with [] (history_of front)) e ≡ None
+no_change_fault place front e legal =
+    let numbered : e.number ≡ length (changes_of e.session (history_of front)) + 1 = legal.numbered ∙ ap (λ (h : History). length (changes_of e.session h) + 1) (take-length (history_of front)) in
+    let made : is_made (answer_of (map_with [] (history_of front)) e.change) ≡ true = ap (λ (m : Pairs). is_made (answer_of m e.change)) (sym (map_after-length (history_of front))) ∙ legal.made in
+    rw (eq-eqb _ _ numbered, made) refl
+
+pub not_first_fault : (pages : ℕ) (log : List Entry) (fault : LogFault) → IsLawful pages log → IsFirstFault pages (log_words log) fault → ⊥
+not_first_fault pages log fault lawful first =
+    let next = next_entry pages first.front log first.rest first.lawful.formed lawful.formed first.parts first.more in
+    let e = next.0 in
+    let read : entry_of first.rest ≡ e = ap entry_of next.3 ∙ entry_of-words e (log_words next.1) next.4.most_writes in
+    let words : fault_at pages (used first.front) first.rest ≡ None = ap (fault_at pages (used first.front)) next.3 ∙ fault_at-words pages (used first.front) e (log_words next.1) next.4 in
+    let legal = legal_next first.front next.1 e (subst (λ (l : List Entry). IsLegalHistory (history_of l)) next.2 lawful.legal) in
+    let none : fault_behind pages first.front first.rest ≡ None = rw (words, read) (no_change_fault (used first.front) first.front e legal) in
+    let found = first.found in cc
+
+no_fault : (pages : ℕ) (log : List Entry) (fault : LogFault) → IsLawful pages log → IsReplayFault pages (log_words log) fault → fault ≡ OutOfMemory
+no_fault pages log OutOfMemory lawful is = refl
+no_fault pages log fault lawful is = absurd (not_first_fault pages log fault lawful is)
+
+-- what is replayed of a lawful log's words are its entries
+pub only_entries : (pages : ℕ) (words : List ℕ) (r : Result Replayed LogFault) → IfOk r (λ replayed. words ≡ log_words replayed.entries.items) → IfOk r (λ replayed. IsLawful pages replayed.entries.items)
+    → IfErr r (IsReplayFault pages words) → (log : List Entry) → IsLawful pages log → words ≡ log_words log
+    → MatchResult r (λ replayed. replayed.entries.items ≡ log) (λ fault. fault ≡ OutOfMemory)
+only_entries pages words (Ok replayed) found lawful fault log is_lawful is = log_words-one pages replayed.entries.items log lawful.formed is_lawful.formed (sym found ∙ is)
+only_entries pages words (Err fault) found lawful is_fault log is_lawful is = no_fault pages log fault is_lawful (subst (λ (ws : List ℕ). IsReplayFault pages ws fault) is is_fault)

@@ -1,0 +1,33 @@
+-- A log as a file: numbers of 64 bits, the highest byte first.
+use Rattle.std.specs.Prelude.{ℕ, ◌*◌, ◌%◌, ◌==◌, List, ◌∷◌, length, drop, nat_le, Option}
+use Rattle.std.specs.List.{flat_map}
+use Rattle.byteorder.specs.Endian.{big_bytes, big_number}
+use Rattle.ib_layout.specs.Geometry.{has_pages}
+use Rattle.ib_logrec.specs.declared.fault.LogFault.{LogFault}
+use Rattle.ib_logrec.specs.declared.fault.LogFault.TheVariants.{OddLength, Short, BadFile}
+use Rattle.ib_logrec.specs.Grammar.{unless, ◌or◌}
+use Rattle.ib_replay.specs.declared.file.TheConstants.{FILE_FORM}
+
+-- how many pages a log's space has, and the log's words
+pub record LogFile : Type 0 where
+  pub pages : ℕ
+  pub words : List ℕ
+
+abbrev pub word_bytes : List ℕ → List ℕ
+word_bytes words = flat_map (big_bytes 8) words
+
+-- the file's form, the pages, and the words of the entries
+unfoldable pub file_of : ℕ → List ℕ → List ℕ
+file_of pages words = word_bytes (FILE_FORM ∷ pages ∷ words)
+
+-- number i of a file
+abbrev pub number_at : List ℕ → ℕ → ℕ
+number_at bytes i = big_number 8 (drop (8 * i) bytes)
+
+-- the first fault of a file
+unfoldable pub file_fault : List ℕ → Option LogFault
+file_fault bytes =
+    unless (length bytes % 8 == 0) (OddLength (length bytes))
+    or unless (nat_le 16 (length bytes)) (Short 0)
+    or unless (number_at bytes 0 == FILE_FORM) (BadFile 0 (number_at bytes 0))
+    or unless (has_pages (number_at bytes 1)) (BadFile 1 (number_at bytes 1))

@@ -1,0 +1,123 @@
+ghost use Rattle.std.specs.Prelude.{◌≡◌, ◌+◌, ◌*◌, ◌%◌, ◌<◌, ◌^◌, ℕ, List, All, None, true, length, IfOk, IfErr, OnOk, MatchResult};
+ghost use Rattle.ib_layout.specs.Geometry.{has_pages};
+ghost use Rattle.ib_logrec.specs.Grammar.{IsFault};
+ghost use Rattle.ib_replay.specs.Files.{LogFile, word_bytes, file_of, file_fault};
+
+use byteorder::{BigEndian, ByteOrder};
+use ib_layout::LEAST_PAGES;
+use ib_levels::MOST_PAGES;
+use ib_logrec::LogFault;
+use std::alloc::{AllocError, Global};
+use std::marker::Model;
+
+/// What a log file begins with: the text `IBLOG57` and the digit of its version, 0.
+pub const FILE_FORM: u64 = 0x4942_4c4f_4735_3730;
+
+/// A log as a file has it: the number of pages of its space, and its words.
+#[derive(Debug, Drop)]
+pub struct RawLog {
+    pages: u32,
+    words: Vec<u64>,
+}
+
+impl Model for RawLog {
+    ghost use Rattle.ib_replay.specs.Files.{LogFile};
+
+    ghost Value = { LogFile };
+
+    ghost view = { λ log. record { pages = log.pages; words = log.words.items } };
+}
+
+impl RawLog {
+    /// How many pages the space has.
+    pub fn pages(&self) -> u32
+        ensures { result ≡ self.now.pages }
+    {
+        self.pages
+    }
+
+    /// The words of the entries.
+    pub fn words(&self) -> &[u64]
+        ensures { result.now ≡ self.now.words }
+    {
+        &self.words
+    }
+}
+
+/// The log of a file. A fault is the first one of the file: a length that is no whole number of words,
+/// fewer than two words, another form than `FILE_FORM`, a number of pages that no space has.
+pub fn read_log(alloc: Global, bytes: &[u8]) -> Result<RawLog, LogFault>
+    // The bytes are the file of the log that is read, and its pages are those of a space.
+    ensures found { IfOk result (λ log. bytes.now ≡ file_of log.pages log.words) }
+    ensures pages { IfOk result (λ log. has_pages log.pages ≡ true) }
+
+    // A file is read as the log that it is the file of.
+    ensures only { (pages : ℕ) (words : List ℕ) → has_pages pages ≡ true → All (λ word. word < 2 ^ 64) words
+        → bytes.now ≡ file_of pages words
+        → MatchResult result (λ log. log ≡ record { pages = pages; words = words }) (λ fault. fault ≡ LogFault.OutOfMemory) }
+
+    // Which fault it is.
+    ensures no_fault { OnOk result (file_fault bytes.now ≡ None) }
+    ensures fault { IfErr result (IsFault (file_fault bytes.now)) }
+{
+    log_of(alloc, bytes)
+}
+
+// The log of a file, or its first fault.
+#[tactic(auto, unfolding(crate::specs::Files::file_fault))]
+fn log_of(alloc: Global, bytes: &[u8]) -> Result<RawLog, LogFault>
+    ensures found { IfOk result (λ log. bytes.now ≡ file_of log.pages log.words) }
+    ensures pages { IfOk result (λ log. has_pages log.pages ≡ true) }
+    ensures fits { IfOk result (λ log. All (λ word. word < 2 ^ 64) log.words) }
+    ensures no_fault { OnOk result (file_fault bytes.now ≡ None) }
+    ensures fault { IfErr result (IsFault (file_fault bytes.now)) }
+{
+    if bytes.len() % 8 != 0 {
+        return Err(LogFault::OddLength { bytes: bytes.len() });
+    }
+    if bytes.len() < 16 {
+        return Err(LogFault::Short { place: 0 });
+    }
+    let form = BigEndian::read_u64(bytes);
+    if form != FILE_FORM {
+        return Err(LogFault::BadFile { at: 0, word: form });
+    }
+    let pages = BigEndian::read_u64(&bytes[8..]);
+    if !is_space(pages) {
+        return Err(LogFault::BadFile { at: 1, word: pages });
+    }
+    let words = words_of(alloc, &bytes[16..])?;
+    Ok(RawLog {
+        pages: pages as u32,
+        words,
+    })
+}
+
+// Whether a space has so many pages.
+fn is_space(pages: u64) -> bool
+    ensures { result ≡ has_pages pages }
+{
+    u64::from(LEAST_PAGES) <= pages && pages <= u64::from(MOST_PAGES)
+}
+
+// The words that the bytes are.
+fn words_of(alloc: Global, bytes: &[u8]) -> Result<Vec<u64>, AllocError>
+    requires { length bytes.now % 8 ≡ 0 }
+    ensures words { IfOk result (λ words. word_bytes words.items ≡ bytes.now) }
+    ensures fits { IfOk result (λ words. All (λ word. word < 2 ^ 64) words.items) }
+{
+    let mut words = vec![in alloc; 0; bytes.len() / 8]?;
+    BigEndian::read_u64_into(bytes, &mut words);
+    Ok(words)
+}
+
+/// Writes the file of a log of so many pages and these words.
+#[tactic(auto, unfolding(crate::specs::Files::file_of))]
+pub fn write_log(pages: u32, words: &[u64], out: &mut [u8])
+    requires { length out.old ≡ 16 + 8 * length words.now }
+    ensures { out.new ≡ file_of pages words.now }
+{
+    BigEndian::write_u64(out, FILE_FORM);
+    BigEndian::write_u64(&mut out[8..], u64::from(pages));
+    BigEndian::write_u64_into(words, &mut out[16..]);
+}

@@ -1,0 +1,13 @@
+//! Raw logs: their files, and what their entries make of the opening memory and of the empty map.
+#![tactic(auto)]
+
+mod file;
+mod log_replay;
+mod memory;
+
+pub use file::{FILE_FORM, RawLog, read_log, write_log};
+pub use log_replay::{Replayed, replay};
+pub use memory::Memory;
+
+#[cfg(test)]
+mod tests;
