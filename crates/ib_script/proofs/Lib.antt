@@ -10,3 +10,5 @@ pub mod Records
 pub mod JoinedSpans
 pub mod ChunkLines
 pub mod Neighbours
+pub mod EventsTaken
+pub mod EventsInRange

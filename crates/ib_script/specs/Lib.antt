@@ -8,3 +8,5 @@ pub mod Script
 pub mod Spans
 pub mod Writer
 pub mod FaultText
+pub mod Events
+pub mod EventText

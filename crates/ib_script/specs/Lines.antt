@@ -1,6 +1,7 @@
 -- A text is lines, and a line is fields.
-use Rattle.std.specs.Prelude.{ℕ, List, [], ◌∷◌, ◌==◌}
+use Rattle.std.specs.Prelude.{ℕ, ◌+◌, List, [], ◌∷◌, ◌++◌, ◌==◌, Option, Some, None, length}
 use Rattle.std.specs.List.{slice_split}
+use Rattle.ib_script.specs.declared.script_line.LineKind.{LineKind}
 
 -- the parts but for an empty one at the end
 abbrev pub without_empty_last : List (List ℕ) → List (List ℕ)
@@ -15,3 +16,10 @@ lines_of text = without_empty_last (slice_split (λ byte. byte == 10) text)
 -- the fields of a line: what stands between its spaces
 abbrev pub fields_of : List ℕ → List (List ℕ)
 fields_of line = slice_split (λ byte. byte == 32) line
+
+-- The first bad line of those behind others, where it is said what is wrong with a line behind others: its number, counted
+-- from 1 over all lines, and its kind.
+abbrev pub first_bad : {R : Type 0} → (List R → R → Option LineKind) → List R → List R → Option (ℕ × LineKind)
+first_bad wrong before [] = None
+first_bad wrong before (reading ∷ readings) =
+    elim (wrong before reading) [ Some kind ↦ Some (length before + 1, kind) | None ↦ first_bad wrong (before ++ reading ∷ []) readings ]

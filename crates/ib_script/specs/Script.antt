@@ -1,5 +1,5 @@
 -- Scripts: what a text asks for, and which of its lines is the first bad one.
-use Rattle.std.specs.Prelude.{◌≡◌, ℕ, ◌≤◌, ◌+◌, List, [], ◌∷◌, ◌++◌, Bool, true, false, Option, Some, None, Result, Ok, Err, codes, bytes_eq, nat_le, nat_lt, ◌&&◌, ◌||◌, not, ◌==◌, length, map, filter, count_by, max, fold, sum_by, slice_index_or, if◌then◌else◌}
+use Rattle.std.specs.Prelude.{◌≡◌, ℕ, ◌≤◌, ◌+◌, List, [], ◌∷◌, Bool, true, false, Option, Some, None, Result, Ok, Err, codes, bytes_eq, nat_le, nat_lt, ◌&&◌, ◌||◌, not, ◌==◌, length, map, filter, count_by, max, fold, sum_by, slice_index_or, if◌then◌else◌}
 use Rattle.std.specs.List.{list_all}
 use denote.Ref.{Bor}
 use Rattle.ib_layout.specs.Geometry.{Sizes, has_pages, has_log}
@@ -7,7 +7,7 @@ use Rattle.ib_levels.specs.declared.latch.TheConstants.{MOST_PAGES}
 use Rattle.ib_layout.specs.declared.geometry.TheConstants.{MOST_LOG_WORDS}
 use Rattle.ib_map.specs.declared.call.Call.{Call}
 use Rattle.ib_map.specs.declared.call.Call.TheVariants.{Insert, Delete, Get, Scan}
-use Rattle.ib_script.specs.Lines.{lines_of, fields_of}
+use Rattle.ib_script.specs.Lines.{lines_of, fields_of, first_bad}
 use Rattle.ib_script.specs.Numbers.{number_of}
 use Rattle.ib_script.specs.declared.script_line.TheConstants.{MOST_COMMANDS, MOST_SCANS, MOST_SESSIONS}
 use Rattle.ib_script.specs.declared.script_line.LineKind.{LineKind}
@@ -106,9 +106,7 @@ fault_behind before (Ok (Command call)) = if has_room before (is_scan (Ok (Comma
 
 -- the first bad line of those behind others: its number, counted from 1 over all lines, and its kind
 abbrev pub first_fault : List Reading → List Reading → Option (ℕ × LineKind)
-first_fault before [] = None
-first_fault before (reading ∷ readings) =
-    elim (fault_behind before reading) [ Some kind ↦ Some (length before + 1, kind) | None ↦ first_fault (before ++ reading ∷ []) readings ]
+first_fault before readings = first_bad fault_behind before readings
 
 -- the commands of lines, each with its session: that of the last session line before it, or else this one
 abbrev pub commands_from : ℕ → List Reading → List (ℕ × Call)

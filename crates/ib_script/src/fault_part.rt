@@ -18,6 +18,8 @@ impl<'a, K: Sink> Writer<'a, K> {
             LineKind::Session => self.text(b"session"),
             LineKind::Space => self.text(b"space"),
             LineKind::Many => self.text(b"many"),
+            LineKind::Latch => self.text(b"latch"),
+            LineKind::Level => self.text(b"level"),
         }
     }
 

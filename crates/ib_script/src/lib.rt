@@ -4,6 +4,9 @@
 
 mod buffer;
 mod builder;
+mod event_line;
+mod event_part;
+mod events;
 mod fault_part;
 mod line;
 mod lists;
@@ -21,6 +24,8 @@ mod tests;
 mod writer;
 
 pub use buffer::BUFFER_BYTES;
+pub use event_line::{EventLine, EventWord, MOST_EVENTS, MOST_LATCH, event_reading_of};
+pub use events::{Events, read_events};
 pub use fault_part::write_fault;
 pub use script::{Script, ScriptFault, read_script};
 pub use script_line::{LineKind, MOST_COMMANDS, MOST_SCANS, MOST_SESSIONS, ScriptLine, reading_of};

@@ -87,7 +87,7 @@ impl LineFault {
     ghost use Rattle.ib_script.specs.Building.{fault_at};
 
     // The fault, where the line has this number.
-    fn at(self, line: u32) -> ScriptFault
+    pub(crate) fn at(self, line: u32) -> ScriptFault
         ensures { result ≡ fault_at line self }
     {
         match self {

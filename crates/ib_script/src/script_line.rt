@@ -31,6 +31,10 @@ pub enum LineKind {
     Space,
     /// The script has `MOST_COMMANDS` commands, or `MOST_SCANS` scans, before this one.
     Many,
+    /// The latch of an event is above `MOST_LATCH`.
+    Latch,
+    /// The level of an event is not 1 to 5.
+    Level,
 }
 
 /// What one line of a script says.
@@ -140,7 +144,7 @@ fn reading_of_fields(word: &[u8], fields: Option<&[u8]>) -> Result<ScriptLine, L
     Err(LineKind::Word)
 }
 
-fn is_skipped(line: &[u8]) -> bool
+pub fn is_skipped(line: &[u8]) -> bool
     ensures { result ≡ is_skipped line.now }
 {
     match line {
