@@ -1,7 +1,7 @@
 #!/usr/bin/env python3
-"""Prints how long the program takes on three large scripts, and its peak of resident memory.
+"""Prints how long the program takes on three large scripts and a million events, and its peak of resident memory.
 
-The scripts are made here, from a fixed seed, in a folder that is removed afterwards. Nothing is judged.
+The inputs are made here, from a fixed seed, in a folder that is removed afterwards. Nothing is judged.
 """
 
 import os
@@ -44,14 +44,26 @@ def mixed(count, sessions, keys):
                 yield f"scan {key} {key + 20}\n"
 
 
-def measure(name, lines, folder):
+def events(count):
+    dice = random.Random(57)
+    wishes = ("s", "sx", "x")
+    for turn in range(count // 4):
+        session, latch = turn % 64 + 1, dice.randrange(16)
+        wish = wishes[dice.randrange(3)]
+        yield f"{session} {wish} {latch} {5 - latch % 5}\n"
+        yield f"{session} u{wish} {latch}\n"
+        yield f"{session} look {latch}\n"
+        yield f"{session} raise {latch}\n"
+
+
+def measure(name, form, lines, folder):
     script = os.path.join(folder, "script")
     with open(script, "w") as file:
         file.writelines(lines)
     output = os.path.join(folder, "output")
     with open(script) as given, open(output, "w") as taken:
         start = time.monotonic()
-        child = subprocess.Popen([PROGRAM, "run"], stdin=given, stdout=taken)
+        child = subprocess.Popen([PROGRAM, form], stdin=given, stdout=taken)
         _, status, usage = os.wait4(child.pid, 0)
         seconds = time.monotonic() - start
     print(
@@ -64,9 +76,10 @@ def measure(name, lines, folder):
 def main():
     subprocess.run([PROGRAM, "run"], stdin=subprocess.DEVNULL, stdout=subprocess.DEVNULL, check=True)
     with tempfile.TemporaryDirectory() as folder:
-        measure("1,000,000 ascending inserts", ascending(1_000_000), folder)
-        measure("200,000 mixed commands of 4 sessions over 20,000 keys", mixed(200_000, 4, 20_000), folder)
-        measure("1,000,000 commands, 990,000 of them gets", gets(1_000_000), folder)
+        measure("1,000,000 ascending inserts", "run", ascending(1_000_000), folder)
+        measure("200,000 mixed commands of 4 sessions over 20,000 keys", "run", mixed(200_000, 4, 20_000), folder)
+        measure("1,000,000 commands, 990,000 of them gets", "run", gets(1_000_000), folder)
+        measure("1,000,000 events of 64 sessions on 16 latches", "latch", events(1_000_000), folder)
     return 0
 
 

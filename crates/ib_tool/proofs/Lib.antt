@@ -6,3 +6,4 @@ pub mod Steps
 pub mod Sessions
 pub mod Printing
 pub mod Telling
+pub mod EventLines

@@ -4,4 +4,5 @@ pub mod Status
 pub mod Told
 pub mod PlainRun
 pub mod Words
+pub mod Latching
 pub mod Answers

@@ -1,10 +1,19 @@
 -- The words of the command line.
-use Rattle.std.specs.Prelude.{ℕ, List, [], ◌∷◌, Bool, false, codes, bytes_eq}
+use Rattle.std.specs.Prelude.{ℕ, List, [], ◌∷◌, Option, Some, None, codes, bytes_eq, if◌then◌else◌}
+use Rattle.ib_tool.specs.declared.form.Form.{Form}
+use Rattle.ib_tool.specs.declared.form.Form.TheVariants.{Run, Latch}
 
--- the one form that is built: the word `run` alone
-abbrev pub is_run : List (List ℕ) → Bool
-is_run (word ∷ []) = bytes_eq word (codes "run")
-is_run _ = false
+-- the form that a word names
+abbrev pub form_named : List ℕ → Option Form
+form_named word =
+    if bytes_eq word (codes "run") then Some Run
+    else if bytes_eq word (codes "latch") then Some Latch
+    else None
+
+-- the forms that are built: one word alone
+abbrev pub form_of : List (List ℕ) → Option Form
+form_of (word ∷ []) = form_named word
+form_of _ = None
 
 abbrev pub usage_line : List ℕ
 usage_line = codes "usage: ib_tool run | raw | latch | replay | gen N SEED SESSIONS\n"

@@ -1,9 +1,11 @@
 //! The program `ib_tool`: scripts of inserts, deletes, lookups and scans from several sessions, answered on one
-//! sorted map, from the bytes that are read to the bytes that are written.
+//! sorted map, and events of the latch machine, from the bytes that are read to the bytes that are written.
 #![tactic(auto)]
 
 mod args;
+mod form;
 mod gate;
+mod latching;
 mod memory_sink;
 mod memory_source;
 mod plain_run;

@@ -3,6 +3,7 @@ use std::alloc::Global;
 use std::process::Abort;
 use std::test::Fail;
 
+mod events;
 mod limits;
 mod lines;
 mod rows;
@@ -20,6 +21,21 @@ fn told(alloc: Global, words: &[&str], input: &[u8]) -> Result<(Status, MemSink)
     Ok((status, sink))
 }
 
+// The status and the text that a form gives for this input.
+fn check_form(
+    rt: &impl Abort,
+    alloc: Global,
+    form: &str,
+    input: &[u8],
+    status: Status,
+    text: &[u8],
+) -> Result<(), Fail> {
+    let (found, sink) = told(alloc, &[form], input)?;
+    assert_eq!(rt; found, status);
+    assert_eq!(rt; sink.bytes(), text);
+    Ok(())
+}
+
 // The status and the text that `run` gives for this script.
 fn check(
     rt: &impl Abort,
@@ -28,8 +44,5 @@ fn check(
     status: Status,
     text: &[u8],
 ) -> Result<(), Fail> {
-    let (found, sink) = told(alloc, &["run"], script)?;
-    assert_eq!(rt; found, status);
-    assert_eq!(rt; sink.bytes(), text);
-    Ok(())
+    check_form(rt, alloc, "run", script, status, text)
 }

@@ -9,10 +9,14 @@ fn lines(alloc: Global, line: &[u8], count: u32) -> Result<Vec<u8>, Fail> {
     Ok(script)
 }
 
-fn accepted(rt: &impl Abort, alloc: Global, script: &[u8]) -> Result<(), Fail> {
-    let (status, _) = told(alloc, &["run"], script)?;
+fn accepted_by(rt: &impl Abort, alloc: Global, form: &str, input: &[u8]) -> Result<(), Fail> {
+    let (status, _) = told(alloc, &[form], input)?;
     assert_eq!(rt; status, Status::Done);
     Ok(())
+}
+
+fn accepted(rt: &impl Abort, alloc: Global, script: &[u8]) -> Result<(), Fail> {
+    accepted_by(rt, alloc, "run", script)
 }
 
 #[test]
@@ -53,5 +57,21 @@ fn the_greatest_numbers(rt: HostRuntime) -> Result<(), Fail> {
         &rt,
         alloc,
         b"space 4096 16777216\nsession 64\ninsert 18446744073709551615 18446744073709551615\n",
+    )
+}
+
+#[test]
+fn a_million_events(rt: HostRuntime) -> Result<(), Fail> {
+    let alloc = rt.alloc();
+    let mut events = lines(alloc, b"64 look 15\n", 1_000_000)?;
+    accepted_by(&rt, alloc, "latch", &events)?;
+    events.extend_from_slice(b"64 look 15\n")?;
+    check_form(
+        &rt,
+        alloc,
+        "latch",
+        &events,
+        Status::Script,
+        b"script: line 1000001: many\n",
     )
 }

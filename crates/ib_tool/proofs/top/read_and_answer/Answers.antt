@@ -4,7 +4,7 @@ use Rattle.ib_tool.proofs.Telling.{told_input}
 use Rattle.ib_tool.proofs.top.read_and_answer.Goals as goal
 
 pub returns-in-Ok-clause-told : goal.returns-in-Ok-clause-told
-returns-in-Ok-clause-told g c = told_input (g.S.Source.left c.args.source.now) (g.S.Source.left c.read_all.new.source) c.in-Ok.input.items c.in-Ok.ensures.reads
+returns-in-Ok-clause-told g c = told_input c.args.form (g.S.Source.left c.args.source.now) (g.S.Source.left c.read_all.new.source) c.in-Ok.input.items c.in-Ok.ensures.reads
     (g.K.Sink.written c.args.sink.now) (g.K.Sink.written c.answer.new.sink) c.answer.result (rw c.deref.ensures.value at c.answer.ensures.told)
 
 pub returns-in-Err-clause-told : goal.returns-in-Err-clause-told
