@@ -19,7 +19,9 @@ impl Latch {
     /// The latch of a page (buf_block_t::lock). Pages are numbered from 0.
     pub fn page(p: u32) -> Latch
         requires { p < MOST_PAGES }
-        ensures { result ≡ record { 0 = p + 2 } }
+        ensures page { result ≡ record { 0 = p + 2 } }
+        ensures log { Latch.LOG ≡ record { 0 = 0 } }
+        ensures index { Latch.INDEX ≡ record { 0 = 1 } }
     {
         Latch(p + 2)
     }

@@ -15,6 +15,7 @@ pub const GREATEST: Key = u64::MAX;
 pub fn after(key: Key) -> Option<Key>
     ensures next { result ≡ key_after key }
     ensures last { IsNone result ↔ (key ≡ GREATEST) }
+    ensures none_below { rank LEAST ≤ rank key }
     ensures above { IfSome result (λ next. rank key < rank next) }
     ensures adjacent { IfSome result (λ next. (other : MapKey) → rank key < rank other → rank next ≤ rank other) }
 {

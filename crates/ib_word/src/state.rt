@@ -42,6 +42,7 @@ pub fn classify(w: LockWord) -> WordState
     requires { IsCounted w.0 }
     ensures state { (s sx x : ℕ) → IsWithin s sx x → w.0 ≡ word_of s sx x
         → result ≡ state_of s sx x }
+    ensures free { LockWord.FREE.0 ≡ word_of 0 0 0 }
     // No two counts give the word, but for how often its owner has SX.
     ensures unique { (s sx x s' sx' x' : ℕ) → IsWithin s sx x → IsWithin s' sx' x'
         → w.0 ≡ word_of s sx x → w.0 ≡ word_of s' sx' x' → SameCounts s sx x s' sx' x' }
