@@ -194,3 +194,49 @@ fn the_first_of_two_faults_is_told(rt: HostRuntime) {
 fn pages_begin_with_zeros_for_any_law(rt: HostRuntime) {
     assert_eq!(rt; AnyLaw::opening_word(16, 1, 0), 0);
 }
+
+// The printed text of a fault is this.
+fn reads(alloc: Global, fault: LogFault, text: &str) -> Result<bool, Fail> {
+    Ok(format!(in alloc; "{fault}")?.as_str() == text)
+}
+
+#[test]
+fn faults_as_text(rt: HostRuntime) -> Result<(), Fail> {
+    let alloc = rt.alloc();
+    let place = 12;
+    let word = 133;
+    let kind = UnlawfulKind::Number;
+    assert!(rt; reads(alloc, LogFault::Short { place }, "short at 12")?);
+    assert!(rt;
+        reads(
+            alloc,
+            LogFault::BadHead { place, word },
+            "head at 12 word 133"
+        )?
+    );
+    assert!(rt;
+        reads(
+            alloc,
+            LogFault::BadWrite { place, word },
+            "write at 12 word 133"
+        )?
+    );
+    assert!(rt;
+        reads(
+            alloc,
+            LogFault::Outside { place, word },
+            "outside at 12 word 133"
+        )?
+    );
+    assert!(rt; reads(alloc, LogFault::OddLength { bytes: 15 }, "odd length 15")?);
+    assert!(rt;
+        reads(
+            alloc,
+            LogFault::BadFile { at: 1, word },
+            "file at 1 word 133"
+        )?
+    );
+    assert!(rt; reads(alloc, LogFault::Unlawful { place, kind }, "unlawful at 12")?);
+    assert!(rt; reads(alloc, LogFault::OutOfMemory, "out of memory")?);
+    Ok(())
+}
