@@ -1,8 +1,8 @@
 -- No two words of a space have one place, and each place lies within the table.
-use Rattle.std.proofs.Common.{◌≡◌, ℕ, ◌+◌, ◌*◌, ◌<◌, ◌≤◌, arith}
+use Rattle.std.proofs.Common.{◌≡◌, ℕ, ◌+◌, ◌<◌, arith}
 use Rattle.ib_map.specs.declared.TheConstants.{PAGE_WORDS}
 use Rattle.ib_layout.specs.Geometry.{Sizes}
-use Rattle.ib_layout.specs.Places.{drawn_place, end_place, lock_place, latches_of, page_place, log_place, words_of}
+use Rattle.ib_layout.specs.Places.{end_place, lock_place, latches_of, page_place, log_place, words_of}
 
 -- The five words of a latch are its lock place and the four places behind it.
 pub latch_words_apart : (latch other i j : ℕ) → i < 5 → j < 5 → lock_place latch + i ≡ lock_place other + j → (latch ≡ other) × (i ≡ j)
