@@ -6,3 +6,5 @@ pub mod ReadLaws
 pub mod RouteLaws
 pub mod SpaceLaws
 pub mod WorkLaws
+pub mod PageLaws
+pub mod WriteLaws

@@ -1,15 +1,151 @@
 -- Bits of the space page.
-use Rattle.std.proofs.Common.{◌≡◌, ℕ, zero, suc, ◌*◌, ◌/◌, ◌%◌, ◌^◌, ◌<◌, ◌≤◌, true, false, eqb, ltb, ◌∙◌, List, length, get_or, set, replicate, refl, ap, sym, arith, inl, inr}
-use Rattle.std.specs.Int.{bit_at, w64, bit_not}
-use Rattle.std.specs.Int.RustNames.{bit_or}
+use Rattle.std.proofs.Common.{◌≡◌, ℕ, zero, suc, ◌*◌, ◌/◌, ◌%◌, ◌^◌, ◌<◌, ◌≤◌, true, false, cond, eqb, ltb, ◌+◌, ◌-◌, ◌∙◌, List, Option, IsNone, IfSome, ◌↔◌, length, get_or, set, replicate, refl, ap, sym, arith, inl, inr}
+use Rattle.std.specs.Int.{bit_at, w64, bit_not, trailing_ones}
+use Rattle.std.specs.Int.RustNames.{bit_or, count_ones}
+use Rattle.std.specs.Bool.{then_some}
 use lib.Bits.{bit_and}
+use lib.Count.{ones_cat}
+use Rattle.std.proofs.Math.Pow.{pow_pos, mod-pow-add}
+use Rattle.std.proofs.Math.Nat.{mod-lt, mod-eq_of_lt}
+use Rattle.std.proofs.lemmas.Nat.{and_mask, one_shl}
+use Rattle.std.proofs.Math.Numerals.{one-add}
 use mir.Val.{bits}
-use Rattle.std.proofs.lemmas.Bool.{cases_eq, le-ltb}
+use Rattle.std.proofs.lemmas.Bool.{cases_eq, cases_lt, cases_Bool, eq-eqb, ne_eqb, lt-ltb, le-ltb}
 use Rattle.std.proofs.lemmas.List.{get_or-set_same, get_or-set_other, length-set}
-use Rattle.std.proofs.lemmas.Nat.Bits.{bit_at_set_same, bit_at_set_other, bit_at_clear_same, bit_at_clear_other, bit_at_above}
+use Rattle.std.proofs.lemmas.Nat.Bits.{bit_at-lt, bit_at_ones, bit_at-trailing_ones, bit_at_not, bit_at_set_same, bit_at_set_other, bit_at_clear_same, bit_at_clear_other, bit_at_above}
 use Rattle.ib_map.specs.declared.TheConstants.{PAGE_WORDS}
 use Rattle.ib_page.specs.declared.space.TheConstants.{MAPPED_PAGES}
-use Rattle.ib_page.specs.Space.{is_taken, SetsBit, IsSpacePage}
+use Rattle.ib_page.specs.Space.{is_taken, free_below, zeros_below, SetsBit, IsSpacePage}
+
+-- the free pages of one word
+pub zeros_below-le : (n word : ℕ) → zeros_below n word ≤ n
+unfolding zeros_below
+zeros_below-le zero word = omega arith
+zeros_below-le (suc n) word = let rest = zeros_below-le n word in elim (cases_Bool (eqb (bit_at word n) 1)) [
+  | inl set ↦ rw set (omega arith)
+  | inr clear ↦ rw clear (omega arith)
+]
+
+pub bit_in_word : (ws : List ℕ) (i n : ℕ) → n < 64 → is_taken ws (64 * i + n) ≡ eqb (bit_at (get_or ws i 0) n) 1
+bit_in_word ws i n lt =
+    let at_word : (64 * i + n) / 64 ≡ i = omega arith in
+    let at_bit : (64 * i + n) % 64 ≡ n = omega arith in
+    ap (λ (k : ℕ). eqb (bit_at (get_or ws k 0) ((64 * i + n) % 64)) 1) at_word ∙ ap (λ (k : ℕ). eqb (bit_at (get_or ws i 0) k) 1) at_bit
+
+pub free_below_word : (ws : List ℕ) (i n : ℕ) → n ≤ 64 → free_below ws (64 * i + n) ≡ free_below ws (64 * i) + zeros_below n (get_or ws i 0)
+unfolding zeros_below
+free_below_word ws i zero le = let same : 64 * i + 0 ≡ 64 * i = omega arith in omega (arith, ap (λ (k : ℕ). free_below ws k) same)
+free_below_word ws i (suc n) le =
+    let next : 64 * i + suc n ≡ suc (64 * i + n) = omega arith in
+    let rest = free_below_word ws i n (omega arith) in
+    let here : cond {A = ℕ} (is_taken ws (64 * i + n)) 0 1 ≡ cond {A = ℕ} (eqb (bit_at (get_or ws i 0) n) 1) 0 1 = ap (λ b. cond {A = ℕ} b 0 1) (bit_in_word ws i n (omega arith)) in
+    ap (λ (k : ℕ). free_below ws k) next ∙ (let sum : free_below ws (suc (64 * i + n)) ≡ free_below ws (64 * i + n) + cond {A = ℕ} (is_taken ws (64 * i + n)) 0 1 = refl in
+    let zeros : zeros_below (suc n) (get_or ws i 0) ≡ zeros_below n (get_or ws i 0) + cond {A = ℕ} (eqb (bit_at (get_or ws i 0) n) 1) 0 1 = refl in
+    omega arith)
+
+-- the ones among the lowest bits of a number are the zeros among those of its complement
+ones_more : (word n : ℕ) → count_ones (word % 2 ^ suc n) ≡ count_ones (bit_at word n) + count_ones (word % 2 ^ n)
+ones_more word n =
+    ap (λ (j : ℕ). count_ones (word % 2 ^ j)) (sym (one-add n))
+    ∙ (ap (λ (k : ℕ). count_ones k) (mod-pow-add word 1 n) ∙ ones_cat n (word / 2 ^ n % 2 ^ 1) (word % 2 ^ n) (mod-lt word (pow_pos n)))
+
+no_ones : count_ones 0 ≡ 0
+unfolding count_ones
+no_ones = refl
+
+one_one : count_ones 1 ≡ 1
+unfolding count_ones
+one_one = refl
+
+pub ones_are_zeros : (other word n : ℕ) → ((i : ℕ) → i < n → bit_at other i ≡ 1 - bit_at word i) → count_ones (other % 2 ^ n) ≡ zeros_below n word
+unfolding zeros_below
+ones_are_zeros other word zero h = let none : other % 2 ^ 0 ≡ 0 = omega arith in ap (λ (k : ℕ). count_ones k) none ∙ no_ones
+ones_are_zeros other word (suc n) h =
+    let rest = ones_are_zeros other word n (λ i lt. h i (omega arith)) in
+    let here : bit_at other n ≡ 1 - bit_at word n = h n (omega arith) in
+    let more = ones_more other n in
+    elim (cases_eq (bit_at word n) 1) [
+      | inl set ↦
+          let clear : count_ones (bit_at other n) ≡ 0 = ap (λ (k : ℕ). count_ones k) (let e : bit_at other n ≡ 0 = omega arith in e) ∙ no_ones in
+          rw (eq-eqb (bit_at word n) 1 set) (omega arith)
+      | inr unset ↦
+          let small = bit_at-lt word n in
+          let one : count_ones (bit_at other n) ≡ 1 = ap (λ (k : ℕ). count_ones k) (let e : bit_at other n ≡ 1 = omega arith in e) ∙ one_one in
+          rw (ne_eqb (bit_at word n) 1 unset) (omega arith)
+    ]
+
+-- the zeros among the lowest bits of a word, and among all its bits
+pub zeros_counted : (word n : ℕ) → word < 2 ^ 64 → n < 64 → count_ones (bit_and (bit_not w64 word) (1 * 2 ^ n % 2 ^ 64 - 1)) ≡ zeros_below n word
+zeros_counted word n fits lt =
+    ap (λ (mask : ℕ). count_ones (bit_and (bit_not w64 word) (mask - 1))) (one_shl n 64 lt)
+    ∙ (ap (λ (k : ℕ). count_ones k) (and_mask (bit_not w64 word) n) ∙ ones_are_zeros (bit_not w64 word) word n (λ i below. bit_at_not w64 word i fits (omega arith)))
+
+pub zeros_of_word : (word n : ℕ) → word < 2 ^ 64 → n ≡ 64 → count_ones (bit_not w64 word) ≡ zeros_below n word
+zeros_of_word word n fits all =
+    let below : bit_not w64 word < 2 ^ n = rw all (omega arith) in
+    ap (λ (k : ℕ). count_ones k) (sym (mod-eq_of_lt below)) ∙ ones_are_zeros (bit_not w64 word) word n (λ i lt. bit_at_not w64 word i fits (omega arith))
+
+-- all free pages before a page of a word
+pub free_below_pages : (ws : List ℕ) (pages : ℕ) → free_below ws pages ≡ free_below ws (64 * (pages / 64)) + zeros_below (pages % 64) (get_or ws (pages / 64) 0)
+free_below_pages ws pages =
+    let split : pages ≡ 64 * (pages / 64) + pages % 64 = omega arith in
+    ap (λ (n : ℕ). free_below ws n) split ∙ free_below_word ws (pages / 64) (pages % 64) (omega arith)
+
+-- the pages of words that are all ones are taken
+pub full_word : (ws : List ℕ) (i lower : ℕ) → get_or ws i 0 ≡ 2 ^ 64 - 1 → ((page : ℕ) → page < 64 * i → is_taken ws page ≡ true) → lower < 64 * (i + 1) → is_taken ws lower ≡ true
+full_word ws i lower full before lt = elim (cases_lt lower (64 * i)) [
+  | inl earlier ↦ before lower earlier
+  | inr here ↦
+      let bit = lower - 64 * i in
+      let within : bit < 64 = omega arith in
+      let split : lower ≡ 64 * i + bit = omega arith in
+      ap (λ (page : ℕ). is_taken ws page) split
+      ∙ (bit_in_word ws i bit within ∙ (ap (λ (word : ℕ). eqb (bit_at word bit) 1) full ∙ eq-eqb (bit_at (2 ^ 64 - 1) bit) 1 (bit_at_ones 64 bit within)))
+]
+
+-- no page is free before this one, which is
+pub record IsLowestFree (ws : List ℕ) (page : ℕ) : Type 0 where
+  pub free : is_taken ws page ≡ false
+  pub before : (lower : ℕ) → lower < page → is_taken ws lower ≡ true
+
+pub lowest_in_word : (ws : List ℕ) (i : ℕ) → get_or ws i 0 + 1 < 2 ^ 64 → ((page : ℕ) → page < 64 * i → is_taken ws page ≡ true) → IsLowestFree ws (64 * i + trailing_ones w64 (get_or ws i 0))
+lowest_in_word ws i room before =
+    let word = get_or ws i 0 in
+    let lowest = bit_at-trailing_ones w64 word room in
+    let within = lowest.0 in
+    record {
+      free = bit_in_word ws i (trailing_ones w64 word) within ∙ ap (λ (b : ℕ). eqb b 1) lowest.1;
+      before = λ lower lt. elim (cases_lt lower (64 * i)) [
+        | inl earlier ↦ before lower earlier
+        | inr here ↦
+            let bit = lower - 64 * i in
+            let split : lower ≡ 64 * i + bit = omega arith in
+            ap (λ (page : ℕ). is_taken ws page) split ∙ (bit_in_word ws i bit (omega arith) ∙ eq-eqb (bit_at word bit) 1 (lowest.2 bit (omega arith)))
+      ];
+    }
+
+-- the lowest free page, where it is one of so many pages
+pub record IsLowestOf (ws : List ℕ) (pages : ℕ) (result : Option ℕ) : Type 0 where
+  pub none : IsNone result ↔ ((page : ℕ) → page < pages → is_taken ws page ≡ true)
+  pub in_range : IfSome result (λ page. page < pages)
+  pub free : IfSome result (λ page. is_taken ws page ≡ false)
+  pub lowest : IfSome result (λ page. (lower : ℕ) → lower < page → is_taken ws lower ≡ true)
+
+pub lowest_of : (ws : List ℕ) (pages page : ℕ) → IsLowestFree ws page → IsLowestOf ws pages (then_some (ltb page pages) page)
+lowest_of ws pages page found = elim (cases_lt page pages) [
+  | inl within ↦ rw (lt-ltb page pages within) (record {
+    none = (λ bad. (cc), λ all. absurd (let taken = all page within in let free = found.free in cc));
+    in_range = within;
+    free = found.free;
+    lowest = found.before;
+  })
+  | inr beyond ↦ rw (le-ltb page pages beyond) (record {
+    none = (λ _ lower lt. found.before lower (omega arith), λ _. refl);
+    in_range = tt;
+    free = tt;
+    lowest = tt;
+  })
+]
 
 -- one word replaced by one that has the same bits but for one
 sets_bit : (ws : List ℕ) (page word bit : ℕ) → length ws ≡ PAGE_WORDS → page < MAPPED_PAGES → bit_at word (page % 64) ≡ bit

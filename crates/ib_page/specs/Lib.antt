@@ -5,4 +5,5 @@ pub mod Kind
 pub mod Space
 pub mod Differences
 pub mod Work
+pub mod Writes
 pub mod Lending

@@ -21,6 +21,11 @@ abbrev pub free_below : List ℕ → ℕ → ℕ
 free_below ws zero = 0
 free_below ws (suc n) = free_below ws n + (if is_taken ws n then 0 else 1)
 
+-- how many of the lowest n bits of a word are 0
+unfoldable pub zeros_below : ℕ → ℕ → ℕ
+zeros_below zero word = 0
+zeros_below (suc n) word = zeros_below n word + (if bit_at word n == 1 then 0 else 1)
+
 -- one page's bit is this now, and every other bit and word is as before
 pub record SetsBit (old new : List ℕ) (page : ℕ) (bit : Bool) : Type 0 where
   pub here : is_taken new page ≡ bit

@@ -185,6 +185,8 @@ impl Image {
     pub(crate) fn differences(&self, other: &Image) -> usize
         ensures count { result ≡ differences self.now other.now }
         ensures few { result ≤ PAGE_WORDS }
+        ensures size { length self.now ≡ PAGE_WORDS }
+        ensures other_size { length other.now ≡ PAGE_WORDS }
     {
         let mut count = 0;
         for i in 0..PAGE_WORDS {

@@ -3,6 +3,7 @@
 
 mod form;
 mod image;
+mod laws;
 mod path;
 mod space;
 #[cfg(test)]
@@ -10,6 +11,7 @@ mod tests;
 mod work;
 
 pub use image::{Image, Kind, PageFault};
+pub use laws::work_law;
 pub use path::{MOST_PATH, Path};
 pub use space::{MAPPED_PAGES, SpaceImage};
 pub use work::{MOST_WORK_PAGES, Place, WorkSet};

@@ -1,5 +1,5 @@
 ghost use Rattle.std.specs.Prelude.{◌≡◌, ◌+◌, ◌<◌, ◌≤◌, ◌^◌, ℕ, true, false, nat_lt, length, IsTrue, ◌↔◌, IsNone, IfSome};
-ghost use Rattle.ib_page.specs.Space.{is_taken, space_clock_of, with_space_clock, free_below, SetsBit, IsSpacePage};
+ghost use Rattle.ib_page.specs.Space.{is_taken, space_clock_of, with_space_clock, free_below, zeros_below, SetsBit, IsSpacePage};
 
 use crate::image::Image;
 use ib_map::PAGE_WORDS;
@@ -75,13 +75,12 @@ impl SpaceImage {
         ensures count { result ≡ free_below self.now pages }
         ensures in_range { result ≤ pages }
     {
+        let whole = pages / WORD_BITS;
         let mut count = 0;
-        for page in 0..pages {
-            if !bit(&self.words, page) {
-                count += 1;
-            }
+        for i in 0..whole {
+            count += self.words[i as usize].count_zeros();
         }
-        count
+        count + zeros_below(self.words[whole as usize], pages % WORD_BITS)
     }
 
     /// The lowest free one of the first `pages` pages. None exactly where none is free.
@@ -92,9 +91,11 @@ impl SpaceImage {
         ensures free { IfSome result (λ page. is_taken self.now page ≡ false) }
         ensures lowest { IfSome result (λ page. (lower : ℕ) → lower < page → is_taken self.now lower ≡ true) }
     {
-        for page in 0..pages {
-            if !bit(&self.words, page) {
-                return Some(page);
+        for i in 0..pages.div_ceil(WORD_BITS) {
+            let word = self.words[i as usize];
+            if word != u64::MAX {
+                let page = WORD_BITS * i + word.trailing_ones();
+                return (page < pages).then_some(page);
             }
         }
         None
@@ -126,6 +127,15 @@ impl SpaceImage {
     {
         self.words[CLOCK] += 1;
     }
+}
+
+// How many of the lowest bits of a word are 0.
+fn zeros_below(word: u64, bits: u32) -> u32
+    requires { bits < WORD_BITS }
+    ensures count { result ≡ zeros_below bits word }
+    ensures few { result ≤ bits }
+{
+    (!word & ((1 << bits) - 1)).count_ones()
 }
 
 // Whether the bit of a page is set.

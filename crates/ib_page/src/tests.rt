@@ -88,3 +88,14 @@ fn the_last_page_has_a_bit(rt: HostRuntime) {
     space.give(4095);
     assert_eq!(rt; space.free_count(MAPPED_PAGES), 4094);
 }
+
+#[test]
+fn the_last_word_counts_in_part(rt: HostRuntime) {
+    let mut space = SpaceImage::opening(100);
+    assert_eq!(rt; space.free_count(100), 98);
+    assert_eq!(rt; space.free_count(64), 62);
+    assert!(rt; !space.is_taken(2));
+    space.take(2);
+    assert_eq!(rt; space.lowest_free(3), None);
+    assert_eq!(rt; space.lowest_free(100), Some(3));
+}

@@ -1,6 +1,7 @@
 ghost use Rattle.std.specs.Prelude.{◌≡◌, ◌+◌, ◌<◌, ◌≤◌, ◌==◌, ℕ, [], length, Some, None, IsSome, IfSome, IfOk, IsTrue, ◌↔◌, MatchOption, if◌then◌else◌};
 ghost use Rattle.std.specs.Borrow.{sem};
-ghost use Rattle.ib_page.specs.Work.{Work, IsWork, room_of, changed_of, before_of, place_in, differences_of};
+ghost use Rattle.ib_page.specs.Work.{Work, IsWork, room_of, changed_of, before_of, place_in, differences_of, pages_of};
+ghost use Rattle.ib_page.specs.Writes.{AreImages};
 ghost use Rattle.ib_page.specs.Lending.{LendsChanged};
 
 use crate::image::Image;
@@ -101,7 +102,8 @@ impl WorkSet {
 
     /// In how many words the changed images differ from those that were read.
     pub fn changed(&self) -> usize
-        ensures { result ≡ differences_of self.now }
+        ensures count { result ≡ differences_of self.now }
+        ensures images { AreImages (pages_of self.now) }
     {
         let mut count = 0;
         for place in &self.order {
