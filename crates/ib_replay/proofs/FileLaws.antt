@@ -99,7 +99,7 @@ file_of-read bytes words pages long fits form second rest =
     sym (flat_map-cons (big_bytes 8) FILE_FORM (pages ∷ words) ∙ ap (λ (xs : List ℕ). xs ++ word_bytes (pages ∷ words)) front ∙ ap (λ (xs : List ℕ). take 8 bytes ++ xs) behind ∙ take-append-drop 8 bytes)
 
 module _ (pages : ℕ) (words : List ℕ) where
-  length-file_of : length (file_of pages words) ≡ 16 + 8 * length words
+  pub length-file_of : length (file_of pages words) ≡ 16 + 8 * length words
   unfolding file_of
   length-file_of = length-word_bytes (FILE_FORM ∷ pages ∷ words) ∙ omega arith
 

@@ -23,7 +23,7 @@ use Rattle.ib_replay.specs.Replays.{IsLawful, change_fault, fault_behind, IsFirs
 use Rattle.ib_replay.proofs.ReplayLaws.{logged}
 
 -- what begins with an entry's words goes on with what stands behind them
-same_rest : (pages : ℕ) (e f : Entry) (x y : List ℕ) → Formed pages e → Formed pages f → words_of_entry e ++ x ≡ words_of_entry f ++ y → (e ≡ f) × (x ≡ y)
+pub same_rest : (pages : ℕ) (e f : Entry) (x y : List ℕ) → Formed pages e → Formed pages f → words_of_entry e ++ x ≡ words_of_entry f ++ y → (e ≡ f) × (x ≡ y)
 same_rest pages e f x y e_formed f_formed same =
     let is = words_of_entry-one pages e f x y e_formed f_formed same in
     (is, append_cancel_left (words_of_entry e) x y (same ∙ ap (λ (g : Entry). words_of_entry g ++ y) (sym is)))
@@ -65,14 +65,19 @@ no_change_fault place front e legal =
     let made : is_made (answer_of (map_with [] (history_of front)) e.change) ≡ true = ap (λ (m : Pairs). is_made (answer_of m e.change)) (sym (map_after-length (history_of front))) ∙ legal.made in
     rw (eq-eqb _ _ numbered, made) refl
 
+-- behind a front of a lawful log stand the words of its next entry, and nothing is wrong with them
+pub no_fault_behind : (pages : ℕ) (front more log : List Entry) (e : Entry) (rest tail : List ℕ) → IsLawful pages log → log ≡ front ++ e ∷ more → rest ≡ words_of_entry e ++ tail → Formed pages e
+    → fault_behind pages front rest ≡ None
+no_fault_behind pages front more log e rest tail lawful parts spelled formed =
+    let read : entry_of rest ≡ e = ap entry_of spelled ∙ entry_of-words e tail formed.most_writes in
+    let words : fault_at pages (used front) rest ≡ None = ap (fault_at pages (used front)) spelled ∙ fault_at-words pages (used front) e tail formed in
+    let legal = legal_next front more e (subst (λ (l : List Entry). IsLegalHistory (history_of l)) parts lawful.legal) in
+    rw (words, read) (no_change_fault (used front) front e legal)
+
 pub not_first_fault : (pages : ℕ) (log : List Entry) (fault : LogFault) → IsLawful pages log → IsFirstFault pages (log_words log) fault → ⊥
 not_first_fault pages log fault lawful first =
     let next = next_entry pages first.front log first.rest first.lawful.formed lawful.formed first.parts first.more in
-    let e = next.0 in
-    let read : entry_of first.rest ≡ e = ap entry_of next.3 ∙ entry_of-words e (log_words next.1) next.4.most_writes in
-    let words : fault_at pages (used first.front) first.rest ≡ None = ap (fault_at pages (used first.front)) next.3 ∙ fault_at-words pages (used first.front) e (log_words next.1) next.4 in
-    let legal = legal_next first.front next.1 e (subst (λ (l : List Entry). IsLegalHistory (history_of l)) next.2 lawful.legal) in
-    let none : fault_behind pages first.front first.rest ≡ None = rw (words, read) (no_change_fault (used first.front) first.front e legal) in
+    let none = no_fault_behind pages first.front next.1 log next.0 first.rest (log_words next.1) lawful next.2 next.3 next.4 in
     let found = first.found in cc
 
 no_fault : (pages : ℕ) (log : List Entry) (fault : LogFault) → IsLawful pages log → IsReplayFault pages (log_words log) fault → fault ≡ OutOfMemory

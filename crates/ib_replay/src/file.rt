@@ -50,6 +50,7 @@ pub fn read_log(alloc: Global, bytes: &[u8]) -> Result<RawLog, LogFault>
     // The bytes are the file of the log that is read, and its pages are those of a space.
     ensures found { IfOk result (λ log. bytes.now ≡ file_of log.pages log.words) }
     ensures pages { IfOk result (λ log. has_pages log.pages ≡ true) }
+    ensures fits { IfOk result (λ log. All (λ word. word < 2 ^ 64) log.words) }
 
     // A file is read as the log that it is the file of.
     ensures only { (pages : ℕ) (words : List ℕ) → has_pages pages ≡ true → All (λ word. word < 2 ^ 64) words

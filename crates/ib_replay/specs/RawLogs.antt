@@ -1,0 +1,35 @@
+-- Raw logs: bytes that are the file of a lawful log, and what is wrong with bytes that are not.
+use Rattle.std.specs.Prelude.{◌≡◌, ◌⊎◌, ℕ, ◌^◌, ◌<◌, List, All, Some, true}
+use Rattle.ib_layout.specs.Geometry.{has_pages}
+use Rattle.ib_logrec.specs.declared.entry.Entry.{Entry}
+use Rattle.ib_logrec.specs.declared.fault.LogFault.{LogFault}
+use Rattle.ib_logrec.specs.Log.{log_words}
+use Rattle.ib_replay.specs.Files.{file_of, file_fault}
+use Rattle.ib_replay.specs.Replays.{IsLawful, IsMemory, IsFirstFault}
+
+abbrev pub AreWords : List ℕ → Type 0
+AreWords words = All (λ word. word < 2 ^ 64) words
+
+-- the bytes are the file of these entries, which are lawful, in a space of so many pages
+pub record IsRawLog (bytes : List ℕ) (pages : ℕ) (log : List Entry) : Type 0 where
+  pub space : has_pages pages ≡ true
+  pub lawful : IsLawful pages log
+  pub fits : AreWords (log_words log)
+  pub file : bytes ≡ file_of pages (log_words log)
+
+-- the bytes are the file of these entries, and the memory is the one after them
+abbrev pub IsReplayed : List ℕ → List Entry → List ℕ → Type 0
+IsReplayed bytes log memory = (pages : ℕ) × IsRawLog bytes pages log × IsMemory pages log memory
+
+-- the bytes are the file of words of which this is the first fault
+pub record IsWordFault (bytes : List ℕ) (fault : LogFault) : Type 0 where
+  pub pages : ℕ
+  pub words : List ℕ
+  pub space : has_pages pages ≡ true
+  pub fits : AreWords words
+  pub file : bytes ≡ file_of pages words
+  pub first : IsFirstFault pages words fault
+
+-- the first fault of bytes: that of the file, or else that of its words
+abbrev pub IsRawFault : List ℕ → LogFault → Type 0
+IsRawFault bytes fault = (file_fault bytes ≡ Some fault) ⊎ IsWordFault bytes fault

@@ -1,0 +1,45 @@
+ghost use Rattle.std.specs.Prelude.{◌≡◌, ◌⊎◌, ◌^◌, ◌<◌, ℕ, List, length, IfOk, IfErr, MatchResult};
+ghost use Rattle.ib_map.specs.History.{map_after};
+ghost use Rattle.ib_logrec.specs.declared.entry.Entry.{Entry};
+ghost use Rattle.ib_logrec.specs.declared.fault.LogFault.{LogFault as Fault};
+ghost use Rattle.ib_logrec.specs.Log.{history_of};
+ghost use Rattle.ib_replay.specs.RawLogs.{IsRawFault, IsRawLog, IsReplayed};
+
+use crate::file::read_log;
+use crate::log_replay::{Replayed, replay};
+use ib_logrec::LogFault;
+use std::alloc::Global;
+
+/// What the log in a file makes of the opening memory of its space and of the empty map. A fault is the first one:
+/// of the file, or of the words of an entry, or of its number, or of its change.
+pub fn replay_file(alloc: Global, bytes: &[u8]) -> Result<Replayed, LogFault>
+    requires small { length bytes.now < 2 ^ 35 }
+
+    // The bytes are the file of the entries, which are lawful, and the memory is the one after them.
+    ensures log { IfOk result (λ replayed. IsReplayed bytes.now replayed.entries.items replayed.memory) }
+    ensures map { IfOk result (λ replayed. replayed.map
+        ≡ map_after (history_of replayed.entries.items) (length replayed.entries.items)) }
+
+    // The file of a lawful log is read as that log.
+    ensures only { (pages : ℕ) (log : List Entry) → IsRawLog bytes.now pages log
+        → MatchResult result (λ replayed. replayed.entries.items ≡ log) (λ fault. fault ≡ LogFault.OutOfMemory) }
+
+    // Which fault it is, and that bytes with a fault are refused for that one alone.
+    ensures fault { IfErr result (λ fault. (fault ≡ LogFault.OutOfMemory) ⊎ IsRawFault bytes.now fault) }
+    ensures refused { (other : Fault) → IsRawFault bytes.now other
+        → MatchResult result (λ _. ⊥) (λ fault. (fault ≡ LogFault.OutOfMemory) ⊎ (fault ≡ other)) }
+{
+    replay_bytes(alloc, bytes)
+}
+
+// The log in a file, replayed, or its first fault.
+fn replay_bytes(alloc: Global, bytes: &[u8]) -> Result<Replayed, LogFault>
+    requires small { length bytes.now < 2 ^ 35 }
+    ensures log { IfOk result (λ replayed. IsReplayed bytes.now replayed.entries.items replayed.memory) }
+    ensures map { IfOk result (λ replayed. replayed.map
+        ≡ map_after (history_of replayed.entries.items) (length replayed.entries.items)) }
+    ensures fault { IfErr result (λ fault. (fault ≡ LogFault.OutOfMemory) ⊎ IsRawFault bytes.now fault) }
+{
+    let log = read_log(alloc, bytes)?;
+    replay(alloc, log.pages(), log.words())
+}
