@@ -18,7 +18,7 @@ use Rattle.ib_script.specs.declared.event_line.EventWord.{EventWord}
 use Rattle.ib_script.specs.declared.event_line.EventWord.TheVariants.{S as WordS, Sx as WordSx, X as WordX, Us as WordUs, Usx as WordUsx, Ux as WordUx, Arm as WordArm, Flag as WordFlag, Again as WordAgain, Quit as WordQuit, Sleep as WordSleep, Ready as WordReady, Exarm as WordExarm, Look as WordLook, Clear as WordClear, Raise as WordRaise}
 use Rattle.ib_script.specs.declared.script_line.LineKind.{LineKind}
 use Rattle.ib_script.specs.declared.script_line.LineKind.TheVariants.{Number, Session, Latch}
-use Rattle.ib_script.specs.declared.script_line.TheConstants.{MOST_SESSIONS}
+use Rattle.ib_script.specs.declared.script_line.TheConstants.{MOST_SCRIPT_SESSIONS}
 
 -- both parts of a reading that is good are good
 both-ok : {A B : Type 0} (r : Result A LineKind) (f : A → Result B LineKind) (b : B) → (r >>= f) ≡ Ok b → (a : A) × (r ≡ Ok a) × (f a ≡ Ok b)
@@ -41,10 +41,10 @@ both true true is = (refl, refl)
 both true false is = absurd (cc)
 both false b is = absurd (cc)
 
-session_in-range : (field : List ℕ) (n : ℕ) → session_in field ≡ Ok n → (1 ≤ n) × (n ≤ MOST_SESSIONS)
+session_in-range : (field : List ℕ) (n : ℕ) → session_in field ≡ Ok n → (1 ≤ n) × (n ≤ MOST_SCRIPT_SESSIONS)
 session_in-range field n is =
-    let passed = both (nat_le 1 n) (nat_le n MOST_SESSIONS) (number_in-passes (λ n. nat_le 1 n && nat_le n MOST_SESSIONS) Session field n is) in
-    (leb-true 1 n passed.0, leb-true n MOST_SESSIONS passed.1)
+    let passed = both (nat_le 1 n) (nat_le n MOST_SCRIPT_SESSIONS) (number_in-passes (λ n. nat_le 1 n && nat_le n MOST_SCRIPT_SESSIONS) Session field n is) in
+    (leb-true 1 n passed.0, leb-true n MOST_SCRIPT_SESSIONS passed.1)
 
 latch_in-range : (field : List ℕ) (n : ℕ) → latch_in field ≡ Ok n → n ≤ MOST_LATCH
 latch_in-range field n is = leb-true n MOST_LATCH (number_in-passes (λ n. nat_le n MOST_LATCH) Latch field n is)
@@ -123,7 +123,7 @@ fields-range (n ∷ word ∷ fields) session event is =
     let second = both-ok (worded (event_word word) fields) (λ event. Ok (EventOf first.0 event)) (EventOf session event) first.2 in
     let same : first.0 ≡ session = cc in
     let same-event : second.0 ≡ event = cc in
-    let sessions : (1 ≤ session) × (session ≤ MOST_SESSIONS) = rw same at (session_in-range n first.0 first.1) in
+    let sessions : (1 ≤ session) × (session ≤ MOST_SCRIPT_SESSIONS) = rw same at (session_in-range n first.0 first.1) in
     let latch : latch_of event ≤ MOST_LATCH = rw same-event at (worded-range (event_word word) fields second.0 second.1) in
     (sessions.0, sessions.1, latch)
 

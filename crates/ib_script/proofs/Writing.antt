@@ -6,7 +6,7 @@ use Rattle.std.proofs.KnownBytes.{Appends-nil, Appends-trans}
 use Rattle.std.specs.Prelude.{Option, Result, Ok, Err, flat_map}
 use Rattle.std.specs.Io.KnownBytes.{Appends}
 use Rattle.ib_script.specs.Faults.{AppendsAll, AppendsFront, HasCause, Rose}
-use Rattle.ib_script.specs.Writer.{Point, Grows, point_of, Puts, IsFresh, IsFinished}
+use Rattle.ib_script.specs.Writer.{Point, Grows, point_of, Puts, IsFresh, IsFinished, sink_of}
 use Rattle.ib_script.specs.declared.writer.Writer.{Writer}
 
 rest_on : (a x y s t r q : List ℕ) → a ++ x ≡ s ++ r → r ++ y ≡ t ++ q → a ++ (x ++ y) ≡ (s ++ t) ++ q
@@ -121,12 +121,12 @@ module _ {K : Type 0} {written : K → Option (List ℕ)} {faults : K → ℕ} w
 
   -- A writer that printed x from the start, and then finished: at `Ok` the sink took all of x, and at `Err` a front of it and its count of faults rose.
   pub puts_finished : {T E : Type 0} {target : K} {a b c : Writer K} {x : List ℕ} (result : Result T E) → IsFresh target a → Puts written faults a b x → Puts written faults b c [] → IsFinished c result
-      → AppendsAll (written target) (written c.sink.now) result x × HasCause (faults target) (faults c.sink.now) result
+      → AppendsAll (written target) (written (sink_of c)) result x × HasCause (faults target) (faults (sink_of c)) result
   puts_finished {T = T} {E = E} {a = a} {c = c} {x = x} (Ok r) fresh p q end =
       let all = (puts_end p q).grows in
-      subst (λ (k : K). Appends (written k) (written c.sink.now) x × HasCause {T = T} {E = E} (faults k) (faults c.sink.now) (Ok r)) fresh.sink
+      subst (λ (k : K). Appends (written k) (written (sink_of c)) x × HasCause {T = T} {E = E} (faults k) (faults (sink_of c)) (Ok r)) fresh.sink
       (grows_whole _ _ x all fresh.empty end.ok end.empty, record { later = all.later; failed = tt })
   puts_finished {T = T} {E = E} {a = a} {c = c} {x = x} (Err r) fresh p q end =
       let all = (puts_end p q).grows in
-      subst (λ (k : K). AppendsFront (written k) (written c.sink.now) x × HasCause {T = T} {E = E} (faults k) (faults c.sink.now) (Err r)) fresh.sink
+      subst (λ (k : K). AppendsFront (written k) (written (sink_of c)) x × HasCause {T = T} {E = E} (faults k) (faults (sink_of c)) (Err r)) fresh.sink
       (grows_front _ _ x all fresh.empty, record { later = all.later; failed = grows_fault _ _ x all fresh.good end.err })

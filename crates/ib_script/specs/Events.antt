@@ -18,7 +18,7 @@ use Rattle.ib_script.specs.declared.event_line.EventLine.{EventLine}
 use Rattle.ib_script.specs.declared.event_line.EventLine.TheVariants.{Skipped, Event as EventOf}
 use Rattle.ib_script.specs.declared.event_line.EventWord.{EventWord}
 use Rattle.ib_script.specs.declared.event_line.EventWord.TheVariants.{S as WordS, Sx as WordSx, X as WordX, Us as WordUs, Usx as WordUsx, Ux as WordUx, Arm as WordArm, Flag as WordFlag, Again as WordAgain, Quit as WordQuit, Sleep as WordSleep, Ready as WordReady, Exarm as WordExarm, Look as WordLook, Clear as WordClear, Raise as WordRaise}
-use Rattle.ib_script.specs.declared.script_line.TheConstants.{MOST_SESSIONS}
+use Rattle.ib_script.specs.declared.script_line.TheConstants.{MOST_SCRIPT_SESSIONS}
 use Rattle.ib_script.specs.declared.script_line.LineKind.{LineKind}
 use Rattle.ib_script.specs.declared.script_line.LineKind.TheVariants.{Word, Fields, Number, Session, Many, Latch, Level as LevelKind}
 
@@ -31,7 +31,7 @@ abbrev pub number_in : (ℕ → Bool) → LineKind → List ℕ → Result ℕ L
 number_in passes kind field = elim (number_of field) [ Some n ↦ if passes n then Ok n else Err kind | None ↦ Err Number ]
 
 abbrev pub session_in : List ℕ → Result ℕ LineKind
-session_in field = number_in (λ n. nat_le 1 n && nat_le n MOST_SESSIONS) Session field
+session_in field = number_in (λ n. nat_le 1 n && nat_le n MOST_SCRIPT_SESSIONS) Session field
 
 abbrev pub latch_in : List ℕ → Result ℕ LineKind
 latch_in field = number_in (λ n. nat_le n MOST_LATCH) Latch field
@@ -144,7 +144,7 @@ event_reading_of line = if is_skipped line then Ok Skipped else event_reading_of
 
 -- an event of a session that there is, on a latch that there is
 abbrev pub IsInRange : ℕ × Event → Type 0
-IsInRange at = (1 ≤ at.0) × (at.0 ≤ MOST_SESSIONS) × (latch_of at.1 ≤ MOST_LATCH)
+IsInRange at = (1 ≤ at.0) × (at.0 ≤ MOST_SCRIPT_SESSIONS) × (latch_of at.1 ≤ MOST_LATCH)
 
 -- the lines of a text, each by itself
 abbrev pub event_readings_of : List ℕ → List EventReading

@@ -9,7 +9,7 @@ use Rattle.ib_map.specs.declared.call.Call.{Call}
 use Rattle.ib_map.specs.declared.call.Call.TheVariants.{Insert, Delete, Get, Scan}
 use Rattle.ib_script.specs.Lines.{lines_of, fields_of, first_bad}
 use Rattle.ib_script.specs.Numbers.{number_of}
-use Rattle.ib_script.specs.declared.script_line.TheConstants.{MOST_COMMANDS, MOST_SCANS, MOST_SESSIONS}
+use Rattle.ib_script.specs.declared.script_line.TheConstants.{MOST_COMMANDS, MOST_SCANS, MOST_SCRIPT_SESSIONS}
 use Rattle.ib_script.specs.declared.script_line.LineKind.{LineKind}
 use Rattle.ib_script.specs.declared.script_line.LineKind.TheVariants.{Word, Fields, Number, Session as SessionKind, Space as SpaceKind, Many}
 use Rattle.ib_script.specs.declared.script_line.ScriptLine.{ScriptLine}
@@ -41,7 +41,7 @@ with_numbers form (Err kind) = Err kind
 
 -- sessions are 1 to the most that there may be
 abbrev pub session_line : ℕ → Reading
-session_line n = if nat_le 1 n && nat_le n MOST_SESSIONS then Ok (Session n) else Err SessionKind
+session_line n = if nat_le 1 n && nat_le n MOST_SCRIPT_SESSIONS then Ok (Session n) else Err SessionKind
 
 -- the space of these sizes, where there is one
 abbrev pub geometry_of : ℕ × ℕ → Option Sizes
@@ -73,7 +73,7 @@ reading_of line = if is_skipped line then Ok Skipped else reading_of_fields (fie
 
 -- a session that a line names is one that there may be
 abbrev pub IsInRange : ScriptLine → Type 0
-IsInRange (Session number) = (1 ≤ number) × (number ≤ MOST_SESSIONS)
+IsInRange (Session number) = (1 ≤ number) × (number ≤ MOST_SCRIPT_SESSIONS)
 IsInRange _ = Unit {0}
 
 -- the lines of a text, each by itself
@@ -147,5 +147,5 @@ pub record IsScript (readings : List Reading) (script : ScriptValue) : Type 0 wh
 
 -- it has few sessions, and few commands in all
 pub record IsSmall (script : ScriptValue) : Type 0 where
-  pub sessions : length script.commands ≤ MOST_SESSIONS
+  pub sessions : length script.commands ≤ MOST_SCRIPT_SESSIONS
   pub commands : sum_by length script.commands ≤ MOST_COMMANDS

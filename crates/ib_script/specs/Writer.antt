@@ -5,6 +5,18 @@ use Rattle.std.specs.Io.KnownBytes.{Appends}
 use Rattle.ib_script.specs.Faults.{Rose}
 use Rattle.ib_script.specs.declared.writer.Writer.{Writer}
 
+-- the sink of a writer, as it stands now
+abbrev pub sink_of : {K : Type 0} → Writer K → K
+sink_of writer = writer.sink.now
+
+-- what a writer has taken and not yet handed to its sink
+abbrev pub pending_of : {K : Type 0} → Writer K → List ℕ
+pending_of writer = writer.buffer
+
+-- the name of the reference to the sink, by which a caller knows its sink again
+abbrev pub sink_name : {K : Type 0} → Writer K → ℕ
+sink_name writer = writer.sink.ghost_name
+
 -- how far a writer is: what its sink holds and how often that failed, whether the writer has failed, what waits
 pub record Point : Type 0 where
   pub written : Option (List ℕ)
@@ -25,29 +37,21 @@ pub record Grows (old new : Point) (bytes : List ℕ) : Type 0 where
 
 -- where a writer stands
 abbrev pub point_of : {K : Type 0} → (K → Option (List ℕ)) → (K → ℕ) → Writer K → Point
-point_of written faults writer = record { written = written writer.sink.now; faults = faults writer.sink.now; failed = writer.failed; pending = writer.buffer }
+point_of written faults writer = record { written = written (sink_of writer); faults = faults (sink_of writer); failed = writer.failed; pending = pending_of writer }
 
 -- The writer kept its sink, and these bytes were put through it.
 pub record Puts {K : Type 0} (written : K → Option (List ℕ)) (faults : K → ℕ) (old new : Writer K) (bytes : List ℕ) : Type 0 where
-  pub same_reference : new.sink.ghost_name ≡ old.sink.ghost_name
+  pub same_reference : sink_name new ≡ sink_name old
   pub grows : Grows (point_of written faults old) (point_of written faults new) bytes
-
--- what a writer has taken and not yet handed to its sink
-abbrev pub pending_of : {K : Type 0} → Writer K → List ℕ
-pending_of writer = writer.buffer
-
--- the name of the reference to the sink, by which a caller knows its sink again
-abbrev pub sink_name : {K : Type 0} → Writer K → ℕ
-sink_name writer = writer.sink.ghost_name
 
 -- a writer over this sink that has printed nothing
 pub record IsFresh {K : Type 0} (target : K) (writer : Writer K) : Type 0 where
-  pub sink : writer.sink.now ≡ target
-  pub empty : writer.buffer ≡ []
+  pub sink : sink_of writer ≡ target
+  pub empty : pending_of writer ≡ []
   pub good : writer.failed ≡ false
 
 -- nothing waits, and the result says whether the writer has failed
 pub record IsFinished {K T E : Type 0} (writer : Writer K) (result : Result T E) : Type 0 where
-  pub empty : writer.buffer ≡ []
+  pub empty : pending_of writer ≡ []
   pub ok : OnOk result (writer.failed ≡ false)
   pub err : OnErr result (writer.failed ≡ true)

@@ -1,5 +1,5 @@
 ghost use Rattle.std.specs.Prelude.{ℕ, ◌≤◌, vec_len};
-ghost use Rattle.ib_script.specs.declared.script_line.TheConstants.{MOST_COMMANDS, MOST_SCANS, MOST_SESSIONS};
+ghost use Rattle.ib_script.specs.declared.script_line.TheConstants.{MOST_COMMANDS, MOST_SCANS, MOST_SCRIPT_SESSIONS};
 
 use crate::lists::add_command;
 use crate::script::Script;
@@ -21,8 +21,8 @@ pub struct Builder {
     // how many commands and how many scans there are
     pub commands: u32,
     pub scans: u32,
-    ghost session_in_range: { (1 ≤ session) × (session ≤ MOST_SESSIONS) },
-    ghost few_sessions: { vec_len sessions ≤ MOST_SESSIONS },
+    ghost session_in_range: { (1 ≤ session) × (session ≤ MOST_SCRIPT_SESSIONS) },
+    ghost few_sessions: { vec_len sessions ≤ MOST_SCRIPT_SESSIONS },
     ghost few_commands: { commands ≤ MOST_COMMANDS },
     ghost few_scans: { scans ≤ MOST_SCANS },
 }
@@ -61,7 +61,7 @@ impl Builder {
     ghost use Rattle.ib_script.specs.Script.{IsInRange, IsSmall, Reading, has_room, is_scan, reading_of};
     ghost use Rattle.ib_script.specs.Building.{IsBuilt, Takes};
     ghost use Rattle.ib_script.specs.Lists.{lists_of};
-    ghost use Rattle.ib_script.specs.declared.script_line.TheConstants.{MOST_COMMANDS, MOST_SCANS, MOST_SESSIONS};
+    ghost use Rattle.ib_script.specs.declared.script_line.TheConstants.{MOST_COMMANDS, MOST_SCANS, MOST_SCRIPT_SESSIONS};
     ghost use Rattle.ib_script.specs.declared.script_line.ScriptLine.TheVariants.{Command, Session, Skipped, Space};
 
     // No line is read.

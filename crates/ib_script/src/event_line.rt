@@ -1,10 +1,10 @@
 ghost use Rattle.std.specs.Prelude.{◌≡◌, ◌∷◌};
-ghost use Rattle.ib_script.specs.Events.{event_of, event_reading_of, event_reading_of_fields, event_word, latch_alone, latch_at_level, latch_in, latch_in_mode, level_in, level_numbered, mode_in, session_in, waiting_word};
+ghost use Rattle.ib_script.specs.Events.{event_of, event_reading_of, event_reading_of_fields, event_word, latch_alone, latch_at_level, latch_in, latch_in_mode, level_in, mode_in, session_in, waiting_word};
 ghost use Rattle.ib_script.specs.Script.{fields_behind};
 
 use crate::line::first_field;
 use crate::number::number_of;
-use crate::script_line::{LineKind, MOST_SESSIONS, is_skipped};
+use crate::script_line::{LineKind, MOST_SCRIPT_SESSIONS, is_skipped};
 use ib_core::Event;
 use ib_levels::{Level, Mode};
 
@@ -49,7 +49,7 @@ fn session_in(field: &[u8]) -> Result<u32, LineKind>
 {
     let number = number_of(field).ok_or(LineKind::Number)?;
     match u32::try_from(number) {
-        Ok(session @ 1..=MOST_SESSIONS) => Ok(session),
+        Ok(session @ 1..=MOST_SCRIPT_SESSIONS) => Ok(session),
         _ => Err(LineKind::Session),
     }
 }
@@ -64,24 +64,14 @@ fn latch_in(field: &[u8]) -> Result<u32, LineKind>
     }
 }
 
-fn level_numbered(number: u64) -> Option<Level>
-    ensures { result ≡ level_numbered number }
-{
-    match number {
-        1 => Some(Level::Log),
-        2 => Some(Level::PageNew),
-        3 => Some(Level::Space),
-        4 => Some(Level::TreeNode),
-        5 => Some(Level::IndexTree),
-        _ => None,
-    }
-}
-
 fn level_in(field: &[u8]) -> Result<Level, LineKind>
     ensures { result ≡ level_in field.now }
 {
     let number = number_of(field).ok_or(LineKind::Number)?;
-    level_numbered(number).ok_or(LineKind::Level)
+    match u32::try_from(number) {
+        Ok(number) => Level::from_number(number).ok_or(LineKind::Level),
+        Err(_) => Err(LineKind::Level),
+    }
 }
 
 fn mode_in(field: &[u8]) -> Result<Mode, LineKind>

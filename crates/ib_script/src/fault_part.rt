@@ -1,7 +1,7 @@
 ghost use Rattle.std.specs.Prelude.{◌≡◌};
 ghost use Rattle.ib_script.specs.Faults.{AppendsAll, HasCause};
 ghost use Rattle.ib_script.specs.FaultText.{fault_text, kind_text};
-ghost use Rattle.ib_script.specs.Writer.{IsFresh, Puts, sink_name};
+ghost use Rattle.ib_script.specs.Writer.{IsFresh, Puts, sink_name, sink_of};
 
 use crate::script_line::LineKind;
 use crate::sink::{Failed, Sink};
@@ -34,10 +34,10 @@ impl<'a, K: Sink> Writer<'a, K> {
 
     // The line, through a writer that has printed nothing.
     fn print_fault(&mut self, line: u32, kind: LineKind) -> Result<(), Failed>
-        requires { IsFresh self.old.sink.now self.old }
+        requires { IsFresh (sink_of self.old) self.old }
         ensures same_reference { sink_name self.new ≡ sink_name self.old }
-        ensures bytes { AppendsAll (K.written self.old.sink.now) (K.written self.new.sink.now) result (fault_text line kind) }
-        ensures cause { HasCause (K.faults self.old.sink.now) (K.faults self.new.sink.now) result }
+        ensures bytes { AppendsAll (K.written (sink_of self.old)) (K.written (sink_of self.new)) result (fault_text line kind) }
+        ensures cause { HasCause (K.faults (sink_of self.old)) (K.faults (sink_of self.new)) result }
     {
         self.fault_line(line, kind);
         self.finish()

@@ -28,6 +28,8 @@ pub use event_line::{EventLine, EventWord, MOST_EVENTS, MOST_LATCH, event_readin
 pub use events::{Events, read_events};
 pub use fault_part::write_fault;
 pub use script::{Script, ScriptFault, read_script};
-pub use script_line::{LineKind, MOST_COMMANDS, MOST_SCANS, MOST_SESSIONS, ScriptLine, reading_of};
+pub use script_line::{
+    LineKind, MOST_COMMANDS, MOST_SCANS, MOST_SCRIPT_SESSIONS, ScriptLine, reading_of,
+};
 pub use sink::{Failed, Sink, write_all};
 pub use writer::Writer;

@@ -1,4 +1,4 @@
-ghost use Rattle.std.specs.Prelude.{◌≡◌, flat_map};
+ghost use Rattle.std.specs.Prelude.{◌≡◌, ◌++◌, codes, decimal, flat_map};
 ghost use Rattle.ib_script.specs.Output.{change_text, log_line, log_text};
 ghost use Rattle.ib_script.specs.Writer.{Puts};
 
@@ -16,7 +16,8 @@ impl<'a, K: Sink> Writer<'a, K> {
         }
     }
 
-    fn log_line(&mut self, entry: &LoggedChange)
+    /// A line of the log part: `SESSION NUMBER insert K V` or `SESSION NUMBER delete K`.
+    pub fn log_line(&mut self, entry: &LoggedChange)
         ensures puts { Puts K.written K.faults self.old self.new (log_line entry.now) }
     {
         self.number(u64::from(entry.session));
@@ -35,13 +36,20 @@ impl<'a, K: Sink> Writer<'a, K> {
         }
     }
 
+    /// The first line of the log part: `log N`.
+    pub fn log_head(&mut self, changes: usize)
+        ensures puts { Puts K.written K.faults self.old self.new (codes "log " ++ decimal changes ++ codes "\n") }
+    {
+        self.text(b"log ");
+        self.number(changes as u64);
+        self.byte(b'\n');
+    }
+
     /// The log part: `log N`, and then a line for each of the N changes.
     pub fn log_part(&mut self, log: &[LoggedChange])
         ensures puts { Puts K.written K.faults self.old self.new (log_text log.now) }
     {
-        self.text(b"log ");
-        self.number(log.len() as u64);
-        self.byte(b'\n');
+        self.log_head(log.len());
         self.log_lines(log);
     }
 }

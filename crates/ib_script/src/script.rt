@@ -2,11 +2,11 @@ ghost use Rattle.std.specs.Prelude.{◌≡◌, ◌≤◌, ◌-◌, ◌<◌, ◌^
 ghost use Rattle.ib_script.specs.Lists.{lists_of};
 ghost use Rattle.ib_script.specs.Script.{IsScript, IsSmall, first_fault, readings_of};
 ghost use Rattle.ib_script.specs.declared.script_line.LineKind.{LineKind};
-ghost use Rattle.ib_script.specs.declared.script_line.TheConstants.{MOST_SESSIONS};
+ghost use Rattle.ib_script.specs.declared.script_line.TheConstants.{MOST_SCRIPT_SESSIONS};
 
 use crate::builder::{Builder, LineFault};
 use crate::line::first_line;
-use crate::script_line::{LineKind, MOST_SESSIONS};
+use crate::script_line::{LineKind, MOST_SCRIPT_SESSIONS};
 use ib_layout::Geometry;
 use ib_map::Call;
 use std::alloc::Global;
@@ -34,19 +34,19 @@ impl Model for Script {
     ghost use Rattle.std.specs.Prelude.{◌≤◌, vec_len};
     ghost use Rattle.ib_script.specs.Lists.{lists_of};
     ghost use Rattle.ib_script.specs.Script.{ScriptValue};
-    ghost use Rattle.ib_script.specs.declared.script_line.TheConstants.{MOST_SESSIONS};
+    ghost use Rattle.ib_script.specs.declared.script_line.TheConstants.{MOST_SCRIPT_SESSIONS};
 
     ghost Value = { ScriptValue };
 
     ghost view = { λ s. record { sizes = s.geometry; commands = lists_of s.sessions.items } };
 
-    ghost invariant = { λ s. vec_len s.sessions ≤ MOST_SESSIONS };
+    ghost invariant = { λ s. vec_len s.sessions ≤ MOST_SCRIPT_SESSIONS };
 }
 
 impl Script {
     // The commands of each session: session n's at place n - 1.
     pub(crate) fn new(geometry: Geometry, sessions: Vec<Vec<Call>>) -> Script
-        requires { vec_len sessions ≤ MOST_SESSIONS }
+        requires { vec_len sessions ≤ MOST_SCRIPT_SESSIONS }
         ensures { result ≡ record { sizes = geometry; commands = lists_of sessions.items } }
     {
         Script { geometry, sessions }
@@ -59,10 +59,10 @@ impl Script {
         self.geometry
     }
 
-    /// The greatest session that has a command, at most `MOST_SESSIONS`, or 0.
+    /// The greatest session that has a command, at most `MOST_SCRIPT_SESSIONS`, or 0.
     pub fn sessions(&self) -> u32
         ensures sessions { result ≡ length self.now.commands }
-        ensures few { result ≤ MOST_SESSIONS }
+        ensures few { result ≤ MOST_SCRIPT_SESSIONS }
     {
         self.sessions.len() as u32
     }

@@ -8,7 +8,7 @@ use ib_layout::Geometry;
 use ib_map::Call;
 
 /// The greatest session that a script may have. The least is 1.
-pub const MOST_SESSIONS: u32 = 64;
+pub const MOST_SCRIPT_SESSIONS: u32 = 64;
 
 /// How many commands a script may have.
 pub const MOST_COMMANDS: u32 = 1_000_000;
@@ -25,7 +25,7 @@ pub enum LineKind {
     Fields,
     /// A field is no number.
     Number,
-    /// The session is not 1 to `MOST_SESSIONS`.
+    /// The session is not 1 to `MOST_SCRIPT_SESSIONS`.
     Session,
     /// A `space` line stands behind another line, or there is no space of its sizes.
     Space,
@@ -82,7 +82,7 @@ fn session_line(number: u64) -> Result<ScriptLine, LineKind>
     ensures in_range { IfOk result IsInRange }
 {
     match u32::try_from(number) {
-        Ok(number @ 1..=MOST_SESSIONS) => Ok(ScriptLine::Session { number }),
+        Ok(number @ 1..=MOST_SCRIPT_SESSIONS) => Ok(ScriptLine::Session { number }),
         _ => Err(LineKind::Session),
     }
 }
