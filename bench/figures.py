@@ -1,9 +1,10 @@
 #!/usr/bin/env python3
-"""Prints how long the program takes on three large scripts and a million events, and its peak of resident memory.
+"""Prints how long the program takes on large scripts, a million events and large raw logs, and its peak of resident memory.
 
 The inputs are made here, from a fixed seed, in a folder that is removed afterwards. Nothing is judged.
 """
 
+import array
 import os
 import random
 import subprocess
@@ -56,11 +57,29 @@ def events(count):
         yield f"{session} raise {latch}\n"
 
 
-def measure(name, form, lines, folder):
-    script = os.path.join(folder, "script")
-    with open(script, "w") as file:
-        file.writelines(lines)
-    output = os.path.join(folder, "output")
+def one_write_each(keys):
+    """A log of inserts by session 1 that each write the clock of page 1 alone."""
+    for number, key in enumerate(keys, 1):
+        yield (0x1_0001_0001, number, key, number, 133, number)
+
+
+def widest(count):
+    """A log of inserts by session 1 that each write as many words as an entry can have, on 32 pages."""
+    places = range(128, 128 + 4096)
+    for number in range(1, count + 1):
+        yield (0x1_0005_1000, number, number, number, *(word for place in places for word in (place, number)))
+
+
+def raw_log(pages, entries):
+    """The file of the entries' words, the highest byte of each first."""
+    numbers = array.array("Q", [int.from_bytes(b"IBLOG570", "big"), pages])
+    for words in entries:
+        numbers.extend(words)
+    numbers.byteswap()
+    yield numbers.tobytes()
+
+
+def measure(name, form, script, output):
     with open(script) as given, open(output, "w") as taken:
         start = time.monotonic()
         child = subprocess.Popen([PROGRAM, form], stdin=given, stdout=taken)
@@ -73,13 +92,31 @@ def measure(name, form, lines, folder):
     )
 
 
+def run(name, form, pieces, folder):
+    """Makes the input, and measures in a process of its own: a child's peak counts what its parent held when it began."""
+    script = os.path.join(folder, "script")
+    with open(script, "wb") as file:
+        file.writelines(piece if isinstance(piece, bytes) else piece.encode() for piece in pieces)
+    words = [name, form, script, os.path.join(folder, "output")]
+    subprocess.run([sys.executable, os.path.abspath(__file__), *words], check=True)
+
+
 def main():
+    if len(sys.argv) > 1:
+        measure(*sys.argv[1:])
+        return 0
     subprocess.run([PROGRAM, "run"], stdin=subprocess.DEVNULL, stdout=subprocess.DEVNULL, check=True)
     with tempfile.TemporaryDirectory() as folder:
-        measure("1,000,000 ascending inserts", "run", ascending(1_000_000), folder)
-        measure("200,000 mixed commands of 4 sessions over 20,000 keys", "run", mixed(200_000, 4, 20_000), folder)
-        measure("1,000,000 commands, 990,000 of them gets", "run", gets(1_000_000), folder)
-        measure("1,000,000 events of 64 sessions on 16 latches", "latch", events(1_000_000), folder)
+        run("1,000,000 ascending inserts", "run", ascending(1_000_000), folder)
+        run("200,000 mixed commands of 4 sessions over 20,000 keys", "run", mixed(200_000, 4, 20_000), folder)
+        run("1,000,000 commands, 990,000 of them gets", "run", gets(1_000_000), folder)
+        run("1,000,000 events of 64 sessions on 16 latches", "latch", events(1_000_000), folder)
+        ascending_keys = range(9, 9 * 1_398_102, 9)
+        run("a log of 1,398,101 inserts, of the greatest size", "replay", raw_log(16, one_write_each(ascending_keys)), folder)
+        shuffled = random.Random(57).sample(range(10_000_000), 100_000)
+        run("a log of 100,000 inserts in mixed order", "replay", raw_log(16, one_write_each(shuffled)), folder)
+        run("a log of 1,023 inserts with 4,096 writes each", "replay", raw_log(4096, widest(1023)), folder)
+        run("67,108,864 bytes of zeros", "replay", [bytes(67_108_864)], folder)
     return 0
 
 

@@ -7,3 +7,4 @@ pub mod Sessions
 pub mod Printing
 pub mod Telling
 pub mod EventLines
+pub mod EntryLines

@@ -5,4 +5,5 @@ pub mod Told
 pub mod PlainRun
 pub mod Words
 pub mod Latching
+pub mod Replaying
 pub mod Answers

@@ -1,13 +1,14 @@
 -- The words of the command line.
 use Rattle.std.specs.Prelude.{ℕ, List, [], ◌∷◌, Option, Some, None, codes, bytes_eq, if◌then◌else◌}
 use Rattle.ib_tool.specs.declared.form.Form.{Form}
-use Rattle.ib_tool.specs.declared.form.Form.TheVariants.{Run, Latch}
+use Rattle.ib_tool.specs.declared.form.Form.TheVariants.{Run, Latch, Replay}
 
 -- the form that a word names
 abbrev pub form_named : List ℕ → Option Form
 form_named word =
     if bytes_eq word (codes "run") then Some Run
     else if bytes_eq word (codes "latch") then Some Latch
+    else if bytes_eq word (codes "replay") then Some Replay
     else None
 
 -- the forms that are built: one word alone

@@ -8,6 +8,8 @@ pub enum Form {
     Run,
     /// Events on the latch machine of one thread.
     Latch,
+    /// A raw log's changes, one after another.
+    Replay,
 }
 
 fn form_named(word: &[u8]) -> Option<Form>
@@ -17,6 +19,8 @@ fn form_named(word: &[u8]) -> Option<Form>
         Some(Form::Run)
     } else if word == b"latch".as_slice() {
         Some(Form::Latch)
+    } else if word == b"replay".as_slice() {
+        Some(Form::Replay)
     } else {
         None
     }

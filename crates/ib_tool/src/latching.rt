@@ -2,13 +2,13 @@ ghost use Rattle.std.specs.Prelude.{◌≡◌, ◌≤◌, ◌+◌, length};
 ghost use Rattle.std.specs.List.{AllByRecursion};
 ghost use Rattle.ib_script.specs.Events.{IsInRange};
 ghost use Rattle.ib_script.specs.Faults.{AppendsAll, HasCause};
-ghost use Rattle.ib_script.specs.Writer.{IsFresh, Puts, sink_name};
+ghost use Rattle.ib_script.specs.Writer.{IsFresh, Puts, sink_name, sink_of};
 ghost use Rattle.ib_script.specs.declared.event_line.TheConstants.{MOST_EVENTS, MOST_LATCH};
-ghost use Rattle.ib_script.specs.declared.script_line.TheConstants.{MOST_SESSIONS as SESSIONS};
+ghost use Rattle.ib_script.specs.declared.script_line.TheConstants.{MOST_SCRIPT_SESSIONS as SESSIONS};
 ghost use Rattle.ib_tool.specs.Latching.{lines_from};
 
 use ib_core::{Core, Event};
-use ib_script::{Failed, MOST_EVENTS, MOST_LATCH, MOST_SESSIONS, Sink, Writer};
+use ib_script::{Failed, MOST_EVENTS, MOST_LATCH, MOST_SCRIPT_SESSIONS, Sink, Writer};
 
 // Makes each event on the machine, and prints what came of it.
 fn print_events<K: Sink>(writer: &mut Writer<'_, K>, core: &mut Core, events: &[(u32, Event)])
@@ -31,14 +31,14 @@ fn print_answers<K: Sink>(
     core: &mut Core,
     events: &[(u32, Event)],
 ) -> Result<(), Failed>
-    requires fresh { IsFresh writer.old.sink.now writer.old }
+    requires fresh { IsFresh (sink_of writer.old) writer.old }
     requires sessions { length core.old.state.sessions ≡ SESSIONS }
     requires latches { length core.old.state.marks ≡ MOST_LATCH + 1 }
     requires steps { core.old.steps + length events.now ≤ MOST_EVENTS }
     requires in_range { AllByRecursion IsInRange events.now }
     ensures same_reference { sink_name writer.new ≡ sink_name writer.old }
-    ensures bytes { AppendsAll (K.written writer.old.sink.now) (K.written writer.new.sink.now) result (lines_from core.old.state events.now) }
-    ensures cause { HasCause (K.faults writer.old.sink.now) (K.faults writer.new.sink.now) result }
+    ensures bytes { AppendsAll (K.written (sink_of writer.old)) (K.written (sink_of writer.new)) result (lines_from core.old.state events.now) }
+    ensures cause { HasCause (K.faults (sink_of writer.old)) (K.faults (sink_of writer.new)) result }
 {
     print_events(writer, core, events);
     writer.finish()

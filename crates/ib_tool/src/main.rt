@@ -1,8 +1,10 @@
 //! The program `ib_tool`: scripts of inserts, deletes, lookups and scans from several sessions, answered on one
-//! sorted map, and events of the latch machine, from the bytes that are read to the bytes that are written.
+//! sorted map, events of the latch machine, and raw logs, from the bytes that are read to the bytes that are written.
 #![tactic(auto)]
 
+mod answer;
 mod args;
+mod bad_log;
 mod form;
 mod gate;
 mod latching;
@@ -11,6 +13,7 @@ mod memory_source;
 mod plain_run;
 mod print;
 mod read;
+mod replaying;
 mod run_script;
 mod session_out;
 mod source;

@@ -1,15 +1,15 @@
 ghost use Rattle.std.specs.Prelude.{◌≡◌, ◌≤◌, length};
 ghost use Rattle.ib_script.specs.Faults.{AppendsAll, HasCause};
 ghost use Rattle.ib_script.specs.Output.{output_of, sessions_from};
-ghost use Rattle.ib_script.specs.Writer.{IsFresh, Puts, sink_name};
+ghost use Rattle.ib_script.specs.Writer.{IsFresh, Puts, sink_name, sink_of};
 
 use crate::run_script::PlainRun;
 use crate::session_out::SessionOut;
 use ib_map::{GREATEST, LEAST};
-use ib_script::{Failed, MOST_SESSIONS, Sink, Writer};
+use ib_script::{Failed, MOST_SCRIPT_SESSIONS, Sink, Writer};
 
 fn print_sessions<K: Sink>(writer: &mut Writer<'_, K>, sessions: &[SessionOut])
-    requires { length sessions.now ≤ MOST_SESSIONS }
+    requires { length sessions.now ≤ MOST_SCRIPT_SESSIONS }
     ensures puts { Puts K.written K.faults writer.old writer.new (sessions_from 1 sessions.now) }
 {
     let mut number = 1;
@@ -21,7 +21,7 @@ fn print_sessions<K: Sink>(writer: &mut Writer<'_, K>, sessions: &[SessionOut])
 }
 
 fn print_parts<K: Sink>(writer: &mut Writer<'_, K>, run: &PlainRun)
-    requires { length run.now.sessions.items ≤ MOST_SESSIONS }
+    requires { length run.now.sessions.items ≤ MOST_SCRIPT_SESSIONS }
     ensures puts { Puts K.written K.faults writer.old writer.new (output_of run.now.sessions.items run.now.log.items run.now.map) }
 {
     print_sessions(writer, &run.sessions);
@@ -31,12 +31,12 @@ fn print_parts<K: Sink>(writer: &mut Writer<'_, K>, run: &PlainRun)
 
 // All of a run, through a writer that has printed nothing.
 fn print_run<K: Sink>(writer: &mut Writer<'_, K>, run: &PlainRun) -> Result<(), Failed>
-    requires fresh { IsFresh writer.old.sink.now writer.old }
-    requires few { length run.now.sessions.items ≤ MOST_SESSIONS }
+    requires fresh { IsFresh (sink_of writer.old) writer.old }
+    requires few { length run.now.sessions.items ≤ MOST_SCRIPT_SESSIONS }
     ensures same_reference { sink_name writer.new ≡ sink_name writer.old }
-    ensures bytes { AppendsAll (K.written writer.old.sink.now) (K.written writer.new.sink.now) result
+    ensures bytes { AppendsAll (K.written (sink_of writer.old)) (K.written (sink_of writer.new)) result
         (output_of run.now.sessions.items run.now.log.items run.now.map) }
-    ensures cause { HasCause (K.faults writer.old.sink.now) (K.faults writer.new.sink.now) result }
+    ensures cause { HasCause (K.faults (sink_of writer.old)) (K.faults (sink_of writer.new)) result }
 {
     print_parts(writer, run);
     writer.finish()
@@ -45,7 +45,7 @@ fn print_run<K: Sink>(writer: &mut Writer<'_, K>, run: &PlainRun) -> Result<(), 
 /// Writes all that is printed of a run: what each session was answered, the log and the map in the end.
 /// At `Failed` a front of it was written.
 pub fn write_run<K: Sink>(sink: &mut K, run: &PlainRun) -> Result<(), Failed>
-    requires { length run.now.sessions.items ≤ MOST_SESSIONS }
+    requires { length run.now.sessions.items ≤ MOST_SCRIPT_SESSIONS }
     ensures bytes { AppendsAll (K.written sink.old) (K.written sink.new) result
         (output_of run.now.sessions.items run.now.log.items run.now.map) }
     ensures cause { HasCause (K.faults sink.old) (K.faults sink.new) result }

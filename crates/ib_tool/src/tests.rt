@@ -6,6 +6,7 @@ use std::test::Fail;
 mod events;
 mod limits;
 mod lines;
+mod replays;
 mod rows;
 mod sides;
 

@@ -7,12 +7,14 @@ use ib_script::{BUFFER_BYTES, Writer};
 fn words_that_are_no_form(rt: HostRuntime) -> Result<(), Fail> {
     let alloc = rt.alloc();
     let usage = b"usage: ib_tool run | raw | latch | replay | gen N SEED SESSIONS\n";
-    let forms: [&[&str]; 6] = [
+    let forms: [&[&str]; 8] = [
         &[],
         &["--help"],
         &["--"],
         &["run", "run"],
         &["Run"],
+        &["replay", "replay"],
+        &["replay "],
         &["gen", "0", "1", "1"],
     ];
     for words in forms {

@@ -2,7 +2,7 @@ use Rattle.std.proofs.Common.{ap}
 use Rattle.std.specs.Prelude.{Err}
 use Rattle.ib_tool.specs.declared.form.Form.TheVariants.{Latch}
 use Rattle.ib_tool.proofs.Telling.{told_refusal}
-use Rattle.ib_tool.proofs.top.answer_events.Goals as goal
+use Rattle.ib_tool.proofs.answer.answer_events.Goals as goal
 
 pub returns-in-Err-BadLine-clause-told : goal.returns-in-Err-BadLine-clause-told
 returns-in-Err-BadLine-clause-told g c =

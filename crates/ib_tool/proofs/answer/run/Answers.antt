@@ -1,7 +1,7 @@
 use Rattle.std.proofs.Common.{refl}
 use Rattle.ib_script.specs.Output.{output_of}
 use Rattle.ib_tool.specs.declared.status.Status.TheVariants.{Done}
-use Rattle.ib_tool.proofs.top.run.Goals as goal
+use Rattle.ib_tool.proofs.answer.run.Goals as goal
 
 pub returns-clause-told : goal.returns-clause-told
 returns-clause-told g c = (
