@@ -21,6 +21,7 @@ use Rattle.ib_logrec.specs.Log.{log_words, used, history_of}
 use Rattle.ib_logrec.proofs.PlaceLaws.{PlacesRise-get}
 use Rattle.ib_logrec.proofs.EntryLaws.{length-words_of_entry, entry_of-words, fault_at-words}
 use Rattle.ib_logrec.proofs.LogLaws.{log_words-push, used-push, memory_after-push, history_of-push, length-history_of}
+use Rattle.ib_replay.specs.declared.log_replay.TheConstants.{COUNTS}
 use Rattle.ib_replay.specs.Replays.{opening, IsMemory, IsLawful, change_fault, IsFirstFault, IsReplayFault}
 
 abbrev pub logged : Entry → LoggedChange
@@ -38,8 +39,8 @@ pub record IsReached (pages : ℕ) (words : List ℕ) (place : ℕ) (log : List 
   pub lawful : IsLawful pages log
   pub memory : IsMemory pages log image
   pub map : pairs ≡ map_with [] (history_of log)
-  pub sessions : length numbers ≡ 1025
-  pub counts : (session : ℕ) → session < 1025 → get_or numbers session 0 ≡ length (changes_of session (history_of log))
+  pub sessions : length numbers ≡ COUNTS
+  pub counts : (session : ℕ) → session < COUNTS → get_or numbers session 0 ≡ length (changes_of session (history_of log))
 
 -- what an entry in the grammar asks of the memory
 pub places_in : (pages : ℕ) (log : List Entry) (memory : List ℕ) (e : Entry) → IsMemory pages log memory → Formed pages e → All (λ w. w.place < length memory) e.writes
@@ -58,7 +59,7 @@ module _ (pages : ℕ) (words : List ℕ) (place : ℕ) (log : List Entry) (memo
           legal = rw (history_of-push log e) legal;
         }
 
-    counts-more : e.number ≡ get_or counts e.session 0 + 1 → (session : ℕ) → session < 1025 → get_or (set counts e.session e.number) session 0 ≡ length (changes_of session (history_of (log ++ e ∷ [])))
+    counts-more : e.number ≡ get_or counts e.session 0 + 1 → (session : ℕ) → session < COUNTS → get_or (set counts e.session e.number) session 0 ≡ length (changes_of session (history_of (log ++ e ∷ [])))
     counts-more numbered session lt = elim (cases_eq session e.session) [
       | inl same ↦
           let own = changes_of-own session (history_of log) (logged e) (sym same) in
@@ -140,7 +141,7 @@ get_or-zeros (suc n) (suc i) = get_or-zeros n i
 
 -- nothing is read yet
 pub IsReached-none : (pages : ℕ) (words : List ℕ) (image : List ℕ) (n : ℕ) → length image ≡ pages * PAGE_WORDS → ((place : ℕ) → place < pages * PAGE_WORDS → get_or image place 0 ≡ opening place)
-    → n ≡ 1025 → IsReached pages words 0 [] image [] (replicate n 0)
+    → n ≡ COUNTS → IsReached pages words 0 [] image [] (replicate n 0)
 IsReached-none pages words image n size opened many = record {
   within = omega arith;
   size = refl;

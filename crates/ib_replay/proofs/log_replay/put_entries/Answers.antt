@@ -2,12 +2,13 @@
 use Rattle.std.proofs.Common.{arith, refl}
 use Rattle.std.proofs.lemmas.Result.{err_from_is_err_and}
 use Rattle.ib_logrec.proofs.EntryLaws.{length-words_of_entry}
+use Rattle.ib_replay.specs.declared.log_replay.TheConstants.{COUNTS}
 use Rattle.ib_replay.proofs.ReplayLaws.{places_in, IsReached-none, IsReached-more, fault-change, IsReplayFault-found}
 use Rattle.ib_replay.proofs.log_replay.put_entries.Goals as goal
 
 pub loop-place-init : goal.loop-place-init
 loop-place-init c =
-    rw (c.new.ensures.items, c.new-2.ensures) (IsReached-none c.args.pages c.args.words.now c.in_ok-opening.field-0 1025 c.in_ok-opening.ensures.size c.in_ok-opening.ensures.words refl)
+    rw (c.new.ensures.items, c.new-2.ensures) (IsReached-none c.args.pages c.args.words.now c.in_ok-opening.field-0 COUNTS c.in_ok-opening.ensures.size c.in_ok-opening.ensures.words refl)
 
 pub put_entry-requires-clause-places : goal.put_entry-requires-clause-places
 put_entry-requires-clause-places c =
