@@ -47,3 +47,42 @@ fn check(
 ) -> Result<(), Fail> {
     check_form(rt, alloc, "run", script, status, text)
 }
+
+// The lines, each part as it is, are refused by a form at this line, for this reason.
+fn refused_lines(
+    rt: &impl Abort,
+    alloc: Global,
+    form: &str,
+    parts: &[&[u8]],
+    line: u32,
+    kind: &str,
+) -> Result<(), Fail> {
+    let mut input = Vec::new(alloc);
+    for part in parts {
+        input.extend_from_slice(part)?;
+    }
+    let text = format!(in alloc; "script: line {line}: {kind}\n")?;
+    check_form(rt, alloc, form, &input, Status::Script, text.as_bytes())
+}
+
+// A bad line is told as the first, as a middle one, and as the last, with a final line feed and without.
+fn refused_among(
+    rt: &impl Abort,
+    alloc: Global,
+    form: &str,
+    good: &[u8],
+    bad: &[u8],
+    kind: &str,
+) -> Result<(), Fail> {
+    refused_lines(rt, alloc, form, &[bad, b"\n", good, b"\n"], 1, kind)?;
+    refused_lines(
+        rt,
+        alloc,
+        form,
+        &[good, b"\n", bad, b"\n", good, b"\n"],
+        2,
+        kind,
+    )?;
+    refused_lines(rt, alloc, form, &[good, b"\n#\n", bad, b"\n"], 3, kind)?;
+    refused_lines(rt, alloc, form, &[good, b"\n\n", bad], 3, kind)
+}

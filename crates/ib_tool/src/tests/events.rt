@@ -157,28 +157,13 @@ fn waiting_given_up(rt: HostRuntime) -> Result<(), Fail> {
     )
 }
 
-// The events are refused at this line, for this reason.
-fn refused(
-    rt: &impl Abort,
-    alloc: Global,
-    parts: &[&[u8]],
-    line: u32,
-    kind: &str,
-) -> Result<(), Fail> {
-    let mut events = Vec::new(alloc);
-    for part in parts {
-        events.extend_from_slice(part)?;
-    }
-    let text = format!(in alloc; "script: line {line}: {kind}\n")?;
-    check_form(rt, alloc, "latch", &events, Status::Script, text.as_bytes())
+// The text is refused at this line, for this reason.
+fn refused(rt: &impl Abort, alloc: Global, text: &[u8], line: u32, kind: &str) -> Result<(), Fail> {
+    refused_lines(rt, alloc, "latch", &[text], line, kind)
 }
 
-// A bad line is told as the first, as a middle one, and as the last, with a final line feed and without.
 fn refused_anywhere(rt: &impl Abort, alloc: Global, line: &[u8], kind: &str) -> Result<(), Fail> {
-    refused(rt, alloc, &[line, b"\n1 look 0\n"], 1, kind)?;
-    refused(rt, alloc, &[b"1 s 0 4\n", line, b"\n1 us 0\n"], 2, kind)?;
-    refused(rt, alloc, &[b"1 s 0 4\n#\n", line, b"\n"], 3, kind)?;
-    refused(rt, alloc, &[b"1 s 0 4\n\n", line], 3, kind)
+    refused_among(rt, alloc, "latch", b"1 look 0", line, kind)
 }
 
 #[test]
@@ -204,17 +189,17 @@ fn bad_events(rt: HostRuntime) -> Result<(), Fail> {
 #[test]
 fn the_first_cause_is_told(rt: HostRuntime) -> Result<(), Fail> {
     let alloc = rt.alloc();
-    refused(&rt, alloc, &[b"x"], 1, "fields")?;
-    refused(&rt, alloc, &[b"x share"], 1, "number")?;
-    refused(&rt, alloc, &[b"65 share"], 1, "session")?;
-    refused(&rt, alloc, &[b"1 share x y z"], 1, "word")?;
-    refused(&rt, alloc, &[b"1 s x"], 1, "fields")?;
-    refused(&rt, alloc, &[b"1 s x x"], 1, "number")?;
-    refused(&rt, alloc, &[b"1 s 16 x"], 1, "latch")?;
-    refused(&rt, alloc, &[b"1 arm 16 y 0"], 1, "latch")?;
-    refused(&rt, alloc, &[b"1 arm 0 y 0"], 1, "word")?;
-    refused(&rt, alloc, &[b"1 arm 0 s 0\n1"], 1, "level")?;
-    refused(&rt, alloc, &[b"1 s 0 4\n1 look 0 \nx"], 2, "fields")
+    refused(&rt, alloc, b"x", 1, "fields")?;
+    refused(&rt, alloc, b"x share", 1, "number")?;
+    refused(&rt, alloc, b"65 share", 1, "session")?;
+    refused(&rt, alloc, b"1 share x y z", 1, "word")?;
+    refused(&rt, alloc, b"1 s x", 1, "fields")?;
+    refused(&rt, alloc, b"1 s x x", 1, "number")?;
+    refused(&rt, alloc, b"1 s 16 x", 1, "latch")?;
+    refused(&rt, alloc, b"1 arm 16 y 0", 1, "latch")?;
+    refused(&rt, alloc, b"1 arm 0 y 0", 1, "word")?;
+    refused(&rt, alloc, b"1 arm 0 s 0\n1", 1, "level")?;
+    refused(&rt, alloc, b"1 s 0 4\n1 look 0 \nx", 2, "fields")
 }
 
 #[test]

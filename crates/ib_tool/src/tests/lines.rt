@@ -1,27 +1,12 @@
 use super::*;
 
-// The script is refused at this line, for this reason.
-fn refused(
-    rt: &impl Abort,
-    alloc: Global,
-    parts: &[&[u8]],
-    line: u32,
-    kind: &str,
-) -> Result<(), Fail> {
-    let mut script = Vec::new(alloc);
-    for part in parts {
-        script.extend_from_slice(part)?;
-    }
-    let text = format!(in alloc; "script: line {line}: {kind}\n")?;
-    check(rt, alloc, &script, Status::Script, text.as_bytes())
+// The text is refused at this line, for this reason.
+fn refused(rt: &impl Abort, alloc: Global, text: &[u8], line: u32, kind: &str) -> Result<(), Fail> {
+    refused_lines(rt, alloc, "run", &[text], line, kind)
 }
 
-// A bad line is told as the first, as a middle one, and as the last, with a final line feed and without.
 fn refused_anywhere(rt: &impl Abort, alloc: Global, line: &[u8], kind: &str) -> Result<(), Fail> {
-    refused(rt, alloc, &[line, b"\nget 1\n"], 1, kind)?;
-    refused(rt, alloc, &[b"get 1\n", line, b"\nget 2\n"], 2, kind)?;
-    refused(rt, alloc, &[b"get 1\n#\n", line, b"\n"], 3, kind)?;
-    refused(rt, alloc, &[b"get 1\n\n", line], 3, kind)
+    refused_among(rt, alloc, "run", b"get 1", line, kind)
 }
 
 #[test]
@@ -43,13 +28,13 @@ fn bad_lines(rt: HostRuntime) -> Result<(), Fail> {
 #[test]
 fn the_first_cause_is_told(rt: HostRuntime) -> Result<(), Fail> {
     let alloc = rt.alloc();
-    refused(&rt, alloc, &[b"put\nget"], 1, "word")?;
-    refused(&rt, alloc, &[b"put x y z"], 1, "word")?;
-    refused(&rt, alloc, &[b"insert x"], 1, "fields")?;
-    refused(&rt, alloc, &[b"session x"], 1, "number")?;
-    refused(&rt, alloc, &[b"get 1\nspace 16 x"], 2, "number")?;
-    refused(&rt, alloc, &[b"get 1\nspace 16 8196"], 2, "space")?;
-    refused(&rt, alloc, &[b"space 4097 8195"], 1, "space")?;
-    refused(&rt, alloc, &[b"\t"], 1, "word")?;
-    refused(&rt, alloc, &[b" "], 1, "word")
+    refused(&rt, alloc, b"put\nget", 1, "word")?;
+    refused(&rt, alloc, b"put x y z", 1, "word")?;
+    refused(&rt, alloc, b"insert x", 1, "fields")?;
+    refused(&rt, alloc, b"session x", 1, "number")?;
+    refused(&rt, alloc, b"get 1\nspace 16 x", 2, "number")?;
+    refused(&rt, alloc, b"get 1\nspace 16 8196", 2, "space")?;
+    refused(&rt, alloc, b"space 4097 8195", 1, "space")?;
+    refused(&rt, alloc, b"\t", 1, "word")?;
+    refused(&rt, alloc, b" ", 1, "word")
 }

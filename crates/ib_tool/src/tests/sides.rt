@@ -1,4 +1,4 @@
-ghost use Rattle.std.specs.Prelude.{◌<◌};
+ghost use Rattle.std.specs.Prelude.{◌≡◌, ◌<◌};
 
 use super::*;
 use ib_script::{BUFFER_BYTES, Writer};
@@ -25,38 +25,116 @@ fn words_that_are_no_form(rt: HostRuntime) -> Result<(), Fail> {
     Ok(())
 }
 
-// The status, and what was written, where the source gives `most` bytes a call and the sink takes `taken`.
+// A source or a sink: the most bytes of a call, and which call fails, counted from 1; none where it is 0.
+#[derive(Clone, Copy)]
+struct Side {
+    most: usize,
+    failing: u64,
+}
+
+// A side that never fails.
+fn sound(most: usize) -> Side
+    ensures { result.most ≡ most }
+{
+    Side { most, failing: 0 }
+}
+
+// The status, and what was written.
 fn run_between(
     alloc: Global,
-    script: Vec<u8>,
-    most: usize,
-    failing_reads: Vec<u64>,
-    taken: usize,
-    failing_writes: Vec<u64>,
+    form: &str,
+    input: Vec<u8>,
+    source: Side,
+    sink: Side,
 ) -> Result<(Status, MemSink), Fail>
-    requires most { 0 < most }
-    requires taken { 0 < taken }
+    requires source { 0 < source.most }
+    requires sink { 0 < sink.most }
 {
-    let words = vec![in alloc; String::from_str(alloc, "run")?]?;
-    let mut source = MemSource::new(script, most, failing_reads);
-    let mut sink = MemSink::new(alloc, taken, failing_writes);
-    let status = top(alloc, &words, &mut source, &mut sink, &OpenGate);
-    Ok((status, sink))
+    let words = vec![in alloc; String::from_str(alloc, form)?]?;
+    let mut given = MemSource::new(input, source.most, vec![in alloc; source.failing]?);
+    let mut taken = MemSink::new(alloc, sink.most, vec![in alloc; sink.failing]?);
+    let status = top(alloc, &words, &mut given, &mut taken, &OpenGate);
+    Ok((status, taken))
+}
+
+// A form with an input, the status that it comes to, and what is written then. No input's length is a multiple of 10, and
+// no text's of 8.
+const ROWS: [(&str, &[u8], Status, &[u8]); 5] = [
+    (
+        "run",
+        b"insert 10 100\ninsert 10 7\n",
+        Status::Done,
+        b"session 1\ninsert 10 100 -> inserted at 0\ninsert 10 7 -> duplicate at 1\nlog 1\n1 1 insert 10 100\nmap 1\n10 100\n",
+    ),
+    ("run", b"put 1 2", Status::Script, b"script: line 1: word\n"),
+    (
+        "latch",
+        b"1 x 0 4\n1 ux 0\n",
+        Status::Done,
+        b"1 x 0 4 -> granted, word 0\n1 ux 0 -> released, word 536870912\n",
+    ),
+    (
+        "replay",
+        b"IBLOG570\0\0\0\0\0\0\0\x10",
+        Status::Done,
+        b"log 0\nmap 0\n",
+    ),
+    (
+        "replay",
+        b"IBLOG570",
+        Status::BadLog,
+        b"bad log: short at 0\n",
+    ),
+];
+
+#[test]
+fn each_read_failing(rt: HostRuntime) -> Result<(), Fail> {
+    let alloc = rt.alloc();
+    for (form, input, _, _) in ROWS {
+        // The last call answers that the input ends.
+        for call in 1..=input.len() as u64 / 10 + 2 {
+            let given = Vec::from_slice(alloc, input)?;
+            let (status, sink) = run_between(
+                alloc,
+                form,
+                given,
+                Side {
+                    most: 10,
+                    failing: call,
+                },
+                sound(99),
+            )?;
+            assert_eq!(rt; status, Status::ReadFault);
+            assert_eq!(rt; sink.bytes(), b"".as_slice());
+        }
+    }
+    Ok(())
 }
 
 #[test]
-fn sides_that_fail(rt: HostRuntime) -> Result<(), Fail> {
+fn each_write_failing(rt: HostRuntime) -> Result<(), Fail> {
     let alloc = rt.alloc();
-    let script = Vec::from_slice(alloc, b"insert 10 100\ninsert 10 7\n")?;
-    let failing = vec![in alloc; 3]?;
-    let (status, sink) = run_between(alloc, script, 10, failing, 99, Vec::new(alloc))?;
-    assert_eq!(rt; status, Status::ReadFault);
-    assert_eq!(rt; sink.bytes(), b"".as_slice());
-    let script = Vec::from_slice(alloc, b"insert 10 100\ninsert 10 7\n")?;
-    let failing = vec![in alloc; 2]?;
-    let (status, sink) = run_between(alloc, script, 99, Vec::new(alloc), 1, failing)?;
-    assert_eq!(rt; status, Status::WriteFault);
-    assert_eq!(rt; sink.bytes(), b"s".as_slice());
+    for (form, input, status, text) in ROWS {
+        for before in 0..text.len() / 8 + 1 {
+            let given = Vec::from_slice(alloc, input)?;
+            let (found, sink) = run_between(
+                alloc,
+                form,
+                given,
+                sound(99),
+                Side {
+                    most: 8,
+                    failing: before as u64 + 1,
+                },
+            )?;
+            assert_eq!(rt; found, Status::WriteFault);
+            assert_eq!(rt; sink.bytes(), &text[..8 * before]);
+        }
+        let given = Vec::from_slice(alloc, input)?;
+        let (found, sink) = run_between(alloc, form, given, sound(99), sound(8))?;
+        assert_eq!(rt; found, status);
+        assert_eq!(rt; sink.bytes(), text);
+    }
     Ok(())
 }
 
@@ -64,25 +142,11 @@ fn sides_that_fail(rt: HostRuntime) -> Result<(), Fail> {
 fn an_input_too_large(rt: HostRuntime) -> Result<(), Fail> {
     let alloc = rt.alloc();
     let script = vec![in alloc; b'\n'; INPUT_BYTES]?;
-    let (status, sink) = run_between(
-        alloc,
-        script,
-        PIECE_BYTES,
-        Vec::new(alloc),
-        99,
-        Vec::new(alloc),
-    )?;
+    let (status, sink) = run_between(alloc, "run", script, sound(PIECE_BYTES), sound(99))?;
     assert_eq!(rt; status, Status::Done);
     assert_eq!(rt; sink.bytes(), b"log 0\nmap 0\n".as_slice());
     let script = vec![in alloc; b'\n'; INPUT_BYTES + 1]?;
-    let (status, sink) = run_between(
-        alloc,
-        script,
-        PIECE_BYTES,
-        Vec::new(alloc),
-        99,
-        Vec::new(alloc),
-    )?;
+    let (status, sink) = run_between(alloc, "run", script, sound(PIECE_BYTES), sound(99))?;
     assert_eq!(rt; status, Status::TooLarge);
     assert_eq!(rt; sink.bytes(), b"too large\n".as_slice());
     Ok(())
