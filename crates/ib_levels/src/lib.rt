@@ -11,5 +11,5 @@ mod tests;
 
 pub use held::{Against, Held, may_take};
 pub use holding::{Holding, holds, may_add};
-pub use latch::{Latch, MOST_PAGES};
+pub use latch::{Latch, MOST_PAGES, latch_law};
 pub use level::{Level, Mode};

@@ -5,7 +5,7 @@ use Rattle.std.proofs.lemmas.List.{map-append, length-map}
 use Rattle.ib_logrec.specs.declared.entry.Entry.{Entry}
 use Rattle.ib_logrec.specs.Places.{page_of, stored, touches}
 use Rattle.ib_logrec.specs.Words.{words_of_entry}
-use Rattle.ib_logrec.specs.Log.{log_words, used, after, memory_after, history_of}
+use Rattle.ib_logrec.specs.Log.{log_words, used, after, memory_after, logged, history_of}
 use Rattle.ib_logrec.proofs.EntryLaws.{length-words_of_entry}
 use Rattle.ib_logrec.proofs.PlaceLaws.{stored-unwritten, writes_at-untouched}
 
@@ -46,10 +46,10 @@ memory_after-untouched opening log e place none =
 
 -- the history of a log one entry longer
 pub history_of-append : (xs ys : List Entry) → history_of (xs ++ ys) ≡ history_of xs ++ history_of ys
-history_of-append xs ys = map-append (λ (e : Entry). record { session = e.session; number = e.number; change = e.change }) xs ys
+history_of-append xs ys = map-append logged xs ys
 
-pub history_of-push : (log : List Entry) (e : Entry) → history_of (log ++ e ∷ []) ≡ history_of log ++ record { session = e.session; number = e.number; change = e.change } ∷ []
+pub history_of-push : (log : List Entry) (e : Entry) → history_of (log ++ e ∷ []) ≡ history_of log ++ logged e ∷ []
 history_of-push log e = history_of-append log (e ∷ [])
 
 pub length-history_of : (log : List Entry) → length (history_of log) ≡ length log
-length-history_of log = length-map log (λ (e : Entry). record { session = e.session; number = e.number; change = e.change })
+length-history_of log = length-map log logged

@@ -1,6 +1,7 @@
 -- Lists of entries: their words, the memory after them, and their history.
 use Rattle.std.specs.Prelude.{ℕ, List, [], ◌∷◌, length, map}
 use Rattle.std.specs.List.{flat_map}
+use Rattle.ib_map.specs.declared.call.LoggedChange.{LoggedChange}
 use Rattle.ib_map.specs.History.{History}
 use Rattle.ib_logrec.specs.declared.entry.Entry.{Entry}
 use Rattle.ib_logrec.specs.Places.{page_of, index_of, stored}
@@ -26,6 +27,10 @@ memory_after opening log place = after log place (opening place)
 abbrev pub by_place : (ℕ → ℕ → ℕ → ℕ) → ℕ → ℕ → ℕ
 by_place opening pages place = opening pages (page_of place) (index_of place)
 
+-- the change of an entry, as a history has it
+abbrev pub logged : Entry → LoggedChange
+logged e = record { session = e.session; number = e.number; change = e.change }
+
 -- the changes of the entries
 abbrev pub history_of : List Entry → History
-history_of log = map (λ e. record { session = e.session; number = e.number; change = e.change }) log
+history_of log = map logged log

@@ -1,5 +1,8 @@
+ghost use Rattle.std.specs.Prelude.{◌≡◌};
+ghost use Rattle.ib_logrec.specs.Log.{logged};
+
 use crate::writes::Writes;
-use ib_map::Change;
+use ib_map::{Change, LoggedChange};
 
 /// How many words stand before an entry's writes: session, flags and number of writes in the first one,
 /// then the change's number, its key and its value.
@@ -21,4 +24,17 @@ pub struct Entry {
     pub change: Change,
     pub structural: bool,
     pub writes: Writes,
+}
+
+impl Entry {
+    /// Its change, as a history has it.
+    pub fn logged(&self) -> LoggedChange
+        ensures { result ≡ logged self.now }
+    {
+        LoggedChange {
+            session: self.session,
+            number: self.number,
+            change: self.change,
+        }
+    }
 }

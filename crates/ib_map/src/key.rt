@@ -1,5 +1,5 @@
 ghost use Rattle.std.specs.Prelude.{IsNone, IfSome, ◌≤◌, ◌≡◌, ◌<◌, ◌↔◌, IsTrue};
-ghost use Rattle.ib_map.specs.Keys.{MapKey, rank, end_rank, key_after};
+ghost use Rattle.ib_map.specs.Keys.{MapKey, IsKey, rank, end_rank, key_after};
 
 /// A key of the index. Code outside this crate copies keys and compares them by the calls below.
 pub type Key = u64;
@@ -15,7 +15,6 @@ pub const GREATEST: Key = u64::MAX;
 pub fn after(key: Key) -> Option<Key>
     ensures next { result ≡ key_after key }
     ensures last { IsNone result ↔ (key ≡ GREATEST) }
-    ensures none_below { rank LEAST ≤ rank key }
     ensures above { IfSome result (λ next. rank key < rank next) }
     ensures adjacent { IfSome result (λ next. (other : MapKey) → rank key < rank other → rank next ≤ rank other) }
 {
@@ -41,3 +40,13 @@ pub fn is_same(a: Key, b: Key) -> bool
 {
     a == b
 }
+
+/// The order of keys, as a contract. It is that of their ranks, natural numbers from 0, that of
+/// `LEAST`, to that of `GREATEST`.
+#[tactic(auto, unfolding(crate::specs::Keys::rank, crate::specs::Keys::end_rank))]
+pub fn key_law()
+    ensures injective { (a b : MapKey) → rank a ≡ rank b → a ≡ b }
+    ensures least { rank LEAST ≡ 0 }
+    ensures greatest { (key : MapKey) → IsKey key → rank key ≤ rank GREATEST }
+    ensures end { (key : MapKey) → IsKey key → rank key < end_rank }
+{}

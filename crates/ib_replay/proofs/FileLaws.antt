@@ -1,5 +1,5 @@
 -- Words as bytes, and bytes as words.
-use Rattle.std.proofs.Common.{◌≡◌, ℕ, suc, ◌+◌, ◌*◌, ◌^◌, ◌<◌, ◌≤◌, List, [], ◌∷◌, ◌++◌, length, get_or, take, drop, refl, sym, ap, ◌∙◌, arith, All, inl, inr, length-append, length-take, length-drop, take-append-drop}
+use Rattle.std.proofs.Common.{◌≡◌, ℕ, suc, ◌+◌, ◌*◌, ◌^◌, ◌<◌, ◌≤◌, List, [], ◌∷◌, ◌++◌, length, get_or, take, drop, refl, sym, ap, ◌∙◌, arith, inl, inr, length-append, length-take, length-drop, take-append-drop}
 use Rattle.std.specs.Prelude.{Result, Ok, Err, IfOk, IfErr, MatchResult, None, true, ◌%◌, nat_le}
 use Rattle.std.specs.Int.{w64, from_be_bytes}
 use Rattle.std.proofs.lemmas.Nat.{be_bytes_8}
@@ -17,7 +17,7 @@ use Rattle.ib_logrec.specs.declared.fault.LogFault.TheVariants.{OutOfMemory}
 use Rattle.ib_logrec.specs.Grammar.{IsFault}
 use Rattle.ib_logrec.proofs.ReadLaws.{IsFault-none}
 use Rattle.ib_replay.specs.declared.file.TheConstants.{FILE_FORM}
-use Rattle.ib_replay.specs.Files.{LogFile, word_bytes, file_of, number_at, file_fault}
+use Rattle.ib_replay.specs.Files.{LogFile, AreWords, word_bytes, file_of, number_at, file_fault}
 
 abbrev pub AreBytes : List ℕ → Type 0
 AreBytes bytes = (i : ℕ) → get_or bytes i 0 < 256
@@ -57,7 +57,7 @@ pub big_number-words : (w : ℕ) (ws : List ℕ) → w < 2 ^ 64 → big_number 8
 big_number-words w ws fits = ap (big_number 8) (flat_map-cons (big_bytes 8) w ws) ∙ big_number-reads_back 8 w (word_bytes ws) (omega arith)
 
 -- no two lists of words are the same bytes
-pub word_bytes-one : (xs ys : List ℕ) → All (λ w. w < 2 ^ 64) xs → All (λ w. w < 2 ^ 64) ys → word_bytes xs ≡ word_bytes ys → xs ≡ ys
+pub word_bytes-one : (xs ys : List ℕ) → AreWords xs → AreWords ys → word_bytes xs ≡ word_bytes ys → xs ≡ ys
 word_bytes-one [] [] xs_fit ys_fit same = refl
 word_bytes-one [] (y ∷ ys) xs_fit ys_fit same = absurd (omega (arith, ap length same, length-word_bytes (y ∷ ys)))
 word_bytes-one (x ∷ xs) [] xs_fit ys_fit same = absurd (omega (arith, ap length same, length-word_bytes (x ∷ xs)))
@@ -71,7 +71,7 @@ word_bytes-one (x ∷ xs) (y ∷ ys) xs_fit ys_fit same =
     λ i. first i ∷ rest i
 
 -- a file of a log is no other log's
-pub file_of-one : (p q : ℕ) (xs ys : List ℕ) → p < 2 ^ 64 → q < 2 ^ 64 → All (λ w. w < 2 ^ 64) xs → All (λ w. w < 2 ^ 64) ys → file_of p xs ≡ file_of q ys → (p ≡ q) × (xs ≡ ys)
+pub file_of-one : (p q : ℕ) (xs ys : List ℕ) → p < 2 ^ 64 → q < 2 ^ 64 → AreWords xs → AreWords ys → file_of p xs ≡ file_of q ys → (p ≡ q) × (xs ≡ ys)
 unfolding file_of
 file_of-one p q xs ys p_fits q_fits xs_fit ys_fit same =
     let fits : ℕ → Type 0 = λ w. w < 2 ^ 64 in
@@ -81,7 +81,7 @@ file_of-one p q xs ys p_fits q_fits xs_fit ys_fit same =
     (cc, cc)
 
 -- words that are read fit
-pub words_fit : (words bytes : List ℕ) → AreBytes bytes → IsRead big_number 8 bytes words → All (λ w. w < 2 ^ 64) words
+pub words_fit : (words bytes : List ℕ) → AreBytes bytes → IsRead big_number 8 bytes words → AreWords words
 words_fit words bytes fits read k d lt =
     let bound : big_number 8 (drop (8 * k) bytes) < 256 ^ 8 = big_from-lt 0 8 (drop (8 * k) bytes) (λ i. rw get_or-drop (fits (8 * k + i))) in
     rw (get_or_default words k d 0 lt, read k lt) bound
@@ -132,8 +132,8 @@ file_fault-none pages words has =
 
 -- what is read of a file is the log that it is the file of
 pub only_log : (bytes : List ℕ) (r : Result LogFile LogFault) → IfOk r (λ log. bytes ≡ file_of log.pages log.words) → IfOk r (λ log. has_pages log.pages ≡ true)
-    → IfOk r (λ log. All (λ w. w < 2 ^ 64) log.words) → IfErr r (IsFault (file_fault bytes))
-    → (pages : ℕ) (words : List ℕ) → has_pages pages ≡ true → All (λ w. w < 2 ^ 64) words → bytes ≡ file_of pages words
+    → IfOk r (λ log. AreWords log.words) → IfErr r (IsFault (file_fault bytes))
+    → (pages : ℕ) (words : List ℕ) → has_pages pages ≡ true → AreWords words → bytes ≡ file_of pages words
     → MatchResult r (λ log. log ≡ record { pages = pages; words = words }) (λ fault. fault ≡ OutOfMemory)
 only_log bytes (Ok log) found has fits fault pages words has' fits' is =
     let same = file_of-one log.pages pages log.words words (has_pages-fits log.pages has) (has_pages-fits pages has') fits fits' (sym found ∙ is) in

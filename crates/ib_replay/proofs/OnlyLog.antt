@@ -14,13 +14,12 @@ use Rattle.ib_logrec.specs.declared.fault.LogFault.TheVariants.{OutOfMemory}
 use Rattle.ib_logrec.specs.Words.{words_of_entry, entry_of}
 use Rattle.ib_logrec.specs.Grammar.{Formed, fault_at}
 use Rattle.ib_logrec.specs.Law.{AreFormed}
-use Rattle.ib_logrec.specs.Log.{log_words, used, history_of}
+use Rattle.ib_logrec.specs.Log.{log_words, used, logged, history_of}
 use Rattle.ib_logrec.proofs.EntryLaws.{length-words_of_entry, entry_of-words, fault_at-words}
 use Rattle.ib_logrec.proofs.WordLaws.{words_of_entry-one}
 use Rattle.ib_logrec.proofs.LogLaws.{history_of-append}
 use Rattle.ib_replay.specs.declared.log_replay.Replayed.{Replayed}
 use Rattle.ib_replay.specs.Replays.{IsLawful, change_fault, fault_behind, IsFirstFault, IsReplayFault}
-use Rattle.ib_replay.proofs.ReplayLaws.{logged}
 
 -- what begins with an entry's words goes on with what stands behind them
 pub same_rest : (pages : ℕ) (e f : Entry) (x y : List ℕ) → Formed pages e → Formed pages f → words_of_entry e ++ x ≡ words_of_entry f ++ y → (e ≡ f) × (x ≡ y)

@@ -8,7 +8,6 @@ use Rattle.ib_map.specs.Pairs.{Pairs}
 use Rattle.ib_map.specs.Map.{answer_of, effect_of, is_made}
 use Rattle.ib_map.specs.History.{map_with, map_after, changes_of}
 use Rattle.ib_map.specs.declared.TheConstants.{PAGE_WORDS}
-use Rattle.ib_map.specs.declared.call.LoggedChange.{LoggedChange}
 use Rattle.ib_map.proofs.HistoryLaws.{map_after-length, map_with-push, changes_of-own, changes_of-other, IsLegalHistory-none, IsLegalHistory-push}
 use Rattle.ib_logrec.specs.declared.entry.Entry.{Entry}
 use Rattle.ib_logrec.specs.declared.fault.LogFault.{LogFault}
@@ -17,15 +16,12 @@ use Rattle.ib_logrec.specs.Places.{stored}
 use Rattle.ib_logrec.specs.Words.{words_of_entry, entry_of}
 use Rattle.ib_logrec.specs.Grammar.{Formed, fault_at, IsFault}
 use Rattle.ib_logrec.specs.Law.{AreFormed}
-use Rattle.ib_logrec.specs.Log.{log_words, used, history_of}
+use Rattle.ib_logrec.specs.Log.{log_words, used, logged, history_of}
 use Rattle.ib_logrec.proofs.PlaceLaws.{PlacesRise-get}
 use Rattle.ib_logrec.proofs.EntryLaws.{length-words_of_entry, entry_of-words, fault_at-words}
 use Rattle.ib_logrec.proofs.LogLaws.{log_words-push, used-push, memory_after-push, history_of-push, length-history_of}
 use Rattle.ib_replay.specs.declared.log_replay.TheConstants.{COUNTS}
 use Rattle.ib_replay.specs.Replays.{opening, IsMemory, IsLawful, change_fault, IsFirstFault, IsReplayFault}
-
-abbrev pub logged : Entry → LoggedChange
-logged e = record { session = e.session; number = e.number; change = e.change }
 
 AreFormed-push : (pages : ℕ) (log : List Entry) (e : Entry) → AreFormed pages log → Formed pages e → AreFormed pages (log ++ e ∷ [])
 AreFormed-push pages [] e formed one = (one, tt)

@@ -1,5 +1,5 @@
 -- A log as a file: numbers of 64 bits, the highest byte first.
-use Rattle.std.specs.Prelude.{ℕ, ◌*◌, ◌%◌, ◌==◌, List, ◌∷◌, length, drop, nat_le, Option}
+use Rattle.std.specs.Prelude.{ℕ, ◌*◌, ◌%◌, ◌^◌, ◌<◌, ◌==◌, List, All, ◌∷◌, length, drop, nat_le, Option}
 use Rattle.std.specs.List.{flat_map}
 use Rattle.byteorder.specs.Endian.{big_bytes, big_number}
 use Rattle.ib_layout.specs.Geometry.{has_pages}
@@ -12,6 +12,10 @@ use Rattle.ib_replay.specs.declared.file.TheConstants.{FILE_FORM}
 pub record LogFile : Type 0 where
   pub pages : ℕ
   pub words : List ℕ
+
+-- each has 64 bits at most
+abbrev pub AreWords : List ℕ → Type 0
+AreWords words = All (λ word. word < 2 ^ 64) words
 
 abbrev pub word_bytes : List ℕ → List ℕ
 word_bytes words = flat_map (big_bytes 8) words

@@ -1,14 +1,11 @@
 -- Raw logs: bytes that are the file of a lawful log, and what is wrong with bytes that are not.
-use Rattle.std.specs.Prelude.{◌≡◌, ◌⊎◌, ℕ, ◌^◌, ◌<◌, List, All, Some, true}
+use Rattle.std.specs.Prelude.{◌≡◌, ◌⊎◌, ℕ, List, Some, true}
 use Rattle.ib_layout.specs.Geometry.{has_pages}
 use Rattle.ib_logrec.specs.declared.entry.Entry.{Entry}
 use Rattle.ib_logrec.specs.declared.fault.LogFault.{LogFault}
 use Rattle.ib_logrec.specs.Log.{log_words}
-use Rattle.ib_replay.specs.Files.{file_of, file_fault}
+use Rattle.ib_replay.specs.Files.{AreWords, file_of, file_fault}
 use Rattle.ib_replay.specs.Replays.{IsLawful, IsMemory, IsFirstFault}
-
-abbrev pub AreWords : List ℕ → Type 0
-AreWords words = All (λ word. word < 2 ^ 64) words
 
 -- the bytes are the file of these entries, which are lawful, in a space of so many pages
 pub record IsRawLog (bytes : List ℕ) (pages : ℕ) (log : List Entry) : Type 0 where

@@ -1,7 +1,7 @@
-ghost use Rattle.std.specs.Prelude.{◌≡◌, ◌+◌, ◌*◌, ◌%◌, ◌<◌, ◌^◌, ℕ, List, All, None, true, length, IfOk, IfErr, OnOk, MatchResult};
+ghost use Rattle.std.specs.Prelude.{◌≡◌, ◌+◌, ◌*◌, ◌%◌, ℕ, List, None, true, length, IfOk, IfErr, OnOk, MatchResult};
 ghost use Rattle.ib_layout.specs.Geometry.{has_pages};
 ghost use Rattle.ib_logrec.specs.Grammar.{IsFault};
-ghost use Rattle.ib_replay.specs.Files.{LogFile, word_bytes, file_of, file_fault};
+ghost use Rattle.ib_replay.specs.Files.{LogFile, AreWords, word_bytes, file_of, file_fault};
 
 use byteorder::{BigEndian, ByteOrder};
 use ib_layout::LEAST_PAGES;
@@ -50,10 +50,10 @@ pub fn read_log(alloc: Global, bytes: &[u8]) -> Result<RawLog, LogFault>
     // The bytes are the file of the log that is read, and its pages are those of a space.
     ensures found { IfOk result (λ log. bytes.now ≡ file_of log.pages log.words) }
     ensures pages { IfOk result (λ log. has_pages log.pages ≡ true) }
-    ensures fits { IfOk result (λ log. All (λ word. word < 2 ^ 64) log.words) }
+    ensures fits { IfOk result (λ log. AreWords log.words) }
 
     // A file is read as the log that it is the file of.
-    ensures only { (pages : ℕ) (words : List ℕ) → has_pages pages ≡ true → All (λ word. word < 2 ^ 64) words
+    ensures only { (pages : ℕ) (words : List ℕ) → has_pages pages ≡ true → AreWords words
         → bytes.now ≡ file_of pages words
         → MatchResult result (λ log. log ≡ record { pages = pages; words = words }) (λ fault. fault ≡ LogFault.OutOfMemory) }
 
@@ -69,7 +69,7 @@ pub fn read_log(alloc: Global, bytes: &[u8]) -> Result<RawLog, LogFault>
 fn log_of(alloc: Global, bytes: &[u8]) -> Result<RawLog, LogFault>
     ensures found { IfOk result (λ log. bytes.now ≡ file_of log.pages log.words) }
     ensures pages { IfOk result (λ log. has_pages log.pages ≡ true) }
-    ensures fits { IfOk result (λ log. All (λ word. word < 2 ^ 64) log.words) }
+    ensures fits { IfOk result (λ log. AreWords log.words) }
     ensures no_fault { OnOk result (file_fault bytes.now ≡ None) }
     ensures fault { IfErr result (IsFault (file_fault bytes.now)) }
 {
@@ -105,7 +105,7 @@ fn is_space(pages: u64) -> bool
 fn words_of(alloc: Global, bytes: &[u8]) -> Result<Vec<u64>, AllocError>
     requires { length bytes.now % 8 ≡ 0 }
     ensures words { IfOk result (λ words. word_bytes words.items ≡ bytes.now) }
-    ensures fits { IfOk result (λ words. All (λ word. word < 2 ^ 64) words.items) }
+    ensures fits { IfOk result (λ words. AreWords words.items) }
 {
     let mut words = vec![in alloc; 0; bytes.len() / 8]?;
     BigEndian::read_u64_into(bytes, &mut words);

@@ -6,12 +6,12 @@ use Rattle.ib_logrec.specs.declared.fault.LogFault.{LogFault}
 use Rattle.ib_logrec.specs.declared.fault.LogFault.TheVariants.{Short, BadHead, BadWrite, Outside, OddLength, BadFile, Unlawful, OutOfMemory}
 use Rattle.ib_logrec.specs.declared.fault.UnlawfulKind.{UnlawfulKind}
 use Rattle.ib_logrec.specs.declared.fault.UnlawfulKind.TheVariants.{Number, Change, Tree}
-use Rattle.ib_logrec.specs.Log.{history_of}
+use Rattle.ib_logrec.specs.Log.{logged, history_of}
 use Rattle.ib_script.specs.Output.{log_line, log_text, map_text}
 
 -- an entry's line in the log
 abbrev pub entry_line : Entry → List ℕ
-entry_line e = log_line (record { session = e.session; number = e.number; change = e.change })
+entry_line e = log_line (logged e)
 
 -- the log, and the map after all of it
 abbrev pub replay_output : List Entry → List ℕ

@@ -7,18 +7,14 @@ ghost use Rattle.ib_script.specs.Writer.{IsFresh, Puts, sink_name, sink_of};
 ghost use Rattle.ib_tool.specs.Replaying.{entry_line, replay_output};
 
 use ib_logrec::Entry;
-use ib_map::{GREATEST, LEAST, LoggedChange};
+use ib_map::{GREATEST, LEAST};
 use ib_replay::Replayed;
 use ib_script::{Failed, Sink, Writer};
 
 fn print_entry<K: Sink>(writer: &mut Writer<'_, K>, entry: &Entry)
     ensures puts { Puts K.written K.faults writer.old writer.new (entry_line entry.now) }
 {
-    writer.log_line(&LoggedChange {
-        session: entry.session,
-        number: entry.number,
-        change: entry.change,
-    });
+    writer.log_line(&entry.logged());
 }
 
 fn print_entries<K: Sink>(writer: &mut Writer<'_, K>, entries: &[Entry])

@@ -1,7 +1,7 @@
 //! The twelve states that a lock word tells apart.
 
 ghost use Rattle.std.specs.Prelude.{◌≡◌, ℕ, ◌⊎◌, ◌↔◌, pos, neg_ℤ, IsTrue};
-ghost use Rattle.ib_word.specs.Word.{IsCounted, IsWithin, SameCounts, word_of};
+ghost use Rattle.ib_word.specs.Word.{IsCounted, IsWithin, word_of};
 ghost use Rattle.ib_word.specs.State.{state_of};
 
 use crate::word::{LockWord, X_LOCK_DECR, X_LOCK_HALF_DECR};
@@ -37,15 +37,11 @@ pub enum WordState {
     XnSx { n: u32 },
 }
 
-/// The state of a word: the one whose counts give it.
+/// The state of a word: the one whose counts give it. That there is one such is `word_law`.
 pub fn classify(w: LockWord) -> WordState
     requires { IsCounted w.0 }
     ensures state { (s sx x : ℕ) → IsWithin s sx x → w.0 ≡ word_of s sx x
         → result ≡ state_of s sx x }
-    ensures free { LockWord.FREE.0 ≡ word_of 0 0 0 }
-    // No two counts give the word, but for how often its owner has SX.
-    ensures unique { (s sx x s' sx' x' : ℕ) → IsWithin s sx x → IsWithin s' sx' x'
-        → w.0 ≡ word_of s sx x → w.0 ≡ word_of s' sx' x' → SameCounts s sx x s' sx' x' }
 {
     let free = X_LOCK_DECR as i32;
     let half = X_LOCK_HALF_DECR as i32;

@@ -5,7 +5,7 @@
 
 ghost use Rattle.std.specs.Prelude.{◌≡◌, ℕ, ◌+◌, ◌-◌, ◌<◌, ◌≤◌, ◌^◌, ◌==◌, if◌then◌else◌, nat_le, pos, ◌+ℤ◌, ◌-ℤ◌, ◌<ℤ◌, SomeIff};
 ghost use Rattle.ib_word.specs.Weight.{x_weight};
-ghost use Rattle.ib_word.specs.Word.{IsWithin, cell_of, word_in, word_of};
+ghost use Rattle.ib_word.specs.Word.{IsWithin, SameCounts, cell_of, word_in, word_of};
 
 /// What a first and a second X each take off a lock word, and the word of a free latch (sync0rw).
 pub const X_LOCK_DECR: u32 = 0x2000_0000;
@@ -31,6 +31,14 @@ impl LockWord {
     /// The word of a latch that nobody holds.
     pub const FREE: LockWord = LockWord(X_LOCK_DECR as i32);
 }
+
+/// The law of lock words, as a contract: a word tells the counts that give it, but for how often its
+/// owner has SX, and that of a free latch tells that there are none.
+pub fn word_law()
+    ensures unique { (s sx x s' sx' x' : ℕ) → IsWithin s sx x → IsWithin s' sx' x'
+        → word_of s sx x ≡ word_of s' sx' x' → SameCounts s sx x s' sx' x' }
+    ensures free { LockWord.FREE.0 ≡ word_of 0 0 0 }
+{}
 
 /// The word after one more reader. S is granted where nobody owns X and there is no next writer
 /// (sync0rw, `rw_lock_s_lock_low`).
