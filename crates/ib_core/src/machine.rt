@@ -25,9 +25,6 @@ pub const MOST_LATCHES: u32 = MOST_PAGES + 2;
 /// The most steps of a machine. The words and generations that they reach fit their numbers.
 pub const MOST_STEPS: u32 = (1 << 28) - 1;
 
-/// Memory that could not be had.
-pub type OutOfMemory = AllocError;
-
 /// The latch machine of one thread: latches and sessions as plain data. Sessions are numbered
 /// from 1, latches from 0. Contracts see it as its state and the number of steps made.
 #[derive(Drop)]
@@ -55,7 +52,7 @@ impl Model for Core {
 }
 
 /// A member that holds nothing, with room for this many latches.
-fn idle_member(alloc: Global, latches: u32) -> Result<Member, OutOfMemory>
+fn idle_member(alloc: Global, latches: u32) -> Result<Member, AllocError>
     ensures idle { IfOk result (λ m. session_of m ≡ idle) }
     ensures room { IfOk result (λ m. latches ≤ vec_capacity m.held) }
 {
@@ -66,7 +63,7 @@ fn idle_member(alloc: Global, latches: u32) -> Result<Member, OutOfMemory>
 }
 
 /// As many such members as there are sessions.
-fn idle_members(alloc: Global, sessions: u32, latches: u32) -> Result<Vec<Member>, OutOfMemory>
+fn idle_members(alloc: Global, sessions: u32, latches: u32) -> Result<Vec<Member>, AllocError>
     ensures { IfOk result (λ v. AreIdle sessions latches v.items) }
 {
     let mut members = Vec::with_capacity(alloc, sessions as usize)?;
@@ -79,7 +76,7 @@ fn idle_members(alloc: Global, sessions: u32, latches: u32) -> Result<Vec<Member
 impl Core {
     /// The machine with this many sessions and latches: all latches free, no steps made. Each
     /// session's list has room for each latch.
-    pub fn new(alloc: Global, sessions: u32, latches: u32) -> Result<Core, OutOfMemory>
+    pub fn new(alloc: Global, sessions: u32, latches: u32) -> Result<Core, AllocError>
         requires sessions { (1 ≤ sessions) × (sessions ≤ MOST_SESSIONS) }
         requires latches { (1 ≤ latches) × (latches ≤ MOST_LATCHES) }
         ensures opens { IfOk result (λ core. core
