@@ -1,8 +1,9 @@
--- Lists of entries: their words, the memory after them, and their history.
+-- Lists of entries: their words, the memory after them, their history and their map.
 use Rattle.std.specs.Prelude.{ℕ, List, [], ◌∷◌, length, map}
 use Rattle.std.specs.List.{flat_map}
 use Rattle.ib_map.specs.declared.call.LoggedChange.{LoggedChange}
-use Rattle.ib_map.specs.History.{History}
+use Rattle.ib_map.specs.Pairs.{Pairs}
+use Rattle.ib_map.specs.History.{History, map_after}
 use Rattle.ib_logrec.specs.declared.entry.Entry.{Entry}
 use Rattle.ib_logrec.specs.Places.{page_of, index_of, stored}
 use Rattle.ib_logrec.specs.Words.{words_of_entry}
@@ -34,3 +35,7 @@ logged e = record { session = e.session; number = e.number; change = e.change }
 -- the changes of the entries
 abbrev pub history_of : List Entry → History
 history_of log = map logged log
+
+-- the map that they all give
+abbrev pub map_of : List Entry → Pairs
+map_of log = map_after (history_of log) (length log)

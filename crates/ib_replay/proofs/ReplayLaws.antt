@@ -16,7 +16,7 @@ use Rattle.ib_logrec.specs.Places.{stored}
 use Rattle.ib_logrec.specs.Words.{words_of_entry, entry_of}
 use Rattle.ib_logrec.specs.Grammar.{Formed, fault_at, IsFault}
 use Rattle.ib_logrec.specs.Law.{AreFormed}
-use Rattle.ib_logrec.specs.Log.{log_words, used, logged, history_of}
+use Rattle.ib_logrec.specs.Log.{log_words, used, logged, history_of, map_of}
 use Rattle.ib_logrec.proofs.PlaceLaws.{PlacesRise-get}
 use Rattle.ib_logrec.proofs.EntryLaws.{length-words_of_entry, entry_of-words, fault_at-words}
 use Rattle.ib_logrec.proofs.LogLaws.{log_words-push, used-push, memory_after-push, history_of-push, length-history_of}
@@ -119,7 +119,7 @@ module _ (pages : ℕ) (words : List ℕ) (place : ℕ) (log : List Entry) (memo
   pub words-all : length words ≤ place → words ≡ log_words log
   words-all end = reached.parts ∙ ap (λ (ws : List ℕ). log_words log ++ ws) (drop_all place words end) ∙ append-nil (log_words log)
 
-  pub map-all : map ≡ map_after (history_of log) (length log)
+  pub map-all : map ≡ map_of log
   map-all = reached.map ∙ sym (map_after-length (history_of log)) ∙ ap (map_after (history_of log)) (length-history_of log)
 
 -- a fault is the first one where it was found, or want of memory

@@ -4,9 +4,8 @@ ghost use Rattle.ib_map.specs.declared.TheConstants.{PAGE_WORDS};
 ghost use Rattle.ib_layout.specs.Geometry.{has_pages};
 ghost use Rattle.ib_logrec.specs.Places.{stored, PlacesRise};
 ghost use Rattle.ib_logrec.specs.Grammar.{IsFault};
-ghost use Rattle.ib_map.specs.History.{map_after};
 ghost use Rattle.ib_logrec.specs.declared.entry.Entry.{Entry};
-ghost use Rattle.ib_logrec.specs.Log.{log_words, history_of};
+ghost use Rattle.ib_logrec.specs.Log.{log_words, map_of};
 ghost use Rattle.ib_replay.specs.Replays.{IsLawful, IsMemory, IsReplayFault, change_fault};
 
 use crate::memory::Memory;
@@ -36,8 +35,7 @@ pub fn replay(alloc: Global, pages: u32, words: &[u64]) -> Result<Replayed, LogF
     ensures lawful { IfOk result (λ replayed. IsLawful pages replayed.entries.items) }
 
     ensures memory { IfOk result (λ replayed. IsMemory pages replayed.entries.items replayed.memory) }
-    ensures map { IfOk result (λ replayed. replayed.map
-        ≡ map_after (history_of replayed.entries.items) (length replayed.entries.items)) }
+    ensures map { IfOk result (λ replayed. replayed.map ≡ map_of replayed.entries.items) }
 
     // The words of lawful entries are read as those entries.
     ensures only { (log : List Entry) → IsLawful pages log → words.now ≡ log_words log
@@ -56,8 +54,7 @@ fn put_entries(alloc: Global, pages: u32, words: &[u64]) -> Result<Replayed, Log
     ensures entries { IfOk result (λ replayed. words.now ≡ log_words replayed.entries.items) }
     ensures lawful { IfOk result (λ replayed. IsLawful pages replayed.entries.items) }
     ensures memory { IfOk result (λ replayed. IsMemory pages replayed.entries.items replayed.memory) }
-    ensures map { IfOk result (λ replayed. replayed.map
-        ≡ map_after (history_of replayed.entries.items) (length replayed.entries.items)) }
+    ensures map { IfOk result (λ replayed. replayed.map ≡ map_of replayed.entries.items) }
     ensures fault { IfErr result (IsReplayFault pages words.now) }
 {
     let mut replayed = Replayed {

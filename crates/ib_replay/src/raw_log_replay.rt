@@ -1,8 +1,7 @@
 ghost use Rattle.std.specs.Prelude.{◌≡◌, ◌⊎◌, ◌^◌, ◌<◌, ℕ, List, length, IfOk, IfErr, MatchResult};
-ghost use Rattle.ib_map.specs.History.{map_after};
 ghost use Rattle.ib_logrec.specs.declared.entry.Entry.{Entry};
 ghost use Rattle.ib_logrec.specs.declared.fault.LogFault.{LogFault as Fault};
-ghost use Rattle.ib_logrec.specs.Log.{history_of};
+ghost use Rattle.ib_logrec.specs.Log.{map_of};
 ghost use Rattle.ib_replay.specs.RawLogs.{IsRawFault, IsRawLog, IsReplayed};
 
 use crate::file::read_log;
@@ -17,8 +16,7 @@ pub fn replay_file(alloc: Global, bytes: &[u8]) -> Result<Replayed, LogFault>
 
     // The bytes are the file of the entries, which are lawful, and the memory is the one after them.
     ensures log { IfOk result (λ replayed. IsReplayed bytes.now replayed.entries.items replayed.memory) }
-    ensures map { IfOk result (λ replayed. replayed.map
-        ≡ map_after (history_of replayed.entries.items) (length replayed.entries.items)) }
+    ensures map { IfOk result (λ replayed. replayed.map ≡ map_of replayed.entries.items) }
 
     // The file of a lawful log is read as that log.
     ensures only { (pages : ℕ) (log : List Entry) → IsRawLog bytes.now pages log
@@ -36,8 +34,7 @@ pub fn replay_file(alloc: Global, bytes: &[u8]) -> Result<Replayed, LogFault>
 fn replay_bytes(alloc: Global, bytes: &[u8]) -> Result<Replayed, LogFault>
     requires small { length bytes.now < 2 ^ 35 }
     ensures log { IfOk result (λ replayed. IsReplayed bytes.now replayed.entries.items replayed.memory) }
-    ensures map { IfOk result (λ replayed. replayed.map
-        ≡ map_after (history_of replayed.entries.items) (length replayed.entries.items)) }
+    ensures map { IfOk result (λ replayed. replayed.map ≡ map_of replayed.entries.items) }
     ensures fault { IfErr result (λ fault. (fault ≡ LogFault.OutOfMemory) ⊎ IsRawFault bytes.now fault) }
 {
     let log = read_log(alloc, bytes)?;

@@ -1,12 +1,11 @@
 -- What is printed of a raw log: its log and its map, or its first fault.
-use Rattle.std.specs.Prelude.{ℕ, List, ◌++◌, codes, decimal, length}
-use Rattle.ib_map.specs.History.{map_after}
+use Rattle.std.specs.Prelude.{ℕ, List, ◌++◌, codes, decimal}
 use Rattle.ib_logrec.specs.declared.entry.Entry.{Entry}
 use Rattle.ib_logrec.specs.declared.fault.LogFault.{LogFault}
 use Rattle.ib_logrec.specs.declared.fault.LogFault.TheVariants.{Short, BadHead, BadWrite, Outside, OddLength, BadFile, Unlawful, OutOfMemory}
 use Rattle.ib_logrec.specs.declared.fault.UnlawfulKind.{UnlawfulKind}
 use Rattle.ib_logrec.specs.declared.fault.UnlawfulKind.TheVariants.{Number, Change, Tree}
-use Rattle.ib_logrec.specs.Log.{logged, history_of}
+use Rattle.ib_logrec.specs.Log.{logged, history_of, map_of}
 use Rattle.ib_script.specs.Output.{log_line, log_text, map_text}
 
 -- an entry's line in the log
@@ -15,7 +14,7 @@ entry_line e = log_line (logged e)
 
 -- the log, and the map after all of it
 abbrev pub replay_output : List Entry → List ℕ
-replay_output log = log_text (history_of log) ++ map_text (map_after (history_of log) (length log))
+replay_output log = log_text (history_of log) ++ map_text (map_of log)
 
 abbrev pub unlawful_text : UnlawfulKind → List ℕ
 unlawful_text Number = codes " number"

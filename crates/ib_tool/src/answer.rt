@@ -1,7 +1,6 @@
 ghost use Rattle.std.specs.Prelude.{◌≡◌, ◌≤◌, length};
 ghost use Rattle.std.specs.List.{AllByRecursion};
-ghost use Rattle.ib_map.specs.History.{map_after};
-ghost use Rattle.ib_logrec.specs.Log.{history_of};
+ghost use Rattle.ib_logrec.specs.Log.{map_of};
 ghost use Rattle.ib_script.specs.Events.{IsInRange};
 ghost use Rattle.ib_script.specs.Faults.{Rose};
 ghost use Rattle.ib_script.specs.Script.{IsSmall};
@@ -97,7 +96,7 @@ fn answer_events<K: Sink>(alloc: Global, input: &[u8], sink: &mut K) -> Status
 
 // Writes what a log makes.
 fn show<K: Sink>(replayed: &Replayed, sink: &mut K) -> Status
-    requires { replayed.now.map ≡ map_after (history_of replayed.now.entries.items) (length replayed.now.entries.items) }
+    requires { replayed.now.map ≡ map_of replayed.now.entries.items }
     ensures told { Told (OwesReplay replayed.now.entries.items) IsMemory (K.written sink.old) (K.written sink.new) result }
     ensures write { result ≡ Status.WriteFault → Rose (K.faults sink.old) (K.faults sink.new) }
 {

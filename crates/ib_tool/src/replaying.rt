@@ -1,6 +1,5 @@
-ghost use Rattle.std.specs.Prelude.{◌≡◌, flat_map, length};
-ghost use Rattle.ib_map.specs.History.{map_after};
-ghost use Rattle.ib_logrec.specs.Log.{history_of};
+ghost use Rattle.std.specs.Prelude.{◌≡◌, flat_map};
+ghost use Rattle.ib_logrec.specs.Log.{history_of, map_of};
 ghost use Rattle.ib_script.specs.Faults.{AppendsAll, HasCause};
 ghost use Rattle.ib_script.specs.Output.{log_text};
 ghost use Rattle.ib_script.specs.Writer.{IsFresh, Puts, sink_name, sink_of};
@@ -33,7 +32,7 @@ fn print_log<K: Sink>(writer: &mut Writer<'_, K>, entries: &[Entry])
 }
 
 fn print_parts<K: Sink>(writer: &mut Writer<'_, K>, replayed: &Replayed)
-    requires { replayed.now.map ≡ map_after (history_of replayed.now.entries.items) (length replayed.now.entries.items) }
+    requires { replayed.now.map ≡ map_of replayed.now.entries.items }
     ensures puts { Puts K.written K.faults writer.old writer.new (replay_output replayed.now.entries.items) }
 {
     print_log(writer, &replayed.entries);
@@ -43,7 +42,7 @@ fn print_parts<K: Sink>(writer: &mut Writer<'_, K>, replayed: &Replayed)
 // All of it, through a writer that has printed nothing.
 fn print_replayed<K: Sink>(writer: &mut Writer<'_, K>, replayed: &Replayed) -> Result<(), Failed>
     requires fresh { IsFresh (sink_of writer.old) writer.old }
-    requires map { replayed.now.map ≡ map_after (history_of replayed.now.entries.items) (length replayed.now.entries.items) }
+    requires map { replayed.now.map ≡ map_of replayed.now.entries.items }
     ensures same_reference { sink_name writer.new ≡ sink_name writer.old }
     ensures bytes { AppendsAll (K.written (sink_of writer.old)) (K.written (sink_of writer.new)) result (replay_output replayed.now.entries.items) }
     ensures cause { HasCause (K.faults (sink_of writer.old)) (K.faults (sink_of writer.new)) result }
@@ -54,7 +53,7 @@ fn print_replayed<K: Sink>(writer: &mut Writer<'_, K>, replayed: &Replayed) -> R
 
 /// Writes the log and the map that it makes. At `Failed` a front of it was written.
 pub fn write_replayed<K: Sink>(sink: &mut K, replayed: &Replayed) -> Result<(), Failed>
-    requires { replayed.now.map ≡ map_after (history_of replayed.now.entries.items) (length replayed.now.entries.items) }
+    requires { replayed.now.map ≡ map_of replayed.now.entries.items }
     ensures bytes { AppendsAll (K.written sink.old) (K.written sink.new) result (replay_output replayed.now.entries.items) }
     ensures cause { HasCause (K.faults sink.old) (K.faults sink.new) result }
 {
