@@ -13,7 +13,7 @@ use crate::phase::Phase;
 use ib_levels::{Holding, Latch, Level, Mode};
 use ib_word::{LockWord, owes_ex, take_s, take_sx, take_x};
 
-/// The word after a first grant of the mode, None where the word refuses it.
+// The word after a first grant of the mode, None where the word refuses it.
 fn word_after(word: LockWord, mode: Mode) -> Option<LockWord>
     ensures { SomeIff result (IsTrue (is_given_at mode word.0))
         (record { 0 = word.0 -ℤ pos (first_weight mode) }) }
@@ -25,7 +25,7 @@ fn word_after(word: LockWord, mode: Mode) -> Option<LockWord>
     }
 }
 
-/// The holding with one grant of the mode.
+// The holding with one grant of the mode.
 fn with_one(latch: Latch, mode: Mode, level: Level) -> Holding
     ensures { result ≡ first_holding mode latch.0 level }
 {
@@ -39,8 +39,8 @@ fn with_one(latch: Latch, mode: Mode, level: Level) -> Holding
 }
 
 impl Member {
-    /// X was taken off the word, which is this one now: the session owns X where no reader
-    /// remains, and else it is the next writer (sync0rw, `rw_lock_x_lock_wait`).
+    // X was taken off the word, which is this one now: the session owns X where no reader
+    // remains, and else it is the next writer (sync0rw, `rw_lock_x_lock_wait`).
     pub(crate) fn reserve(&mut self, word: LockWord, latch: Latch, level: Level) -> Answer
         ensures replies { answered result (session_of self.new)
             ≡ reserving latch.0 level word.0 self.old.held.items }
@@ -58,8 +58,8 @@ impl Member {
         Answer::Reserved
     }
 
-    /// A wish of a session that holds nothing on the latch. Where the word refuses it, the
-    /// session waits in this phase.
+    // A wish of a session that holds nothing on the latch. Where the word refuses it, the
+    // session waits in this phase.
     pub(crate) fn take_first(
         &mut self,
         word: &mut LockWord,

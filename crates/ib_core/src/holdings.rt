@@ -6,7 +6,7 @@ ghost use Rattle.ib_core.specs.Grants.{level_on, one_fewer, one_more};
 
 use ib_levels::{Holding, Latch, Level, Mode};
 
-/// The grants of one session on one latch, by mode.
+// The grants of one session on one latch, by mode.
 #[derive(Clone, Copy)]
 pub(crate) struct Grants {
     pub(crate) s: u32,
@@ -14,14 +14,14 @@ pub(crate) struct Grants {
     pub(crate) x: u32,
 }
 
-/// What is held on the latch: the first holding of the list on it.
+// What is held on the latch: the first holding of the list on it.
 pub(crate) fn holding_on(held: &[Holding], latch: Latch) -> Option<Holding>
     ensures { result ≡ find (λ h. h.latch.0 == latch.0) held.now }
 {
     held.iter().copied().find(|h| h.latch == latch)
 }
 
-/// The grants on the latch: none where it is not held.
+// The grants on the latch: none where it is not held.
 pub(crate) fn grants_on(held: &[Holding], latch: Latch) -> Grants
     requires { on latch.0 (λ h. 1) held.now ≤ 1 }
     ensures s { result.s ≡ on latch.0 (λ h. h.s) held.now }
@@ -38,7 +38,7 @@ pub(crate) fn grants_on(held: &[Holding], latch: Latch) -> Grants
     }
 }
 
-/// The level of the latch's first acquisition, or this one where it is not held.
+// The level of the latch's first acquisition, or this one where it is not held.
 pub(crate) fn level_of(held: &[Holding], latch: Latch, level: Level) -> Level
     ensures { result ≡ level_on latch.0 level held.now }
 {
@@ -48,7 +48,7 @@ pub(crate) fn level_of(held: &[Holding], latch: Latch, level: Level) -> Level
     }
 }
 
-/// The holding with one grant of the mode more, where it is on the latch.
+// The holding with one grant of the mode more, where it is on the latch.
 fn with_one_more(h: Holding, latch: Latch, mode: Mode) -> Holding
     requires { h.latch.0 ≡ latch.0 → h.s + h.sx + h.x < 2 ^ 28 }
     ensures { result ≡ (if h.latch.0 == latch.0 then one_more mode h else h) }
@@ -63,7 +63,7 @@ fn with_one_more(h: Holding, latch: Latch, mode: Mode) -> Holding
     }
 }
 
-/// The holding with one grant of the mode fewer, where it is on the latch.
+// The holding with one grant of the mode fewer, where it is on the latch.
 fn with_one_fewer(h: Holding, latch: Latch, mode: Mode) -> Holding
     ensures { result ≡ (if h.latch.0 == latch.0 then one_fewer mode h else h) }
 {
@@ -86,7 +86,7 @@ fn with_one_fewer(h: Holding, latch: Latch, mode: Mode) -> Holding
     }
 }
 
-/// Each holding on the latch has one grant of the mode more.
+// Each holding on the latch has one grant of the mode more.
 fn each_one_more(held: &mut [Holding], latch: Latch, mode: Mode)
     requires { on latch.0 (λ h. h.s + h.sx + h.x) held.old < 2 ^ 28 }
     ensures { held.new ≡ changed latch.0 (one_more mode) held.old }
@@ -96,7 +96,7 @@ fn each_one_more(held: &mut [Holding], latch: Latch, mode: Mode)
     }
 }
 
-/// Each holding on the latch has one grant of the mode fewer.
+// Each holding on the latch has one grant of the mode fewer.
 fn each_one_fewer(held: &mut [Holding], latch: Latch, mode: Mode)
     ensures { held.new ≡ changed latch.0 (one_fewer mode) held.old }
 {
@@ -105,7 +105,7 @@ fn each_one_fewer(held: &mut [Holding], latch: Latch, mode: Mode)
     }
 }
 
-/// One grant of the mode more on the latch.
+// One grant of the mode more on the latch.
 pub(crate) fn add_one(held: &mut Vec<Holding>, latch: Latch, mode: Mode)
     requires { on latch.0 (λ h. h.s + h.sx + h.x) held.old.items < 2 ^ 28 }
     ensures items { held.new.items ≡ changed latch.0 (one_more mode) held.old.items }
@@ -114,7 +114,7 @@ pub(crate) fn add_one(held: &mut Vec<Holding>, latch: Latch, mode: Mode)
     each_one_more(held.as_mut_slice(), latch, mode);
 }
 
-/// One grant of the mode fewer on the latch.
+// One grant of the mode fewer on the latch.
 pub(crate) fn take_one(held: &mut Vec<Holding>, latch: Latch, mode: Mode)
     ensures items { held.new.items ≡ changed latch.0 (one_fewer mode) held.old.items }
     ensures capacity { vec_capacity held.old ≡ vec_capacity held.new }
@@ -122,7 +122,7 @@ pub(crate) fn take_one(held: &mut Vec<Holding>, latch: Latch, mode: Mode)
     each_one_fewer(held.as_mut_slice(), latch, mode);
 }
 
-/// Nothing is held on the latch any more.
+// Nothing is held on the latch any more.
 pub(crate) fn give_up(held: &mut Vec<Holding>, latch: Latch)
     ensures items { held.new.items ≡ without latch.0 held.old.items }
     ensures capacity { vec_capacity held.new ≡ vec_capacity held.old }
@@ -130,7 +130,7 @@ pub(crate) fn give_up(held: &mut Vec<Holding>, latch: Latch)
     held.retain(|h| h.latch != latch);
 }
 
-/// The holding stands behind the others. There is room for it.
+// The holding stands behind the others. There is room for it.
 pub(crate) fn add(held: &mut Vec<Holding>, holding: Holding)
     requires { vec_len held.old < vec_capacity held.old }
     ensures items { held.new.items ≡ held.old.items ++ holding ∷ [] }

@@ -51,7 +51,7 @@ impl Model for Core {
     ghost invariant = { λ c. IsCounted c.members.items c.words.items c.marks.items c.steps };
 }
 
-/// A member that holds nothing, with room for this many latches.
+// A member that holds nothing, with room for this many latches.
 fn idle_member(alloc: Global, latches: u32) -> Result<Member, AllocError>
     ensures idle { IfOk result (λ m. session_of m ≡ idle) }
     ensures room { IfOk result (λ m. latches ≤ vec_capacity m.held) }
@@ -62,7 +62,7 @@ fn idle_member(alloc: Global, latches: u32) -> Result<Member, AllocError>
     })
 }
 
-/// As many such members as there are sessions.
+// As many such members as there are sessions.
 fn idle_members(alloc: Global, sessions: u32, latches: u32) -> Result<Vec<Member>, AllocError>
     ensures { IfOk result (λ v. AreIdle sessions latches v.items) }
 {

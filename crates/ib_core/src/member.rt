@@ -10,7 +10,7 @@ use crate::holdings::{Grants, grants_on};
 use crate::phase::Phase;
 use ib_levels::{Against, Holding, Latch, Level, holds, may_add};
 
-/// A session: what it holds, in a list with room for each latch, and its phase.
+// A session: what it holds, in a list with room for each latch, and its phase.
 #[derive(Drop)]
 pub(crate) struct Member {
     pub(crate) held: Vec<Holding>,
@@ -18,14 +18,14 @@ pub(crate) struct Member {
 }
 
 impl Member {
-    /// Whether the session holds the latch.
+    // Whether the session holds the latch.
     pub(crate) fn holds(&self, latch: Latch) -> bool
         ensures { result ≡ is_held latch.0 self.now.held.items }
     {
         holds(self.held.as_slice(), latch)
     }
 
-    /// Its grants on the latch.
+    // Its grants on the latch.
     pub(crate) fn grants(&self, latch: Latch) -> Grants
         requires { holdings latch.0 (session_of self.now) ≤ 1 }
         ensures s { result.s ≡ reads latch.0 (session_of self.now) }
@@ -37,7 +37,7 @@ impl Member {
         grants_on(self.held.as_slice(), latch)
     }
 
-    /// Whether the order of levels allows it the latch at the level.
+    // Whether the order of levels allows it the latch at the level.
     pub(crate) fn may_take(&self, latch: Latch, level: Level) -> Result<(), Against>
         ensures { result
             ≡ answer_to (is_held latch.0 self.now.held.items) level

@@ -82,7 +82,7 @@ pub enum Phase {
 }
 
 impl Phase {
-    /// Whether the phase is about another latch than this.
+    // Whether the phase is about another latch than this.
     pub(crate) fn is_elsewhere(self, at: u32) -> bool
         ensures { result ≡ is_elsewhere at self }
     {

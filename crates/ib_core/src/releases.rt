@@ -15,7 +15,7 @@ use ib_levels::{Latch, Mode};
 use ib_word::{LockWord, X_LOCK_HALF_DECR, give_x, owes_ex};
 
 impl Member {
-    /// One grant of SX or X goes, and with the last one the holding.
+    // One grant of SX or X goes, and with the last one the holding.
     fn give_back(&mut self, latch: Latch, mode: Mode)
         requires single { holdings latch.0 (session_of self.old) ≤ 1 }
         requires few { grants latch.0 (session_of self.old) < 2 ^ 28 }
@@ -31,8 +31,8 @@ impl Member {
         }
     }
 
-    /// S. The last reader before a next writer owes it a raise of the ex generation (sync0rw,
-    /// `rw_lock_s_unlock_func`).
+    // S. The last reader before a next writer owes it a raise of the ex generation (sync0rw,
+    // `rw_lock_s_unlock_func`).
     pub(crate) fn give_s(&mut self, word: &mut LockWord, latch: Latch) -> Answer
         requires can { CanStep latch.0 word.old.0 (session_of self.old) }
         requires free { self.old.phase ≡ Free }
@@ -53,8 +53,8 @@ impl Member {
         Answer::Released
     }
 
-    /// One SX. With the last, and no X of its own, the session owes a look at the waiters flag
-    /// (WL#6363, `rw_lock_sx_unlock_func`).
+    // One SX. With the last, and no X of its own, the session owes a look at the waiters flag
+    // (WL#6363, `rw_lock_sx_unlock_func`).
     pub(crate) fn give_sx(&mut self, word: &mut LockWord, latch: Latch) -> Answer
         requires can { CanStep latch.0 word.old.0 (session_of self.old) }
         requires free { self.old.phase ≡ Free }
@@ -78,8 +78,8 @@ impl Member {
         Answer::Released
     }
 
-    /// One X. With the last the session owes a look at the waiters flag (sync0rw,
-    /// `rw_lock_x_unlock_func`).
+    // One X. With the last the session owes a look at the waiters flag (sync0rw,
+    // `rw_lock_x_unlock_func`).
     pub(crate) fn give_x(&mut self, word: &mut LockWord, latch: Latch) -> Answer
         requires can { CanStep latch.0 word.old.0 (session_of self.old) }
         requires free { self.old.phase ≡ Free }

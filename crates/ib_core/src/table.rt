@@ -15,7 +15,7 @@ use ib_levels::{Latch, Level, Mode};
 use ib_word::LockWord;
 
 impl Member {
-    /// One event of the session, on the latch with these words.
+    // One event of the session, on the latch with these words.
     pub(crate) fn step(&mut self, word: &mut LockWord, marks: &mut Marks, event: Event) -> Answer
         requires can { CanStep (latch_of event) word.old.0 (session_of self.old) }
         requires room { HasRoom (latch_of event) self.old }
@@ -80,7 +80,7 @@ impl Member {
         }
     }
 
-    /// The events of a session that is in the middle of nothing.
+    // The events of a session that is in the middle of nothing.
     fn when_free(&mut self, word: &mut LockWord, generation: u64, event: Event) -> Answer
         requires can { CanStep (latch_of event) word.old.0 (session_of self.old) }
         requires free { self.old.phase ≡ Free }
@@ -103,7 +103,7 @@ impl Member {
         }
     }
 
-    /// The events of a session that recorded the generation, to wait.
+    // The events of a session that recorded the generation, to wait.
     fn when_armed(
         &mut self,
         marks: &mut Marks,
@@ -133,7 +133,7 @@ impl Member {
         }
     }
 
-    /// The events of a session that set the waiters flag.
+    // The events of a session that set the waiters flag.
     fn when_flagged(
         &mut self,
         word: &mut LockWord,
@@ -166,7 +166,7 @@ impl Member {
         }
     }
 
-    /// The events of a session whose wish was refused once more.
+    // The events of a session whose wish was refused once more.
     fn when_checked(
         &mut self,
         now: u64,
@@ -185,7 +185,7 @@ impl Member {
         }
     }
 
-    /// The events of a session that sleeps.
+    // The events of a session that sleeps.
     fn when_asleep(
         &mut self,
         now: u64,
@@ -212,7 +212,7 @@ impl Member {
         }
     }
 
-    /// The events of a next writer.
+    // The events of a next writer.
     fn when_next(&mut self, word: LockWord, now: u64, event: Event, level: Level) -> Answer
         requires { holdings (latch_of event) (session_of self.old) ≤ 1 }
         ensures replies { answered result (session_of self.new)
@@ -233,7 +233,7 @@ impl Member {
         }
     }
 
-    /// The events of a next writer that recorded the ex generation.
+    // The events of a next writer that recorded the ex generation.
     fn when_next_armed(
         &mut self,
         word: LockWord,
@@ -259,7 +259,7 @@ impl Member {
         }
     }
 
-    /// The events of a next writer that found readers, or that sleeps.
+    // The events of a next writer that found readers, or that sleeps.
     fn when_next_waits(&mut self, now: u64, event: Event, level: Level, generation: u64) -> Answer
         ensures replies { answered result (session_of self.new)
             ≡ next_waits_row level generation now event (session_of self.old) }
@@ -278,7 +278,7 @@ impl Member {
         }
     }
 
-    /// The events of a session that owes a look at the waiters flag.
+    // The events of a session that owes a look at the waiters flag.
     fn when_owes_look(&mut self, waiters: bool, event: Event) -> Answer
         ensures replies { answered result (session_of self.new)
             ≡ owes_look_row waiters event (session_of self.old) }
@@ -297,7 +297,7 @@ impl Member {
         }
     }
 
-    /// The events of a session that owes the clearing of the waiters flag.
+    // The events of a session that owes the clearing of the waiters flag.
     fn when_owes_clear(&mut self, marks: &mut Marks, event: Event) -> Answer
         ensures replies { answered result (session_of self.new)
             ≡ owes_clear_row marks.old.waiters event (session_of self.old) }
@@ -319,7 +319,7 @@ impl Member {
         }
     }
 
-    /// The events of a session that owes a raise of this generation.
+    // The events of a session that owes a raise of this generation.
     fn when_owes_raise(&mut self, generation: &mut u64, event: Event) -> Answer
         requires { generation.old + 1 < 2 ^ 64 }
         ensures replies { answered result (session_of self.new)

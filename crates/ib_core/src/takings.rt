@@ -17,7 +17,7 @@ use ib_levels::{Against, Latch, Level, Mode};
 use ib_word::{LockWord, X_LOCK_HALF_DECR, again_x, upgrade_x};
 
 impl Answer {
-    /// The refusal by the order of levels.
+    // The refusal by the order of levels.
     pub(crate) fn against(levels: Against) -> Answer
         ensures { result ≡ Refused (AgainstLevels levels.held levels.wanted) }
     {
@@ -29,7 +29,7 @@ impl Answer {
 }
 
 impl Member {
-    /// S, where the session holds nothing on the latch (sync0rw, `rw_lock_s_lock_low`).
+    // S, where the session holds nothing on the latch (sync0rw, `rw_lock_s_lock_low`).
     pub(crate) fn take_s(&mut self, word: &mut LockWord, latch: Latch, level: Level) -> Answer
         requires can { CanStep latch.0 word.old.0 (session_of self.old) }
         requires free { self.old.phase ≡ Free }
@@ -49,8 +49,8 @@ impl Member {
         self.take_first(word, latch, Mode::S, level, Phase::Free)
     }
 
-    /// SX: the owner of SX or X always has it, and takes HALF off the word with its first
-    /// (WL#6363, `rw_lock_sx_lock_low`).
+    // SX: the owner of SX or X always has it, and takes HALF off the word with its first
+    // (WL#6363, `rw_lock_sx_lock_low`).
     pub(crate) fn take_sx(&mut self, word: &mut LockWord, latch: Latch, level: Level) -> Answer
         requires can { CanStep latch.0 word.old.0 (session_of self.old) }
         requires free { self.old.phase ≡ Free }
@@ -78,8 +78,8 @@ impl Member {
         Answer::Granted
     }
 
-    /// X: its owner always has it, the owner of SX takes it or becomes the next writer, and so
-    /// does a newcomer where nobody has SX or X (sync0rw, `rw_lock_x_lock_low`).
+    // X: its owner always has it, the owner of SX takes it or becomes the next writer, and so
+    // does a newcomer where nobody has SX or X (sync0rw, `rw_lock_x_lock_low`).
     pub(crate) fn take_x(&mut self, word: &mut LockWord, latch: Latch, level: Level) -> Answer
         requires can { CanStep latch.0 word.old.0 (session_of self.old) }
         requires free { self.old.phase ≡ Free }
@@ -108,7 +108,7 @@ impl Member {
         self.take_first(word, latch, Mode::X, level, Phase::Free)
     }
 
-    /// X beside one's own SX.
+    // X beside one's own SX.
     fn upgrade(&mut self, word: &mut LockWord, latch: Latch, level: Level) -> Answer
         requires can { CanStep latch.0 word.old.0 (session_of self.old) }
         requires free { self.old.phase ≡ Free }

@@ -10,7 +10,7 @@ use std::test::Fail;
 
 const NODE: Level = Level::TreeNode;
 
-/// One event: its answer, and the word of its latch afterwards.
+// One event: its answer, and the word of its latch afterwards.
 fn row(rt: &impl Abort, core: &mut Core, session: u32, event: Event, answer: Answer, word: i32)
     requires sessions { length core.old.state.sessions ≡ 3 }
     requires latches { length core.old.state.marks ≡ 2 }
@@ -100,7 +100,7 @@ fn no_reader_passes_a_next_writer(rt: HostRuntime) -> Result<(), Fail> {
     Ok(())
 }
 
-/// X of session 1, and session 2 that has set the flag to wait for S.
+// X of session 1, and session 2 that has set the flag to wait for S.
 fn flagged(rt: &impl Abort, core: &mut Core)
     requires sessions { length core.old.state.sessions ≡ 3 }
     requires latches { length core.old.state.marks ≡ 2 }
@@ -121,7 +121,7 @@ fn flagged(rt: &impl Abort, core: &mut Core)
     row(rt, core, 2, Event::Flag { latch: 0 }, Answer::Flagged, 0);
 }
 
-/// The signal that session 1 owes: look, clear and raise, at this word.
+// The signal that session 1 owes: look, clear and raise, at this word.
 fn signal(rt: &impl Abort, core: &mut Core, word: i32)
     requires sessions { length core.old.state.sessions ≡ 3 }
     requires latches { length core.old.state.marks ≡ 2 }
@@ -203,7 +203,7 @@ fn refusals(rt: HostRuntime) -> Result<(), Fail> {
     Ok(())
 }
 
-/// Each event, on this latch.
+// Each event, on this latch.
 fn events(latch: u32) -> [Event; 16] {
     let level = NODE;
     let mode = Mode::S;
@@ -227,8 +227,8 @@ fn events(latch: u32) -> [Event; 16] {
     ]
 }
 
-/// In its present phase, which is about latch 0, the session is answered out of turn at each
-/// event but these.
+// In its present phase, which is about latch 0, the session is answered out of turn at each
+// event but these.
 fn out_of_turn(rt: &impl Abort, core: &mut Core, session: u32, listed: &[Event])
     requires sessions { length core.old.state.sessions ≡ 3 }
     requires latches { length core.old.state.marks ≡ 2 }
@@ -248,7 +248,7 @@ fn out_of_turn(rt: &impl Abort, core: &mut Core, session: u32, listed: &[Event])
     }
 }
 
-/// The events of a session that is in the middle of nothing, on this latch.
+// The events of a session that is in the middle of nothing, on this latch.
 fn free_events(latch: u32) -> [Event; 7] {
     let [s, sx, x, us, usx, ux, arm, ..] = events(latch);
     [s, sx, x, us, usx, ux, arm]

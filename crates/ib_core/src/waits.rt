@@ -16,7 +16,7 @@ use crate::session::Marks;
 use ib_levels::{Latch, Level, Mode};
 use ib_word::{LockWord, X_LOCK_HALF_DECR};
 
-/// Whether a next writer with these grants owns X at the word.
+// Whether a next writer with these grants owns X at the word.
 fn owns_x(word: LockWord, mine: Grants) -> bool
     ensures { result ≡ owns_x_at mine.sx word.0 }
 {
@@ -28,8 +28,8 @@ fn owns_x(word: LockWord, mine: Grants) -> bool
 }
 
 impl Member {
-    /// Records the generation, before it waits for a grant of the mode (sync0arr,
-    /// `sync_array_reserve_cell`).
+    // Records the generation, before it waits for a grant of the mode (sync0arr,
+    // `sync_array_reserve_cell`).
     pub(crate) fn arm(&mut self, latch: Latch, mode: Mode, level: Level, generation: u64) -> Answer
         ensures replies { answered result (session_of self.new)
             ≡ arming latch.0 mode level generation (session_of self.old) }
@@ -50,8 +50,8 @@ impl Member {
         Answer::Armed { generation }
     }
 
-    /// Goes to sleep, or sleeps on, where this generation is the recorded one, and else is awake
-    /// (sync0arr, `sync_array_wait_event`).
+    // Goes to sleep, or sleeps on, where this generation is the recorded one, and else is awake
+    // (sync0arr, `sync_array_wait_event`).
     pub(crate) fn sleep(&mut self, now: u64, recorded: u64, asleep: Phase, awake: Phase) -> Answer
         ensures replies { answered result (session_of self.new)
             ≡ sleeping now recorded asleep awake (session_of self.old) }
@@ -66,8 +66,8 @@ impl Member {
         }
     }
 
-    /// The next writer owns X where its readers are gone, and else waits in this phase (sync0rw,
-    /// `rw_lock_x_lock_wait`).
+    // The next writer owns X where its readers are gone, and else waits in this phase (sync0rw,
+    // `rw_lock_x_lock_wait`).
     pub(crate) fn ready(&mut self, word: LockWord, latch: Latch, waiting: Phase) -> Answer
         requires { holdings latch.0 (session_of self.old) ≤ 1 }
         ensures replies { answered result (session_of self.new)
@@ -83,7 +83,7 @@ impl Member {
         }
     }
 
-    /// Waits no more.
+    // Waits no more.
     pub(crate) fn quit(&mut self) -> Answer
         ensures answer { result ≡ WaitsNoMore }
         ensures held { self.new ≡ record self.old { phase = Free } }

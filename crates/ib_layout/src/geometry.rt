@@ -1,3 +1,5 @@
+//! The sizes of a space, and the places of its words in the table.
+
 ghost use Rattle.std.specs.Prelude.{◌≡◌, ◌<◌, ◌^◌, ◌↔◌, ◌&&◌, true, false, IfOk, IsOk};
 ghost use Rattle.ib_layout.specs.Geometry.{has_log, has_pages};
 ghost use Rattle.ib_layout.specs.Places.{lock_place, waiters_place, writer_place, gen_place, ex_gen_place, latches_of, page_place, log_place, words_of};

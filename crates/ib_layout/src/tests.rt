@@ -1,3 +1,5 @@
+//! Sizes at their limits, and the words of the smallest and of the largest space.
+
 use super::*;
 use std::test::Fail;
 

@@ -24,8 +24,8 @@ pub struct Against {
 }
 
 impl Against {
-    /// The answer to a request at the level wanted, where this is the first level held that
-    /// forbids it.
+    // The answer to a request at the level wanted, where this is the first level held that
+    // forbids it.
     pub(crate) fn unless_none(first: Option<Level>, wanted: Level) -> Result<(), Against>
         ensures { result ≡ refused_by wanted first }
     {
@@ -36,14 +36,14 @@ impl Against {
     }
 }
 
-/// Whether one of these is the latch.
+// Whether one of these is the latch.
 fn has(held: &[Held], latch: Latch) -> bool
     ensures { result ≡ has_latch latch.0 held.now }
 {
     held.iter().any(|h| h.latch == latch)
 }
 
-/// The first level of these that forbids a request at the level wanted.
+// The first level of these that forbids a request at the level wanted.
 fn first_forbidding(held: &[Held], wanted: Level) -> Option<Level>
     ensures { result ≡ first_against wanted (levels_of_held held.now) }
 {

@@ -47,7 +47,7 @@ pub fn holds(held: &[Holding], latch: Latch) -> bool
     held.iter().any(|h| h.latch == latch)
 }
 
-/// The first level of these that forbids a request at the level wanted.
+// The first level of these that forbids a request at the level wanted.
 fn first_forbidding(held: &[Holding], wanted: Level) -> Option<Level>
     ensures { result ≡ first_against wanted (levels_of held.now) }
 {

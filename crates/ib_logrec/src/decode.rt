@@ -1,3 +1,5 @@
+//! From words to the entry that they spell, or to their first fault.
+
 ghost use Rattle.std.specs.Prelude.{◌≡◌, ◌+◌, ◌*◌, ◌^◌, ◌<◌, ◌≤◌, ◌==◌, ◌++◌, ℕ, List, not, None, if◌then◌else◌, length, drop, MatchResult, IfOk, OnOk, IfErr};
 ghost use Rattle.ib_map.specs.declared.TheConstants.{PAGE_WORDS};
 ghost use Rattle.ib_map.specs.declared.call.Change.TheVariants.{Insert, Delete};

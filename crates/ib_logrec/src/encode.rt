@@ -1,3 +1,5 @@
+//! From an entry to its words.
+
 ghost use Rattle.std.specs.Prelude.{◌≡◌, ◌+◌, ◌*◌, ◌≤◌, ◌++◌, [], ◌∷◌, length, drop};
 ghost use Rattle.ib_map.specs.Map.{key_of};
 ghost use Rattle.ib_map.specs.declared.call.Change.{Change};

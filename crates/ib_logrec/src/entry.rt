@@ -1,3 +1,5 @@
+//! A log entry: one commit of a mini-transaction (mtr0mtr).
+
 ghost use Rattle.std.specs.Prelude.{◌≡◌};
 ghost use Rattle.ib_logrec.specs.Log.{logged};
 

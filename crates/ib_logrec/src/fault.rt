@@ -1,3 +1,5 @@
+//! The faults of a log, one variant a cause.
+
 ghost use Rattle.std.specs.Prelude.{◌≡◌};
 ghost use Rattle.ib_logrec.specs.declared.fault.LogFault.TheVariants.{OutOfMemory};
 

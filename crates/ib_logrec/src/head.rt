@@ -1,3 +1,5 @@
+//! The first word of an entry: session, flags and number of writes.
+
 ghost use Rattle.std.specs.Prelude.{◌≡◌, Some, None, if◌then◌else◌};
 ghost use Rattle.ib_logrec.specs.Words.{session_in, count_in, is_delete, is_structural, flags_of};
 ghost use Rattle.ib_logrec.specs.Grammar.{is_head};
@@ -14,7 +16,7 @@ const STRUCTURAL_INSERT: u64 = 5;
 
 const STRUCTURAL_DELETE: u64 = 6;
 
-/// What an entry's first word says.
+// What an entry's first word says.
 pub(crate) struct Head {
     pub(crate) session: u32,
     pub(crate) deletes: bool,
@@ -22,7 +24,7 @@ pub(crate) struct Head {
     pub(crate) writes: usize,
 }
 
-/// The flags that tell a change, and whether it is structural.
+// The flags that tell a change, and whether it is structural.
 pub(crate) fn flags_of(change: Change, structural: bool) -> u64
     ensures { result ≡ flags_of change structural }
 {
@@ -34,7 +36,7 @@ pub(crate) fn flags_of(change: Change, structural: bool) -> u64
     }
 }
 
-/// What the word says, where it is an entry's first one.
+// What the word says, where it is an entry's first one.
 pub(crate) fn head_of(word: u64) -> Option<Head>
     ensures { result ≡ (if is_head word
         then Some (record { session = session_in word; deletes = is_delete word; structural = is_structural word; writes = count_in word })

@@ -1,3 +1,5 @@
+//! Keys as words of the log.
+
 ghost use Rattle.std.specs.Prelude.{◌≡◌};
 ghost use Rattle.ib_logrec.specs.KeyWords.{key_word, key_of_word};
 

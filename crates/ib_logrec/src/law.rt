@@ -1,3 +1,5 @@
+//! Which logs are lawful: what a layer above says of pages, and the laws that it must keep.
+
 /// What the log's rule is generic in: which lists of entries are lawful on so many pages, and the words
 /// of the pages at the start. Of a page's range a law may say what it likes, as long as an entry that
 /// writes no word of the page changes none of it.

@@ -1,3 +1,5 @@
+//! Worked entries, and each fault of words.
+
 ghost use Rattle.std.specs.Prelude.{◌<◌, ◌≤◌, ◌^◌, length};
 
 use crate::*;

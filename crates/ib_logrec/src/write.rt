@@ -1,3 +1,5 @@
+//! A word written to a page, by its place.
+
 ghost use Rattle.std.specs.Prelude.{◌≡◌, ◌==◌, not};
 ghost use Rattle.std.specs.List.{list_any};
 ghost use Rattle.ib_logrec.specs.Places.{page_of, spans_pages};

@@ -1,3 +1,5 @@
+//! The writes of an entry, in order.
+
 ghost use Rattle.std.specs.Prelude.{◌≡◌, length};
 
 use crate::write::Write;

@@ -1,3 +1,5 @@
+//! The chunks of scans, with room that is made beforehand, so that a scan takes no memory.
+
 ghost use Rattle.std.specs.Prelude.{◌≡◌, ℕ, ◌+◌, ◌<◌, ◌≤◌, ◌^◌, [], ◌∷◌, ◌++◌, length, max, IsOk, IsErr, OnOk, OnErr, IfOk, vec_len};
 ghost use Rattle.std.specs.Vec.{vec_capacity};
 ghost use Rattle.ib_map.specs.Chunks.{HeldChunks, AreAdjacent, spans_of};

@@ -1,3 +1,5 @@
+//! The order of keys, and all that code outside this crate may know of a key.
+
 ghost use Rattle.std.specs.Prelude.{IsNone, IfSome, ◌≤◌, ◌≡◌, ◌<◌, ◌↔◌, IsTrue};
 ghost use Rattle.ib_map.specs.Keys.{MapKey, IsKey, rank, end_rank, key_after};
 

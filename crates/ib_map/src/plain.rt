@@ -1,3 +1,5 @@
+//! The sorted map as a plain list of pairs.
+
 ghost use Rattle.std.specs.Prelude.{◌≡◌, ◌≢◌, ◌↔◌, [], Some, None, ◌≤◌, length, IsTrue, IsSome, IsNone, OnOk, OnErr, IfOk, IfErr, MatchResult, IsSomeAnd, slice_get};
 ghost use Rattle.std.specs.List.Sorted.{IsSearchInRange};
 ghost use Rattle.ib_map.specs.Keys.{rank};

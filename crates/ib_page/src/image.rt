@@ -1,3 +1,6 @@
+//! A page: how its records are found, put in and taken out, and how it is cut and joined (page0page,
+//! page0cur).
+
 ghost use Rattle.std.specs.Prelude.{◌≡◌, ◌≢◌, ◌+◌, ◌<◌, ◌≤◌, ◌^◌, ◌++◌, [], length, take, drop, slice_get, slice_index, slice_set, IsTrue, IsSome, IsNone, IsSomeAnd, OnOk, OnErr, IfOk, IfErr, IfSome, MatchResult, ◌↔◌, Some, None};
 ghost use Rattle.std.specs.List.Sorted.{IsSearchInRange};
 ghost use Rattle.ib_map.specs.Keys.{rank, end_rank};

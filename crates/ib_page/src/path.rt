@@ -1,3 +1,5 @@
+//! The pages of a descent, from the root to a leaf.
+
 /// The most pages from the root to a leaf.
 pub const MOST_PATH: usize = 8;
 

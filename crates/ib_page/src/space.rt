@@ -1,3 +1,5 @@
+//! Page 0: which pages of a space are taken (fsp0fsp).
+
 ghost use Rattle.std.specs.Prelude.{◌≡◌, ◌+◌, ◌<◌, ◌≤◌, ◌^◌, ℕ, true, false, nat_lt, length, IsTrue, ◌↔◌, IsNone, IfSome};
 ghost use Rattle.ib_page.specs.Space.{is_taken, space_clock_of, with_space_clock, free_below, zeros_below, SetsBit, IsSpacePage};
 

@@ -1,3 +1,5 @@
+//! What a work set counts, and pages and page 0 as a change uses them.
+
 use super::*;
 use std::test::Fail;
 

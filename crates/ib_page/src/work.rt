@@ -1,3 +1,5 @@
+//! The pages that one change works on, in memory that is taken once.
+
 ghost use Rattle.std.specs.Prelude.{◌≡◌, ◌+◌, ◌<◌, ◌≤◌, ◌==◌, ℕ, [], length, Some, None, IsSome, IfSome, IfOk, IsTrue, ◌↔◌, MatchOption, if◌then◌else◌};
 ghost use Rattle.std.specs.Borrow.{sem};
 ghost use Rattle.ib_page.specs.Work.{Work, IsWork, room_of, changed_of, before_of, place_in, differences_of, pages_of};

@@ -1,3 +1,5 @@
+//! A log as a file: 64-bit numbers, the highest byte first.
+
 ghost use Rattle.std.specs.Prelude.{◌≡◌, ◌+◌, ◌*◌, ◌%◌, ℕ, List, None, true, length, IfOk, IfErr, OnOk, MatchResult};
 ghost use Rattle.ib_layout.specs.Geometry.{has_pages};
 ghost use Rattle.ib_logrec.specs.Grammar.{IsFault};

@@ -1,3 +1,5 @@
+//! What the words of a log make, entry by entry.
+
 ghost use Rattle.std.specs.Prelude.{◌≡◌, ◌+◌, ◌*◌, ◌^◌, ◌<◌, ◌≤◌, ℕ, [], ◌∷◌, ◌++◌, length, slice_index, slice_set, true, List, MatchResult, IfOk, OnOk, IfErr, All};
 ghost use Rattle.ib_map.specs.Map.{answer_of, effect_of, is_made};
 ghost use Rattle.ib_map.specs.declared.TheConstants.{PAGE_WORDS};

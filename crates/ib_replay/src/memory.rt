@@ -1,3 +1,5 @@
+//! The words of all pages while a log is replayed.
+
 ghost use Rattle.std.specs.Prelude.{◌≡◌, ◌*◌, ◌<◌, ◌≤◌, ℕ, All, length, slice_index, replicate, true, IfOk};
 ghost use Rattle.ib_map.specs.declared.TheConstants.{PAGE_WORDS};
 ghost use Rattle.ib_layout.specs.Geometry.{has_pages};

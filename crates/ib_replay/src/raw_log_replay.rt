@@ -1,3 +1,5 @@
+//! What the log in a file makes.
+
 ghost use Rattle.std.specs.Prelude.{◌≡◌, ◌⊎◌, ◌^◌, ◌<◌, ℕ, List, length, IfOk, IfErr, MatchResult};
 ghost use Rattle.ib_logrec.specs.declared.entry.Entry.{Entry};
 ghost use Rattle.ib_logrec.specs.declared.fault.LogFault.{LogFault as Fault};

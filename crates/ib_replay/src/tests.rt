@@ -1,3 +1,5 @@
+//! Worked logs, and the first fault of others.
+
 ghost use Rattle.std.specs.Prelude.{◌<◌, length};
 
 use crate::*;

@@ -1,3 +1,5 @@
+//! The bytes that a writer keeps back.
+
 ghost use Rattle.std.specs.Prelude.{◌≡◌, ◌↔◌, ◌<◌, ◌≤◌, ◌++◌, ◌∷◌, [], length, IsTrue};
 
 use std::marker::Model;

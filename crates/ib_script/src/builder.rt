@@ -1,3 +1,5 @@
+//! What the lines of a script have said so far, and what one more says behind them.
+
 ghost use Rattle.std.specs.Prelude.{ℕ, ◌≤◌, vec_len};
 ghost use Rattle.ib_script.specs.declared.script_line.TheConstants.{MOST_COMMANDS, MOST_SCANS, MOST_SCRIPT_SESSIONS};
 

@@ -1,3 +1,5 @@
+//! What a line of events says by itself.
+
 ghost use Rattle.std.specs.Prelude.{◌≡◌, ◌∷◌};
 ghost use Rattle.ib_script.specs.Events.{event_of, event_reading_of, event_reading_of_fields, event_word, latch_alone, latch_at_level, latch_in, latch_in_mode, level_in, mode_in, session_in, waiting_word};
 ghost use Rattle.ib_script.specs.Script.{fields_behind};

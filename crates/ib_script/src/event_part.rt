@@ -1,3 +1,5 @@
+//! The line of an event, its answer and its latch's word.
+
 ghost use Rattle.std.specs.Prelude.{◌++◌, codes, decimal};
 ghost use Rattle.std.specs.Fmt.{signed_decimal};
 ghost use Rattle.ib_script.specs.EventText.{answer_text, event_line, flag_text, level_text, mode_text, refusal_text, step_text};

@@ -1,3 +1,5 @@
+//! All events of an input, or its first bad line.
+
 ghost use Rattle.std.specs.Prelude.{◌≡◌, ◌≤◌, ◌-◌, ◌<◌, ◌^◌, ◌+◌, ℕ, None, Some, Ok, Err, [], ◌∷◌, ◌++◌, length, vec_len, IfOk, OnOk};
 ghost use Rattle.std.specs.List.{AllByRecursion};
 ghost use Rattle.ib_script.specs.Events.{IsInRange, TakesEvent, event_reading_of, event_readings_of, events_in, first_event_fault};

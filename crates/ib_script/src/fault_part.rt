@@ -1,3 +1,5 @@
+//! The line that tells a bad line.
+
 ghost use Rattle.std.specs.Prelude.{◌≡◌};
 ghost use Rattle.ib_script.specs.Faults.{AppendsAll, HasCause};
 ghost use Rattle.ib_script.specs.FaultText.{fault_text, kind_text};

@@ -1,3 +1,5 @@
+//! Lines of an input, and fields of a line.
+
 ghost use Rattle.std.specs.Prelude.{◌≡◌, ◌==◌, ◌<◌, ◌∷◌, [], length, position, MatchOption};
 ghost use Rattle.ib_script.specs.Lines.{lines_of, fields_of};
 

@@ -1,3 +1,5 @@
+//! The log as text.
+
 ghost use Rattle.std.specs.Prelude.{◌≡◌, ◌++◌, codes, decimal, flat_map};
 ghost use Rattle.ib_script.specs.Output.{change_text, log_line, log_text};
 ghost use Rattle.ib_script.specs.Writer.{Puts};

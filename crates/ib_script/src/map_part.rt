@@ -1,3 +1,5 @@
+//! The map as text.
+
 ghost use Rattle.std.specs.Prelude.{◌≡◌, ◌∷◌, [], flat_map};
 ghost use Rattle.ib_script.specs.Writer.{Puts};
 ghost use Rattle.ib_script.specs.Output.{map_line, map_text};

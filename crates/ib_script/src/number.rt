@@ -1,3 +1,5 @@
+//! Numbers as digits.
+
 ghost use Rattle.std.specs.Prelude.{◌≡◌, ◌≤◌, ◌+◌, ◌-◌, ◌*◌, ◌^◌, ◌⊎◌, false, true, IfSome, IfNone};
 ghost use Rattle.ib_script.specs.Numbers.{is_digit, is_headed, number_of};
 

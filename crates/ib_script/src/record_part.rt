@@ -1,3 +1,5 @@
+//! The line of a call and its reply.
+
 ghost use Rattle.ib_script.specs.Output.{call_text, reply_text, place_text, record_line};
 ghost use Rattle.ib_script.specs.Writer.{Puts};
 

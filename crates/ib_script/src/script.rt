@@ -1,3 +1,5 @@
+//! A script, or its first bad line.
+
 ghost use Rattle.std.specs.Prelude.{◌≡◌, ◌≤◌, ◌-◌, ◌<◌, ◌^◌, ℕ, None, Some, Ok, Err, [], length, slice_index_or, vec_len, IfOk};
 ghost use Rattle.ib_script.specs.Lists.{lists_of};
 ghost use Rattle.ib_script.specs.Script.{IsScript, IsSmall, first_fault, readings_of};

@@ -1,3 +1,5 @@
+//! What a line of a script says by itself.
+
 ghost use Rattle.std.specs.Prelude.{◌≡◌, ◌∷◌, IfOk, Ok};
 ghost use Rattle.ib_script.specs.Script.{IsInRange, fields_behind, geometry_of, is_scan, is_skipped, one_number, reading_of, reading_of_fields, session_line, space_line, two_numbers};
 ghost use Rattle.ib_script.specs.declared.script_line.ScriptLine.TheVariants.{Command};

@@ -1,3 +1,5 @@
+//! What a session was answered, as text.
+
 ghost use Rattle.std.specs.Prelude.{◌≡◌, flat_map, length};
 ghost use Rattle.ib_map.specs.Chunks.{spans_of};
 ghost use Rattle.ib_map.specs.FullRecords.{chunk_count, full_records, total_chunks};

@@ -1,3 +1,5 @@
+//! Where bytes go.
+
 ghost use Rattle.std.specs.Prelude.{◌<◌, ℕ, List, length, IfOk};
 ghost use Rattle.std.specs.declared.option.Option.{Option};
 ghost use Rattle.std.specs.Io.{WritesAtMost};

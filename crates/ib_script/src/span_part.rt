@@ -1,3 +1,5 @@
+//! The chunks of a scan as text.
+
 ghost use Rattle.std.specs.Prelude.{◌≡◌, ◌+◌, ◌≤◌, flat_map, length};
 ghost use Rattle.ib_map.specs.Chunks.{spans_of};
 ghost use Rattle.ib_script.specs.Output.{joined_spans, pair_line, span_text};
@@ -38,8 +40,8 @@ impl<'a, K: Sink> Writer<'a, K> {
         self.pair_lines(&pairs[first.start as usize..end]);
     }
 
-    /// The chunks of one scan: `from A to B at P`, and a line for each pair. Neighbouring chunks of one
-    /// place are printed as one.
+    // The chunks of one scan: `from A to B at P`, and a line for each pair. Neighbouring chunks of one
+    // place are printed as one.
     pub(crate) fn chunk_lines(&mut self, list: &[Chunk], pairs: &[(Key, u64)])
         requires { AreNeighbours list.now pairs.now }
         ensures puts { Puts K.written K.faults self.old self.new (flat_map span_text (joined_spans (spans_of list.now pairs.now))) }

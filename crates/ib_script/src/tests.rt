@@ -1,3 +1,5 @@
+//! Scripts read, and the first bad line of each kind.
+
 use crate::{LineKind, ScriptFault, read_script};
 use ib_map::Call;
 use std::alloc::Global;

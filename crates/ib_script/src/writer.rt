@@ -1,3 +1,5 @@
+//! The buffered writer through which all that is printed goes.
+
 ghost use Rattle.std.specs.Prelude.{◌≡◌, ◌<◌, ◌++◌, ◌∷◌, [], length, decimal};
 ghost use Rattle.ib_script.specs.Writer.{IsFinished, IsFresh, Puts, pending_of, sink_name};
 
@@ -14,6 +16,7 @@ pub struct Writer<'a, K> {
 }
 
 impl<'a, K: Sink> Writer<'a, K> {
+    /// A writer to this sink, with nothing waiting.
     pub fn new(sink: &'a mut K) -> Writer<'a, K>
         ensures same_reference { sink_name result ≡ sink.entry.ghost_name }
         ensures fresh { IsFresh sink.old result }
@@ -49,6 +52,7 @@ impl<'a, K: Sink> Writer<'a, K> {
         self.flush();
     }
 
+    /// One byte.
     pub fn byte(&mut self, byte: u8)
         ensures puts { Puts K.written K.faults self.old self.new (byte ∷ []) }
     {
@@ -56,6 +60,7 @@ impl<'a, K: Sink> Writer<'a, K> {
         self.buffer.push(byte);
     }
 
+    /// These bytes.
     pub fn text(&mut self, bytes: &[u8])
         ensures puts { Puts K.written K.faults self.old self.new bytes.now }
     {

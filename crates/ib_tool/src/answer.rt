@@ -1,3 +1,5 @@
+//! What the program answers to an input that was read.
+
 ghost use Rattle.std.specs.Prelude.{◌≡◌, ◌≤◌, length};
 ghost use Rattle.std.specs.List.{AllByRecursion};
 ghost use Rattle.ib_logrec.specs.Log.{map_of};

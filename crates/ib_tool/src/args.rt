@@ -1,3 +1,5 @@
+//! The words of the command line.
+
 use std::alloc::AllocError;
 use std::env;
 use std::io::ErrorKind;

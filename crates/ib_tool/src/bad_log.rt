@@ -1,3 +1,5 @@
+//! The line that tells why a raw log is refused.
+
 ghost use Rattle.std.specs.Prelude.{◌≡◌, ◌++◌, codes, decimal};
 ghost use Rattle.ib_script.specs.Faults.{AppendsAll, HasCause};
 ghost use Rattle.ib_script.specs.Writer.{IsFresh, Puts, sink_name, sink_of};

@@ -1,3 +1,5 @@
+//! The forms of the command line.
+
 ghost use Rattle.std.specs.Prelude.{◌≡◌, map, string_bytes};
 ghost use Rattle.ib_tool.specs.Words.{form_named, form_of};
 

@@ -1,3 +1,5 @@
+//! Events made on the latch machine, and what is printed of them.
+
 ghost use Rattle.std.specs.Prelude.{◌≡◌, ◌≤◌, ◌+◌, length};
 ghost use Rattle.std.specs.List.{AllByRecursion};
 ghost use Rattle.ib_script.specs.Events.{IsInRange};

@@ -1,3 +1,5 @@
+//! A sink that a test looks into.
+
 ghost use Rattle.std.specs.Prelude.{◌≡◌, ◌<◌, []};
 
 use ib_script::{Failed, Sink};

@@ -1,3 +1,5 @@
+//! A source that a test fills.
+
 ghost use Rattle.std.specs.Prelude.{◌≡◌, ◌<◌};
 
 use crate::source::Source;

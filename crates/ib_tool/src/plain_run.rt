@@ -1,3 +1,5 @@
+//! A session's calls, answered on the plain map.
+
 ghost use Rattle.std.specs.Prelude.{◌≡◌, ◌+◌, ◌<◌, ◌^◌, ◌∷◌, ◌++◌, [], OnOk, IfOk, length};
 ghost use Rattle.ib_map.specs.Map.{answer_of, effect_of, lookup_of};
 ghost use Rattle.ib_map.specs.History.{changes_of, map_with, IsLegalHistory};

@@ -1,3 +1,5 @@
+//! What is printed of a run: the sessions' parts, the log and the map.
+
 ghost use Rattle.std.specs.Prelude.{◌≡◌, ◌≤◌, length};
 ghost use Rattle.ib_script.specs.Faults.{AppendsAll, HasCause};
 ghost use Rattle.ib_script.specs.Output.{output_of, sessions_from};

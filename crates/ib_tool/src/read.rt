@@ -1,3 +1,5 @@
+//! An input, read to its end.
+
 ghost use Rattle.std.specs.Prelude.{◌≡◌, ◌≤◌, ◌+◌, vec_len, IfOk, IsErrOf};
 ghost use Rattle.ib_script.specs.Faults.{Rose};
 ghost use Rattle.ib_tool.specs.Input.{ConsumesAtMost, Reads};

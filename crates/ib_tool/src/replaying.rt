@@ -1,3 +1,5 @@
+//! What is printed of a log that was replayed.
+
 ghost use Rattle.std.specs.Prelude.{◌≡◌, flat_map};
 ghost use Rattle.ib_logrec.specs.Log.{history_of, map_of};
 ghost use Rattle.ib_script.specs.Faults.{AppendsAll, HasCause};

@@ -1,3 +1,5 @@
+//! All sessions of a script, answered in turn.
+
 ghost use Rattle.std.specs.Prelude.{IfOk};
 ghost use Rattle.ib_script.specs.Script.{IsSmall};
 ghost use Rattle.ib_tool.specs.PlainRun.{IsPlainRun};

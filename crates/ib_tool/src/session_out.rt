@@ -1,3 +1,5 @@
+//! What a session was answered, as it is kept until it is printed.
+
 ghost use Rattle.std.specs.Prelude.{◌≡◌, ◌<◌, ◌^◌, ◌∷◌, ◌++◌, [], OnOk, length};
 ghost use Rattle.ib_map.specs.Replies.{full_record};
 ghost use Rattle.ib_map.specs.FullRecords.{chunk_count, full_records, total_chunks};

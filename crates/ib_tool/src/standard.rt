@@ -1,3 +1,5 @@
+//! The system's streams as a source and a sink.
+
 ghost use Rattle.std.specs.Prelude.{◌≡◌, None};
 
 use crate::source::Source;
@@ -12,6 +14,7 @@ pub struct StdSource {
 }
 
 impl StdSource {
+    /// Over this stream, with no fault so far.
     pub fn new(stdin: Stdin) -> StdSource
         ensures { ⟦<StdSource as Source>⟧.faults result ≡ 0 }
     {
@@ -43,6 +46,7 @@ pub struct StdSink {
 }
 
 impl StdSink {
+    /// Over this stream, with no fault so far.
     pub fn new(stdout: Stdout) -> StdSink
         ensures { ⟦<StdSink as Sink>⟧.faults result ≡ 0 }
     {

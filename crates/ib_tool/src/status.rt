@@ -1,3 +1,5 @@
+//! How the program ends, as its exit status.
+
 ghost use Rattle.std.specs.Prelude.{◌≡◌};
 ghost use Rattle.ib_tool.specs.Status.{number_of};
 

@@ -1,3 +1,5 @@
+//! The program between a source and a sink in memory.
+
 use super::*;
 use std::alloc::Global;
 use std::process::Abort;

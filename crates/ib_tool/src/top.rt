@@ -1,3 +1,5 @@
+//! The public call `top`: the program, from the bytes that it reads to the bytes that it writes.
+
 ghost use Rattle.std.specs.Prelude.{◌≡◌, Some, map, string_bytes, IfSome};
 ghost use Rattle.ib_script.specs.Faults.{Rose};
 ghost use Rattle.ib_tool.specs.Answers.{IsOwedAt, IsSilent, IsSilentAt, IsValid, Owes};

@@ -1,3 +1,5 @@
+//! `latch`: worked events with their answers, and bad lines.
+
 use super::*;
 
 // `latch` answers each of these events, given with its answer and the latch's word afterwards.

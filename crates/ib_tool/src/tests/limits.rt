@@ -1,3 +1,5 @@
+//! The limits of an input, at each and just past it.
+
 use super::*;
 
 // The line, so many times.

@@ -1,3 +1,5 @@
+//! Bad lines of scripts, and which of two causes is told.
+
 use super::*;
 
 // The text is refused at this line, for this reason.

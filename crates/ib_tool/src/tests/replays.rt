@@ -1,3 +1,5 @@
+//! `replay`: worked logs, each fault, and which of two is told.
+
 ghost use Rattle.std.specs.Prelude.{◌<◌};
 
 use super::*;

@@ -1,3 +1,5 @@
+//! `run`: worked scripts with all that they print.
+
 use super::*;
 
 #[test]

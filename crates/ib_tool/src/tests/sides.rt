@@ -1,3 +1,5 @@
+//! Words that are no form, and each read and each write failing.
+
 ghost use Rattle.std.specs.Prelude.{◌≡◌, ◌<◌};
 
 use super::*;
