@@ -19,6 +19,6 @@ mod waits;
 
 pub use event::{Answer, Event, Refusal};
 pub use laws::law;
-pub use machine::{Core, MOST_LATCHES, MOST_SESSIONS, MOST_STEPS};
+pub use machine::{Core, MOST_LATCHES, MOST_SESSIONS, MOST_STEPS, OutOfMemory};
 pub use phase::Phase;
 pub use session::{Marks, Session};

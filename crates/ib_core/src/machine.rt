@@ -25,6 +25,9 @@ pub const MOST_LATCHES: u32 = MOST_PAGES + 2;
 /// The most steps of a machine. The words and generations that they reach fit their numbers.
 pub const MOST_STEPS: u32 = (1 << 28) - 1;
 
+/// Want of memory.
+pub type OutOfMemory = AllocError;
+
 /// The latch machine of one thread: latches and sessions as plain data. Sessions are numbered
 /// from 1, latches from 0. Contracts see it as its state and the number of steps made.
 #[derive(Drop)]
@@ -76,7 +79,7 @@ fn idle_members(alloc: Global, sessions: u32, latches: u32) -> Result<Vec<Member
 impl Core {
     /// The machine with this many sessions and latches: all latches free, no steps made. Each
     /// session's list has room for each latch.
-    pub fn new(alloc: Global, sessions: u32, latches: u32) -> Result<Core, AllocError>
+    pub fn new(alloc: Global, sessions: u32, latches: u32) -> Result<Core, OutOfMemory>
         requires sessions { (1 ≤ sessions) × (sessions ≤ MOST_SESSIONS) }
         requires latches { (1 ≤ latches) × (latches ≤ MOST_LATCHES) }
         ensures opens { IfOk result (λ core. core

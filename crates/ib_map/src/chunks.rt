@@ -8,6 +8,9 @@ use crate::key::Key;
 use std::alloc::{AllocError, Global};
 use std::marker::Model;
 
+/// Want of memory.
+pub type OutOfMemory = AllocError;
+
 /// A chunk of a scan: what was there from `low` to `high` at one place. Its pairs are the `len` pairs
 /// from `start` on, in the list of pairs beside it.
 #[derive(Clone, Copy, Debug, PartialEq, Eq)]
@@ -57,7 +60,7 @@ const TOO_MANY: usize = 1 << 32;
 impl Chunks {
     /// No chunks, with room for this many chunks and pairs. 2^32 places or more of either kind are
     /// answered as want of memory.
-    pub fn with_room(alloc: Global, chunks: usize, pairs: usize) -> Result<Self, AllocError>
+    pub fn with_room(alloc: Global, chunks: usize, pairs: usize) -> Result<Self, OutOfMemory>
         ensures empty { IfOk result (λ held. held
             ≡ record { list = []; pairs = []; chunk_room = chunks; pair_room = pairs }) }
         ensures too_many_chunks { 2 ^ 32 ≤ chunks → IsErr result }
@@ -103,7 +106,7 @@ impl Chunks {
 
     /// Makes room for this many chunks and pairs, where less was spare. 2^32 places or more of either
     /// kind, held and spare together, are answered as want of memory.
-    pub fn reserve(&mut self, chunks: usize, pairs: usize) -> Result<(), AllocError>
+    pub fn reserve(&mut self, chunks: usize, pairs: usize) -> Result<(), OutOfMemory>
         ensures reserved { OnOk result (self.new ≡ record self.old {
           chunk_room = max self.old.chunk_room chunks;
           pair_room = max self.old.pair_room pairs;

@@ -7,7 +7,7 @@ mod key;
 mod plain;
 
 pub use call::{Call, Change, LoggedChange, Record, Reply};
-pub use chunks::{Chunk, Chunks};
+pub use chunks::{Chunk, Chunks, OutOfMemory};
 pub use key::{GREATEST, Key, LEAST, after, is_below, is_same, key_law};
 pub use plain::{MapFault, PlainMap};
 

@@ -7,7 +7,8 @@ ghost use Rattle.ib_page.specs.Writes.{AreImages};
 ghost use Rattle.ib_page.specs.Lending.{LendsChanged};
 
 use crate::image::Image;
-use std::alloc::{AllocError, Global};
+use ib_map::OutOfMemory;
+use std::alloc::Global;
 use std::marker::Model;
 
 /// The most pages that a work set has.
@@ -49,7 +50,7 @@ impl Model for WorkSet {
 
 impl WorkSet {
     /// An empty work set, with all the memory that it will ever have.
-    pub fn with_room(alloc: Global) -> Result<WorkSet, AllocError>
+    pub fn with_room(alloc: Global) -> Result<WorkSet, OutOfMemory>
         ensures { IfOk result (λ w. (w.order ≡ []) × IsWork w) }
     {
         let order = Vec::with_capacity(alloc, MOST_WORK_PAGES)?;
