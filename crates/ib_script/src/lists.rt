@@ -1,6 +1,5 @@
 //! The commands of each session, in a list of lists.
 
-// Lists of commands, one for each session.
 ghost use Rattle.std.specs.Prelude.{◌≡◌, ◌≤◌, max, vec_len, OnOk};
 ghost use Rattle.ib_script.specs.Lists.{lists_of, with_command, with_sessions};
 

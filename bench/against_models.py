@@ -1,0 +1,522 @@
+#!/usr/bin/env python3
+"""Compares the program with small models of its forms, on random inputs, good ones and bad ones.
+
+The models stand apart from the definitions: scripts on a dictionary, events on latches that keep who holds them, logs
+by their table. The proofs say that the program answers as the definitions do; this tries whether they say what was
+meant. Words: how many inputs of each form (2,000 if none), and a seed (57). The first difference is printed, with the
+input in a file, and the status is then 1.
+"""
+
+import os
+import random
+import subprocess
+import sys
+import tempfile
+
+TOP = os.path.dirname(os.path.dirname(os.path.abspath(__file__)))
+WRAPPER = os.path.join(TOP, "ib_tool")
+PROGRAM = os.path.join(TOP, "crates", "ib_tool", "out", "ib_tool")
+
+GREATEST = 2**64 - 1
+FULL = 0x2000_0000
+HALF = 0x1000_0000
+
+
+class Bad(Exception):
+    """Why a line is bad."""
+
+
+def number(field):
+    """The number that a field spells."""
+    digits = field.isdigit() and field.isascii() and (field == b"0" or not field.startswith(b"0"))
+    if not digits or int(field) > GREATEST:
+        raise Bad("number")
+    return int(field)
+
+
+def lines(data):
+    """The lines that are not skipped, with their numbers."""
+    for count, line in enumerate(data.split(b"\n"), 1):
+        if line and not line.startswith(b"#"):
+            yield count, line
+
+
+def refused(line, kind):
+    return 2, f"script: line {line}: {kind}\n"
+
+
+# Scripts.
+
+FIELDS = {b"insert": 2, b"delete": 1, b"get": 1, b"scan": 2, b"session": 1, b"space": 2}
+
+
+def script_line(line, is_first):
+    word, *fields = line.split(b" ")
+    if word not in FIELDS:
+        raise Bad("word")
+    if len(fields) != FIELDS[word]:
+        raise Bad("fields")
+    values = [number(field) for field in fields]
+    if word == b"session" and not 1 <= values[0] <= 64:
+        raise Bad("session")
+    if word == b"space" and not (is_first and 16 <= values[0] <= 4096 and 8196 <= values[1] <= 16777216):
+        raise Bad("space")
+    return word.decode(), values
+
+
+def answered(pairs, log, made, session, word, values):
+    """A command's line, and what the command makes of the map and the log."""
+    place = len(log)
+    key = values[0]
+    asked = f"{word} {' '.join(map(str, values))} -> "
+    if word == "get":
+        return f"{asked}{pairs.get(key, 'none')} at {place}\n"
+    if word == "scan":
+        low, high = values
+        found = sorted(k for k in pairs if low <= k <= high)
+        head = f"from {low} to {high} at {place}\n" if low <= high else ""
+        return f"{asked}{len(found)} pairs\n{head}" + "".join(f"pair {k} {pairs[k]}\n" for k in found)
+    if word == "insert":
+        reply = "duplicate" if key in pairs else "inserted"
+    else:
+        reply = f"deleted {pairs[key]}" if key in pairs else "missing"
+    if reply not in ("duplicate", "missing"):
+        made[session] = made.get(session, 0) + 1
+        log.append(f"{session} {made[session]} {word} {' '.join(map(str, values))}\n")
+        if word == "insert":
+            pairs[key] = values[1]
+        else:
+            del pairs[key]
+    return f"{asked}{reply} at {place}\n"
+
+
+def log_and_map(log, pairs):
+    shown = "".join(f"{key} {pairs[key]}\n" for key in sorted(pairs))
+    return f"log {len(log)}\n{''.join(log)}map {len(pairs)}\n{shown}"
+
+
+def run(data):
+    sessions, now, is_first = {}, 1, True
+    for count, line in lines(data):
+        try:
+            word, values = script_line(line, is_first)
+        except Bad as why:
+            return refused(count, why)
+        is_first = False
+        if word == "session":
+            now = values[0]
+        elif word != "space":
+            sessions.setdefault(now, []).append((word, values))
+    pairs, log, made, text = {}, [], {}, ""
+    for session in sorted(sessions):
+        text += f"session {session}\n"
+        for word, values in sessions[session]:
+            text += answered(pairs, log, made, session, word, values)
+    return 0, text + log_and_map(log, pairs)
+
+
+# Events.
+
+TAKES = ("s", "sx", "x")
+PLAIN = ("us", "usx", "ux", "flag", "again", "sleep", "quit", "ready", "exarm", "look", "clear", "raise")
+
+
+def event_line(line):
+    fields = line.split(b" ")
+    if len(fields) < 2:
+        raise Bad("fields")
+    session = number(fields[0])
+    if not 1 <= session <= 64:
+        raise Bad("session")
+    word = fields[1].decode("latin-1")
+    rest = fields[2:]
+    if word not in TAKES and word not in PLAIN and word != "arm":
+        raise Bad("word")
+    if len(rest) != (2 if word in TAKES else 3 if word == "arm" else 1):
+        raise Bad("fields")
+    latch, mode, level = number(rest[0]), None, None
+    if latch > 15:
+        raise Bad("latch")
+    if word == "arm":
+        mode = rest[1].decode("latin-1")
+        if mode not in TAKES:
+            raise Bad("word")
+    if word in TAKES or word == "arm":
+        level = number(rest[-1])
+        if not 1 <= level <= 5:
+            raise Bad("level")
+    return session, word, latch, mode, level
+
+
+class Latch:
+    """Who holds a latch, and its marks."""
+
+    def __init__(self):
+        self.held = {}
+        self.waiters, self.generation, self.ex_generation = 0, 0, 0
+
+    def of(self, session):
+        return self.held.get(session, {"s": 0, "sx": 0, "x": 0})
+
+    def word(self):
+        word = FULL
+        for counts in self.held.values():
+            word -= counts["s"] + (HALF if counts["sx"] else 0)
+            word -= 0 if not counts["x"] else FULL if counts["x"] == 1 else 2 * FULL + counts["x"] - 2
+        return word
+
+    def add(self, session, mode, count):
+        counts = self.held.setdefault(session, {"s": 0, "sx": 0, "x": 0})
+        counts[mode] += count
+        if not any(counts.values()):
+            del self.held[session]
+
+    def is_owned(self):
+        """Whether a grant of SX or X is there, or a next writer."""
+        return any(counts["sx"] or counts["x"] for counts in self.held.values())
+
+    def is_read_beside(self, session):
+        return any(counts["s"] for other, counts in self.held.items() if other != session)
+
+
+class Session:
+    def __init__(self):
+        self.levels = {}
+        self.phase = ("free",)
+
+
+BELONGS = {
+    "free": TAKES + ("us", "usx", "ux", "arm"),
+    "armed": ("flag", "quit"),
+    "flagged": ("again", "quit"),
+    "checked": ("sleep", "quit"),
+    "asleep": ("sleep",),
+    "next": ("ready", "exarm"),
+    "next armed": ("ready",),
+    "next checked": ("sleep",),
+    "next asleep": ("sleep",),
+    "owes look": ("look",),
+    "owes clear": ("clear",),
+    "owes raise": ("raise",),
+    "owes raise ex": ("raise",),
+}
+
+
+class Machine:
+    def __init__(self):
+        self.latches = [Latch() for _ in range(16)]
+        self.sessions = [Session() for _ in range(65)]
+
+    def step(self, who, word, at, mode, level):
+        session, latch = self.sessions[who], self.latches[at]
+        name = session.phase[0]
+        if word not in BELONGS[name] or (name != "free" and session.phase[1] != at):
+            return "refused out of turn"
+        if word in TAKES or word == "arm":
+            return self.wish(who, word, at, mode, level)
+        if word in ("us", "usx", "ux"):
+            return self.give(who, word[1:], at)
+        if word in ("flag", "again", "quit") or name in ("checked", "asleep"):
+            return self.wait(who, word, at)
+        if name.startswith("next"):
+            return self.next(who, word, at)
+        return self.owe(session, latch, at)
+
+    def wish(self, who, word, at, mode, level):
+        session, mine = self.sessions[who], self.latches[at].of(who)
+        wanted = mode if word == "arm" else word
+        if mine["s"] or ((word == "arm" or wanted == "s") and (mine["sx"] or mine["x"])):
+            return "refused held already"
+        if at not in session.levels:
+            for held in session.levels.values():
+                if not (level < held or level == held and level in (2, 4)):
+                    return f"refused against {held} {level}"
+        if word == "arm":
+            generation = self.latches[at].generation
+            session.phase = ("armed", at, mode, level, generation)
+            return f"armed {generation}"
+        return self.take(who, wanted, at, level)
+
+    def take(self, who, mode, at, level):
+        """Granted, reserved or busy, by who else is there."""
+        session, latch = self.sessions[who], self.latches[at]
+        mine = latch.of(who)
+        owner = mine["sx"] or mine["x"]
+        if mode == "s":
+            may = not any(counts["x"] for counts in latch.held.values())
+        else:
+            may = owner or not latch.is_owned()
+        if not may:
+            return f"busy {latch.word()}"
+        had = mine["x"]
+        latch.add(who, mode, 1)
+        session.levels.setdefault(at, level)
+        if mode == "x" and not had and latch.is_read_beside(who):
+            session.phase = ("next", at)
+            return "reserved"
+        session.phase = ("free",)
+        return "granted"
+
+    def give(self, who, mode, at):
+        session, latch = self.sessions[who], self.latches[at]
+        mine = latch.of(who)
+        if not mine[mode]:
+            return "refused not held"
+        latch.add(who, mode, -1)
+        left = latch.of(who)
+        if not any(left.values()):
+            del session.levels[at]
+        if mode == "s":
+            waits = any(counts["x"] for counts in latch.held.values())
+            if waits and not any(counts["s"] for counts in latch.held.values()):
+                session.phase = ("owes raise ex", at)
+        elif not left["x"] and (mode == "x" or not left["sx"]):
+            session.phase = ("owes look", at)
+        return "released"
+
+    def wait(self, who, word, at):
+        session, latch = self.sessions[who], self.latches[at]
+        rest = session.phase[1:]
+        if word == "quit":
+            session.phase = ("free",)
+            return "quit"
+        if word == "flag":
+            latch.waiters = 1
+            session.phase = ("flagged", *rest)
+            return "flagged"
+        if word == "again":
+            answer = self.take(who, rest[1], at, rest[2])
+            if answer.startswith("busy"):
+                session.phase = ("checked", *rest)
+            return answer
+        return self.sleep(session, latch.generation, ("asleep", *rest), ("free",))
+
+    def sleep(self, session, now, asleep, awake):
+        if now == session.phase[-1]:
+            session.phase = asleep
+            return f"asleep {now}"
+        session.phase = awake
+        return f"awake {now}"
+
+    def next(self, who, word, at):
+        session, latch = self.sessions[who], self.latches[at]
+        if word == "exarm":
+            session.phase = ("next armed", at, latch.ex_generation)
+            return f"armed {latch.ex_generation}"
+        if word == "sleep":
+            asleep = ("next asleep", at, session.phase[-1])
+            return self.sleep(session, latch.ex_generation, asleep, ("next", at))
+        if not latch.is_read_beside(who):
+            session.phase = ("free",)
+            return "granted"
+        if session.phase[0] == "next armed":
+            session.phase = ("next checked", *session.phase[1:])
+        return f"not ready {latch.word()}"
+
+    def owe(self, session, latch, at):
+        name = session.phase[0]
+        session.phase = ("free",)
+        if name == "owes look":
+            if latch.waiters:
+                session.phase = ("owes clear", at)
+            return f"waiters {latch.waiters}"
+        if name == "owes clear":
+            was, latch.waiters = latch.waiters, 0
+            if was:
+                session.phase = ("owes raise", at)
+            return f"cleared {was}"
+        if name == "owes raise":
+            latch.generation += 1
+            return f"signalled {latch.generation}"
+        latch.ex_generation += 1
+        return f"signalled {latch.ex_generation}"
+
+
+def latch(data):
+    events = []
+    for count, line in lines(data):
+        try:
+            events.append((line, event_line(line)))
+        except Bad as why:
+            return refused(count, why)
+    machine, text = Machine(), ""
+    for line, event in events:
+        answer = machine.step(*event)
+        text += f"{line.decode()} -> {answer}, word {machine.latches[event[2]].word()}\n"
+    return 0, text
+
+
+# Logs.
+
+
+def entry_fault(words, at, pages):
+    """The first fault of the entry that begins at a word, or none and how many words it has."""
+    here = words[at : at + 4]
+    if len(here) < 4:
+        return f"short at {at}", 0
+    head, count, _, value = here
+    session, flags, writes = head >> 32, head >> 16 & 0xFFFF, head & 0xFFFF
+    if not 1 <= session <= 1024 or flags not in (1, 2, 5, 6) or not 1 <= writes <= 4096:
+        return f"head at {at} word {head}", 0
+    if not 1 <= count < 2**32:
+        return f"head at {at} word {count}", 0
+    if flags in (2, 6) and value:
+        return f"head at {at} word {value}", 0
+    if len(words) - at - 4 < 2 * writes:
+        return f"short at {at}", 0
+    places = words[at + 4 : at + 4 + 2 * writes : 2]
+    for place, before in zip(places, [-1] + places):
+        if place >= pages * 128:
+            return f"outside at {at} word {place}", 0
+        if place <= before:
+            return f"write at {at} word {place}", 0
+    if (flags in (5, 6)) != (len({place // 128 for place in places}) > 1):
+        return f"head at {at} word {head}", 0
+    return None, 4 + 2 * writes
+
+
+def replay(data):
+    if len(data) % 8:
+        return 7, f"bad log: odd length {len(data)}\n"
+    words = [int.from_bytes(data[i : i + 8], "big") for i in range(0, len(data), 8)]
+    if len(words) < 2:
+        return 7, "bad log: short at 0\n"
+    if words[0] != int.from_bytes(b"IBLOG570", "big"):
+        return 7, f"bad log: file at 0 word {words[0]}\n"
+    if not 16 <= words[1] <= 4096:
+        return 7, f"bad log: file at 1 word {words[1]}\n"
+    pages, words, at = words[1], words[2:], 0
+    pairs, log, made = {}, [], {}
+    while at < len(words):
+        fault, length = entry_fault(words, at, pages)
+        if fault:
+            return 7, f"bad log: {fault}\n"
+        head, count, key, value = words[at : at + 4]
+        session, flags = head >> 32, head >> 16 & 0xFFFF
+        inserts = flags in (1, 5)
+        if count != made.get(session, 0) + 1:
+            return 7, f"bad log: unlawful at {at} number\n"
+        if inserts == (key in pairs):
+            return 7, f"bad log: unlawful at {at} change\n"
+        made[session] = count
+        if inserts:
+            pairs[key] = value
+            log.append(f"{session} {count} insert {key} {value}\n")
+        else:
+            del pairs[key]
+            log.append(f"{session} {count} delete {key}\n")
+        at += length
+    return 0, log_and_map(log, pairs)
+
+
+# Random inputs.
+
+
+def a_number(dice, small):
+    return dice.choice([dice.randrange(small), dice.randrange(small), dice.randrange(small), dice.choice([0, GREATEST, 2**63, 2**32])])
+
+
+def spoiled(dice, text):
+    """The text with one byte put in, taken out or changed."""
+    if not text:
+        return text
+    at, how = dice.randrange(len(text)), dice.randrange(3)
+    byte = bytes([dice.choice(b" 0123456789\n#\r\tabsxug-+\xff")])
+    return text[:at] + (byte if how else b"") + text[at + (how != 1) :]
+
+
+def some_script(dice):
+    small, text = dice.choice([4, 30, 1000]), []
+    if not dice.randrange(4):
+        text.append(f"space {dice.choice([16, 64, 4096, 15])} {dice.choice([8196, 16384, 16777216, 16777217])}")
+    for _ in range(dice.choice([0, 1, 5, 40, 200])):
+        kind, key = dice.randrange(14), a_number(dice, small)
+        text.append(
+            f"insert {key} {a_number(dice, 1000)}" if kind < 5
+            else f"delete {key}" if kind < 8
+            else f"get {key}" if kind < 10
+            else f"scan {key} {a_number(dice, small)}" if kind < 12
+            else f"session {dice.choice([1, 2, 3, 64, dice.randrange(1, 65)])}" if kind < 13
+            else dice.choice(["", "# a comment", "#"])
+        )
+    script = "\n".join(text).encode() + dice.choice([b"", b"\n", b"\n\n"])
+    return script if dice.randrange(3) else spoiled(dice, script)
+
+
+def some_events(dice):
+    """Events that mostly follow the phases, on few latches, so that sessions meet."""
+    machine, text = Machine(), []
+    sessions, latches = dice.choice([2, 3, 5, 64]), dice.choice([1, 2, 3, 16])
+    for _ in range(dice.choice([0, 5, 40, 400])):
+        who = dice.randrange(1, sessions + 1)
+        phase = machine.sessions[who].phase
+        at = phase[1] if len(phase) > 1 else dice.randrange(latches)
+        word = dice.choice(BELONGS[phase[0]])
+        if not dice.randrange(12):
+            word, at = dice.choice(TAKES + PLAIN + ("arm",)), dice.randrange(latches)
+        mode = dice.choice(TAKES) if word == "arm" else None
+        level = dice.choice([1 + (15 - at) % 5, dice.randrange(1, 6)]) if word in TAKES or word == "arm" else None
+        machine.step(who, word, at, mode, level)
+        text.append(" ".join(str(field) for field in (who, word, at, mode, level) if field is not None))
+    events = "\n".join(text).encode() + dice.choice([b"", b"\n"])
+    return events if dice.randrange(3) else spoiled(dice, events)
+
+
+def some_log(dice):
+    pages = dice.choice([16, 17, 4096])
+    pairs, made = {}, {}
+    words = [int.from_bytes(b"IBLOG570", "big"), pages]
+    for _ in range(dice.choice([0, 1, 3, 20])):
+        session, key, value = dice.choice([1, 2, 1024]), a_number(dice, 12), a_number(dice, 1000)
+        inserts = key not in pairs
+        made[session] = made.get(session, 0) + 1
+        if inserts:
+            pairs[key] = value
+        else:
+            del pairs[key]
+        page = dice.randrange(pages)
+        among = range(page * 128, page * 128 + 128) if dice.randrange(3) else range(pages * 128)
+        places = sorted(dice.sample(among, dice.choice([1, 2, 8])))
+        flags = (1 if inserts else 2) + (4 if len({place // 128 for place in places}) > 1 else 0)
+        words += [session << 32 | flags << 16 | len(places), made[session], key, value if inserts else 0]
+        for place in places:
+            words += [place, a_number(dice, 1000)]
+    for _ in range(dice.choice([0, 0, 1, 2])):
+        at = dice.randrange(len(words))
+        words[at] = dice.choice([0, 1, words[at] + 1, words[at] ^ 1 << dice.randrange(64), words[dice.randrange(len(words))], GREATEST]) & GREATEST
+    data = b"".join(word.to_bytes(8, "big") for word in words)
+    return data[: dice.randrange(len(data) + 1)] if not dice.randrange(5) else data
+
+
+def compare(form, model, make, dice, count):
+    """How many inputs were answered and how many refused; ends at the first that the two answer otherwise."""
+    refusals = 0
+    for _ in range(count):
+        data = make(dice)
+        status, text = model(data)
+        ran = subprocess.run([PROGRAM, form], input=data, stdout=subprocess.PIPE)
+        if (ran.returncode, ran.stdout) != (status, text.encode()):
+            with tempfile.NamedTemporaryFile(prefix="input-", delete=False) as file:
+                file.write(data)
+            print(f"{form} < {file.name}: the program ends with {ran.returncode}, the model with {status}")
+            for ours, theirs in zip(ran.stdout.decode().split("\n"), text.split("\n")):
+                if ours != theirs:
+                    print(f"the program prints {ours!r}\nthe model prints {theirs!r}")
+                    break
+            sys.exit(1)
+        refusals += status != 0
+    print(f"{form}: {count} inputs, {refusals} of them refused: the same")
+
+
+def main():
+    count = int(sys.argv[1]) if len(sys.argv) > 1 else 2000
+    dice = random.Random(int(sys.argv[2]) if len(sys.argv) > 2 else 57)
+    subprocess.run([WRAPPER, "run"], stdin=subprocess.DEVNULL, stdout=subprocess.DEVNULL, check=True)
+    compare("run", run, some_script, dice, count)
+    compare("latch", latch, some_events, dice, count)
+    compare("replay", replay, some_log, dice, count)
+    return 0
+
+
+if __name__ == "__main__":
+    sys.exit(main())
