@@ -2,7 +2,7 @@
 
 ghost use Rattle.std.specs.Prelude.{◌≡◌, ◌+◌, ◌<◌, ℕ};
 ghost use Rattle.ib_layout.specs.Geometry.{Sizes};
-ghost use Rattle.ib_layout.specs.Places.{end_place, lock_place, latches_of, page_place, log_place, words_of};
+ghost use Rattle.ib_layout.specs.Places.{drawn_place, end_place, lock_place, latches_of, page_place, log_place, words_of};
 
 use ib_map::PAGE_WORDS;
 
@@ -17,13 +17,18 @@ pub fn place_law()
     ensures log { (sizes : Sizes) (word other : ℕ)
         → log_place sizes word ≡ log_place sizes other → word ≡ other }
     // The first two words, the latches, the pages, the log: they stand in this order.
+    ensures first { drawn_place < end_place }
     ensures latches_behind_first { (latch i : ℕ) → end_place < lock_place latch + i }
     ensures pages_behind_latches { (sizes : Sizes) (latch i page index : ℕ)
         → latch < latches_of sizes → i < 5 → lock_place latch + i < page_place sizes page index }
     ensures log_behind_pages { (sizes : Sizes) (page index word : ℕ)
         → page < sizes.pages → index < PAGE_WORDS
         → page_place sizes page index < log_place sizes word }
-    // The log ends where the table does.
-    ensures in_range { (sizes : Sizes) (word : ℕ) → word < sizes.log_words
+    // Each lies within the table.
+    ensures latch_in_range { (sizes : Sizes) (latch i : ℕ) → latch < latches_of sizes → i < 5
+        → lock_place latch + i < words_of sizes }
+    ensures page_in_range { (sizes : Sizes) (page index : ℕ) → page < sizes.pages
+        → index < PAGE_WORDS → page_place sizes page index < words_of sizes }
+    ensures log_in_range { (sizes : Sizes) (word : ℕ) → word < sizes.log_words
         → log_place sizes word < words_of sizes }
 {}

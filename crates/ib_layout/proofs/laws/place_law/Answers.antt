@@ -1,5 +1,5 @@
 -- The law of places, clause by clause.
-use Rattle.ib_layout.proofs.PlaceLaws.{latch_words_apart, page_words_apart, log_words_apart, latch_word_behind_first, latch_word_before_pages, page_word_before_log, log_word-lt_words}
+use Rattle.ib_layout.proofs.PlaceLaws.{latch_words_apart, page_words_apart, log_words_apart, latch_word_behind_first, latch_word_before_pages, page_word_before_log, latch_word-lt_words, page_word-lt_words, log_word-lt_words}
 use Rattle.ib_layout.proofs.laws.place_law.Goals as goal
 
 pub returns-clause-latches : goal.returns-clause-latches
@@ -20,5 +20,11 @@ returns-clause-pages_behind_latches c sizes latch i page index lt lt_word = latc
 pub returns-clause-log_behind_pages : goal.returns-clause-log_behind_pages
 returns-clause-log_behind_pages c sizes page index word lt lt_word = page_word_before_log sizes page index word lt lt_word
 
-pub returns-clause-in_range : goal.returns-clause-in_range
-returns-clause-in_range c sizes word lt = log_word-lt_words sizes word lt
+pub returns-clause-latch_in_range : goal.returns-clause-latch_in_range
+returns-clause-latch_in_range c sizes latch i lt lt_word = latch_word-lt_words sizes latch i lt lt_word
+
+pub returns-clause-page_in_range : goal.returns-clause-page_in_range
+returns-clause-page_in_range c sizes page index lt lt_word = page_word-lt_words sizes page index lt lt_word
+
+pub returns-clause-log_in_range : goal.returns-clause-log_in_range
+returns-clause-log_in_range c sizes word lt = log_word-lt_words sizes word lt
