@@ -1,5 +1,5 @@
 -- Each event, in each phase, leads from a good state to a good state.
-use Rattle.std.proofs.Common.{◌≡◌, ◌≢◌, ℕ, ◌<◌, ◌≤◌, inl, Bool, true, false, not, cond, List, set, length, refl, sym, ap, subst, arith}
+use Rattle.std.proofs.Common.{◌≡◌, ◌≢◌, ℕ, ◌<◌, inl, Bool, true, false, not, cond, List, set, refl, sym, ap, subst, arith}
 use Rattle.std.specs.Prelude.{◌==◌, if◌then◌else◌}
 use mathlib.Core.Logic.{dite}
 use native.Mathlib.Decide.{ℕ_discrete}
@@ -16,11 +16,11 @@ use Rattle.ib_core.specs.declared.event.Event.{Event}
 use Rattle.ib_core.specs.declared.event.Event.TheVariants.{S, Sx, X, Us, Usx, Ux, Arm, Flag, Again, Quit, Sleep, Ready, Exarm, Look, Clear, Raise}
 use Rattle.ib_core.specs.declared.session.Session.{Session}
 use Rattle.ib_core.specs.declared.session.Marks.{Marks}
-use Rattle.ib_core.specs.Sessions.{Stands, word_on, all_taken, claims, x_grants, sx_grants, readers_of}
+use Rattle.ib_core.specs.Sessions.{Stands, word_on, all_taken, claims, x_grants, sx_grants, readers_of, HasFewReaders}
 use Rattle.ib_core.specs.declared.event.Refusal.TheVariants.{OutOfTurn}
-use Rattle.ib_core.specs.Grants.{is_given_at}
-use Rattle.ib_core.specs.Replies.{Reply, refused, latch_of, is_elsewhere}
-use Rattle.ib_core.specs.Table.{owns_x_at, readying, free_row, armed_row, flagged_row, checked_row, asleep_row, next_row, next_armed_row, next_waits_row, owes_look_row, owes_clear_row, owes_raise_row, row_of, reply_of, flag_marks, clear_marks, raised_by, marks_by, marks_after}
+use Rattle.ib_core.specs.Takings.{is_given_at}
+use Rattle.ib_core.specs.Responses.{Response, refused, latch_of, is_elsewhere}
+use Rattle.ib_core.specs.Table.{owns_x_at, readying, free_row, armed_row, flagged_row, checked_row, asleep_row, next_row, next_armed_row, next_waits_row, owes_look_row, owes_clear_row, owes_raise_row, row_of, response_of, flag_marks, clear_marks, raised_by, marks_by, marks_after}
 use Rattle.ib_core.specs.Good.{IsGood, MustWait, MustDrain}
 use Rattle.ib_core.proofs.Quiet.{at_itself}
 use Rattle.ib_core.proofs.OnLatch.{counted}
@@ -39,7 +39,7 @@ same_marks m m' l here away = λ j k. sym (at k) j
     at : (k : ℕ) → m' k ≡ m k
     at k = dite (ℕ_discrete l k) (λ q. subst (λ k. m' k ≡ m k) q here) (λ n. away k n)
 
-module _ (m : ℕ → Marks) (ss : List Session) (i : ℕ) (held : List Holding) (good : IsGood ss m) (few : length ss ≤ 1024) where
+module _ (m : ℕ → Marks) (ss : List Session) (i : ℕ) (held : List Holding) (good : IsGood ss m) (few : HasFewReaders ss) where
   free_kept : (e : Event) → Stands ss i (with_phase Free held) → IsGood (set ss i (free_row (word_on (latch_of e) ss) (m (latch_of e)).generation e (with_phase Free held)).session) m
   free_kept (S l v) at = s_kept m ss i held good few at l v
   free_kept (Sx l v) at = sx_kept m ss i held good few at l v
@@ -55,9 +55,9 @@ module _ (m : ℕ → Marks) (ss : List Session) (i : ℕ) (held : List Holding)
 
   -- a word that refuses the wish once more has somebody against it
   refused_again : (l : ℕ) (mode : Mode) → is_given_at mode (word_on l ss) ≡ false → MustWait mode l ss
-  refused_again l ModeS no_more = let full = not_above_0 (all_taken l ss) no_more in inl (refused_wish l ss good.proper (one l) few ModeS (λ _. full) (omega arith))
-  refused_again l ModeSx no_more = let half = not_above_half (all_taken l ss) no_more in inl (refused_wish l ss good.proper (one l) few ModeSx (λ z. absurd (cc)) half)
-  refused_again l ModeX no_more = let half = not_above_half (all_taken l ss) no_more in inl (refused_wish l ss good.proper (one l) few ModeX (λ z. absurd (cc)) half)
+  refused_again l ModeS no_more = let full = not_above_0 (all_taken l ss) no_more in inl (refused_wish l ss good.proper (one l) (few l) ModeS (λ _. full) (omega arith))
+  refused_again l ModeSx no_more = let half = not_above_half (all_taken l ss) no_more in inl (refused_wish l ss good.proper (one l) (few l) ModeSx (λ z. absurd (cc)) half)
+  refused_again l ModeX no_more = let half = not_above_half (all_taken l ss) no_more in inl (refused_wish l ss good.proper (one l) (few l) ModeX (λ z. absurd (cc)) half)
 
   flagged_kept : (mode : Mode) (v : Level) (g : ℕ) (e : Event) → Stands ss i (with_phase (Flagged (latch_of e) mode v g) held)
       → IsGood (set ss i (flagged_row mode v g (word_on (latch_of e) ss) e (with_phase (Flagged (latch_of e) mode v g) held)).session) m
@@ -70,14 +70,14 @@ module _ (m : ℕ → Marks) (ss : List Session) (i : ℕ) (held : List Holding)
 
   checked_kept : (mode : Mode) (v : Level) (g now : ℕ) (e : Event) → Stands ss i (with_phase (Checked (latch_of e) mode v g) held)
       → IsGood (set ss i (checked_row mode v g now e (with_phase (Checked (latch_of e) mode v g) held)).session) m
-  checked_kept mode v g now (Sleep l) at = choose (λ (r : Reply). IsGood (set ss i r.session) m) (now == g) _ _
+  checked_kept mode v g now (Sleep l) at = choose (λ (r : Response). IsGood (set ss i r.session) m) (now == g) _ _
       (λ _. falls_asleep m ss i held l good mode v g at) (λ _. quits_checked m ss i held l good mode v g at)
   checked_kept mode v g now (Quit l) at = quits_checked m ss i held l good mode v g at
   checked_kept mode v g now e at = stays m ss i (with_phase (Checked (latch_of e) mode v g) held) good at
 
   asleep_kept : (mode : Mode) (v : Level) (g now : ℕ) (e : Event) → Stands ss i (with_phase (Asleep (latch_of e) mode v g) held)
       → IsGood (set ss i (asleep_row mode v g now e (with_phase (Asleep (latch_of e) mode v g) held)).session) m
-  asleep_kept mode v g now (Sleep l) at = choose (λ (r : Reply). IsGood (set ss i r.session) m) (now == g) _ _
+  asleep_kept mode v g now (Sleep l) at = choose (λ (r : Response). IsGood (set ss i r.session) m) (now == g) _ _
       (λ _. sleeps_on m ss i held l good mode v g at) (λ _. quits_asleep m ss i held l good mode v g at)
   asleep_kept mode v g now e at = stays m ss i (with_phase (Asleep (latch_of e) mode v g) held) good at
 
@@ -89,7 +89,7 @@ module _ (m : ℕ → Marks) (ss : List Session) (i : ℕ) (held : List Holding)
       let a : Session = with_phase p held in let proper = good.proper i a at in let c = counted l a (proper.single l) in
       let unread = reads_none l a proper (omega arith) in
       let w : x_weight (x_grants l a) ≡ X_LOCK_DECR = ap x_weight x in
-      choose (λ (r : Reply). IsGood (set ss i r.session) m) (owns_x_at (sx_grants l a) (word_on l ss)) _ _
+      choose (λ (r : Response). IsGood (set ss i r.session) m) (owns_x_at (sx_grants l a) (word_on l ss)) _ _
       (λ owned. let whole = owns_x (sx_grants l a) (all_taken l ss) owned in
       owns m ss i held l good p at before quiet (nobody_reads l ss good.proper (one l) i a at (omega arith)))
       (λ not_owned. waits (dite (ℕ_discrete (readers_of l ss) 0)
@@ -110,13 +110,13 @@ module _ (m : ℕ → Marks) (ss : List Session) (i : ℕ) (held : List Holding)
 
   next_checked_kept : (v : Level) (g now : ℕ) (e : Event) → Stands ss i (with_phase (NextChecked (latch_of e) v g) held)
       → IsGood (set ss i (next_waits_row v g now e (with_phase (NextChecked (latch_of e) v g) held)).session) m
-  next_checked_kept v g now (Sleep l) at = choose (λ (r : Reply). IsGood (set ss i r.session) m) (now == g) _ _
+  next_checked_kept v g now (Sleep l) at = choose (λ (r : Response). IsGood (set ss i r.session) m) (now == g) _ _
       (λ _. next_falls_asleep m ss i held l good v g at) (λ _. next_awakes_checked m ss i held l good v g at)
   next_checked_kept v g now e at = stays m ss i (with_phase (NextChecked (latch_of e) v g) held) good at
 
   next_asleep_kept : (v : Level) (g now : ℕ) (e : Event) → Stands ss i (with_phase (NextAsleep (latch_of e) v g) held)
       → IsGood (set ss i (next_waits_row v g now e (with_phase (NextAsleep (latch_of e) v g) held)).session) m
-  next_asleep_kept v g now (Sleep l) at = choose (λ (r : Reply). IsGood (set ss i r.session) m) (now == g) _ _
+  next_asleep_kept v g now (Sleep l) at = choose (λ (r : Response). IsGood (set ss i r.session) m) (now == g) _ _
       (λ _. next_sleeps_on m ss i held l good v g at) (λ _. next_awakes_asleep m ss i held l good v g at)
   next_asleep_kept v g now e at = stays m ss i (with_phase (NextAsleep (latch_of e) v g) held) good at
 
@@ -187,7 +187,7 @@ module _ (m : ℕ → Marks) (ss : List Session) (i : ℕ) (held : List Holding)
     kept_by (OwesRaiseEx k) = on_latch (λ k. OwesRaiseEx k) k (λ at here. raise_ex_kept m' e away at here)
 
 -- the law: the turn of an event leads from any good state of few sessions to a good state
-pub turn_kept : (m m' : ℕ → Marks) (ss : List Session) (i : ℕ) (a : Session) (e : Event) → length ss ≤ 1024 → IsGood ss m → Stands ss i a
+pub turn_kept : (m m' : ℕ → Marks) (ss : List Session) (i : ℕ) (a : Session) (e : Event) → HasFewReaders ss → IsGood ss m → Stands ss i a
     → m' (latch_of e) ≡ marks_after a.phase e (m (latch_of e)) → ((k : ℕ) → latch_of e ≢ k → m' k ≡ m k)
-    → IsGood (set ss i (reply_of (word_on (latch_of e) ss) (m (latch_of e)) e a).session) m'
+    → IsGood (set ss i (response_of (word_on (latch_of e) ss) (m (latch_of e)) e a).session) m'
 turn_kept m m' ss i a e few good at here away = kept_by m ss i a.held good few m' e away a.phase at here

@@ -14,8 +14,8 @@ use Rattle.ib_core.specs.declared.phase.Phase.TheVariants.{Free, Next}
 use Rattle.ib_core.specs.declared.session.Session.{Session}
 use Rattle.ib_core.specs.declared.session.Marks.{Marks}
 use Rattle.ib_core.specs.Sessions.{Stands, is_next, holdings, claims, x_grants, taken, all_taken, owned}
-use Rattle.ib_core.specs.Grants.{first_holding, holding_too}
-use Rattle.ib_core.specs.Replies.{is_elsewhere}
+use Rattle.ib_core.specs.Takings.{first_holding, holding_too}
+use Rattle.ib_core.specs.Responses.{is_elsewhere}
 use Rattle.ib_core.specs.Good.{IsGood}
 use Rattle.ib_core.proofs.Places.{one_of}
 use Rattle.ib_core.proofs.Quiet.{at_itself}

@@ -13,8 +13,8 @@ use Rattle.ib_core.specs.declared.phase.Phase.TheVariants.{Free, Next}
 use Rattle.ib_core.specs.declared.session.Session.{Session}
 use Rattle.ib_core.specs.declared.session.Marks.{Marks}
 use Rattle.ib_core.specs.Sessions.{Stands, reads, claims, x_grants, taken, all_taken, owned}
-use Rattle.ib_core.specs.Grants.{one_more}
-use Rattle.ib_core.specs.Replies.{is_elsewhere}
+use Rattle.ib_core.specs.Takings.{one_more}
+use Rattle.ib_core.specs.Responses.{is_elsewhere}
 use Rattle.ib_core.specs.Good.{Suits, IsProper, GoBeside, IsGood}
 use Rattle.ib_core.proofs.Quiet.{at_itself}
 use Rattle.ib_core.proofs.OnLatch.{counts_changed, one_more-latch, held_by_grant}

@@ -13,20 +13,22 @@ use Rattle.ib_word.specs.Word.{word_less, word_of}
 use Rattle.ib_levels.specs.declared.level.Level.{Level}
 use Rattle.ib_levels.specs.declared.level.Mode.{Mode}
 use Rattle.ib_levels.specs.declared.level.Mode.TheVariants.{S, Sx, X}
-use Rattle.ib_core.specs.declared.phase.Phase.TheVariants.{Asleep, NextAsleep}
+use Rattle.ib_core.specs.declared.phase.Phase.TheVariants.{Flagged, Checked, Asleep, NextChecked, NextAsleep}
 use Rattle.ib_core.specs.declared.session.Session.{Session}
 use Rattle.ib_core.specs.declared.session.Marks.{Marks}
-use Rattle.ib_core.specs.Sessions.{Stands, idle, is_next, reads, sx_grants, x_grants, claims, owned, taken, all_taken, word_on, readers_of, sx_owner_of, x_owner_of, next_writer_of}
-use Rattle.ib_core.specs.Replies.{latch_of}
-use Rattle.ib_core.specs.Good.{IsProper, IsGood, IsOwed, Heard, against, owes_signal, owes_raise_ex}
+use Rattle.ib_core.specs.Sessions.{Stands, idle, is_next, reads, sx_grants, x_grants, claims, owned, taken, all_taken, word_on, readers_of, sx_owner_of, x_owner_of, next_writer_of, HasFewReaders}
+use Rattle.ib_core.specs.Responses.{latch_of}
+use Rattle.ib_core.specs.Good.{IsProper, IsGood, IsOwed, Heard, against, owes_signal, owes_raise_ex, WillRaise}
+use Rattle.ib_core.specs.Sleepers.{MaySleep, HasFlagged, NextMaySleep}
 use Rattle.ib_core.specs.Holders.{OwnsSx, OwnsX, IsNextWriter, HoldersAreCompatible, IsFreeOfClaims, IsGrantable}
 use Rattle.ib_core.specs.Machine.{CoreState, marks_at, fresh, opening, session_at, outcome_of, turn_in, IsGoodState}
-use Rattle.ib_core.specs.Runs.{Call, IsAmong, AllAmong, state_after}
+use Rattle.ib_core.specs.Actions.{Action, IsAmong, AllAmong, state_after}
 use Rattle.ib_core.proofs.OnLatch.{counted}
 use Rattle.ib_core.proofs.Places.{all_zero, at_below}
 use Rattle.ib_core.proofs.Kept.{next_has_x}
 use Rattle.ib_core.proofs.Grown.{owned_le}
 use Rattle.ib_core.proofs.EachTurn.{turn_kept}
+use Rattle.ib_core.proofs.Totals.{readers_few}
 use Rattle.ib_core.proofs.Steps.{stands_at}
 use Rattle.ib_core.proofs.Opened.{good_idle}
 
@@ -82,18 +84,31 @@ module _ (m : ℕ → Marks) (sessions : List Session) (good : IsGood sessions m
           let c = counted l a ((good.proper i a at).single l) in let x = x_owned i a at (grantable.no_x.no_owner i a at) (grantable.no_x.no_next i a at) in
           dite (ℕ_discrete (sx_grants l a) 0) (λ z. omega arith) (λ n. absurd (grantable.no_sx i a at (omega arith))))
 
-  -- no signal is lost to a sleeper ..
-  pub sleeper_signalled : (i : ℕ) (a : Session) (mode : Mode) (v : Level) → Stands sessions i a → a.phase ≡ Asleep l mode v (m l).generation → IsGrantable mode l sessions → IsOwed (owes_signal l) sessions
-  sleeper_signalled i a mode v at asleep grantable =
-      let heard : Heard m sessions (Asleep l mode v (m l).generation) = subst (λ p. Heard m sessions p) asleep (good.heard i a at) in
+  -- no signal is lost to who may sleep or sleeps ..
+  pub sleeper_signalled : (i : ℕ) (a : Session) (mode : Mode) (v : Level) → Stands sessions i a → MaySleep l mode v (m l).generation a.phase → IsGrantable mode l sessions → IsOwed (owes_signal l) sessions
+  sleeper_signalled i a mode v at waits grantable =
       let none = nobody_against mode grantable in
-      ⊎_elim (λ (z : 0 < sum_by (against mode l) sessions). absurd (omega arith)) (λ o. o) (heard.2 refl)
+      ⊎_elim (λ (z : 0 < sum_by (against mode l) sessions). absurd (omega arith)) (λ o. o)
+      (⊎_elim
+      (λ (is : a.phase ≡ Checked l mode v (m l).generation). (subst (λ p. Heard m sessions p) is (good.heard i a at)).2 refl)
+      (λ (is : a.phase ≡ Asleep l mode v (m l).generation). (subst (λ p. Heard m sessions p) is (good.heard i a at)).2 refl) waits)
 
-  -- .. and none to a next writer that sleeps
-  pub next_signalled : (i : ℕ) (a : Session) (v : Level) → Stands sessions i a → a.phase ≡ NextAsleep l v (m l).ex_generation → readers_of l sessions ≡ 0 → IsOwed (owes_raise_ex l) sessions
-  next_signalled i a v at asleep none =
-      let heard : Heard m sessions (NextAsleep l v (m l).ex_generation) = subst (λ p. Heard m sessions p) asleep (good.heard i a at) in
-      ⊎_elim (λ (z : 0 < readers_of l sessions). absurd (omega arith)) (λ o. o) (heard.1 refl)
+  -- .. and none to a next writer
+  pub next_signalled : (i : ℕ) (a : Session) (v : Level) → Stands sessions i a → NextMaySleep l v (m l).ex_generation a.phase → readers_of l sessions ≡ 0 → IsOwed (owes_raise_ex l) sessions
+  next_signalled i a v at waits none =
+      ⊎_elim (λ (z : 0 < readers_of l sessions). absurd (omega arith)) (λ o. o)
+      (⊎_elim
+      (λ (is : a.phase ≡ NextChecked l v (m l).ex_generation). (subst (λ p. Heard m sessions p) is (good.heard i a at)).1 refl)
+      (λ (is : a.phase ≡ NextAsleep l v (m l).ex_generation). (subst (λ p. Heard m sessions p) is (good.heard i a at)).1 refl) waits)
+
+  -- the flag of who waits is set, or was cleared by one that owes the raise
+  pub flag_stands : (i : ℕ) (a : Session) (mode : Mode) (v : Level) → Stands sessions i a → HasFlagged l mode v (m l).generation a.phase → WillRaise l (m l) sessions
+  flag_stands i a mode v at waits =
+      ⊎_elim
+      (λ (is : a.phase ≡ Flagged l mode v (m l).generation). (subst (λ p. Heard m sessions p) is (good.heard i a at)).1 refl)
+      (λ (waits : MaySleep l mode v (m l).generation a.phase). ⊎_elim
+      (λ (is : a.phase ≡ Checked l mode v (m l).generation). (subst (λ p. Heard m sessions p) is (good.heard i a at)).1 refl)
+      (λ (is : a.phase ≡ Asleep l mode v (m l).generation). (subst (λ p. Heard m sessions p) is (good.heard i a at)).1 refl) waits) waits
 
 -- the place of the one session that passes a test
 passed_over : (p : Session → Bool) (ss : List Session) (i : ℕ) (a : Session) → Stands ss i a → p a ≡ true
@@ -166,31 +181,31 @@ pub word_of_counts : (m : ℕ → Marks) (ss : List Session) (l : ℕ) → IsGoo
 word_of_counts m ss l good = ap word_less (counts_taken l ss good.proper (λ i j a b e d n. (good.beside i j a b e d n l).one_claim))
 
 -- each event of a session and a latch that there are leads from a good state to a good state
-pub event_kept : (state : CoreState) (call : Call) → length state.sessions ≤ 1024 → IsAmong state call → IsGoodState state → IsGoodState (outcome_of state call.place call.event).state
-event_kept state call few among good =
-    let l : ℕ = latch_of call.event in
-    turn_kept (marks_at state.marks) (marks_at (set state.marks l (turn_in state call.place call.event).marks)) state.sessions call.place (session_at state call.place) call.event few good
-    (stands_at state.sessions call.place idle among.session)
-    (get_or-set_same state.marks l (turn_in state call.place call.event).marks fresh among.latch)
-    (λ k n. get_or-set_other state.marks l k (turn_in state call.place call.event).marks fresh (λ q. n (sym q)))
+pub event_kept : (state : CoreState) (action : Action) → HasFewReaders state.sessions → IsAmong state action → IsGoodState state → IsGoodState (outcome_of state action.place action.event).state
+event_kept state action few among good =
+    let l : ℕ = latch_of action.event in
+    turn_kept (marks_at state.marks) (marks_at (set state.marks l (turn_in state action.place action.event).marks)) state.sessions action.place (session_at state action.place) action.event few good
+    (stands_at state.sessions action.place idle among.session)
+    (get_or-set_same state.marks l (turn_in state action.place action.event).marks fresh among.latch)
+    (λ k n. get_or-set_other state.marks l k (turn_in state action.place action.event).marks fresh (λ q. n (sym q)))
 
 -- as many sessions and latches as before
-among_after : (state : CoreState) (call other : Call) → IsAmong state other → IsAmong (outcome_of state call.place call.event).state other
-among_after state call other among = record {
-  session = let n = length-set state.sessions call.place (turn_in state call.place call.event).session in let w = among.session in omega arith;
-  latch = let n = length-set state.marks (latch_of call.event) (turn_in state call.place call.event).marks in let w = among.latch in omega arith;
+among_after : (state : CoreState) (action other : Action) → IsAmong state other → IsAmong (outcome_of state action.place action.event).state other
+among_after state action other among = record {
+  session = let n = length-set state.sessions action.place (turn_in state action.place action.event).session in let w = among.session in omega arith;
+  latch = let n = length-set state.marks (latch_of action.event) (turn_in state action.place action.event).marks in let w = among.latch in omega arith;
 }
 
-all_among_after : (state : CoreState) (call : Call) (calls : List Call) → AllAmong state calls → AllAmong (outcome_of state call.place call.event).state calls
-all_among_after state call [] among = tt
-all_among_after state call (other ∷ calls) among = (among_after state call other among.0, all_among_after state call calls among.1)
+all_among_after : (state : CoreState) (action : Action) (actions : List Action) → AllAmong state actions → AllAmong (outcome_of state action.place action.event).state actions
+all_among_after state action [] among = tt
+all_among_after state action (other ∷ actions) among = (among_after state action other among.0, all_among_after state action actions among.1)
 
-pub run_kept : (state : CoreState) (calls : List Call) → length state.sessions ≤ 1024 → AllAmong state calls → IsGoodState state → IsGoodState (state_after state calls)
+pub run_kept : (state : CoreState) (actions : List Action) → length state.sessions ≤ 1024 → AllAmong state actions → IsGoodState state → IsGoodState (state_after state actions)
 run_kept state [] few among good = good
-run_kept state (call ∷ calls) few among good =
-    run_kept (outcome_of state call.place call.event).state calls
-    (let n = length-set state.sessions call.place (turn_in state call.place call.event).session in omega arith)
-    (all_among_after state call calls among.1) (event_kept state call few among.0 good)
+run_kept state (action ∷ actions) few among good =
+    run_kept (outcome_of state action.place action.event).state actions
+    (let n = length-set state.sessions action.place (turn_in state action.place action.event).session in omega arith)
+    (all_among_after state action actions among.1) (event_kept state action (λ l. let r = readers_few l state.sessions good.proper in omega arith) among.0 good)
 
 pub opening_good : (sessions latches : ℕ) → IsGoodState (opening sessions latches)
 opening_good sessions latches = good_idle sessions (marks_at (opening sessions latches).marks)

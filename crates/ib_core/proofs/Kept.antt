@@ -15,7 +15,7 @@ use Rattle.ib_core.specs.declared.phase.Phase.TheVariants.{Free, Armed, Flagged,
 use Rattle.ib_core.specs.declared.session.Session.{Session}
 use Rattle.ib_core.specs.declared.session.Marks.{Marks}
 use Rattle.ib_core.specs.Sessions.{Stands, is_next, holdings, reads, claims, grants, x_grants, owned, readers_of}
-use Rattle.ib_core.specs.Replies.{is_elsewhere}
+use Rattle.ib_core.specs.Responses.{is_elsewhere}
 use Rattle.ib_core.specs.Good.{Suits, IsProper, GoBeside, IsOwed, Heard, IsGood, against, owes_raise, owes_raise_ex, owes_signal}
 use Rattle.ib_core.proofs.Places.{at_set, sum_at}
 use Rattle.ib_core.proofs.Quiet.{quiet}

@@ -5,9 +5,9 @@ use Rattle.ib_levels.specs.declared.holding.Holding.{Holding}
 use Rattle.ib_levels.specs.declared.level.Level.{Level}
 use Rattle.ib_levels.specs.declared.level.Mode.{Mode}
 use Rattle.ib_levels.specs.declared.level.Mode.TheVariants.{S as ModeS, Sx as ModeSx, X as ModeX}
-use Rattle.ib_levels.specs.declared.held.Against.{Against as LevelsAgainst}
+use Rattle.ib_levels.specs.declared.listed.Against.{Against as LevelsAgainst}
 use Rattle.std.specs.Prelude.{Result, Ok, Err}
-use Rattle.ib_levels.specs.Held.{answer_to}
+use Rattle.ib_levels.specs.Listed.{answer_to}
 use Rattle.ib_levels.specs.Holding.{on, is_held, levels_of, changed, without}
 use Rattle.ib_levels.proofs.Counts.{on-push_here, on-push_away, on-without, on-without_away, on-changed, on-changed_away, on-add, on_le}
 use Rattle.ib_core.specs.declared.phase.Phase.{Phase}
@@ -17,9 +17,9 @@ use Rattle.ib_core.specs.declared.event.Event.TheVariants.{S, Sx, X, Us, Usx, Ux
 use Rattle.ib_core.specs.declared.session.Session.{Session}
 use Rattle.ib_core.specs.declared.session.Marks.{Marks}
 use Rattle.ib_core.specs.Sessions.{holdings, reads, claims, x_grants, sx_grants}
-use Rattle.ib_core.specs.Grants.{is_given_at, first_holding, holding_too, one_more, one_fewer, reserving, first, upgrade, if_allowed, level_on, first_weight}
-use Rattle.ib_core.specs.Replies.{Reply, latch_of, is_elsewhere, is_drained, is_above_0}
-use Rattle.ib_core.specs.Table.{owns_x_at, free_row, armed_row, flagged_row, checked_row, asleep_row, next_row, next_armed_row, next_waits_row, owes_look_row, owes_clear_row, owes_raise_row, row_of, reply_of}
+use Rattle.ib_core.specs.Takings.{is_given_at, first_holding, holding_too, one_more, one_fewer, reserving, first, upgrade, if_allowed, level_on, first_weight}
+use Rattle.ib_core.specs.Responses.{Response, latch_of, is_elsewhere, is_drained, is_above_0}
+use Rattle.ib_core.specs.Table.{owns_x_at, free_row, armed_row, flagged_row, checked_row, asleep_row, next_row, next_armed_row, next_waits_row, owes_look_row, owes_clear_row, owes_raise_row, row_of, response_of}
 use Rattle.ib_core.proofs.OnLatch.{one_more-latch, one_fewer-latch}
 use Rattle.ib_core.proofs.Turned.{choose}
 
@@ -69,8 +69,8 @@ near_without : (l : ℕ) (held : List Holding) → Near l held (without l held)
 near_without l held = record { away = λ k n f. on-without_away l k f held n; one_more = let z = on-without l all_grants held in omega arith }
 
 module _ (a : Session) (single : (l : ℕ) → holdings l a ≤ 1) where
-  by_test : (l : ℕ) (b : Bool) (x y : Reply) → Near l a.held x.session.held → Near l a.held y.session.held → Near l a.held (if b then x else y).session.held
-  by_test l b x y p q = choose (λ (r : Reply). Near l a.held r.session.held) b x y (λ _. p) (λ _. q)
+  by_test : (l : ℕ) (b : Bool) (x y : Response) → Near l a.held x.session.held → Near l a.held y.session.held → Near l a.held (if b then x else y).session.held
+  by_test l b x y p q = choose (λ (r : Response). Near l a.held r.session.held) b x y (λ _. p) (λ _. q)
 
   near_reserving : (l k : ℕ) (v : Level) (w : ℤ) (now : List Holding) → Near l a.held now → Near l a.held (reserving k v w now).session.held
   near_reserving l k v w now near = by_test l (is_drained w) _ _ near near
@@ -81,7 +81,7 @@ module _ (a : Session) (single : (l : ℕ) → holdings l a ≤ 1) where
   near_first_wish l ModeX v p w = by_test l (is_given_at ModeX w) _ _
       (near_reserving l l v (w -ℤ pos (first_weight ModeX)) (holding_too ModeX l v a.held) (near_first l ModeX v a.held)) (near_same l a.held)
 
-  near_allowed : (l : ℕ) (answer : Result (Unit {0}) LevelsAgainst) (r : Reply) → Near l a.held r.session.held → Near l a.held (if_allowed answer a r).session.held
+  near_allowed : (l : ℕ) (answer : Result (Unit {0}) LevelsAgainst) (r : Response) → Near l a.held r.session.held → Near l a.held (if_allowed answer a r).session.held
   near_allowed l (Ok u) r near = near
   near_allowed l (Err e) r near = near_same l a.held
 
@@ -163,5 +163,5 @@ module _ (a : Session) (single : (l : ℕ) → holdings l a ≤ 1) where
   near_row (OwesRaise l) w m e = near_raise m.generation e
   near_row (OwesRaiseEx l) w m e = near_raise m.ex_generation e
 
-  pub near_reply : (w : ℤ) (m : Marks) (e : Event) → Near (latch_of e) a.held (reply_of w m e a).session.held
-  near_reply w m e = by_test (latch_of e) (is_elsewhere (latch_of e) a.phase) _ _ (near_same (latch_of e) a.held) (near_row a.phase w m e)
+  pub near_response : (w : ℤ) (m : Marks) (e : Event) → Near (latch_of e) a.held (response_of w m e a).session.held
+  near_response w m e = by_test (latch_of e) (is_elsewhere (latch_of e) a.phase) _ _ (near_same (latch_of e) a.held) (near_row a.phase w m e)

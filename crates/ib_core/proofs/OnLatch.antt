@@ -11,7 +11,7 @@ use Rattle.ib_levels.proofs.Counts.{on-cons, on-none, on-changed, part-here, par
 use Rattle.ib_word.specs.Weight.{weight, sx_weight, x_weight}
 use Rattle.ib_core.specs.declared.session.Session.{Session}
 use Rattle.ib_core.specs.Sessions.{holdings, reads, sx_grants, x_grants, claims, grants, taken}
-use Rattle.ib_core.specs.Grants.{one_more, one_fewer}
+use Rattle.ib_core.specs.Takings.{one_more, one_fewer}
 
 -- the holding that is found on a latch, where there is one at most, counts for all
 pub on-found : (l : ℕ) (f : Holding → ℕ) (held : List Holding) (h : Holding) → on l (λ h. 1) held ≤ 1 → find (λ h. h.latch.0 == l) held ≡ Some h → on l f held ≡ f h

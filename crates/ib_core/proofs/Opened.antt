@@ -1,5 +1,5 @@
 -- The state at the start is good, and is what the machine counts.
-use Rattle.std.proofs.Common.{◌≡◌, ℕ, zero, suc, ◌+◌, ◌≤◌, pos, List, [], ◌∷◌, ◌++◌, map, replicate, get_or, length, refl, sym, ap, ◌∙◌, subst, arith}
+use Rattle.std.proofs.Common.{◌≡◌, ℕ, zero, suc, ◌+◌, ◌≤◌, pos, List, [], ◌∷◌, ◌++◌, replicate, get_or, length, refl, sym, ap, ◌∙◌, subst, arith}
 use Rattle.std.specs.List.{sum_by}
 use Rattle.std.proofs.lemmas.Int.{ints}
 use Rattle.std.proofs.lemmas.List.{length-replicate}
@@ -8,20 +8,19 @@ use lib.ListN.{get_elem?}
 use Rattle.ib_word.specs.declared.word.LockWord.{LockWord}
 use Rattle.ib_word.specs.declared.word.TheConstants.{X_LOCK_DECR}
 use Rattle.ib_levels.proofs.Orderly.{orderly_nil}
-use Rattle.ib_core.specs.declared.member.Member.{Member}
 use Rattle.ib_core.specs.declared.session.Session.{Session}
 use Rattle.ib_core.specs.declared.session.Marks.{Marks}
 use Rattle.ib_core.specs.Sessions.{Stands, idle, holdings, grants, taken, all_taken, word_on, reads, readers_of}
 use Rattle.ib_core.specs.Good.{IsProper, IsGood, Heard, GoBeside, IsOwed, against, owes_raise, owes_raise_ex, owes_signal}
 use Rattle.ib_core.specs.Machine.{marks_at, fresh, free_word}
-use Rattle.ib_core.specs.Member.{session_of}
-use Rattle.ib_core.specs.Counted.{IsCounted, AreIdle}
+use Rattle.ib_core.specs.Member.{SessionAmong, sessions_of, idle_among}
+use Rattle.ib_core.specs.Keeping.{IsKept}
 use Rattle.ib_core.proofs.Places.{all_zero, at_snoc, at_longer}
 use Rattle.ib_core.proofs.Heard.{Heeds, heard_move}
 use Rattle.std.proofs.lemmas.List.Sums.{sum_by_push}
 use Rattle.std.proofs.Common.{inl, inr, ⊎_elim, Bool, ◌<◌, ◌≢◌}
 use Rattle.ib_core.specs.declared.phase.Phase.{Phase}
-use Rattle.ib_core.proofs.Steps.{length_sessions, stands_map}
+use Rattle.ib_core.proofs.Steps.{length_sessions}
 
 pub at_replicate : {A : Type 0} (n i : ℕ) (x y : A) → get_elem? (replicate n x) i ≡ some y → y ≡ x
 at_replicate zero i x y e = absurd (some-ne-none y (sym e))
@@ -33,7 +32,7 @@ get_replicate zero i x = refl
 get_replicate (suc n) zero x = refl
 get_replicate (suc n) (suc i) x = get_replicate n i x
 
-replicate_more : {A : Type 0} (n : ℕ) (x : A) → replicate n x ++ x ∷ [] ≡ replicate (n + 1) x
+pub replicate_more : {A : Type 0} (n : ℕ) (x : A) → replicate n x ++ x ∷ [] ≡ replicate (n + 1) x
 replicate_more {A} n x = subst (λ k. replicate n x ++ x ∷ [] ≡ replicate {A = A} k x) (let e : suc n ≡ n + 1 = omega arith in e) (more n)
   where
     more : (n : ℕ) → replicate n x ++ x ∷ [] ≡ replicate (suc n) x
@@ -84,35 +83,29 @@ good_push ss m good = record {
 pub taken_push : (ss : List Session) (l : ℕ) → all_taken l (ss ++ idle ∷ []) ≡ all_taken l ss
 taken_push ss l = let s = sum_by_push (taken l) ss idle in omega arith
 
-pub one_idle_more : (n latches : ℕ) (members : List Member) (m : Member) → AreIdle n latches members → session_of m ≡ idle → latches ≤ Rattle.std.specs.Prelude.vec_capacity m.held → AreIdle (n + 1) latches (members ++ m ∷ [])
-one_idle_more n latches members m idles is room = record {
-  idle = pushed members ∙ ((λ j. idles.idle j ++ is j ∷ []) ∙ replicate_more n idle);
-  room = at_snoc (λ _ m. latches ≤ Rattle.std.specs.Prelude.vec_capacity m.held) members m room idles.room;
-}
-  where
-    pushed : (members : List Member) → map session_of (members ++ m ∷ []) ≡ map session_of members ++ session_of m ∷ []
-    pushed [] = refl
-    pushed (x ∷ xs) = ap (λ ss. session_of x ∷ ss) (pushed xs)
+-- the sessions of members that hold nothing
+pub sessions_idle : (n latches : ℕ) → sessions_of (replicate n (idle_among latches)) ≡ replicate n idle
+sessions_idle zero latches = refl
+sessions_idle (suc n) latches = ap (λ ss. idle ∷ ss) (sessions_idle n latches)
 
-pub opened : (sessions latches : ℕ) (members : List Member) (words : List LockWord) (marks : List Marks) → AreIdle sessions latches members → words ≡ replicate latches free_word → marks ≡ replicate latches fresh
-    → sessions ≤ 1024 → IsCounted members words marks 0
-opened sessions latches members words marks idles words_are marks_are few =
-    record {
-      good = subst (λ ss. IsGood ss (marks_at marks)) (sym idles.idle) (good_idle sessions (marks_at marks));
-      few = let a = length_sessions members in let b = ap length idles.idle in let c = length-replicate sessions idle in omega arith;
+pub opened : (sessions latches : ℕ) (members : List SessionAmong) (words : List LockWord) (marks : List Marks) → members ≡ replicate sessions (idle_among latches) → words ≡ replicate latches free_word → marks ≡ replicate latches fresh
+    → sessions ≤ 1024 → IsKept members words marks 0
+opened sessions latches members words marks members_are words_are marks_are few =
+    let idles : sessions_of members ≡ replicate sessions idle = ap sessions_of members_are ∙ sessions_idle sessions latches in record {
+      good = subst (λ ss. IsGood ss (marks_at marks)) (sym idles) (good_idle sessions (marks_at marks));
+      few = let a = length_sessions members in let b = ap length idles in let c = length-replicate sessions idle in omega arith;
       bounded = omega arith;
       sized = ap length words_are ∙ (length-replicate latches free_word ∙ (sym (length-replicate latches fresh) ∙ sym (ap length marks_are)));
       counted = λ l within.
           ap (λ (ws : List LockWord). (get_or ws l free_word).0) words_are ∙ (ap (λ (w : LockWord). w.0) (get_replicate latches l free_word)
-          ∙ (nothing l ∙ sym (ap (word_on l) idles.idle)));
+          ∙ (nothing l ∙ sym (ap (word_on l) idles)));
       granted = λ i a e l.
-          let is = at_replicate sessions i idle a (subst (λ ss. Stands ss i a) idles.idle e) in let g = ap (grants l) is in omega arith;
+          let is = at_replicate sessions i idle a (subst (λ ss. Stands ss i a) idles e) in let g = ap (grants l) is in omega arith;
       raised = λ l. let g = ap (λ (ms : List Marks). (get_or ms l fresh).generation) marks_are in let h = ap (λ (z : Marks). z.generation) (get_replicate latches l fresh) in omega arith;
       ex_raised = λ l. let g = ap (λ (ms : List Marks). (get_or ms l fresh).ex_generation) marks_are in let h = ap (λ (z : Marks). z.ex_generation) (get_replicate latches l fresh) in omega arith;
-      rooms = λ i m e. record {
-        room = let n = ap length marks_are in let k = length-replicate latches fresh in let r = idles.room i m e in omega arith;
-        within = λ l _. ap (holdings l) (at_replicate sessions i idle (session_of m) (subst (λ ss. Stands ss i (session_of m)) idles.idle (stands_map members i m e)));
-      };
+      rooms = λ i m e.
+          let n = ap length marks_are in let k = length-replicate latches fresh in
+          let r = ap (λ (m : SessionAmong). m.latches) (at_replicate sessions i (idle_among latches) m (subst (λ (ms : List SessionAmong). get_elem? ms i ≡ some m) members_are e)) in omega arith;
     }
   where
     nothing : (l : ℕ) → pos X_LOCK_DECR ≡ word_on l (replicate sessions idle)

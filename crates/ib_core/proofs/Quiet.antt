@@ -5,11 +5,11 @@ use Rattle.ib_levels.proofs.Counts.{by_equal}
 use Rattle.ib_core.specs.declared.phase.Phase.{Phase}
 use Rattle.ib_core.specs.declared.phase.Phase.TheVariants.{Free, Armed, Flagged, Checked, Asleep, Next, NextArmed, NextChecked, NextAsleep, OwesLook, OwesClear, OwesRaise, OwesRaiseEx}
 use Rattle.ib_core.specs.Sessions.{is_next}
-use Rattle.ib_core.specs.Replies.{is_elsewhere}
+use Rattle.ib_core.specs.Responses.{is_elsewhere}
 use Rattle.ib_core.specs.Good.{owes_raise_ex, owes_raise, owes_signal}
 
 -- the latch of a phase that is not elsewhere
-here : (k l : ℕ) → not (k == l) ≡ false → k ≡ l
+pub here : (k l : ℕ) → not (k == l) ≡ false → k ≡ l
 here k l e = by_equal (λ b. not b ≡ false → k ≡ l) k l (λ q _. q) (λ _ z. absurd (cc)) e
 
 -- .. is no other

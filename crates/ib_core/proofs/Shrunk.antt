@@ -18,8 +18,8 @@ use Rattle.ib_core.specs.declared.phase.Phase.TheVariants.{Free, OwesLook}
 use Rattle.ib_core.specs.declared.session.Session.{Session}
 use Rattle.ib_core.specs.declared.session.Marks.{Marks}
 use Rattle.ib_core.specs.Sessions.{Stands, is_next, reads, claims, x_grants, sx_grants, all_taken, owned, readers_of}
-use Rattle.ib_core.specs.Grants.{one_fewer}
-use Rattle.ib_core.specs.Replies.{is_elsewhere}
+use Rattle.ib_core.specs.Takings.{one_fewer}
+use Rattle.ib_core.specs.Responses.{is_elsewhere}
 use Rattle.ib_core.specs.Good.{Suits, IsProper, GoBeside, IsOwed, Heard, IsGood, against, owes_raise, owes_raise_ex, owes_signal}
 use Rattle.ib_core.proofs.Places.{sum_at, one_of, set_else, at_set}
 use Rattle.ib_core.proofs.Quiet.{at_itself}

@@ -1,5 +1,5 @@
 -- A step keeps what the machine counts.
-use Rattle.std.proofs.Common.{◌≡◌, ◌≢◌, ℕ, zero, suc, ◌+◌, ◌*◌, ◌^◌, ◌<◌, ◌≤◌, Bool, true, false, ℤ, List, [], ◌∷◌, map, set, get_or, length, length-set, get_or-set_same, get_or-set_other, vec_capacity, refl, sym, ap, ◌∙◌, subst, arith}
+use Rattle.std.proofs.Common.{◌≡◌, ◌≢◌, ℕ, zero, suc, ◌+◌, ◌*◌, ◌<◌, ◌≤◌, Bool, true, false, ℤ, List, [], ◌∷◌, set, get_or, length, length-set, get_or-set_same, get_or-set_other, refl, sym, ap, ◌∙◌, subst, arith}
 use Rattle.std.specs.Prelude.{if◌then◌else◌}
 use Rattle.std.proofs.lemmas.Int.{ints}
 use mathlib.Core.Logic.{dite}
@@ -14,35 +14,34 @@ use Rattle.ib_core.specs.declared.phase.Phase.{Phase}
 use Rattle.ib_core.specs.declared.phase.Phase.TheVariants.{Armed, OwesClear, OwesRaise, OwesRaiseEx}
 use Rattle.ib_core.specs.declared.event.Event.{Event}
 use Rattle.ib_core.specs.declared.event.Event.TheVariants.{S, Sx, X, Us, Usx, Ux, Arm, Flag, Again, Quit, Sleep, Ready, Exarm, Look, Clear, Raise}
-use Rattle.ib_core.specs.declared.member.Member.{Member}
+use Rattle.ib_core.specs.declared.machine.TheConstants.{MOST_STEPS}
 use Rattle.ib_core.specs.declared.session.Session.{Session}
 use Rattle.ib_core.specs.declared.session.Marks.{Marks}
 use Rattle.ib_core.specs.Sessions.{Stands, grants, sx_grants, x_grants, taken, all_taken, word_on}
-use Rattle.ib_core.specs.Replies.{latch_of, is_elsewhere}
-use Rattle.ib_core.specs.Table.{reply_of, marks_after, marks_by, raised_by, flag_marks, clear_marks}
+use Rattle.ib_core.specs.Responses.{latch_of, is_elsewhere}
+use Rattle.ib_core.specs.Table.{response_of, marks_after, marks_by, raised_by, flag_marks, clear_marks}
 use Rattle.ib_core.specs.Good.{IsGood}
 use Rattle.ib_core.specs.Machine.{marks_at, fresh, free_word}
-use Rattle.ib_core.specs.Member.{session_of, CanStep, HasRoom, SameSum}
-use Rattle.ib_core.specs.Counted.{IsCounted, HasRoomFor}
+use Rattle.ib_core.specs.Member.{SessionAmong, sessions_of, CanStep, SameSum}
+use Rattle.ib_core.specs.Keeping.{IsKept}
 use Rattle.ib_core.proofs.Places.{at_set, sum_at, one_of}
 use Rattle.ib_core.proofs.OnLatch.{counted, weighs}
-use Rattle.ib_core.proofs.Totals.{taken_bound}
-use Rattle.ib_core.proofs.RoomLemmas.{has_room}
-use Rattle.ib_core.proofs.Near.{Near, near_reply, all_grants}
+use Rattle.ib_core.proofs.Totals.{taken_bound, readers_few}
+use Rattle.ib_core.proofs.Near.{Near, near_response, all_grants}
 use Rattle.ib_core.proofs.EachTurn.{turn_kept}
 
 -- members and their sessions
-pub stands_map : (members : List Member) (i : ℕ) (m : Member) → get_elem? members i ≡ some m → Stands (map session_of members) i (session_of m)
+pub stands_map : (members : List SessionAmong) (i : ℕ) (m : SessionAmong) → get_elem? members i ≡ some m → Stands (sessions_of members) i m.session
 stands_map [] i m e = absurd (some-ne-none m (sym e))
-stands_map (x ∷ xs) zero m e = ap (λ (m : Member). some (session_of m)) (some-injective x m e)
+stands_map (x ∷ xs) zero m e = ap (λ (m : SessionAmong). some m.session) (some-injective x m e)
 stands_map (x ∷ xs) (suc i) m e = stands_map xs i m e
 
-pub map_set : (members : List Member) (i : ℕ) (m : Member) → map session_of (set members i m) ≡ set (map session_of members) i (session_of m)
+pub map_set : (members : List SessionAmong) (i : ℕ) (m : SessionAmong) → sessions_of (set members i m) ≡ set (sessions_of members) i m.session
 map_set [] i m = refl
 map_set (x ∷ xs) zero m = refl
-map_set (x ∷ xs) (suc i) m = ap (λ ss. session_of x ∷ ss) (map_set xs i m)
+map_set (x ∷ xs) (suc i) m = ap (λ ss. x.session ∷ ss) (map_set xs i m)
 
-pub length_sessions : (members : List Member) → length (map session_of members) ≡ length members
+pub length_sessions : (members : List SessionAmong) → length (sessions_of members) ≡ length members
 length_sessions [] = refl
 length_sessions (x ∷ xs) = ap suc (length_sessions xs)
 
@@ -104,116 +103,106 @@ rises_by_one p e m = by_test (is_elsewhere (latch_of e) p)
     by_test true = as_it_was m
     by_test false = by_rises p e m
 
-module _ (members : List Member) (words : List LockWord) (marks : List Marks) (steps : ℕ) (kept : IsCounted members words marks steps)
-    (i : ℕ) (m : Member) (at : get_elem? members i ≡ some m) (l : ℕ) (within : l < length marks) where
+module _ (members : List SessionAmong) (words : List LockWord) (marks : List Marks) (steps : ℕ) (kept : IsKept members words marks steps)
+    (i : ℕ) (m : SessionAmong) (at : get_elem? members i ≡ some m) (l : ℕ) (within : l < length marks) where
   -- what is taken off a word is bounded by the steps
-  pub can_step : (w : ℤ) → w ≡ word_on l (map session_of members) → CanStep l w (session_of m)
+  pub can_step : (w : ℤ) → w ≡ word_on l (sessions_of members) → CanStep l w m.session
   can_step w is =
-      let good = kept.good in let ss : List Session = map session_of members in let stands = stands_map members i m at in
-      let proper = good.proper i (session_of m) stands in
+      let good = kept.good in let ss : List Session = sessions_of members in let stands = stands_map members i m at in
+      let proper = good.proper i m.session stands in
       let each = kept.granted in
       let bound = taken_bound l (X_LOCK_HALF_DECR + 2 * X_LOCK_DECR + steps) ss good.proper (λ i j a b e d n. (good.beside i j a b e d n l).one_claim)
       (λ j a e.
       let c = counted l a ((good.proper j a e).single l) in let g = each j a e l in
       let p = sx_weight_cases (sx_grants l a) in let q = x_weight_cases (x_grants l a) in grind arith) in
-      let t = one_of (taken l) ss i (session_of m) stands in
+      let t = one_of (taken l) ss i m.session stands in let r = readers_few l ss good.proper in
       let n = length_sessions members in let f = kept.few in let b = kept.bounded in
-      let g = each i (session_of m) stands l in
+      let g = each i m.session stands l in
       record { proper = proper; few = omega arith; low = omega (arith, ints); high = omega (arith, ints) }
 
-  pub room_for : HasRoom l m
-  room_for = record {
-    room = λ none.
-        let r = kept.rooms i m at in let good = kept.good in
-        let free = has_room (length marks) l m.held.items (good.proper i (session_of m) (stands_map members i m at)).single r.within within none in
-        let enough = r.room in omega arith;
-  }
+  pub room_for : l < m.latches
+  room_for = let r = kept.rooms i m at in omega arith
 
   -- the state after the turn of one member
-  module _ (e : Event) (here : latch_of e ≡ l) (m' : Member) (w' : LockWord) (mk' : Marks)
-      (replies : session_of m' ≡ (reply_of (word_on l (map session_of members)) (marks_at marks l) e (session_of m)).session)
-      (marked : mk' ≡ marks_after m.phase e (marks_at marks l))
-      (moved : SameSum l (word_on l (map session_of members)) (session_of m) w'.0 (session_of m'))
-      (capacity : vec_capacity m.held ≤ vec_capacity m'.held) (more : steps + 1 < 2 ^ 28) where
+  module _ (e : Event) (here : latch_of e ≡ l) (m' : SessionAmong) (w' : LockWord) (mk' : Marks)
+      (responds : m'.session ≡ (response_of (word_on l (sessions_of members)) (marks_at marks l) e m.session).session)
+      (marked : mk' ≡ marks_after m.session.phase e (marks_at marks l))
+      (moved : SameSum l (word_on l (sessions_of members)) m.session w'.0 m'.session)
+      (room : m'.latches ≡ m.latches) (more : steps + 1 ≤ MOST_STEPS) where
     marks_here : marks_at (set marks l mk') l ≡ mk'
     marks_here = get_or-set_same marks l mk' fresh within
 
     marks_away : (k : ℕ) → l ≢ k → marks_at (set marks l mk') k ≡ marks_at marks k
     marks_away k n = get_or-set_other marks l k mk' fresh (λ q. n (sym q))
 
-    pub good_after : IsGood (map session_of (set members i m')) (marks_at (set marks l mk'))
+    pub good_after : IsGood (sessions_of (set members i m')) (marks_at (set marks l mk'))
     good_after =
         subst (λ ss. IsGood ss (marks_at (set marks l mk'))) (sym (map_set members i m'))
-        (subst (λ a. IsGood (set (map session_of members) i a) (marks_at (set marks l mk'))) (sym replies)
-        (subst (λ l. marks_at (set marks l mk') l ≡ mk' → ((k : ℕ) → l ≢ k → marks_at (set marks l mk') k ≡ marks_at marks k) → mk' ≡ marks_after m.phase e (marks_at marks l)
-        → IsGood (set (map session_of members) i (reply_of (word_on l (map session_of members)) (marks_at marks l) e (session_of m)).session) (marks_at (set marks l mk'))) here
-        (λ at_latch away is. turn_kept (marks_at marks) (marks_at (set marks (latch_of e) mk')) (map session_of members) i (session_of m) e
-        (let n = length_sessions members in let f = kept.few in omega arith) kept.good (stands_map members i m at) (at_latch ∙ is) away)
+        (subst (λ a. IsGood (set (sessions_of members) i a) (marks_at (set marks l mk'))) (sym responds)
+        (subst (λ l. marks_at (set marks l mk') l ≡ mk' → ((k : ℕ) → l ≢ k → marks_at (set marks l mk') k ≡ marks_at marks k) → mk' ≡ marks_after m.session.phase e (marks_at marks l)
+        → IsGood (set (sessions_of members) i (response_of (word_on l (sessions_of members)) (marks_at marks l) e m.session).session) (marks_at (set marks l mk'))) here
+        (λ at_latch away is. turn_kept (marks_at marks) (marks_at (set marks (latch_of e) mk')) (sessions_of members) i m.session e
+        (λ l. let r = readers_few l (sessions_of members) kept.good.proper in let n = length_sessions members in let f = kept.few in omega arith) kept.good (stands_map members i m at) (at_latch ∙ is) away)
         marks_here marks_away marked))
 
-    near : Near l (session_of m).held (session_of m').held
+    near : Near l m.session.held m'.session.held
     near =
-        subst (λ (a : Session). Near l (session_of m).held a.held) (sym replies)
-        (subst (λ k. Near k (session_of m).held (reply_of (word_on l (map session_of members)) (marks_at marks l) e (session_of m)).session.held) here
-        (near_reply (session_of m) (kept.good.proper i (session_of m) (stands_map members i m at)).single (word_on l (map session_of members)) (marks_at marks l) e))
+        subst (λ (a : Session). Near l m.session.held a.held) (sym responds)
+        (subst (λ k. Near k m.session.held (response_of (word_on l (sessions_of members)) (marks_at marks l) e m.session).session.held) here
+        (near_response m.session (kept.good.proper i m.session (stands_map members i m at)).single (word_on l (sessions_of members)) (marks_at marks l) e))
 
     -- the word of each latch is the equation's
-    words_after : (k : ℕ) → k < length (set words l w') → (get_or (set words l w') k free_word).0 ≡ word_on k (map session_of (set members i m'))
+    words_after : (k : ℕ) → k < length (set words l w') → (get_or (set words l w') k free_word).0 ≡ word_on k (sessions_of (set members i m'))
     words_after k inside =
-        let ss : List Session = map session_of members in
+        let ss : List Session = sessions_of members in
         let e' = map_set members i m' in let stands = stands_map members i m at in
         let sized = kept.sized in let n = length-set words l w' in
         dite (ℕ_discrete l k)
         (λ q.
-        let s = sum_at (taken l) ss i (session_of m) (session_of m') stands in
+        let s = sum_at (taken l) ss i m.session m'.session stands in
         let v : (get_or (set words l w') l free_word) ≡ w' = get_or-set_same words l w' free_word (omega arith) in
-        let u : w'.0 ≡ word_on l (set ss i (session_of m')) = omega (arith, ints) in
-        subst (λ k. (get_or (set words l w') k free_word).0 ≡ word_on k (map session_of (set members i m'))) q
+        let u : w'.0 ≡ word_on l (set ss i m'.session) = omega (arith, ints) in
+        subst (λ k. (get_or (set words l w') k free_word).0 ≡ word_on k (sessions_of (set members i m'))) q
         (ap (λ (w : LockWord). w.0) v ∙ (u ∙ sym (ap (word_on l) e'))))
         (λ q.
-        let s = sum_at (taken k) ss i (session_of m) (session_of m') stands in
+        let s = sum_at (taken k) ss i m.session m'.session stands in
         let same = near.away k q weighs in
         let v = get_or-set_other words l k w' free_word (λ z. q (sym z)) in
         let was = kept.counted k (omega arith) in
-        let total : all_taken k ss ≡ all_taken k (set ss i (session_of m')) = omega arith in
-        let u : word_on k ss ≡ word_on k (set ss i (session_of m')) = ap word_less total in
+        let total : all_taken k ss ≡ all_taken k (set ss i m'.session) = omega arith in
+        let u : word_on k ss ≡ word_on k (set ss i m'.session) = ap word_less total in
         ap (λ (w : LockWord). w.0) v ∙ (was ∙ (u ∙ sym (ap (word_on k) e'))))
 
-    granted_after : (j : ℕ) (a : Session) → Stands (map session_of (set members i m')) j a → (k : ℕ) → grants k a ≤ steps + 1
+    granted_after : (j : ℕ) (a : Session) → Stands (sessions_of (set members i m')) j a → (k : ℕ) → grants k a ≤ steps + 1
     granted_after j a e k = by_place j a (subst (λ ss. Stands ss j a) (map_set members i m') e)
       where
-        mine : (k : ℕ) → grants k (session_of m') ≤ steps + 1
+        mine : (k : ℕ) → grants k m'.session ≤ steps + 1
         mine k =
-            let was = kept.granted i (session_of m) (stands_map members i m at) k in
+            let was = kept.granted i m.session (stands_map members i m at) k in
             dite (ℕ_discrete l k)
-            (λ q. subst (λ k. grants k (session_of m') ≤ steps + 1) q (let o = near.one_more in let was' = kept.granted i (session_of m) (stands_map members i m at) l in omega arith))
+            (λ q. subst (λ k. grants k m'.session ≤ steps + 1) q (let o = near.one_more in let was' = kept.granted i m.session (stands_map members i m at) l in omega arith))
             (λ q. let o = near.away k q all_grants in omega arith)
 
-        by_place : (j : ℕ) (a : Session) → Stands (set (map session_of members) i (session_of m')) j a → grants k a ≤ steps + 1
-        by_place = at_set (λ _ a. grants k a ≤ steps + 1) (map session_of members) i (session_of m') (mine k) (λ j b e n. let was = kept.granted j b e k in omega arith)
+        by_place : (j : ℕ) (a : Session) → Stands (set (sessions_of members) i m'.session) j a → grants k a ≤ steps + 1
+        by_place = at_set (λ _ a. grants k a ≤ steps + 1) (sessions_of members) i m'.session (mine k) (λ j b e n. let was = kept.granted j b e k in omega arith)
 
     raised_after : (k : ℕ) → (marks_at (set marks l mk') k).generation ≤ steps + 1
     raised_after k = dite (ℕ_discrete l k)
         (λ q. subst (λ k. (marks_at (set marks l mk') k).generation ≤ steps + 1) q
-        (let e' = ap (λ (z : Marks). z.generation) (marks_here ∙ marked) in let r = (rises_by_one m.phase e (marks_at marks l)).generation in let was = kept.raised l in omega arith))
+        (let e' = ap (λ (z : Marks). z.generation) (marks_here ∙ marked) in let r = (rises_by_one m.session.phase e (marks_at marks l)).generation in let was = kept.raised l in omega arith))
         (λ q. let e' = ap (λ (z : Marks). z.generation) (marks_away k q) in let was = kept.raised k in omega arith)
 
     ex_raised_after : (k : ℕ) → (marks_at (set marks l mk') k).ex_generation ≤ steps + 1
     ex_raised_after k = dite (ℕ_discrete l k)
         (λ q. subst (λ k. (marks_at (set marks l mk') k).ex_generation ≤ steps + 1) q
-        (let e' = ap (λ (z : Marks). z.ex_generation) (marks_here ∙ marked) in let r = (rises_by_one m.phase e (marks_at marks l)).ex_generation in let was = kept.ex_raised l in omega arith))
+        (let e' = ap (λ (z : Marks). z.ex_generation) (marks_here ∙ marked) in let r = (rises_by_one m.session.phase e (marks_at marks l)).ex_generation in let was = kept.ex_raised l in omega arith))
         (λ q. let e' = ap (λ (z : Marks). z.ex_generation) (marks_away k q) in let was = kept.ex_raised k in omega arith)
 
-    rooms_after : (j : ℕ) (n : Member) → get_elem? (set members i m') j ≡ some n → HasRoomFor (length (set marks l mk')) n
-    rooms_after = subst (λ n. (j : ℕ) (m : Member) → get_elem? (set members i m') j ≡ some m → HasRoomFor n m) (sym (length-set marks l mk'))
-        (at_set (λ _ n. HasRoomFor (length marks) n) members i m'
-        (let r = kept.rooms i m at in record {
-          room = let q = r.room in omega arith;
-          within = λ k past. let n : l ≢ k = λ q. omega arith in let o = near.away k n (λ h. 1) in let was = r.within k past in omega arith;
-        })
-        (λ j n e _. kept.rooms j n e))
+    rooms_after : (j : ℕ) (n : SessionAmong) → get_elem? (set members i m') j ≡ some n → n.latches ≡ length (set marks l mk')
+    rooms_after = subst (λ (k : ℕ). (j : ℕ) (n : SessionAmong) → get_elem? (set members i m') j ≡ some n → n.latches ≡ k) (sym (length-set marks l mk'))
+        (at_set (λ _ n. n.latches ≡ length marks) members i m' (room ∙ kept.rooms i m at) (λ j n e _. kept.rooms j n e))
 
-    pub counted_after : IsCounted (set members i m') (set words l w') (set marks l mk') (steps + 1)
+    pub counted_after : IsKept (set members i m') (set words l w') (set marks l mk') (steps + 1)
     counted_after = record {
       good = good_after;
       few = let n = length-set members i m' in let f = kept.few in omega arith;

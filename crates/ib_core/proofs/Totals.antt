@@ -12,9 +12,8 @@ use Rattle.ib_core.specs.Sessions.{Stands, reads, sx_grants, x_grants, claims, t
 use Rattle.ib_core.specs.Good.{IsProper, against}
 use Rattle.ib_levels.specs.declared.level.Mode.{Mode}
 use Rattle.ib_levels.specs.declared.level.Mode.TheVariants.{S, Sx, X}
-use Rattle.ib_core.proofs.Places.{one_of, two_of, only_one}
+use Rattle.ib_core.proofs.Places.{one_of, two_of, only_one, sum_more}
 use Rattle.ib_core.proofs.OnLatch.{counted}
-use Rattle.ib_core.proofs.Weighs.{reads_none}
 
 -- who takes off less than X_LOCK_DECR has no X, and who takes off less than HALF has no SX either
 pub no_x : (l : ℕ) (b : Session) → IsProper b → taken l b < X_LOCK_DECR → x_grants l b ≡ 0
@@ -36,21 +35,25 @@ sum_short : (f : Session → ℕ) (ss : List Session) → ((i : ℕ) (b : Sessio
 sum_short f [] few = omega arith
 sum_short f (b ∷ ss) few = let a = sum_by-cons f b ss in let h = sum_short f ss (λ i c e. few (suc i) c e) in let p : f b ≤ 1 = few 0 b refl in omega arith
 
--- readers take off no more than there are sessions, and the one claimer what its claim does
+-- the readers' takings are their number, and the one claimer's what its claim is
 pub taken_bound : (l c : ℕ) (ss : List Session) → ((i : ℕ) (a : Session) → Stands ss i a → IsProper a)
     → ((i j : ℕ) (a b : Session) → Stands ss i a → Stands ss j b → i ≢ j → 0 < claims l a → claims l b ≡ 0)
     → ((i : ℕ) (a : Session) → Stands ss i a → sx_weight (sx_grants l a) + x_weight (x_grants l a) ≤ c)
-    → all_taken l ss ≤ length ss + c
+    → all_taken l ss ≤ readers_of l ss + c
 taken_bound l c [] proper one each = omega arith
 taken_bound l c (a ∷ ss) proper one each =
-    let s = sum_by-cons (taken l) a ss in let k = counted l a ((proper 0 a refl).single l) in
+    let s = sum_by-cons (taken l) a ss in let r = sum_by-cons (reads l) a ss in let k = counted l a ((proper 0 a refl).single l) in
     dite (ℕ_discrete (claims l a) 0)
     (λ none.
-    let t = reader_taken l a (proper 0 a refl) none in let r = (proper 0 a refl).once l in
+    let t = reader_taken l a (proper 0 a refl) none in
     let h = taken_bound l c ss (λ i b e. proper (suc i) b e) (λ i j b d e f n. one (suc i) (suc j) b d e f (λ q. n (omega arith))) (λ i b e. each (suc i) b e) in omega arith)
     (λ some.
-    let r = reads_none l a (proper 0 a refl) (omega arith) in let w = each 0 a refl in
-    let h = sum_short (taken l) ss (λ i b e. let z = one 0 (suc i) a b refl e (λ q. omega arith) (omega arith) in let t = reader_taken l b (proper (suc i) b e) z in let o = (proper (suc i) b e).once l in omega arith) in omega arith)
+    let w = each 0 a refl in
+    let h = sum_more (taken l) (reads l) ss (λ i b e. let z = one 0 (suc i) a b refl e (λ q. omega arith) (omega arith) in let t = reader_taken l b (proper (suc i) b e) z in omega arith) in omega arith)
+
+-- there are no more readers than sessions
+pub readers_few : (l : ℕ) (ss : List Session) → ((i : ℕ) (a : Session) → Stands ss i a → IsProper a) → readers_of l ss ≤ length ss
+readers_few l ss proper = sum_short (reads l) ss (λ i b e. (proper i b e).once l)
 
 module _ (l : ℕ) (ss : List Session) (proper : (i : ℕ) (a : Session) → Stands ss i a → IsProper a)
     (one : (i j : ℕ) (a b : Session) → Stands ss i a → Stands ss j b → i ≢ j → 0 < claims l a → claims l b ≡ 0) where
@@ -70,23 +73,18 @@ module _ (l : ℕ) (ss : List Session) (proper : (i : ℕ) (a : Session) → Sta
   claimer_whole i a at has none = only_one (taken l) ss i a at (λ j b e n.
       let z = one i j a b at e (λ q. n (sym q)) has in let t = reader_taken l b (proper j b e) z in let r = one_of (reads l) ss j b e in omega arith)
 
-  -- among few sessions a word that refuses a wish has somebody against it
-  pub refused_wish : length ss ≤ 1024 → (mode : Mode) → (mode ≡ S → X_LOCK_DECR ≤ all_taken l ss) → X_LOCK_HALF_DECR ≤ all_taken l ss → 0 < sum_by (against mode l) ss
+  -- where nobody has X the word is that of readers and the one claimer, and where nobody claims it is that of readers
+  pub few_taken : sum_by (x_grants l) ss ≡ 0 → all_taken l ss ≤ readers_of l ss + X_LOCK_HALF_DECR
+  few_taken none = taken_bound l X_LOCK_HALF_DECR ss proper one
+      (λ i a e. let z = one_of (x_grants l) ss i a e in let x : x_weight (x_grants l a) ≡ 0 = ap x_weight (let q : x_grants l a ≡ 0 = omega arith in q) in let p = sx_weight_cases (sx_grants l a) in grind arith)
+
+  read_alone : sum_by (claims l) ss ≡ 0 → all_taken l ss ≤ readers_of l ss
+  read_alone none = sum_more (taken l) (reads l) ss (λ i b e. let z = one_of (claims l) ss i b e in let t = reader_taken l b (proper i b e) (omega arith) in omega arith)
+
+  -- among few readers a word that refuses a wish has somebody against it
+  pub refused_wish : readers_of l ss ≤ 1024 → (mode : Mode) → (mode ≡ S → X_LOCK_DECR ≤ all_taken l ss) → X_LOCK_HALF_DECR ≤ all_taken l ss → 0 < sum_by (against mode l) ss
   refused_wish few S full half = dite (ℕ_discrete (sum_by (x_grants l) ss) 0)
-      (λ none.
-      let bound = taken_bound l X_LOCK_HALF_DECR ss proper one
-      (λ i a e. let z = one_of (x_grants l) ss i a e in let x : x_weight (x_grants l a) ≡ 0 = ap x_weight (let q : x_grants l a ≡ 0 = omega arith in q) in let p = sx_weight_cases (sx_grants l a) in grind arith) in
-      let h = full refl in absurd (omega arith))
+      (λ none. let bound = few_taken none in let h = full refl in absurd (omega arith))
       (λ n. omega arith)
-  refused_wish few Sx full half = claimed few half
-    where
-      claimed : length ss ≤ 1024 → X_LOCK_HALF_DECR ≤ all_taken l ss → 0 < sum_by (claims l) ss
-      claimed few half = dite (ℕ_discrete (sum_by (claims l) ss) 0)
-          (λ none. let s = sum_short (taken l) ss (λ i b e. let z = one_of (claims l) ss i b e in let t = reader_taken l b (proper i b e) (omega arith) in let o = (proper i b e).once l in omega arith) in absurd (omega arith))
-          (λ n. omega arith)
-  refused_wish few X full half = claimed few half
-    where
-      claimed : length ss ≤ 1024 → X_LOCK_HALF_DECR ≤ all_taken l ss → 0 < sum_by (claims l) ss
-      claimed few half = dite (ℕ_discrete (sum_by (claims l) ss) 0)
-          (λ none. let s = sum_short (taken l) ss (λ i b e. let z = one_of (claims l) ss i b e in let t = reader_taken l b (proper i b e) (omega arith) in let o = (proper i b e).once l in omega arith) in absurd (omega arith))
-          (λ n. omega arith)
+  refused_wish few Sx full half = dite (ℕ_discrete (sum_by (claims l) ss) 0) (λ none. let b = read_alone none in absurd (omega arith)) (λ n. omega arith)
+  refused_wish few X full half = dite (ℕ_discrete (sum_by (claims l) ss) 0) (λ none. let b = read_alone none in absurd (omega arith)) (λ n. omega arith)

@@ -1,5 +1,5 @@
 -- Each event leads from a good state to a good state: the rows of the table, one after another.
-use Rattle.std.proofs.Common.{◌≡◌, ◌≢◌, ℕ, ◌+◌, ◌<◌, ◌≤◌, ◌⊎◌, inl, inr, ⊎_elim, Bool, true, false, cond, pos, ◌-ℤ◌, ◌+ℤ◌, List, set, length, Option, Some, None, refl, sym, ap, ◌∙◌, subst, eq-eqb, arith}
+use Rattle.std.proofs.Common.{◌≡◌, ◌≢◌, ℕ, ◌+◌, ◌<◌, ◌⊎◌, inl, inr, ⊎_elim, Bool, true, false, cond, pos, ◌-ℤ◌, ◌+ℤ◌, List, set, Option, Some, None, refl, sym, ap, ◌∙◌, subst, eq-eqb, arith}
 use Rattle.std.specs.Prelude.{◌==◌, nat_lt, if◌then◌else◌}
 use Rattle.std.proofs.lemmas.Bool.Decides.{nat_tests}
 use Rattle.ib_word.specs.declared.word.TheConstants.{X_LOCK_DECR, X_LOCK_HALF_DECR}
@@ -11,7 +11,7 @@ use Rattle.ib_levels.specs.declared.level.Level.{Level}
 use Rattle.ib_levels.specs.declared.level.Mode.{Mode}
 use Rattle.ib_levels.specs.declared.level.Mode.TheVariants.{S as ModeS, Sx as ModeSx, X as ModeX}
 use Rattle.ib_levels.specs.Level.{MayTake, first_against}
-use Rattle.ib_levels.specs.Held.{answer_to}
+use Rattle.ib_levels.specs.Listed.{answer_to, refused_by}
 use Rattle.ib_levels.specs.Holding.{is_held, levels_of, changed, without}
 use Rattle.ib_levels.proofs.Counts.{none_from_unheld, unheld_from_none, on-without, by_equal}
 use Rattle.ib_levels.proofs.Orderly.{may_from_none}
@@ -19,9 +19,9 @@ use Rattle.ib_core.specs.declared.phase.Phase.{Phase}
 use Rattle.ib_core.specs.declared.phase.Phase.TheVariants.{Free, OwesLook, OwesRaiseEx}
 use Rattle.ib_core.specs.declared.session.Session.{Session}
 use Rattle.ib_core.specs.declared.session.Marks.{Marks}
-use Rattle.ib_core.specs.Sessions.{Stands, word_on, all_taken, taken, holdings, reads, claims, x_grants, sx_grants}
-use Rattle.ib_core.specs.Grants.{first, is_given_at, upgrade, taking_s, taking_sx, taking_x, giving_s, giving_sx, giving_x, if_allowed, one_fewer, level_on}
-use Rattle.ib_core.specs.Replies.{Reply, is_drained, is_above_0, refused}
+use Rattle.ib_core.specs.Sessions.{Stands, HasFewReaders, word_on, all_taken, taken, holdings, reads, claims, x_grants, sx_grants}
+use Rattle.ib_core.specs.Takings.{first, is_given_at, upgrade, taking_s, taking_sx, taking_x, giving_s, giving_sx, giving_x, if_allowed, one_fewer, level_on}
+use Rattle.ib_core.specs.Responses.{Response, is_drained, is_above_0, refused}
 use Rattle.ib_core.specs.Table.{arming}
 use Rattle.ib_core.specs.Good.{IsProper, IsGood}
 use Rattle.ib_core.proofs.Places.{sum_at, one_of, set_again}
@@ -51,26 +51,26 @@ some n is = grind (arith, nat_tests)
 none_of : (n : ℕ) → nat_lt 0 n ≡ false → n ≡ 0
 none_of n is = grind (arith, nat_tests)
 
-module _ (m : ℕ → Marks) (ss : List Session) (i : ℕ) (held : List Holding) (good : IsGood ss m) (few : length ss ≤ 1024) where
-  -- the session after a reply makes a good state
-  Keeps : Reply → Type 0
+module _ (m : ℕ → Marks) (ss : List Session) (i : ℕ) (held : List Holding) (good : IsGood ss m) (few : HasFewReaders ss) where
+  -- the session after a response makes a good state
+  Keeps : Response → Type 0
   Keeps r = IsGood (set ss i r.session) m
 
   one : (l : ℕ) (j k : ℕ) (a b : Session) → Stands ss j a → Stands ss k b → j ≢ k → 0 < claims l a → claims l b ≡ 0
   one l j k a b e d n = (good.beside j k a b e d n l).one_claim
 
-  module _ (l : ℕ) (v : Level) (p waiting : Phase) (at : Stands ss i (with_phase p held)) (before : Rattle.ib_core.specs.Replies.is_elsewhere l p ≡ false) (quiet : OwesNothing p)
+  module _ (l : ℕ) (v : Level) (p waiting : Phase) (at : Stands ss i (with_phase p held)) (before : Rattle.ib_core.specs.Responses.is_elsewhere l p ≡ false) (quiet : OwesNothing p)
       (none : holdings l (with_phase p held) ≡ 0) (may : MayTake v (levels_of held)) where
     -- a first wish, where the session may wait in the phase given
     pub first_kept : (mode : Mode) → (is_given_at mode (word_on l ss) ≡ false → IsGood (set ss i (with_phase waiting held)) m) → IsGood (set ss i (first mode l v waiting (word_on l ss) held).session) m
-    first_kept ModeS waits = choose (λ (r : Reply). IsGood (set ss i r.session) m) (is_given_at ModeS (word_on l ss)) _ _
+    first_kept ModeS waits = choose (λ (r : Response). IsGood (set ss i r.session) m) (is_given_at ModeS (word_on l ss)) _ _
         (λ given. takes_s m ss i held l v p good at before quiet none may (above_0 (all_taken l ss) given)) waits
-    first_kept ModeSx waits = choose (λ (r : Reply). IsGood (set ss i r.session) m) (is_given_at ModeSx (word_on l ss)) _ _
+    first_kept ModeSx waits = choose (λ (r : Response). IsGood (set ss i r.session) m) (is_given_at ModeSx (word_on l ss)) _ _
         (λ given. takes_sx m ss i held l v p good at before quiet none may (above_half (all_taken l ss) given)) waits
-    first_kept ModeX waits = choose (λ (r : Reply). IsGood (set ss i r.session) m) (is_given_at ModeX (word_on l ss)) _ _
+    first_kept ModeX waits = choose (λ (r : Response). IsGood (set ss i r.session) m) (is_given_at ModeX (word_on l ss)) _ _
         (λ given.
         let low = above_half (all_taken l ss) given in
-        choose (λ (r : Reply). IsGood (set ss i r.session) m) (is_drained (word_on l ss -ℤ pos X_LOCK_DECR)) _ _
+        choose (λ (r : Response). IsGood (set ss i r.session) m) (is_drained (word_on l ss -ℤ pos X_LOCK_DECR)) _ _
         (λ whole. takes_x_alone m ss i held l v p good at before quiet none may
         (⊎_elim (λ (z : all_taken l ss + X_LOCK_DECR ≡ X_LOCK_DECR). omega arith) (λ (z : all_taken l ss + X_LOCK_DECR ≡ X_LOCK_DECR + X_LOCK_HALF_DECR). omega arith)
         (drained (all_taken l ss + X_LOCK_DECR) (ap is_drained (sym (more_taken (all_taken l ss) X_LOCK_DECR)) ∙ whole))))
@@ -78,12 +78,12 @@ module _ (m : ℕ → Marks) (ss : List Session) (i : ℕ) (held : List Holding)
         waits
 
   -- a wish that the order of levels allows, or refuses
-  pub allowed : (l : ℕ) (v : Level) (p : Phase) (b : Bool) (r : Reply) → Stands ss i (with_phase p held) → ((b ≡ false → MayTake v (levels_of held)) → IsGood (set ss i r.session) m)
+  pub allowed : (l : ℕ) (v : Level) (p : Phase) (b : Bool) (r : Response) → Stands ss i (with_phase p held) → ((b ≡ false → MayTake v (levels_of held)) → IsGood (set ss i r.session) m)
       → IsGood (set ss i (if_allowed (answer_to b v (levels_of held)) (with_phase p held) r).session) m
   allowed l v p true r at kept = kept (λ z. absurd (cc))
   allowed l v p false r at kept = by_first (first_against v (levels_of held)) refl
     where
-      by_first : (o : Option Level) → first_against v (levels_of held) ≡ o → IsGood (set ss i (if_allowed (Rattle.ib_levels.specs.Held.refused_by v o) (with_phase p held) r).session) m
+      by_first : (o : Option Level) → first_against v (levels_of held) ≡ o → IsGood (set ss i (if_allowed (refused_by v o) (with_phase p held) r).session) m
       by_first None is = kept (λ _. may_from_none v (levels_of held) is)
       by_first (Some against) is = stays m ss i (with_phase p held) good at
 
@@ -95,7 +95,7 @@ module _ (m : ℕ → Marks) (ss : List Session) (i : ℕ) (held : List Holding)
     proper = good.proper i (with_phase Free held) at
 
     pub s_kept : (l : ℕ) (v : Level) → IsGood (set ss i (taking_s l v (word_on l ss) (with_phase Free held)).session) m
-    s_kept l v = choose (λ (r : Reply). IsGood (set ss i r.session) m) (is_held l held) _ _ (λ _. unchanged)
+    s_kept l v = choose (λ (r : Response). IsGood (set ss i r.session) m) (is_held l held) _ _ (λ _. unchanged)
         (λ unheld. allowed l v Free (is_held l held) _ at (λ may.
         first_kept l v Free Free at refl nothing_free (none_from_unheld l held unheld) (may unheld) ModeS (λ _. unchanged)))
 
@@ -104,9 +104,9 @@ module _ (m : ℕ → Marks) (ss : List Session) (i : ℕ) (held : List Holding)
     free_of l unread unclaimed = let c = counted l (with_phase Free held) (proper.single l) in let s = proper.solid l in omega arith
 
     pub sx_kept : (l : ℕ) (v : Level) → IsGood (set ss i (taking_sx l v (word_on l ss) (with_phase Free held)).session) m
-    sx_kept l v = choose (λ (r : Reply). IsGood (set ss i r.session) m) (nat_lt 0 (reads l (with_phase Free held))) _ _ (λ _. unchanged)
+    sx_kept l v = choose (λ (r : Response). IsGood (set ss i r.session) m) (nat_lt 0 (reads l (with_phase Free held))) _ _ (λ _. unchanged)
         (λ unread. allowed l v Free (is_held l held) _ at (λ may.
-        choose (λ (r : Reply). IsGood (set ss i r.session) m) (nat_lt 0 (claims l (with_phase Free held))) _ _
+        choose (λ (r : Response). IsGood (set ss i r.session) m) (nat_lt 0 (claims l (with_phase Free held))) _ _
         (λ claims'. takes_further_sx m ss i held l good at (some _ claims'))
         (λ unclaimed.
         let none = free_of l (none_of _ unread) (none_of _ unclaimed) in
@@ -118,10 +118,10 @@ module _ (m : ℕ → Marks) (ss : List Session) (i : ℕ) (held : List Holding)
         let a : Session = with_phase Free held in let c = counted l a (proper.single l) in let unread = reads_none l a proper (omega arith) in
         let x : x_weight (x_grants l a) ≡ 0 = ap x_weight no_x in let sx = sx_weight_cases (sx_grants l a) in
         let mine : taken l a ≡ X_LOCK_HALF_DECR = grind arith in let least = one_of (taken l) ss i a at in
-        choose (λ (r : Reply). IsGood (set ss i r.session) m) (is_above_0 (word_on l ss)) _ _
+        choose (λ (r : Response). IsGood (set ss i r.session) m) (is_above_0 (word_on l ss)) _ _
         (λ up.
         let low = above_0 (all_taken l ss) up in
-        choose (λ (r : Reply). IsGood (set ss i r.session) m) (is_drained (word_on l ss -ℤ pos X_LOCK_DECR)) _ _
+        choose (λ (r : Response). IsGood (set ss i r.session) m) (is_drained (word_on l ss -ℤ pos X_LOCK_DECR)) _ _
         (λ whole. upgrades_alone m ss i held l good at (omega arith)
         (⊎_elim (λ (z : all_taken l ss + X_LOCK_DECR ≡ X_LOCK_DECR). absurd (omega arith)) (λ (z : all_taken l ss + X_LOCK_DECR ≡ X_LOCK_DECR + X_LOCK_HALF_DECR). omega arith)
         (drained (all_taken l ss + X_LOCK_DECR) (ap is_drained (sym (more_taken (all_taken l ss) X_LOCK_DECR)) ∙ whole))))
@@ -131,11 +131,11 @@ module _ (m : ℕ → Marks) (ss : List Session) (i : ℕ) (held : List Holding)
     pub x_kept : (l : ℕ) (v : Level) → IsGood (set ss i (taking_x l v (word_on l ss) (with_phase Free held)).session) m
     x_kept l v =
         let c = counted l (with_phase Free held) (proper.single l) in
-        choose (λ (r : Reply). IsGood (set ss i r.session) m) (nat_lt 0 (reads l (with_phase Free held))) _ _ (λ _. unchanged)
+        choose (λ (r : Response). IsGood (set ss i r.session) m) (nat_lt 0 (reads l (with_phase Free held))) _ _ (λ _. unchanged)
         (λ unread. allowed l v Free (is_held l held) _ at (λ may.
-        choose (λ (r : Reply). IsGood (set ss i r.session) m) (nat_lt 0 (x_grants l (with_phase Free held))) _ _
+        choose (λ (r : Response). IsGood (set ss i r.session) m) (nat_lt 0 (x_grants l (with_phase Free held))) _ _
         (λ has. let own = some (x_grants l (with_phase Free held)) has in takes_further_x m ss i held l good at (omega arith) own)
-        (λ no_x. choose (λ (r : Reply). IsGood (set ss i r.session) m) (nat_lt 0 (sx_grants l (with_phase Free held))) _ _
+        (λ no_x. choose (λ (r : Response). IsGood (set ss i r.session) m) (nat_lt 0 (sx_grants l (with_phase Free held))) _ _
         (λ has. upgrade_kept l v (some _ has) (none_of _ no_x))
         (λ no_sx.
         let x = none_of (x_grants l (with_phase Free held)) no_x in let sx = none_of (sx_grants l (with_phase Free held)) no_sx in
@@ -144,7 +144,7 @@ module _ (m : ℕ → Marks) (ss : List Session) (i : ℕ) (held : List Holding)
 
     -- the word after S is given back is the one that its readers and claimers then make
     pub us_kept : (l : ℕ) → IsGood (set ss i (giving_s l (word_on l ss) (with_phase Free held)).session) m
-    us_kept l = choose (λ (r : Reply). IsGood (set ss i r.session) m) (nat_lt 0 (reads l (with_phase Free held))) _ _
+    us_kept l = choose (λ (r : Response). IsGood (set ss i r.session) m) (nat_lt 0 (reads l (with_phase Free held))) _ _
         (λ reads'. let has = some (reads l (with_phase Free held)) reads' in by_word has (is_drained (word_on l ss +ℤ pos 1)) refl)
         (λ _. unchanged)
       where
@@ -166,7 +166,7 @@ module _ (m : ℕ → Marks) (ss : List Session) (i : ℕ) (held : List Holding)
     pub usx_kept : (l : ℕ) → IsGood (set ss i (giving_sx l (with_phase Free held)).session) m
     usx_kept l =
         let a : Session = with_phase Free held in let c = counted l a (proper.single l) in
-        choose (λ (r : Reply). IsGood (set ss i r.session) m) (nat_lt 0 (sx_grants l a)) _ _
+        choose (λ (r : Response). IsGood (set ss i r.session) m) (nat_lt 0 (sx_grants l a)) _ _
         (λ sx. let has = some (sx_grants l a) sx in
         by_equal (λ b. IsGood (set ss i (with_phase (cond b (OwesLook l) Free) (cond b (without l held) (changed l (one_fewer ModeSx) held)))) m) (claims l a) 1
         (λ last. gives_last m ss i held l good at (omega arith))
@@ -176,7 +176,7 @@ module _ (m : ℕ → Marks) (ss : List Session) (i : ℕ) (held : List Holding)
     pub ux_kept : (l : ℕ) → IsGood (set ss i (giving_x l (with_phase Free held)).session) m
     ux_kept l =
         let a : Session = with_phase Free held in let c = counted l a (proper.single l) in
-        choose (λ (r : Reply). IsGood (set ss i r.session) m) (nat_lt 0 (x_grants l a)) _ _
+        choose (λ (r : Response). IsGood (set ss i r.session) m) (nat_lt 0 (x_grants l a)) _ _
         (λ x. let has = some (x_grants l a) x in
         by_equal (λ b. IsGood (set ss i (with_phase (cond (x_grants l a == 1) (OwesLook l) Free) (cond b (without l held) (changed l (one_fewer ModeX) held)))) m) (claims l a) 1
         (λ last. by_equal (λ b. IsGood (set ss i (with_phase (cond b (OwesLook l) Free) (without l held))) m) (x_grants l a) 1
@@ -188,5 +188,5 @@ module _ (m : ℕ → Marks) (ss : List Session) (i : ℕ) (held : List Holding)
         (λ _. unchanged)
 
     pub arm_kept : (l : ℕ) (mode : Mode) (v : Level) → IsGood (set ss i (arming l mode v (m l).generation (with_phase Free held)).session) m
-    arm_kept l mode v = choose (λ (r : Reply). IsGood (set ss i r.session) m) (is_held l held) _ _ (λ _. unchanged)
+    arm_kept l mode v = choose (λ (r : Response). IsGood (set ss i r.session) m) (is_held l held) _ _ (λ _. unchanged)
         (λ unheld. allowed l v Free (is_held l held) _ at (λ may. arms m ss i held l good mode v at (none_from_unheld l held unheld) (may unheld)))

@@ -10,7 +10,7 @@ use Rattle.ib_core.specs.declared.phase.Phase.TheVariants.{Free, Armed, Flagged,
 use Rattle.ib_core.specs.declared.session.Session.{Session}
 use Rattle.ib_core.specs.declared.session.Marks.{Marks}
 use Rattle.ib_core.specs.Sessions.{Stands, is_next, holdings, reads, owned}
-use Rattle.ib_core.specs.Replies.{is_elsewhere}
+use Rattle.ib_core.specs.Responses.{is_elsewhere}
 use Rattle.ib_core.specs.Good.{Suits, MustWait, MustDrain, Heard, IsGood, owes_raise, owes_raise_ex, owes_signal}
 use Rattle.ib_core.proofs.Quiet.{at_itself}
 use Rattle.ib_core.proofs.Heard.{Heeds, heard_move}

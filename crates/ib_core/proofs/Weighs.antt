@@ -13,7 +13,7 @@ use Rattle.ib_levels.specs.declared.level.Mode.TheVariants.{Sx, X}
 use Rattle.ib_levels.specs.declared.holding.Holding.{Holding}
 use Rattle.ib_levels.specs.Holding.{on, without, changed}
 use Rattle.ib_levels.proofs.Counts.{on-without, by_equal}
-use Rattle.ib_core.specs.Grants.{given_back, one_fewer, one_more}
+use Rattle.ib_core.specs.Takings.{given_back, one_fewer, one_more}
 use Rattle.ib_core.proofs.OnLatch.{counted, weighs, more_x_taken, more_sx_taken, fewer_x_taken, fewer_sx_taken}
 
 -- who reads takes 1 off

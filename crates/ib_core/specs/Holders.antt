@@ -1,9 +1,15 @@
 -- Which holders go together on a latch, and which wish is grantable, in the words of a reader.
-use Rattle.std.specs.Prelude.{◌≢◌, ℕ, ◌<◌, IsTrue, List}
+use Rattle.std.specs.Prelude.{◌≡◌, ◌≢◌, ℕ, ◌<◌, ◌⊎◌, IsTrue, List}
+use Rattle.ib_levels.specs.declared.level.Level.{Level}
 use Rattle.ib_levels.specs.declared.level.Mode.{Mode}
 use Rattle.ib_levels.specs.declared.level.Mode.TheVariants.{S, Sx, X}
+use Rattle.ib_levels.specs.Level.{MayTake}
+use Rattle.ib_levels.specs.Holding.{levels_of}
+use Rattle.ib_core.specs.declared.phase.Phase.TheVariants.{Free}
+use Rattle.ib_core.specs.declared.event.Answer.{Answer}
+use Rattle.ib_core.specs.declared.event.Answer.TheVariants.{Granted, Reserved}
 use Rattle.ib_core.specs.declared.session.Session.{Session}
-use Rattle.ib_core.specs.Sessions.{Stands, is_next, reads, sx_grants, owned}
+use Rattle.ib_core.specs.Sessions.{Stands, is_next, holdings, reads, sx_grants, owned}
 
 -- a session reads the latch, owns SX, owns X, or is the next writer
 abbrev pub Reads : ℕ → Session → Type 0
@@ -47,3 +53,13 @@ abbrev pub IsGrantable : Mode → ℕ → List Session → Type 0
 IsGrantable S l sessions = IsFreeOfX l sessions
 IsGrantable Sx l sessions = IsFreeOfClaims l sessions
 IsGrantable X l sessions = IsFreeOfClaims l sessions
+
+-- a session in the middle of nothing, with nothing on the latch, may take it at the level
+pub record CanWish (l : ℕ) (v : Level) (a : Session) : Type 0 where
+  pub free : a.phase ≡ Free
+  pub none : holdings l a ≡ 0
+  pub allowed : MayTake v (levels_of a.held)
+
+-- the answer to a wish says that it was taken: granted, or reserved for the next writer
+abbrev pub IsTaken : Answer → Type 0
+IsTaken answer = (answer ≡ Granted) ⊎ (answer ≡ Reserved)

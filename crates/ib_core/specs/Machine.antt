@@ -7,7 +7,7 @@ use Rattle.ib_core.specs.declared.event.Answer.{Answer}
 use Rattle.ib_core.specs.declared.session.Session.{Session}
 use Rattle.ib_core.specs.declared.session.Marks.{Marks}
 use Rattle.ib_core.specs.Sessions.{idle, word_on}
-use Rattle.ib_core.specs.Replies.{Turn, latch_of}
+use Rattle.ib_core.specs.Responses.{Turn, latch_of}
 use Rattle.ib_core.specs.Table.{turn_of}
 use Rattle.ib_core.specs.Good.{IsGood}
 

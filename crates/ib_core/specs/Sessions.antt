@@ -1,7 +1,8 @@
 -- What a session has on a latch, and who holds a latch, read off the list of all sessions.
-use Rattle.std.specs.Prelude.{◌≡◌, ℕ, ◌+◌, Bool, false, cond, nat_lt, List, [], ◌==◌, ℤ, sum_by, Option, position}
+use Rattle.std.specs.Prelude.{◌≡◌, ℕ, ◌+◌, ◌≤◌, Bool, false, cond, nat_lt, List, [], ◌==◌, ℤ, sum_by, Option, position}
 use mathlib.Core.Option.{some}
 use lib.ListN.{get_elem?}
+use Rattle.ib_word.specs.declared.word.TheConstants.{MOST_READERS}
 use Rattle.ib_word.specs.Weight.{weight}
 use Rattle.ib_word.specs.Word.{word_less}
 use Rattle.ib_levels.specs.Holding.{on}
@@ -63,6 +64,10 @@ word_on l sessions = word_less (all_taken l sessions)
 -- the number of readers of a latch
 abbrev pub readers_of : ℕ → List Session → ℕ
 readers_of l sessions = sum_by (reads l) sessions
+
+-- no latch has more readers than its word can count
+abbrev pub HasFewReaders : List Session → Type 0
+HasFewReaders sessions = (l : ℕ) → readers_of l sessions ≤ MOST_READERS
 
 -- the places of the owner of SX, of the owner of X, and of the next writer
 abbrev pub sx_owner_of : ℕ → List Session → Option ℕ

@@ -1,7 +1,7 @@
 //! The events of the latch machine, and their answers.
 
 ghost use Rattle.std.specs.Prelude.{◌≡◌};
-ghost use Rattle.ib_core.specs.Replies.{latch_of};
+ghost use Rattle.ib_core.specs.Responses.{latch_of};
 
 use ib_levels::{Level, Mode};
 use ib_word::LockWord;

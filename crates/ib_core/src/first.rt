@@ -1,14 +1,15 @@
 //! The first grant of a session on a latch, and the place of the next writer.
 
 ghost use Rattle.std.specs.Prelude.{◌≡◌, ◌≤◌, ◌-ℤ◌, pos, IsTrue, SomeIff, vec_capacity};
-ghost use Rattle.ib_core.specs.Member.{CanStep, HasRoom, SameSum, session_of};
+ghost use Rattle.ib_core.specs.Actor.{HasRoom, session_of};
+ghost use Rattle.ib_core.specs.Member.{CanStep, SameSum};
 ghost use Rattle.ib_core.specs.Sessions.{holdings};
-ghost use Rattle.ib_core.specs.Grants.{first, first_holding, first_weight, is_given_at, reserving};
-ghost use Rattle.ib_core.specs.Replies.{answered};
+ghost use Rattle.ib_core.specs.Takings.{first, first_holding, first_weight, is_given_at, reserving};
+ghost use Rattle.ib_core.specs.Responses.{answered};
 
+use crate::actor::Actor;
 use crate::event::Answer;
 use crate::holdings::add;
-use crate::member::Member;
 use crate::phase::Phase;
 use ib_levels::{Holding, Latch, Level, Mode};
 use ib_word::{LockWord, owes_ex, take_s, take_sx, take_x};
@@ -38,11 +39,11 @@ fn with_one(latch: Latch, mode: Mode, level: Level) -> Holding
     }
 }
 
-impl Member {
+impl Actor {
     // X was taken off the word, which is this one now: the session owns X where no reader
     // remains, and else it is the next writer (sync0rw, `rw_lock_x_lock_wait`).
     pub(crate) fn reserve(&mut self, word: LockWord, latch: Latch, level: Level) -> Answer
-        ensures replies { answered result (session_of self.new)
+        ensures responds { answered result (session_of self.new)
             ≡ reserving latch.0 level word.0 self.old.held.items }
         ensures held { self.new.held.items ≡ self.old.held.items }
         ensures capacity { vec_capacity self.old.held ≤ vec_capacity self.new.held }
@@ -71,7 +72,7 @@ impl Member {
         requires can { CanStep latch.0 word.old.0 (session_of self.old) }
         requires none { holdings latch.0 (session_of self.old) ≡ 0 }
         requires room { HasRoom latch.0 self.old }
-        ensures replies { answered result (session_of self.new)
+        ensures responds { answered result (session_of self.new)
             ≡ first mode latch.0 level waiting word.old.0 self.old.held.items }
         ensures weighs { SameSum latch.0 word.old.0 (session_of self.old)
             word.new.0 (session_of self.new) }

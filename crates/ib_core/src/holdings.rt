@@ -2,16 +2,16 @@
 
 ghost use Rattle.std.specs.Prelude.{◌≡◌, ℕ, ◌+◌, ◌^◌, ◌<◌, ◌≤◌, ◌==◌, if◌then◌else◌, ◌∷◌, ◌++◌, [], find, vec_len, vec_capacity};
 ghost use Rattle.ib_levels.specs.Holding.{changed, on, without};
-ghost use Rattle.ib_core.specs.Grants.{level_on, one_fewer, one_more};
+ghost use Rattle.ib_core.specs.Takings.{count_of, level_on, one_fewer, one_more};
 
 use ib_levels::{Holding, Latch, Level, Mode};
 
-// The grants of one session on one latch, by mode.
-#[derive(Clone, Copy)]
-pub(crate) struct Grants {
-    pub(crate) s: u32,
-    pub(crate) sx: u32,
-    pub(crate) x: u32,
+/// The grants of one session on one latch, by mode. A reservation of X counts as a grant of X.
+#[derive(Clone, Copy, PartialEq, Eq, Debug)]
+pub struct Counts {
+    pub s: u32,
+    pub sx: u32,
+    pub x: u32,
 }
 
 // What is held on the latch: the first holding of the list on it.
@@ -22,19 +22,19 @@ pub(crate) fn holding_on(held: &[Holding], latch: Latch) -> Option<Holding>
 }
 
 // The grants on the latch: none where it is not held.
-pub(crate) fn grants_on(held: &[Holding], latch: Latch) -> Grants
+pub(crate) fn grants_on(held: &[Holding], latch: Latch) -> Counts
     requires { on latch.0 (λ h. 1) held.now ≤ 1 }
     ensures s { result.s ≡ on latch.0 (λ h. h.s) held.now }
     ensures sx { result.sx ≡ on latch.0 (λ h. h.sx) held.now }
     ensures x { result.x ≡ on latch.0 (λ h. h.x) held.now }
 {
     match holding_on(held, latch) {
-        Some(h) => Grants {
+        Some(h) => Counts {
             s: h.s,
             sx: h.sx,
             x: h.x,
         },
-        None => Grants { s: 0, sx: 0, x: 0 },
+        None => Counts { s: 0, sx: 0, x: 0 },
     }
 }
 
@@ -65,24 +65,16 @@ fn with_one_more(h: Holding, latch: Latch, mode: Mode) -> Holding
 
 // The holding with one grant of the mode fewer, where it is on the latch.
 fn with_one_fewer(h: Holding, latch: Latch, mode: Mode) -> Holding
+    requires { h.latch.0 ≡ latch.0 → 0 < count_of mode h }
     ensures { result ≡ (if h.latch.0 == latch.0 then one_fewer mode h else h) }
 {
     if h.latch != latch {
         return h;
     }
     match mode {
-        Mode::S => Holding {
-            s: h.s.saturating_sub(1),
-            ..h
-        },
-        Mode::Sx => Holding {
-            sx: h.sx.saturating_sub(1),
-            ..h
-        },
-        Mode::X => Holding {
-            x: h.x.saturating_sub(1),
-            ..h
-        },
+        Mode::S => Holding { s: h.s - 1, ..h },
+        Mode::Sx => Holding { sx: h.sx - 1, ..h },
+        Mode::X => Holding { x: h.x - 1, ..h },
     }
 }
 
@@ -98,6 +90,8 @@ fn each_one_more(held: &mut [Holding], latch: Latch, mode: Mode)
 
 // Each holding on the latch has one grant of the mode fewer.
 fn each_one_fewer(held: &mut [Holding], latch: Latch, mode: Mode)
+    requires single { on latch.0 (λ h. 1) held.old ≤ 1 }
+    requires has { 0 < on latch.0 (count_of mode) held.old }
     ensures { held.new ≡ changed latch.0 (one_fewer mode) held.old }
 {
     for h in held.iter_mut() {
@@ -116,6 +110,8 @@ pub(crate) fn add_one(held: &mut Vec<Holding>, latch: Latch, mode: Mode)
 
 // One grant of the mode fewer on the latch.
 pub(crate) fn take_one(held: &mut Vec<Holding>, latch: Latch, mode: Mode)
+    requires single { on latch.0 (λ h. 1) held.old.items ≤ 1 }
+    requires has { 0 < on latch.0 (count_of mode) held.old.items }
     ensures items { held.new.items ≡ changed latch.0 (one_fewer mode) held.old.items }
     ensures capacity { vec_capacity held.old ≡ vec_capacity held.new }
 {

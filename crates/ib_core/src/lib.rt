@@ -2,9 +2,11 @@
 //! wait array of sync0arr) as plain data, one event one atomic action.
 #![tactic(auto)]
 
+mod actor;
 mod event;
 mod first;
 mod holdings;
+mod latch_word;
 mod laws;
 mod machine;
 mod member;
@@ -12,13 +14,20 @@ mod phase;
 mod releases;
 mod session;
 mod table;
+mod taking_laws;
 mod takings;
 #[cfg(test)]
 mod tests;
+mod turn_laws;
 mod waits;
 
 pub use event::{Answer, Event, Refusal};
-pub use laws::law;
+pub use holdings::Counts;
+pub use latch_word::LatchWord;
+pub use laws::{core_law, grant_law, signal_law};
 pub use machine::{Core, MOST_LATCHES, MOST_SESSIONS, MOST_STEPS, OutOfMemory};
+pub use member::Member;
 pub use phase::Phase;
 pub use session::{Marks, Session};
+pub use taking_laws::{session_law, weight_law};
+pub use turn_laws::{debt_law, leaves_law, turn_law};

@@ -1,15 +1,13 @@
 //! The machine: all sessions, and the words of all latches.
 
-ghost use Rattle.std.specs.Prelude.{◌≡◌, ℕ, ◌+◌, ◌-◌, ◌<◌, ◌≤◌, length, IfOk, vec_capacity};
-ghost use Rattle.ib_core.specs.Sessions.{idle, word_on};
-ghost use Rattle.ib_core.specs.Replies.{latch_of};
+ghost use Rattle.std.specs.Prelude.{◌≡◌, ℕ, ◌+◌, ◌-◌, ◌<◌, ◌≤◌, length, replicate, IfOk};
+ghost use Rattle.ib_core.specs.Sessions.{word_on};
+ghost use Rattle.ib_core.specs.Responses.{latch_of};
 ghost use Rattle.ib_core.specs.Machine.{IsGoodState, opening, outcome_of};
-ghost use Rattle.ib_core.specs.Member.{session_of};
-ghost use Rattle.ib_core.specs.Counted.{AreIdle};
+ghost use Rattle.ib_core.specs.Member.{idle_among};
 
 use crate::event::{Answer, Event};
 use crate::member::Member;
-use crate::phase::Phase;
 use crate::session::Marks;
 use ib_levels::MOST_PAGES;
 use ib_word::{LockWord, MOST_READERS};
@@ -25,6 +23,13 @@ pub const MOST_LATCHES: u32 = MOST_PAGES + 2;
 /// The most steps of a machine. The words and generations that they reach fit their numbers.
 pub const MOST_STEPS: u32 = (1 << 28) - 1;
 
+// Clauses cite these by name: with another number the check fails here.
+const _: () = prove!(MOST_SESSIONS == 1024);
+
+const _: () = prove!(MOST_LATCHES == 4098);
+
+const _: () = prove!(MOST_STEPS == 268_435_455);
+
 /// Want of memory.
 pub type OutOfMemory = AllocError;
 
@@ -39,39 +44,27 @@ pub struct Core {
 }
 
 impl Model for Core {
-    ghost use Rattle.std.specs.Prelude.{map};
     ghost use Rattle.ib_core.specs.Machine.{Machine};
-    ghost use Rattle.ib_core.specs.Member.{session_of};
-    ghost use Rattle.ib_core.specs.Counted.{IsCounted};
+    ghost use Rattle.ib_core.specs.Member.{sessions_of};
+    ghost use Rattle.ib_core.specs.Keeping.{IsKept};
 
     ghost Value = { Machine };
 
     ghost view = { λ c. record {
-      state = record { sessions = map session_of c.members.items; marks = c.marks.items };
+      state = record { sessions = sessions_of c.members.items; marks = c.marks.items };
       steps = c.steps;
     } };
 
-    ghost invariant = { λ c. IsCounted c.members.items c.words.items c.marks.items c.steps };
+    ghost invariant = { λ c. IsKept c.members.items c.words.items c.marks.items c.steps };
 }
 
-// A member that holds nothing, with room for this many latches.
-fn idle_member(alloc: Global, latches: u32) -> Result<Member, AllocError>
-    ensures idle { IfOk result (λ m. session_of m ≡ idle) }
-    ensures room { IfOk result (λ m. latches ≤ vec_capacity m.held) }
-{
-    Ok(Member {
-        held: Vec::with_capacity(alloc, latches as usize)?,
-        phase: Phase::Free,
-    })
-}
-
-// As many such members as there are sessions.
-fn idle_members(alloc: Global, sessions: u32, latches: u32) -> Result<Vec<Member>, AllocError>
-    ensures { IfOk result (λ v. AreIdle sessions latches v.items) }
+// As many idle members as there are sessions.
+fn idle_members(alloc: Global, sessions: u32, latches: u32) -> Result<Vec<Member>, OutOfMemory>
+    ensures { IfOk result (λ v. v.items ≡ replicate sessions (idle_among latches)) }
 {
     let mut members = Vec::with_capacity(alloc, sessions as usize)?;
     for _ in 0..sessions {
-        members.push(idle_member(alloc, latches)?)?;
+        members.push(Member::idle(alloc, latches)?)?;
     }
     Ok(members)
 }

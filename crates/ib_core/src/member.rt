@@ -1,48 +1,110 @@
-//! A session as the machine keeps it.
+//! A session of the machine, among a number of latches.
 
-ghost use Rattle.std.specs.Prelude.{◌≡◌, ◌+◌, ◌≤◌};
-ghost use Rattle.ib_levels.specs.Held.{answer_to};
+ghost use Rattle.std.specs.Prelude.{◌≡◌, ◌+◌, ◌<◌, ◌≤◌, ◌^◌, IfOk};
+ghost use Rattle.ib_levels.specs.Listed.{answer_to};
 ghost use Rattle.ib_levels.specs.Holding.{is_held, levels_of};
-ghost use Rattle.ib_core.specs.Member.{session_of};
-ghost use Rattle.ib_core.specs.Sessions.{claims, grants, holdings, reads, sx_grants, x_grants};
+ghost use Rattle.ib_core.specs.Sessions.{holdings, reads, sx_grants, x_grants};
+ghost use Rattle.ib_core.specs.Responses.{latch_of};
+ghost use Rattle.ib_core.specs.Table.{turn_of};
+ghost use Rattle.ib_core.specs.Member.{CanStep, SameSum, idle_among};
 
-use crate::holdings::{Grants, grants_on};
+use crate::OutOfMemory;
+use crate::actor::Actor;
+use crate::event::{Answer, Event};
+use crate::holdings::Counts;
 use crate::phase::Phase;
-use ib_levels::{Against, Holding, Latch, Level, holds, may_add};
+use crate::session::Marks;
+use ib_levels::{Against, Holding, Latch, Level};
+use ib_word::LockWord;
+use std::alloc::Global;
+use std::marker::Model;
 
-// A session: what it holds, in a list with room for each latch, and its phase.
+/// A session of the machine. Contracts see it as the session and the number of latches for which
+/// its list has room, so that no event on one of them takes memory. It may go over to another
+/// thread.
 #[derive(Drop)]
-pub(crate) struct Member {
-    pub(crate) held: Vec<Holding>,
-    pub(crate) phase: Phase,
+pub struct Member {
+    actor: Actor,
+    latches: u32,
+}
+
+impl Model for Member {
+    ghost use Rattle.ib_core.specs.Actor.{HasRoomFor, session_of};
+    ghost use Rattle.ib_core.specs.Member.{SessionAmong};
+
+    ghost Value = { SessionAmong };
+
+    ghost view = { λ m. record { session = session_of m.actor; latches = m.latches } };
+
+    ghost invariant = { λ m. HasRoomFor m.latches m.actor };
 }
 
 impl Member {
-    // Whether the session holds the latch.
-    pub(crate) fn holds(&self, latch: Latch) -> bool
-        ensures { result ≡ is_held latch.0 self.now.held.items }
+    /// A session that holds nothing, with room for this many latches.
+    pub fn idle(alloc: Global, latches: u32) -> Result<Member, OutOfMemory>
+        ensures { IfOk result (λ m. m ≡ idle_among latches) }
     {
-        holds(self.held.as_slice(), latch)
+        let actor = Actor {
+            held: Vec::with_capacity(alloc, latches as usize)?,
+            phase: Phase::Free,
+        };
+        Ok(Member { actor, latches })
     }
 
-    // Its grants on the latch.
-    pub(crate) fn grants(&self, latch: Latch) -> Grants
-        requires { holdings latch.0 (session_of self.now) ≤ 1 }
-        ensures s { result.s ≡ reads latch.0 (session_of self.now) }
-        ensures sx { result.sx ≡ sx_grants latch.0 (session_of self.now) }
-        ensures x { result.x ≡ x_grants latch.0 (session_of self.now) }
-        ensures claims { result.sx + result.x ≡ claims latch.0 (session_of self.now) }
-        ensures all { result.s + (result.sx + result.x) ≡ grants latch.0 (session_of self.now) }
+    /// Its phase.
+    pub fn phase(&self) -> Phase
+        ensures { result ≡ self.now.session.phase }
     {
-        grants_on(self.held.as_slice(), latch)
+        self.actor.phase
     }
 
-    // Whether the order of levels allows it the latch at the level.
-    pub(crate) fn may_take(&self, latch: Latch, level: Level) -> Result<(), Against>
+    /// What it holds, in order of taking.
+    pub fn held(&self) -> &[Holding]
+        ensures { result.now ≡ self.now.session.held }
+    {
+        self.actor.held.as_slice()
+    }
+
+    /// Whether it holds the latch.
+    pub fn holds(&self, latch: Latch) -> bool
+        ensures { result ≡ is_held latch.0 self.now.session.held }
+    {
+        self.actor.holds(latch)
+    }
+
+    /// Its grants on the latch: none where it does not hold it.
+    pub fn counts(&self, latch: Latch) -> Counts
+        requires { holdings latch.0 self.now.session ≤ 1 }
+        ensures s { result.s ≡ reads latch.0 self.now.session }
+        ensures sx { result.sx ≡ sx_grants latch.0 self.now.session }
+        ensures x { result.x ≡ x_grants latch.0 self.now.session }
+    {
+        self.actor.grants(latch)
+    }
+
+    /// Whether the order of levels allows it the latch at the level: it does where the session
+    /// holds the latch already. Else the answer names the first level held that forbids it.
+    pub fn may_take(&self, latch: Latch, level: Level) -> Result<(), Against>
         ensures { result
-            ≡ answer_to (is_held latch.0 self.now.held.items) level
-            (levels_of self.now.held.items) }
+            ≡ answer_to (is_held latch.0 self.now.session.held) level
+            (levels_of self.now.session.held) }
     {
-        may_add(self.held.as_slice(), latch, level)
+        self.actor.may_take(latch, level)
+    }
+
+    /// One event of the session, on the latch with this word and these marks: exactly the turn of
+    /// the table. The word moves by what the session takes off it.
+    pub fn step(&mut self, word: &mut LockWord, marks: &mut Marks, event: Event) -> Answer
+        requires latch { latch_of event < self.old.latches }
+        requires can { CanStep (latch_of event) word.old.0 self.old.session }
+        requires generation { marks.old.generation + 1 < 2 ^ 64 }
+        requires ex_generation { marks.old.ex_generation + 1 < 2 ^ 64 }
+        ensures turn { record { answer = result; session = self.new.session; marks = marks.new }
+            ≡ turn_of word.old.0 marks.old event self.old.session }
+        ensures weighs { SameSum (latch_of event) word.old.0 self.old.session
+            word.new.0 self.new.session }
+        ensures latches { self.new.latches ≡ self.old.latches }
+    {
+        self.actor.step(word, marks, event)
     }
 }

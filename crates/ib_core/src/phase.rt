@@ -1,7 +1,7 @@
 //! The phases of a session: what it is in the middle of, between two of its events.
 
 ghost use Rattle.std.specs.Prelude.{◌≡◌};
-ghost use Rattle.ib_core.specs.Replies.{is_elsewhere};
+ghost use Rattle.ib_core.specs.Responses.{is_elsewhere};
 
 use ib_levels::{Level, Mode};
 

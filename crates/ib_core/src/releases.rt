@@ -1,24 +1,27 @@
 //! The events that give a grant back.
 
 ghost use Rattle.std.specs.Prelude.{◌≡◌, ◌^◌, ◌<◌, ◌≤◌, vec_capacity};
+ghost use Rattle.ib_levels.specs.Holding.{on};
 ghost use Rattle.ib_core.specs.declared.phase.Phase.TheVariants.{Free};
-ghost use Rattle.ib_core.specs.Member.{CanStep, SameSum, session_of};
+ghost use Rattle.ib_core.specs.Actor.{session_of};
+ghost use Rattle.ib_core.specs.Member.{CanStep, SameSum};
 ghost use Rattle.ib_core.specs.Sessions.{grants, holdings};
-ghost use Rattle.ib_core.specs.Grants.{given_back, giving_s, giving_sx, giving_x};
-ghost use Rattle.ib_core.specs.Replies.{answered};
+ghost use Rattle.ib_core.specs.Takings.{count_of, given_back, giving_s, giving_sx, giving_x};
+ghost use Rattle.ib_core.specs.Responses.{answered};
 
+use crate::actor::Actor;
 use crate::event::{Answer, Refusal};
 use crate::holdings::{give_up, take_one};
-use crate::member::Member;
 use crate::phase::Phase;
 use ib_levels::{Latch, Mode};
 use ib_word::{LockWord, X_LOCK_HALF_DECR, give_x, owes_ex};
 
-impl Member {
+impl Actor {
     // One grant of SX or X goes, and with the last one the holding.
     fn give_back(&mut self, latch: Latch, mode: Mode)
         requires single { holdings latch.0 (session_of self.old) ≤ 1 }
         requires few { grants latch.0 (session_of self.old) < 2 ^ 28 }
+        requires has { 0 < on latch.0 (count_of mode) self.old.held.items }
         ensures held { self.new.held.items ≡ given_back mode latch.0 (session_of self.old) }
         ensures phase { self.new.phase ≡ self.old.phase }
         ensures capacity { vec_capacity self.old.held ≤ vec_capacity self.new.held }
@@ -36,7 +39,7 @@ impl Member {
     pub(crate) fn give_s(&mut self, word: &mut LockWord, latch: Latch) -> Answer
         requires can { CanStep latch.0 word.old.0 (session_of self.old) }
         requires free { self.old.phase ≡ Free }
-        ensures replies { answered result (session_of self.new)
+        ensures responds { answered result (session_of self.new)
             ≡ giving_s latch.0 word.old.0 (session_of self.old) }
         ensures weighs { SameSum latch.0 word.old.0 (session_of self.old)
             word.new.0 (session_of self.new) }
@@ -58,7 +61,7 @@ impl Member {
     pub(crate) fn give_sx(&mut self, word: &mut LockWord, latch: Latch) -> Answer
         requires can { CanStep latch.0 word.old.0 (session_of self.old) }
         requires free { self.old.phase ≡ Free }
-        ensures replies { answered result (session_of self.new)
+        ensures responds { answered result (session_of self.new)
             ≡ giving_sx latch.0 (session_of self.old) }
         ensures weighs { SameSum latch.0 word.old.0 (session_of self.old)
             word.new.0 (session_of self.new) }
@@ -83,7 +86,7 @@ impl Member {
     pub(crate) fn give_x(&mut self, word: &mut LockWord, latch: Latch) -> Answer
         requires can { CanStep latch.0 word.old.0 (session_of self.old) }
         requires free { self.old.phase ≡ Free }
-        ensures replies { answered result (session_of self.new)
+        ensures responds { answered result (session_of self.new)
             ≡ giving_x latch.0 (session_of self.old) }
         ensures weighs { SameSum latch.0 word.old.0 (session_of self.old)
             word.new.0 (session_of self.new) }

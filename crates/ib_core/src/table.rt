@@ -2,27 +2,28 @@
 
 ghost use Rattle.std.specs.Prelude.{◌≡◌, ◌+◌, ◌<◌, ◌≤◌, ◌^◌, vec_capacity};
 ghost use Rattle.ib_core.specs.declared.phase.Phase.TheVariants.{Free};
-ghost use Rattle.ib_core.specs.Member.{CanStep, HasRoom, SameSum, session_of};
+ghost use Rattle.ib_core.specs.Actor.{HasRoom, session_of};
+ghost use Rattle.ib_core.specs.Member.{CanStep, SameSum};
 ghost use Rattle.ib_core.specs.Sessions.{holdings};
-ghost use Rattle.ib_core.specs.Replies.{answered, latch_of};
-ghost use Rattle.ib_core.specs.Table.{armed_row, asleep_row, checked_row, clear_marks, flag_marks, flagged_row, free_row, marks_after, next_armed_row, next_row, next_waits_row, owes_clear_row, owes_look_row, owes_raise_row, raised_by, reply_of};
+ghost use Rattle.ib_core.specs.Responses.{answered, latch_of};
+ghost use Rattle.ib_core.specs.Table.{armed_row, asleep_row, checked_row, clear_marks, flag_marks, flagged_row, free_row, marks_after, next_armed_row, next_row, next_waits_row, owes_clear_row, owes_look_row, owes_raise_row, raised_by, response_of};
 
+use crate::actor::Actor;
 use crate::event::{Answer, Event, Refusal};
-use crate::member::Member;
 use crate::phase::Phase;
 use crate::session::Marks;
 use ib_levels::{Latch, Level, Mode};
 use ib_word::LockWord;
 
-impl Member {
+impl Actor {
     // One event of the session, on the latch with these words.
     pub(crate) fn step(&mut self, word: &mut LockWord, marks: &mut Marks, event: Event) -> Answer
         requires can { CanStep (latch_of event) word.old.0 (session_of self.old) }
         requires room { HasRoom (latch_of event) self.old }
         requires generation { marks.old.generation + 1 < 2 ^ 64 }
         requires ex_generation { marks.old.ex_generation + 1 < 2 ^ 64 }
-        ensures replies { answered result (session_of self.new)
-            ≡ reply_of word.old.0 marks.old event (session_of self.old) }
+        ensures responds { answered result (session_of self.new)
+            ≡ response_of word.old.0 marks.old event (session_of self.old) }
         ensures marks { marks.new ≡ marks_after self.old.phase event marks.old }
         ensures weighs { SameSum (latch_of event) word.old.0 (session_of self.old)
             word.new.0 (session_of self.new) }
@@ -85,7 +86,7 @@ impl Member {
         requires can { CanStep (latch_of event) word.old.0 (session_of self.old) }
         requires free { self.old.phase ≡ Free }
         requires room { HasRoom (latch_of event) self.old }
-        ensures replies { answered result (session_of self.new)
+        ensures responds { answered result (session_of self.new)
             ≡ free_row word.old.0 generation event (session_of self.old) }
         ensures weighs { SameSum (latch_of event) word.old.0 (session_of self.old)
             word.new.0 (session_of self.new) }
@@ -112,7 +113,7 @@ impl Member {
         level: Level,
         generation: u64,
     ) -> Answer
-        ensures replies { answered result (session_of self.new)
+        ensures responds { answered result (session_of self.new)
             ≡ armed_row mode level generation event (session_of self.old) }
         ensures marks { marks.new ≡ flag_marks event marks.old }
         ensures held { self.new.held ≡ self.old.held }
@@ -145,7 +146,7 @@ impl Member {
         requires can { CanStep (latch_of event) word.old.0 (session_of self.old) }
         requires none { holdings (latch_of event) (session_of self.old) ≡ 0 }
         requires room { HasRoom (latch_of event) self.old }
-        ensures replies { answered result (session_of self.new)
+        ensures responds { answered result (session_of self.new)
             ≡ flagged_row mode level generation word.old.0 event (session_of self.old) }
         ensures weighs { SameSum (latch_of event) word.old.0 (session_of self.old)
             word.new.0 (session_of self.new) }
@@ -175,7 +176,7 @@ impl Member {
         level: Level,
         generation: u64,
     ) -> Answer
-        ensures replies { answered result (session_of self.new)
+        ensures responds { answered result (session_of self.new)
             ≡ checked_row mode level generation now event (session_of self.old) }
         ensures held { self.new.held ≡ self.old.held }
     {
@@ -194,7 +195,7 @@ impl Member {
         level: Level,
         generation: u64,
     ) -> Answer
-        ensures replies { answered result (session_of self.new)
+        ensures responds { answered result (session_of self.new)
             ≡ asleep_row mode level generation now event (session_of self.old) }
         ensures held { self.new.held ≡ self.old.held }
     {
@@ -215,7 +216,7 @@ impl Member {
     // The events of a next writer.
     fn when_next(&mut self, word: LockWord, now: u64, event: Event, level: Level) -> Answer
         requires { holdings (latch_of event) (session_of self.old) ≤ 1 }
-        ensures replies { answered result (session_of self.new)
+        ensures responds { answered result (session_of self.new)
             ≡ next_row level word.0 now event (session_of self.old) }
         ensures held { self.new.held ≡ self.old.held }
     {
@@ -242,7 +243,7 @@ impl Member {
         generation: u64,
     ) -> Answer
         requires { holdings (latch_of event) (session_of self.old) ≤ 1 }
-        ensures replies { answered result (session_of self.new)
+        ensures responds { answered result (session_of self.new)
             ≡ next_armed_row level generation word.0 event (session_of self.old) }
         ensures held { self.new.held ≡ self.old.held }
     {
@@ -261,7 +262,7 @@ impl Member {
 
     // The events of a next writer that found readers, or that sleeps.
     fn when_next_waits(&mut self, now: u64, event: Event, level: Level, generation: u64) -> Answer
-        ensures replies { answered result (session_of self.new)
+        ensures responds { answered result (session_of self.new)
             ≡ next_waits_row level generation now event (session_of self.old) }
         ensures held { self.new.held ≡ self.old.held }
     {
@@ -280,7 +281,7 @@ impl Member {
 
     // The events of a session that owes a look at the waiters flag.
     fn when_owes_look(&mut self, waiters: bool, event: Event) -> Answer
-        ensures replies { answered result (session_of self.new)
+        ensures responds { answered result (session_of self.new)
             ≡ owes_look_row waiters event (session_of self.old) }
         ensures held { self.new.held ≡ self.old.held }
     {
@@ -299,7 +300,7 @@ impl Member {
 
     // The events of a session that owes the clearing of the waiters flag.
     fn when_owes_clear(&mut self, marks: &mut Marks, event: Event) -> Answer
-        ensures replies { answered result (session_of self.new)
+        ensures responds { answered result (session_of self.new)
             ≡ owes_clear_row marks.old.waiters event (session_of self.old) }
         ensures marks { marks.new ≡ clear_marks event marks.old }
         ensures held { self.new.held ≡ self.old.held }
@@ -322,7 +323,7 @@ impl Member {
     // The events of a session that owes a raise of this generation.
     fn when_owes_raise(&mut self, generation: &mut u64, event: Event) -> Answer
         requires { generation.old + 1 < 2 ^ 64 }
-        ensures replies { answered result (session_of self.new)
+        ensures responds { answered result (session_of self.new)
             ≡ owes_raise_row generation.old event (session_of self.old) }
         ensures generation { generation.new ≡ raised_by event generation.old }
         ensures held { self.new.held ≡ self.old.held }

@@ -4,14 +4,15 @@ ghost use Rattle.std.specs.Prelude.{◌≡◌, ◌<◌, ◌≤◌, vec_capacity}
 ghost use Rattle.ib_core.specs.declared.event.Answer.TheVariants.{Refused};
 ghost use Rattle.ib_core.specs.declared.event.Refusal.TheVariants.{Against as AgainstLevels};
 ghost use Rattle.ib_core.specs.declared.phase.Phase.TheVariants.{Free};
-ghost use Rattle.ib_core.specs.Member.{CanStep, HasRoom, SameSum, session_of};
+ghost use Rattle.ib_core.specs.Actor.{HasRoom, session_of};
+ghost use Rattle.ib_core.specs.Member.{CanStep, SameSum};
 ghost use Rattle.ib_core.specs.Sessions.{sx_grants, x_grants};
-ghost use Rattle.ib_core.specs.Grants.{taking_s, taking_sx, taking_x, upgrade};
-ghost use Rattle.ib_core.specs.Replies.{answered};
+ghost use Rattle.ib_core.specs.Takings.{taking_s, taking_sx, taking_x, upgrade};
+ghost use Rattle.ib_core.specs.Responses.{answered};
 
+use crate::actor::Actor;
 use crate::event::{Answer, Refusal};
 use crate::holdings::{add_one, level_of};
-use crate::member::Member;
 use crate::phase::Phase;
 use ib_levels::{Against, Latch, Level, Mode};
 use ib_word::{LockWord, X_LOCK_HALF_DECR, again_x, upgrade_x};
@@ -28,13 +29,13 @@ impl Answer {
     }
 }
 
-impl Member {
+impl Actor {
     // S, where the session holds nothing on the latch (sync0rw, `rw_lock_s_lock_low`).
     pub(crate) fn take_s(&mut self, word: &mut LockWord, latch: Latch, level: Level) -> Answer
         requires can { CanStep latch.0 word.old.0 (session_of self.old) }
         requires free { self.old.phase ≡ Free }
         requires room { HasRoom latch.0 self.old }
-        ensures replies { answered result (session_of self.new)
+        ensures responds { answered result (session_of self.new)
             ≡ taking_s latch.0 level word.old.0 (session_of self.old) }
         ensures weighs { SameSum latch.0 word.old.0 (session_of self.old)
             word.new.0 (session_of self.new) }
@@ -55,7 +56,7 @@ impl Member {
         requires can { CanStep latch.0 word.old.0 (session_of self.old) }
         requires free { self.old.phase ≡ Free }
         requires room { HasRoom latch.0 self.old }
-        ensures replies { answered result (session_of self.new)
+        ensures responds { answered result (session_of self.new)
             ≡ taking_sx latch.0 level word.old.0 (session_of self.old) }
         ensures weighs { SameSum latch.0 word.old.0 (session_of self.old)
             word.new.0 (session_of self.new) }
@@ -84,7 +85,7 @@ impl Member {
         requires can { CanStep latch.0 word.old.0 (session_of self.old) }
         requires free { self.old.phase ≡ Free }
         requires room { HasRoom latch.0 self.old }
-        ensures replies { answered result (session_of self.new)
+        ensures responds { answered result (session_of self.new)
             ≡ taking_x latch.0 level word.old.0 (session_of self.old) }
         ensures weighs { SameSum latch.0 word.old.0 (session_of self.old)
             word.new.0 (session_of self.new) }
@@ -114,7 +115,7 @@ impl Member {
         requires free { self.old.phase ≡ Free }
         requires owner { 0 < sx_grants latch.0 (session_of self.old) }
         requires first { x_grants latch.0 (session_of self.old) ≡ 0 }
-        ensures replies { answered result (session_of self.new)
+        ensures responds { answered result (session_of self.new)
             ≡ upgrade latch.0 level word.old.0 self.old.held.items }
         ensures weighs { SameSum latch.0 word.old.0 (session_of self.old)
             word.new.0 (session_of self.new) }

@@ -3,7 +3,7 @@
 ghost use Rattle.std.specs.Prelude.{◌≡◌, ◌≤◌, length};
 
 use super::*;
-use ib_levels::{Level, Mode};
+use ib_levels::{Latch, Level, Mode};
 use ib_word::LockWord;
 use std::process::Abort;
 use std::test::Fail;
@@ -370,5 +370,34 @@ fn each_phase_of_a_next_writer(rt: HostRuntime) -> Result<(), Fail> {
     out_of_turn(&rt, &mut core, 1, &[sleep]);
     row(&rt, &mut core, 2, us, Answer::Released, 0);
     out_of_turn(&rt, &mut core, 2, &[raise]);
+    Ok(())
+}
+
+// What may go over to another thread.
+fn sent<T: Send>(value: T) -> T
+    ensures { result ≡ value }
+{
+    value
+}
+
+#[test]
+fn one_member(rt: HostRuntime) -> Result<(), Fail> {
+    let mut member = sent(Member::idle(rt.alloc(), 2)?);
+    let mut word = LockWord::FREE;
+    let mut marks = Marks::FRESH;
+    let x = Event::X {
+        latch: 1,
+        level: NODE,
+    };
+    let answer = member.step(&mut word, &mut marks, x);
+    assert_eq!(rt;
+        (answer, word, marks),
+        (Answer::Granted, LockWord(0), Marks::FRESH)
+    );
+    assert_eq!(rt; (member.phase(), member.held().len()), (Phase::Free, 1));
+    assert!(rt; member.holds(Latch(1)) && !member.holds(Latch(0)));
+    assert!(rt; member.may_take(Latch(0), Level::Log).is_ok());
+    assert!(rt; member.may_take(Latch(0), Level::IndexTree).is_err());
+    assert_eq!(rt; member.counts(Latch(1)), Counts { s: 0, sx: 0, x: 1 });
     Ok(())
 }

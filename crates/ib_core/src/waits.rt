@@ -3,21 +3,21 @@
 ghost use Rattle.std.specs.Prelude.{◌≡◌, ◌+◌, ◌<◌, ◌≤◌, ◌^◌, vec_capacity};
 ghost use Rattle.ib_core.specs.declared.event.Answer.TheVariants.{Quit as WaitsNoMore};
 ghost use Rattle.ib_core.specs.declared.phase.Phase.TheVariants.{Free};
-ghost use Rattle.ib_core.specs.Member.{session_of};
+ghost use Rattle.ib_core.specs.Actor.{session_of};
 ghost use Rattle.ib_core.specs.Sessions.{holdings};
-ghost use Rattle.ib_core.specs.Replies.{answered};
+ghost use Rattle.ib_core.specs.Responses.{answered};
 ghost use Rattle.ib_core.specs.Table.{arming, owes_clear_row, owes_look_row, owns_x_at, readying, sleeping};
 
+use crate::actor::Actor;
 use crate::event::{Answer, Event, Refusal};
-use crate::holdings::Grants;
-use crate::member::Member;
+use crate::holdings::Counts;
 use crate::phase::Phase;
 use crate::session::Marks;
 use ib_levels::{Latch, Level, Mode};
 use ib_word::{LockWord, X_LOCK_HALF_DECR};
 
 // Whether a next writer with these grants owns X at the word.
-fn owns_x(word: LockWord, mine: Grants) -> bool
+fn owns_x(word: LockWord, mine: Counts) -> bool
     ensures { result ≡ owns_x_at mine.sx word.0 }
 {
     if mine.sx > 0 {
@@ -27,11 +27,11 @@ fn owns_x(word: LockWord, mine: Grants) -> bool
     }
 }
 
-impl Member {
+impl Actor {
     // Records the generation, before it waits for a grant of the mode (sync0arr,
     // `sync_array_reserve_cell`).
     pub(crate) fn arm(&mut self, latch: Latch, mode: Mode, level: Level, generation: u64) -> Answer
-        ensures replies { answered result (session_of self.new)
+        ensures responds { answered result (session_of self.new)
             ≡ arming latch.0 mode level generation (session_of self.old) }
         ensures held { self.new.held ≡ self.old.held }
     {
@@ -53,7 +53,7 @@ impl Member {
     // Goes to sleep, or sleeps on, where this generation is the recorded one, and else is awake
     // (sync0arr, `sync_array_wait_event`).
     pub(crate) fn sleep(&mut self, now: u64, recorded: u64, asleep: Phase, awake: Phase) -> Answer
-        ensures replies { answered result (session_of self.new)
+        ensures responds { answered result (session_of self.new)
             ≡ sleeping now recorded asleep awake (session_of self.old) }
         ensures held { self.new.held ≡ self.old.held }
     {
@@ -70,7 +70,7 @@ impl Member {
     // `rw_lock_x_lock_wait`).
     pub(crate) fn ready(&mut self, word: LockWord, latch: Latch, waiting: Phase) -> Answer
         requires { holdings latch.0 (session_of self.old) ≤ 1 }
-        ensures replies { answered result (session_of self.new)
+        ensures responds { answered result (session_of self.new)
             ≡ readying latch.0 waiting word.0 (session_of self.old) }
         ensures held { self.new.held ≡ self.old.held }
     {

@@ -1,7 +1,6 @@
 -- How large a space is.
 use Rattle.std.specs.Prelude.{ℕ, Bool, nat_le, ◌&&◌, refl}
-use Rattle.ib_levels.specs.declared.latch.TheConstants.{MOST_PAGES}
-use Rattle.ib_layout.specs.declared.geometry.TheConstants.{LEAST_PAGES, LEAST_LOG_WORDS, MOST_LOG_WORDS}
+use Rattle.ib_layout.specs.declared.geometry.TheConstants.{LEAST_LOG_WORDS, MOST_LOG_WORDS}
 use Rattle.std.specs.Coded.{Coded, code_by, coded×, coded_ℕ}
 
 -- the pages of a space, and the words of its log
@@ -11,10 +10,6 @@ pub record Sizes : Type 0 where
 
 abbrev pub sizes_code : Coded Sizes
 sizes_code = code_by (ℕ × ℕ) (coded× coded_ℕ coded_ℕ) (λ s. (s.pages, s.log_words)) (λ p. record { pages = p.0; log_words = p.1 }) (λ _. refl)
-
--- 16 to 4,096 pages
-abbrev pub has_pages : ℕ → Bool
-has_pages pages = nat_le LEAST_PAGES pages && nat_le pages MOST_PAGES
 
 -- 8,196 to 16,777,216 log words
 abbrev pub has_log : ℕ → Bool

@@ -1,14 +1,15 @@
 -- Where the words of a space stand in its table: two words, five words for each latch, the words of the pages, the log.
 use Rattle.std.specs.Prelude.{ℕ, ◌+◌, ◌*◌}
 use Rattle.ib_map.specs.declared.TheConstants.{PAGE_WORDS}
+use Rattle.ib_layout.specs.declared.geometry.TheConstants.{DRAWN_PLACE, END_PLACE}
 use Rattle.ib_layout.specs.Geometry.{Sizes}
 
 -- how many sessions were drawn, and the end of the log
 abbrev pub drawn_place : ℕ
-drawn_place = 0
+drawn_place = DRAWN_PLACE
 
 abbrev pub end_place : ℕ
-end_place = 1
+end_place = END_PLACE
 
 -- the lock word of a latch
 abbrev pub lock_place : ℕ → ℕ

@@ -1,22 +1,33 @@
 //! The sizes of a space, and the places of its words in the table.
 
 ghost use Rattle.std.specs.Prelude.{◌≡◌, ◌<◌, ◌^◌, ◌↔◌, ◌&&◌, true, false, IfOk, IsOk};
-ghost use Rattle.ib_layout.specs.Geometry.{has_log, has_pages};
+ghost use Rattle.ib_map.specs.Space.{has_pages};
+ghost use Rattle.ib_layout.specs.Geometry.{has_log};
 ghost use Rattle.ib_layout.specs.Places.{lock_place, waiters_place, writer_place, gen_place, ex_gen_place, latches_of, page_place, log_place, words_of};
 
-use ib_levels::{Latch, MOST_PAGES};
-use ib_map::PAGE_WORDS;
+use ib_levels::Latch;
+use ib_map::{LEAST_PAGES, MOST_PAGES, PAGE_WORDS};
 use std::marker::Model;
 use thiserror::Error;
-
-/// The fewest pages that a space has.
-pub const LEAST_PAGES: u32 = 16;
 
 /// The fewest words that a log has: those of the longest entry.
 pub const LEAST_LOG_WORDS: u32 = 8196;
 
+const _: () = prove!(LEAST_LOG_WORDS == 8196);
+
 /// The most words that a log has.
 pub const MOST_LOG_WORDS: u32 = 16_777_216;
+
+const _: () = prove!(MOST_LOG_WORDS == 16_777_216);
+
+// Each page of a space has its latch.
+const _: () = prove!(MOST_PAGES == ib_levels::MOST_PAGES);
+
+/// The place of the number of sessions drawn.
+pub const DRAWN_PLACE: usize = 0;
+
+/// The place of the log's end: `entries * 2^32 + used log words`.
+pub const END_PLACE: usize = 1;
 
 // Where the words of the latches begin, and how many each has.
 const LATCHES: usize = 2;
@@ -43,7 +54,8 @@ pub struct Geometry {
 
 impl Model for Geometry {
     ghost use Rattle.std.specs.Prelude.{◌≡◌, true};
-    ghost use Rattle.ib_layout.specs.Geometry.{Sizes, has_log, has_pages, sizes_code};
+    ghost use Rattle.ib_map.specs.Space.{has_pages};
+    ghost use Rattle.ib_layout.specs.Geometry.{Sizes, has_log, sizes_code};
 
     ghost Value = { Sizes };
 

@@ -16,8 +16,10 @@ pub fn place_law()
         → page_place sizes page i ≡ page_place sizes other j → (page ≡ other) × (i ≡ j) }
     ensures log { (sizes : Sizes) (word other : ℕ)
         → log_place sizes word ≡ log_place sizes other → word ≡ other }
-    // The first two words, the latches, the pages, the log: they stand in this order.
-    ensures first { drawn_place < end_place }
+    // The first two words, at the places 0 and 1, the latches, the pages, the log: they stand in
+    // this order.
+    ensures drawn { drawn_place ≡ 0 }
+    ensures end { end_place ≡ 1 }
     ensures latches_behind_first { (latch i : ℕ) → end_place < lock_place latch + i }
     ensures pages_behind_latches { (sizes : Sizes) (latch i page index : ℕ)
         → latch < latches_of sizes → i < 5 → lock_place latch + i < page_place sizes page index }

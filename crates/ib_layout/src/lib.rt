@@ -6,5 +6,8 @@ mod laws;
 #[cfg(test)]
 mod tests;
 
-pub use geometry::{Geometry, LEAST_LOG_WORDS, LEAST_PAGES, LayoutFault, MOST_LOG_WORDS};
+pub use geometry::{
+    DRAWN_PLACE, END_PLACE, Geometry, LEAST_LOG_WORDS, LayoutFault, MOST_LOG_WORDS,
+};
+pub use ib_map::{LEAST_PAGES, MOST_PAGES};
 pub use laws::place_law;

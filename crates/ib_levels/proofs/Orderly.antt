@@ -6,9 +6,9 @@ use Rattle.std.proofs.Math.Seq.{get_or-append_seam}
 use Rattle.std.proofs.lemmas.List.Elements.{All-nil, All-cons, All-head, All-tail}
 use Rattle.std.proofs.lemmas.List.Quantifiers.{all_pairs_push, all_pairs_remove}
 use Rattle.ib_levels.specs.declared.level.Level.{Level}
-use Rattle.ib_levels.specs.declared.held.Against.{Against}
+use Rattle.ib_levels.specs.declared.listed.Against.{Against}
 use Rattle.ib_levels.specs.Level.{may_follow, MayFollow, IsOrderly, MayTake, first_against}
-use Rattle.ib_levels.specs.Held.{answer_to, refused_by}
+use Rattle.ib_levels.specs.Listed.{answer_to, refused_by}
 
 -- the empty list is orderly
 pub orderly_nil : IsOrderly []

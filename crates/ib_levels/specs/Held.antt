@@ -1,25 +1,13 @@
--- Lists of `Held`, and the answer to a request beside them.
-use Rattle.std.specs.Prelude.{ℕ, Bool, true, false, List, map, ◌==◌, Option, Some, None, Result, Ok, Err}
-use Rattle.std.specs.List.{list_any}
+-- Lists of `Held`.
+use Rattle.std.specs.Prelude.{ℕ, Bool, List}
 use Rattle.ib_levels.specs.declared.level.Level.{Level}
 use Rattle.ib_levels.specs.declared.held.Held.{Held}
-use Rattle.ib_levels.specs.declared.held.Against.{Against}
-use Rattle.ib_levels.specs.Level.{first_against}
+use Rattle.ib_levels.specs.Listed.{is_among, levels_along}
 
 -- the levels along a list, in order of taking
 abbrev pub levels_of_held : List Held → List Level
-levels_of_held held = map (λ h. h.level) held
+levels_of_held held = levels_along (λ h. h.level) held
 
 -- whether the list has the latch with this number
 abbrev pub has_latch : ℕ → List Held → Bool
-has_latch latch held = list_any (λ h. h.latch.0 == latch) held
-
--- the answer where this is the first level that forbids the request
-abbrev pub refused_by : Level → Option Level → Result (Unit {0}) Against
-refused_by wanted None = Ok tt
-refused_by wanted (Some held) = Err (record { held = held; wanted = wanted })
-
--- the answer to a request at the level wanted: a latch that is held already is exempt
-abbrev pub answer_to : Bool → Level → List Level → Result (Unit {0}) Against
-answer_to true wanted levels = Ok tt
-answer_to false wanted levels = refused_by wanted (first_against wanted levels)
+has_latch latch held = is_among (λ h. h.latch.0) latch held

@@ -1,11 +1,11 @@
 -- Holdings: what a session has on each of its latches, in order of taking.
 use Rattle.std.specs.Prelude.{ℕ, zero, suc, Bool, not, cond, List, map, filter, ◌==◌, sum_by}
-use Rattle.std.specs.List.{list_any}
 use Rattle.ib_levels.specs.declared.level.Level.{Level}
 use Rattle.ib_levels.specs.declared.level.Mode.{Mode}
 use Rattle.ib_levels.specs.declared.level.Mode.TheVariants.{S, Sx, X}
 use Rattle.ib_levels.specs.declared.held.Held.{Held}
 use Rattle.ib_levels.specs.declared.holding.Holding.{Holding}
+use Rattle.ib_levels.specs.Listed.{is_among, levels_along}
 
 -- a holding by its latch's number, its level and its counts
 abbrev pub hold : ℕ → Level → ℕ → ℕ → ℕ → Holding
@@ -24,11 +24,11 @@ held_of h = record { latch = h.latch; mode = strongest h.sx h.x; level = h.level
 
 -- the levels along a list, in order of taking
 abbrev pub levels_of : List Holding → List Level
-levels_of held = map (λ h. h.level) held
+levels_of held = levels_along (λ h. h.level) held
 
 -- whether the list has a holding on the latch with this number
 abbrev pub is_held : ℕ → List Holding → Bool
-is_held latch held = list_any (λ h. h.latch.0 == latch) held
+is_held latch held = is_among (λ h. h.latch.0) latch held
 
 -- f of what is held on the latch, 0 where nothing is
 abbrev pub on : ℕ → (Holding → ℕ) → List Holding → ℕ

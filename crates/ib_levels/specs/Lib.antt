@@ -1,3 +1,4 @@
 pub mod Level
+pub mod Listed
 pub mod Held
 pub mod Holding

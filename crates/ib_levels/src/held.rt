@@ -1,11 +1,13 @@
 //! What a session holds, and which latch it may take beside it.
 
 ghost use Rattle.std.specs.Prelude.{◌≡◌, ◌↔◌, ◌⊎◌, ◌++◌, ◌∷◌, [], IsTrue, IsOk};
-ghost use Rattle.ib_levels.specs.Level.{IsOrderly, MayTake, first_against};
-ghost use Rattle.ib_levels.specs.Held.{answer_to, refused_by, has_latch, levels_of_held};
+ghost use Rattle.ib_levels.specs.Level.{IsOrderly, MayTake};
+ghost use Rattle.ib_levels.specs.Listed.{answer_to};
+ghost use Rattle.ib_levels.specs.Held.{has_latch, levels_of_held};
 
 use crate::latch::Latch;
 use crate::level::{Level, Mode};
+use crate::listed::{Against, Listed, allows};
 
 /// One latch of a session's list, or one grant, at the level of its first acquisition.
 #[derive(Clone, Copy, PartialEq, Eq, Debug)]
@@ -15,41 +17,18 @@ pub struct Held {
     pub level: Level,
 }
 
-/// A request against the order of levels: the first level held that forbids it, and the level
-/// that was wanted (sync0debug).
-#[derive(Clone, Copy, PartialEq, Eq, Debug)]
-pub struct Against {
-    pub held: Level,
-    pub wanted: Level,
-}
+impl Listed for Held {
+    ghost latch_of = { λ h. h.latch.0 };
 
-impl Against {
-    // The answer to a request at the level wanted, where this is the first level held that
-    // forbids it.
-    pub(crate) fn unless_none(first: Option<Level>, wanted: Level) -> Result<(), Against>
-        ensures { result ≡ refused_by wanted first }
-    {
-        match first {
-            Some(held) => Err(Against { held, wanted }),
-            None => Ok(()),
-        }
+    ghost level_of = { λ h. h.level };
+
+    fn latch(&self) -> Latch {
+        self.latch
     }
-}
 
-// Whether one of these is the latch.
-fn has(held: &[Held], latch: Latch) -> bool
-    ensures { result ≡ has_latch latch.0 held.now }
-{
-    held.iter().any(|h| h.latch == latch)
-}
-
-// The first level of these that forbids a request at the level wanted.
-fn first_forbidding(held: &[Held], wanted: Level) -> Option<Level>
-    ensures { result ≡ first_against wanted (levels_of_held held.now) }
-{
-    held.iter()
-        .map(|h| h.level)
-        .find(|l| !wanted.may_follow(*l))
+    fn level(&self) -> Level {
+        self.level
+    }
 }
 
 /// Whether a session that holds these, in order of taking, may take the latch at the level: it
@@ -65,8 +44,5 @@ pub fn may_take(held: &[Held], latch: Latch, level: Level) -> Result<(), Against
         → (IsOk result ↔ (IsTrue (has_latch latch.0 held.now)
         ⊎ IsOrderly (levels_of_held held.now ++ level ∷ []))) }
 {
-    if has(held, latch) {
-        return Ok(());
-    }
-    Against::unless_none(first_forbidding(held, level), level)
+    allows(held, latch, level)
 }

@@ -1,13 +1,14 @@
 //! What a session has on each of its latches, and which latch it may take beside them.
 
 ghost use Rattle.std.specs.Prelude.{◌≡◌, ◌↔◌, ◌⊎◌, ◌++◌, ◌∷◌, [], IsTrue, IsOk};
-ghost use Rattle.ib_levels.specs.Level.{IsOrderly, MayTake, first_against};
-ghost use Rattle.ib_levels.specs.Held.{answer_to};
+ghost use Rattle.ib_levels.specs.Level.{IsOrderly, MayTake};
+ghost use Rattle.ib_levels.specs.Listed.{answer_to};
 ghost use Rattle.ib_levels.specs.Holding.{held_of, is_held, levels_of};
 
-use crate::held::{Against, Held};
+use crate::held::Held;
 use crate::latch::Latch;
 use crate::level::{Level, Mode};
+use crate::listed::{Against, Listed, allows, is_among};
 
 /// What a session has on one latch: the level of its first acquisition, and the grants by mode.
 /// A reservation of X counts as a grant of X.
@@ -40,20 +41,25 @@ impl Holding {
     }
 }
 
+impl Listed for Holding {
+    ghost latch_of = { λ h. h.latch.0 };
+
+    ghost level_of = { λ h. h.level };
+
+    fn latch(&self) -> Latch {
+        self.latch
+    }
+
+    fn level(&self) -> Level {
+        self.level
+    }
+}
+
 /// Whether one of these is on the latch.
 pub fn holds(held: &[Holding], latch: Latch) -> bool
     ensures { result ≡ is_held latch.0 held.now }
 {
-    held.iter().any(|h| h.latch == latch)
-}
-
-// The first level of these that forbids a request at the level wanted.
-fn first_forbidding(held: &[Holding], wanted: Level) -> Option<Level>
-    ensures { result ≡ first_against wanted (levels_of held.now) }
-{
-    held.iter()
-        .map(|h| h.level)
-        .find(|l| !wanted.may_follow(*l))
+    is_among(held, latch)
 }
 
 /// The same as `may_take`, for a session's holdings.
@@ -65,8 +71,5 @@ pub fn may_add(held: &[Holding], latch: Latch, level: Level) -> Result<(), Again
         → (IsOk result ↔ (IsTrue (is_held latch.0 held.now)
         ⊎ IsOrderly (levels_of held.now ++ level ∷ []))) }
 {
-    if holds(held, latch) {
-        return Ok(());
-    }
-    Against::unless_none(first_forbidding(held, level), level)
+    allows(held, latch, level)
 }

@@ -5,6 +5,9 @@ ghost use Rattle.std.specs.Prelude.{◌≡◌, ◌+◌, ◌<◌};
 /// The most pages that a space has.
 pub const MOST_PAGES: u32 = 4096;
 
+// Clauses cite it by name: with another number the check fails here.
+const _: () = prove!(MOST_PAGES == 4096);
+
 /// A latch: the log's is 0, the index's is 1, and that of page p is p + 2.
 #[derive(Clone, Copy, PartialEq, Eq, Debug)]
 pub struct Latch(pub u32);

@@ -6,10 +6,12 @@ mod held;
 mod holding;
 mod latch;
 mod level;
+mod listed;
 #[cfg(test)]
 mod tests;
 
-pub use held::{Against, Held, may_take};
+pub use held::{Held, may_take};
 pub use holding::{Holding, holds, may_add};
 pub use latch::{Latch, MOST_PAGES, latch_law};
 pub use level::{Level, Mode};
+pub use listed::Against;

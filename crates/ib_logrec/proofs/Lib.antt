@@ -1,11 +1,9 @@
-pub mod KeyLaws
-pub mod PlaceLaws
-pub mod HeadLaws
+pub mod KeyWordLaws
 pub mod WriteLaws
+pub mod HeadLaws
 pub mod EntryLaws
-pub mod WordLaws
 pub mod ReadLaws
+pub mod WordLaws
 pub mod LogLaws
 pub mod Spelled
-pub mod HeadFaults
 pub mod Written

@@ -3,11 +3,12 @@ use Rattle.std.proofs.Common.{◌≡◌, ℕ, ◌+◌, ◌*◌, ◌≤◌, false
 use Rattle.std.proofs.lemmas.Grind.{flat_map-append}
 use Rattle.std.proofs.lemmas.List.{map-append, length-map}
 use Rattle.ib_logrec.specs.declared.entry.Entry.{Entry}
-use Rattle.ib_logrec.specs.Places.{page_of, stored, touches}
+use Rattle.ib_logrec.specs.declared.entry.TheConstants.{HEAD_WORDS}
+use Rattle.ib_map.specs.Writes.{page_at, stored, touches}
 use Rattle.ib_logrec.specs.Words.{words_of_entry}
 use Rattle.ib_logrec.specs.Log.{log_words, used, after, memory_after, logged, history_of}
 use Rattle.ib_logrec.proofs.EntryLaws.{length-words_of_entry}
-use Rattle.ib_logrec.proofs.PlaceLaws.{stored-unwritten, writes_at-untouched}
+use Rattle.ib_map.proofs.WriteLaws.{stored-unwritten, writes_at-untouched}
 
 pub log_words-append : (xs ys : List Entry) → log_words (xs ++ ys) ≡ log_words xs ++ log_words ys
 log_words-append xs ys = flat_map-append words_of_entry xs ys
@@ -19,11 +20,11 @@ log_words-push log e = log_words-append log (e ∷ []) ∙ ap (λ (ws : List ℕ
 pub used-append : (xs ys : List Entry) → used (xs ++ ys) ≡ used xs + used ys
 used-append xs ys = ap length (log_words-append xs ys) ∙ length-append (log_words xs) (log_words ys)
 
-pub used-push : (log : List Entry) (e : Entry) → used (log ++ e ∷ []) ≡ used log + (4 + 2 * length e.writes)
+pub used-push : (log : List Entry) (e : Entry) → used (log ++ e ∷ []) ≡ used log + (HEAD_WORDS + 2 * length e.writes)
 used-push log e = ap length (log_words-push log e) ∙ length-append (log_words log) (words_of_entry e) ∙ ap (λ n. used log + n) (length-words_of_entry e)
 
--- a log has at least four words for each entry
-pub used-least : (log : List Entry) → 4 * length log ≤ used log
+-- a log has at least the words of a head for each entry
+pub used-least : (log : List Entry) → HEAD_WORDS * length log ≤ used log
 used-least [] = omega arith
 used-least (e ∷ log) = omega (arith, used-least log, length-words_of_entry e, length-append (words_of_entry e) (log_words log))
 
@@ -39,7 +40,7 @@ pub memory_after-push : (opening : ℕ → ℕ) (log : List Entry) (e : Entry) (
 memory_after-push opening log e place = after-push log e place (opening place)
 
 -- an entry changes no word of a page that it doesn't touch
-pub memory_after-untouched : (opening : ℕ → ℕ) (log : List Entry) (e : Entry) (place : ℕ) → touches (page_of place) e.writes ≡ false
+pub memory_after-untouched : (opening : ℕ → ℕ) (log : List Entry) (e : Entry) (place : ℕ) → touches (page_at place) e.writes ≡ false
     → memory_after opening (log ++ e ∷ []) place ≡ memory_after opening log place
 memory_after-untouched opening log e place none =
     memory_after-push opening log e place ∙ stored-unwritten e.writes place (memory_after opening log place) (writes_at-untouched place e.writes none)

@@ -1,9 +1,12 @@
 -- The writes that words spell, one after another, and their first fault.
-use Rattle.std.proofs.Common.{◌≡◌, ℕ, suc, ◌+◌, ◌-◌, ◌*◌, ◌<◌, ◌≤◌, List, ◌∷◌, length, get_or, drop, Some, refl, arith}
+use Rattle.std.proofs.Common.{◌≡◌, ℕ, zero, suc, [], ◌+◌, ◌-◌, ◌*◌, ◌<◌, ◌≤◌, List, ◌∷◌, Bool, eqb, length, get_or, drop, Some, refl, arith}
 use Rattle.std.proofs.lemmas.Bool.{lt-ltb, le-ltb, le-leb, lt-leb}
 use Rattle.std.proofs.lemmas.List.{drop_more}
 use Rattle.ib_map.specs.declared.TheConstants.{PAGE_WORDS}
-use Rattle.ib_logrec.specs.declared.write.Write.{Write}
+use Rattle.std.specs.Prelude.{not}
+use Rattle.std.specs.List.{list_any}
+use Rattle.ib_map.specs.Writes.{page_at, spans_pages}
+use Rattle.ib_map.specs.declared.write.Write.{Write}
 use Rattle.ib_logrec.specs.declared.fault.LogFault.TheVariants.{BadWrite, Outside}
 use Rattle.ib_logrec.specs.Words.{writes_in}
 use Rattle.ib_logrec.specs.Grammar.{place_fault}
@@ -19,6 +22,17 @@ writes_in-more count i words lt long =
     let behind : 2 * i + 1 + 1 ≡ 2 * (i + 1) = omega arith in
     rw (left, first, second, behind) refl
 
+-- one of the writes
+pub writes_in-get : (count i : ℕ) (words : List ℕ) (d : Write) → i < count → 2 * count ≤ length words → get_or (writes_in count words) i d ≡ record { place = get_or words (2 * i) 0; value = get_or words (2 * i + 1) 0 }
+writes_in-get zero i words d lt long = absurd (omega arith)
+writes_in-get (suc count) i [] d lt long = absurd (omega arith)
+writes_in-get (suc count) i (place ∷ []) d lt long = absurd (omega arith)
+writes_in-get (suc count) zero (place ∷ value ∷ words) d lt long = refl
+writes_in-get (suc count) (suc i) (place ∷ value ∷ words) d lt long =
+    let first : 2 * suc i ≡ suc (suc (2 * i)) = omega arith in
+    let second : suc (suc (2 * i)) + 1 ≡ suc (suc (2 * i + 1)) = omega arith in
+    rw (first, second) (writes_in-get count i words d (omega arith) (omega arith))
+
 module _ (pages entry low : ℕ) (w : Write) (ws : List Write) where
   pub place_fault-outside : pages * PAGE_WORDS ≤ w.place → place_fault pages entry low (w ∷ ws) ≡ Some (Outside entry w.place)
   place_fault-outside out = rw (le-ltb w.place (pages * PAGE_WORDS) out) refl
@@ -28,3 +42,13 @@ module _ (pages entry low : ℕ) (w : Write) (ws : List Write) where
 
   pub place_fault-more : w.place < pages * PAGE_WORDS → low ≤ w.place → place_fault pages entry low (w ∷ ws) ≡ place_fault pages entry (w.place + 1) ws
   place_fault-more on above = rw (lt-ltb w.place (pages * PAGE_WORDS) on, le-leb low w.place above) refl
+
+-- a write that lies on another page than this one
+abbrev pub leaves : ℕ → Write → Bool
+leaves page w = not (eqb (page_at w.place) page)
+
+pub spans_pages-first : (count : ℕ) (words : List ℕ) → 2 * count ≤ length words → list_any (leaves (page_at (get_or words 0 0))) (writes_in (count - 1) (drop 2 words)) ≡ spans_pages (writes_in count words)
+spans_pages-first zero words long = refl
+spans_pages-first (suc count) [] long = absurd (omega arith)
+spans_pages-first (suc count) (place ∷ []) long = absurd (omega arith)
+spans_pages-first (suc count) (place ∷ value ∷ words) long = let one : suc count - 1 ≡ count = omega arith in rw one refl

@@ -4,11 +4,11 @@ use Rattle.std.specs.Prelude.{nat_lt, nat_le}
 use Rattle.std.proofs.lemmas.Bool.{ltb-true, leb-true, lt-ltb, le-leb}
 use Rattle.std.proofs.lemmas.Grind.{flat_map-append}
 use Rattle.ib_map.specs.declared.TheConstants.{PAGE_WORDS}
-use Rattle.ib_logrec.specs.declared.write.Write.{Write}
+use Rattle.ib_map.specs.declared.write.Write.{Write}
 use Rattle.ib_logrec.specs.declared.fault.LogFault.{LogFault}
 use Rattle.ib_logrec.specs.declared.fault.LogFault.TheVariants.{BadWrite, Outside}
-use Rattle.ib_logrec.specs.Places.{PlacesRise}
-use Rattle.ib_logrec.specs.Words.{writes_in, write_words}
+use Rattle.ib_map.specs.Writes.{PlacesRise, write_words}
+use Rattle.ib_logrec.specs.Words.{writes_in}
 use Rattle.ib_logrec.specs.Grammar.{unless, ◌or◌, place_fault}
 
 pub length-write_words : (ws : List Write) → length (write_words ws) ≡ 2 * length ws

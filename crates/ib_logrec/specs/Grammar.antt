@@ -1,19 +1,22 @@
 -- Which entries have words, and what is wrong with words that are no entry's.
-use Rattle.std.specs.Prelude.{◌≡◌, ℕ, ◌+◌, ◌*◌, ◌-◌, ◌^◌, ◌<◌, ◌≤◌, ◌==◌, ◌&&◌, ◌||◌, Bool, not, List, [], ◌∷◌, length, nat_lt, nat_le, Option, Some, None, if◌then◌else◌}
+use Rattle.std.specs.Prelude.{◌≡◌, ℕ, ◌+◌, ◌*◌, ◌-◌, ◌^◌, ◌<◌, ◌≤◌, ◌==◌, ◌&&◌, ◌||◌, Bool, not, List, [], ◌∷◌, ◌++◌, length, drop, slice_index, nat_lt, nat_le, Option, Some, None, if◌then◌else◌}
 use Rattle.std.proofs.Math.Bool.{beq}
 use Rattle.ib_map.specs.Keys.{IsKey}
 use Rattle.ib_map.specs.Map.{key_of}
 use Rattle.ib_map.specs.declared.TheConstants.{PAGE_WORDS}
-use Rattle.ib_logrec.specs.declared.entry.TheConstants.{MOST_WRITES, MOST_SESSIONS}
-use Rattle.ib_logrec.specs.declared.write.Write.{Write}
+use Rattle.ib_map.specs.declared.write.Write.{Write}
+use Rattle.ib_map.specs.Writes.{spans_pages, PlacesRise}
+use Rattle.ib_logrec.specs.declared.entry.TheConstants.{HEAD_WORDS, MOST_WRITES, MOST_SESSIONS}
 use Rattle.ib_logrec.specs.declared.entry.Entry.{Entry}
+use Rattle.ib_logrec.specs.declared.head.Head.{Head}
 use Rattle.ib_logrec.specs.declared.fault.LogFault.{LogFault}
 use Rattle.ib_logrec.specs.declared.fault.LogFault.TheVariants.{Short, BadHead, BadWrite, Outside, OutOfMemory}
-use Rattle.ib_logrec.specs.Places.{spans_pages, PlacesRise}
-use Rattle.ib_logrec.specs.Words.{session_in, flags_in, count_in, is_delete, is_structural, writes_in}
+use Rattle.ib_logrec.specs.KeyWords.{spells_key}
+use Rattle.ib_logrec.specs.Heads.{head_of, session_in, flags_in, count_in, is_delete, is_structural, first_at, number_at, key_part, value_word}
+use Rattle.ib_logrec.specs.Words.{words_of_entry, writes_in}
 
 -- an entry is in the grammar of so many pages
-pub record Formed (pages : ℕ) (e : Entry) : Type 0 where
+pub record IsInGrammar (pages : ℕ) (e : Entry) : Type 0 where
   pub session : 1 ≤ e.session
   pub most_session : e.session ≤ MOST_SESSIONS
   pub number : 1 ≤ e.number
@@ -23,6 +26,19 @@ pub record Formed (pages : ℕ) (e : Entry) : Type 0 where
   pub most_writes : length e.writes ≤ MOST_WRITES
   pub places : PlacesRise 0 e.writes (pages * PAGE_WORDS)
   pub structural : e.structural ≡ spans_pages e.writes
+
+-- an entry in the grammar stands at this place of a log's words, and ends before `next`
+pub record StandsAt (pages place next : ℕ) (words : List ℕ) (e : Entry) : Type 0 where
+  pub grammar : IsInGrammar pages e
+  pub spelled : drop place words ≡ words_of_entry e ++ drop next words
+  pub ends : next ≡ place + length (words_of_entry e)
+  pub within : next ≤ length words
+
+-- .. of which this is the head
+pub record HeadStandsAt (pages place next : ℕ) (words : List ℕ) (h : Head) : Type 0 where
+  pub entry : Entry
+  pub stands : StandsAt pages place next words entry
+  pub head : h ≡ head_of entry
 
 -- the fault, unless the test holds
 abbrev pub unless : Bool → LogFault → Option LogFault
@@ -42,8 +58,8 @@ abbrev pub is_counted : ℕ → ℕ → Bool
 is_counted n most = nat_le 1 n && nat_le n most
 
 -- a first word: a session, flags, and how many writes
-abbrev pub is_head : ℕ → Bool
-is_head head = is_counted (session_in head) MOST_SESSIONS && is_flags (flags_in head) && is_counted (count_in head) MOST_WRITES
+abbrev pub is_first : ℕ → Bool
+is_first first = is_counted (session_in first) MOST_SESSIONS && is_flags (flags_in first) && is_counted (count_in first) MOST_WRITES
 
 -- each place in order: on a page, and not below `low`, which is one above the place before
 abbrev pub place_fault : ℕ → ℕ → ℕ → List Write → Option LogFault
@@ -53,16 +69,25 @@ place_fault pages entry low (w ∷ ws) =
     or unless (nat_le low w.place) (BadWrite entry w.place)
     or place_fault pages entry (w.place + 1) ws
 
+-- the first fault of the words of a head that begins at a place, and that so many words stand behind it as its writes have
+unfoldable pub head_fault : ℕ → List ℕ → Option LogFault
+head_fault place words =
+    unless (nat_le HEAD_WORDS (length words)) (Short place)
+    or unless (is_first (first_at words)) (BadHead place (first_at words))
+    or unless (is_counted (number_at words) (2 ^ 32 - 1)) (BadHead place (number_at words))
+    or unless (spells_key (key_part words)) (BadHead place (slice_index words (HEAD_WORDS - 2)))
+    or unless (not (is_delete (first_at words)) || (value_word words == 0)) (BadHead place (value_word words))
+    or unless (nat_le (2 * count_in (first_at words)) (length (drop HEAD_WORDS words))) (Short place)
+
+-- the first fault of the words behind a head: of the places, and then whether they lie on more than one page as the head says
+abbrev pub writes_fault : ℕ → ℕ → ℕ → List Write → Option LogFault
+writes_fault pages place first writes =
+    place_fault pages place 0 writes or unless (beq (is_structural first) (spans_pages writes)) (BadHead place first)
+
 -- the first fault of the words of an entry that begins at a place
 unfoldable pub fault_at : ℕ → ℕ → List ℕ → Option LogFault
-fault_at pages place (head ∷ number ∷ key ∷ value ∷ words) =
-    unless (is_head head) (BadHead place head)
-    or unless (is_counted number (2 ^ 32 - 1)) (BadHead place number)
-    or unless (not (is_delete head) || (value == 0)) (BadHead place value)
-    or unless (nat_le (2 * count_in head) (length words)) (Short place)
-    or place_fault pages place 0 (writes_in (count_in head) words)
-    or unless (beq (is_structural head) (spans_pages (writes_in (count_in head) words))) (BadHead place head)
-fault_at pages place _ = Some (Short place)
+fault_at pages place words =
+    head_fault place words or writes_fault pages place (first_at words) (writes_in (count_in (first_at words)) (drop HEAD_WORDS words))
 
 -- a fault is the one that was found, or want of memory
 abbrev pub IsFault : Option LogFault → LogFault → Type 0

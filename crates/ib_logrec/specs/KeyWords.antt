@@ -1,11 +1,15 @@
--- Keys as words: nothing else here computes with a key.
-use Rattle.std.specs.Prelude.{ℕ}
+-- Keys as words: nothing else here computes with a key, or knows how many words it has.
+use Rattle.std.specs.Prelude.{ℕ, ◌^◌, Bool, nat_lt, List, [], ◌∷◌, slice_index}
 use Rattle.ib_map.specs.Keys.{MapKey}
 
--- the word that a key is written as
-unfoldable pub key_word : MapKey → ℕ
-key_word key = key
+-- the words that a key is written as
+unfoldable pub key_words : MapKey → List ℕ
+key_words key = key ∷ []
 
--- the key that is written as a word
-unfoldable pub key_of_word : ℕ → MapKey
-key_of_word word = word
+-- whether a key is spelled at the front of the words
+unfoldable pub spells_key : List ℕ → Bool
+spells_key words = nat_lt (slice_index words 0) (2 ^ 64)
+
+-- the key that is spelled at the front of the words
+unfoldable pub key_in : List ℕ → MapKey
+key_in words = slice_index words 0

@@ -3,22 +3,23 @@ use Rattle.std.specs.Prelude.{ℕ, List, [], ◌∷◌, ◌++◌}
 use Rattle.std.specs.List.{AllByRecursion}
 use Rattle.ib_map.specs.Keys.{end_rank}
 use Rattle.ib_logrec.specs.declared.entry.Entry.{Entry}
-use Rattle.ib_logrec.specs.Grammar.{Formed}
+use Rattle.ib_logrec.specs.Grammar.{IsInGrammar}
 
--- what a page is for: keys whose ranks are from `low` on and below `end`, at its level of the tree
+-- what a page is for: keys whose ranks are from `low` on and below `end`, at its level of the tree of its root, counted from 1
 pub record PageRange : Type 0 where
+  pub root : ℕ
   pub low : ℕ
   pub end : ℕ
   pub level : ℕ
 
--- all keys, in a leaf
+-- all keys, in a leaf of the first root
 abbrev pub all_keys : PageRange
-all_keys = record { low = 0; end = end_rank; level = 0 }
+all_keys = record { root = 1; low = 0; end = end_rank; level = 0 }
 
 -- each entry is in the grammar
-abbrev pub AreFormed : ℕ → List Entry → Type 0
-AreFormed pages log = AllByRecursion (Formed pages) log
+abbrev pub AreInGrammar : ℕ → List Entry → Type 0
+AreInGrammar pages log = AllByRecursion (IsInGrammar pages) log
 
-pub AreFormed-front : (pages : ℕ) (xs ys : List Entry) → AreFormed pages (xs ++ ys) → AreFormed pages xs
-AreFormed-front pages [] ys formed = tt
-AreFormed-front pages (e ∷ xs) ys formed = (formed.0, AreFormed-front pages xs ys formed.1)
+pub AreInGrammar-front : (pages : ℕ) (xs ys : List Entry) → AreInGrammar pages (xs ++ ys) → AreInGrammar pages xs
+AreInGrammar-front pages [] ys are = tt
+AreInGrammar-front pages (e ∷ xs) ys are = (are.0, AreInGrammar-front pages xs ys are.1)

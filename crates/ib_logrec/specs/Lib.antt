@@ -1,5 +1,5 @@
 pub mod KeyWords
-pub mod Places
+pub mod Heads
 pub mod Words
 pub mod Grammar
 pub mod Log

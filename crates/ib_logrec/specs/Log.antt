@@ -5,7 +5,8 @@ use Rattle.ib_map.specs.declared.call.LoggedChange.{LoggedChange}
 use Rattle.ib_map.specs.Pairs.{Pairs}
 use Rattle.ib_map.specs.History.{History, map_after}
 use Rattle.ib_logrec.specs.declared.entry.Entry.{Entry}
-use Rattle.ib_logrec.specs.Places.{page_of, index_of, stored}
+use Rattle.ib_map.specs.Writes.{page_at, index_at, stored}
+use Rattle.ib_logrec.specs.Heads.{head_of, logged_head}
 use Rattle.ib_logrec.specs.Words.{words_of_entry}
 
 -- the words of the entries, one after another, and how many they are
@@ -26,11 +27,11 @@ memory_after opening log place = after log place (opening place)
 
 -- the opening memory by places, from a law's words by page and index
 abbrev pub by_place : (ℕ → ℕ → ℕ → ℕ) → ℕ → ℕ → ℕ
-by_place opening pages place = opening pages (page_of place) (index_of place)
+by_place opening pages place = opening pages (page_at place) (index_at place)
 
 -- the change of an entry, as a history has it
 abbrev pub logged : Entry → LoggedChange
-logged e = record { session = e.session; number = e.number; change = e.change }
+logged e = logged_head (head_of e)
 
 -- the changes of the entries
 abbrev pub history_of : List Entry → History

@@ -1,22 +1,23 @@
 //! From words to the entry that they spell, or to their first fault.
 
-ghost use Rattle.std.specs.Prelude.{◌≡◌, ◌+◌, ◌*◌, ◌^◌, ◌<◌, ◌≤◌, ◌==◌, ◌++◌, ℕ, List, not, None, if◌then◌else◌, length, drop, MatchResult, IfOk, OnOk, IfErr};
+ghost use Rattle.std.specs.Prelude.{◌≡◌, ◌+◌, ◌*◌, ◌^◌, ◌<◌, ◌≤◌, ◌==◌, ◌++◌, ℕ, List, not, None, Some, Ok, if◌then◌else◌, length, drop, slice_index, MatchResult, IfOk, OnOk, IfErr};
+ghost use Rattle.std.specs.List.{list_any};
 ghost use Rattle.ib_map.specs.declared.TheConstants.{PAGE_WORDS};
 ghost use Rattle.ib_map.specs.declared.call.Change.TheVariants.{Insert, Delete};
+ghost use Rattle.ib_map.specs.Writes.{page_at, spans_pages, PlacesRise};
 ghost use Rattle.ib_logrec.specs.declared.entry.Entry.{Entry};
-ghost use Rattle.std.specs.List.{list_any};
-ghost use Rattle.ib_logrec.specs.Places.{page_of, spans_pages};
-ghost use Rattle.ib_logrec.specs.Words.{words_of_entry, writes_in, entry_of};
-ghost use Rattle.ib_logrec.specs.Grammar.{Formed, place_fault, fault_at, IsFault};
+ghost use Rattle.ib_logrec.specs.Heads.{head_of, head_in, first_at};
+ghost use Rattle.ib_logrec.specs.Words.{words_of_entry, writes_in};
+ghost use Rattle.ib_logrec.specs.Grammar.{IsInGrammar, StandsAt, HeadStandsAt, place_fault, head_fault, writes_fault, fault_at, IsFault};
 
 use crate::entry::{Entry, HEAD_WORDS};
 use crate::fault::LogFault;
-use crate::head::{Head, head_of};
-use crate::key_word::key_of_word;
-use crate::write::{Write, spans_pages};
+use crate::first_word::first_word;
+use crate::head::Head;
+use crate::key_words::{KEY_WORDS, key_at};
 use crate::writes::Writes;
-use ib_map::{Change, Key, PAGE_WORDS};
-use std::alloc::Global;
+use ib_map::{Change, Key, PAGE_WORDS, Write};
+use std::alloc::{AllocError, Global};
 
 /// The entry that begins at `place` of a log's words, in a space of so many pages, and the place
 /// behind it. A fault is the first one of the words there, from left to right.
@@ -29,78 +30,105 @@ pub fn decode_at(
     requires place { place ≤ length words.now }
     requires few_words { length words.now < 2 ^ 32 }
     requires few_pages { pages * PAGE_WORDS ≤ 2 ^ 32 }
-
     // What is read is in the grammar, and the words there are its words.
-    ensures formed { IfOk result (λ found. Formed pages found.0) }
-    ensures spelled { IfOk result (λ found. drop place words.now ≡ words_of_entry found.0 ++ drop found.1 words.now) }
-    ensures next { IfOk result (λ found. found.1 ≡ place + length (words_of_entry found.0)) }
-    ensures within { IfOk result (λ found. found.1 ≤ length words.now) }
-
+    ensures found { IfOk result (λ found. StandsAt pages place found.1 words.now found.0) }
     // An entry in the grammar is read from its words, whatever stands behind them.
-    ensures only { (e : Entry) (rest : List ℕ) → Formed pages e → drop place words.now ≡ words_of_entry e ++ rest
+    ensures only { (e : Entry) (rest : List ℕ) → IsInGrammar pages e
+        → drop place words.now ≡ words_of_entry e ++ rest
         → MatchResult result (λ found. found.0 ≡ e) (λ fault. fault ≡ LogFault.OutOfMemory) }
-
     // Which fault it is.
     ensures no_fault { OnOk result (fault_at pages place (drop place words.now) ≡ None) }
     ensures fault { IfErr result (IsFault (fault_at pages place (drop place words.now))) }
 {
-    let entry = entry_of(alloc, &words[place as usize..], place, pages)?;
-    let length = HEAD_WORDS + 2 * entry.writes.as_slice().len();
-    Ok((entry, place + length as u32))
+    let (head, next) = head_at(words, place, pages)?;
+    let behind = &words[place as usize + HEAD_WORDS..];
+    let writes = writes_of(alloc, head.writes, behind, pages)?;
+    let entry = Entry {
+        session: head.session,
+        number: head.number,
+        change: head.change,
+        structural: head.structural,
+        writes: Writes::from_vec(writes),
+    };
+    Ok((entry, next))
 }
 
-// The entry at the front of the words, which begin at a log's `place`.
-#[tactic(auto, unfolding(crate::specs::Grammar::fault_at, crate::specs::Words::entry_of))]
-fn entry_of(alloc: Global, words: &[u64], place: u32, pages: u32) -> Result<Entry, LogFault>
-    requires { pages * PAGE_WORDS ≤ 2 ^ 32 }
-    ensures found { IfOk result (λ entry. entry ≡ entry_of words.now) }
-    ensures no_fault { OnOk result (fault_at pages place words.now ≡ None) }
-    ensures fault { IfErr result (IsFault (fault_at pages place words.now)) }
+/// The head of the entry that begins at `place`, and the place behind the entry. The entry is tested
+/// whole, as `decode_at` does, but its writes are not kept: so this takes no memory.
+pub fn head_at(words: &[u64], place: u32, pages: u32) -> Result<(Head, u32), LogFault>
+    requires place { place ≤ length words.now }
+    requires few_words { length words.now < 2 ^ 32 }
+    requires few_pages { pages * PAGE_WORDS ≤ 2 ^ 32 }
+    ensures found { IfOk result (λ found. HeadStandsAt pages place found.1 words.now found.0) }
+    ensures only { (e : Entry) (rest : List ℕ) → IsInGrammar pages e
+        → drop place words.now ≡ words_of_entry e ++ rest
+        → result ≡ Ok (record { 0 = head_of e; 1 = place + length (words_of_entry e) }) }
+    ensures no_fault { OnOk result (fault_at pages place (drop place words.now) ≡ None) }
+    ensures fault { IfErr result (λ fault. fault_at pages place (drop place words.now) ≡ Some fault) }
 {
-    let [first, number, key, value, behind @ ..] = words else {
+    let head = tested_head(&words[place as usize..], place, pages)?;
+    let length = HEAD_WORDS + 2 * head.writes;
+    Ok((head, place + length as u32))
+}
+
+// The head at the front of the words of an entry, which begin at a log's `place` and are tested whole.
+fn tested_head(words: &[u64], place: u32, pages: u32) -> Result<Head, LogFault>
+    requires { pages * PAGE_WORDS ≤ 2 ^ 32 }
+    ensures head { IfOk result (λ head. head ≡ head_in words.now) }
+    ensures no_fault { OnOk result (fault_at pages place words.now ≡ None) }
+    ensures fault { IfErr result (λ fault. fault_at pages place words.now ≡ Some fault) }
+{
+    let head = head_of(words, place)?;
+    let behind = &words[HEAD_WORDS..];
+    test_places(head.writes, behind, place, pages)?;
+    if head.structural != spans_pages(head.writes, behind) {
+        return Err(bad_head(place, words[0]));
+    }
+    Ok(head)
+}
+
+// The head at the front of the words, which begin at a log's `place`.
+#[tactic(auto, unfolding(crate::specs::Grammar::head_fault, crate::specs::Heads::head_in))]
+fn head_of(words: &[u64], place: u32) -> Result<Head, LogFault>
+    ensures head { IfOk result (λ head. head ≡ head_in words.now) }
+    ensures room { IfOk result (λ head. HEAD_WORDS + 2 * head.writes ≤ length words.now) }
+    ensures no_fault { OnOk result (head_fault place words.now ≡ None) }
+    ensures fault { IfErr result (λ fault. head_fault place words.now ≡ Some fault) }
+{
+    if words.len() < HEAD_WORDS {
         return Err(LogFault::Short { place });
-    };
-    let Some(head) = head_of(*first) else {
-        return Err(LogFault::BadHead {
-            place,
-            word: *first,
-        });
-    };
-    let Head {
-        session,
-        deletes,
-        structural,
-        writes,
-    } = head;
-    if *number < 1 || *number > u64::from(u32::MAX) {
-        return Err(LogFault::BadHead {
-            place,
-            word: *number,
-        });
     }
-    if deletes && *value != 0 {
-        return Err(LogFault::BadHead {
-            place,
-            word: *value,
-        });
+    let number = words[1];
+    let value = words[HEAD_WORDS - 1];
+    let Some(first) = first_word(words[0]) else {
+        return Err(bad_head(place, words[0]));
+    };
+    if number < 1 || number > u64::from(u32::MAX) {
+        return Err(bad_head(place, number));
     }
-    if behind.len() < 2 * writes {
+    let Some(key) = key_at(&words[2..]) else {
+        return Err(bad_head(place, words[HEAD_WORDS - 2]));
+    };
+    if first.deletes && value != 0 {
+        return Err(bad_head(place, value));
+    }
+    if words.len() - HEAD_WORDS < 2 * first.writes {
         return Err(LogFault::Short { place });
     }
-    let writes = writes_of(alloc, writes, behind, place, pages)?;
-    if structural != spans_pages(&writes) {
-        return Err(LogFault::BadHead {
-            place,
-            word: *first,
-        });
-    }
-    Ok(Entry {
-        session,
-        number: *number as u32,
-        change: change_of(deletes, key_of_word(*key), *value),
-        structural,
-        writes: Writes::from_vec(writes),
+    Ok(Head {
+        session: first.session,
+        number: number as u32,
+        change: change_of(first.deletes, key, value),
+        structural: first.structural,
+        writes: first.writes,
     })
+}
+
+// A word that is not one of a head.
+fn bad_head(place: u32, word: u64) -> LogFault
+    ensures { result ≡ LogFault.BadHead place word }
+{
+    LogFault::BadHead { place, word }
 }
 
 fn change_of(deletes: bool, key: Key, value: u64) -> Change
@@ -113,22 +141,14 @@ fn change_of(deletes: bool, key: Key, value: u64) -> Change
     }
 }
 
-// The first `count` writes that the words spell, whose places ascend and lie on pages.
-fn writes_of(
-    alloc: Global,
-    count: usize,
-    words: &[u64],
-    entry: u32,
-    pages: u32,
-) -> Result<Vec<Write>, LogFault>
+// Whether the places of the first `count` writes that the words spell ascend and lie on pages.
+fn test_places(count: usize, words: &[u64], entry: u32, pages: u32) -> Result<(), LogFault>
     requires long { 2 * count ≤ length words.now }
     requires few_pages { pages * PAGE_WORDS ≤ 2 ^ 32 }
-    ensures found { IfOk result (λ writes. writes.items ≡ writes_in count words.now) }
     ensures no_fault { OnOk result (place_fault pages entry 0 (writes_in count words.now) ≡ None) }
-    ensures fault { IfErr result (IsFault (place_fault pages entry 0 (writes_in count words.now))) }
+    ensures fault { IfErr result (λ fault. place_fault pages entry 0 (writes_in count words.now) ≡ Some fault) }
 {
     let end = u64::from(pages) * PAGE_WORDS as u64;
-    let mut writes = Vec::with_capacity(alloc, count)?;
     let mut low = 0;
     for i in 0..count {
         let place = words[2 * i];
@@ -144,11 +164,42 @@ fn writes_of(
                 word: place,
             });
         }
+        low = place + 1;
+    }
+    Ok(())
+}
+
+// Whether the first `count` writes that the words spell lie on more than one page.
+fn spans_pages(count: usize, words: &[u64]) -> bool
+    requires { 2 * count ≤ length words.now }
+    ensures { result ≡ spans_pages (writes_in count words.now) }
+{
+    for i in 1..count {
+        if words[2 * i] / PAGE_WORDS as u64 != words[0] / PAGE_WORDS as u64 {
+            return true;
+        }
+    }
+    false
+}
+
+// The first `count` writes that the words spell, whose places lie on pages.
+fn writes_of(
+    alloc: Global,
+    count: usize,
+    words: &[u64],
+    pages: u32,
+) -> Result<Vec<Write>, AllocError>
+    requires long { 2 * count ≤ length words.now }
+    requires few_pages { pages * PAGE_WORDS ≤ 2 ^ 32 }
+    requires rise { PlacesRise 0 (writes_in count words.now) (pages * PAGE_WORDS) }
+    ensures { IfOk result (λ writes. writes.items ≡ writes_in count words.now) }
+{
+    let mut writes = Vec::with_capacity(alloc, count)?;
+    for i in 0..count {
         writes.push(Write {
-            place: place as u32,
+            place: words[2 * i] as u32,
             value: words[2 * i + 1],
         })?;
-        low = place + 1;
     }
     Ok(writes)
 }

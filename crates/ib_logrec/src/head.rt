@@ -1,69 +1,68 @@
-//! The first word of an entry: session, flags and number of writes.
+//! The head of an entry: all that an entry says but the words that it writes.
 
-ghost use Rattle.std.specs.Prelude.{◌≡◌, Some, None, if◌then◌else◌};
-ghost use Rattle.ib_logrec.specs.Words.{session_in, count_in, is_delete, is_structural, flags_of};
-ghost use Rattle.ib_logrec.specs.Grammar.{is_head};
+ghost use Rattle.std.specs.Prelude.{◌≡◌, ◌≤◌, ◌++◌, length, drop};
+ghost use Rattle.ib_map.specs.Map.{key_of};
+ghost use Rattle.ib_map.specs.declared.call.Change.{Change};
+ghost use Rattle.ib_logrec.specs.Heads.{first_word, head_words, logged_head, value_of};
 
-use crate::entry::{MOST_SESSIONS, MOST_WRITES};
-use ib_map::Change;
+use crate::entry::{HEAD_WORDS, MOST_WRITES};
+use crate::first_word::flags_of;
+use crate::key_words::put_key;
+use ib_map::{Change, Key, LoggedChange};
 
-// The flags of an entry's first word.
-const INSERT: u64 = 1;
-
-const DELETE: u64 = 2;
-
-const STRUCTURAL_INSERT: u64 = 5;
-
-const STRUCTURAL_DELETE: u64 = 6;
-
-// What an entry's first word says.
-pub(crate) struct Head {
-    pub(crate) session: u32,
-    pub(crate) deletes: bool,
-    pub(crate) structural: bool,
-    pub(crate) writes: usize,
+/// The head of an entry. `writes` is how many words of pages the entry writes.
+#[derive(Clone, Copy, Debug, PartialEq, Eq)]
+pub struct Head {
+    pub session: u32,
+    pub number: u32,
+    pub change: Change,
+    pub structural: bool,
+    pub writes: usize,
 }
 
-// The flags that tell a change, and whether it is structural.
-pub(crate) fn flags_of(change: Change, structural: bool) -> u64
-    ensures { result ≡ flags_of change structural }
-{
-    match (change, structural) {
-        (Change::Insert { .. }, false) => INSERT,
-        (Change::Delete { .. }, false) => DELETE,
-        (Change::Insert { .. }, true) => STRUCTURAL_INSERT,
-        (Change::Delete { .. }, true) => STRUCTURAL_DELETE,
-    }
-}
-
-// What the word says, where it is an entry's first one.
-pub(crate) fn head_of(word: u64) -> Option<Head>
-    ensures { result ≡ (if is_head word
-        then Some (record { session = session_in word; deletes = is_delete word; structural = is_structural word; writes = count_in word })
-        else None) }
-{
-    let session = word >> 32;
-    let flags = (word >> 16) % (1 << 16);
-    let writes = word % (1 << 16);
-    let deletes = flags == DELETE || flags == STRUCTURAL_DELETE;
-    let structural = flags == STRUCTURAL_INSERT || flags == STRUCTURAL_DELETE;
-    if session < 1 || session > u64::from(MOST_SESSIONS) {
-        return None;
-    }
-    if !(flags == INSERT
-        || flags == DELETE
-        || flags == STRUCTURAL_INSERT
-        || flags == STRUCTURAL_DELETE)
+impl Head {
+    /// Its change, as a history has it.
+    pub fn logged(&self) -> LoggedChange
+        ensures { result ≡ logged_head self.now }
     {
-        return None;
+        LoggedChange {
+            session: self.session,
+            number: self.number,
+            change: self.change,
+        }
     }
-    if writes < 1 || writes > MOST_WRITES as u64 {
-        return None;
+
+    /// Writes the head's words to the front of `out`. What stands behind them stays.
+    #[tactic(auto, unfolding(crate::specs::Heads::head_words))]
+    pub fn write_into(&self, out: &mut [u64])
+        requires few { self.now.writes ≤ MOST_WRITES }
+        requires room { HEAD_WORDS ≤ length out.old }
+        ensures { out.new ≡ head_words self.now ++ drop HEAD_WORDS out.old }
+    {
+        let (key, value) = key_and_value(self.change);
+        out[0] = self.first_word();
+        out[1] = u64::from(self.number);
+        out[HEAD_WORDS - 1] = value;
+        put_key(key, &mut out[2..]);
     }
-    Some(Head {
-        session: session as u32,
-        deletes,
-        structural,
-        writes: writes as usize,
-    })
+
+    // Session, flags and number of writes.
+    fn first_word(&self) -> u64
+        requires { self.now.writes ≤ MOST_WRITES }
+        ensures { result ≡ first_word self.now }
+    {
+        let flags = flags_of(self.change, self.structural);
+        (u64::from(self.session) << 32) + (flags << 16) + self.writes as u64
+    }
+}
+
+// A delete has no value, and 0 is written.
+fn key_and_value(change: Change) -> (Key, u64)
+    ensures key { result.0 ≡ key_of change }
+    ensures value { result.1 ≡ value_of change }
+{
+    match change {
+        Change::Insert { key, value } => (key, value),
+        Change::Delete { key } => (key, 0),
+    }
 }

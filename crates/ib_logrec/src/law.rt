@@ -4,9 +4,10 @@
 /// of the pages at the start. Of a page's range a law may say what it likes, as long as an entry that
 /// writes no word of the page changes none of it.
 pub trait Law {
-    ghost use Rattle.std.specs.Prelude.{ℕ, ◌≡◌, ◌↔◌, List, [], ◌∷◌, ◌++◌, false};
-    ghost use Rattle.ib_logrec.specs.Places.{touches};
-    ghost use Rattle.ib_logrec.specs.Law.{PageRange};
+    ghost use Rattle.std.specs.Prelude.{ℕ, ◌≡◌, ◌↔◌, List, [], ◌∷◌, ◌++◌, true, false};
+    ghost use Rattle.ib_map.specs.Space.{has_pages};
+    ghost use Rattle.ib_map.specs.Writes.{touches};
+    ghost use Rattle.ib_logrec.specs.Law.{AreInGrammar, PageRange};
     ghost use Rattle.ib_logrec.specs.declared.entry.Entry.{Entry};
 
     // the lists of entries that are lawful on so many pages
@@ -22,27 +23,32 @@ pub trait Law {
     fn opening_word(pages: u32, page: u32, index: u32) -> u64
         ensures { result ≡ opening pages page index };
 
-    // no entries are lawful
-    ghost empty: { (pages : ℕ) → lawful pages [] };
+    // The laws speak of the numbers of pages that a space has. No entries are lawful
+    ghost empty: { (pages : ℕ) → has_pages pages ≡ true → lawful pages [] };
 
     // each front of lawful entries is lawful
-    ghost begins: { (pages : ℕ) (xs ys : List Entry) → lawful pages (xs ++ ys) → lawful pages xs };
+    ghost begins: { (pages : ℕ) (xs ys : List Entry) → has_pages pages ≡ true
+        → lawful pages (xs ++ ys) → lawful pages xs };
+
+    // lawful entries are in the grammar
+    ghost grammar: { (pages : ℕ) (log : List Entry) → has_pages pages ≡ true
+        → lawful pages log → AreInGrammar pages log };
 
     // the range of a page that a lawful entry doesn't write is as before
     ghost stays: { (pages : ℕ) (xs : List Entry) (e : Entry) (page : ℕ) (r : PageRange)
-        → lawful pages (xs ++ e ∷ []) → touches page e.writes ≡ false
+        → has_pages pages ≡ true → lawful pages (xs ++ e ∷ []) → touches page e.writes ≡ false
         → range pages (xs ++ e ∷ []) page r ↔ range pages xs page r };
 }
 
 /// A law for tests: pages of zeros at the start, each list of entries in the grammar lawful, and each
-/// page's range all keys.
+/// page's range all keys of the first root.
 pub struct AnyLaw;
 
 impl Law for AnyLaw {
     ghost use Rattle.std.specs.Prelude.{◌≡◌};
-    ghost use Rattle.ib_logrec.specs.Law.{AreFormed, AreFormed-front, all_keys};
+    ghost use Rattle.ib_logrec.specs.Law.{AreInGrammar, AreInGrammar-front, all_keys};
 
-    ghost lawful = { AreFormed };
+    ghost lawful = { AreInGrammar };
 
     ghost opening = { λ _ _ _. 0 };
 
@@ -52,9 +58,11 @@ impl Law for AnyLaw {
         0
     }
 
-    ghost empty = { λ _. tt };
+    ghost empty = { λ _ _. tt };
 
-    ghost begins = { AreFormed-front };
+    ghost begins = { λ pages xs ys _. AreInGrammar-front pages xs ys };
 
-    ghost stays = { λ _ _ _ _ _ _ _. (λ is. is, λ is. is) };
+    ghost grammar = { λ _ _ _ lawful. lawful };
+
+    ghost stays = { λ _ _ _ _ _ _ _ _. (λ is. is, λ is. is) };
 }

@@ -5,18 +5,19 @@ mod decode;
 mod encode;
 mod entry;
 mod fault;
+mod first_word;
 mod head;
-mod key_word;
+mod key_words;
 mod law;
-mod write;
 mod writes;
 
-pub use decode::decode_at;
+pub use decode::{decode_at, head_at};
 pub use encode::encode_into;
 pub use entry::{Entry, HEAD_WORDS, MOST_SESSIONS, MOST_WRITES};
 pub use fault::{LogFault, UnlawfulKind};
+pub use head::Head;
+pub use ib_map::{Write, spans_pages};
 pub use law::{AnyLaw, Law};
-pub use write::{Write, spans_pages};
 pub use writes::Writes;
 
 #[cfg(test)]

@@ -65,6 +65,8 @@ fn an_entry_is_read_and_written_again(rt: HostRuntime) -> Result<(), Fail> {
     assert!(rt; !entry.structural);
     assert_eq!(rt; entry.writes.as_slice().len(), 4);
 
+    assert_eq!(rt; head_at(&LOG, 0, 16), Ok((entry.head(), 12)));
+
     let mut out = [7; 13];
     assert_eq!(rt; encode_into(&entry, &mut out), 12);
     assert_eq!(rt; &out[..12], &LOG[..12]);

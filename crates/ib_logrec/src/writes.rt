@@ -2,7 +2,7 @@
 
 ghost use Rattle.std.specs.Prelude.{◌≡◌, length};
 
-use crate::write::Write;
+use ib_map::Write;
 use std::marker::Model;
 
 /// The writes of an entry, in order.
@@ -13,7 +13,7 @@ pub struct Writes {
 
 impl Model for Writes {
     ghost use Rattle.std.specs.Prelude.{List};
-    ghost use Rattle.ib_logrec.specs.declared.write.Write.{Write};
+    ghost use Rattle.ib_map.specs.declared.write.Write.{Write};
 
     ghost Value = { List Write };
 

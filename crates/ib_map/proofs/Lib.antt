@@ -7,6 +7,7 @@ pub mod MapLaws
 pub mod HistoryLaws
 pub mod FitsLaws
 pub mod RunLaws
+pub mod WriteLaws
 pub mod ChunkLaws
 pub mod FullRecordLaws
 mod WorkedRows

@@ -1,15 +1,15 @@
 -- The definitions tried on small scripts whose outcome was worked out by hand.
 use Rattle.std.proofs.Common.{◌≡◌, ℕ, zero, suc, ◌-◌, ◌^◌, List, [], ◌∷◌, refl, arith, eqb, false, lit≤}
 use Rattle.std.proofs.lemmas.Bool.{ne_eqb}
-use Rattle.ib_map.specs.Keys.{rank}
+use Rattle.ib_map.specs.Keys.{rank, key_after}
 use Rattle.ib_map.specs.Pairs.{Pairs, cut}
 use Rattle.ib_map.specs.Map.{answer_of, effect_of}
 use Rattle.ib_map.specs.History.{History, map_with, changes_of, IsLegalHistory}
 use Rattle.ib_map.specs.Replies.{FullRecord, Fits}
 use Rattle.ib_map.specs.Runs.{IsLegalSession, IsLegalRun}
-use Rattle.ib_map.specs.declared.call.Call.TheVariants.{Insert, Delete, Get}
+use Rattle.ib_map.specs.declared.call.Call.TheVariants.{Insert, Delete, Get, Scan}
 use Rattle.ib_map.specs.declared.call.Change.TheVariants.{Insert as InsertChange, Delete as DeleteChange}
-use Rattle.ib_map.specs.declared.call.Reply.TheVariants.{Inserted, Duplicate, Deleted, Missing, Found, NotFound}
+use Rattle.ib_map.specs.declared.call.Reply.TheVariants.{Inserted, Duplicate, Deleted, Missing, Found, NotFound, Scanned}
 use Rattle.ib_map.proofs.HistoryLaws.{IsLegalHistory-none, IsLegalHistory-push}
 
 -- a second insert of a key is a duplicate, and the first value stays
@@ -130,7 +130,7 @@ handed_over-legal (suc (suc (suc n))) =
     record { answers = tt; changes = rw (first, second) refl }
 
 -- the first session does not read the key as gone before it is deleted
-pub gone_too_early : Fits handed_over 1 (record { call = Get 7; reply = NotFound; place = 1; spans = [] }) → ⊥
+pub gone_too_early : Fits handed_over 1 1 (record { call = Get 7; reply = NotFound; place = 1; spans = [] }) → ⊥
 unfolding rank
 gone_too_early fits = let wrong = fits.1.0 in cc
 
@@ -142,3 +142,54 @@ older_map legal = let seen = legal.answers.3.1 in omega arith
 -- and a change that nobody reports is no part of a legal run
 pub unreported_change : IsLegalSession (Fits handed_over 1) handed_over 1 [] → ⊥
 unreported_change legal = let changes = legal.changes in cc
+
+-- a scan in two chunks, of which the second begins behind the first
+abbrev pub three_keys : History
+three_keys =
+    record { session = 1; number = 1; change = InsertChange 1 10 } ∷ record { session = 1; number = 2; change = InsertChange 5 50 }
+    ∷ record { session = 1; number = 3; change = InsertChange 7 70 } ∷ []
+
+abbrev pub in_two_chunks : FullRecord
+in_two_chunks = record {
+  call = Scan 0 10;
+  reply = Scanned 2 3;
+  place = 3;
+  spans = record { low = 0; high = 5; place = 3; pairs = (1, 10) ∷ (5, 50) ∷ [] } ∷ record { low = 6; high = 10; place = 3; pairs = (7, 70) ∷ [] } ∷ [];
+}
+
+pub in_two_chunks-fits : Fits three_keys 1 3 in_two_chunks
+unfolding rank key_after
+in_two_chunks-fits = (
+  lit≤ tt,
+  (
+    refl,
+    (
+      lit≤ tt,
+      (
+        (record { begins = refl; ends = lit≤ tt; placed = lit≤ tt; holds = (lit≤ tt, refl) }),
+        lit≤ tt,
+        refl,
+        (record { begins = refl; ends = lit≤ tt; placed = lit≤ tt; holds = (lit≤ tt, refl) }, refl, refl),
+      ),
+    ),
+  ),
+)
+
+-- a chunk that ends below its beginning, so that the next one tells pairs again
+pub backward_chunk : (pairs : Pairs) → Fits three_keys 1 3 (record {
+  call = Scan 0 10;
+  reply = Scanned 3 4;
+  place = 3;
+  spans = record { low = 0; high = 5; place = 3; pairs = (1, 10) ∷ (5, 50) ∷ [] } ∷ record { low = 6; high = 2; place = 3; pairs = pairs }
+      ∷ record { low = 3; high = 10; place = 3; pairs = (5, 50) ∷ (7, 70) ∷ [] } ∷ [];
+}) → ⊥
+unfolding rank
+backward_chunk pairs fits = let second = fits.1.1.1.3.0.ends in omega arith
+
+-- a scan with no chunk stands at what its session had seen, and nowhere else
+pub empty_scan-fits : Fits three_keys 1 2 (record { call = Scan 9 1; reply = Scanned 0 0; place = 2; spans = [] })
+unfolding rank
+empty_scan-fits = (lit≤ tt, (refl, (lit≤ tt, refl)))
+
+pub empty_scan_elsewhere : Fits three_keys 1 2 (record { call = Scan 9 1; reply = Scanned 0 0; place = 3; spans = [] }) → ⊥
+empty_scan_elsewhere fits = let at = fits.1.1.1 in omega arith

@@ -1,5 +1,7 @@
 pub mod Keys
 pub mod Pairs
+pub mod Space
+pub mod Writes
 pub mod Map
 pub mod History
 pub mod Replies

@@ -1,6 +1,6 @@
 //! The order of keys, and all that code outside this crate may know of a key.
 
-ghost use Rattle.std.specs.Prelude.{IsNone, IfSome, ◌≤◌, ◌≡◌, ◌<◌, ◌↔◌, IsTrue};
+ghost use Rattle.std.specs.Prelude.{IsNone, IfSome, ◌≤◌, ◌≡◌, ◌<◌, ◌+◌, ◌↔◌, IsTrue};
 ghost use Rattle.ib_map.specs.Keys.{MapKey, IsKey, rank, end_rank, key_after};
 
 /// A key of the index. Code outside this crate copies keys and compares them by the calls below.
@@ -18,7 +18,8 @@ pub fn after(key: Key) -> Option<Key>
     ensures next { result ≡ key_after key }
     ensures last { IsNone result ↔ (key ≡ GREATEST) }
     ensures above { IfSome result (λ next. rank key < rank next) }
-    ensures adjacent { IfSome result (λ next. (other : MapKey) → rank key < rank other → rank next ≤ rank other) }
+    ensures adjacent { IfSome result (λ next. (other : MapKey) → IsKey other
+        → rank key < rank other → rank next ≤ rank other) }
 {
     key.checked_add(1)
 }
@@ -45,10 +46,9 @@ pub fn is_same(a: Key, b: Key) -> bool
 
 /// The order of keys, as a contract. It is that of their ranks, natural numbers from 0, that of
 /// `LEAST`, to that of `GREATEST`.
-#[tactic(auto, unfolding(crate::specs::Keys::rank, crate::specs::Keys::end_rank))]
 pub fn key_law()
-    ensures injective { (a b : MapKey) → rank a ≡ rank b → a ≡ b }
+    ensures is_key { (key : MapKey) → IsKey key ↔ (rank key < end_rank) }
+    ensures injective { (a b : MapKey) → IsKey a → IsKey b → rank a ≡ rank b → a ≡ b }
     ensures least { rank LEAST ≡ 0 }
-    ensures greatest { (key : MapKey) → IsKey key → rank key ≤ rank GREATEST }
-    ensures end { (key : MapKey) → IsKey key → rank key < end_rank }
+    ensures greatest { rank GREATEST + 1 ≡ end_rank }
 {}

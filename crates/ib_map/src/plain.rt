@@ -6,7 +6,7 @@ ghost use Rattle.ib_map.specs.Keys.{rank};
 ghost use Rattle.ib_map.specs.Pairs.{put, without, value_at, cut, place_of};
 ghost use Rattle.ib_map.specs.Map.{IsMap};
 
-use crate::key::{Key, is_below, is_same};
+use crate::key::{GREATEST, Key, LEAST, is_below, is_same};
 use std::alloc::Global;
 use std::marker::Model;
 use thiserror::Error;
@@ -112,6 +112,7 @@ impl PlainMap {
     /// The pairs from `low` to `high`, both included: none where `low` is above `high`.
     pub fn range(&self, low: Key, high: Key) -> &[(Key, u64)]
         ensures pairs { result.now ≡ cut self.now low high }
+        ensures whole { low ≡ LEAST → high ≡ GREATEST → result.now ≡ self.now }
         ensures ascends { IsMap self.now }
     {
         let from_low = &self.pairs[place_of(&self.pairs, low)..];

@@ -13,9 +13,10 @@ use Rattle.ib_map.proofs.PlaceLaws.{insert-place}
 use Rattle.ib_page.specs.declared.TheConstants.{MOST_LEVEL, MOST_RECORDS}
 use Rattle.ib_page.specs.Page.{Page, PageValue, IsPage, HoldsTree, HoldsPage, page_in}
 use Rattle.ib_page.specs.Page.PageValue.{Tree}
-use Rattle.ib_page.specs.Form.{words_of, words_of_free, page_of}
+use Rattle.ib_page.specs.Words.{free_page_words}
+use Rattle.ib_page.specs.Form.{words_of, page_of}
 use Rattle.ib_page.specs.Image.{with_records, with_links, with_level, with_clock}
-use Rattle.ib_page.proofs.FormLaws.{tree_in, kinds_of, tree, free, neither, page_of-words_of, page_of-words_of_free}
+use Rattle.ib_page.proofs.FormLaws.{tree_in, kinds_of, tree, free, neither, page_of-words_of, page_of-free_page_words}
 use Rattle.ib_page.proofs.WordLaws.{words-put, words-take, words-front, words-back, words-append, words-links, words-level, words-clock}
 
 -- what holds at each page of the tree, holds of an image that is one
@@ -130,8 +131,8 @@ level-changes ws level holds = on_tree ws (λ v. level ≤ MOST_LEVEL → (0 < l
     holds_page (λ vs. set vs 1 level) ws p (record p { level = level }) words (words-level p level)
     (record { level = low; prev = fits.prev; next = fits.next; no_prev = no_prev; no_next = no_next; few = fits.few; ascends = fits.ascends }))
 
-words-free_clock : (old clock : ℕ) → set (words_of_free old) 5 clock ≡ words_of_free clock
-unfolding words_of_free
+words-free_clock : (old clock : ℕ) → set (free_page_words old) 5 clock ≡ free_page_words clock
+unfolding free_page_words
 words-free_clock old clock = refl
 
 pub clock-changes : (ws : List ℕ) (clock : ℕ) → HoldsPage (page_of ws) → page_of (set ws 5 clock) ≡ with_clock clock (page_of ws)
@@ -139,6 +140,6 @@ clock-changes ws clock holds = elim (kinds_of ws) [
   | tree h ↦ holds_page (λ vs. set vs 5 clock) ws h.page (record h.page { clock = clock }) h.words (words-clock h.page clock)
       (record { level = h.fits.level; prev = h.fits.prev; next = h.fits.next; no_prev = h.fits.no_prev; no_next = h.fits.no_next; few = h.fits.few; ascends = h.fits.ascends })
       ∙ sym (ap (λ v. with_clock clock v) h.holds)
-  | free h ↦ ap (λ (vs : List ℕ). page_of (set vs 5 clock)) h.words ∙ (ap page_of (words-free_clock h.clock clock) ∙ (page_of-words_of_free clock ∙ sym (ap (λ v. with_clock clock v) h.holds)))
+  | free h ↦ ap (λ (vs : List ℕ). page_of (set vs 5 clock)) h.words ∙ (ap page_of (words-free_clock h.clock clock) ∙ (page_of-free_page_words clock ∙ sym (ap (λ v. with_clock clock v) h.holds)))
   | neither is ↦ absurd (subst HoldsPage is holds)
 ]

@@ -1,5 +1,5 @@
 -- What a page has for words, and that it is read from them again.
-use Rattle.std.proofs.Common.{◌≡◌, ℕ, zero, suc, ◌+◌, ◌-◌, ◌*◌, ◌<◌, ◌≤◌, ◌^◌, ◌⊎◌, true, false, [], ◌∷◌, ◌++◌, ◌∙◌, List, length, get_or, refl, ap, sym, arith, leb, ltb, ◌&&◌, inl, inr, length-append, subst, replicate, set, Some, slice_get}
+use Rattle.std.proofs.Common.{◌≡◌, ◌≢◌, ℕ, zero, suc, ◌+◌, ◌-◌, ◌*◌, ◌<◌, ◌≤◌, ◌^◌, ◌⊎◌, true, false, [], ◌∷◌, ◌++◌, ◌∙◌, List, length, get_or, refl, ap, sym, arith, leb, ltb, ◌&&◌, inl, inr, length-append, subst, replicate, set, Some, slice_get}
 use Rattle.std.specs.Bool.{Decides}
 use Rattle.std.specs.Str.{bytes_eq}
 use Rattle.std.proofs.lemmas.Bool.{leb-true, le-leb, ltb-true, lt-ltb, cases_Bool, and_parts, and_from, and_right, cond-true, cond-false}
@@ -13,7 +13,9 @@ use Rattle.ib_map.specs.declared.TheConstants.{PAGE_WORDS}
 use Rattle.ib_page.specs.declared.TheConstants.{MOST_LEVEL, MOST_RECORDS}
 use Rattle.ib_page.specs.Page.{Page, IsPage, HoldsTree, HoldsPage, page_in}
 use Rattle.ib_page.specs.Page.PageValue.{Malformed, Free, Tree}
-use Rattle.ib_page.specs.Form.{zeros, flat, words_of, words_of_free, pairs_in, read_page, rises, is_page, page_of}
+use Rattle.ib_page.specs.Words.{zeros, free_page_words}
+use Rattle.ib_page.specs.Page.{rises, is_page}
+use Rattle.ib_page.specs.Form.{empty_leaf_words, flat, words_of, pairs_in, read_page, page_of}
 
 Decides-leb : (a b : ℕ) → Decides (leb a b) (a ≤ b)
 Decides-leb a b = (leb-true a b, le-leb a b)
@@ -82,7 +84,7 @@ pub record HasTree (ws : List ℕ) : Type 0 where
 pub record HasFree (ws : List ℕ) : Type 0 where
   pub clock : ℕ
   pub holds : page_of ws ≡ Free clock
-  pub words : ws ≡ words_of_free clock
+  pub words : ws ≡ free_page_words clock
 
 -- an image is a page of the tree, a free page, or neither
 pub data Kinds (ws : List ℕ) : Type 0 where
@@ -101,22 +103,22 @@ kinds_of ws = elim (cases_Bool (is_page (read_page ws) && bytes_eq ws (words_of 
         words = (bytes_eq-Decides ws (words_of (read_page ws))).0 parts.1;
         fits = (is_page-Decides (read_page ws)).0 parts.0;
       })
-  | inr none ↦ elim (cases_Bool (bytes_eq ws (words_of_free (get_or ws 5 0)))) [
+  | inr none ↦ elim (cases_Bool (bytes_eq ws (free_page_words (get_or ws 5 0)))) [
     | inl is_free ↦ free (record {
       clock = get_or ws 5 0;
       holds = cond-false _ _ _ none ∙ cond-true _ _ _ is_free;
-      words = (bytes_eq-Decides ws (words_of_free (get_or ws 5 0))).0 is_free;
+      words = (bytes_eq-Decides ws (free_page_words (get_or ws 5 0))).0 is_free;
     })
     | inr neither_one ↦ neither (cond-false _ _ _ none ∙ cond-false _ _ _ neither_one)
   ]
 ]
 
 -- a free page has its words, and the words have the page
-pub page_of-words_of_free : (clock : ℕ) → page_of (words_of_free clock) ≡ Free clock
-unfolding page_of words_of words_of_free
-page_of-words_of_free clock =
-    cond-false _ _ _ (let no : bytes_eq (words_of_free clock) (words_of (read_page (words_of_free clock))) ≡ false = refl in and_right _ _ no)
-    ∙ cond-true _ _ _ ((bytes_eq-Decides (words_of_free clock) (words_of_free clock)).1 refl)
+pub page_of-free_page_words : (clock : ℕ) → page_of (free_page_words clock) ≡ Free clock
+unfolding page_of words_of free_page_words
+page_of-free_page_words clock =
+    cond-false _ _ _ (let no : bytes_eq (free_page_words clock) (words_of (read_page (free_page_words clock))) ≡ false = refl in and_right _ _ no)
+    ∙ cond-true _ _ _ ((bytes_eq-Decides (free_page_words clock) (free_page_words clock)).1 refl)
 
 -- the page that is held by an image of which it is known that it holds one
 tree_from : (ws : List ℕ) → Kinds ws → HoldsTree (page_of ws) → HasTree ws
@@ -126,6 +128,12 @@ tree_from ws (neither is) holds = absurd (subst HoldsTree is holds)
 
 pub tree_in : (ws : List ℕ) → HoldsTree (page_of ws) → HasTree ws
 tree_in ws holds = tree_from ws (kinds_of ws) holds
+
+-- a page that is held is within the limits
+pub tree_fits : (ws : List ℕ) (p : Page) → page_of ws ≡ Tree p → IsPage p
+tree_fits ws p is =
+    let h = tree_in ws (subst HoldsTree (sym is) tt) in
+    subst IsPage (ap page_in (sym h.holds ∙ is)) h.fits
 
 pub length-zeros : (n : ℕ) → length (zeros n) ≡ n
 unfolding zeros
@@ -142,7 +150,7 @@ pub length-tree : (ws : List ℕ) → HoldsTree (page_of ws) → length ws ≡ P
 length-tree ws holds = let h = tree_in ws holds in ap length h.words ∙ length-words_of h.page h.fits.few
 
 pub length-free : (ws : List ℕ) → HasFree ws → length ws ≡ PAGE_WORDS
-unfolding words_of_free
+unfolding free_page_words
 length-free ws h = ap length h.words ∙ omega (arith, length-zeros (PAGE_WORDS - 6))
 
 pub length-formed : (ws : List ℕ) → HoldsPage (page_of ws) → length ws ≡ PAGE_WORDS
@@ -158,9 +166,9 @@ head-words_of : (p : Page) (d : ℕ) → (get_or (words_of p) 0 d ≡ 1) × (get
 unfolding words_of
 head-words_of p d = (refl, refl, refl, refl, refl, refl)
 
-first-words_of_free : (clock : ℕ) → get_or (words_of_free clock) 0 0 ≡ 0
-unfolding words_of_free
-first-words_of_free clock = refl
+first-free_page_words : (clock : ℕ) → get_or (free_page_words clock) 0 0 ≡ 0
+unfolding free_page_words
+first-free_page_words clock = refl
 
 -- what stands in the words of an image's head
 pub record HeadRead (ws : List ℕ) : Type 0 where
@@ -193,17 +201,17 @@ head_read-tree ws h =
       size = ap length h.words ∙ length-words_of h.page h.fits.few;
     }
 
-head-words_of_free : (clock : ℕ) → (get_or (words_of_free clock) 1 0 ≡ 0) × (get_or (words_of_free clock) 2 0 ≡ 0)
-    × (get_or (words_of_free clock) 3 0 ≡ 0) × (get_or (words_of_free clock) 4 0 ≡ 0) × (get_or (words_of_free clock) 5 0 ≡ clock)
-unfolding words_of_free
-head-words_of_free clock = (refl, refl, refl, refl, refl)
+head-free_page_words : (clock : ℕ) → (get_or (free_page_words clock) 1 0 ≡ 0) × (get_or (free_page_words clock) 2 0 ≡ 0)
+    × (get_or (free_page_words clock) 3 0 ≡ 0) × (get_or (free_page_words clock) 4 0 ≡ 0) × (get_or (free_page_words clock) 5 0 ≡ clock)
+unfolding free_page_words
+head-free_page_words clock = (refl, refl, refl, refl, refl)
 
 head_read-free : (ws : List ℕ) → HasFree ws → HeadRead ws
 head_read-free ws h =
-    let head = head-words_of_free h.clock in
+    let head = head-free_page_words h.clock in
     let free_page : Page = record { level = 0; prev = 0; next = 0; clock = h.clock; records = [] } in
     let at : page_in (page_of ws) ≡ free_page = ap page_in h.holds in
-    let read : (i : ℕ) → get_or ws i 0 ≡ get_or (words_of_free h.clock) i 0 = λ i. ap (λ (xs : List ℕ). get_or xs i 0) h.words in
+    let read : (i : ℕ) → get_or ws i 0 ≡ get_or (free_page_words h.clock) i 0 = λ i. ap (λ (xs : List ℕ). get_or xs i 0) h.words in
     record {
       level = read 1 ∙ (head.0 ∙ ap (λ (q : Page). q.level) (sym at));
       count = read 2 ∙ (head.1 ∙ ap (λ (q : Page). length q.records) (sym at));
@@ -232,7 +240,7 @@ formed-tree ws holds = let h = tree_in ws holds in subst HoldsPage (sym h.holds)
 pub kind_read : (ws : List ℕ) → HoldsPage (page_of ws) → (HoldsTree (page_of ws) × (get_or ws 0 0 ≡ 1)) ⊎ (HasFree ws × (get_or ws 0 0 ≡ 0))
 kind_read ws holds = elim (kinds_of ws) [
   | tree h ↦ inl (subst HoldsTree (sym h.holds) tt, ap (λ (xs : List ℕ). get_or xs 0 0) h.words ∙ (head-words_of h.page 0).0)
-  | free h ↦ inr (h, ap (λ (xs : List ℕ). get_or xs 0 0) h.words ∙ first-words_of_free h.clock)
+  | free h ↦ inr (h, ap (λ (xs : List ℕ). get_or xs 0 0) h.words ∙ first-free_page_words h.clock)
   | neither is ↦ absurd (subst HoldsPage is holds)
 ]
 
@@ -277,8 +285,8 @@ pub empty_words : (level clock : ℕ) → set (set (set (replicate PAGE_WORDS 0)
 unfolding words_of zeros
 empty_words level clock = refl
 
-pub free_words : (clock : ℕ) → set (replicate PAGE_WORDS 0) 5 clock ≡ words_of_free clock
-unfolding words_of_free zeros
+pub free_words : (clock : ℕ) → set (replicate PAGE_WORDS 0) 5 clock ≡ free_page_words clock
+unfolding free_page_words zeros
 free_words clock = refl
 
 pub page_of-empty : (level clock : ℕ) → level ≤ MOST_LEVEL → page_of (set (set (set (replicate PAGE_WORDS 0) 0 1) 1 level) 5 clock) ≡ Tree (record { level = level; prev = 0; next = 0; clock = clock; records = [] })
@@ -286,5 +294,45 @@ page_of-empty level clock low =
     let page : Page = record { level = level; prev = 0; next = 0; clock = clock; records = [] } in
     ap page_of (empty_words level clock) ∙ page_of-words_of page (record { level = low; prev = omega arith; next = omega arith; no_prev = λ lt. refl; no_next = λ lt. refl; few = omega arith; ascends = omega arith })
 
-pub page_of-free : (clock : ℕ) → page_of (set (replicate PAGE_WORDS 0) 5 clock) ≡ Free clock
-page_of-free clock = ap page_of (free_words clock) ∙ page_of-words_of_free clock
+-- an empty leaf, word for word
+pub leaf_words : (level clock : ℕ) → level ≡ 0 → set (set (set (replicate PAGE_WORDS 0) 0 1) 1 level) 5 clock ≡ empty_leaf_words clock
+unfolding empty_leaf_words zeros
+leaf_words level clock leaf = ap (λ (l : ℕ). set (set (set (replicate PAGE_WORDS 0) 0 1) 1 l) 5 clock) leaf
+
+pub page_of-leaf : (clock : ℕ) → page_of (empty_leaf_words clock) ≡ Tree (record { level = 0; prev = 0; next = 0; clock = clock; records = [] })
+page_of-leaf clock = ap page_of (sym (leaf_words 0 clock refl)) ∙ page_of-empty 0 clock (omega arith)
+
+-- a word among zeros
+pub zeros-at : (n i : ℕ) → get_or (zeros n) i 0 ≡ 0
+unfolding zeros
+zeros-at zero i = refl
+zeros-at (suc n) zero = refl
+zeros-at (suc n) (suc i) = zeros-at n i
+
+pub leaf_word : (clock index : ℕ) → index ≢ 0 → index ≢ 5 → get_or (empty_leaf_words clock) index 0 ≡ 0
+unfolding empty_leaf_words
+leaf_word clock zero first fifth = absurd (first refl)
+leaf_word clock (suc zero) first fifth = refl
+leaf_word clock (suc (suc zero)) first fifth = refl
+leaf_word clock (suc (suc (suc zero))) first fifth = refl
+leaf_word clock (suc (suc (suc (suc zero)))) first fifth = refl
+leaf_word clock (suc (suc (suc (suc (suc zero))))) first fifth = absurd (fifth refl)
+leaf_word clock (suc (suc (suc (suc (suc (suc i)))))) first fifth = zeros-at (PAGE_WORDS - 6) i
+
+pub leaf_word_kind : (clock : ℕ) → get_or (empty_leaf_words clock) 0 0 ≡ 1
+unfolding empty_leaf_words
+leaf_word_kind clock = refl
+
+pub leaf_word_clock : (clock : ℕ) → get_or (empty_leaf_words clock) 5 0 ≡ clock
+unfolding empty_leaf_words
+leaf_word_clock clock = refl
+
+pub free_word : (index : ℕ) → get_or (free_page_words 0) index 0 ≡ 0
+unfolding free_page_words
+free_word zero = refl
+free_word (suc zero) = refl
+free_word (suc (suc zero)) = refl
+free_word (suc (suc (suc zero))) = refl
+free_word (suc (suc (suc (suc zero)))) = refl
+free_word (suc (suc (suc (suc (suc zero))))) = refl
+free_word (suc (suc (suc (suc (suc (suc i)))))) = zeros-at (PAGE_WORDS - 6) i

@@ -5,6 +5,9 @@ pub mod ChangeLaws
 pub mod ReadLaws
 pub mod RouteLaws
 pub mod SpaceLaws
-pub mod WorkLaws
-pub mod PageLaws
 pub mod WriteLaws
+pub mod RoomLaws
+pub mod BufferLaws
+pub mod StoreLaws
+pub mod OpeningLaws
+pub mod CopyLaws

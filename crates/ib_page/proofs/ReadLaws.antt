@@ -9,8 +9,10 @@ use Rattle.ib_map.proofs.KeyLaws.{rank-lt_end}
 use Rattle.ib_map.proofs.RiseLaws.{Rises-lt}
 use Rattle.ib_page.specs.declared.TheConstants.{MOST_RECORDS}
 use Rattle.ib_page.specs.Page.{Page, IsPage, HoldsPage}
-use Rattle.ib_page.specs.Form.{zeros, flat, words_of, words_of_free, pairs_in, read_page, page_of, HasLimits}
-use Rattle.ib_page.proofs.FormLaws.{kinds_of, tree, free, neither, page_of-words_of, page_of-words_of_free, read_page-words_of, length-flat}
+use Rattle.ib_page.specs.Words.{zeros, free_page_words}
+use Rattle.ib_page.specs.Page.{HasLimits}
+use Rattle.ib_page.specs.Form.{flat, words_of, pairs_in, read_page, page_of}
+use Rattle.ib_page.proofs.FormLaws.{kinds_of, tree, free, neither, page_of-words_of, page_of-free_page_words, read_page-words_of, length-flat}
 use Rattle.ib_page.proofs.MoveLaws.{drop-behind}
 
 all_zeros : (ws : List ℕ) (n : ℕ) → length ws ≡ n → All (λ word. word ≡ 0) ws → ws ≡ zeros n
@@ -25,8 +27,8 @@ unfolding zeros
 zeros_all n = All-replicate (λ (word : ℕ). word ≡ 0) n 0 refl
 
 -- a free page
-pub free_from : (ws : List ℕ) → length ws ≡ PAGE_WORDS → All (λ (word : ℕ). word ≡ 0) (take 5 ws) → All (λ (word : ℕ). word ≡ 0) (drop 6 ws) → ws ≡ words_of_free (get_or ws 5 0)
-unfolding words_of_free
+pub free_from : (ws : List ℕ) → length ws ≡ PAGE_WORDS → All (λ (word : ℕ). word ≡ 0) (take 5 ws) → All (λ (word : ℕ). word ≡ 0) (drop 6 ws) → ws ≡ free_page_words (get_or ws 5 0)
+unfolding free_page_words
 free_from [] long front back = absurd (omega arith)
 free_from (a ∷ []) long front back = absurd (omega arith)
 free_from (a ∷ b ∷ []) long front back = absurd (omega arith)
@@ -42,11 +44,11 @@ free_from (a ∷ b ∷ c ∷ d ∷ e ∷ f ∷ rest) long front back =
     let zero_e : e ≡ 0 = front 4 0 (omega arith) in
     cc
 
-free_parts : (clock : ℕ) → All (λ (word : ℕ). word ≡ 0) (take 5 (words_of_free clock)) × All (λ (word : ℕ). word ≡ 0) (drop 6 (words_of_free clock))
-unfolding words_of_free
+free_parts : (clock : ℕ) → All (λ (word : ℕ). word ≡ 0) (take 5 (free_page_words clock)) × All (λ (word : ℕ). word ≡ 0) (drop 6 (free_page_words clock))
+unfolding free_page_words
 free_parts clock = (All-replicate (λ (word : ℕ). word ≡ 0) 5 0 refl, zeros_all (PAGE_WORDS - 6))
 
-pub free_to : (ws : List ℕ) → ws ≡ words_of_free (get_or ws 5 0) → All (λ (word : ℕ). word ≡ 0) (take 5 ws) × All (λ (word : ℕ). word ≡ 0) (drop 6 ws)
+pub free_to : (ws : List ℕ) → ws ≡ free_page_words (get_or ws 5 0) → All (λ (word : ℕ). word ≡ 0) (take 5 ws) × All (λ (word : ℕ). word ≡ 0) (drop 6 ws)
 free_to ws is = subst (λ (vs : List ℕ). All (λ (word : ℕ). word ≡ 0) (take 5 vs) × All (λ (word : ℕ). word ≡ 0) (drop 6 vs)) (sym is) (free_parts (get_or ws 5 0))
 
 -- records and the words that they are read from
@@ -119,8 +121,8 @@ page_to ws n count is =
     )
 
 -- an image is formed exactly where its words are those of a free page or of a page of the tree
-pub formed-free : (ws : List ℕ) → ws ≡ words_of_free (get_or ws 5 0) → HoldsPage (page_of ws)
-formed-free ws is = subst HoldsPage (sym (ap page_of is ∙ page_of-words_of_free (get_or ws 5 0))) tt
+pub formed-free : (ws : List ℕ) → ws ≡ free_page_words (get_or ws 5 0) → HoldsPage (page_of ws)
+formed-free ws is = subst HoldsPage (sym (ap page_of is ∙ page_of-free_page_words (get_or ws 5 0))) tt
 
 pub formed-page : (ws : List ℕ) → ws ≡ words_of (read_page ws) → IsPage (read_page ws) → HoldsPage (page_of ws)
 formed-page ws is fits = subst HoldsPage (sym (ap page_of is ∙ page_of-words_of (read_page ws) fits)) tt
@@ -129,8 +131,8 @@ first_of_page : (p : Page) → get_or (words_of p) 0 0 ≡ 1
 unfolding words_of
 first_of_page p = refl
 
-first_of_free : (clock : ℕ) → (get_or (words_of_free clock) 0 0 ≡ 0) × (get_or (words_of_free clock) 5 0 ≡ clock)
-unfolding words_of_free
+first_of_free : (clock : ℕ) → (get_or (free_page_words clock) 0 0 ≡ 0) × (get_or (free_page_words clock) 5 0 ≡ clock)
+unfolding free_page_words
 first_of_free clock = (refl, refl)
 
 pub page-formed : (ws : List ℕ) → get_or ws 0 0 ≡ 1 → HoldsPage (page_of ws) → (ws ≡ words_of (read_page ws)) × IsPage (read_page ws)
@@ -138,14 +140,14 @@ page-formed ws kind holds = elim (kinds_of ws) [
   | tree h ↦
       let read : read_page ws ≡ h.page = ap read_page h.words ∙ read_page-words_of h.page in
       (h.words ∙ ap words_of (sym read), subst IsPage (sym read) h.fits)
-  | free h ↦ absurd (let none = (first_of_free h.clock).0 in let same : get_or ws 0 0 ≡ get_or (words_of_free h.clock) 0 0 = ap (λ (vs : List ℕ). get_or vs 0 0) h.words in omega arith)
+  | free h ↦ absurd (let none = (first_of_free h.clock).0 in let same : get_or ws 0 0 ≡ get_or (free_page_words h.clock) 0 0 = ap (λ (vs : List ℕ). get_or vs 0 0) h.words in omega arith)
   | neither is ↦ absurd (subst HoldsPage is holds)
 ]
 
-pub free-formed : (ws : List ℕ) → (get_or ws 0 0 ≡ 1 → ⊥) → HoldsPage (page_of ws) → ws ≡ words_of_free (get_or ws 5 0)
+pub free-formed : (ws : List ℕ) → (get_or ws 0 0 ≡ 1 → ⊥) → HoldsPage (page_of ws) → ws ≡ free_page_words (get_or ws 5 0)
 free-formed ws kind holds = elim (kinds_of ws) [
   | tree h ↦ absurd (kind (ap (λ (vs : List ℕ). get_or vs 0 0) h.words ∙ first_of_page h.page))
-  | free h ↦ h.words ∙ ap words_of_free (sym (ap (λ (vs : List ℕ). get_or vs 5 0) h.words ∙ (first_of_free h.clock).1))
+  | free h ↦ h.words ∙ ap free_page_words (sym (ap (λ (vs : List ℕ). get_or vs 5 0) h.words ∙ (first_of_free h.clock).1))
   | neither is ↦ absurd (subst HoldsPage is holds)
 ]
 

@@ -1,5 +1,5 @@
 -- Bits of the space page.
-use Rattle.std.proofs.Common.{◌≡◌, ℕ, zero, suc, ◌*◌, ◌/◌, ◌%◌, ◌^◌, ◌<◌, ◌≤◌, true, false, cond, eqb, ltb, ◌+◌, ◌-◌, ◌∙◌, List, Option, IsNone, IfSome, ◌↔◌, length, get_or, set, replicate, refl, ap, sym, arith, inl, inr}
+use Rattle.std.proofs.Common.{◌≡◌, ℕ, zero, suc, ◌*◌, ◌/◌, ◌%◌, ◌^◌, ◌<◌, ◌≤◌, true, false, cond, eqb, ltb, ◌+◌, ◌-◌, ◌∙◌, List, Option, IsNone, IfSome, ◌↔◌, length, get_or, set, replicate, drop, zero-add, subst, refl, ap, sym, arith, inl, inr}
 use Rattle.std.specs.Int.{bit_at, w64, bit_not, trailing_ones}
 use Rattle.std.specs.Int.RustNames.{bit_or, count_ones}
 use Rattle.std.specs.Bool.{then_some}
@@ -11,10 +11,14 @@ use Rattle.std.proofs.lemmas.Nat.{and_mask, one_shl}
 use Rattle.std.proofs.Math.Numerals.{one-add}
 use mir.Val.{bits}
 use Rattle.std.proofs.lemmas.Bool.{cases_eq, cases_lt, cases_Bool, eq-eqb, ne_eqb, lt-ltb, le-ltb}
-use Rattle.std.proofs.lemmas.List.{get_or-set_same, get_or-set_other, length-set}
+use Rattle.std.proofs.lemmas.List.{get_or-set_same, get_or-set_other, get_or-drop, get_or_default, get_or_past, length-set, length-drop}
 use Rattle.std.proofs.lemmas.Nat.Bits.{bit_at-lt, bit_at_ones, bit_at-trailing_ones, bit_at_not, bit_at_set_same, bit_at_set_other, bit_at_clear_same, bit_at_clear_other, bit_at_above}
 use Rattle.ib_map.specs.declared.TheConstants.{PAGE_WORDS}
 use Rattle.ib_page.specs.declared.space.TheConstants.{MAPPED_PAGES}
+use Rattle.std.specs.List.{All}
+use Rattle.ib_page.specs.Words.{zeros}
+use Rattle.ib_page.specs.Opening.{opening_space_words}
+use Rattle.ib_page.proofs.FormLaws.{zeros-at}
 use Rattle.ib_page.specs.Space.{is_taken, free_below, zeros_below, SetsBit, IsSpacePage}
 
 -- the free pages of one word
@@ -206,3 +210,78 @@ opening_formed pages many = record {
   beyond = λ page le lt. opening_taken page lt ∙ le-ltb page 2 (omega arith);
   behind = λ i lt. zero_word i (λ e. omega arith);
 }
+
+-- the space page of a new space, word for word
+pub space_words : set (replicate PAGE_WORDS 0) 0 3 ≡ opening_space_words
+unfolding opening_space_words zeros
+space_words = refl
+
+pub space_taken : (page : ℕ) → page < MAPPED_PAGES → is_taken opening_space_words page ≡ ltb page 2
+space_taken page lt = ap (λ ws. is_taken ws page) (sym space_words) ∙ opening_taken page lt
+
+pub space_formed : (pages : ℕ) → 2 ≤ pages → IsSpacePage pages opening_space_words
+space_formed pages many = subst (λ (ws : List ℕ). IsSpacePage pages ws) space_words (opening_formed pages many)
+
+pub space_word : (index : ℕ) → get_or opening_space_words index 0 ≡ cond (eqb index 0) 3 0
+unfolding opening_space_words
+space_word zero = refl
+space_word (suc i) = zeros-at (PAGE_WORDS - 1) i ∙ ap (λ b. cond {A = ℕ} b 3 0) (sym (ne_eqb (suc i) 0 (λ e. omega arith)))
+
+-- all pages from one on are free exactly where they count as free
+free_below-step : (ws : List ℕ) (n k : ℕ) → free_below ws (k + n) ≤ free_below ws n + k
+free_below-step ws n zero = let e : free_below ws (0 + n) ≡ free_below ws n = ap (λ j. free_below ws j) (zero-add n) in omega arith
+free_below-step ws n (suc k) =
+    let rest = free_below-step ws n k in
+    let next : free_below ws (suc k + n) ≡ free_below ws (suc (k + n)) = ap (λ j. free_below ws j) (let e : suc k + n ≡ suc (k + n) = omega arith in e) in
+    elim (cases_Bool (is_taken ws (k + n))) [
+      | inl taken ↦ let one : free_below ws (suc (k + n)) ≡ free_below ws (k + n) + 0 = ap (λ b. free_below ws (k + n) + cond {A = ℕ} b 0 1) taken in omega arith
+      | inr free ↦ let one : free_below ws (suc (k + n)) ≡ free_below ws (k + n) + 1 = ap (λ b. free_below ws (k + n) + cond {A = ℕ} b 0 1) free in omega arith
+    ]
+
+pub free_from_count : (ws : List ℕ) (n k : ℕ) → free_below ws (k + n) ≡ free_below ws n + k → (page : ℕ) → n ≤ page → page < k + n → is_taken ws page ≡ false
+free_from_count ws n zero count page le lt = absurd (omega arith)
+free_from_count ws n (suc k) count page le lt =
+    let most = free_below-step ws n k in
+    let next : free_below ws (suc k + n) ≡ free_below ws (suc (k + n)) = ap (λ j. free_below ws j) (let e : suc k + n ≡ suc (k + n) = omega arith in e) in
+    elim (cases_Bool (is_taken ws (k + n))) [
+      | inl taken ↦ absurd (let none : free_below ws (suc (k + n)) ≡ free_below ws (k + n) + 0 = ap (λ b. free_below ws (k + n) + cond {A = ℕ} b 0 1) taken in omega arith)
+      | inr free ↦
+          let one : free_below ws (suc (k + n)) ≡ free_below ws (k + n) + 1 = ap (λ b. free_below ws (k + n) + cond {A = ℕ} b 0 1) free in
+          elim (cases_eq page (k + n)) [
+            | inl last ↦ ap (λ p. is_taken ws p) last ∙ free
+            | inr earlier ↦ free_from_count ws n k (omega arith) page le (omega (arith, earlier))
+          ]
+    ]
+
+pub count_from_free : (ws : List ℕ) (n k : ℕ) → ((page : ℕ) → n ≤ page → page < k + n → is_taken ws page ≡ false) → free_below ws (k + n) ≡ free_below ws n + k
+count_from_free ws n zero free = let e : free_below ws (0 + n) ≡ free_below ws n = ap (λ j. free_below ws j) (zero-add n) in omega arith
+count_from_free ws n (suc k) free =
+    let rest = count_from_free ws n k (λ page le lt. free page le (omega arith)) in
+    let next : free_below ws (suc k + n) ≡ free_below ws (suc (k + n)) = ap (λ j. free_below ws j) (let e : suc k + n ≡ suc (k + n) = omega arith in e) in
+    let one : free_below ws (suc (k + n)) ≡ free_below ws (k + n) + 1 = ap (λ b. free_below ws (k + n) + cond {A = ℕ} b 0 1) (free (k + n) (omega arith) (omega arith)) in
+    omega arith
+
+-- words behind the clock, by index
+pub behind_from : (ws : List ℕ) → All (λ (word : ℕ). word ≡ 0) (drop 65 ws) → (i : ℕ) → 64 < i → get_or ws i 0 ≡ 0
+behind_from ws none i lt = elim (cases_lt i (length ws)) [
+  | inl within ↦
+      let at : get_or (drop 65 ws) (i - 65) 0 ≡ get_or ws (65 + (i - 65)) 0 = get_or-drop 65 ws (i - 65) 0 in
+      let e : 65 + (i - 65) ≡ i = omega arith in
+      sym (at ∙ ap (λ k. get_or ws k 0) e) ∙ none (i - 65) 0 (omega (arith, length-drop 65 ws))
+  | inr past ↦ get_or_past ws i 0 past
+]
+
+pub behind_to : (ws : List ℕ) → ((i : ℕ) → 64 < i → get_or ws i 0 ≡ 0) → All (λ (word : ℕ). word ≡ 0) (drop 65 ws)
+behind_to ws none k d lt = get_or_default (drop 65 ws) k d 0 lt ∙ (get_or-drop 65 ws k 0 ∙ none (65 + k) (omega arith))
+
+pub free_beyond : (ws : List ℕ) (pages most all few : ℕ) → pages ≤ most → all ≡ free_below ws most → few ≡ free_below ws pages → all ≡ few + (most - pages) → (page : ℕ) → pages ≤ page → page < most → is_taken ws page ≡ false
+free_beyond ws pages most all few le counted counted_few same page above below =
+    let whole : most - pages + pages ≡ most = omega arith in
+    let count : free_below ws (most - pages + pages) ≡ free_below ws pages + (most - pages) =
+    ap (λ n. free_below ws n) whole ∙ (sym counted ∙ (same ∙ ap (λ n. n + (most - pages)) counted_few)) in
+    free_from_count ws pages (most - pages) count page above (omega arith)
+
+pub count_beyond : (ws : List ℕ) (pages most all few : ℕ) → pages ≤ most → all ≡ free_below ws most → few ≡ free_below ws pages → ((page : ℕ) → pages ≤ page → page < most → is_taken ws page ≡ false) → all ≡ few + (most - pages)
+count_beyond ws pages most all few le counted counted_few free =
+    let whole : most - pages + pages ≡ most = omega arith in
+    counted ∙ (ap (λ n. free_below ws n) (sym whole) ∙ (count_from_free ws pages (most - pages) (λ page above below. free page above (omega arith)) ∙ ap (λ n. n + (most - pages)) (sym counted_few)))

@@ -8,7 +8,8 @@ use Rattle.ib_map.specs.declared.TheConstants.{PAGE_WORDS}
 use Rattle.ib_map.specs.Pairs.{Pairs}
 use Rattle.ib_page.specs.declared.TheConstants.{MOST_RECORDS}
 use Rattle.ib_page.specs.Page.{Page}
-use Rattle.ib_page.specs.Form.{zeros, flat, words_of}
+use Rattle.ib_page.specs.Words.{zeros}
+use Rattle.ib_page.specs.Form.{flat, words_of}
 use Rattle.ib_page.proofs.FormLaws.{length-flat}
 use Rattle.ib_page.proofs.MoveLaws.{two_put_in, two_taken_out}
 

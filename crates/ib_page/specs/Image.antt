@@ -6,8 +6,8 @@ use Rattle.ib_page.specs.Page.PageValue.{Malformed, Free, Tree}
 use Rattle.ib_page.specs.Form.{page_of}
 
 -- the image is a page of the tree
-abbrev pub IsTree : List ℕ → Type 0
-IsTree ws = HoldsTree (page_of ws)
+abbrev pub IsTreePage : List ℕ → Type 0
+IsTreePage ws = HoldsTree (page_of ws)
 
 -- the image is a page of the tree or a free page
 abbrev pub IsFormed : List ℕ → Type 0

@@ -1,10 +1,14 @@
--- The work set lends the changed image of a page.
+-- What a work set ends as when it lends an image.
 use Rattle.std.specs.Prelude.{ℕ, List}
 use Rattle.std.specs.Borrow.{Lends, MutBor, Fml}
-use Rattle.ib_page.specs.Work.{Work, with_changed_at, room_of}
+use Rattle.ib_page.specs.Work.{WorkPage, with_changed, with_read}
 use Rattle.ib_page.specs.contracts.image.Image.{the_row as image_row}
 use Rattle.ib_page.specs.contracts.work.WorkSet.{the_row}
 
--- the work set ends with the image that was left behind the reference as the changed one of this page
-abbrev pub LendsChanged : MutBor Work → ℕ → MutBor (List ℕ) → Fml
-LendsChanged w page r = Lends the_row image_row w r (with_changed_at w.now (room_of page w.now.order))
+-- what is left behind the reference is the changed image of this page, and nothing else changes
+abbrev pub LendsChanged : MutBor (List WorkPage) → ℕ → MutBor (List ℕ) → Fml
+LendsChanged w page r = Lends the_row image_row w r (λ image. with_changed page image w.now)
+
+-- what is left behind the reference is the image of this page, as read and as changed
+abbrev pub LendsRead : MutBor (List WorkPage) → ℕ → MutBor (List ℕ) → Fml
+LendsRead w page r = Lends the_row image_row w r (λ image. with_read page image w.now)

@@ -1,9 +1,12 @@
 pub mod Page
+pub mod Words
 pub mod Form
 pub mod Image
 pub mod Kind
 pub mod Space
-pub mod Differences
+pub mod Opening
 pub mod Work
+pub mod Rooms
 pub mod Writes
 pub mod Lending
+pub mod Memory

@@ -1,6 +1,6 @@
 -- Pages of the tree, as all code outside this crate knows them.
-use Rattle.std.specs.Prelude.{◌≡◌, ℕ, ◌<◌, ◌≤◌, ◌^◌, [], length}
-use Rattle.ib_map.specs.Keys.{end_rank}
+use Rattle.std.specs.Prelude.{◌≡◌, ℕ, ◌+◌, ◌<◌, ◌≤◌, ◌^◌, ◌⊎◌, Bool, nat_lt, nat_le, ◌==◌, ◌&&◌, ◌||◌, [], ◌∷◌, length}
+use Rattle.ib_map.specs.Keys.{rank, end_rank}
 use Rattle.ib_map.specs.Pairs.{Pairs, Rises}
 use Rattle.ib_page.specs.declared.TheConstants.{MOST_LEVEL, MOST_RECORDS}
 
@@ -21,6 +21,20 @@ pub record IsPage (p : Page) : Type 0 where
   pub no_next : 0 < p.level → p.next ≡ 0
   pub few : length p.records ≤ MOST_RECORDS
   pub ascends : Rises 0 p.records end_rank
+
+-- whether the keys ascend strictly, from the rank `low` on and below `high`
+abbrev pub rises : ℕ → Pairs → ℕ → Bool
+rises low [] high = nat_le low high
+rises low (x ∷ xs) high = nat_le low (rank x.0) && rises (rank x.0 + 1) xs high
+
+-- whether level, links and records are within their limits
+abbrev pub is_page : Page → Bool
+is_page p = nat_le p.level MOST_LEVEL && (nat_lt p.prev (2 ^ 32) && (nat_lt p.next (2 ^ 32) && ((p.level == 0 || (p.prev == 0 && p.next == 0))
+    && (nat_le (length p.records) MOST_RECORDS && rises 0 p.records end_rank))))
+
+-- level and links are within their limits
+abbrev pub HasLimits : ℕ → ℕ → ℕ → Type 0
+HasLimits level prev next = (level ≤ MOST_LEVEL) × (prev < 2 ^ 32) × (next < 2 ^ 32) × ((level ≡ 0) ⊎ ((prev ≡ 0) × (next ≡ 0)))
 
 -- what an image holds: nothing that can be read, a free page with its clock, or a page of the tree
 pub data PageValue : Type 0 where

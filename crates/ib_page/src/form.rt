@@ -1,17 +1,20 @@
 //! The array form of a page: where its head and its records stand among its words. No other module
 //! knows it.
 
-ghost use Rattle.std.specs.Prelude.{◌≡◌, ◌+◌, ◌*◌, ◌<◌, ◌≤◌, ◌++◌, [], length, take, drop, slice_get, IsTrue, IsSomeAnd, ◌↔◌, Some, None, All, slice_index};
+ghost use Rattle.std.specs.Prelude.{◌≡◌, ◌≢◌, ◌+◌, ◌-◌, ◌*◌, ◌<◌, ◌≤◌, ◌++◌, [], length, take, drop, slice_get, slice_index, IsTrue, IsSome, IsNone, IsSomeAnd, IfSome, IfOk, IfErr, OnOk, OnErr, MatchResult, ◌↔◌, Some, None};
 ghost use Rattle.std.specs.List.{remove};
-ghost use Rattle.ib_map.specs.Keys.{end_rank};
-ghost use Rattle.ib_map.specs.Pairs.{Rises, put, value_at, place_of};
-ghost use Rattle.ib_page.specs.Page.PageValue.{Tree, Free};
-ghost use Rattle.ib_page.specs.Form.{page_of, words_of, words_of_free, read_page, pairs_in, HasLimits};
+ghost use Rattle.std.specs.List.Sorted.{IsSearchInRange};
+ghost use Rattle.ib_map.specs.Keys.{rank, end_rank};
+ghost use Rattle.ib_map.specs.Pairs.{Rises, put, without, cut, value_at, place_of, place_after};
+ghost use Rattle.ib_page.specs.Page.PageValue.{Tree};
 ghost use Rattle.ib_page.specs.Page.{IsPage};
-ghost use Rattle.ib_page.specs.Image.{IsTree, IsFormed, level_of, prev_of, next_of, clock_of, records_of, with_records, with_links, with_level, with_clock};
+ghost use Rattle.ib_page.specs.Form.{page_of, words_of, read_page, pairs_in, empty_leaf_words};
+ghost use Rattle.ib_page.specs.Image.{IsTreePage, IsFormed, level_of, prev_of, next_of, clock_of, records_of, with_records, with_links, with_level, with_clock};
 
+use crate::fault::PageFault;
+use crate::page::{CLOCK, are_zeros, has_limits, is_free};
 use crate::{MOST_LEVEL, MOST_RECORDS};
-use ib_map::{Key, PAGE_WORDS, is_below};
+use ib_map::{Key, PAGE_WORDS, is_below, is_same};
 
 // The words of the head.
 const KIND: usize = 0;
@@ -24,8 +27,6 @@ const PREV: usize = 3;
 
 const NEXT: usize = 4;
 
-const CLOCK: usize = 5;
-
 // Where the records begin, and how many words each has.
 const HEAD_WORDS: usize = 8;
 
@@ -37,7 +38,8 @@ const TREE: u64 = 1;
 /// A page with no records and no links.
 pub fn empty_page(level: u32, clock: u64) -> [u64; PAGE_WORDS]
     requires { level ≤ MOST_LEVEL }
-    ensures { page_of result ≡ Tree (record { level = level; prev = 0; next = 0; clock = clock; records = [] }) }
+    ensures page { page_of result ≡ Tree (record { level = level; prev = 0; next = 0; clock = clock; records = [] }) }
+    ensures leaf { level ≡ 0 → result ≡ empty_leaf_words clock }
 {
     let mut words = [0; PAGE_WORDS];
     words[KIND] = TREE;
@@ -46,19 +48,22 @@ pub fn empty_page(level: u32, clock: u64) -> [u64; PAGE_WORDS]
     words
 }
 
-/// A free page.
-pub fn free_page(clock: u64) -> [u64; PAGE_WORDS]
-    ensures { page_of result ≡ Free clock }
+/// A word of an empty leaf.
+pub fn empty_leaf_word(clock: u64, index: usize) -> u64
+    requires { index < PAGE_WORDS }
+    ensures { result ≡ slice_index (empty_leaf_words clock) index }
 {
-    let mut words = [0; PAGE_WORDS];
-    words[CLOCK] = clock;
-    words
+    match index {
+        KIND => TREE,
+        CLOCK => clock,
+        _ => 0,
+    }
 }
 
 /// Whether a page is one of the tree, and not free.
 pub fn is_tree(words: &[u64]) -> bool
     requires { IsFormed words.now }
-    ensures { IsTrue result ↔ IsTree words.now }
+    ensures { IsTrue result ↔ IsTreePage words.now }
 {
     words[KIND] == TREE
 }
@@ -116,7 +121,7 @@ fn start_of(place: usize) -> usize
 
 /// A record.
 pub fn record_at(words: &[u64], place: usize) -> (Key, u64)
-    requires tree { IsTree words.now }
+    requires tree { IsTreePage words.now }
     requires in_range { place < length (records_of words.now) }
     ensures { slice_get (records_of words.now) place ≡ Some result }
 {
@@ -124,9 +129,148 @@ pub fn record_at(words: &[u64], place: usize) -> (Key, u64)
     (words[start], words[start + 1])
 }
 
-/// Puts a record in, where it stands by its key.
-pub fn put(words: &mut [u64], place: usize, key: Key, value: u64)
-    requires tree { IsTree words.old }
+// How many records stand before the key.
+fn place_of(words: &[u64], key: Key) -> usize
+    requires { IsTreePage words.now }
+    ensures place { result ≡ place_of key (records_of words.now) }
+    ensures in_range { result ≤ length (records_of words.now) }
+{
+    let mut low = 0;
+    let mut high = count(words);
+    while low < high {
+        let middle = low + (high - low) / 2;
+        if is_below(record_at(words, middle).0, key) {
+            low = middle + 1;
+        } else {
+            high = middle;
+        }
+    }
+    low
+}
+
+/// Where a key stands, or where it would stand.
+pub fn find(words: &[u64], key: Key) -> Result<usize, usize>
+    requires { IsTreePage words.now }
+    ensures place { let place = place_of key (records_of words.now) in MatchResult result (λ i. i ≡ place) (λ i. i ≡ place) }
+    ensures in_range { IsSearchInRange result (length (records_of words.now)) }
+    ensures found { IfOk result (λ i. IsSomeAnd (slice_get (records_of words.now) i) (λ r. r.0 ≡ key)) }
+    ensures value { IfOk result (λ i. IsSomeAnd (slice_get (records_of words.now) i) (λ r. value_at key (records_of words.now) ≡ Some r.1)) }
+    ensures absent { IfErr result (λ i. value_at key (records_of words.now) ≡ None) }
+{
+    let place = place_of(words, key);
+    if place == count(words) {
+        return Err(place);
+    }
+    if is_same(record_at(words, place).0, key) {
+        Ok(place)
+    } else {
+        Err(place)
+    }
+}
+
+/// The value of a key. None exactly where the key is not there.
+pub fn get(words: &[u64], key: Key) -> Option<u64>
+    requires { IsTreePage words.now }
+    ensures { result ≡ value_at key (records_of words.now) }
+{
+    match find(words, key) {
+        Ok(place) => Some(record_at(words, place).1),
+        Err(_) => None,
+    }
+}
+
+/// Where the last record stands whose key is not above this one. The first record must have such a key.
+pub fn route(words: &[u64], key: Key) -> usize
+    requires tree { IsTreePage words.now }
+    requires first { IsSomeAnd (slice_get (records_of words.now) 0) (λ r. rank r.0 ≤ rank key) }
+    ensures place { result + 1 ≡ place_after key (records_of words.now) }
+    ensures in_range { result < length (records_of words.now) }
+    ensures not_above { IsSomeAnd (slice_get (records_of words.now) result) (λ r. rank r.0 ≤ rank key) }
+    ensures next_above { IfSome (slice_get (records_of words.now) (result + 1)) (λ r. rank key < rank r.0) }
+{
+    match find(words, key) {
+        Ok(place) => place,
+        Err(place) => place - 1,
+    }
+}
+
+/// The last record whose key is not above this one. The first record must have such a key.
+pub fn route_to(words: &[u64], key: Key) -> (Key, u64)
+    requires tree { IsTreePage words.now }
+    requires first { IsSomeAnd (slice_get (records_of words.now) 0) (λ r. rank r.0 ≤ rank key) }
+    ensures record { slice_get (records_of words.now) (place_after key (records_of words.now) - 1) ≡ Some result }
+    ensures not_above { rank result.0 ≤ rank key }
+{
+    record_at(words, route(words, key))
+}
+
+/// Copies the records whose keys are neither below `low` nor above `high`, and says how many they are.
+pub fn copy_between(words: &[u64], low: Key, high: Key, out: &mut [(Key, u64)]) -> usize
+    requires tree { IsTreePage words.now }
+    requires room { length (records_of words.now) ≤ length out.old }
+    ensures records { let records = cut (records_of words.now) low high in out.new ≡ records ++ drop (length records) out.old }
+    ensures count { result ≡ length (cut (records_of words.now) low high) }
+{
+    let mut copied = 0;
+    for place in 0..count(words) {
+        let record = record_at(words, place);
+        if is_between(low, high, record.0) {
+            out[copied] = record;
+            copied += 1;
+        }
+    }
+    copied
+}
+
+// Whether a key is neither below `low` nor above `high`.
+fn is_between(low: Key, high: Key, key: Key) -> bool
+    ensures { IsTrue result ↔ ((rank low ≤ rank key) × (rank key ≤ rank high)) }
+{
+    !is_below(key, low) && !is_below(high, key)
+}
+
+/// Puts a record in. Refused as `Duplicate` exactly where the key is there, and then as `PageFull` exactly where
+/// there are `MOST_RECORDS` records.
+pub fn put(words: &mut [u64], key: Key, value: u64) -> Result<(), PageFault>
+    requires { IsTreePage words.old }
+    ensures inserted { OnOk result (page_of words.new ≡ with_records (put key value (records_of words.old)) (page_of words.old)) }
+    ensures tree { IsTreePage words.new }
+    ensures duplicate { (result ≡ Err PageFault.Duplicate) ↔ IsSome (value_at key (records_of words.old)) }
+    ensures full { (result ≡ Err PageFault.PageFull) ↔ (IsNone (value_at key (records_of words.old)) × (length (records_of words.old) ≡ MOST_RECORDS)) }
+    ensures never_missing { result ≢ Err PageFault.Missing }
+    ensures unchanged { OnErr result (words.new ≡ words.old) }
+{
+    match find(words, key) {
+        Ok(_) => Err(PageFault::Duplicate),
+        Err(place) => {
+            if count(words) == MOST_RECORDS {
+                return Err(PageFault::PageFull);
+            }
+            put_at(words, place, key, value);
+            Ok(())
+        }
+    }
+}
+
+/// Takes a record out, and gives its value. Refused as `Missing` exactly where the key is not there.
+pub fn take(words: &mut [u64], key: Key) -> Result<u64, PageFault>
+    requires { IsTreePage words.old }
+    ensures value { IfOk result (λ value. value_at key (records_of words.old) ≡ Some value) }
+    ensures removed { OnOk result (page_of words.new ≡ with_records (without key (records_of words.old)) (page_of words.old)) }
+    ensures tree { IsTreePage words.new }
+    ensures missing { (result ≡ Err PageFault.Missing) ↔ IsNone (value_at key (records_of words.old)) }
+    ensures only_missing { IfErr result (λ fault. fault ≡ PageFault.Missing) }
+    ensures unchanged { OnErr result (words.new ≡ words.old) }
+{
+    match find(words, key) {
+        Ok(place) => Ok(take_at(words, place)),
+        Err(_) => Err(PageFault::Missing),
+    }
+}
+
+// Puts a record in, where it stands by its key.
+fn put_at(words: &mut [u64], place: usize, key: Key, value: u64)
+    requires tree { IsTreePage words.old }
     requires few { length (records_of words.old) < MOST_RECORDS }
     requires absent { value_at key (records_of words.old) ≡ None }
     requires in_range { place ≤ length (records_of words.old) }
@@ -142,9 +286,9 @@ pub fn put(words: &mut [u64], place: usize, key: Key, value: u64)
     words[COUNT] = (len + 1) as u64;
 }
 
-/// Takes a record out, and gives its value.
-pub fn take(words: &mut [u64], place: usize) -> u64
-    requires tree { IsTree words.old }
+// Takes a record out, and gives its value.
+fn take_at(words: &mut [u64], place: usize) -> u64
+    requires tree { IsTreePage words.old }
     requires in_range { place < length (records_of words.old) }
     ensures value { IsSomeAnd (slice_get (records_of words.old) place) (λ r. r.1 ≡ result) }
     ensures taken { page_of words.new ≡ with_records (remove (records_of words.old) place) (page_of words.old) }
@@ -162,7 +306,7 @@ pub fn take(words: &mut [u64], place: usize) -> u64
 
 /// Sets both links.
 pub fn set_links(words: &mut [u64], prev: u32, next: u32)
-    requires tree { IsTree words.old }
+    requires tree { IsTreePage words.old }
     requires prev { 0 < level_of words.old → prev ≡ 0 }
     requires next { 0 < level_of words.old → next ≡ 0 }
     ensures { page_of words.new ≡ with_links prev next (page_of words.old) }
@@ -173,7 +317,7 @@ pub fn set_links(words: &mut [u64], prev: u32, next: u32)
 
 /// Sets the level.
 pub fn set_level(words: &mut [u64], level: u32)
-    requires tree { IsTree words.old }
+    requires tree { IsTreePage words.old }
     requires low { level ≤ MOST_LEVEL }
     requires prev { 0 < level → prev_of words.old ≡ 0 }
     requires next { 0 < level → next_of words.old ≡ 0 }
@@ -192,8 +336,8 @@ pub fn set_clock(words: &mut [u64], clock: u64)
 
 /// Moves the records from a place on to a page that has none.
 pub fn move_tail(left: &mut [u64], place: usize, right: &mut [u64])
-    requires left { IsTree left.old }
-    requires right { IsTree right.old }
+    requires left { IsTreePage left.old }
+    requires right { IsTreePage right.old }
     requires none { records_of right.old ≡ [] }
     requires in_range { place ≤ length (records_of left.old) }
     ensures left { page_of left.new ≡ with_records (take place (records_of left.old)) (page_of left.old) }
@@ -210,8 +354,8 @@ pub fn move_tail(left: &mut [u64], place: usize, right: &mut [u64])
 
 /// Appends the records of a page to those of another.
 pub fn append(left: &mut [u64], right: &[u64])
-    requires left { IsTree left.old }
-    requires right { IsTree right.now }
+    requires left { IsTreePage left.old }
+    requires right { IsTreePage right.now }
     requires few { length (records_of left.old) + length (records_of right.now) ≤ MOST_RECORDS }
     requires ascends { Rises 0 (records_of left.old ++ records_of right.now) end_rank }
     ensures { page_of left.new ≡ with_records (records_of left.old ++ records_of right.now) (page_of left.old) }
@@ -232,16 +376,8 @@ pub fn is_formed(words: &[u64]) -> bool
     if words[KIND] == TREE {
         has_page(words)
     } else {
-        has_free(words)
+        is_free(words)
     }
-}
-
-// Whether the words are those of a free page.
-fn has_free(words: &[u64]) -> bool
-    requires { length words.now ≡ PAGE_WORDS }
-    ensures { IsTrue result ↔ (words.now ≡ words_of_free (slice_index words.now 5)) }
-{
-    are_zeros(&words[..CLOCK]) && are_zeros(&words[CLOCK + 1..])
 }
 
 // Whether the words, of which the first one is right, are those of a page of the tree.
@@ -275,28 +411,7 @@ fn has_page_fields(words: &[u64], len: usize) -> bool
     requires few { len ≤ MOST_RECORDS }
     ensures { IsTrue result ↔ IsPage (read_page words.now) }
 {
-    has_limits(words) && ascends(words, len)
-}
-
-// Whether level and links are within their limits.
-fn has_limits(words: &[u64]) -> bool
-    requires { length words.now ≡ PAGE_WORDS }
-    ensures { IsTrue result ↔ HasLimits (slice_index words.now 1) (slice_index words.now 3) (slice_index words.now 4) }
-{
-    let level = words[LEVEL];
-    let prev = words[PREV];
-    let next = words[NEXT];
-    level <= MOST_LEVEL as u64
-        && prev <= u32::MAX as u64
-        && next <= u32::MAX as u64
-        && (level == 0 || prev == 0 && next == 0)
-}
-
-// Whether all these words are 0.
-fn are_zeros(words: &[u64]) -> bool
-    ensures { IsTrue result ↔ All (λ word. word ≡ 0) words.now }
-{
-    words.iter().all(|word| *word == 0)
+    has_limits(words[LEVEL], words[PREV], words[NEXT]) && ascends(words, len)
 }
 
 // Whether the keys of so many records ascend strictly.

@@ -1,20 +1,22 @@
 //! A page: how its records are found, put in and taken out, and how it is cut and joined (page0page,
 //! page0cur).
 
-ghost use Rattle.std.specs.Prelude.{◌≡◌, ◌≢◌, ◌+◌, ◌<◌, ◌≤◌, ◌^◌, ◌++◌, [], length, take, drop, slice_get, slice_index, slice_set, IsTrue, IsSome, IsNone, IsSomeAnd, OnOk, OnErr, IfOk, IfErr, IfSome, MatchResult, ◌↔◌, Some, None};
+ghost use Rattle.std.specs.Prelude.{ℕ, ◌≡◌, ◌≢◌, ◌+◌, ◌-◌, ◌*◌, ◌<◌, ◌≤◌, ◌^◌, ◌++◌, [], ◌∷◌, length, take, drop, slice_get, slice_index, slice_set, IsTrue, IsSome, IsNone, IsSomeAnd, OnOk, OnErr, IfOk, IfErr, IfSome, MatchResult, ◌↔◌, Some, None};
 ghost use Rattle.std.specs.List.Sorted.{IsSearchInRange};
 ghost use Rattle.ib_map.specs.Keys.{rank, end_rank};
-ghost use Rattle.ib_map.specs.Pairs.{Rises, put, without, value_at, place_of, place_after};
+ghost use Rattle.ib_map.specs.Pairs.{Rises, put, without, cut, value_at, place_of, place_after};
+ghost use Rattle.ib_map.specs.Writes.{write_words};
 ghost use Rattle.ib_page.specs.Page.PageValue.{Tree, Free};
-ghost use Rattle.ib_page.specs.Form.{page_of};
-ghost use Rattle.ib_page.specs.Image.{IsTree, IsFormed, level_of, prev_of, next_of, clock_of, records_of, with_records, with_links, with_level, with_clock};
+ghost use Rattle.ib_page.specs.Words.{free_page_words};
+ghost use Rattle.ib_page.specs.Form.{page_of, empty_leaf_words};
+ghost use Rattle.ib_page.specs.Image.{IsTreePage, IsFormed, level_of, prev_of, next_of, clock_of, records_of, with_records, with_links, with_level, with_clock};
 ghost use Rattle.ib_page.specs.Kind.{kind_of};
-ghost use Rattle.ib_page.specs.Differences.{differences};
+ghost use Rattle.ib_page.specs.Writes.{writes_below};
 
-use crate::{MOST_LEVEL, MOST_RECORDS, form};
-use ib_map::{Key, PAGE_WORDS, is_below, is_same};
+use crate::fault::PageFault;
+use crate::{MOST_LEVEL, MOST_RECORDS, form, page};
+use ib_map::{Key, PAGE_WORDS};
 use std::marker::Model;
-use thiserror::Error;
 
 /// What a page is used for.
 #[derive(Clone, Copy, Debug, PartialEq, Eq)]
@@ -22,17 +24,6 @@ pub enum Kind {
     Free,
     Leaf,
     Node,
-}
-
-/// Why a page does not do what it was asked.
-#[derive(Clone, Copy, Debug, PartialEq, Eq, Error)]
-pub enum PageFault {
-    #[error("the key is there")]
-    Duplicate,
-    #[error("the page is full")]
-    PageFull,
-    #[error("the key is not there")]
-    Missing,
 }
 
 /// An image of a page: `PAGE_WORDS` words. It holds a free page, a page of the tree with its records in
@@ -55,7 +46,8 @@ impl Model for Image {
 impl Image {
     /// An empty leaf.
     pub fn leaf(clock: u64) -> Image
-        ensures { page_of result ≡ Tree (record { level = 0; prev = 0; next = 0; clock = clock; records = [] }) }
+        ensures page { page_of result ≡ Tree (record { level = 0; prev = 0; next = 0; clock = clock; records = [] }) }
+        ensures words { result ≡ empty_leaf_words clock }
     {
         Image {
             words: form::empty_page(0, clock),
@@ -75,10 +67,11 @@ impl Image {
 
     /// A free page.
     pub fn free(clock: u64) -> Image
-        ensures { page_of result ≡ Free clock }
+        ensures page { page_of result ≡ Free clock }
+        ensures words { result ≡ free_page_words clock }
     {
         Image {
-            words: form::free_page(clock),
+            words: page::free_page(clock),
         }
     }
 
@@ -186,10 +179,8 @@ impl Image {
 
     // In how many words two images differ.
     pub(crate) fn differences(&self, other: &Image) -> usize
-        ensures count { result ≡ differences self.now other.now }
+        ensures count { (page : ℕ) → result ≡ length (writes_below page self.now other.now PAGE_WORDS) }
         ensures few { result ≤ PAGE_WORDS }
-        ensures size { length self.now ≡ PAGE_WORDS }
-        ensures other_size { length other.now ≡ PAGE_WORDS }
     {
         let mut count = 0;
         for i in 0..PAGE_WORDS {
@@ -200,9 +191,38 @@ impl Image {
         count
     }
 
+    // Writes the words in which the other image of this page differs behind `count` writes, and says how many
+    // there are then.
+    pub(crate) fn write_differences(
+        &self,
+        page: u32,
+        other: &Image,
+        out: &mut [u64],
+        count: usize,
+    ) -> usize
+        requires { 2 * (count + length (writes_below page self.now other.now PAGE_WORDS)) ≤ length out.old }
+        ensures words { let writes = writes_below page self.now other.now PAGE_WORDS in
+            out.new ≡ take (2 * count) out.old ++ write_words writes ++ drop (2 * (count + length writes)) out.old }
+        ensures count { result ≡ count + length (writes_below page self.now other.now PAGE_WORDS) }
+    {
+        let mut end = count;
+        for i in 0..PAGE_WORDS {
+            if self.words[i] != other.words[i] {
+                put_write(
+                    out,
+                    end,
+                    page as u64 * PAGE_WORDS as u64 + i as u64,
+                    other.words[i],
+                );
+                end += 1;
+            }
+        }
+        end
+    }
+
     /// A record, by its place in the order of keys.
     pub fn record_at(&self, i: usize) -> (Key, u64)
-        requires tree { IsTree self.now }
+        requires tree { IsTreePage self.now }
         requires in_range { i < length (records_of self.now) }
         ensures { slice_get (records_of self.now) i ≡ Some result }
     {
@@ -211,84 +231,91 @@ impl Image {
 
     /// The place of a key, or the place at which it would stand. By binary search.
     pub fn find(&self, key: Key) -> Result<usize, usize>
-        requires { IsTree self.now }
+        requires { IsTreePage self.now }
         ensures place { let place = place_of key (records_of self.now) in MatchResult result (λ i. i ≡ place) (λ i. i ≡ place) }
         ensures in_range { IsSearchInRange result (length (records_of self.now)) }
         ensures found { IfOk result (λ i. IsSomeAnd (slice_get (records_of self.now) i) (λ r. r.0 ≡ key)) }
         ensures value { IfOk result (λ i. IsSomeAnd (slice_get (records_of self.now) i) (λ r. value_at key (records_of self.now) ≡ Some r.1)) }
         ensures absent { IfErr result (λ i. value_at key (records_of self.now) ≡ None) }
     {
-        let place = place_of(&self.words, key);
-        if place == form::count(&self.words) {
-            return Err(place);
-        }
-        if is_same(form::record_at(&self.words, place).0, key) {
-            Ok(place)
-        } else {
-            Err(place)
-        }
+        form::find(&self.words, key)
     }
 
-    /// The last record with a key that is not above this one: in a node, the one of the child to which
+    /// The value of a key. None exactly where the key is not there.
+    pub fn get(&self, key: Key) -> Option<u64>
+        requires { IsTreePage self.now }
+        ensures { result ≡ value_at key (records_of self.now) }
+    {
+        form::get(&self.words, key)
+    }
+
+    /// Where the last record stands whose key is not above this one: in a node, the one of the child to which
     /// the key belongs. The first record must have such a key.
     pub fn route(&self, key: Key) -> usize
-        requires tree { IsTree self.now }
+        requires tree { IsTreePage self.now }
         requires first { IsSomeAnd (slice_get (records_of self.now) 0) (λ r. rank r.0 ≤ rank key) }
         ensures place { result + 1 ≡ place_after key (records_of self.now) }
         ensures in_range { result < length (records_of self.now) }
         ensures not_above { IsSomeAnd (slice_get (records_of self.now) result) (λ r. rank r.0 ≤ rank key) }
         ensures next_above { IfSome (slice_get (records_of self.now) (result + 1)) (λ r. rank key < rank r.0) }
     {
-        match self.find(key) {
-            Ok(place) => place,
-            Err(place) => place - 1,
-        }
+        form::route(&self.words, key)
+    }
+
+    /// The last record whose key is not above this one: in a node, that of the child to which the key belongs.
+    /// The first record must have such a key.
+    pub fn route_to(&self, key: Key) -> (Key, u64)
+        requires tree { IsTreePage self.now }
+        requires first { IsSomeAnd (slice_get (records_of self.now) 0) (λ r. rank r.0 ≤ rank key) }
+        ensures record { slice_get (records_of self.now) (place_after key (records_of self.now) - 1) ≡ Some result }
+        ensures not_above { rank result.0 ≤ rank key }
+    {
+        form::route_to(&self.words, key)
+    }
+
+    /// Copies the records whose keys are neither below `low` nor above `high` to the front of `out`, in order of
+    /// keys, and says how many they are. All else of `out` stays. There must be room for the page's records.
+    pub fn copy_between(&self, low: Key, high: Key, out: &mut [(Key, u64)]) -> usize
+        requires tree { IsTreePage self.now }
+        requires room { length (records_of self.now) ≤ length out.old }
+        ensures records { let records = cut (records_of self.now) low high in out.new ≡ records ++ drop (length records) out.old }
+        ensures count { result ≡ length (cut (records_of self.now) low high) }
+    {
+        form::copy_between(&self.words, low, high, out)
     }
 
     /// Puts a record in. Refused as `Duplicate` exactly where the key is there, and then as `PageFull`
     /// exactly where there are `MOST_RECORDS` records.
     pub fn insert(&mut self, key: Key, value: u64) -> Result<(), PageFault>
-        requires { IsTree self.old }
+        requires { IsTreePage self.old }
         ensures inserted { OnOk result (page_of self.new ≡ with_records (put key value (records_of self.old)) (page_of self.old)) }
-        ensures tree { IsTree self.new }
+        ensures tree { IsTreePage self.new }
         ensures duplicate { (result ≡ Err PageFault.Duplicate) ↔ IsSome (value_at key (records_of self.old)) }
         ensures full { (result ≡ Err PageFault.PageFull) ↔ (IsNone (value_at key (records_of self.old)) × (length (records_of self.old) ≡ MOST_RECORDS)) }
         ensures never_missing { result ≢ Err PageFault.Missing }
         ensures unchanged { OnErr result (self.new ≡ self.old) }
     {
-        match self.find(key) {
-            Ok(_) => Err(PageFault::Duplicate),
-            Err(place) => {
-                if form::count(&self.words) == MOST_RECORDS {
-                    return Err(PageFault::PageFull);
-                }
-                form::put(&mut self.words, place, key, value);
-                Ok(())
-            }
-        }
+        form::put(&mut self.words, key, value)
     }
 
     /// Takes a record out, and gives its value. Refused as `Missing` exactly where the key is not there,
     /// and for no other reason.
     pub fn remove(&mut self, key: Key) -> Result<u64, PageFault>
-        requires { IsTree self.old }
+        requires { IsTreePage self.old }
         ensures value { IfOk result (λ value. value_at key (records_of self.old) ≡ Some value) }
         ensures removed { OnOk result (page_of self.new ≡ with_records (without key (records_of self.old)) (page_of self.old)) }
-        ensures tree { IsTree self.new }
+        ensures tree { IsTreePage self.new }
         ensures missing { (result ≡ Err PageFault.Missing) ↔ IsNone (value_at key (records_of self.old)) }
         ensures only_missing { IfErr result (λ fault. fault ≡ PageFault.Missing) }
         ensures unchanged { OnErr result (self.new ≡ self.old) }
     {
-        match self.find(key) {
-            Ok(place) => Ok(form::take(&mut self.words, place)),
-            Err(_) => Err(PageFault::Missing),
-        }
+        form::take(&mut self.words, key)
     }
 
     /// Moves the records from `at` on to `right`, which has none; both pages keep all else.
     pub fn cut(&mut self, at: usize, right: &mut Image)
-        requires tree { IsTree self.old }
-        requires right_tree { IsTree right.old }
+        requires tree { IsTreePage self.old }
+        requires right_tree { IsTreePage right.old }
         requires empty { records_of right.old ≡ [] }
         requires in_range { at ≤ length (records_of self.old) }
         ensures left { page_of self.new ≡ with_records (take at (records_of self.old)) (page_of self.old) }
@@ -299,8 +326,8 @@ impl Image {
 
     /// Appends the records of `right`, whose keys stand above all of this page; both pages keep all else.
     pub fn join(&mut self, right: &Image)
-        requires tree { IsTree self.old }
-        requires right_tree { IsTree right.now }
+        requires tree { IsTreePage self.old }
+        requires right_tree { IsTreePage right.now }
         requires few { length (records_of self.old) + length (records_of right.now) ≤ MOST_RECORDS }
         requires ascends { Rises 0 (records_of self.old ++ records_of right.now) end_rank }
         ensures { page_of self.new ≡ with_records (records_of self.old ++ records_of right.now) (page_of self.old) }
@@ -310,7 +337,7 @@ impl Image {
 
     /// Sets both links. A node's are 0.
     pub fn set_links(&mut self, prev: u32, next: u32)
-        requires tree { IsTree self.old }
+        requires tree { IsTreePage self.old }
         requires prev { 0 < level_of self.old → prev ≡ 0 }
         requires next { 0 < level_of self.old → next ≡ 0 }
         ensures { page_of self.new ≡ with_links prev next (page_of self.old) }
@@ -320,7 +347,7 @@ impl Image {
 
     /// Sets the level, 0 to `MOST_LEVEL`. Only a page with no links becomes a node.
     pub fn set_level(&mut self, level: u32)
-        requires tree { IsTree self.old }
+        requires tree { IsTreePage self.old }
         requires low { level ≤ MOST_LEVEL }
         requires prev { 0 < level → prev_of self.old ≡ 0 }
         requires next { 0 < level → next_of self.old ≡ 0 }
@@ -340,21 +367,11 @@ impl Image {
     }
 }
 
-// How many records stand before the key.
-fn place_of(words: &[u64], key: Key) -> usize
-    requires { IsTree words.now }
-    ensures place { result ≡ place_of key (records_of words.now) }
-    ensures in_range { result ≤ length (records_of words.now) }
+// Writes a place and a value behind `count` writes.
+fn put_write(out: &mut [u64], count: usize, place: u64, value: u64)
+    requires { 2 * (count + 1) ≤ length out.old }
+    ensures { out.new ≡ take (2 * count) out.old ++ place ∷ value ∷ drop (2 * (count + 1)) out.old }
 {
-    let mut low = 0;
-    let mut high = form::count(words);
-    while low < high {
-        let middle = low + (high - low) / 2;
-        if is_below(form::record_at(words, middle).0, key) {
-            low = middle + 1;
-        } else {
-            high = middle;
-        }
-    }
-    low
+    out[2 * count] = place;
+    out[2 * count + 1] = value;
 }

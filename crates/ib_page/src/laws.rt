@@ -1,28 +1,65 @@
-//! The laws of a work set, stated of its pages and of the words that it changes.
+//! The laws of pages and of work sets, as contracts.
 
-ghost use Rattle.std.specs.Prelude.{◌≡◌, ◌≢◌, ◌↔◌, ℕ, ◌+◌, ◌*◌, ◌<◌, List, length, Some, IsSome};
+ghost use Rattle.std.specs.Prelude.{◌≡◌, ◌≢◌, ◌↔◌, ℕ, ◌+◌, ◌*◌, ◌<◌, ◌≤◌, List, [], length, All, false, nat_lt, Some, None, slice_index};
 ghost use Rattle.std.specs.List.{Any, Contains};
-ghost use Rattle.ib_page.specs.Work.{Work, IsWork, pages_of, changed_of, before_of, differences_of};
-ghost use Rattle.ib_page.specs.Writes.{AreImages, PagesAscend, PlacesRise, word_in, writes_of};
+ghost use Rattle.ib_map.specs.Writes.{PlacesRise, stored, touches, word_place};
+ghost use Rattle.ib_page.specs.Page.{Page, IsPage};
+ghost use Rattle.ib_page.specs.Page.PageValue.{Tree, Free};
+ghost use Rattle.ib_page.specs.Words.{free_page_words};
+ghost use Rattle.ib_page.specs.Form.{page_of, empty_leaf_words};
+ghost use Rattle.ib_page.specs.Image.{IsTreePage, IsFormed};
+ghost use Rattle.ib_page.specs.Space.{IsSpacePage, is_taken};
+ghost use Rattle.ib_page.specs.Opening.{opening_words};
+ghost use Rattle.ib_page.specs.Work.{WorkPage, PagesAscend, changed_of, before_of};
+ghost use Rattle.ib_page.specs.Writes.{word_in, writes_of};
 
+use crate::space::MAPPED_PAGES;
+use crate::work::MOST_WORK_PAGES;
+use crate::{MOST_LEVEL, MOST_RECORDS};
 use ib_map::PAGE_WORDS;
 
-/// The laws of a work set, as a contract: its list of pages is its two partial memories, and the words
-/// that differ, in order, are the writes that turn the images as read into the changed ones.
+/// The law of pages, as a contract: what an image holds as a page of the tree is within the limits and its
+/// records ascend, an image of a page is whole, and the pages of a new space are formed.
+pub fn page_law()
+    ensures levels { MOST_LEVEL ≡ 7 }
+    ensures records { MOST_RECORDS ≡ 35 }
+    ensures tree { (words : List ℕ) (p : Page) → page_of words ≡ Tree p → IsPage p }
+    ensures whole { (words : List ℕ) → IsFormed words → length words ≡ PAGE_WORDS }
+    ensures formed { (words : List ℕ) → IsTreePage words → IsFormed words }
+    ensures leaf { (clock : ℕ) → page_of (empty_leaf_words clock)
+        ≡ Tree (record { level = 0; prev = 0; next = 0; clock = clock; records = [] }) }
+    ensures free { (clock : ℕ) → page_of (free_page_words clock) ≡ Free clock }
+    // Page 0 of a new space is its space page, page 1 an empty leaf, and every other page is free.
+    ensures opening_space { (pages : ℕ) → 2 ≤ pages → IsSpacePage pages (opening_words 0) }
+    ensures opening_taken { (page : ℕ) → page < MAPPED_PAGES → is_taken (opening_words 0) page ≡ nat_lt page 2 }
+    ensures opening_leaf { opening_words 1 ≡ empty_leaf_words 0 }
+    ensures opening_free { (page : ℕ) → 2 ≤ page → opening_words page ≡ free_page_words 0 }
+{}
+
+/// The law of a work set, as a contract over the lists of its pages: what stands of a page, and that the
+/// words that differ, in order, are the writes that turn the images as read into the changed ones.
 pub fn work_law()
-    ensures ascend { (w : Work) → IsWork w → PagesAscend 0 (pages_of w) }
-    // A page stands in the list exactly where it is there, with its two images.
-    ensures changed { (w : Work) (page : ℕ) (image : List ℕ) → IsWork w
-        → (changed_of page w ≡ Some image) ↔ Any (λ p. (p.page ≡ page) × (p.changed ≡ image)) (pages_of w) }
-    ensures before { (w : Work) (page : ℕ) (image : List ℕ) → IsWork w
-        → (before_of page w ≡ Some image) ↔ Any (λ p. (p.page ≡ page) × (p.before ≡ image)) (pages_of w) }
-    // The writes stand in the order of their places, below those of the pages that are not there.
-    ensures rise { (w : Work) (pages : ℕ) → IsWork w → AreImages (pages_of w)
-        → ((page : ℕ) → IsSome (changed_of page w) → page < pages)
-        → PlacesRise 0 (writes_of (pages_of w)) (pages * PAGE_WORDS) }
-    ensures count { (w : Work) → length (writes_of (pages_of w)) ≡ differences_of w }
+    ensures pages { MOST_WORK_PAGES ≡ 32 }
+    // A page's images are those that stand beside it in the list.
+    ensures changed { (pages : List WorkPage) (page : ℕ) (image : List ℕ) → PagesAscend 0 pages
+        → (changed_of page pages ≡ Some image) ↔ Any (λ p. (p.page ≡ page) × (p.changed ≡ image)) pages }
+    ensures before { (pages : List WorkPage) (page : ℕ) (image : List ℕ) → PagesAscend 0 pages
+        → (before_of page pages ≡ Some image) ↔ Any (λ p. (p.page ≡ page) × (p.before ≡ image)) pages }
+    // The writes stand in the order of their places, below the end of the last page.
+    ensures rise { (pages : List WorkPage) (end : ℕ) → PagesAscend 0 pages → All (λ p. p.page < end) pages
+        → PlacesRise 0 (writes_of pages) (end * PAGE_WORDS) }
+    // Stored over the images as read they give the changed ones.
+    ensures leads { (pages : List WorkPage) (p : WorkPage) (index : ℕ) → PagesAscend 0 pages → Contains pages p
+        → index < PAGE_WORDS → stored (writes_of pages) (word_place p.page index) (slice_index p.before index)
+        ≡ slice_index p.changed index }
+    // A page is written where its two images differ, and a page that is not there is not written.
+    ensures written { (pages : List WorkPage) (p : WorkPage) → PagesAscend 0 pages → Contains pages p
+        → (touches p.page (writes_of pages) ≡ false)
+        ↔ ((index : ℕ) → index < PAGE_WORDS → slice_index p.before index ≡ slice_index p.changed index) }
+    ensures absent { (pages : List WorkPage) (page : ℕ) → changed_of page pages ≡ None
+        → touches page (writes_of pages) ≡ false }
     // A word is written exactly where it is that of the changed image, and not that of the image as read.
-    ensures word { (w : Work) (page index word : ℕ) → IsWork w → AreImages (pages_of w) → index < PAGE_WORDS
-        → Contains (writes_of (pages_of w)) (page * PAGE_WORDS + index, word)
-        ↔ ((word_in (changed_of page w) index ≡ Some word) × (word_in (before_of page w) index ≢ Some word)) }
+    ensures word { (pages : List WorkPage) (page index word : ℕ) → PagesAscend 0 pages → index < PAGE_WORDS
+        → Contains (writes_of pages) (record { place = word_place page index; value = word })
+        ↔ ((word_in (changed_of page pages) index ≡ Some word) × (word_in (before_of page pages) index ≢ Some word)) }
 {}

@@ -1,20 +1,25 @@
-//! Pages as images of `PAGE_WORDS` words, the space page, and the set of pages that a change works on.
+//! Pages as images of `PAGE_WORDS` words, the pages of a new space, and the pages that one change works on.
 #![tactic(auto)]
 
+mod fault;
 mod form;
 mod image;
 mod laws;
+mod opening;
+mod page;
 mod path;
 mod space;
 #[cfg(test)]
 mod tests;
 mod work;
 
-pub use image::{Image, Kind, PageFault};
-pub use laws::work_law;
+pub use fault::PageFault;
+pub use image::{Image, Kind};
+pub use laws::{page_law, work_law};
+pub use opening::{opening_image, opening_word};
 pub use path::{MOST_PATH, Path};
 pub use space::{MAPPED_PAGES, SpaceImage};
-pub use work::{MOST_WORK_PAGES, Place, WorkSet};
+pub use work::{MOST_WORK_PAGES, PageImages, WorkSet, Written};
 
 /// The most records that a page has.
 pub const MOST_RECORDS: usize = 35;

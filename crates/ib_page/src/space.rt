@@ -1,14 +1,18 @@
 //! Page 0: which pages of a space are taken (fsp0fsp).
 
-ghost use Rattle.std.specs.Prelude.{◌≡◌, ◌+◌, ◌<◌, ◌≤◌, ◌^◌, ℕ, true, false, nat_lt, length, IsTrue, ◌↔◌, IsNone, IfSome};
+ghost use Rattle.std.specs.Prelude.{◌≡◌, ◌+◌, ◌<◌, ◌≤◌, ◌^◌, ℕ, true, false, nat_lt, length, slice_index, IsTrue, ◌↔◌, IsNone, IfSome};
+ghost use Rattle.ib_page.specs.Opening.{opening_space_words};
 ghost use Rattle.ib_page.specs.Space.{is_taken, space_clock_of, with_space_clock, free_below, zeros_below, SetsBit, IsSpacePage};
 
 use crate::image::Image;
+use crate::page::are_zeros;
 use ib_map::PAGE_WORDS;
 use std::marker::Model;
 
 /// The pages for which the space page has a bit.
 pub const MAPPED_PAGES: u32 = 4096;
+
+const _: () = prove!(MAPPED_PAGES == 4096);
 
 // The bits of a word, and the word of the clock.
 const WORD_BITS: u32 = 64;
@@ -41,10 +45,22 @@ impl SpaceImage {
         ensures taken { (page : ℕ) → page < MAPPED_PAGES → is_taken result page ≡ nat_lt page 2 }
         ensures clock { space_clock_of result ≡ 0 }
         ensures formed { IsSpacePage pages result }
+        ensures words { result ≡ opening_space_words }
     {
-        let mut words = [0; PAGE_WORDS];
-        words[0] = FIRST_PAGES;
-        SpaceImage { words }
+        SpaceImage {
+            words: opening_page(),
+        }
+    }
+
+    /// Whether this is the space page of a space of so many pages, 2 to `MAPPED_PAGES`: no page beyond the last one
+    /// is taken, and all words behind the clock are 0.
+    pub fn is_formed(&self, pages: u32) -> bool
+        requires some { 2 ≤ pages }
+        requires in_range { pages ≤ MAPPED_PAGES }
+        ensures { IsTrue result ↔ IsSpacePage pages self.now }
+    {
+        ends_with_zeros(&self.words)
+            && self.free_count(MAPPED_PAGES) == self.free_count(pages) + (MAPPED_PAGES - pages)
     }
 
     /// The space page that these words are.
@@ -129,6 +145,38 @@ impl SpaceImage {
     {
         self.words[CLOCK] += 1;
     }
+}
+
+// Whether all words behind the clock are 0.
+fn ends_with_zeros(words: &[u64]) -> bool
+    requires { length words.now ≡ PAGE_WORDS }
+    ensures zeros { IsTrue result ↔ ((i : ℕ) → 64 < i → slice_index words.now i ≡ 0) }
+    ensures size { length words.now ≡ PAGE_WORDS }
+{
+    are_zeros(&words[CLOCK + 1..])
+}
+
+// The words of the space page of a new space.
+fn opening_page() -> [u64; PAGE_WORDS]
+    ensures { result ≡ opening_space_words }
+{
+    let mut words = [0; PAGE_WORDS];
+    words[0] = FIRST_PAGES;
+    words
+}
+
+// The same as an image, and by the word.
+pub(crate) fn opening_image() -> Image
+    ensures { result ≡ opening_space_words }
+{
+    Image::from_words(opening_page())
+}
+
+pub(crate) fn opening_word(index: usize) -> u64
+    requires { index < PAGE_WORDS }
+    ensures { result ≡ slice_index opening_space_words index }
+{
+    if index == 0 { FIRST_PAGES } else { 0 }
 }
 
 // How many of the lowest bits of a word are 0.

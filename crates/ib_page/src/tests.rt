@@ -26,6 +26,39 @@ fn counts_the_clock(rt: HostRuntime) -> Result<(), Fail> {
 }
 
 #[test]
+fn writes_the_words_that_differ(rt: HostRuntime) -> Result<(), Fail> {
+    let mut work = WorkSet::with_room(rt.alloc())?;
+    *work.read_in(3) = Image::leaf(0);
+    assert!(rt; work.image(3).is_some());
+    work.edit(3).touch();
+    assert_eq!(rt; work.changed(), 1);
+    let mut out = [0; 4];
+    let written = work.write_into(&mut out);
+    assert_eq!(rt; written.count, 1);
+    assert!(rt; !written.structural);
+    assert_eq!(rt; out[0], 389);
+    assert_eq!(rt; out[2], 0);
+    Ok(())
+}
+
+#[test]
+fn a_new_space_has_its_pages(rt: HostRuntime) {
+    assert_eq!(rt; opening_word(0, 0), 3);
+    assert_eq!(rt; opening_word(1, 0), 1);
+    assert!(rt; SpaceImage::from_image(&opening_image(0)).is_formed(16));
+    assert!(rt; opening_image(1).is_formed());
+}
+
+#[test]
+fn a_path_has_its_pages(rt: HostRuntime) {
+    let mut path = Path::new();
+    path.push(1);
+    path.push(7);
+    assert_eq!(rt; path.last(), Some(7));
+    assert_eq!(rt; path.pages().len(), 2);
+}
+
+#[test]
 fn a_full_page_refuses(rt: HostRuntime) -> Result<(), Fail> {
     let mut leaf = Image::leaf(0);
     for key in 1..36 {
@@ -39,21 +72,23 @@ fn a_full_page_refuses(rt: HostRuntime) -> Result<(), Fail> {
 }
 
 #[test]
-fn any_order_gives_one_page(rt: HostRuntime) -> Result<(), Fail> {
+fn any_order_gives_the_same_records(rt: HostRuntime) -> Result<(), Fail> {
     let mut rising = Image::leaf(0);
     for key in 1..36 {
         rising.insert(key, key)?;
-    }
-    let mut falling = Image::leaf(0);
-    for key in 1..36 {
-        falling.insert(36 - key, 36 - key)?;
     }
     let mut mixed = Image::leaf(0);
     for key in 1..36 {
         mixed.insert(key * 7 % 37, key * 7 % 37)?;
     }
-    assert_eq!(rt; rising.differences(&falling), 0);
+    assert_eq!(rt; rising.len(), 35);
     assert_eq!(rt; mixed.len(), 35);
+    let mut all = [(0, 0); MOST_RECORDS];
+    let mut some = [(0, 0); MOST_RECORDS];
+    assert_eq!(rt; rising.copy_between(7, 30, &mut all), 24);
+    assert_eq!(rt; mixed.copy_between(7, 30, &mut some), 23);
+    assert_eq!(rt; all[0], (7, 7));
+    assert_eq!(rt; rising.get(30), Some(30));
     Ok(())
 }
 

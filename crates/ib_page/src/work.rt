@@ -1,49 +1,69 @@
 //! The pages that one change works on, in memory that is taken once.
 
-ghost use Rattle.std.specs.Prelude.{◌≡◌, ◌+◌, ◌<◌, ◌≤◌, ◌==◌, ℕ, [], length, Some, None, IsSome, IfSome, IfOk, IsTrue, ◌↔◌, MatchOption, if◌then◌else◌};
+ghost use Rattle.std.specs.Prelude.{◌≡◌, ◌≢◌, ◌+◌, ◌*◌, ◌<◌, ◌≤◌, ◌++◌, ℕ, [], drop, take, length, slice_get, slice_set, nat_lt, ◌&&◌, ◌||◌, All, None, Some, IsSome, IsSomeAnd, IfSome, IfOk, IsTrue, ◌↔◌, MatchOption};
+ghost use Rattle.std.specs.List.{prefix_len};
 ghost use Rattle.std.specs.Borrow.{sem};
-ghost use Rattle.ib_page.specs.Work.{Work, IsWork, room_of, changed_of, before_of, place_in, differences_of, pages_of};
-ghost use Rattle.ib_page.specs.Writes.{AreImages};
-ghost use Rattle.ib_page.specs.Lending.{LendsChanged};
+ghost use Rattle.ib_map.specs.Writes.{write_words, spans_pages};
+ghost use Rattle.ib_page.specs.Work.{IsWork, changed_of, before_of, with_read, without_page};
+ghost use Rattle.ib_page.specs.Rooms.{page_in, image_in, changed_in};
+ghost use Rattle.ib_page.specs.Writes.{page_writes, writes_of};
+ghost use Rattle.ib_page.specs.Lending.{LendsChanged, LendsRead};
 
 use crate::image::Image;
-use ib_map::OutOfMemory;
+use ib_map::{OutOfMemory, PAGE_WORDS};
 use std::alloc::Global;
 use std::marker::Model;
 
 /// The most pages that a work set has.
 pub const MOST_WORK_PAGES: usize = 32;
 
-/// A page of a work set, and the room in which its images stand.
-#[derive(Clone, Copy, Debug, PartialEq, Eq)]
-pub struct Place {
+/// A page of a work set: its image as read, and its image as changed.
+#[derive(Clone, Copy)]
+pub struct PageImages<'a> {
     pub page: u32,
-    pub room: usize,
+    pub before: &'a Image,
+    pub changed: &'a Image,
 }
 
-/// The pages that a change reads and writes: each with its image as read and its image as changed. The
-/// images stay where they are; the order of pages is kept by the small numbers of their rooms.
+/// What `write_into` wrote: how many writes, and whether they lie on more than one page.
+#[derive(Clone, Copy, Debug, PartialEq, Eq)]
+pub struct Written {
+    pub count: usize,
+    pub structural: bool,
+}
+
+// A page, the room in which its images stand, and whether it has a changed image of its own.
+#[derive(Clone, Copy, Debug, PartialEq, Eq)]
+struct Slot {
+    page: u32,
+    room: usize,
+    edited: bool,
+}
+
+/// The pages that a change reads and writes: each with its image as read and its image as changed. Contracts
+/// see the list of its pages in ascending order. An image is copied when its page is first edited.
 #[derive(Drop)]
 pub struct WorkSet {
-    order: Vec<Place>,
+    slots: Vec<Slot>,
     before: Vec<Image>,
     changed: Vec<Image>,
     spare: Vec<usize>,
 }
 
 impl Model for WorkSet {
-    ghost use Rattle.std.specs.Prelude.{◌≤◌};
+    ghost use Rattle.std.specs.Prelude.{List, ◌≤◌};
     ghost use Rattle.std.specs.Vec.{vec_capacity};
     ghost use Rattle.ib_page.specs.declared.work.TheConstants.{MOST_WORK_PAGES};
-    ghost use Rattle.ib_page.specs.Work.{Work, IsWork};
+    ghost use Rattle.ib_page.specs.Work.{WorkPage};
+    ghost use Rattle.ib_page.specs.Rooms.{IsKept, pages_in};
 
-    ghost Value = { Work };
+    ghost Value = { List WorkPage };
 
-    ghost view = { λ w. record { order = w.order.items; before = w.before.items; changed = w.changed.items; spare = w.spare.items } };
+    ghost view = { λ w. pages_in w.before.items w.changed.items w.slots.items };
 
     ghost invariant = { λ w. record {
-      work : IsWork (record { order = w.order.items; before = w.before.items; changed = w.changed.items; spare = w.spare.items });
-      order_room : MOST_WORK_PAGES ≤ vec_capacity w.order;
+      kept : IsKept w.slots.items w.before.items w.changed.items w.spare.items;
+      slots_room : MOST_WORK_PAGES ≤ vec_capacity w.slots;
       spare_room : MOST_WORK_PAGES ≤ vec_capacity w.spare;
     } };
 }
@@ -51,9 +71,9 @@ impl Model for WorkSet {
 impl WorkSet {
     /// An empty work set, with all the memory that it will ever have.
     pub fn with_room(alloc: Global) -> Result<WorkSet, OutOfMemory>
-        ensures { IfOk result (λ w. (w.order ≡ []) × IsWork w) }
+        ensures { IfOk result (λ w. w ≡ []) }
     {
-        let order = Vec::with_capacity(alloc, MOST_WORK_PAGES)?;
+        let slots = Vec::with_capacity(alloc, MOST_WORK_PAGES)?;
         let before = vec![in alloc; Image::free(0); MOST_WORK_PAGES]?;
         let changed = vec![in alloc; Image::free(0); MOST_WORK_PAGES]?;
         let mut spare = Vec::with_capacity(alloc, MOST_WORK_PAGES)?;
@@ -62,7 +82,7 @@ impl WorkSet {
             let _ = spare.push(room);
         }
         Ok(WorkSet {
-            order,
+            slots,
             before,
             changed,
             spare,
@@ -71,129 +91,256 @@ impl WorkSet {
 
     /// How many pages are there, at most `MOST_WORK_PAGES`.
     pub fn len(&self) -> usize
-        ensures { result ≡ length self.now.order }
+        ensures count { result ≡ length self.now }
+        ensures work { IsWork self.now }
     {
-        self.order.len()
+        self.slots.len()
     }
 
     /// Whether no page is there.
     pub fn is_empty(&self) -> bool
-        ensures { IsTrue result ↔ (self.now.order ≡ []) }
+        ensures none { IsTrue result ↔ (self.now ≡ []) }
+        ensures work { IsWork self.now }
     {
-        self.order.is_empty()
+        self.slots.is_empty()
+    }
+
+    /// A page with its images, by its place in the order of pages, from 0 on.
+    pub fn page_at(&self, place: usize) -> PageImages<'_>
+        requires { place < length self.now }
+        ensures page { slice_get self.now place ≡ Some (record {
+          page = result.page;
+          before = result.before.now;
+          changed = result.changed.now;
+        }) }
+        ensures work { IsWork self.now }
+    {
+        let slot = self.slots[place];
+        PageImages {
+            page: slot.page,
+            before: &self.before[slot.room],
+            changed: latest(slot, &self.before, &self.changed),
+        }
     }
 
     /// The changed image of a page. None exactly where the page is not there.
     pub fn image(&self, page: u32) -> Option<&Image>
-        ensures { MatchOption result (changed_of page self.now ≡ None) (λ image. changed_of page self.now ≡ Some image.now) }
+        ensures image { MatchOption result (changed_of page self.now ≡ None) (λ image. changed_of page self.now ≡ Some image.now) }
+        ensures work { IsWork self.now }
     {
-        match self.room(page) {
-            Some(room) => Some(&self.changed[room]),
+        match find(&self.slots, page) {
+            Some(place) => Some(latest(self.slots[place], &self.before, &self.changed)),
             None => None,
         }
     }
 
     /// The image of a page as it was read. None exactly where the page is not there.
     pub fn before(&self, page: u32) -> Option<&Image>
-        ensures { MatchOption result (before_of page self.now ≡ None) (λ image. before_of page self.now ≡ Some image.now) }
+        ensures image { MatchOption result (before_of page self.now ≡ None) (λ image. before_of page self.now ≡ Some image.now) }
+        ensures work { IsWork self.now }
     {
-        match self.room(page) {
-            Some(room) => Some(&self.before[room]),
+        match find(&self.slots, page) {
+            Some(place) => Some(&self.before[self.slots[place].room]),
             None => None,
         }
     }
 
     /// In how many words the changed images differ from those that were read.
     pub fn changed(&self) -> usize
-        ensures count { result ≡ differences_of self.now }
-        ensures images { AreImages (pages_of self.now) }
+        ensures count { result ≡ length (writes_of self.now) }
+        ensures work { IsWork self.now }
     {
         let mut count = 0;
-        for place in &self.order {
-            count += self.before[place.room].differences(&self.changed[place.room]);
+        for slot in &self.slots {
+            count += differing(*slot, &self.before, &self.changed);
         }
         count
     }
 
-    /// The changed image of a page that is there, to be changed.
+    /// Writes the words that differ to the front of `out`: the place of each, and what it is changed to. All
+    /// else of `out` stays. There must be room for all of them.
+    pub fn write_into(&self, out: &mut [u64]) -> Written
+        requires { 2 * length (writes_of self.now) ≤ length out.old }
+        ensures words { out.new ≡ write_words (writes_of self.now) ++ drop (2 * length (writes_of self.now)) out.old }
+        ensures count { result.count ≡ length (writes_of self.now) }
+        ensures structural { result.structural ≡ spans_pages (writes_of self.now) }
+        ensures work { IsWork self.now }
+    {
+        let mut count = 0;
+        let mut structural = false;
+        for slot in &self.slots {
+            let end = write_page(*slot, &self.before, &self.changed, out, count);
+            structural = spans_further(structural, count, end);
+            count = end;
+        }
+        Written { count, structural }
+    }
+
+    /// The changed image of a page that is there, to be changed. The first call for a page copies its image.
     pub fn edit(&mut self, page: u32) -> &mut Image
         requires { IsSome (changed_of page self.old) }
         ensures* lends { sem 𝓛 (LendsChanged self.entry page result) }
         ensures image { changed_of page self.old ≡ Some result.now }
+        ensures work { IsWork self.old }
     {
-        let room = self.room(page).unwrap();
-        &mut self.changed[room]
+        let place = find(&self.slots, page).unwrap();
+        let slot = self.slots[place];
+        copy_at_first(slot, &self.before, &mut self.changed);
+        self.slots[place] = Slot {
+            page: slot.page,
+            room: slot.room,
+            edited: true,
+        };
+        &mut self.changed[slot.room]
     }
 
-    /// Takes a page in, that is not there, with one image as read and as changed. There must be room.
+    /// Takes a page in, that is not there, and lends its image to be filled: what is left there is the image as
+    /// read and as changed. There must be room for a page.
+    pub fn read_in(&mut self, page: u32) -> &mut Image
+        requires absent { changed_of page self.old ≡ None }
+        requires place { length self.old < MOST_WORK_PAGES }
+        ensures* lends { sem 𝓛 (LendsRead self.entry page result) }
+        ensures work { IsWork self.old }
+    {
+        let place = place_for(&self.slots, page);
+        let room = self.spare.pop().unwrap();
+        // There is room, so the call takes no memory, and does not fail.
+        let _ = self.slots.insert(
+            place,
+            Slot {
+                page,
+                room,
+                edited: false,
+            },
+        );
+        &mut self.before[room]
+    }
+
+    /// Takes a page in, that is not there, with one image as read and as changed. There must be room for a page.
     pub fn add(&mut self, page: u32, image: &Image)
         requires absent { changed_of page self.old ≡ None }
-        requires place { length self.old.order < MOST_WORK_PAGES }
-        ensures changed { (other : ℕ) → changed_of other self.new ≡ (if page == other then Some image.now else changed_of other self.old) }
-        ensures before { (other : ℕ) → before_of other self.new ≡ (if page == other then Some image.now else before_of other self.old) }
-        ensures count { length self.new.order ≡ length self.old.order + 1 }
-        ensures work { IsWork self.new }
+        requires place { length self.old < MOST_WORK_PAGES }
+        ensures added { self.new ≡ with_read page image.now self.old }
+        ensures work { IsWork self.old }
     {
-        let at = place_for(&self.order, page);
-        if let Some(room) = self.spare.pop() {
-            self.before[room] = *image;
-            self.changed[room] = *image;
-            // There is room, so the call takes no memory, and does not fail.
-            let _ = self.order.insert(at, Place { page, room });
-        }
+        *self.read_in(page) = *image;
     }
 
     /// Takes a page out that is there, and of which the changed image is the one that was read.
     pub fn remove(&mut self, page: u32)
         requires there { IsSome (changed_of page self.old) }
         requires same { changed_of page self.old ≡ before_of page self.old }
-        ensures changed { (other : ℕ) → changed_of other self.new ≡ (if page == other then None else changed_of other self.old) }
-        ensures before { (other : ℕ) → before_of other self.new ≡ (if page == other then None else before_of other self.old) }
-        ensures count { length self.new.order + 1 ≡ length self.old.order }
-        ensures work { IsWork self.new }
+        ensures removed { self.new ≡ without_page page self.old }
+        ensures work { IsWork self.old }
     {
-        let at = place_for(&self.order, page);
-        let place = self.order.remove(at);
+        let place = find(&self.slots, page).unwrap();
+        let slot = self.slots.remove(place);
         // There is room, so the call takes no memory, and does not fail.
-        let _ = self.spare.push(place.room);
+        let _ = self.spare.push(slot.room);
     }
 
     /// Takes all pages out.
     pub fn clear(&mut self)
-        ensures none { self.new.order ≡ [] }
-        ensures work { IsWork self.new }
+        ensures none { self.new ≡ [] }
+        ensures work { IsWork self.old }
     {
-        while let Some(place) = self.order.pop() {
+        while let Some(slot) = self.slots.pop() {
             // There is room, so the call takes no memory, and does not fail.
-            let _ = self.spare.push(place.room);
+            let _ = self.spare.push(slot.room);
         }
-    }
-
-    // The room of a page.
-    fn room(&self, page: u32) -> Option<usize>
-        ensures room { result ≡ room_of page self.now.order }
-        ensures in_range { IfSome result (λ room. room < MOST_WORK_PAGES) }
-        ensures before_size { length self.now.before ≡ MOST_WORK_PAGES }
-        ensures changed_size { length self.now.changed ≡ MOST_WORK_PAGES }
-    {
-        for place in &self.order {
-            if place.page == page {
-                return Some(place.room);
-            }
-        }
-        None
     }
 }
 
-// How many places stand before a page.
-fn place_for(order: &[Place], page: u32) -> usize
-    ensures place { result ≡ place_in page order.now }
-    ensures in_range { result ≤ length order.now }
+// Where a page stands. None exactly where it is not there.
+fn find(slots: &[Slot], page: u32) -> Option<usize>
+    ensures there { IfSome result (λ i. IsSomeAnd (slice_get slots.now i) (λ s. s.page ≡ page)) }
+    ensures absent { result ≡ None → All (λ s. s.page ≢ page) slots.now }
 {
-    for (i, place) in order.iter().enumerate() {
-        if place.page >= page {
+    for (i, slot) in slots.iter().enumerate() {
+        if slot.page == page {
+            return Some(i);
+        }
+    }
+    None
+}
+
+// How many slots stand before a page.
+fn place_for(slots: &[Slot], page: u32) -> usize
+    ensures place { result ≡ prefix_len (λ s. nat_lt s.page page) slots.now }
+    ensures in_range { result ≤ length slots.now }
+{
+    for (i, slot) in slots.iter().enumerate() {
+        if slot.page >= page {
             return i;
         }
     }
-    order.len()
+    slots.len()
+}
+
+// The changed image of a slot.
+fn latest<'a>(slot: Slot, before: &'a [Image], changed: &'a [Image]) -> &'a Image
+    requires before { slot.room < length before.now }
+    requires changed { slot.room < length changed.now }
+    ensures { result.now ≡ changed_in before.now changed.now slot }
+{
+    if slot.edited {
+        &changed[slot.room]
+    } else {
+        &before[slot.room]
+    }
+}
+
+// Gives a slot a changed image of its own, unless it has one.
+fn copy_at_first(slot: Slot, before: &[Image], changed: &mut [Image])
+    requires before { slot.room < length before.now }
+    requires changed { slot.room < length changed.old }
+    ensures { changed.new ≡ slice_set changed.old slot.room (changed_in before.now changed.old slot) }
+{
+    if !slot.edited {
+        changed[slot.room] = before[slot.room];
+    }
+}
+
+// In how many words the images of a slot differ.
+fn differing(slot: Slot, before: &[Image], changed: &[Image]) -> usize
+    requires before { slot.room < length before.now }
+    requires changed { slot.room < length changed.now }
+    ensures count { result ≡ length (page_writes (page_in before.now changed.now slot)) }
+    ensures few { result ≤ PAGE_WORDS }
+{
+    if slot.edited {
+        before[slot.room].differences(&changed[slot.room])
+    } else {
+        0
+    }
+}
+
+// Writes the words in which the images of a slot differ behind `count` others, and says how many there are then.
+fn write_page(
+    slot: Slot,
+    before: &[Image],
+    changed: &[Image],
+    out: &mut [u64],
+    count: usize,
+) -> usize
+    requires before { slot.room < length before.now }
+    requires changed { slot.room < length changed.now }
+    requires room { 2 * (count + length (page_writes (page_in before.now changed.now slot))) ≤ length out.old }
+    ensures words { let writes = page_writes (page_in before.now changed.now slot) in
+        out.new ≡ take (2 * count) out.old ++ write_words writes ++ drop (2 * (count + length writes)) out.old }
+    ensures count { result ≡ count + length (page_writes (page_in before.now changed.now slot)) }
+{
+    if slot.edited {
+        let old = &before[slot.room];
+        old.write_differences(slot.page, &changed[slot.room], out, count)
+    } else {
+        count
+    }
+}
+
+// Whether writes lie on several pages, where of all up to `end` those up to `count` lie on pages before.
+fn spans_further(structural: bool, count: usize, end: usize) -> bool
+    ensures { result ≡ (structural || (nat_lt 0 count && nat_lt count end)) }
+{
+    structural || 0 < count && count < end
 }

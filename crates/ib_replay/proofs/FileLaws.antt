@@ -9,13 +9,13 @@ use Rattle.std.proofs.lemmas.Bool.{cases_lt, eq-eqb, le-leb, leb-true, and_parts
 use Rattle.std.proofs.lemmas.List.Concat.{flat_map-cons}
 use Rattle.byteorder.specs.Endian.{big_bytes, big_number, IsRead}
 use Rattle.byteorder.specs.Numbers.{big_number-reads_back, big_from-lt, length-bytes_high_first}
-use Rattle.ib_levels.specs.declared.latch.TheConstants.{MOST_PAGES}
-use Rattle.ib_layout.specs.declared.geometry.TheConstants.{LEAST_PAGES}
-use Rattle.ib_layout.specs.Geometry.{has_pages}
+use Rattle.ib_map.specs.declared.TheConstants.{MOST_PAGES}
+use Rattle.ib_map.specs.declared.TheConstants.{LEAST_PAGES}
+use Rattle.ib_map.specs.Space.{has_pages}
 use Rattle.ib_logrec.specs.declared.fault.LogFault.{LogFault}
 use Rattle.ib_logrec.specs.declared.fault.LogFault.TheVariants.{OutOfMemory}
 use Rattle.ib_logrec.specs.Grammar.{IsFault}
-use Rattle.ib_logrec.proofs.ReadLaws.{IsFault-none}
+use Rattle.ib_logrec.proofs.EntryLaws.{IsFault-none}
 use Rattle.ib_replay.specs.declared.file.TheConstants.{FILE_FORM}
 use Rattle.ib_replay.specs.Files.{LogFile, AreWords, word_bytes, file_of, number_at, file_fault}
 

@@ -5,8 +5,8 @@ use Rattle.ib_logrec.specs.declared.entry.Entry.{Entry}
 use Rattle.ib_logrec.specs.declared.fault.LogFault.{LogFault}
 use Rattle.ib_logrec.specs.declared.fault.LogFault.TheVariants.{OutOfMemory}
 use Rattle.ib_logrec.specs.Words.{words_of_entry}
-use Rattle.ib_logrec.specs.Grammar.{Formed}
-use Rattle.ib_logrec.specs.Law.{AreFormed}
+use Rattle.ib_logrec.specs.Grammar.{IsInGrammar}
+use Rattle.ib_logrec.specs.Law.{AreInGrammar}
 use Rattle.ib_logrec.specs.Log.{log_words}
 use Rattle.ib_replay.specs.declared.log_replay.Replayed.{Replayed}
 use Rattle.ib_replay.specs.Files.{file_fault}
@@ -22,7 +22,7 @@ record GoesOn (pages : ℕ) (front : List Entry) (rest : List ℕ) (log : List E
   tail : List ℕ
   parts : log ≡ front ++ entry ∷ more
   spelled : rest ≡ words_of_entry entry ++ tail
-  formed : Formed pages entry
+  is : IsInGrammar pages entry
 
 GoesOn-behind : (pages : ℕ) (f g : Entry) (front log : List Entry) (rest : List ℕ) → g ≡ f → GoesOn pages front rest log → GoesOn pages (f ∷ front) rest (g ∷ log)
 GoesOn-behind pages f g front log rest same on = record {
@@ -31,21 +31,21 @@ GoesOn-behind pages f g front log rest same on = record {
   tail = on.tail;
   parts = λ i. same i ∷ on.parts i;
   spelled = on.spelled;
-  formed = on.formed;
+  is = on.is;
 }
 
 -- two logs at the front of the same words are the same, or one goes on where the other ends
-fronts : (pages : ℕ) (xs ys : List Entry) (r s : List ℕ) → AreFormed pages xs → AreFormed pages ys → log_words xs ++ r ≡ log_words ys ++ s
+fronts : (pages : ℕ) (xs ys : List Entry) (r s : List ℕ) → AreInGrammar pages xs → AreInGrammar pages ys → log_words xs ++ r ≡ log_words ys ++ s
     → ((xs ≡ ys) × (r ≡ s)) ⊎ (GoesOn pages xs r ys ⊎ GoesOn pages ys s xs)
-fronts pages [] [] r s x_formed y_formed same = inl (refl, same)
-fronts pages [] (y ∷ ys) r s x_formed y_formed same =
-    inr (inl (record { entry = y; more = ys; tail = log_words ys ++ s; parts = refl; spelled = same ∙ append_assoc (words_of_entry y) (log_words ys) s; formed = y_formed.0 }))
-fronts pages (x ∷ xs) [] r s x_formed y_formed same =
-    inr (inr (record { entry = x; more = xs; tail = log_words xs ++ r; parts = refl; spelled = sym same ∙ append_assoc (words_of_entry x) (log_words xs) r; formed = x_formed.0 }))
-fronts pages (x ∷ xs) (y ∷ ys) r s x_formed y_formed same =
+fronts pages [] [] r s x_is y_is same = inl (refl, same)
+fronts pages [] (y ∷ ys) r s x_is y_is same =
+    inr (inl (record { entry = y; more = ys; tail = log_words ys ++ s; parts = refl; spelled = same ∙ append_assoc (words_of_entry y) (log_words ys) s; is = y_is.0 }))
+fronts pages (x ∷ xs) [] r s x_is y_is same =
+    inr (inr (record { entry = x; more = xs; tail = log_words xs ++ r; parts = refl; spelled = sym same ∙ append_assoc (words_of_entry x) (log_words xs) r; is = x_is.0 }))
+fronts pages (x ∷ xs) (y ∷ ys) r s x_is y_is same =
     let apart = sym (append_assoc (words_of_entry x) (log_words xs) r) ∙ same ∙ append_assoc (words_of_entry y) (log_words ys) s in
-    let first = same_rest pages x y (log_words xs ++ r) (log_words ys ++ s) x_formed.0 y_formed.0 apart in
-    elim (fronts pages xs ys r s x_formed.1 y_formed.1 first.1) [
+    let first = same_rest pages x y (log_words xs ++ r) (log_words ys ++ s) x_is.0 y_is.0 apart in
+    elim (fronts pages xs ys r s x_is.1 y_is.1 first.1) [
       | inl both ↦ inl (λ i. first.0 i ∷ both.0 i, both.1)
       | inr (inl on) ↦ inr (inl (GoesOn-behind pages x y xs ys r (sym first.0) on))
       | inr (inr on) ↦ inr (inr (GoesOn-behind pages y x ys xs s first.0 on))
@@ -53,15 +53,15 @@ fronts pages (x ∷ xs) (y ∷ ys) r s x_formed y_formed same =
 
 pub first_fault-one : (pages : ℕ) (words : List ℕ) (a b : LogFault) → IsFirstFault pages words a → IsFirstFault pages words b → a ≡ b
 first_fault-one pages words a b is_a is_b =
-    elim (fronts pages is_a.front is_b.front is_a.rest is_b.rest is_a.lawful.formed is_b.lawful.formed (sym is_a.parts ∙ is_b.parts)) [
+    elim (fronts pages is_a.front is_b.front is_a.rest is_b.rest is_a.lawful.grammar is_b.lawful.grammar (sym is_a.parts ∙ is_b.parts)) [
       | inl both ↦
           let here = ap (fault_behind pages is_a.front) both.1 ∙ ap (λ (front : List Entry). fault_behind pages front is_b.rest) both.0 in
           let found : Some a ≡ Some b = sym is_a.found ∙ here ∙ is_b.found in cc
       | inr (inl on) ↦
-          let none = no_fault_behind pages is_a.front on.more is_b.front on.entry is_a.rest on.tail is_b.lawful on.parts on.spelled on.formed in
+          let none = no_fault_behind pages is_a.front on.more is_b.front on.entry is_a.rest on.tail is_b.lawful on.parts on.spelled on.is in
           let found = is_a.found in absurd (cc)
       | inr (inr on) ↦
-          let none = no_fault_behind pages is_b.front on.more is_a.front on.entry is_b.rest on.tail is_a.lawful on.parts on.spelled on.formed in
+          let none = no_fault_behind pages is_b.front on.more is_a.front on.entry is_b.rest on.tail is_a.lawful on.parts on.spelled on.is in
           let found = is_b.found in absurd (cc)
     ]
 
@@ -91,7 +91,7 @@ pub only_raw_log : (bytes : List ℕ) (r : Result Replayed LogFault) → IfOk r 
 only_raw_log bytes (Ok replayed) found fault pages log is =
     let read = found.1 in
     let same = file_of-one found.0 pages (log_words replayed.entries.items) (log_words log) (has_pages-fits found.0 read.space) (has_pages-fits pages is.space) read.fits is.fits (sym read.file ∙ is.file) in
-    log_words-one pages replayed.entries.items log (subst (λ (p : ℕ). AreFormed p replayed.entries.items) same.0 read.lawful.formed) is.lawful.formed same.1
+    log_words-one pages replayed.entries.items log (subst (λ (p : ℕ). AreInGrammar p replayed.entries.items) same.0 read.lawful.grammar) is.lawful.grammar same.1
 only_raw_log bytes (Err e) found (inl memory) pages log is = memory
 only_raw_log bytes (Err e) found (inr fault) pages log is = absurd (raw_log-no_fault bytes pages log e is fault)
 

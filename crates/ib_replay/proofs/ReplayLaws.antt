@@ -3,7 +3,9 @@ use Rattle.std.proofs.Common.{◌≡◌, ℕ, zero, suc, ◌+◌, ◌*◌, ◌<�
 use Rattle.std.proofs.Math.ListN.{set}
 use Rattle.std.proofs.lemmas.Bool.{cases_eq}
 use Rattle.std.proofs.lemmas.List.{drop_all, length_push, length-set, length-replicate}
-use Rattle.std.specs.Prelude.{replicate}
+use Rattle.std.proofs.lemmas.List.FromFn.{get_or-map-range_with_len, length-map-range_with_len}
+use Rattle.std.specs.Prelude.{replicate, map}
+use Rattle.std.specs.List.{range_with_len}
 use Rattle.ib_map.specs.Pairs.{Pairs}
 use Rattle.ib_map.specs.Map.{answer_of, effect_of, is_made}
 use Rattle.ib_map.specs.History.{map_with, map_after, changes_of}
@@ -12,46 +14,48 @@ use Rattle.ib_map.proofs.HistoryLaws.{map_after-length, map_with-push, changes_o
 use Rattle.ib_logrec.specs.declared.entry.Entry.{Entry}
 use Rattle.ib_logrec.specs.declared.fault.LogFault.{LogFault}
 use Rattle.ib_logrec.specs.declared.fault.LogFault.TheVariants.{OutOfMemory}
-use Rattle.ib_logrec.specs.Places.{stored}
-use Rattle.ib_logrec.specs.Words.{words_of_entry, entry_of}
-use Rattle.ib_logrec.specs.Grammar.{Formed, fault_at, IsFault}
-use Rattle.ib_logrec.specs.Law.{AreFormed}
+use Rattle.ib_map.specs.Writes.{index_at, page_at, stored}
+use Rattle.ib_page.specs.Memory.{image_at, word_at}
+use Rattle.ib_page.specs.Opening.{opening_words}
+use Rattle.ib_logrec.specs.Words.{words_of_entry, entry_in}
+use Rattle.ib_logrec.specs.Grammar.{IsInGrammar, fault_at, IsFault}
+use Rattle.ib_logrec.specs.Law.{AreInGrammar}
 use Rattle.ib_logrec.specs.Log.{log_words, used, logged, history_of, map_of}
-use Rattle.ib_logrec.proofs.PlaceLaws.{PlacesRise-get}
-use Rattle.ib_logrec.proofs.EntryLaws.{length-words_of_entry, entry_of-words, fault_at-words}
+use Rattle.ib_map.proofs.WriteLaws.{PlacesRise-get}
+use Rattle.ib_logrec.proofs.EntryLaws.{length-words_of_entry, entry_in-words, fault_at-words}
 use Rattle.ib_logrec.proofs.LogLaws.{log_words-push, used-push, memory_after-push, history_of-push, length-history_of}
 use Rattle.ib_replay.specs.declared.log_replay.TheConstants.{COUNTS}
 use Rattle.ib_replay.specs.Replays.{opening, IsMemory, IsLawful, change_fault, IsFirstFault, IsReplayFault}
 
-AreFormed-push : (pages : ℕ) (log : List Entry) (e : Entry) → AreFormed pages log → Formed pages e → AreFormed pages (log ++ e ∷ [])
-AreFormed-push pages [] e formed one = (one, tt)
-AreFormed-push pages (f ∷ log) e formed one = (formed.0, AreFormed-push pages log e formed.1 one)
+AreInGrammar-push : (pages : ℕ) (log : List Entry) (e : Entry) → AreInGrammar pages log → IsInGrammar pages e → AreInGrammar pages (log ++ e ∷ [])
+AreInGrammar-push pages [] e is one = (one, tt)
+AreInGrammar-push pages (f ∷ log) e is one = (is.0, AreInGrammar-push pages log e is.1 one)
 
 -- the words up to a place are those of a lawful log, and memory, map and counts are what it makes
-pub record IsReached (pages : ℕ) (words : List ℕ) (place : ℕ) (log : List Entry) (image : List ℕ) (pairs : Pairs) (numbers : List ℕ) : Type 0 where
+pub record IsReached (pages : ℕ) (words : List ℕ) (place : ℕ) (log : List Entry) (images : List (List ℕ)) (pairs : Pairs) (numbers : List ℕ) : Type 0 where
   pub within : place ≤ length words
   pub size : used log ≡ place
   pub parts : words ≡ log_words log ++ drop place words
   pub lawful : IsLawful pages log
-  pub memory : IsMemory pages log image
+  pub memory : IsMemory pages log images
   pub map : pairs ≡ map_with [] (history_of log)
   pub sessions : length numbers ≡ COUNTS
   pub counts : (session : ℕ) → session < COUNTS → get_or numbers session 0 ≡ length (changes_of session (history_of log))
 
 -- what an entry in the grammar asks of the memory
-pub places_in : (pages : ℕ) (log : List Entry) (memory : List ℕ) (e : Entry) → IsMemory pages log memory → Formed pages e → All (λ w. w.place < length memory) e.writes
-places_in pages log memory e is formed k d lt = let place = PlacesRise-get 0 e.writes (pages * PAGE_WORDS) k d formed.places lt in omega (arith, place.1, is.size)
+pub places_in : (pages : ℕ) (log : List Entry) (memory : List (List ℕ)) (e : Entry) → IsMemory pages log memory → IsInGrammar pages e → All (λ w. w.place < length memory * PAGE_WORDS) e.writes
+places_in pages log memory e are is k d lt = let place = PlacesRise-get 0 e.writes (pages * PAGE_WORDS) k d is.places lt in omega (arith, place.1, are.size)
 
-module _ (pages : ℕ) (words : List ℕ) (place : ℕ) (log : List Entry) (memory : List ℕ) (map : Pairs) (counts : List ℕ) (reached : IsReached pages words place log memory map counts) where
-  module _ (e : Entry) (next : ℕ) (formed : Formed pages e) (spelled : drop place words ≡ words_of_entry e ++ drop next words) where
+module _ (pages : ℕ) (words : List ℕ) (place : ℕ) (log : List Entry) (memory : List (List ℕ)) (map : Pairs) (counts : List ℕ) (reached : IsReached pages words place log memory map counts) where
+  module _ (e : Entry) (next : ℕ) (is : IsInGrammar pages e) (spelled : drop place words ≡ words_of_entry e ++ drop next words) where
     lawful-more : e.number ≡ get_or counts e.session 0 + 1 → is_made (answer_of map e.change) ≡ true → IsLawful pages (log ++ e ∷ [])
     lawful-more numbered made =
-        let count = reached.counts e.session (omega (arith, formed.most_session)) in
+        let count = reached.counts e.session (omega (arith, is.most_session)) in
         let number : e.number ≡ length (changes_of e.session (history_of log)) + 1 = omega (arith, numbered, count) in
         let before : map ≡ map_after (history_of log) (length (history_of log)) = reached.map ∙ sym (map_after-length (history_of log)) in
         let legal = IsLegalHistory-push (history_of log) (logged e) reached.lawful.legal (ap (λ m. is_made (answer_of m e.change)) (sym before) ∙ made) number in
         record {
-          formed = AreFormed-push pages log e reached.lawful.formed formed;
+          grammar = AreInGrammar-push pages log e reached.lawful.grammar is;
           legal = rw (history_of-push log e) legal;
         }
 
@@ -67,9 +71,9 @@ module _ (pages : ℕ) (words : List ℕ) (place : ℕ) (log : List Entry) (memo
           rw (history_of-push log e, others) (get_or-set_other counts e.session session e.number 0 other ∙ reached.counts session lt)
     ]
 
-    pub IsReached-more : (memory' : List ℕ) (map' : Pairs) → next ≡ place + length (words_of_entry e) → next ≤ length words
+    pub IsReached-more : (memory' : List (List ℕ)) (map' : Pairs) → next ≡ place + length (words_of_entry e) → next ≤ length words
         → e.number ≡ get_or counts e.session 0 + 1 → is_made (answer_of map e.change) ≡ true → map' ≡ effect_of map e.change → length memory' ≡ length memory
-        → ((at : ℕ) → at < length memory → get_or memory' at 0 ≡ stored e.writes at (get_or memory at 0))
+        → ((at : ℕ) → at < length memory * PAGE_WORDS → word_at memory' at ≡ stored e.writes at (word_at memory at))
         → IsReached pages words next (log ++ e ∷ []) memory' map' (set counts e.session e.number)
     IsReached-more memory' map' next_is within numbered made mapped size written = record {
       within = within;
@@ -88,9 +92,9 @@ module _ (pages : ℕ) (words : List ℕ) (place : ℕ) (log : List Entry) (memo
     -- a fault of the change there is the first one
     pub fault-change : (fault : LogFault) → place < length words → change_fault place (get_or counts e.session 0) map e ≡ Some fault → IsFirstFault pages words fault
     fault-change fault lt found =
-        let read : entry_of (drop place words) ≡ e = ap entry_of spelled ∙ entry_of-words e (drop next words) formed.most_writes in
-        let none : fault_at pages (used log) (drop place words) ≡ None = ap (fault_at pages (used log)) spelled ∙ fault_at-words pages (used log) e (drop next words) formed in
-        let count = reached.counts e.session (omega (arith, formed.most_session)) in
+        let read : entry_in (drop place words) ≡ e = ap entry_in spelled ∙ entry_in-words e (drop next words) is.most_writes in
+        let none : fault_at pages (used log) (drop place words) ≡ None = ap (fault_at pages (used log)) spelled ∙ fault_at-words pages (used log) e (drop next words) is in
+        let count = reached.counts e.session (omega (arith, is.most_session)) in
         let there : change_fault (used log) (length (changes_of e.session (history_of log))) (map_with [] (history_of log)) e ≡ Some fault =
         rw (reached.size, ← count, ← reached.map) found in
         record {
@@ -135,15 +139,25 @@ get_or-zeros zero i = refl
 get_or-zeros (suc n) zero = refl
 get_or-zeros (suc n) (suc i) = get_or-zeros n i
 
+-- the image of a page of a new space
+opening_image : (pages page : ℕ) → page < pages → image_at (map opening_words (range_with_len 0 pages)) page ≡ opening_words page
+opening_image pages page lt = get_or-map-range_with_len opening_words 0 pages page page [] lt (omega arith)
+
+-- the pages of a new space
+opened : (pages : ℕ) → IsMemory pages [] (map opening_words (range_with_len 0 pages))
+opened pages = record {
+  size = length-map-range_with_len opening_words 0 pages;
+  words = λ place lt. ap (λ (image : List ℕ). get_or image (index_at place) 0) (opening_image pages (page_at place) (omega arith));
+}
+
 -- nothing is read yet
-pub IsReached-none : (pages : ℕ) (words : List ℕ) (image : List ℕ) (n : ℕ) → length image ≡ pages * PAGE_WORDS → ((place : ℕ) → place < pages * PAGE_WORDS → get_or image place 0 ≡ opening place)
-    → n ≡ COUNTS → IsReached pages words 0 [] image [] (replicate n 0)
-IsReached-none pages words image n size opened many = record {
+pub IsReached-none : (pages : ℕ) (words : List ℕ) (images : List (List ℕ)) (n : ℕ) → images ≡ map opening_words (range_with_len 0 pages) → n ≡ COUNTS → IsReached pages words 0 [] images [] (replicate n 0)
+IsReached-none pages words images n is many = record {
   within = omega arith;
   size = refl;
   parts = refl;
-  lawful = record { formed = tt; legal = IsLegalHistory-none };
-  memory = record { size = size; words = opened };
+  lawful = record { grammar = tt; legal = IsLegalHistory-none };
+  memory = rw is (opened pages);
   map = refl;
   sessions = length-replicate n 0 ∙ many;
   counts = λ session lt. get_or-zeros n session;

@@ -1,20 +1,53 @@
--- Writes stored one after another.
-use Rattle.std.proofs.Common.{◌≡◌, ℕ, ◌+◌, ◌<◌, List, [], ◌∷◌, length, get_or, take, sym, ap, ◌∙◌, inl, inr, get_or-set_same, get_or-set_other}
+-- Writes stored one after another in the images of pages.
+use Rattle.std.proofs.Common.{◌≡◌, ℕ, ◌+◌, ◌<◌, List, [], ◌∷◌, length, get_or, take, ap₂, subst, sym, ap, ◌∙◌, inl, inr, arith, get_or-set_same, get_or-set_other}
 use Rattle.std.proofs.Math.ListN.{set}
 use Rattle.std.proofs.lemmas.Bool.{cases_eq, eq-eqb, ne_eqb}
-use Rattle.std.proofs.lemmas.List.{take_more}
-use Rattle.ib_logrec.specs.declared.write.Write.{Write}
-use Rattle.ib_logrec.specs.Places.{stored}
-use Rattle.ib_logrec.proofs.PlaceLaws.{stored-append}
+use Rattle.std.proofs.lemmas.List.{get_or_default, take_more}
+use Rattle.ib_map.specs.declared.write.Write.{Write}
+use Rattle.ib_map.specs.Writes.{page_at, index_at, stored}
+use Rattle.ib_map.proofs.WriteLaws.{stored-append}
+use Rattle.ib_page.specs.Memory.{image_at, word_at}
 
-one_more : (words : List ℕ) (w : Write) (place word : ℕ) → place < length words → get_or (set words w.place w.value) place 0 ≡ stored (w ∷ []) place (get_or words place 0)
-one_more words w place word lt = elim (cases_eq w.place place) [
-  | inl same ↦ rw (eq-eqb w.place place same, same) (get_or-set_same words place w.value 0 lt)
-  | inr other ↦ rw (ne_eqb w.place place other) (get_or-set_other words w.place place w.value 0 (λ e. other (sym e)))
+-- memory with another word at a place
+abbrev pub with_word : List (List ℕ) → ℕ → ℕ → List (List ℕ)
+with_word memory place word = set memory (page_at place) (set (image_at memory (page_at place)) (index_at place) word)
+
+-- two places on one page with one index are the same
+same_place : (a b : ℕ) → page_at a ≡ page_at b → index_at a ≡ index_at b → a ≡ b
+same_place a b page index = omega arith
+
+one_more : (memory : List (List ℕ)) (w : Write) (place : ℕ) → page_at w.place < length memory → index_at w.place < length (image_at memory (page_at w.place))
+    → word_at (with_word memory w.place w.value) place ≡ stored (w ∷ []) place (word_at memory place)
+one_more memory w place page index = elim (cases_eq (page_at place) (page_at w.place)) [
+  | inl same ↦
+      let image : image_at (with_word memory w.place w.value) (page_at place) ≡ set (image_at memory (page_at w.place)) (index_at w.place) w.value =
+      ap (image_at (with_word memory w.place w.value)) same ∙ get_or-set_same memory (page_at w.place) (set (image_at memory (page_at w.place)) (index_at w.place) w.value) [] page in
+      elim (cases_eq (index_at place) (index_at w.place)) [
+        | inl at ↦
+            let here = same_place w.place place (sym same) (sym at) in
+            rw (eq-eqb w.place place here, image, at) (get_or-set_same (image_at memory (page_at w.place)) (index_at w.place) w.value 0 index)
+        | inr other ↦
+            let apart : w.place ≡ place → ⊥ = λ e. other (ap index_at (sym e)) in
+            rw (ne_eqb w.place place apart, image, same) (get_or-set_other (image_at memory (page_at w.place)) (index_at w.place) (index_at place) w.value 0 other)
+      ]
+  | inr other ↦
+      let apart : w.place ≡ place → ⊥ = λ e. other (ap page_at (sym e)) in
+      let image = get_or-set_other memory (page_at w.place) (page_at place) (set (image_at memory (page_at w.place)) (index_at w.place) w.value) [] other in
+      rw (ne_eqb w.place place apart, image) (λ _. word_at memory place)
 ]
 
-pub stored-more : (words : List ℕ) (ws : List Write) (i : ℕ) (d : Write) (place word : ℕ) → i < length ws → place < length words
-    → get_or words place 0 ≡ stored (take i ws) place word → get_or (set words (get_or ws i d).place (get_or ws i d).value) place 0 ≡ stored (take (i + 1) ws) place word
-stored-more words ws i d place word lt within so_far =
-    one_more words (get_or ws i d) place word within ∙ ap (stored (get_or ws i d ∷ []) place) so_far
-    ∙ sym (stored-append (take i ws) (get_or ws i d ∷ []) place word) ∙ ap (λ (vs : List Write). stored vs place word) (sym (take_more ws i d lt))
+-- one more write, which makes `after` of the image on its page
+pub stored-more : (memory : List (List ℕ)) (ws : List Write) (i : ℕ) (d : Write) (page index : ℕ) (image after : List ℕ) (place word : ℕ) → i < length ws
+    → page ≡ page_at (get_or ws i d).place → index ≡ index_at (get_or ws i d).place → page < length memory → index < length (get_or memory page image)
+    → after ≡ set (get_or memory page image) index (get_or ws i d).value
+    → word_at memory place ≡ stored (take i ws) place word → word_at (set memory page after) place ≡ stored (take (i + 1) ws) place word
+stored-more memory ws i d page index image after place word lt on at within inside is so_far =
+    let w : Write = get_or ws i d in
+    let same : get_or memory page image ≡ image_at memory page = get_or_default memory page image [] within in
+    let here : get_or memory page image ≡ image_at memory (page_at w.place) = same ∙ ap (image_at memory) on in
+    let one = one_more memory w place (subst (λ p. p < length memory) on within) (subst (λ (xs : List ℕ). index_at w.place < length xs) here (subst (λ k. k < length (get_or memory page image)) at inside)) in
+    let form : set memory page after ≡ with_word memory w.place w.value =
+    ap (λ (xs : List ℕ). set memory page xs) (is ∙ ap (λ (xs : List ℕ). set xs index w.value) same)
+    ∙ ap₂ (λ p k. set memory p (set (image_at memory p) k w.value)) on at in
+    ap (λ (m : List (List ℕ)). word_at m place) form ∙ one ∙ ap (stored (w ∷ []) place) so_far
+    ∙ sym (stored-append (take i ws) (w ∷ []) place word) ∙ ap (λ (vs : List Write). stored vs place word) (sym (take_more ws i d lt))

@@ -2,7 +2,7 @@
 use Rattle.std.specs.Prelude.{ℕ, ◌*◌, ◌%◌, ◌^◌, ◌<◌, ◌==◌, List, All, ◌∷◌, length, drop, nat_le, Option}
 use Rattle.std.specs.List.{flat_map}
 use Rattle.byteorder.specs.Endian.{big_bytes, big_number}
-use Rattle.ib_layout.specs.Geometry.{has_pages}
+use Rattle.ib_map.specs.Space.{has_pages}
 use Rattle.ib_logrec.specs.declared.fault.LogFault.{LogFault}
 use Rattle.ib_logrec.specs.declared.fault.LogFault.TheVariants.{OddLength, Short, BadFile}
 use Rattle.ib_logrec.specs.Grammar.{unless, ◌or◌}

@@ -1,6 +1,6 @@
 -- Raw logs: bytes that are the file of a lawful log, and what is wrong with bytes that are not.
 use Rattle.std.specs.Prelude.{◌≡◌, ◌⊎◌, ℕ, List, Some, true}
-use Rattle.ib_layout.specs.Geometry.{has_pages}
+use Rattle.ib_map.specs.Space.{has_pages}
 use Rattle.ib_logrec.specs.declared.entry.Entry.{Entry}
 use Rattle.ib_logrec.specs.declared.fault.LogFault.{LogFault}
 use Rattle.ib_logrec.specs.Log.{log_words}
@@ -15,7 +15,7 @@ pub record IsRawLog (bytes : List ℕ) (pages : ℕ) (log : List Entry) : Type 0
   pub file : bytes ≡ file_of pages (log_words log)
 
 -- the bytes are the file of these entries, and the memory is the one after them
-abbrev pub IsReplayed : List ℕ → List Entry → List ℕ → Type 0
+abbrev pub IsReplayed : List ℕ → List Entry → List (List ℕ) → Type 0
 IsReplayed bytes log memory = (pages : ℕ) × IsRawLog bytes pages log × IsMemory pages log memory
 
 -- the bytes are the file of words of which this is the first fault

@@ -1,14 +1,13 @@
 //! A log as a file: 64-bit numbers, the highest byte first.
 
 ghost use Rattle.std.specs.Prelude.{◌≡◌, ◌+◌, ◌*◌, ◌%◌, ℕ, List, None, true, length, IfOk, IfErr, OnOk, MatchResult};
-ghost use Rattle.ib_layout.specs.Geometry.{has_pages};
+ghost use Rattle.ib_map.specs.Space.{has_pages};
 ghost use Rattle.ib_logrec.specs.Grammar.{IsFault};
 ghost use Rattle.ib_replay.specs.Files.{LogFile, AreWords, word_bytes, file_of, file_fault};
 
 use byteorder::{BigEndian, ByteOrder};
-use ib_layout::LEAST_PAGES;
-use ib_levels::MOST_PAGES;
 use ib_logrec::LogFault;
+use ib_map::{LEAST_PAGES, MOST_PAGES};
 use std::alloc::{AllocError, Global};
 use std::marker::Model;
 

@@ -3,8 +3,9 @@
 ghost use Rattle.std.specs.Prelude.{◌≡◌, ◌+◌, ◌*◌, ◌^◌, ◌<◌, ◌≤◌, ℕ, [], ◌∷◌, ◌++◌, length, slice_index, slice_set, true, List, MatchResult, IfOk, OnOk, IfErr, All};
 ghost use Rattle.ib_map.specs.Map.{answer_of, effect_of, is_made};
 ghost use Rattle.ib_map.specs.declared.TheConstants.{PAGE_WORDS};
-ghost use Rattle.ib_layout.specs.Geometry.{has_pages};
-ghost use Rattle.ib_logrec.specs.Places.{stored, PlacesRise};
+ghost use Rattle.ib_map.specs.Space.{has_pages};
+ghost use Rattle.ib_map.specs.Writes.{stored};
+ghost use Rattle.ib_page.specs.Memory.{word_at};
 ghost use Rattle.ib_logrec.specs.Grammar.{IsFault};
 ghost use Rattle.ib_logrec.specs.declared.entry.Entry.{Entry};
 ghost use Rattle.ib_logrec.specs.Log.{log_words, map_of};
@@ -84,15 +85,15 @@ fn put_entry(
 ) -> Result<(), LogFault>
     requires session { entry.session < length counts.old }
     requires number { 1 ≤ entry.number }
-    requires places { All (λ w. w.place < length replayed.old.memory) entry.writes }
+    requires places { All (λ w. w.place < length replayed.old.memory * PAGE_WORDS) entry.writes }
     ensures numbered { OnOk result (entry.number ≡ slice_index counts.old entry.session + 1) }
     ensures made { OnOk result (is_made (answer_of replayed.old.map entry.change) ≡ true) }
     ensures entries { OnOk result (replayed.new.entries.items ≡ replayed.old.entries.items ++ entry ∷ []) }
     ensures map { OnOk result (replayed.new.map ≡ effect_of replayed.old.map entry.change) }
     ensures counts { OnOk result (counts.new ≡ slice_set counts.old entry.session entry.number) }
     ensures size { OnOk result (length replayed.new.memory ≡ length replayed.old.memory) }
-    ensures memory { OnOk result ((at : ℕ) → at < length replayed.old.memory
-        → slice_index replayed.new.memory at ≡ stored entry.writes at (slice_index replayed.old.memory at)) }
+    ensures memory { OnOk result ((at : ℕ) → at < length replayed.old.memory * PAGE_WORDS
+        → word_at replayed.new.memory at ≡ stored entry.writes at (word_at replayed.old.memory at)) }
     ensures fault { IfErr result (IsFault (change_fault place (slice_index counts.old entry.session) replayed.old.map entry)) }
 {
     if entry.number - 1 != counts[entry.session as usize] {

@@ -1,71 +1,84 @@
-//! The words of all pages while a log is replayed.
+//! The images of all pages while a log is replayed.
 
-ghost use Rattle.std.specs.Prelude.{◌≡◌, ◌*◌, ◌<◌, ◌≤◌, ℕ, All, length, slice_index, replicate, true, IfOk};
+ghost use Rattle.std.specs.Prelude.{◌≡◌, ◌*◌, ◌<◌, ◌≤◌, ℕ, All, length, map, true, IfOk};
+ghost use Rattle.std.specs.List.{range_with_len};
 ghost use Rattle.ib_map.specs.declared.TheConstants.{PAGE_WORDS};
-ghost use Rattle.ib_layout.specs.Geometry.{has_pages};
-ghost use Rattle.ib_logrec.specs.Places.{stored};
-ghost use Rattle.ib_replay.specs.Replays.{opening};
+ghost use Rattle.ib_map.specs.Space.{has_pages};
+ghost use Rattle.ib_map.specs.Writes.{stored};
+ghost use Rattle.ib_page.specs.Memory.{word_at};
+ghost use Rattle.ib_page.specs.Opening.{opening_words};
 
-use ib_logrec::Write;
-use ib_map::PAGE_WORDS;
+use ib_map::Write;
+use ib_page::{Image, opening_image};
 use std::alloc::{AllocError, Global};
 use std::marker::Model;
 
-/// The words of all pages, by place: a page's number times `PAGE_WORDS`, plus the word's index there.
-#[derive(Debug, Drop)]
+/// The pages of a space: an image for each, by number.
+#[derive(Drop)]
 pub struct Memory {
-    words: Vec<u64>,
+    images: Vec<Image>,
 }
 
 impl Model for Memory {
     ghost use Rattle.std.specs.Prelude.{ℕ, List};
 
-    ghost Value = { List ℕ };
+    ghost Value = { List (List ℕ) };
 
-    ghost view = { λ m. m.words.items };
+    ghost view = { λ m. m.images.items };
 }
 
 impl Memory {
-    /// The words by place.
-    pub fn words(&self) -> &[u64]
+    /// The images, by page.
+    pub fn images(&self) -> &[Image]
         ensures { result.now ≡ self.now }
     {
-        &self.words
+        &self.images
     }
 
-    // The memory at opening: pages 0 and 1 are taken, page 1 is an empty leaf, and all else is 0.
-    pub(crate) fn opening(alloc: Global, pages: u32) -> Result<Memory, AllocError>
-        requires { has_pages pages ≡ true }
-        ensures size { IfOk result (λ memory. length memory ≡ pages * PAGE_WORDS) }
-        ensures words { IfOk result (λ memory. (place : ℕ) → place < pages * PAGE_WORDS → slice_index memory place ≡ opening place) }
+    /// These images. It takes no memory.
+    pub fn from_images(images: Vec<Image>) -> Memory
+        ensures { result ≡ images.items }
     {
-        let mut words = zeros(alloc, pages as usize * PAGE_WORDS)?;
-        words[0] = 3;
-        words[PAGE_WORDS] = 1;
-        Ok(Memory { words })
+        Memory { images }
+    }
+
+    /// The images again. It takes no memory.
+    pub fn into_images(self) -> Vec<Image>
+        ensures { result.items ≡ self }
+    {
+        let Memory { images } = self;
+        images
+    }
+
+    // The pages of a new space.
+    pub(crate) fn opening(alloc: Global, pages: u32) -> Result<Memory, AllocError>
+        ensures { IfOk result (λ memory. memory ≡ map opening_words (range_with_len 0 pages)) }
+    {
+        let mut images = Vec::with_capacity(alloc, pages as usize)?;
+        for page in 0..pages {
+            images.push(opening_image(page))?;
+        }
+        Ok(Memory { images })
     }
 
     // Stores the writes, in order.
     pub(crate) fn store(&mut self, writes: &[Write])
-        requires { All (λ w. w.place < length self.old) writes.now }
+        requires { All (λ w. w.place < length self.old * PAGE_WORDS) writes.now }
         ensures size { length self.new ≡ length self.old }
-        ensures words { (place : ℕ) → place < length self.old → slice_index self.new place ≡ stored writes.now place (slice_index self.old place) }
+        ensures words { (place : ℕ) → place < length self.old * PAGE_WORDS
+            → word_at self.new place ≡ stored writes.now place (word_at self.old place) }
     {
-        store(&mut self.words, writes);
+        store(&mut self.images, writes);
     }
 }
 
-fn zeros(alloc: Global, count: usize) -> Result<Vec<u64>, AllocError>
-    ensures { IfOk result (λ v. v.items ≡ replicate count 0) }
-{
-    Ok(vec![in alloc; 0; count]?)
-}
-
-fn store(words: &mut [u64], writes: &[Write])
-    requires { All (λ w. w.place < length words.old) writes.now }
-    ensures { (place : ℕ) → place < length words.old → slice_index words.new place ≡ stored writes.now place (slice_index words.old place) }
+fn store(images: &mut [Image], writes: &[Write])
+    requires { All (λ w. w.place < length images.old * PAGE_WORDS) writes.now }
+    ensures { (place : ℕ) → place < length images.old * PAGE_WORDS
+        → word_at images.new place ≡ stored writes.now place (word_at images.old place) }
 {
     for write in writes {
-        words[write.place as usize] = write.value;
+        let image = &mut images[write.page() as usize];
+        image.set_word(write.index(), write.value);
     }
 }

@@ -84,11 +84,13 @@ fn a_log_is_replayed(rt: HostRuntime) -> Result<(), Fail> {
     assert_eq!(rt; replayed.entries.len(), 2);
     assert_eq!(rt; replayed.map.len(), 2);
     assert_eq!(rt; replayed.map.get(11), Some(110));
-    let words = replayed.memory.words();
-    assert_eq!(rt; words.len(), 2048);
-    assert_eq!(rt; words[0], 3);
-    assert_eq!(rt; &words[128..134], [1, 0, 1, 0, 0, 2].as_slice());
-    assert_eq!(rt; &words[136..140], [10, 100, 11, 110].as_slice());
+    let images = replayed.memory.images();
+    assert_eq!(rt; images.len(), 16);
+    assert_eq!(rt; images[0].word(0), 3);
+    assert_eq!(rt; images[1].word(8), 10);
+    assert_eq!(rt; images[1].word(5), 2);
+    assert_eq!(rt; images[1].word(10), 11);
+    assert_eq!(rt; images[1].word(11), 110);
     Ok(())
 }
 

@@ -5,7 +5,7 @@ use Rattle.std.specs.List.{AllByRecursion}
 use Rattle.std.proofs.lemmas.Bool.{leb-true}
 use Rattle.ib_core.specs.declared.event.Event.{Event}
 use Rattle.ib_core.specs.declared.event.Event.TheVariants.{S, Sx, X, Us, Usx, Ux, Arm, Flag, Again, Quit, Sleep, Ready, Exarm, Look, Clear, Raise}
-use Rattle.ib_core.specs.Replies.{latch_of}
+use Rattle.ib_core.specs.Responses.{latch_of}
 use Rattle.ib_levels.specs.declared.level.Level.{Level}
 use Rattle.ib_levels.specs.declared.level.Mode.{Mode}
 use Rattle.ib_script.specs.Events.{EventReading, IsInRange, ◌>>=◌, events_in, event_of, event_word, event_reading_of, event_reading_of_fields, latch_alone, latch_at_level, latch_in, latch_in_mode, level_in, mode_in, number_in, session_in, worded}

@@ -5,7 +5,7 @@ use Rattle.ib_levels.specs.declared.level.Level.{Level}
 use Rattle.ib_levels.specs.declared.level.Level.TheVariants.{Log, PageNew, Space as SpaceLevel, TreeNode, IndexTree}
 use Rattle.ib_levels.specs.declared.level.Mode.{Mode}
 use Rattle.ib_levels.specs.declared.level.Mode.TheVariants.{S as ModeS, Sx as ModeSx, X as ModeX}
-use Rattle.ib_core.specs.Replies.{latch_of}
+use Rattle.ib_core.specs.Responses.{latch_of}
 use Rattle.ib_core.specs.declared.event.Event.{Event}
 use Rattle.ib_core.specs.declared.event.Event.TheVariants.{S, Sx, X, Us, Usx, Ux, Arm, Flag, Again, Quit, Sleep, Ready, Exarm, Look, Clear, Raise}
 use Rattle.ib_script.specs.Lines.{lines_of, fields_of, first_bad}

@@ -2,8 +2,9 @@
 use Rattle.std.specs.Prelude.{◌≡◌, ℕ, ◌≤◌, ◌+◌, List, [], ◌∷◌, Bool, true, false, Option, Some, None, Result, Ok, Err, codes, bytes_eq, nat_le, nat_lt, ◌&&◌, ◌||◌, not, ◌==◌, length, map, filter, count_by, max, fold, sum_by, slice_index_or, if◌then◌else◌}
 use Rattle.std.specs.List.{list_all}
 use denote.Ref.{Bor}
-use Rattle.ib_layout.specs.Geometry.{Sizes, has_pages, has_log}
-use Rattle.ib_levels.specs.declared.latch.TheConstants.{MOST_PAGES}
+use Rattle.ib_layout.specs.Geometry.{Sizes, has_log}
+use Rattle.ib_map.specs.Space.{has_pages}
+use Rattle.ib_map.specs.declared.TheConstants.{MOST_PAGES}
 use Rattle.ib_layout.specs.declared.geometry.TheConstants.{MOST_LOG_WORDS}
 use Rattle.ib_map.specs.declared.call.Call.{Call}
 use Rattle.ib_map.specs.declared.call.Call.TheVariants.{Insert, Delete, Get, Scan}

@@ -13,8 +13,12 @@ use ib_levels::{Level, Mode};
 /// The greatest number of a latch that an event may be about.
 pub const MOST_LATCH: u32 = 15;
 
+const _: () = prove!(MOST_LATCH == 15);
+
 /// The most events that are read.
 pub const MOST_EVENTS: u32 = 1_000_000;
+
+const _: () = prove!(MOST_EVENTS == 1_000_000);
 
 /// An event's word.
 #[derive(Clone, Copy, Debug, PartialEq, Eq)]

@@ -12,11 +12,17 @@ use ib_map::Call;
 /// The greatest session that a script may have. The least is 1.
 pub const MOST_SCRIPT_SESSIONS: u32 = 64;
 
+const _: () = prove!(MOST_SCRIPT_SESSIONS == 64);
+
 /// How many commands a script may have.
 pub const MOST_COMMANDS: u32 = 1_000_000;
 
+const _: () = prove!(MOST_COMMANDS == 1_000_000);
+
 /// How many of its commands may be scans.
 pub const MOST_SCANS: u32 = 100_000;
+
+const _: () = prove!(MOST_SCANS == 100_000);
 
 /// What is wrong with a line.
 #[derive(Clone, Copy, Debug, PartialEq, Eq)]

@@ -3,13 +3,13 @@ use Rattle.std.proofs.Common.{◌≡◌, ◌∙◌, ℕ, ◌+◌, ◌<◌, List,
 use Rattle.std.specs.Prelude.{fold}
 use Rattle.std.proofs.lemmas.List.{append-nil, take_more}
 use Rattle.ib_core.specs.Machine.{CoreState}
-use Rattle.ib_core.specs.Runs.{state_after}
+use Rattle.ib_core.specs.Actions.{state_after}
 use Rattle.ib_core.specs.declared.event.Event.{Event}
-use Rattle.ib_tool.specs.Latching.{call_of, line_of, lines_from}
+use Rattle.ib_tool.specs.Latching.{action_of, line_of, lines_from}
 
 -- the state after one event
 abbrev pub state_with : CoreState → ℕ × Event → CoreState
-state_with state at = state_after state (call_of at ∷ [])
+state_with state at = state_after state (action_of at ∷ [])
 
 lines_from-push : (state : CoreState) (events : List (ℕ × Event)) (at : ℕ × Event) → lines_from state (events ++ at ∷ []) ≡ lines_from state events ++ line_of (fold state_with state events) at
 lines_from-push state [] at = append-nil (line_of state at)

@@ -8,8 +8,8 @@ use Rattle.ib_map.specs.Keys.{MapKey, rank}
 use Rattle.ib_map.specs.Pairs.{Pairs, put, without, value_at, cut}
 use Rattle.ib_map.specs.Map.{answer_of, effect_of, lookup_of, delete_answer, lookup_answer, is_made}
 use Rattle.ib_map.specs.History.{History, changes_of, map_after}
-use Rattle.ib_map.specs.Replies.{FullRecord, Span, Fits, FitsCall, FitsSpan, pair_count, FitsChange, IsEntryOf, change_of}
-use Rattle.ib_map.specs.Runs.{change_made, first_place}
+use Rattle.ib_map.specs.Replies.{FullRecord, Span, Fits, FitsCall, FitsSpan, BeginsAt, pair_count, FitsChange, IsEntryOf, change_of}
+use Rattle.ib_map.specs.Runs.{reach_of, change_made, first_place}
 use Rattle.ib_map.specs.declared.call.Call.{Call}
 use Rattle.ib_map.specs.declared.call.Call.TheVariants.{Insert, Delete, Get, Scan}
 use Rattle.ib_map.specs.declared.call.Change.{Change}
@@ -19,8 +19,9 @@ use Rattle.ib_map.specs.declared.call.Reply.{Reply}
 use Rattle.ib_map.specs.declared.call.Reply.TheVariants.{Inserted, Duplicate, Deleted, Missing, Found, NotFound, LogFull, SpaceFull, TooHigh, Scanned}
 use Rattle.ib_map.proofs.HistoryLaws.{map_after-append, map_after-length, map_with-push, changes_of-own, slice_get-last, IsLegalHistory-push}
 use Rattle.ib_map.proofs.PairLaws.{without-none}
-use Rattle.ib_map.proofs.RunLaws.{IsLegalSession-other, IsLegalSession-own, IsLegalSession-more}
-use Rattle.ib_tool.specs.PlainRun.{HasRun, IsPlain, calls_in, is_refusal, log_with, plain_answer, plain_effect, plain_log, scan_spans}
+use Rattle.ib_map.proofs.RunLaws.{reach_of-within, IsLegalSession-other, IsLegalSession-own, IsLegalSession-more}
+use Rattle.ib_map.proofs.FitsLaws.{Fits-stays}
+use Rattle.ib_tool.specs.PlainRun.{HasRun, IsPlain, calls_in, is_refusal, log_with, plain_answer, plain_effect, plain_log}
 
 -- the replies that a map gives to a change
 is_answer : Reply → Bool
@@ -110,15 +111,19 @@ module _ (session start : ℕ) (calls : List Call) (old h : History) (m : Pairs)
   now : m ≡ map_after h (length h)
   now = so_far.run.map_is ∙ sym (map_after-length h)
 
+  -- the session has seen no more than all of it
+  within : reach_of 0 rs ≤ length h
+  within = reach_of-within Fits Fits-stays h session rs so_far.run.answers
+
   -- a record that made no change
-  still : (r : FullRecord) → Fits h session r → IsPlain r → change_made r ≡ None → length h ≤ r.place → length h ≤ first_place r
+  still : (r : FullRecord) → Fits h session (reach_of 0 rs) r → IsPlain r → change_made r ≡ None → reach_of 0 rs ≤ r.place → reach_of 0 rs ≤ first_place r
       → IsRunning session start (calls ++ r.call ∷ []) old h m (rs ++ r ∷ [])
   still r fits plain none at first = record {
     run = record {
       same_calls = calls_in-push rs r ∙ ap (λ cs. cs ++ r.call ∷ []) so_far.run.same_calls;
       legal = so_far.run.legal;
       map_is = so_far.run.map_is;
-      answers = IsLegalSession-more h session rs so_far.run.answers r fits none at first;
+      answers = IsLegalSession-more Fits Fits-stays h session rs so_far.run.answers r fits none at first;
       plain = AllByRecursion-push IsPlain rs r so_far.run.plain plain;
       others = so_far.run.others;
       longer = let le = so_far.run.longer in omega (arith, length-append calls (r.call ∷ []));
@@ -129,7 +134,7 @@ module _ (session start : ℕ) (calls : List Call) (old h : History) (m : Pairs)
 
   -- a change that is refused as the map says
   refused : (call : Call) (change : Change) → change_of call ≡ Some change → is_made (answer_of m change) ≡ false
-      → ((reply : Reply) → FitsChange h session change reply (length h) → FitsCall h session call reply (length h) [])
+      → ((reply : Reply) → FitsChange h session change reply (length h) → FitsCall h session (reach_of 0 rs) call reply (length h) [])
       → IsRunning session start (calls ++ call ∷ []) old h m (rs ++ record { call = call; reply = answer_of m change; place = length h; spans = [] } ∷ [])
   refused call change asks not_made fits =
       let reply = answer_of m change in
@@ -138,12 +143,12 @@ module _ (session start : ℕ) (calls : List Call) (old h : History) (m : Pairs)
       still (record { call = call; reply = reply; place = length h; spans = [] })
       (omega arith, fits reply (fits_answer h session change (length h) reply e ok (λ made. absurd (cc))))
       (record { done = not_refused reply ok; at_once = omega arith })
-      (rw not_made refl) (omega arith) (omega arith)
+      (rw not_made refl) within within
 
   -- a change that was made
   changed : (call : Call) (change : Change) (number : ℕ) → change_of call ≡ Some change → is_made (answer_of m change) ≡ true → number ≡ length (changes_of session h) + 1
       → let entry : LoggedChange = record { session = session; number = number; change = change } in
-      ((reply : Reply) → FitsChange (h ++ entry ∷ []) session change reply (length h) → FitsCall (h ++ entry ∷ []) session call reply (length h) [])
+      ((reply : Reply) → FitsChange (h ++ entry ∷ []) session change reply (length h) → FitsCall (h ++ entry ∷ []) session (reach_of 0 rs) call reply (length h) [])
       → IsRunning session start (calls ++ call ∷ []) old (h ++ entry ∷ []) (effect_of m change) (rs ++ record { call = call; reply = answer_of m change; place = length h; spans = [] } ∷ [])
   changed call change number asks made numbered fits =
       let entry : LoggedChange = record { session = session; number = number; change = change } in
@@ -154,16 +159,16 @@ module _ (session start : ℕ) (calls : List Call) (old h : History) (m : Pairs)
       let at : map_after (h ++ entry ∷ []) (length h) ≡ m = map_after-append h (entry ∷ []) (length h) (omega arith) ∙ sym now in
       let e : answer_of (map_after (h ++ entry ∷ []) (length h)) change ≡ reply = ap (λ z. answer_of z change) at in
       let here : IsEntryOf (h ++ entry ∷ []) (length h) session change = (entry, slice_get-last h entry, refl, refl) in
-      let fits_now : Fits (h ++ entry ∷ []) session r = (omega arith, fits reply (fits_answer (h ++ entry ∷ []) session change (length h) reply e ok (λ _. here))) in
+      let fits_now : Fits (h ++ entry ∷ []) session (reach_of 0 rs) r = (omega arith, fits reply (fits_answer (h ++ entry ∷ []) session change (length h) reply e ok (λ _. here))) in
       let made_now : change_made r ≡ Some change = rw made asks in
       record {
         run = record {
           same_calls = calls_in-push rs r ∙ ap (λ cs. cs ++ call ∷ []) so_far.run.same_calls;
           legal = IsLegalHistory-push h entry so_far.run.legal (ap (λ z. is_made (answer_of z change)) (sym now) ∙ made) numbered;
           map_is = ap (λ z. effect_of z change) so_far.run.map_is ∙ sym (map_with-push [] h entry);
-          answers = IsLegalSession-own h session rs so_far.run.answers entry r refl fits_now made_now (omega arith) (omega arith);
+          answers = IsLegalSession-own Fits Fits-stays h session rs so_far.run.answers entry r refl fits_now made_now within within;
           plain = AllByRecursion-push IsPlain rs r so_far.run.plain (record { done = not_refused reply ok; at_once = omega arith });
-          others = λ other qs ne legal. IsLegalSession-other h other qs (so_far.run.others other qs ne legal) entry (λ same. ne (sym same));
+          others = λ other qs ne legal. IsLegalSession-other Fits Fits-stays h other qs (so_far.run.others other qs ne legal) entry (λ same. ne (sym same));
           longer = let le = so_far.run.longer in omega (arith, length-append calls (call ∷ []));
         };
         counted = let c = so_far.counted in omega (arith, ap length (changes_of-own session h entry refl), length-append (changes_of session h) (change ∷ []));
@@ -172,7 +177,7 @@ module _ (session start : ℕ) (calls : List Call) (old h : History) (m : Pairs)
 
   -- a call that asks for a change
   asked : (call : Call) (change : Change) (number : ℕ) → change_of call ≡ Some change → number ≡ length (changes_of session h) + 1
-      → ((k : History) (reply : Reply) → FitsChange k session change reply (length h) → FitsCall k session call reply (length h) [])
+      → ((k : History) (reply : Reply) → FitsChange k session change reply (length h) → FitsCall k session (reach_of 0 rs) call reply (length h) [])
       → IsRunning session start (calls ++ call ∷ []) old (log_with h (record { session = session; number = number; change = change }) (answer_of m change)) (effect_of m change)
       (rs ++ record { call = call; reply = answer_of m change; place = length h; spans = [] } ∷ [])
   asked call change number asks numbered fits =
@@ -189,30 +194,30 @@ module _ (session start : ℕ) (calls : List Call) (old h : History) (m : Pairs)
             (subst (λ (z : Pairs). IsRunning session start (calls ++ call ∷ []) old h z more) (sym f) (refused call change asks not_made (fits h)))
       ]
 
-  looked_up : (key : MapKey) → IsRunning session start (calls ++ Get key ∷ []) old h m (rs ++ plain_answer m (Get key) (length h) ∷ [])
+  looked_up : (key : MapKey) → IsRunning session start (calls ++ Get key ∷ []) old h m (rs ++ plain_answer m (Get key) (length h) (reach_of 0 rs) ∷ [])
   looked_up key =
-      still (plain_answer m (Get key) (length h)) (omega arith, (ap (λ z. lookup_of z key) now, refl))
-      (record { done = lookup_not_refused (value_at key m); at_once = omega arith }) (no_change (is_made (lookup_of m key))) (omega arith) (omega arith)
+      still (plain_answer m (Get key) (length h) (reach_of 0 rs)) (omega arith, (ap (λ z. lookup_of z key) now, refl))
+      (record { done = lookup_not_refused (value_at key m); at_once = omega arith }) (no_change (is_made (lookup_of m key))) within within
 
-  scanned : (low high : MapKey) → IsRunning session start (calls ++ Scan low high ∷ []) old h m (rs ++ plain_answer m (Scan low high) (length h) ∷ [])
+  scanned : (low high : MapKey) → IsRunning session start (calls ++ Scan low high ∷ []) old h m (rs ++ plain_answer m (Scan low high) (length h) (reach_of 0 rs) ∷ [])
   scanned low high =
-      let answered : List Span → FullRecord = λ spans. record { call = Scan low high; reply = Scanned (length spans) (pair_count spans); place = length h; spans = spans } in
-      let P : List Span → Type 0 = λ spans. IsRunning session start (calls ++ Scan low high ∷ []) old h m (rs ++ answered spans ∷ []) in
       let one : Span = record { low = low; high = high; place = length h; pairs = cut m low high } in
+      let spans : Bool → List Span = λ b. if b then one ∷ [] else [] in
+      let answered : Bool → FullRecord =
+      λ b. record { call = Scan low high; reply = Scanned (length (spans b)) (pair_count (spans b)); place = if b then length h else reach_of 0 rs; spans = spans b } in
+      let P : Bool → Type 0 = λ b. IsRunning session start (calls ++ Scan low high ∷ []) old h m (rs ++ answered b ∷ []) in
       elim (cases_lt (rank high) (rank low)) [
-        | inl lt ↦
-            let e : scan_spans m low high (length h) ≡ [] = ap (λ b. if b then one ∷ [] else []) (lt-leb (rank low) (rank high) lt) in
-            subst P (sym e) (still (answered []) (omega arith, (refl, lt)) (record { done = refl; at_once = omega arith }) refl (omega arith) (omega arith))
+        | inl lt ↦ subst P (sym (lt-leb (rank low) (rank high) lt)) (still (answered false) (within, (refl, (lt, refl))) (record { done = refl; at_once = omega arith }) refl (omega arith) (omega arith))
         | inr le ↦
-            let e : scan_spans m low high (length h) ≡ one ∷ [] = ap (λ b. if b then one ∷ [] else []) (le-leb (rank low) (rank high) le) in
             let chunk : FitsSpan h one = (omega arith, ap (λ z. cut z low high) now) in
-            subst P (sym e) (still (answered (one ∷ [])) (omega arith, (refl, (le, (refl, omega arith, chunk, refl, refl)))) (record { done = refl; at_once = omega arith }) refl (omega arith) (omega arith))
+            let begins : BeginsAt h low 0 one = record { begins = refl; ends = le; placed = omega arith; holds = chunk } in
+            subst P (sym (le-leb (rank low) (rank high) le)) (still (answered true) (omega arith, (refl, (le, (begins, refl, refl)))) (record { done = refl; at_once = omega arith }) refl within within)
       ]
 
 -- one more call, answered at the end of the history
 pub running-more : (session start : ℕ) (calls : List Call) (old h : History) (m : Pairs) (rs : List FullRecord) (call : Call) (number : ℕ)
     → IsRunning session start calls old h m rs → number ≡ length (changes_of session h) + 1
-    → IsRunning session start (calls ++ call ∷ []) old (plain_log h m session number (change_of call)) (plain_effect m (change_of call)) (rs ++ plain_answer m call (length h) ∷ [])
+    → IsRunning session start (calls ++ call ∷ []) old (plain_log h m session number (change_of call)) (plain_effect m (change_of call)) (rs ++ plain_answer m call (length h) (reach_of 0 rs) ∷ [])
 running-more session start calls old h m rs (Insert key value) number so_far numbered =
     asked session start calls old h m rs so_far (Insert key value) (InsertChange key value) number refl numbered (λ k reply fits. (fits, refl))
 running-more session start calls old h m rs (Delete key) number so_far numbered =

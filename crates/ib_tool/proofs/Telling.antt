@@ -47,7 +47,7 @@ pub told_refusal : (form : Form) (input : List ℕ) (line : ℕ) (kind : LineKin
 told_refusal form input line kind written now status fault told =
     told_as (OwesRefusal line kind) (AnswersInput form input) IsMemory IsMemory (owed_refusal form input line kind fault) (λ s calm. calm) written now status told
 
-owed_replay : (input : List ℕ) (log : List Entry) (memory : List ℕ) → IsReplayed input log memory → (status : Status) (text : List ℕ) → OwesReplay log status text → AnswersInput Replay input status text
+owed_replay : (input : List ℕ) (log : List Entry) (memory : List (List ℕ)) → IsReplayed input log memory → (status : Status) (text : List ℕ) → OwesReplay log status text → AnswersInput Replay input status text
 owed_replay input log memory is Done text owed = (refl, (is.0, log, is.1, owed))
 owed_replay input log memory is BadLog text owed = absurd owed
 owed_replay input log memory is Usage text owed = absurd owed
@@ -58,7 +58,7 @@ owed_replay input log memory is Memory text owed = absurd owed
 owed_replay input log memory is TooLarge text owed = absurd owed
 
 -- what is told of a raw log that was replayed
-pub told_replay : (input : List ℕ) (log : List Entry) (memory : List ℕ) (written now : Option (List ℕ)) (status : Status) → IsReplayed input log memory
+pub told_replay : (input : List ℕ) (log : List Entry) (memory : List (List ℕ)) (written now : Option (List ℕ)) (status : Status) → IsReplayed input log memory
     → Told (OwesReplay log) IsMemory written now status → Told (AnswersInput Replay input) IsMemory written now status
 told_replay input log memory written now status is told =
     told_as (OwesReplay log) (AnswersInput Replay input) IsMemory IsMemory (owed_replay input log memory is) (λ s calm. calm) written now status told

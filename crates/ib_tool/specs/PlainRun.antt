@@ -40,14 +40,18 @@ abbrev pub scan_spans : Pairs → MapKey → MapKey → ℕ → List Span
 scan_spans m low high place =
     if nat_le (rank low) (rank high) then record { low = low; high = high; place = place; pairs = cut m low high } ∷ [] else []
 
--- what the plain map answers to a call at a place
-abbrev pub plain_answer : Pairs → Call → ℕ → FullRecord
-plain_answer m (Insert key value) place = record { call = Insert key value; reply = answer_of m (InsertChange key value); place = place; spans = [] }
-plain_answer m (Delete key) place = record { call = Delete key; reply = answer_of m (DeleteChange key); place = place; spans = [] }
-plain_answer m (Get key) place = record { call = Get key; reply = lookup_of m key; place = place; spans = [] }
-plain_answer m (Scan low high) place =
+-- where a scan stands: with no chunk at what its session had seen
+abbrev pub scan_place : MapKey → MapKey → ℕ → ℕ → ℕ
+scan_place low high place reach = if nat_le (rank low) (rank high) then place else reach
+
+-- what the plain map answers at a place to a call of a session that has seen so much
+abbrev pub plain_answer : Pairs → Call → ℕ → ℕ → FullRecord
+plain_answer m (Insert key value) place reach = record { call = Insert key value; reply = answer_of m (InsertChange key value); place = place; spans = [] }
+plain_answer m (Delete key) place reach = record { call = Delete key; reply = answer_of m (DeleteChange key); place = place; spans = [] }
+plain_answer m (Get key) place reach = record { call = Get key; reply = lookup_of m key; place = place; spans = [] }
+plain_answer m (Scan low high) place reach =
     let spans = scan_spans m low high place in
-    record { call = Scan low high; reply = Scanned (length spans) (pair_count spans); place = place; spans = spans }
+    record { call = Scan low high; reply = Scanned (length spans) (pair_count spans); place = scan_place low high place reach; spans = spans }
 
 -- what a call makes of the map
 abbrev pub plain_effect : Pairs → Option Change → Pairs

@@ -63,7 +63,7 @@ impl MemSink {
 }
 
 impl Sink for MemSink {
-    ghost use Rattle.std.specs.Prelude.{◌≡◌, ◌<◌, ◌+◌, ◌-◌, ◌^◌, Some, length, min, Contains, IfOk, IsErr};
+    ghost use Rattle.std.specs.Prelude.{◌≡◌, ◌<◌, ◌+◌, ◌-◌, ◌^◌, Some, length, min, Contains, IfOk, IsErr, MatchResult};
     ghost use Rattle.std.specs.Io.{WritesAtMost};
     ghost use Rattle.std.specs.Io.KnownBytes.{WriteAppends};
     ghost use Rattle.ib_script.specs.Faults.{HasCause};
@@ -83,6 +83,8 @@ impl Sink for MemSink {
         ensures fails { Contains self.old.failing self.new.calls → IsErr result }
         ensures count { IfOk result (λ count. count ≡ min (length buf.now) self.old.most) }
         ensures same { (self.new.most ≡ self.old.most) × (self.new.failing ≡ self.old.failing) }
+        ensures faults { MatchResult result (λ _. self.new.faults ≡ self.old.faults)
+            (λ _. self.new.faults ≡ min (self.old.faults + 1) (2 ^ 64 - 1)) }
     {
         self.calls = self.calls.saturating_add(1);
         let count = buf.len().min(self.most);

@@ -58,7 +58,7 @@ impl MemSource {
 }
 
 impl Source for MemSource {
-    ghost use Rattle.std.specs.Prelude.{◌≡◌, ◌↔◌, ◌+◌, ◌-◌, ◌^◌, Some, length, min, Contains, IfOk, IsErr};
+    ghost use Rattle.std.specs.Prelude.{◌≡◌, ◌↔◌, ◌+◌, ◌-◌, ◌^◌, Some, length, min, Contains, IfOk, IsErr, MatchResult};
     ghost use Rattle.std.specs.Io.{ReadsAtMost};
     ghost use Rattle.std.specs.Io.KnownBytes.{ReadConsumes};
     ghost use Rattle.ib_script.specs.Faults.{HasCause};
@@ -78,6 +78,8 @@ impl Source for MemSource {
         ensures count { IfOk result (λ count.
             count ≡ min (min (length self.old.left) (length buf.old)) self.old.most) }
         ensures same { (self.new.most ≡ self.old.most) × (self.new.failing ≡ self.old.failing) }
+        ensures faults { MatchResult result (λ _. self.new.faults ≡ self.old.faults)
+            (λ _. self.new.faults ≡ min (self.old.faults + 1) (2 ^ 64 - 1)) }
     {
         self.calls = self.calls.saturating_add(1);
         if self.failing.contains(&self.calls) {

@@ -3,8 +3,9 @@
 ghost use Rattle.std.specs.Prelude.{◌≡◌, ◌+◌, ◌<◌, ◌^◌, ◌∷◌, ◌++◌, [], OnOk, IfOk, length};
 ghost use Rattle.ib_map.specs.Map.{answer_of, effect_of, lookup_of};
 ghost use Rattle.ib_map.specs.History.{changes_of, map_with, IsLegalHistory};
-ghost use Rattle.ib_map.specs.Replies.{change_of, full_record, pair_count};
-ghost use Rattle.ib_tool.specs.PlainRun.{HasRun, log_with, plain_answer, plain_effect, plain_log, scan_spans};
+ghost use Rattle.ib_map.specs.Replies.{change_of, full_record};
+ghost use Rattle.ib_map.specs.Runs.{reach_after};
+ghost use Rattle.ib_tool.specs.PlainRun.{HasRun, log_with, plain_answer, plain_effect, plain_log, scan_place};
 
 use crate::session_out::SessionOut;
 use ib_map::{Call, Change, Key, LoggedChange, MapFault, PlainMap, Record, Reply, is_below};
@@ -49,35 +50,65 @@ fn look_up(map: &PlainMap, key: Key) -> Reply
     }
 }
 
-// Answers a scan at a place by one chunk from low to high, or by none where low is above high.
+// Answers a scan at a place by one chunk from low to high, or, where low is above high, by none at
+// what the session has seen. Answers where it stands.
 fn scan(
     map: &PlainMap,
     out: &mut SessionOut,
     low: Key,
     high: Key,
     place: u32,
-) -> Result<(), AllocError>
-    ensures { OnOk result (let spans = scan_spans map.now low high place in
-        out.new ≡ out.old ++ record { call = Call.Scan low high; reply = Reply.Scanned (length spans) (pair_count spans); place = place; spans = spans } ∷ []) }
+    reach: u32,
+) -> Result<u32, AllocError>
+    ensures out { OnOk result (out.new ≡ out.old ++ plain_answer map.now (Call.Scan low high) place reach ∷ []) }
+    ensures stands { IfOk result (λ stands. stands ≡ scan_place low high place reach) }
 {
     if is_below(high, low) {
-        return out.push(Record {
+        out.push(Record {
             call: Call::Scan { low, high },
             reply: Reply::Scanned {
                 chunks: 0,
                 pairs: 0,
             },
-            place,
-        });
+            place: reach,
+        })?;
+        return Ok(reach);
     }
     let pairs = map.range(low, high);
     if pairs.len() > u32::MAX as usize {
         return Err(AllocError);
     }
-    out.push_scan(low, high, place, pairs)
+    out.push_scan(low, high, place, pairs)?;
+    Ok(place)
 }
 
-// Answers one call of a session at the end of the log.
+// Makes a change that a call asks for, at the end of the log, and answers how much the session has
+// seen after it.
+fn make_call(
+    map: &mut PlainMap,
+    log: &mut Vec<LoggedChange>,
+    out: &mut SessionOut,
+    call: Call,
+    entry: LoggedChange,
+) -> Result<u32, AllocError>
+    requires room { length log.old.items + 1 < 2 ^ 32 }
+    ensures out { OnOk result (out.new ≡ out.old ++ record { call = call; reply = answer_of map.old entry.change; place = length log.old.items; spans = [] } ∷ []) }
+    ensures map { OnOk result (map.new ≡ effect_of map.old entry.change) }
+    ensures log { OnOk result (log.new.items ≡ log_with log.old.items entry (answer_of map.old entry.change)) }
+    ensures seen { IfOk result (λ seen. seen ≡ length log.new.items) }
+{
+    let before = log.len() as u32;
+    let reply = make_change(map, log, entry)?;
+    out.push(Record {
+        call,
+        reply,
+        place: before,
+    })?;
+    Ok(log.len() as u32)
+}
+
+// Answers one call of a session that has seen so much, at the end of the log, and answers how much
+// it has seen after it.
 fn answer(
     map: &mut PlainMap,
     log: &mut Vec<LoggedChange>,
@@ -85,29 +116,51 @@ fn answer(
     session: u32,
     number: u32,
     call: Call,
-) -> Result<(), AllocError>
-    requires { length log.old.items < 2 ^ 32 }
-    ensures out { OnOk result (out.new ≡ out.old ++ plain_answer map.old call (length log.old.items) ∷ []) }
+    reach: u32,
+) -> Result<u32, AllocError>
+    requires { length log.old.items + 1 < 2 ^ 32 }
+    ensures out { OnOk result (out.new ≡ out.old ++ plain_answer map.old call (length log.old.items) reach ∷ []) }
     ensures map { OnOk result (map.new ≡ plain_effect map.old (change_of call)) }
     ensures log { OnOk result (log.new.items ≡ plain_log log.old.items map.old session number (change_of call)) }
+    ensures seen { IfOk result (λ seen. seen ≡ reach_after (plain_answer map.old call (length log.old.items) reach)) }
 {
     let place = log.len() as u32;
-    let change = match call {
-        Call::Insert { key, value } => Change::Insert { key, value },
-        Call::Delete { key } => Change::Delete { key },
+    match call {
+        Call::Insert { key, value } => {
+            let change = Change::Insert { key, value };
+            make_call(
+                map,
+                log,
+                out,
+                call,
+                LoggedChange {
+                    session,
+                    number,
+                    change,
+                },
+            )
+        }
+        Call::Delete { key } => {
+            let change = Change::Delete { key };
+            make_call(
+                map,
+                log,
+                out,
+                call,
+                LoggedChange {
+                    session,
+                    number,
+                    change,
+                },
+            )
+        }
         Call::Get { key } => {
             let reply = look_up(map, key);
-            return out.push(Record { call, reply, place });
+            out.push(Record { call, reply, place })?;
+            Ok(place)
         }
-        Call::Scan { low, high } => return scan(map, out, low, high, place),
-    };
-    let entry = LoggedChange {
-        session,
-        number,
-        change,
-    };
-    let reply = make_change(map, log, entry)?;
-    out.push(Record { call, reply, place })
+        Call::Scan { low, high } => scan(map, out, low, high, place, reach),
+    }
 }
 
 /// Answers a session's calls, one after another, on the map that the log so far has made.
@@ -127,9 +180,10 @@ pub fn run_session(
 {
     let mut out = SessionOut::new(alloc);
     let start = log.len();
+    let mut reach = 0;
     for call in calls {
         let number = (log.len() - start) as u32 + 1;
-        answer(map, log, &mut out, session, number, *call)?;
+        reach = answer(map, log, &mut out, session, number, *call, reach)?;
     }
     Ok(out)
 }

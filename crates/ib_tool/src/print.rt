@@ -7,7 +7,7 @@ ghost use Rattle.ib_script.specs.Writer.{IsFresh, Puts, sink_name, sink_of};
 
 use crate::run_script::PlainRun;
 use crate::session_out::SessionOut;
-use ib_map::{GREATEST, LEAST};
+use ib_map::{GREATEST, Key, LEAST, PlainMap};
 use ib_script::{Failed, MOST_SCRIPT_SESSIONS, Sink, Writer};
 
 fn print_sessions<K: Sink>(writer: &mut Writer<'_, K>, sessions: &[SessionOut])
@@ -22,13 +22,20 @@ fn print_sessions<K: Sink>(writer: &mut Writer<'_, K>, sessions: &[SessionOut])
     }
 }
 
+// All pairs of a map.
+pub(crate) fn all_pairs(map: &PlainMap) -> &[(Key, u64)]
+    ensures { result.now ≡ map.now }
+{
+    map.range(LEAST, GREATEST)
+}
+
 fn print_parts<K: Sink>(writer: &mut Writer<'_, K>, run: &PlainRun)
     requires { length run.now.sessions.items ≤ MOST_SCRIPT_SESSIONS }
     ensures puts { Puts K.written K.faults writer.old writer.new (output_of run.now.sessions.items run.now.log.items run.now.map) }
 {
     print_sessions(writer, &run.sessions);
     writer.log_part(&run.log);
-    writer.map_part(run.map.range(LEAST, GREATEST));
+    writer.map_part(all_pairs(&run.map));
 }
 
 // All of a run, through a writer that has printed nothing.

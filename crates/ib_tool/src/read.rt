@@ -11,8 +11,12 @@ use thiserror::Error;
 /// The most bytes that one call asks a source for.
 pub const PIECE_BYTES: usize = 65_536;
 
+const _: () = prove!(PIECE_BYTES == 65_536);
+
 /// The longest input that the program reads, in bytes.
 pub const INPUT_BYTES: usize = 67_108_864;
+
+const _: () = prove!(INPUT_BYTES == 67_108_864);
 
 /// Why an input was not read to its end.
 #[derive(Clone, Copy, Debug, PartialEq, Eq, Error)]

@@ -7,8 +7,8 @@ ghost use Rattle.ib_script.specs.Output.{log_text};
 ghost use Rattle.ib_script.specs.Writer.{IsFresh, Puts, sink_name, sink_of};
 ghost use Rattle.ib_tool.specs.Replaying.{entry_line, replay_output};
 
+use crate::print::all_pairs;
 use ib_logrec::Entry;
-use ib_map::{GREATEST, LEAST};
 use ib_replay::Replayed;
 use ib_script::{Failed, Sink, Writer};
 
@@ -38,7 +38,7 @@ fn print_parts<K: Sink>(writer: &mut Writer<'_, K>, replayed: &Replayed)
     ensures puts { Puts K.written K.faults writer.old writer.new (replay_output replayed.now.entries.items) }
 {
     print_log(writer, &replayed.entries);
-    writer.map_part(replayed.map.range(LEAST, GREATEST));
+    writer.map_part(all_pairs(&replayed.map));
 }
 
 // All of it, through a writer that has printed nothing.

@@ -16,12 +16,24 @@ pub const X_LOCK_HALF_DECR: u32 = 0x1000_0000;
 /// What is added to a lock word to make it a cell of the shared table.
 pub const WORD_BIAS: u64 = 1 << 31;
 
-/// The most readers that a latch has: the most sessions, since each reads once at most. It is
-/// below HALF, so readers never make a word look like another state.
+/// The most readers of a latch of which the laws of words speak. It is below HALF, so that many
+/// readers never make a word look like another state.
 pub const MOST_READERS: u32 = 1024;
 
-/// The most grants of X that one session has on a latch.
+/// The most grants of X on a latch of which the laws of words speak. No call keeps to it by
+/// itself: who asks for the state of a word owes that its counts are within.
 pub const MOST_X: u32 = 65_536;
+
+// The laws cite these by name: with another number the check fails here.
+const _: () = prove!(X_LOCK_DECR == 0x2000_0000);
+
+const _: () = prove!(X_LOCK_HALF_DECR == 0x1000_0000);
+
+const _: () = prove!(WORD_BIAS == 0x8000_0000);
+
+const _: () = prove!(MOST_READERS == 1024);
+
+const _: () = prove!(MOST_X == 65_536);
 
 /// The lock word of a latch. A free latch has `X_LOCK_DECR`.
 #[derive(Clone, Copy, PartialEq, Eq, Debug)]
@@ -32,8 +44,8 @@ impl LockWord {
     pub const FREE: LockWord = LockWord(X_LOCK_DECR as i32);
 }
 
-/// The law of lock words, as a contract: a word tells the counts that give it, but for how often its
-/// owner has SX, and that of a free latch tells that there are none.
+/// The law of lock words, as a contract: a word tells the counts that give it, but for how often
+/// its owner has SX, and that of a free latch tells that there are none.
 pub fn word_law()
     ensures unique { (s sx x s' sx' x' : ℕ) → IsWithin s sx x → IsWithin s' sx' x'
         → word_of s sx x ≡ word_of s' sx' x' → SameCounts s sx x s' sx' x' }

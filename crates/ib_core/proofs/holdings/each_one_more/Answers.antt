@@ -3,7 +3,7 @@ use Rattle.std.proofs.Common.{◌==◌, ◌<◌, cond, length, arith}
 use Rattle.std.proofs.lemmas.List.{get_or_default}
 use Rattle.std.proofs.lemmas.List.Edits.{map_over_more}
 use Rattle.ib_levels.specs.declared.holding.Holding.{Holding}
-use Rattle.ib_core.specs.Grants.{one_more}
+use Rattle.ib_core.specs.Takings.{one_more}
 use Rattle.ib_core.proofs.holdings.each_one_more.Goals as goal
 
 pub loop-h-preserved : goal.loop-h-preserved

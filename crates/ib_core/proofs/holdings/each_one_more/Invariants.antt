@@ -1,6 +1,6 @@
 use Rattle.std.proofs.Common.{◌≡◌, ◌++◌, take, drop}
 use Rattle.ib_levels.specs.Holding.{changed}
-use Rattle.ib_core.specs.Grants.{one_more}
+use Rattle.ib_core.specs.Takings.{one_more}
 use Rattle.ib_core.proofs.holdings.each_one_more.Given as goal
 
 abbrev pub invariant-loop-h : goal.invariant-loop-h

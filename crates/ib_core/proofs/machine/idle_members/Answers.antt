@@ -1,8 +1,10 @@
 -- One idle member more.
-use Rattle.ib_core.proofs.Opened.{one_idle_more}
+use Rattle.std.proofs.Common.{◌∷◌, ◌++◌, [], ◌∙◌}
+use Rattle.ib_core.specs.Member.{idle_among}
+use Rattle.ib_core.proofs.Opened.{replicate_more}
 use Rattle.ib_core.proofs.machine.idle_members.Goals as goal
 
 pub loop-preserved : goal.loop-preserved
 loop-preserved c =
-    rw c.in_ok-push.ensures.items
-    (one_idle_more c.loop.counter c.args.latches c.loop.members.items c.in_ok-idle_member.field-0 c.loop.invariant c.in_ok-idle_member.ensures.idle c.in_ok-idle_member.ensures.room)
+    c.in_ok-push.ensures.items
+    ∙ ((λ j. c.loop.invariant j ++ c.in_ok-idle.ensures j ∷ []) ∙ replicate_more c.loop.counter (idle_among c.args.latches))

@@ -1,32 +1,22 @@
 -- A write that is read is the next of those that the words spell.
-use Rattle.std.proofs.Common.{ℕ, List, ◌+◌, ◌-◌, ◌*◌, get_or, drop, sym, ◌∙◌, arith, append_assoc}
-use Rattle.ib_logrec.specs.declared.write.Write.{Write}
+use Rattle.std.proofs.Common.{◌*◌, ap, arith, append_assoc}
+use Rattle.ib_map.specs.declared.TheConstants.{PAGE_WORDS}
+use Rattle.ib_map.specs.declared.write.Write.{Write}
+use Rattle.ib_map.proofs.WriteLaws.{PlacesRise-get}
 use Rattle.ib_logrec.specs.Words.{writes_in}
-use Rattle.ib_logrec.proofs.Spelled.{writes_in-more, place_fault-outside, place_fault-below, place_fault-more}
+use Rattle.ib_logrec.proofs.Spelled.{writes_in-more, writes_in-get}
+use Rattle.ib_logrec.proofs.WriteLaws.{length-writes_in}
 use Rattle.ib_logrec.proofs.decode.writes_of.Goals as goal
 
--- the write at a number, and those behind it
-abbrev write_at : List ℕ → ℕ → Write
-write_at words i = record { place = get_or words (2 * i) 0; value = get_or words (2 * i + 1) 0 }
-
-abbrev behind : ℕ → List ℕ → ℕ → List Write
-behind count words i = writes_in (count - (i + 1)) (drop (2 * (i + 1)) words)
-
-pub returns-then-place-end-clause-fault : goal.returns-then-place-end-clause-fault
-returns-then-place-end-clause-fault c =
-    let more = writes_in-more c.args.count c.loop-i.i c.args.words.now (omega arith) (omega arith) in
-    sym (rw more at c.loop-i.invariant.faults) ∙ place_fault-outside c.args.pages c.args.entry c.loop-i.low (write_at c.args.words.now c.loop-i.i) (behind c.args.count c.args.words.now c.loop-i.i) (omega arith)
-
-pub returns-then-place-low-clause-fault : goal.returns-then-place-low-clause-fault
-returns-then-place-low-clause-fault c =
-    let more = writes_in-more c.args.count c.loop-i.i c.args.words.now (omega arith) (omega arith) in
-    sym (rw more at c.loop-i.invariant.faults) ∙ place_fault-below c.args.pages c.args.entry c.loop-i.low (write_at c.args.words.now c.loop-i.i) (behind c.args.count c.args.words.now c.loop-i.i) (omega arith) (omega arith)
+pub overflow_cast-words : goal.overflow_cast-words
+overflow_cast-words c =
+    let d : Write = record { place = 0; value = 0 } in
+    let count = length-writes_in c.args.count c.args.words.now c.requires.long in
+    let within = PlacesRise-get 0 (writes_in c.args.count c.args.words.now) (c.args.pages * PAGE_WORDS) c.loop-i.i d c.requires.rise (omega arith) in
+    let place = ap (λ (w : Write). w.place) (writes_in-get c.args.count c.loop-i.i c.args.words.now d (omega arith) c.requires.long) in
+    omega (arith, within.1, c.requires.few_pages)
 
 pub loop-i-preserved : goal.loop-i-preserved
 loop-i-preserved c =
     let more = writes_in-more c.args.count c.loop-i.i c.args.words.now (omega arith) (omega arith) in
-    record {
-      found = rw (c.in_ok-push.ensures.items, append_assoc) (rw more at c.loop-i.invariant.found);
-      faults = sym (place_fault-more c.args.pages c.args.entry c.loop-i.low (write_at c.args.words.now c.loop-i.i) (behind c.args.count c.args.words.now c.loop-i.i) (omega arith) (omega arith)) ∙ rw more at c.loop-i.invariant.faults;
-      low = omega arith;
-    }
+    rw (c.in_ok-push.ensures.items, append_assoc) (rw more at c.loop-i.invariant)

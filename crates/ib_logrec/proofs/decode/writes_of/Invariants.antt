@@ -1,12 +1,6 @@
-use Rattle.std.proofs.Common.{◌≡◌, ◌-◌, ◌*◌, ◌≤◌, ◌++◌, drop}
-use Rattle.ib_map.specs.declared.TheConstants.{PAGE_WORDS}
+use Rattle.std.proofs.Common.{◌≡◌, ◌-◌, ◌*◌, ◌++◌, drop}
 use Rattle.ib_logrec.specs.Words.{writes_in}
-use Rattle.ib_logrec.specs.Grammar.{place_fault}
 use Rattle.ib_logrec.proofs.decode.writes_of.Given as goal
 
 abbrev pub invariant-loop-i : goal.invariant-loop-i
-invariant-loop-i l = record {
-  found : l.writes.items ++ writes_in (l.count - l.i) (drop (2 * l.i) l.words) ≡ writes_in l.count l.words;
-  faults : place_fault l.pages l.entry l.low (writes_in (l.count - l.i) (drop (2 * l.i) l.words)) ≡ place_fault l.pages l.entry 0 (writes_in l.count l.words);
-  low : l.low ≤ l.pages * PAGE_WORDS;
-}
+invariant-loop-i l = l.writes.items ++ writes_in (l.count - l.i) (drop (2 * l.i) l.words) ≡ writes_in l.count l.words

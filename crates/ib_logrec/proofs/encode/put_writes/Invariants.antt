@@ -1,5 +1,5 @@
 use Rattle.std.proofs.Common.{◌≡◌, ◌*◌, ◌++◌, take, drop}
-use Rattle.ib_logrec.specs.Words.{write_words}
+use Rattle.ib_map.specs.Writes.{write_words}
 use Rattle.ib_logrec.proofs.encode.put_writes.Given as goal
 
 abbrev pub invariant-loop-i : goal.invariant-loop-i

@@ -8,4 +8,4 @@ returns-then-words-eq-TREE c =
 
 pub returns-else-words-eq-TREE : goal.returns-else-words-eq-TREE
 returns-else-words-eq-TREE c =
-    (λ yes. formed-free c.args.words.now (c.has_free.ensures.0 yes), λ holds. c.has_free.ensures.1 (free-formed c.args.words.now c.if-words-eq-TREE.false holds))
+    (λ yes. formed-free c.args.words.now (c.is_free.ensures.0 yes), λ holds. c.is_free.ensures.1 (free-formed c.args.words.now c.if-words-eq-TREE.false holds))

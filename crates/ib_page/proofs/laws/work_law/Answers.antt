@@ -1,25 +1,24 @@
--- The laws of a work set, clause by clause.
-use Rattle.ib_page.proofs.PageLaws.{pages_ascend, changed_stands, before_stands}
-use Rattle.ib_page.proofs.WriteLaws.{places_rise, writes_count, changed_from_write, write_from_changed}
+-- The law of a work set, clause by clause.
+use Rattle.ib_page.proofs.StoreLaws.{changed_stands, changed_there, before_stands, before_there, writes_rise, leads_to, written_exactly, untouched, word_written, word_there}
 use Rattle.ib_page.proofs.laws.work_law.Goals as goal
 
-pub returns-clause-ascend : goal.returns-clause-ascend
-returns-clause-ascend c w h = pages_ascend w.before w.changed 0 w.order h.ascends
-
 pub returns-clause-changed : goal.returns-clause-changed
-returns-clause-changed c w page image h = changed_stands w page image h
+returns-clause-changed c pages page image h = (λ at. changed_stands pages page image at, λ any. changed_there pages page image h any)
 
 pub returns-clause-before : goal.returns-clause-before
-returns-clause-before c w page image h = before_stands w page image h
+returns-clause-before c pages page image h = (λ at. before_stands pages page image at, λ any. before_there pages page image h any)
 
 pub returns-clause-rise : goal.returns-clause-rise
-returns-clause-rise c w pages h images within = places_rise w pages h images within
+returns-clause-rise c pages end h within = writes_rise 0 end pages h within
 
-pub returns-clause-count : goal.returns-clause-count
-returns-clause-count c w = writes_count w.before w.changed w.order
+pub returns-clause-leads : goal.returns-clause-leads
+returns-clause-leads c pages p index h among lt = leads_to pages p index h among lt
+
+pub returns-clause-written : goal.returns-clause-written
+returns-clause-written c pages p h among = written_exactly pages p h among
+
+pub returns-clause-absent : goal.returns-clause-absent
+returns-clause-absent c pages page absent = untouched pages page absent
 
 pub returns-clause-word : goal.returns-clause-word
-returns-clause-word c w page index word h images lt = (
-  λ among. let is = changed_from_write w page index word h images lt among in (is.now, is.not_before),
-  λ is. write_from_changed w page index word images lt (record { now = is.0; not_before = is.1 }),
-)
+returns-clause-word c pages page index word h lt = (λ among. word_written pages page index word h lt among, λ is. word_there pages page index word h lt is.0 is.1)

@@ -1,6 +1,6 @@
 -- The page stays a page of the tree.
-use Rattle.ib_page.specs.Image.{IsTree}
+use Rattle.ib_page.specs.Image.{IsTreePage}
 use Rattle.ib_page.proofs.tests.a_full_page_refuses.Given as goal
 
 abbrev pub invariant-loop-key : goal.invariant-loop-key
-invariant-loop-key g l = IsTree l.leaf
+invariant-loop-key g l = IsTreePage l.leaf

@@ -3,7 +3,7 @@ use Rattle.std.specs.Prelude.{fold, slice_index_or}
 use Rattle.std.proofs.lemmas.List.Sums.{fold_more}
 use Rattle.ib_core.specs.Machine.{CoreState, outcome_of}
 use Rattle.ib_core.specs.Sessions.{word_on}
-use Rattle.ib_core.specs.Replies.{latch_of}
+use Rattle.ib_core.specs.Responses.{latch_of}
 use Rattle.ib_core.specs.declared.event.Event.{Event}
 use Rattle.ib_core.specs.declared.event.Event.TheVariants.{S}
 use Rattle.ib_levels.specs.declared.level.Level.TheVariants.{Log}

@@ -1,11 +1,12 @@
 -- From the lower end's place on, the pairs up to the upper end.
-use Rattle.std.proofs.Common.{◌≡◌, ◌-◌, ◌<◌, ℕ, Bool, ltb, leb, not, take, drop, length, refl, arith, IsTrue, ◌↔◌, rules}
+use Rattle.std.proofs.Common.{◌≡◌, ◌-◌, ◌<◌, ℕ, Bool, ltb, leb, not, take, drop, length, refl, ◌∙◌, arith, IsTrue, ◌↔◌, rules}
 use Rattle.std.proofs.lemmas.Bool.{ltb_from_iff}
 use Rattle.std.proofs.lemmas.Bool.Decides.{nat_tests}
 use Rattle.std.proofs.lemmas.List.{take_rest}
 use Rattle.std.proofs.lemmas.List.Sorted.{IsPartitionPoint-from_clause}
 use Rattle.ib_map.specs.Keys.{MapKey, rank, end_rank}
 use Rattle.ib_map.specs.Pairs.{Rises, place_of}
+use Rattle.ib_map.proofs.CutLaws.{cut-whole}
 use Rattle.ib_map.proofs.RiseLaws.{Rises-take, Rises-drop}
 use Rattle.ib_map.proofs.PlaceLaws.{prefix_len-parted, up_to-parted, cut-from_place}
 use Rattle.ib_map.proofs.plain.PlainMap.range.Goals as goal
@@ -27,3 +28,6 @@ returns-clause-pairs c =
     let start_is : c.place_of.result ≡ place_of c.args.low items = rw c.deref-2.ensures.value at c.place_of.ensures.place in
     let zs_is : zs ≡ drop (place_of c.args.low items) items = rw (take_rest ds c.place_of.result, c.deref.ensures.value, start_is) refl in
     rw (← c.self.view_is, cut-from_place c.args.low c.args.high 0 items end_rank c.self.invariant, ← zs_is, end_is) refl
+
+pub returns-clause-whole : goal.returns-clause-whole
+returns-clause-whole c low high = returns-clause-pairs c ∙ rw (low, high, ← c.self.view_is) (cut-whole c.self.inside.pairs.items c.self.invariant)

@@ -1,22 +1,23 @@
 -- One more word differs, or is the same.
-use Rattle.std.proofs.Common.{◌≡◌, ℕ, ◌<◌, ap, arith, rules, cond, eqb, length, get_or}
-use Rattle.std.proofs.lemmas.Bool.{ne_eqb, eq-eqb}
-use Rattle.ib_page.proofs.WorkLaws.{differences_more}
+use Rattle.std.proofs.Common.{arith}
+use Rattle.ib_page.proofs.WriteLaws.{writes_none, count_same, count_differ}
 use Rattle.ib_page.proofs.image.Image.differences.Goals as goal
 use Rattle.ib_page.proofs.image.Image.differences.Goals.{then-self-i, else-self-i}
+
+pub loop-i-init : goal.loop-i-init
+loop-i-init c = record { count = λ page. rw (writes_none page c.self.inside.words c.other.inside.words) (omega arith); few = omega arith }
 
 pub loop-i-preserved : goal.loop-i-preserved
 loop-i-preserved c =
     let xs = c.self.inside.words in
     let ys = c.other.inside.words in
-    let lt : c.loop-i.i < length xs = search rules in
-    let lt_other : c.loop-i.i < length ys = search rules in
-    let more = differences_more xs ys c.loop-i.i lt lt_other in
     elim c.if-self-i.branch [
-      | then-self-i w ↦
-          let one : cond {A = ℕ} (eqb (get_or xs c.loop-i.i 0) (get_or ys c.loop-i.i 0)) 0 1 ≡ 1 = ap (λ b. cond {A = ℕ} b 0 1) (ne_eqb _ _ w.if-self-i.true) in
-          record { count = omega arith; few = omega arith }
-      | else-self-i w ↦
-          let none : cond {A = ℕ} (eqb (get_or xs c.loop-i.i 0) (get_or ys c.loop-i.i 0)) 0 1 ≡ 0 = ap (λ b. cond {A = ℕ} b 0 1) (eq-eqb _ _ w.if-self-i.false) in
-          record { count = omega arith; few = omega arith }
+      | then-self-i w ↦ record {
+        count = λ page. (let more = count_differ page xs ys c.loop-i.i w.if-self-i.true in let now = c.loop-i.invariant.count page in omega arith);
+        few = omega arith;
+      }
+      | else-self-i w ↦ record {
+        count = λ page. (let more = count_same page xs ys c.loop-i.i w.if-self-i.false in let now = c.loop-i.invariant.count page in omega arith);
+        few = omega arith;
+      }
     ]

@@ -1,7 +1,10 @@
--- The differences so far.
-use Rattle.std.proofs.Common.{◌≡◌, ◌≤◌, take}
-use Rattle.ib_page.specs.Differences.{differences}
+-- The words so far that differ.
+use Rattle.std.proofs.Common.{◌≡◌, ◌≤◌, ℕ, length}
+use Rattle.ib_page.specs.Writes.{writes_below}
 use Rattle.ib_page.proofs.image.Image.differences.Given as goal
 
 abbrev pub invariant-loop-i : goal.invariant-loop-i
-invariant-loop-i l = record { count : l.count ≡ differences (take l.i l.self-inside.words) (take l.i l.other-inside.words); few : l.count ≤ l.i }
+invariant-loop-i l = record {
+  count : (page : ℕ) → l.count ≡ length (writes_below page l.self-inside.words l.other-inside.words l.i);
+  few : l.count ≤ l.i;
+}

@@ -1,15 +1,12 @@
--- The differences so far, and the words that the images so far have.
-use Rattle.std.proofs.Common.{◌≡◌, ◌<◌, ◌≤◌, ◌*◌, ℕ, get_or, take, sum_by}
+-- The words that differ so far.
+use Rattle.std.proofs.Common.{◌≡◌, ◌≤◌, ◌*◌, length, take}
 use Rattle.ib_map.specs.declared.TheConstants.{PAGE_WORDS}
-use Rattle.ib_page.specs.Differences.{differences}
-use Rattle.ib_page.specs.Work.{image_in}
-use Rattle.ib_page.specs.declared.work.Place.{Place}
-use Rattle.ib_page.proofs.PageLaws.{page_at, HasSizes}
+use Rattle.ib_page.specs.Rooms.{pages_in}
+use Rattle.ib_page.specs.Writes.{writes_of}
 use Rattle.ib_page.proofs.work.WorkSet.changed.Given as goal
 
-abbrev pub invariant-loop-place : goal.invariant-loop-place
-invariant-loop-place l = record {
-  count : l.count ≡ sum_by (λ p. differences (image_in l.self-inside.before.items p.room) (image_in l.self-inside.changed.items p.room)) (take l.place-index l.self-inside.order.items);
-  few : l.count ≤ PAGE_WORDS * l.place-index;
-  images : (k : ℕ) → k < l.place-index → (d : Place) → HasSizes (page_at l.self-inside.before.items l.self-inside.changed.items (get_or l.self-inside.order.items k d));
+abbrev pub invariant-loop-slot : goal.invariant-loop-slot
+invariant-loop-slot l = record {
+  count : l.count ≡ length (writes_of (pages_in l.self-inside.before.items l.self-inside.changed.items (take l.slot-index l.self-inside.slots.items)));
+  few : l.count ≤ PAGE_WORDS * l.slot-index;
 }

@@ -1,16 +1,16 @@
--- Each room is that of one page or spare.
-use Rattle.std.proofs.Common.{◌≤◌, vec_len}
+-- The rooms are kept, and there is room for each of them among the spare ones.
+use Rattle.std.proofs.Common.{◌≤◌, length}
 use Rattle.std.specs.Vec.{vec_capacity}
 use Rattle.ib_page.specs.declared.work.TheConstants.{MOST_WORK_PAGES}
-use Rattle.ib_page.specs.Work.{IsWork}
+use Rattle.ib_page.specs.Rooms.{IsKept}
 use Rattle.ib_page.proofs.work.WorkSet.clear.Given as goal
 
-abbrev pub invariant-loop-place : goal.invariant-loop-place
-invariant-loop-place l = record {
-  work : IsWork (record { order = l.self-inside.order.items; before = l.self-inside.before.items; changed = l.self-inside.changed.items; spare = l.self-inside.spare.items });
-  order_room : MOST_WORK_PAGES ≤ vec_capacity l.self-inside.order;
+abbrev pub invariant-loop-slot : goal.invariant-loop-slot
+invariant-loop-slot l = record {
+  kept : IsKept l.self-inside.slots.items l.self-inside.before.items l.self-inside.changed.items l.self-inside.spare.items;
+  slots_room : MOST_WORK_PAGES ≤ vec_capacity l.self-inside.slots;
   spare_room : MOST_WORK_PAGES ≤ vec_capacity l.self-inside.spare;
 }
 
-abbrev pub decreases-loop-place : goal.decreases-loop-place
-decreases-loop-place l = vec_len l.self-inside.order
+abbrev pub decreases-loop-slot : goal.decreases-loop-slot
+decreases-loop-slot l = length l.self-inside.slots.items

@@ -1,84 +1,41 @@
 -- The page's room is spare again.
-use Rattle.std.proofs.Common.{◌≡◌, ◌∙◌, ℕ, List, [], ◌∷◌, ◌++◌, None, IsSome, cond, eqb, true, is_ok, ap, sym, subst, get_or, arith}
-use Rattle.std.specs.List.{remove}
-use Rattle.ib_page.specs.declared.work.Place.{Place}
-use Rattle.ib_page.specs.Work.{Work, IsWork, room_of, place_in, changed_of, before_of}
-use Rattle.ib_page.proofs.WorkLaws.{Removed, removed, found_at, some_from, there_by_image}
+use Rattle.std.proofs.Common.{◌≡◌, ◌≢◌, ◌∙◌, ◌++◌, [], ◌∷◌, ℕ, List, Option, ap, subst, sym, arith, true, is_ok, IsSomeAnd, slice_get}
+use Rattle.std.specs.Prelude.{IfSome}
+use Rattle.std.specs.List.{All, remove}
+use Rattle.ib_page.specs.declared.work.Slot.{Slot}
+use Rattle.ib_page.specs.Work.{IsWork}
+use Rattle.ib_page.specs.Rooms.{IsKept, pages_in}
+use Rattle.ib_page.proofs.RoomLaws.{is_work, is_found, found_slot-lt, remove_kept, remove_gives}
 use Rattle.ib_page.proofs.work.WorkSet.remove.Goals as goal
 
-pub remove-place-requires : goal.remove-place-requires
-remove-place-requires c =
-    let inside = c.self.inside in
-    let work : Work = record { order = inside.order.items; before = inside.before.items; changed = inside.changed.items; spare = inside.spare.items } in
-    let there : IsSome (room_of c.args.page inside.order.items) = there_by_image inside.changed.items (room_of c.args.page inside.order.items) (subst (λ (v : Work). IsSome (changed_of c.args.page v)) (sym c.self.view_is) c.requires.there) in
-    let got = some_from (room_of c.args.page inside.order.items) there in
-    let place : c.place_for-at.result ≡ place_in c.args.page inside.order.items = rw c.deref.ensures.value at c.place_for-at.ensures.place in
-    let found = found_at c.args.page 0 inside.order.items got.0 (record { page = 0; room = 0 }) c.self.invariant.work.ascends got.1 in
-    omega (arith, found.in_range, inside.order.ok)
+pub unwrap-place-requires : goal.unwrap-place-requires
+unwrap-place-requires c = is_found _ _ _ _ c.args.page c.find.result c.self.view_is c.requires.there
+    (λ none. subst (λ (ss : List Slot). All (λ s. s.page ≢ c.args.page) ss) c.deref.ensures.value (c.find.ensures.absent none))
+
+pub remove-slot-requires : goal.remove-slot-requires
+remove-slot-requires c =
+    let found = subst (λ (ss : List Slot). IsSomeAnd (slice_get ss c.unwrap-place.result) (λ s. s.page ≡ c.args.page)) c.deref.ensures.value
+    (subst (λ (o : Option ℕ). IfSome o (λ i. IsSomeAnd (slice_get c.deref.result.now i) (λ s. s.page ≡ c.args.page))) c.unwrap-place.ensures c.find.ensures.there) in
+    omega (arith, found_slot-lt c.self.inside.slots.items c.unwrap-place.result c.args.page found, c.self.inside.slots.ok)
 
 pub invariant_of-self : goal.invariant_of-self
 invariant_of-self c =
-    let inside = c.self.inside in
-    let work : Work = record { order = inside.order.items; before = inside.before.items; changed = inside.changed.items; spare = inside.spare.items } in
-    let there : IsSome (room_of c.args.page inside.order.items) = there_by_image inside.changed.items (room_of c.args.page inside.order.items) (subst (λ (v : Work). IsSome (changed_of c.args.page v)) (sym c.self.view_is) c.requires.there) in
-    let got = some_from (room_of c.args.page inside.order.items) there in
-    let place : c.place_for-at.result ≡ place_in c.args.page inside.order.items = rw c.deref.ensures.value at c.place_for-at.ensures.place in
-    let found = found_at c.args.page 0 inside.order.items got.0 c.remove-place.result c.self.invariant.work.ascends got.1 in
-    let value : c.remove-place.result ≡ get_or inside.order.items (place_in c.args.page inside.order.items) c.remove-place.result = subst (λ (i : ℕ). c.remove-place.result ≡ get_or inside.order.items i c.remove-place.result) place c.remove-place.ensures.value in
-    let same_room : c.remove-place.result.room ≡ got.0 = ap (λ (p : Place). p.room) value ∙ found.same_room in
-    let items : c.remove-place.new.self.items ≡ remove inside.order.items (place_in c.args.page inside.order.items) = c.remove-place.ensures.items ∙ ap (λ (i : ℕ). remove inside.order.items i) place in
-    let pushed : is_ok c.push.result ≡ true = c.push.ensures.succeeds (omega (arith, found.in_range, inside.spare.ok, c.self.invariant.work.rooms, c.self.invariant.spare_room)) in
-    let spare_ends : c.push.new.self.items ≡ inside.spare.items ++ c.remove-place.result.room ∷ [] = rw pushed at c.push.ensures.items in
-    let spare : c.push.new.self.items ≡ inside.spare.items ++ got.0 ∷ [] = spare_ends ∙ ap (λ (r : ℕ). inside.spare.items ++ r ∷ []) same_room in
-    let done : Removed work (record work { order = remove inside.order.items (place_in c.args.page inside.order.items); spare = inside.spare.items ++ got.0 ∷ [] }) c.args.page = removed work c.args.page got.0 c.remove-place.result c.self.invariant.work got.1 in
-    let same =
-    ap (λ (ps : List Place). let v : Work = record { order = ps; before = inside.before.items; changed = inside.changed.items; spare = c.push.new.self.items } in v) items
-    ∙ ap (λ (ns : List ℕ). let v : Work = record { order = remove inside.order.items (place_in c.args.page inside.order.items); before = inside.before.items; changed = inside.changed.items; spare = ns } in v) spare in
+    let found = subst (λ (ss : List Slot). IsSomeAnd (slice_get ss c.unwrap-place.result) (λ s. s.page ≡ c.args.page)) c.deref.ensures.value
+    (subst (λ (o : Option ℕ). IfSome o (λ i. IsSomeAnd (slice_get c.deref.result.now i) (λ s. s.page ≡ c.args.page))) c.unwrap-place.ensures c.find.ensures.there) in
+    let pushed : is_ok c.push.result ≡ true = c.push.ensures.succeeds (omega (arith, found_slot-lt c.self.inside.slots.items c.unwrap-place.result c.args.page found, c.self.inside.spare.ok, c.self.invariant.kept.rooms, c.self.invariant.spare_room)) in
+    let spare : c.push.new.self.items ≡ c.self.inside.spare.items ++ c.remove-slot.result.room ∷ [] = rw pushed at c.push.ensures.items in
     record {
-      work = subst IsWork (sym same) done.work;
-      order_room = omega (arith, c.remove-place.ensures.capacity, c.self.invariant.order_room);
+      kept = subst (λ (ss : List Slot). IsKept ss c.self.inside.before.items c.self.inside.changed.items c.push.new.self.items) (sym c.remove-slot.ensures.items)
+          (subst (λ (ns : List ℕ). IsKept (remove c.self.inside.slots.items c.unwrap-place.result) c.self.inside.before.items c.self.inside.changed.items ns) (sym spare) (remove_kept _ _ _ _ _ c.unwrap-place.result c.args.page c.remove-slot.result c.self.invariant.kept c.self.view_is found c.remove-slot.ensures.value));
+      slots_room = omega (arith, c.remove-slot.ensures.capacity, c.self.invariant.slots_room);
       spare_room = omega (arith, c.push.ensures.capacity, c.self.invariant.spare_room);
     }
 
+pub returns-clause-removed : goal.returns-clause-removed
+returns-clause-removed c =
+    let found = subst (λ (ss : List Slot). IsSomeAnd (slice_get ss c.unwrap-place.result) (λ s. s.page ≡ c.args.page)) c.deref.ensures.value
+    (subst (λ (o : Option ℕ). IfSome o (λ i. IsSomeAnd (slice_get c.deref.result.now i) (λ s. s.page ≡ c.args.page))) c.unwrap-place.ensures c.find.ensures.there) in
+    ap (λ ss. pages_in c.self.inside.before.items c.self.inside.changed.items ss) c.remove-slot.ensures.items ∙ remove_gives _ _ _ _ _ c.unwrap-place.result c.args.page c.remove-slot.result c.self.invariant.kept c.self.view_is found c.remove-slot.ensures.value
+
 pub returns-clause-work : goal.returns-clause-work
-returns-clause-work c = (invariant_of-self c).work
-
-pub returns-clause-changed : goal.returns-clause-changed
-returns-clause-changed c =
-    let inside = c.self.inside in
-    let work : Work = record { order = inside.order.items; before = inside.before.items; changed = inside.changed.items; spare = inside.spare.items } in
-    let there : IsSome (room_of c.args.page inside.order.items) = there_by_image inside.changed.items (room_of c.args.page inside.order.items) (subst (λ (v : Work). IsSome (changed_of c.args.page v)) (sym c.self.view_is) c.requires.there) in
-    let got = some_from (room_of c.args.page inside.order.items) there in
-    let place : c.place_for-at.result ≡ place_in c.args.page inside.order.items = rw c.deref.ensures.value at c.place_for-at.ensures.place in
-    let found = found_at c.args.page 0 inside.order.items got.0 c.remove-place.result c.self.invariant.work.ascends got.1 in
-    let value : c.remove-place.result ≡ get_or inside.order.items (place_in c.args.page inside.order.items) c.remove-place.result = subst (λ (i : ℕ). c.remove-place.result ≡ get_or inside.order.items i c.remove-place.result) place c.remove-place.ensures.value in
-    let same_room : c.remove-place.result.room ≡ got.0 = ap (λ (p : Place). p.room) value ∙ found.same_room in
-    let items : c.remove-place.new.self.items ≡ remove inside.order.items (place_in c.args.page inside.order.items) = c.remove-place.ensures.items ∙ ap (λ (i : ℕ). remove inside.order.items i) place in
-    let pushed : is_ok c.push.result ≡ true = c.push.ensures.succeeds (omega (arith, found.in_range, inside.spare.ok, c.self.invariant.work.rooms, c.self.invariant.spare_room)) in
-    let spare_ends : c.push.new.self.items ≡ inside.spare.items ++ c.remove-place.result.room ∷ [] = rw pushed at c.push.ensures.items in
-    let spare : c.push.new.self.items ≡ inside.spare.items ++ got.0 ∷ [] = spare_ends ∙ ap (λ (r : ℕ). inside.spare.items ++ r ∷ []) same_room in
-    let done : Removed work (record work { order = remove inside.order.items (place_in c.args.page inside.order.items); spare = inside.spare.items ++ got.0 ∷ [] }) c.args.page = removed work c.args.page got.0 c.remove-place.result c.self.invariant.work got.1 in
-    let same =
-    ap (λ (ps : List Place). let v : Work = record { order = ps; before = inside.before.items; changed = inside.changed.items; spare = c.push.new.self.items } in v) items
-    ∙ ap (λ (ns : List ℕ). let v : Work = record { order = remove inside.order.items (place_in c.args.page inside.order.items); before = inside.before.items; changed = inside.changed.items; spare = ns } in v) spare in
-    λ other. ap (λ (v : Work). changed_of other v) same ∙ (done.changed other ∙ ap (λ (v : Work). cond (eqb c.args.page other) None (changed_of other v)) c.self.view_is)
-
-pub returns-clause-before : goal.returns-clause-before
-returns-clause-before c =
-    let inside = c.self.inside in
-    let work : Work = record { order = inside.order.items; before = inside.before.items; changed = inside.changed.items; spare = inside.spare.items } in
-    let there : IsSome (room_of c.args.page inside.order.items) = there_by_image inside.changed.items (room_of c.args.page inside.order.items) (subst (λ (v : Work). IsSome (changed_of c.args.page v)) (sym c.self.view_is) c.requires.there) in
-    let got = some_from (room_of c.args.page inside.order.items) there in
-    let place : c.place_for-at.result ≡ place_in c.args.page inside.order.items = rw c.deref.ensures.value at c.place_for-at.ensures.place in
-    let found = found_at c.args.page 0 inside.order.items got.0 c.remove-place.result c.self.invariant.work.ascends got.1 in
-    let value : c.remove-place.result ≡ get_or inside.order.items (place_in c.args.page inside.order.items) c.remove-place.result = subst (λ (i : ℕ). c.remove-place.result ≡ get_or inside.order.items i c.remove-place.result) place c.remove-place.ensures.value in
-    let same_room : c.remove-place.result.room ≡ got.0 = ap (λ (p : Place). p.room) value ∙ found.same_room in
-    let items : c.remove-place.new.self.items ≡ remove inside.order.items (place_in c.args.page inside.order.items) = c.remove-place.ensures.items ∙ ap (λ (i : ℕ). remove inside.order.items i) place in
-    let pushed : is_ok c.push.result ≡ true = c.push.ensures.succeeds (omega (arith, found.in_range, inside.spare.ok, c.self.invariant.work.rooms, c.self.invariant.spare_room)) in
-    let spare_ends : c.push.new.self.items ≡ inside.spare.items ++ c.remove-place.result.room ∷ [] = rw pushed at c.push.ensures.items in
-    let spare : c.push.new.self.items ≡ inside.spare.items ++ got.0 ∷ [] = spare_ends ∙ ap (λ (r : ℕ). inside.spare.items ++ r ∷ []) same_room in
-    let done : Removed work (record work { order = remove inside.order.items (place_in c.args.page inside.order.items); spare = inside.spare.items ++ got.0 ∷ [] }) c.args.page = removed work c.args.page got.0 c.remove-place.result c.self.invariant.work got.1 in
-    let same =
-    ap (λ (ps : List Place). let v : Work = record { order = ps; before = inside.before.items; changed = inside.changed.items; spare = c.push.new.self.items } in v) items
-    ∙ ap (λ (ns : List ℕ). let v : Work = record { order = remove inside.order.items (place_in c.args.page inside.order.items); before = inside.before.items; changed = inside.changed.items; spare = ns } in v) spare in
-    λ other. ap (λ (v : Work). before_of other v) same ∙ (done.before other ∙ ap (λ (v : Work). cond (eqb c.args.page other) None (before_of other v)) c.self.view_is)
+returns-clause-work c = subst IsWork c.self.view_is (is_work _ _ _ _ c.self.invariant.kept)

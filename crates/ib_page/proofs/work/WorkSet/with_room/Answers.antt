@@ -1,8 +1,9 @@
 -- Each push has room, and all rooms are spare at the end.
-use Rattle.std.proofs.Common.{◌≡◌, ◌+◌, ◌∷◌, ◌++◌, [], true, is_ok, ap, arith, ◌∙◌, ℕ, cond, ltb}
+use Rattle.std.proofs.Common.{◌≡◌, ◌+◌, ◌∷◌, ◌++◌, [], true, is_ok, ap, arith, ◌∙◌, ℕ, cond, ltb, map}
 use Rattle.ib_page.specs.declared.work.TheConstants.{MOST_WORK_PAGES}
 use Rattle.std.proofs.lemmas.List.{length_push}
-use Rattle.ib_page.proofs.WorkLaws.{once_more, new_work}
+use Rattle.ib_page.specs.Rooms.{page_in}
+use Rattle.ib_page.proofs.RoomLaws.{once_more, kept_new}
 use Rattle.ib_page.proofs.work.WorkSet.with_room.Goals as goal
 
 pub loop-room-preserved : goal.loop-room-preserved
@@ -19,14 +20,14 @@ pub invariant_of-result : goal.invariant_of-result
 invariant_of-result c =
     let count = c.loop-room.invariant.count in
     let ended : c.loop-room.room ≡ MOST_WORK_PAGES = omega arith in
-    let none : c.in_ok-order.order.items ≡ [] = c.in_ok-order.ensures.items in
+    let none : c.in_ok-slots.slots.items ≡ [] = c.in_ok-slots.ensures.items in
     record {
-      work = rw none (new_work c.in_ok-before.before.items c.in_ok-changed.changed.items c.loop-room.spare.items
+      kept = rw none (kept_new c.in_ok-before.before.items c.in_ok-changed.changed.items c.loop-room.spare.items
           (omega (arith, c.in_ok-before.ensures.len, c.in_ok-before.before.ok)) (omega (arith, c.in_ok-changed.ensures.len, c.in_ok-changed.changed.ok)) (omega arith)
           (λ r. c.loop-room.invariant.once r ∙ ap (λ (n : ℕ). cond {A = ℕ} (ltb r n) 1 0) ended));
-      order_room = omega (arith, c.in_ok-order.ensures.capacity);
+      slots_room = omega (arith, c.in_ok-slots.ensures.capacity);
       spare_room = c.loop-room.invariant.capacity;
     }
 
 pub returns : goal.returns
-returns c = (c.in_ok-order.ensures.items, (invariant_of-result c).work)
+returns c = ap (λ ss. map (page_in c.in_ok-before.before.items c.in_ok-changed.changed.items) ss) c.in_ok-slots.ensures.items

@@ -1,0 +1,48 @@
+//! A session at work: what it holds and its phase. Its events are its methods.
+
+ghost use Rattle.std.specs.Prelude.{◌≡◌, ◌+◌, ◌≤◌};
+ghost use Rattle.ib_levels.specs.Listed.{answer_to};
+ghost use Rattle.ib_levels.specs.Holding.{is_held, levels_of};
+ghost use Rattle.ib_core.specs.Actor.{session_of};
+ghost use Rattle.ib_core.specs.Sessions.{claims, grants, holdings, reads, sx_grants, x_grants};
+
+use crate::holdings::{Counts, grants_on};
+use crate::phase::Phase;
+use ib_levels::{Against, Holding, Latch, Level, holds, may_add};
+
+// What a session holds, in a list with room for each latch, and its phase.
+#[derive(Drop)]
+pub(crate) struct Actor {
+    pub(crate) held: Vec<Holding>,
+    pub(crate) phase: Phase,
+}
+
+impl Actor {
+    // Whether the session holds the latch.
+    pub(crate) fn holds(&self, latch: Latch) -> bool
+        ensures { result ≡ is_held latch.0 self.now.held.items }
+    {
+        holds(self.held.as_slice(), latch)
+    }
+
+    // Its grants on the latch.
+    pub(crate) fn grants(&self, latch: Latch) -> Counts
+        requires { holdings latch.0 (session_of self.now) ≤ 1 }
+        ensures s { result.s ≡ reads latch.0 (session_of self.now) }
+        ensures sx { result.sx ≡ sx_grants latch.0 (session_of self.now) }
+        ensures x { result.x ≡ x_grants latch.0 (session_of self.now) }
+        ensures claims { result.sx + result.x ≡ claims latch.0 (session_of self.now) }
+        ensures all { result.s + (result.sx + result.x) ≡ grants latch.0 (session_of self.now) }
+    {
+        grants_on(self.held.as_slice(), latch)
+    }
+
+    // Whether the order of levels allows it the latch at the level.
+    pub(crate) fn may_take(&self, latch: Latch, level: Level) -> Result<(), Against>
+        ensures { result
+            ≡ answer_to (is_held latch.0 self.now.held.items) level
+            (levels_of self.now.held.items) }
+    {
+        may_add(self.held.as_slice(), latch, level)
+    }
+}
