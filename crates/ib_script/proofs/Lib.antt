@@ -1,14 +1,3 @@
-pub mod Cuts
-pub mod Fields
+pub mod Building
 pub mod ListsGrow
 pub mod Readings
-pub mod Reached
-pub mod Sending
-pub mod Spelling
-pub mod Writing
-pub mod Records
-pub mod JoinedSpans
-pub mod ChunkLines
-pub mod Neighbours
-pub mod EventsTaken
-pub mod EventsInRange

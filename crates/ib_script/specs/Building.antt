@@ -1,16 +1,13 @@
 -- What is kept of the lines of a script that are read so far.
-use Rattle.std.specs.Prelude.{◌≡◌, ℕ, ◌+◌, List, [], ◌∷◌, ◌++◌, Option, Some, None, Result, Ok, not, length, count_by, sum_by, fold, slice_index_or, MatchResult}
+use Rattle.std.specs.Prelude.{◌≡◌, ℕ, ◌+◌, List, [], ◌∷◌, ◌++◌, None, Result, Ok, not, length, count_by, sum_by, fold, slice_index_or, MatchResult}
 use Rattle.std.specs.List.{list_all}
 use Rattle.ib_map.specs.declared.call.Call.{Call}
+use Rattle.ib_edge.specs.BadLines.{IsFault}
 use Rattle.ib_script.specs.Lists.{lists_of}
 use Rattle.ib_script.specs.Script.{Reading, says_nothing, is_command, is_scan, fault_behind, commands_of, session_count, sizes_of}
-use Rattle.ib_script.specs.declared.script_line.LineKind.{LineKind}
 use Rattle.ib_script.specs.declared.script_line.ScriptLine.TheVariants.{Session}
 use Rattle.ib_script.specs.declared.builder.Builder.{Builder}
-use Rattle.ib_script.specs.declared.builder.LineFault.{LineFault}
-use Rattle.ib_script.specs.declared.builder.LineFault.TheVariants.{Bad, OutOfMemory}
-use Rattle.ib_script.specs.declared.script.ScriptFault.{ScriptFault}
-use Rattle.ib_script.specs.declared.script.ScriptFault.TheVariants.{BadLine, OutOfMemory as NoMemory}
+use Rattle.ib_edge.specs.declared.bad_line.LineFault.{LineFault}
 
 -- the session behind a line
 abbrev pub session_then : ℕ → Reading → ℕ
@@ -35,17 +32,8 @@ pub record IsBuilt (before : List Reading) (builder : Builder) : Type 0 where
   pub commands : builder.commands ≡ count_by is_command before
   pub scans : builder.scans ≡ count_by is_scan before
 
--- a fault is what is wrong with the line, or want of memory
-abbrev pub IsFault : Option LineKind → LineFault → Type 0
-IsFault found (Bad kind) = found ≡ Some kind
-IsFault found OutOfMemory = Unit {0}
-
 -- a line is taken where nothing is wrong with it behind those before
 abbrev pub Takes : {T : Type 0} → Reading → Builder → Result T LineFault → Builder → Type 0
 Takes reading old result new =
     (before : List Reading) → IsBuilt before old
     → MatchResult result (λ _. (fault_behind before reading ≡ None) × IsBuilt (before ++ reading ∷ []) new) (IsFault (fault_behind before reading))
-
-abbrev pub fault_at : ℕ → LineFault → ScriptFault
-fault_at line (Bad kind) = BadLine line kind
-fault_at line OutOfMemory = NoMemory

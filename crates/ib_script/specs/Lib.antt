@@ -1,12 +1,3 @@
-pub mod Faults
-pub mod Lines
 pub mod Lists
-pub mod Building
-pub mod Numbers
-pub mod Output
 pub mod Script
-pub mod Spans
-pub mod Writer
-pub mod FaultText
-pub mod Events
-pub mod EventText
+pub mod Building

@@ -1,44 +1,25 @@
 -- Scripts: what a text asks for, and which of its lines is the first bad one.
 use Rattle.std.specs.Prelude.{◌≡◌, ℕ, ◌≤◌, ◌+◌, List, [], ◌∷◌, Bool, true, false, Option, Some, None, Result, Ok, Err, codes, bytes_eq, nat_le, nat_lt, ◌&&◌, ◌||◌, not, ◌==◌, length, map, filter, count_by, max, fold, sum_by, slice_index_or, if◌then◌else◌}
 use Rattle.std.specs.List.{list_all}
-use denote.Ref.{Bor}
 use Rattle.ib_layout.specs.Geometry.{Sizes, has_log}
 use Rattle.ib_map.specs.Space.{has_pages}
 use Rattle.ib_map.specs.declared.TheConstants.{MOST_PAGES}
 use Rattle.ib_layout.specs.declared.geometry.TheConstants.{MOST_LOG_WORDS}
 use Rattle.ib_map.specs.declared.call.Call.{Call}
 use Rattle.ib_map.specs.declared.call.Call.TheVariants.{Insert, Delete, Get, Scan}
-use Rattle.ib_script.specs.Lines.{lines_of, fields_of, first_bad}
-use Rattle.ib_script.specs.Numbers.{number_of}
-use Rattle.ib_script.specs.declared.script_line.TheConstants.{MOST_COMMANDS, MOST_SCANS, MOST_SCRIPT_SESSIONS}
-use Rattle.ib_script.specs.declared.script_line.LineKind.{LineKind}
-use Rattle.ib_script.specs.declared.script_line.LineKind.TheVariants.{Word, Fields, Number, Session as SessionKind, Space as SpaceKind, Many}
+use Rattle.ib_edge.specs.Lines.{fields_of, first_bad, is_skipped}
+use Rattle.ib_edge.specs.Fields.{◌>>=◌, number_in, one_field, two_fields}
+use Rattle.ib_text.specs.Keys.{key_in}
+use Rattle.ib_script.specs.declared.script_line.TheConstants.{MOST_COMMANDS, MOST_SCANS}
+use Rattle.ib_edge.specs.declared.line_kind.TheConstants.{MOST_SCRIPT_SESSIONS}
+use Rattle.ib_edge.specs.declared.line_kind.LineKind.{LineKind}
+use Rattle.ib_edge.specs.declared.line_kind.LineKind.TheVariants.{Word, Session as SessionKind, Space as SpaceKind, Many}
 use Rattle.ib_script.specs.declared.script_line.ScriptLine.{ScriptLine}
 use Rattle.ib_script.specs.declared.script_line.ScriptLine.TheVariants.{Skipped, Space, Session, Command}
 
 -- what a line says by itself, or what is wrong with it
 abbrev pub Reading : Type 0
 Reading = Result ScriptLine LineKind
-
--- the fields of what follows a field, where there is more
-abbrev pub fields_behind : Option (Bor (List ℕ)) → List (List ℕ)
-fields_behind None = []
-fields_behind (Some rest) = fields_of rest.now
-
--- one field, a number
-abbrev pub one_number : List (List ℕ) → Result ℕ LineKind
-one_number (field ∷ []) = elim (number_of field) [ Some n ↦ Ok n | None ↦ Err Number ]
-one_number _ = Err Fields
-
--- two fields, both numbers
-abbrev pub two_numbers : List (List ℕ) → Result (ℕ × ℕ) LineKind
-two_numbers (first ∷ second ∷ []) = elim (number_of first) [ Some m ↦ elim (number_of second) [ Some n ↦ Ok (m, n) | None ↦ Err Number ] | None ↦ Err Number ]
-two_numbers _ = Err Fields
-
--- a line of this form, where its numbers are there
-abbrev pub with_numbers : {A : Type 0} → (A → Reading) → Result A LineKind → Reading
-with_numbers form (Ok numbers) = form numbers
-with_numbers form (Err kind) = Err kind
 
 -- sessions are 1 to the most that there may be
 abbrev pub session_line : ℕ → Reading
@@ -55,18 +36,13 @@ space_line sizes = elim (geometry_of sizes) [ Some space ↦ Ok (Space space) | 
 abbrev pub reading_of_fields : List (List ℕ) → Reading
 reading_of_fields [] = Err Word
 reading_of_fields (word ∷ fields) =
-    if bytes_eq word (codes "insert") then with_numbers (λ pair. Ok (Command (Insert pair.0 pair.1))) (two_numbers fields)
-    else if bytes_eq word (codes "delete") then with_numbers (λ key. Ok (Command (Delete key))) (one_number fields)
-    else if bytes_eq word (codes "get") then with_numbers (λ key. Ok (Command (Get key))) (one_number fields)
-    else if bytes_eq word (codes "scan") then with_numbers (λ pair. Ok (Command (Scan pair.0 pair.1))) (two_numbers fields)
-    else if bytes_eq word (codes "session") then with_numbers session_line (one_number fields)
-    else if bytes_eq word (codes "space") then with_numbers space_line (two_numbers fields)
+    if bytes_eq word (codes "insert") then two_fields key_in number_in fields >>= (λ pair. Ok (Command (Insert pair.0 pair.1)))
+    else if bytes_eq word (codes "delete") then one_field key_in fields >>= (λ key. Ok (Command (Delete key)))
+    else if bytes_eq word (codes "get") then one_field key_in fields >>= (λ key. Ok (Command (Get key)))
+    else if bytes_eq word (codes "scan") then two_fields key_in key_in fields >>= (λ pair. Ok (Command (Scan pair.0 pair.1)))
+    else if bytes_eq word (codes "session") then one_field number_in fields >>= session_line
+    else if bytes_eq word (codes "space") then two_fields number_in number_in fields >>= space_line
     else Err Word
-
--- an empty line, or one that begins with `#`
-abbrev pub is_skipped : List ℕ → Bool
-is_skipped [] = true
-is_skipped (byte ∷ bytes) = byte == 35
 
 -- what a line says
 abbrev pub reading_of : List ℕ → Reading
@@ -76,10 +52,6 @@ reading_of line = if is_skipped line then Ok Skipped else reading_of_fields (fie
 abbrev pub IsInRange : ScriptLine → Type 0
 IsInRange (Session number) = (1 ≤ number) × (number ≤ MOST_SCRIPT_SESSIONS)
 IsInRange _ = Unit {0}
-
--- the lines of a text, each by itself
-abbrev pub readings_of : List ℕ → List Reading
-readings_of text = map reading_of (lines_of text)
 
 abbrev pub says_nothing : Reading → Bool
 says_nothing (Ok Skipped) = true
@@ -105,9 +77,9 @@ fault_behind before (Ok (Session number)) = None
 fault_behind before (Ok (Space sizes)) = if list_all says_nothing before then None else Some SpaceKind
 fault_behind before (Ok (Command call)) = if has_room before (is_scan (Ok (Command call))) then None else Some Many
 
--- the first bad line of those behind others: its number, counted from 1 over all lines, and its kind
-abbrev pub first_fault : List Reading → List Reading → Option (ℕ × LineKind)
-first_fault before readings = first_bad fault_behind before readings
+-- the first bad line: its number, counted from 1 over all lines, and its kind
+abbrev pub first_fault : List Reading → Option (ℕ × LineKind)
+first_fault readings = first_bad fault_behind [] readings
 
 -- the commands of lines, each with its session: that of the last session line before it, or else this one
 abbrev pub commands_from : ℕ → List Reading → List (ℕ × Call)

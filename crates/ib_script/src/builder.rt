@@ -1,14 +1,17 @@
 //! What the lines of a script have said so far, and what one more says behind them.
 
 ghost use Rattle.std.specs.Prelude.{ℕ, ◌≤◌, vec_len};
-ghost use Rattle.ib_script.specs.declared.script_line.TheConstants.{MOST_COMMANDS, MOST_SCANS, MOST_SCRIPT_SESSIONS};
+ghost use Rattle.ib_script.specs.declared.script_line.TheConstants.{MOST_COMMANDS, MOST_SCANS};
+ghost use Rattle.ib_edge.specs.declared.line_kind.TheConstants.{MOST_SCRIPT_SESSIONS};
 
 use crate::lists::add_command;
+use crate::reader::LineReader;
 use crate::script::Script;
-use crate::script_line::{LineKind, MOST_COMMANDS, MOST_SCANS, ScriptLine, is_scan, reading_of};
+use crate::script_line::{MOST_COMMANDS, MOST_SCANS, ScriptLine, is_scan};
+use ib_edge::{LineFault, LineKind};
 use ib_layout::Geometry;
 use ib_map::Call;
-use std::alloc::{AllocError, Global};
+use std::alloc::Global;
 
 // What the lines of a script have said so far.
 #[derive(Drop)]
@@ -29,41 +32,13 @@ pub struct Builder {
     ghost few_scans: { scans ≤ MOST_SCANS },
 }
 
-// Why a line is not taken.
-#[derive(Drop)]
-pub enum LineFault {
-    Bad(LineKind),
-    OutOfMemory,
-}
-
-impl From<LineKind> for LineFault {
-    ghost use Rattle.std.specs.Prelude.{◌≡◌};
-    ghost use Rattle.ib_script.specs.declared.builder.LineFault.TheVariants.{Bad};
-
-    ghost from_gives = { λ kind e. e ≡ Bad kind };
-
-    fn from(kind: LineKind) -> LineFault {
-        LineFault::Bad(kind)
-    }
-}
-
-impl From<AllocError> for LineFault {
-    ghost use Rattle.std.specs.Prelude.{◌≡◌};
-    ghost use Rattle.ib_script.specs.declared.builder.LineFault.TheVariants.{OutOfMemory};
-
-    ghost from_gives = { λ _ e. e ≡ OutOfMemory };
-
-    fn from(_: AllocError) -> LineFault {
-        LineFault::OutOfMemory
-    }
-}
-
 impl Builder {
     ghost use Rattle.std.specs.Prelude.{◌≡◌, ◌<◌, ◌∷◌, ◌++◌, [], Ok, true, false, not, List};
-    ghost use Rattle.ib_script.specs.Script.{IsInRange, IsSmall, Reading, has_room, is_scan, reading_of};
+    ghost use Rattle.ib_script.specs.Script.{IsInRange, IsSmall, Reading, has_room, is_scan};
     ghost use Rattle.ib_script.specs.Building.{IsBuilt, Takes};
     ghost use Rattle.ib_script.specs.Lists.{lists_of};
-    ghost use Rattle.ib_script.specs.declared.script_line.TheConstants.{MOST_COMMANDS, MOST_SCANS, MOST_SCRIPT_SESSIONS};
+    ghost use Rattle.ib_script.specs.declared.script_line.TheConstants.{MOST_COMMANDS, MOST_SCANS};
+    ghost use Rattle.ib_edge.specs.declared.line_kind.TheConstants.{MOST_SCRIPT_SESSIONS};
     ghost use Rattle.ib_script.specs.declared.script_line.ScriptLine.TheVariants.{Command, Session, Skipped, Space};
 
     // No line is read.
@@ -136,11 +111,11 @@ impl Builder {
         }
     }
 
-    // One line more, where nothing is wrong with it.
-    pub fn take(&mut self, alloc: Global, line: &[u8]) -> Result<(), LineFault>
-        ensures { Takes (reading_of line.now) self.old result self.new }
+    // One line more, read so, where nothing is wrong with it.
+    pub fn take<R: LineReader>(&mut self, alloc: Global, line: &[u8]) -> Result<(), LineFault>
+        ensures { Takes (R.reading line.now) self.old result self.new }
     {
-        let line = reading_of(line)?;
+        let line = R::read(line)?;
         self.take_reading(alloc, line)
     }
 

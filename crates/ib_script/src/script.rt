@@ -1,29 +1,19 @@
 //! A script, or its first bad line.
 
 ghost use Rattle.std.specs.Prelude.{◌≡◌, ◌≤◌, ◌-◌, ◌<◌, ◌^◌, ℕ, None, Some, Ok, Err, [], length, slice_index_or, vec_len, IfOk};
+ghost use Rattle.ib_edge.specs.Lines.{readings_by};
 ghost use Rattle.ib_script.specs.Lists.{lists_of};
-ghost use Rattle.ib_script.specs.Script.{IsScript, IsSmall, first_fault, readings_of};
-ghost use Rattle.ib_script.specs.declared.script_line.LineKind.{LineKind};
-ghost use Rattle.ib_script.specs.declared.script_line.TheConstants.{MOST_SCRIPT_SESSIONS};
+ghost use Rattle.ib_script.specs.Script.{IsScript, IsSmall, first_fault};
+ghost use Rattle.ib_edge.specs.declared.line_kind.LineKind.{LineKind};
+ghost use Rattle.ib_edge.specs.declared.line_kind.TheConstants.{MOST_SCRIPT_SESSIONS};
 
-use crate::builder::{Builder, LineFault};
-use crate::line::first_line;
-use crate::script_line::{LineKind, MOST_SCRIPT_SESSIONS};
+use crate::builder::Builder;
+use crate::reader::LineReader;
+use ib_edge::{LineKind, MOST_SCRIPT_SESSIONS, ScriptFault, first_line};
 use ib_layout::Geometry;
 use ib_map::Call;
 use std::alloc::Global;
 use std::marker::Model;
-use thiserror::Error;
-
-/// Why a script is not read.
-#[derive(Debug, Drop, Error)]
-pub enum ScriptFault {
-    /// The first bad line, counted from 1 over all lines.
-    #[error("line {line} is bad")]
-    BadLine { line: u32, kind: LineKind },
-    #[error("out of memory")]
-    OutOfMemory,
-}
 
 /// A script: how large a space it asks for, and what each session does there.
 #[derive(Drop)]
@@ -36,7 +26,7 @@ impl Model for Script {
     ghost use Rattle.std.specs.Prelude.{◌≤◌, vec_len};
     ghost use Rattle.ib_script.specs.Lists.{lists_of};
     ghost use Rattle.ib_script.specs.Script.{ScriptValue};
-    ghost use Rattle.ib_script.specs.declared.script_line.TheConstants.{MOST_SCRIPT_SESSIONS};
+    ghost use Rattle.ib_edge.specs.declared.line_kind.TheConstants.{MOST_SCRIPT_SESSIONS};
 
     ghost Value = { ScriptValue };
 
@@ -84,31 +74,16 @@ impl Script {
     }
 }
 
-impl LineFault {
-    ghost use Rattle.std.specs.Prelude.{◌≡◌};
-    ghost use Rattle.ib_script.specs.Building.{fault_at};
-
-    // The fault, where the line has this number.
-    pub(crate) fn at(self, line: u32) -> ScriptFault
-        ensures { result ≡ fault_at line self }
-    {
-        match self {
-            LineFault::Bad(kind) => ScriptFault::BadLine { line, kind },
-            LineFault::OutOfMemory => ScriptFault::OutOfMemory,
-        }
-    }
-}
-
-/// The script that these bytes spell, or its first bad line, or want of memory. Linear in the bytes.
+/// The script that these bytes spell, its lines read so, or its first bad line, or want of memory. Linear in the bytes.
 ///
 /// Lines are empty, or begin with `#`, or are `space PAGES LOGWORDS` before all others, `session N`, `insert K V`,
 /// `delete K`, `get K` and `scan L H`.
-pub fn read_script(alloc: Global, bytes: &[u8]) -> Result<Script, ScriptFault>
+pub fn read_script<R: LineReader>(alloc: Global, bytes: &[u8]) -> Result<Script, ScriptFault>
     requires { length bytes.now < 2 ^ 32 - 1 }
-    ensures good { IfOk result (λ _. first_fault [] (readings_of bytes.now) ≡ None) }
-    ensures script { IfOk result (IsScript (readings_of bytes.now)) }
+    ensures good { IfOk result (λ _. first_fault (readings_by R.reading bytes.now) ≡ None) }
+    ensures script { IfOk result (IsScript (readings_by R.reading bytes.now)) }
     ensures small { IfOk result IsSmall }
-    ensures bad { (line : ℕ) (kind : LineKind) → result ≡ Err (ScriptFault.BadLine line kind) → first_fault [] (readings_of bytes.now) ≡ Some (line, kind) }
+    ensures bad { (line : ℕ) (kind : LineKind) → result ≡ Err (ScriptFault.BadLine line kind) → first_fault (readings_by R.reading bytes.now) ≡ Some (line, kind) }
 {
     let mut builder = Builder::new(alloc);
     let mut rest = bytes;
@@ -116,7 +91,7 @@ pub fn read_script(alloc: Global, bytes: &[u8]) -> Result<Script, ScriptFault>
     while !rest.is_empty() {
         let (line, after) = first_line(rest);
         count += 1;
-        match builder.take(alloc, line) {
+        match builder.take::<R>(alloc, line) {
             Ok(()) => rest = after,
             Err(fault) => return Err(fault.at(count)),
         }

@@ -1,18 +1,16 @@
 //! What a line of a script says by itself.
 
 ghost use Rattle.std.specs.Prelude.{◌≡◌, ◌∷◌, IfOk, Ok};
-ghost use Rattle.ib_script.specs.Script.{IsInRange, fields_behind, geometry_of, is_scan, is_skipped, one_number, reading_of, reading_of_fields, session_line, space_line, two_numbers};
+ghost use Rattle.ib_edge.specs.Fields.{number_in, one_field, two_fields};
+ghost use Rattle.ib_edge.specs.Lines.{fields_behind};
+ghost use Rattle.ib_text.specs.Keys.{key_in};
+ghost use Rattle.ib_script.specs.Script.{IsInRange, geometry_of, is_scan, reading_of, reading_of_fields, session_line, space_line};
 ghost use Rattle.ib_script.specs.declared.script_line.ScriptLine.TheVariants.{Command};
 
-use crate::line::first_field;
-use crate::number::number_of;
+use ib_edge::{LineKind, MOST_SCRIPT_SESSIONS, first_field, is_skipped, number_in};
 use ib_layout::Geometry;
-use ib_map::Call;
-
-/// The greatest session that a script may have. The least is 1.
-pub const MOST_SCRIPT_SESSIONS: u32 = 64;
-
-const _: () = prove!(MOST_SCRIPT_SESSIONS == 64);
+use ib_map::{Call, Key};
+use ib_text::key_in;
 
 /// How many commands a script may have.
 pub const MOST_COMMANDS: u32 = 1_000_000;
@@ -23,27 +21,6 @@ const _: () = prove!(MOST_COMMANDS == 1_000_000);
 pub const MOST_SCANS: u32 = 100_000;
 
 const _: () = prove!(MOST_SCANS == 100_000);
-
-/// What is wrong with a line.
-#[derive(Clone, Copy, Debug, PartialEq, Eq)]
-pub enum LineKind {
-    /// Its first field is no word of a script.
-    Word,
-    /// It has too few or too many fields.
-    Fields,
-    /// A field is no number.
-    Number,
-    /// The session is not 1 to `MOST_SCRIPT_SESSIONS`.
-    Session,
-    /// A `space` line stands behind another line, or there is no space of its sizes.
-    Space,
-    /// The script has `MOST_COMMANDS` commands, or `MOST_SCANS` scans, before this one.
-    Many,
-    /// The latch of an event is above `MOST_LATCH`.
-    Latch,
-    /// The level of an event is not 1 to 5.
-    Level,
-}
 
 /// What one line of a script says.
 #[derive(Clone, Copy, Debug, PartialEq, Eq)]
@@ -58,28 +35,71 @@ pub enum ScriptLine {
     Command { call: Call },
 }
 
-// One field, a number.
-fn one_number(fields: Option<&[u8]>) -> Result<u64, LineKind>
-    ensures { result ≡ one_number (fields_behind fields.entry) }
+// One field, a key.
+fn one_key(fields: Option<&[u8]>) -> Result<Key, LineKind>
+    ensures { result ≡ one_field key_in (fields_behind fields.entry) }
 {
     let (field, rest) = first_field(fields.ok_or(LineKind::Fields)?);
     match rest {
         Some(_) => Err(LineKind::Fields),
-        None => number_of(field).ok_or(LineKind::Number),
+        None => key_in(field),
     }
 }
 
-// Two fields, both numbers.
-fn two_numbers(fields: Option<&[u8]>) -> Result<(u64, u64), LineKind>
-    ensures { result ≡ two_numbers (fields_behind fields.entry) }
+// One field, a number.
+fn one_number(fields: Option<&[u8]>) -> Result<u64, LineKind>
+    ensures { result ≡ one_field number_in (fields_behind fields.entry) }
+{
+    let (field, rest) = first_field(fields.ok_or(LineKind::Fields)?);
+    match rest {
+        Some(_) => Err(LineKind::Fields),
+        None => number_in(field),
+    }
+}
+
+// Two fields, both keys.
+fn two_keys(fields: Option<&[u8]>) -> Result<(Key, Key), LineKind>
+    ensures { result ≡ two_fields key_in key_in (fields_behind fields.entry) }
 {
     let (first, rest) = first_field(fields.ok_or(LineKind::Fields)?);
     let (second, rest) = first_field(rest.ok_or(LineKind::Fields)?);
     match rest {
         Some(_) => Err(LineKind::Fields),
         None => {
-            let first = number_of(first).ok_or(LineKind::Number)?;
-            let second = number_of(second).ok_or(LineKind::Number)?;
+            let first = key_in(first)?;
+            let second = key_in(second)?;
+            Ok((first, second))
+        }
+    }
+}
+
+// Two fields, a key and a value.
+fn key_and_value(fields: Option<&[u8]>) -> Result<(Key, u64), LineKind>
+    ensures { result ≡ two_fields key_in number_in (fields_behind fields.entry) }
+{
+    let (first, rest) = first_field(fields.ok_or(LineKind::Fields)?);
+    let (second, rest) = first_field(rest.ok_or(LineKind::Fields)?);
+    match rest {
+        Some(_) => Err(LineKind::Fields),
+        None => {
+            let key = key_in(first)?;
+            let value = number_in(second)?;
+            Ok((key, value))
+        }
+    }
+}
+
+// Two fields, both numbers.
+fn two_numbers(fields: Option<&[u8]>) -> Result<(u64, u64), LineKind>
+    ensures { result ≡ two_fields number_in number_in (fields_behind fields.entry) }
+{
+    let (first, rest) = first_field(fields.ok_or(LineKind::Fields)?);
+    let (second, rest) = first_field(rest.ok_or(LineKind::Fields)?);
+    match rest {
+        Some(_) => Err(LineKind::Fields),
+        None => {
+            let first = number_in(first)?;
+            let second = number_in(second)?;
             Ok((first, second))
         }
     }
@@ -119,25 +139,25 @@ fn reading_of_fields(word: &[u8], fields: Option<&[u8]>) -> Result<ScriptLine, L
     ensures in_range { IfOk result IsInRange }
 {
     if word == b"insert".as_slice() {
-        let (key, value) = two_numbers(fields)?;
+        let (key, value) = key_and_value(fields)?;
         return Ok(ScriptLine::Command {
             call: Call::Insert { key, value },
         });
     }
     if word == b"delete".as_slice() {
-        let key = one_number(fields)?;
+        let key = one_key(fields)?;
         return Ok(ScriptLine::Command {
             call: Call::Delete { key },
         });
     }
     if word == b"get".as_slice() {
-        let key = one_number(fields)?;
+        let key = one_key(fields)?;
         return Ok(ScriptLine::Command {
             call: Call::Get { key },
         });
     }
     if word == b"scan".as_slice() {
-        let (low, high) = two_numbers(fields)?;
+        let (low, high) = two_keys(fields)?;
         return Ok(ScriptLine::Command {
             call: Call::Scan { low, high },
         });
@@ -150,15 +170,6 @@ fn reading_of_fields(word: &[u8], fields: Option<&[u8]>) -> Result<ScriptLine, L
         return space_line(pages, log_words);
     }
     Err(LineKind::Word)
-}
-
-pub fn is_skipped(line: &[u8]) -> bool
-    ensures { result ≡ is_skipped line.now }
-{
-    match line {
-        [] => true,
-        [first, ..] => *first == b'#',
-    }
 }
 
 /// What a line, without its line feed, says by itself, or what is wrong with it: tested in the order of `LineKind`,

@@ -1,6 +1,7 @@
 //! Scripts read, and the first bad line of each kind.
 
-use crate::{LineKind, ScriptFault, read_script};
+use crate::{PlainLines, read_script};
+use ib_edge::{LineKind, ScriptFault};
 use ib_map::Call;
 use std::alloc::Global;
 
@@ -8,7 +9,7 @@ use std::alloc::Global;
 fn reads_the_commands_of_each_session(rt: HostRuntime) -> Result<(), ScriptFault> {
     let text =
         b"# two sessions\n\nspace 16 8196\nget 5\nsession 3\ninsert 18446744073709551615 0\n#\nsession 1\ndelete 7\nsession 3\nscan 2 9";
-    let script = read_script(rt.alloc(), text)?;
+    let script = read_script::<PlainLines>(rt.alloc(), text)?;
     let geometry = script.geometry();
     assert_eq!(rt; (geometry.pages(), geometry.log_words()), (16, 8196));
     assert_eq!(rt; script.sessions(), 3);
@@ -30,7 +31,7 @@ fn reads_the_commands_of_each_session(rt: HostRuntime) -> Result<(), ScriptFault
 
 #[test]
 fn takes_the_largest_space_where_none_is_named(rt: HostRuntime) -> Result<(), ScriptFault> {
-    let script = read_script(rt.alloc(), b"session 64\nsession 2\n")?;
+    let script = read_script::<PlainLines>(rt.alloc(), b"session 64\nsession 2\n")?;
     let geometry = script.geometry();
     assert_eq!(rt;
         (geometry.pages(), geometry.log_words(), script.sessions()),
@@ -44,7 +45,7 @@ fn first_bad(alloc: Global, text: &[u8]) -> Option<(u32, LineKind)> {
     if text.len() > 100 {
         return None;
     }
-    match read_script(alloc, text) {
+    match read_script::<PlainLines>(alloc, text) {
         Err(ScriptFault::BadLine { line, kind }) => Some((line, kind)),
         _ => None,
     }

@@ -1,10 +1,6 @@
-pub mod Complete
-pub mod Pieces
-pub mod Reading
+pub mod Alone
 pub mod Outs
-pub mod Steps
-pub mod Sessions
 pub mod Printing
+pub mod Sessions
+pub mod Steps
 pub mod Telling
-pub mod EventLines
-pub mod EntryLines

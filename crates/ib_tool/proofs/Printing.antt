@@ -3,7 +3,7 @@ use Rattle.std.proofs.Common.{◌≡◌, ◌∙◌, ℕ, ◌+◌, ◌<◌, List,
 use Rattle.std.proofs.lemmas.List.{append-nil, take_more, length-take-le}
 use Rattle.ib_map.specs.Replies.{FullRecord}
 use Rattle.ib_map.specs.Runs.{Runs}
-use Rattle.ib_script.specs.Output.{session_text, sessions_from}
+use Rattle.ib_text.specs.Output.{session_text, sessions_from}
 
 sessions_from-push : (number : ℕ) (runs : Runs) (rs : List FullRecord) → sessions_from number (runs ++ rs ∷ []) ≡ sessions_from number runs ++ session_text (number + length runs) rs
 sessions_from-push number [] rs = append-nil (session_text number rs) ∙ ap (λ n. session_text n rs) (sym (add-zero number))

@@ -18,3 +18,6 @@ form_of _ = None
 
 abbrev pub usage_line : List ℕ
 usage_line = codes "usage: ib_tool run | raw | latch | replay | gen N SEED SESSIONS\n"
+
+abbrev pub too_large_line : List ℕ
+too_large_line = codes "too large\n"

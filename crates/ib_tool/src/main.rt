@@ -4,33 +4,25 @@
 
 mod answer;
 mod args;
-mod bad_log;
 mod form;
 mod gate;
-mod latching;
-mod memory_sink;
-mod memory_source;
+mod laws;
 mod plain_run;
 mod print;
-mod read;
-mod replaying;
 mod run_script;
 mod session_out;
-mod source;
 mod standard;
-mod status;
+mod told_lines;
 mod top;
 
 use args::words;
 pub use gate::{Gate, OpenGate};
-pub use ib_script::{Failed, Sink};
-pub use memory_sink::MemSink;
-pub use memory_source::MemSource;
-pub use read::{INPUT_BYTES, PIECE_BYTES, ReadError, read_all};
+pub use ib_edge::{
+    Failed, INPUT_BYTES, MemSink, MemSource, PIECE_BYTES, ReadError, Sink, Source, Status, read_all,
+};
+pub use laws::alone_law;
 pub use session_out::SessionOut;
-pub use source::Source;
 pub use standard::{StdSink, StdSource};
-pub use status::Status;
 use std::process::ExitCode;
 pub use top::top;
 

@@ -1,6 +1,7 @@
 //! All sessions of a script, answered in turn.
 
-ghost use Rattle.std.specs.Prelude.{IfOk};
+ghost use Rattle.std.specs.Prelude.{◌≤◌, IfOk, vec_len};
+ghost use Rattle.ib_edge.specs.declared.line_kind.TheConstants.{MOST_SCRIPT_SESSIONS};
 ghost use Rattle.ib_script.specs.Script.{IsSmall};
 ghost use Rattle.ib_tool.specs.PlainRun.{IsPlainRun};
 
@@ -16,6 +17,7 @@ pub struct PlainRun {
     pub map: PlainMap,
     pub log: Vec<LoggedChange>,
     pub sessions: Vec<SessionOut>,
+    ghost few_sessions: { vec_len sessions ≤ MOST_SCRIPT_SESSIONS },
 }
 
 /// Runs a script's sessions by number, one after another.

@@ -2,8 +2,7 @@
 
 ghost use Rattle.std.specs.Prelude.{◌≡◌, None};
 
-use crate::source::Source;
-use ib_script::{Failed, Sink};
+use ib_edge::{Failed, Sink, Source};
 use std::io::{Read, Stdin, Stdout, Write};
 
 /// Standard input. It tells nothing of its bytes, and counts its faults from 0.

@@ -1,23 +1,18 @@
 //! The public call `top`: the program, from the bytes that it reads to the bytes that it writes.
 
-ghost use Rattle.std.specs.Prelude.{◌≡◌, Some, map, string_bytes, IfSome};
-ghost use Rattle.ib_script.specs.Faults.{Rose};
-ghost use Rattle.ib_tool.specs.Answers.{IsOwedAt, IsSilent, IsSilentAt, IsValid, Owes};
-ghost use Rattle.ib_tool.specs.Told.{IsComplete, Told};
+ghost use Rattle.std.specs.Prelude.{◌≡◌, Some, map, string_bytes};
+ghost use Rattle.ib_edge.specs.Faults.{Rose};
+ghost use Rattle.ib_tool.specs.Answers.{IsOwedAt, IsServed, IsSilent, IsSilentAt, Owes};
+ghost use Rattle.ib_edge.specs.Told.{IsComplete, Told};
 ghost use Rattle.ib_tool.specs.Words.{form_of};
+ghost use Rattle.ib_tool.specs.declared.form.Form.{Form};
 
 use crate::answer::answer;
 use crate::form::{Form, form_of};
 use crate::gate::Gate;
-use crate::read::{INPUT_BYTES, ReadError, read_all};
-use crate::source::Source;
-use crate::status::Status;
-use ib_script::{Sink, write_all};
+use crate::told_lines::{TooLargeLine, UsageLine};
+use ib_edge::{INPUT_BYTES, ReadError, Sink, Source, Status, read_all, tell};
 use std::alloc::Global;
-
-const USAGE: &[u8] = b"usage: ib_tool run | raw | latch | replay | gen N SEED SESSIONS\n";
-
-const LARGE: &[u8] = b"too large\n";
 
 // Reads the input, and answers it.
 fn read_and_answer<S: Source, K: Sink>(
@@ -34,10 +29,7 @@ fn read_and_answer<S: Source, K: Sink>(
         Ok(input) => answer(alloc, form, &input, sink),
         Err(ReadError::Memory) => Status::Memory,
         Err(ReadError::Fault) => Status::ReadFault,
-        Err(ReadError::TooLarge) => match write_all(sink, LARGE) {
-            Ok(()) => Status::TooLarge,
-            Err(_) => Status::WriteFault,
-        },
+        Err(ReadError::TooLarge) => tell(sink, TooLargeLine, Status::TooLarge),
     }
 }
 
@@ -55,10 +47,7 @@ fn dispatch<S: Source, K: Sink>(
 {
     match form_of(words) {
         Some(form) => read_and_answer(alloc, form, source, sink),
-        None => match write_all(sink, USAGE) {
-            Ok(()) => Status::Usage,
-            Err(_) => Status::WriteFault,
-        },
+        None => tell(sink, UsageLine, Status::Usage),
     }
 }
 
@@ -83,10 +72,10 @@ pub fn top<S: Source, K: Sink, G: Gate + Sync>(
     ensures read { result ≡ Status.ReadFault → Rose (S.faults source.old) (S.faults source.new) }
     ensures write { result ≡ Status.WriteFault → Rose (K.faults sink.old) (K.faults sink.new) }
 
-    // A valid input is answered and the whole output written, unless memory runs out or one side fails.
-    ensures complete { IfSome (S.left source.old) (λ input. (form : Form) → form_of (map (λ w. string_bytes w) words.now) ≡ Some form → IsValid form input →
+    // A form that gets what it needs is answered and the whole output written, unless memory runs out or one side fails.
+    ensures complete { (form : Form) → form_of (map (λ w. string_bytes w) words.now) ≡ Some form → IsServed form (S.left source.old) →
         (Rose (S.faults source.old) (S.faults source.new) → ⊥) → (Rose (K.faults sink.old) (K.faults sink.new) → ⊥) →
-        IsComplete (Owes (map (λ w. string_bytes w) words.now) (S.left source.old) (S.left source.new)) (K.written sink.old) (K.written sink.new) result) }
+        IsComplete (Owes (map (λ w. string_bytes w) words.now) (S.left source.old) (S.left source.new)) (K.written sink.old) (K.written sink.new) result }
 {
     dispatch(alloc, words, source, sink)
 }

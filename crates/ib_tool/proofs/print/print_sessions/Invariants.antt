@@ -1,6 +1,6 @@
 use Rattle.std.proofs.Common.{◌≡◌, ◌+◌, take}
-use Rattle.ib_script.specs.Output.{sessions_from}
-use Rattle.ib_script.specs.Writer.{Puts}
+use Rattle.ib_text.specs.Output.{sessions_from}
+use Rattle.ib_edge.specs.Writer.{Puts}
 use Rattle.ib_tool.proofs.print.print_sessions.Given as goal
 
 abbrev pub invariant-loop-out : goal.invariant-loop-out

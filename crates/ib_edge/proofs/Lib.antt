@@ -1,0 +1,9 @@
+pub mod Cuts
+pub mod Fields
+pub mod Pieces
+pub mod Reached
+pub mod Reading
+pub mod Sending
+pub mod Spelling
+pub mod Telling
+pub mod Writing

@@ -1,0 +1,31 @@
+-- Bad lines, and how one is told.
+use Rattle.std.specs.Prelude.{◌≡◌, ℕ, List, ◌++◌, Option, Some, codes, decimal}
+use Rattle.ib_edge.specs.declared.bad_line.LineFault.{LineFault}
+use Rattle.ib_edge.specs.declared.bad_line.LineFault.TheVariants.{Bad, OutOfMemory}
+use Rattle.ib_edge.specs.declared.bad_line.ScriptFault.{ScriptFault}
+use Rattle.ib_edge.specs.declared.bad_line.ScriptFault.TheVariants.{BadLine, OutOfMemory as NoMemory}
+use Rattle.ib_edge.specs.declared.line_kind.LineKind.{LineKind}
+use Rattle.ib_edge.specs.declared.line_kind.LineKind.TheVariants.{Word, Fields, Number, Session, Space, Many, Latch, Level}
+
+abbrev pub kind_text : LineKind → List ℕ
+kind_text Word = codes "word"
+kind_text Fields = codes "fields"
+kind_text Number = codes "number"
+kind_text Session = codes "session"
+kind_text Space = codes "space"
+kind_text Many = codes "many"
+kind_text Latch = codes "latch"
+kind_text Level = codes "level"
+
+-- the line's number and what is wrong with it
+abbrev pub fault_text : ℕ → LineKind → List ℕ
+fault_text line kind = codes "script: line " ++ decimal line ++ codes ": " ++ kind_text kind ++ codes "\n"
+
+-- a fault is what is wrong with the line, or want of memory
+abbrev pub IsFault : Option LineKind → LineFault → Type 0
+IsFault found (Bad kind) = found ≡ Some kind
+IsFault found OutOfMemory = Unit {0}
+
+abbrev pub fault_at : ℕ → LineFault → ScriptFault
+fault_at line (Bad kind) = BadLine line kind
+fault_at line OutOfMemory = NoMemory

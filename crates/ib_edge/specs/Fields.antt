@@ -1,0 +1,25 @@
+-- Fields of a line, read from left to right: the first that is wrong is told.
+use Rattle.std.specs.Prelude.{ℕ, List, [], ◌∷◌, Some, None, Result, Ok, Err}
+use Rattle.ib_edge.specs.Numbers.{number_of}
+use Rattle.ib_edge.specs.declared.line_kind.LineKind.{LineKind}
+use Rattle.ib_edge.specs.declared.line_kind.LineKind.TheVariants.{Fields, Number}
+
+-- what is behind a result
+infixl 10 ◌>>=◌
+abbrev pub ◌>>=◌ : {A B : Type 0} → Result A LineKind → (A → Result B LineKind) → Result B LineKind
+(Ok a) >>= f = f a
+(Err kind) >>= f = Err kind
+
+-- a field that is a number
+abbrev pub number_in : List ℕ → Result ℕ LineKind
+number_in field = elim (number_of field) [ Some n ↦ Ok n | None ↦ Err Number ]
+
+-- one field, read so
+abbrev pub one_field : {A : Type 0} → (List ℕ → Result A LineKind) → List (List ℕ) → Result A LineKind
+one_field read (field ∷ []) = read field
+one_field read _ = Err Fields
+
+-- two fields, each read so
+abbrev pub two_fields : {A B : Type 0} → (List ℕ → Result A LineKind) → (List ℕ → Result B LineKind) → List (List ℕ) → Result (A × B) LineKind
+two_fields first second (f ∷ s ∷ []) = first f >>= (λ a. second s >>= (λ b. Ok (a, b)))
+two_fields first second _ = Err Fields

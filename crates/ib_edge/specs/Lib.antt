@@ -1,0 +1,10 @@
+pub mod Faults
+pub mod Input
+pub mod Lines
+pub mod Numbers
+pub mod Fields
+pub mod BadLines
+pub mod Memory
+pub mod Status
+pub mod Told
+pub mod Writer

@@ -1,0 +1,98 @@
+//! A bad line, and the one text that tells it.
+
+ghost use Rattle.std.specs.Prelude.{◌≡◌};
+ghost use Rattle.ib_edge.specs.BadLines.{fault_at, kind_text};
+ghost use Rattle.ib_edge.specs.Writer.{Puts};
+
+use crate::line_kind::LineKind;
+use crate::printed::Printed;
+use crate::sink::Sink;
+use crate::writer::Writer;
+use std::alloc::AllocError;
+use thiserror::Error;
+
+/// Why a line is not taken.
+#[derive(Drop)]
+pub enum LineFault {
+    Bad(LineKind),
+    OutOfMemory,
+}
+
+/// Why an input is not read.
+#[derive(Debug, Drop, Error)]
+pub enum ScriptFault {
+    /// The first bad line, counted from 1 over all lines.
+    #[error("line {line} is bad")]
+    BadLine { line: u32, kind: LineKind },
+    #[error("out of memory")]
+    OutOfMemory,
+}
+
+impl From<LineKind> for LineFault {
+    ghost use Rattle.std.specs.Prelude.{◌≡◌};
+    ghost use Rattle.ib_edge.specs.declared.bad_line.LineFault.TheVariants.{Bad};
+
+    ghost from_gives = { λ kind e. e ≡ Bad kind };
+
+    fn from(kind: LineKind) -> LineFault {
+        LineFault::Bad(kind)
+    }
+}
+
+impl From<AllocError> for LineFault {
+    ghost use Rattle.std.specs.Prelude.{◌≡◌};
+    ghost use Rattle.ib_edge.specs.declared.bad_line.LineFault.TheVariants.{OutOfMemory};
+
+    ghost from_gives = { λ _ e. e ≡ OutOfMemory };
+
+    fn from(_: AllocError) -> LineFault {
+        LineFault::OutOfMemory
+    }
+}
+
+impl LineFault {
+    /// The fault, where the line has this number.
+    pub fn at(self, line: u32) -> ScriptFault
+        ensures { result ≡ fault_at line self }
+    {
+        match self {
+            LineFault::Bad(kind) => ScriptFault::BadLine { line, kind },
+            LineFault::OutOfMemory => ScriptFault::OutOfMemory,
+        }
+    }
+}
+
+/// A line, counted from 1 over all lines, and what is wrong with it. Its text is `script: line N: KIND`.
+#[derive(Clone, Copy, Debug, PartialEq, Eq)]
+pub struct BadLine {
+    pub line: u32,
+    pub kind: LineKind,
+}
+
+fn print_kind<K: Sink>(writer: &mut Writer<'_, K>, kind: LineKind)
+    ensures puts { Puts K.written K.faults writer.old writer.new (kind_text kind) }
+{
+    match kind {
+        LineKind::Word => writer.text(b"word"),
+        LineKind::Fields => writer.text(b"fields"),
+        LineKind::Number => writer.text(b"number"),
+        LineKind::Session => writer.text(b"session"),
+        LineKind::Space => writer.text(b"space"),
+        LineKind::Many => writer.text(b"many"),
+        LineKind::Latch => writer.text(b"latch"),
+        LineKind::Level => writer.text(b"level"),
+    }
+}
+
+impl Printed for BadLine {
+    ghost use Rattle.ib_edge.specs.BadLines.{fault_text};
+
+    ghost text = { λ bad. fault_text bad.line bad.kind };
+
+    fn print<K: Sink>(self, writer: &mut Writer<'_, K>) {
+        writer.word_and_number(b"script: line ", u64::from(self.line));
+        writer.text(b": ");
+        print_kind(writer, self.kind);
+        writer.byte(b'\n');
+    }
+}

@@ -1,0 +1,146 @@
+-- The events of a text are of sessions and latches that there are.
+use Rattle.std.proofs.Common.{◌≡◌, ◌≤◌, ℕ, List, [], ◌∷◌, Bool, true, false, map, refl, sym, ap, ◌∙◌, cond}
+use Rattle.std.specs.Prelude.{Option, Some, None, Result, Ok, Err, nat_le, ◌&&◌, if◌then◌else◌}
+use Rattle.std.specs.List.{AllByRecursion}
+use Rattle.std.proofs.lemmas.Bool.{leb-true}
+use Rattle.ib_core.specs.declared.event.Event.{Event}
+use Rattle.ib_core.specs.declared.event.Event.TheVariants.{S, Sx, X, Us, Usx, Ux, Arm, Flag, Again, Quit, Sleep, Ready, Exarm, Look, Clear, Raise}
+use Rattle.ib_core.specs.Responses.{latch_of}
+use Rattle.ib_levels.specs.declared.level.Level.{Level}
+use Rattle.ib_levels.specs.declared.level.Mode.{Mode}
+use Rattle.ib_events.specs.Events.{EventReading, IsInRange, events_in, event_of, event_word, event_reading_of, event_reading_of_fields, latch_in, latch_in_mode, level_in, mode_in, number_passing, session_in, worded}
+use Rattle.ib_edge.specs.Fields.{◌>>=◌, one_field, two_fields}
+use Rattle.ib_edge.specs.Lines.{fields_of}
+use Rattle.ib_edge.specs.Numbers.{number_of}
+use Rattle.ib_edge.specs.Lines.{is_skipped}
+use Rattle.ib_events.specs.declared.event_line.TheConstants.{MOST_LATCH}
+use Rattle.ib_events.specs.declared.event_line.EventLine.TheVariants.{Skipped, Event as EventOf}
+use Rattle.ib_events.specs.declared.event_line.EventWord.{EventWord}
+use Rattle.ib_events.specs.declared.event_line.EventWord.TheVariants.{S as WordS, Sx as WordSx, X as WordX, Us as WordUs, Usx as WordUsx, Ux as WordUx, Arm as WordArm, Flag as WordFlag, Again as WordAgain, Quit as WordQuit, Sleep as WordSleep, Ready as WordReady, Exarm as WordExarm, Look as WordLook, Clear as WordClear, Raise as WordRaise}
+use Rattle.ib_edge.specs.declared.line_kind.LineKind.{LineKind}
+use Rattle.ib_edge.specs.declared.line_kind.LineKind.TheVariants.{Number, Session, Latch}
+use Rattle.ib_edge.specs.declared.line_kind.TheConstants.{MOST_SCRIPT_SESSIONS}
+
+-- both parts of a reading that is good are good
+both-ok : {A B : Type 0} (r : Result A LineKind) (f : A → Result B LineKind) (b : B) → (r >>= f) ≡ Ok b → (a : A) × (r ≡ Ok a) × (f a ≡ Ok b)
+both-ok (Ok a) f b is = (a, refl, is)
+both-ok (Err kind) f b is = absurd (cc)
+
+number_passing-passes : (passes : ℕ → Bool) (kind : LineKind) (field : List ℕ) (n : ℕ) → number_passing passes kind field ≡ Ok n → passes n ≡ true
+number_passing-passes passes kind field n = read (number_of field)
+  where
+    test : (m : ℕ) (b : Bool) → passes m ≡ b → cond {A = Result ℕ LineKind} b (Ok m) (Err kind) ≡ Ok n → passes n ≡ true
+    test m true passed is = let same : m ≡ n = cc in rw same at passed
+    test m false passed is = absurd (cc)
+
+    read : (o : Option ℕ) → (let r : Result ℕ LineKind = elim o [ Some m ↦ if passes m then Ok m else Err kind | None ↦ Err Number ] in r ≡ Ok n) → passes n ≡ true
+    read None is = absurd (cc)
+    read (Some m) is = test m (passes m) refl is
+
+both : (a b : Bool) → (a && b) ≡ true → (a ≡ true) × (b ≡ true)
+both true true is = (refl, refl)
+both true false is = absurd (cc)
+both false b is = absurd (cc)
+
+session_in-range : (field : List ℕ) (n : ℕ) → session_in field ≡ Ok n → (1 ≤ n) × (n ≤ MOST_SCRIPT_SESSIONS)
+session_in-range field n is =
+    let passed = both (nat_le 1 n) (nat_le n MOST_SCRIPT_SESSIONS) (number_passing-passes (λ n. nat_le 1 n && nat_le n MOST_SCRIPT_SESSIONS) Session field n is) in
+    (leb-true 1 n passed.0, leb-true n MOST_SCRIPT_SESSIONS passed.1)
+
+latch_in-range : (field : List ℕ) (n : ℕ) → latch_in field ≡ Ok n → n ≤ MOST_LATCH
+latch_in-range field n is = leb-true n MOST_LATCH (number_passing-passes (λ n. nat_le n MOST_LATCH) Latch field n is)
+
+alone-range : (fields : List (List ℕ)) (n : ℕ) → one_field latch_in fields ≡ Ok n → n ≤ MOST_LATCH
+alone-range [] n is = absurd (cc)
+alone-range (l ∷ []) n is = latch_in-range l n is
+alone-range (l ∷ m ∷ fields) n is = absurd (cc)
+
+level-range : (fields : List (List ℕ)) (at : ℕ × Level) → two_fields latch_in level_in fields ≡ Ok at → at.0 ≤ MOST_LATCH
+level-range [] at is = absurd (cc)
+level-range (l ∷ []) at is = absurd (cc)
+level-range (l ∷ v ∷ []) at is =
+    let latch = both-ok (latch_in l) (λ latch. level_in v >>= (λ level. Ok (latch, level))) at is in
+    let level = both-ok (level_in v) (λ level. Ok (latch.0, level)) at latch.2 in
+    let same : latch.0 ≡ at.0 = cc in
+    rw same at (latch_in-range l latch.0 latch.1)
+level-range (l ∷ v ∷ m ∷ fields) at is = absurd (cc)
+
+mode-range : (fields : List (List ℕ)) (at : ℕ × Mode × Level) → latch_in_mode fields ≡ Ok at → at.0 ≤ MOST_LATCH
+mode-range [] at is = absurd (cc)
+mode-range (l ∷ []) at is = absurd (cc)
+mode-range (l ∷ m ∷ []) at is = absurd (cc)
+mode-range (l ∷ m ∷ v ∷ []) at is =
+    let latch = both-ok (latch_in l) (λ latch. mode_in m >>= (λ mode. level_in v >>= (λ level. Ok (latch, mode, level)))) at is in
+    let mode = both-ok (mode_in m) (λ mode. level_in v >>= (λ level. Ok (latch.0, mode, level))) at latch.2 in
+    let level = both-ok (level_in v) (λ level. Ok (latch.0, mode.0, level)) at mode.2 in
+    let same : latch.0 ≡ at.0 = cc in
+    rw same at (latch_in-range l latch.0 latch.1)
+mode-range (l ∷ m ∷ v ∷ n ∷ fields) at is = absurd (cc)
+
+-- an event made of a latch that is read
+made-alone : (make : ℕ → Event) → ((n : ℕ) → latch_of (make n) ≡ n) → (fields : List (List ℕ)) (event : Event) → (one_field latch_in fields >>= (λ latch. Ok (make latch))) ≡ Ok event → latch_of event ≤ MOST_LATCH
+made-alone make of fields event is =
+    let read = both-ok (one_field latch_in fields) (λ latch. Ok (make latch)) event is in
+    let same : latch_of event ≡ read.0 = let e : make read.0 ≡ event = cc in ap latch_of (sym e) ∙ of read.0 in
+    rw (sym same) at (alone-range fields read.0 read.1)
+
+made-at-level : (make : ℕ → Level → Event) → ((n : ℕ) (v : Level) → latch_of (make n v) ≡ n) → (fields : List (List ℕ)) (event : Event)
+    → (two_fields latch_in level_in fields >>= (λ at. Ok (make at.0 at.1))) ≡ Ok event → latch_of event ≤ MOST_LATCH
+made-at-level make of fields event is =
+    let read = both-ok (two_fields latch_in level_in fields) (λ at. Ok (make at.0 at.1)) event is in
+    let same : latch_of event ≡ read.0.0 = let e : make read.0.0 read.0.1 ≡ event = cc in ap latch_of (sym e) ∙ of read.0.0 read.0.1 in
+    rw (sym same) at (level-range fields read.0 read.1)
+
+event-range : (word : EventWord) (fields : List (List ℕ)) (event : Event) → event_of word fields ≡ Ok event → latch_of event ≤ MOST_LATCH
+event-range WordS fields event is = made-at-level S (λ n v. refl) fields event is
+event-range WordSx fields event is = made-at-level Sx (λ n v. refl) fields event is
+event-range WordX fields event is = made-at-level X (λ n v. refl) fields event is
+event-range WordArm fields event is =
+    let read = both-ok (latch_in_mode fields) (λ at. Ok (Arm at.0 at.1 at.2)) event is in
+    let same : latch_of event ≡ read.0.0 = let e : Arm read.0.0 read.0.1 read.0.2 ≡ event = cc in ap latch_of (sym e) in
+    rw (sym same) at (mode-range fields read.0 read.1)
+event-range WordUs fields event is = made-alone Us (λ n. refl) fields event is
+event-range WordUsx fields event is = made-alone Usx (λ n. refl) fields event is
+event-range WordUx fields event is = made-alone Ux (λ n. refl) fields event is
+event-range WordFlag fields event is = made-alone Flag (λ n. refl) fields event is
+event-range WordAgain fields event is = made-alone Again (λ n. refl) fields event is
+event-range WordQuit fields event is = made-alone Quit (λ n. refl) fields event is
+event-range WordSleep fields event is = made-alone Sleep (λ n. refl) fields event is
+event-range WordReady fields event is = made-alone Ready (λ n. refl) fields event is
+event-range WordExarm fields event is = made-alone Exarm (λ n. refl) fields event is
+event-range WordLook fields event is = made-alone Look (λ n. refl) fields event is
+event-range WordClear fields event is = made-alone Clear (λ n. refl) fields event is
+event-range WordRaise fields event is = made-alone Raise (λ n. refl) fields event is
+
+worded-range : (word : Option EventWord) (fields : List (List ℕ)) (event : Event) → worded word fields ≡ Ok event → latch_of event ≤ MOST_LATCH
+worded-range None fields event is = absurd (cc)
+worded-range (Some word) fields event is = event-range word fields event is
+
+fields-range : (fields : List (List ℕ)) (session : ℕ) (event : Event) → event_reading_of_fields fields ≡ Ok (EventOf session event) → IsInRange (session, event)
+fields-range [] session event is = absurd (cc)
+fields-range (n ∷ []) session event is = absurd (cc)
+fields-range (n ∷ word ∷ fields) session event is =
+    let first = both-ok (session_in n) (λ session. worded (event_word word) fields >>= (λ event. Ok (EventOf session event))) (EventOf session event) is in
+    let second = both-ok (worded (event_word word) fields) (λ event. Ok (EventOf first.0 event)) (EventOf session event) first.2 in
+    let same : first.0 ≡ session = cc in
+    let same-event : second.0 ≡ event = cc in
+    let sessions : (1 ≤ session) × (session ≤ MOST_SCRIPT_SESSIONS) = rw same at (session_in-range n first.0 first.1) in
+    let latch : latch_of event ≤ MOST_LATCH = rw same-event at (worded-range (event_word word) fields second.0 second.1) in
+    (sessions.0, sessions.1, latch)
+
+line-range : (line : List ℕ) (session : ℕ) (event : Event) → event_reading_of line ≡ Ok (EventOf session event) → IsInRange (session, event)
+line-range line session event = go (is_skipped line)
+  where
+    go : (b : Bool) → cond {A = EventReading} b (Ok Skipped) (event_reading_of_fields (fields_of line)) ≡ Ok (EventOf session event) → IsInRange (session, event)
+    go true is = absurd (cc)
+    go false is = fields-range (fields_of line) session event is
+
+one-more : (reading : EventReading) (readings : List EventReading) → ((session : ℕ) (event : Event) → reading ≡ Ok (EventOf session event) → IsInRange (session, event))
+    → AllByRecursion IsInRange (events_in readings) → AllByRecursion IsInRange (events_in (reading ∷ readings))
+one-more (Ok (EventOf session event)) readings known all = (known session event refl, all)
+one-more (Ok Skipped) readings known all = all
+one-more (Err kind) readings known all = all
+
+pub events-in-range : (lines : List (List ℕ)) → AllByRecursion IsInRange (events_in (map event_reading_of lines))
+events-in-range [] = tt
+events-in-range (line ∷ lines) = one-more (event_reading_of line) (map event_reading_of lines) (line-range line) (events-in-range lines)

@@ -1,0 +1,164 @@
+-- Events: what a text asks of the latch machine, and which of its lines is the first bad one.
+use Rattle.std.specs.Prelude.{◌≡◌, ◌≤◌, MatchResult, ℕ, List, [], ◌∷◌, ◌++◌, Bool, Option, Some, None, Result, Ok, Err, codes, bytes_eq, nat_le, nat_lt, ◌&&◌, length, ◌==◌, if◌then◌else◌}
+use Rattle.std.specs.List.{filter_map}
+use Rattle.ib_levels.specs.declared.level.Level.{Level}
+use Rattle.ib_levels.specs.declared.level.Level.TheVariants.{Log, PageNew, Space as SpaceLevel, TreeNode, IndexTree}
+use Rattle.ib_levels.specs.declared.level.Mode.{Mode}
+use Rattle.ib_levels.specs.declared.level.Mode.TheVariants.{S as ModeS, Sx as ModeSx, X as ModeX}
+use Rattle.ib_core.specs.Responses.{latch_of}
+use Rattle.ib_core.specs.declared.event.Event.{Event}
+use Rattle.ib_core.specs.declared.event.Event.TheVariants.{S, Sx, X, Us, Usx, Ux, Arm, Flag, Again, Quit, Sleep, Ready, Exarm, Look, Clear, Raise}
+use Rattle.ib_edge.specs.Fields.{◌>>=◌, one_field, two_fields}
+use Rattle.ib_edge.specs.Lines.{fields_of, first_bad, is_skipped, readings_by}
+use Rattle.ib_edge.specs.BadLines.{IsFault}
+use Rattle.ib_edge.specs.declared.bad_line.LineFault.{LineFault}
+use Rattle.ib_edge.specs.Numbers.{number_of}
+use Rattle.ib_events.specs.declared.event_line.TheConstants.{MOST_LATCH, MOST_EVENTS}
+use Rattle.ib_events.specs.declared.event_line.EventLine.{EventLine}
+use Rattle.ib_events.specs.declared.event_line.EventLine.TheVariants.{Skipped, Event as EventOf}
+use Rattle.ib_events.specs.declared.event_line.EventWord.{EventWord}
+use Rattle.ib_events.specs.declared.event_line.EventWord.TheVariants.{S as WordS, Sx as WordSx, X as WordX, Us as WordUs, Usx as WordUsx, Ux as WordUx, Arm as WordArm, Flag as WordFlag, Again as WordAgain, Quit as WordQuit, Sleep as WordSleep, Ready as WordReady, Exarm as WordExarm, Look as WordLook, Clear as WordClear, Raise as WordRaise}
+use Rattle.ib_edge.specs.declared.line_kind.TheConstants.{MOST_SCRIPT_SESSIONS}
+use Rattle.ib_edge.specs.declared.line_kind.LineKind.{LineKind}
+use Rattle.ib_edge.specs.declared.line_kind.LineKind.TheVariants.{Word, Fields, Number, Session, Many, Latch, Level as LevelKind}
+
+-- what a line says by itself, or what is wrong with it
+abbrev pub EventReading : Type 0
+EventReading = Result EventLine LineKind
+
+-- a field's number, where it is one, if it passes the test; else the line is of this kind
+abbrev pub number_passing : (ℕ → Bool) → LineKind → List ℕ → Result ℕ LineKind
+number_passing passes kind field = elim (number_of field) [ Some n ↦ if passes n then Ok n else Err kind | None ↦ Err Number ]
+
+abbrev pub session_in : List ℕ → Result ℕ LineKind
+session_in field = number_passing (λ n. nat_le 1 n && nat_le n MOST_SCRIPT_SESSIONS) Session field
+
+abbrev pub latch_in : List ℕ → Result ℕ LineKind
+latch_in field = number_passing (λ n. nat_le n MOST_LATCH) Latch field
+
+-- the level with this number, 1 to 5
+abbrev pub level_numbered : ℕ → Option Level
+level_numbered n =
+    if n == 1 then Some Log
+    else if n == 2 then Some PageNew
+    else if n == 3 then Some SpaceLevel
+    else if n == 4 then Some TreeNode
+    else if n == 5 then Some IndexTree
+    else None
+
+-- a level by its number
+abbrev pub level_of : Option ℕ → Result Level LineKind
+level_of None = Err Number
+level_of (Some n) = elim (level_numbered n) [ Some level ↦ Ok level | None ↦ Err LevelKind ]
+
+abbrev pub level_in : List ℕ → Result Level LineKind
+level_in field = level_of (number_of field)
+
+-- a mode by its word
+abbrev pub mode_in : List ℕ → Result Mode LineKind
+mode_in field =
+    if bytes_eq field (codes "s") then Ok ModeS
+    else if bytes_eq field (codes "sx") then Ok ModeSx
+    else if bytes_eq field (codes "x") then Ok ModeX
+    else Err Word
+
+-- the words of the steps of waiting and signalling
+abbrev pub waiting_word : List ℕ → Option EventWord
+waiting_word word =
+    if bytes_eq word (codes "flag") then Some WordFlag
+    else if bytes_eq word (codes "again") then Some WordAgain
+    else if bytes_eq word (codes "quit") then Some WordQuit
+    else if bytes_eq word (codes "sleep") then Some WordSleep
+    else if bytes_eq word (codes "ready") then Some WordReady
+    else if bytes_eq word (codes "exarm") then Some WordExarm
+    else if bytes_eq word (codes "look") then Some WordLook
+    else if bytes_eq word (codes "clear") then Some WordClear
+    else if bytes_eq word (codes "raise") then Some WordRaise
+    else None
+
+-- an event by its word
+abbrev pub event_word : List ℕ → Option EventWord
+event_word word =
+    if bytes_eq word (codes "s") then Some WordS
+    else if bytes_eq word (codes "sx") then Some WordSx
+    else if bytes_eq word (codes "x") then Some WordX
+    else if bytes_eq word (codes "us") then Some WordUs
+    else if bytes_eq word (codes "usx") then Some WordUsx
+    else if bytes_eq word (codes "ux") then Some WordUx
+    else if bytes_eq word (codes "arm") then Some WordArm
+    else waiting_word word
+
+-- the three fields of an event on a latch in a mode at a level
+abbrev pub latch_in_mode : List (List ℕ) → Result (ℕ × Mode × Level) LineKind
+latch_in_mode (l ∷ m ∷ v ∷ []) = latch_in l >>= (λ latch. mode_in m >>= (λ mode. level_in v >>= (λ level. Ok (latch, mode, level))))
+latch_in_mode _ = Err Fields
+
+-- an event by its word and the fields behind it
+abbrev pub event_of : EventWord → List (List ℕ) → Result Event LineKind
+event_of WordS fields = two_fields latch_in level_in fields >>= (λ at. Ok (S at.0 at.1))
+event_of WordSx fields = two_fields latch_in level_in fields >>= (λ at. Ok (Sx at.0 at.1))
+event_of WordX fields = two_fields latch_in level_in fields >>= (λ at. Ok (X at.0 at.1))
+event_of WordArm fields = latch_in_mode fields >>= (λ at. Ok (Arm at.0 at.1 at.2))
+event_of WordUs fields = one_field latch_in fields >>= (λ latch. Ok (Us latch))
+event_of WordUsx fields = one_field latch_in fields >>= (λ latch. Ok (Usx latch))
+event_of WordUx fields = one_field latch_in fields >>= (λ latch. Ok (Ux latch))
+event_of WordFlag fields = one_field latch_in fields >>= (λ latch. Ok (Flag latch))
+event_of WordAgain fields = one_field latch_in fields >>= (λ latch. Ok (Again latch))
+event_of WordQuit fields = one_field latch_in fields >>= (λ latch. Ok (Quit latch))
+event_of WordSleep fields = one_field latch_in fields >>= (λ latch. Ok (Sleep latch))
+event_of WordReady fields = one_field latch_in fields >>= (λ latch. Ok (Ready latch))
+event_of WordExarm fields = one_field latch_in fields >>= (λ latch. Ok (Exarm latch))
+event_of WordLook fields = one_field latch_in fields >>= (λ latch. Ok (Look latch))
+event_of WordClear fields = one_field latch_in fields >>= (λ latch. Ok (Clear latch))
+event_of WordRaise fields = one_field latch_in fields >>= (λ latch. Ok (Raise latch))
+
+-- an event whose word may be none
+abbrev pub worded : Option EventWord → List (List ℕ) → Result Event LineKind
+worded None fields = Err Word
+worded (Some word) fields = event_of word fields
+
+-- a line by its fields: the session, the event's word, and what is behind it
+abbrev pub event_reading_of_fields : List (List ℕ) → EventReading
+event_reading_of_fields (n ∷ word ∷ fields) =
+    session_in n >>= (λ session. worded (event_word word) fields >>= (λ event. Ok (EventOf session event)))
+event_reading_of_fields _ = Err Fields
+
+abbrev pub event_reading_of : List ℕ → EventReading
+event_reading_of line = if is_skipped line then Ok Skipped else event_reading_of_fields (fields_of line)
+
+-- an event of a session that there is, on a latch that there is
+abbrev pub IsInRange : ℕ × Event → Type 0
+IsInRange at = (1 ≤ at.0) × (at.0 ≤ MOST_SCRIPT_SESSIONS) × (latch_of at.1 ≤ MOST_LATCH)
+
+-- the event of a line, with its session
+abbrev pub event_in : EventReading → Option (ℕ × Event)
+event_in (Ok (EventOf session event)) = Some (session, event)
+event_in _ = None
+
+-- the events of the lines, each with its session
+abbrev pub events_in : List EventReading → List (ℕ × Event)
+events_in readings = filter_map event_in readings
+
+-- what is wrong with a line behind these
+abbrev pub event_fault_behind : List EventReading → EventReading → Option LineKind
+event_fault_behind before (Err kind) = Some kind
+event_fault_behind before (Ok Skipped) = None
+event_fault_behind before (Ok (EventOf session event)) = if nat_lt (length (events_in before)) MOST_EVENTS then None else Some Many
+
+-- the first bad line of a text of events: its number, counted from 1 over all lines, and its kind
+abbrev pub event_fault : List ℕ → Option (ℕ × LineKind)
+event_fault text = first_bad event_fault_behind [] (readings_by event_reading_of text)
+
+-- the events that a text asks for
+abbrev pub events_of : List ℕ → List (ℕ × Event)
+events_of text = events_in (readings_by event_reading_of text)
+
+-- these are the events of the lines so far
+abbrev pub AreEvents : List EventReading → List (ℕ × Event) → Type 0
+AreEvents before events = events ≡ events_in before
+
+-- a line of events is taken where nothing is wrong with it behind those before
+abbrev pub TakesEvent : {T : Type 0} → EventReading → List (ℕ × Event) → Result T LineFault → List (ℕ × Event) → Type 0
+TakesEvent reading old result new =
+    (before : List EventReading) → AreEvents before old
+    → MatchResult result (λ _. (event_fault_behind before reading ≡ None) × AreEvents (before ++ reading ∷ []) new) (IsFault (event_fault_behind before reading))

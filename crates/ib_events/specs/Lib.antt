@@ -1,0 +1,4 @@
+pub mod Events
+pub mod EventText
+pub mod Latching
+pub mod Answers

@@ -1,0 +1,93 @@
+//! All events of an input, or its first bad line.
+
+ghost use Rattle.std.specs.Prelude.{◌≡◌, ◌≤◌, ◌-◌, ◌<◌, ◌^◌, ◌+◌, ℕ, None, Some, Ok, Err, [], ◌∷◌, ◌++◌, length, vec_len, IfOk, OnOk};
+ghost use Rattle.std.specs.List.{AllByRecursion};
+ghost use Rattle.ib_events.specs.Events.{IsInRange, TakesEvent, event_fault, event_reading_of, events_of};
+ghost use Rattle.ib_edge.specs.declared.line_kind.LineKind.{LineKind};
+
+use crate::event_line::{EventLine, MOST_EVENTS, event_reading_of};
+use ib_core::Event;
+use ib_edge::{LineFault, LineKind, ScriptFault, first_line};
+use std::alloc::{AllocError, Global};
+use std::marker::Model;
+
+/// Events to be run on the latch machine, each with its session.
+#[derive(Drop)]
+pub struct Events {
+    list: Vec<(u32, Event)>,
+}
+
+impl Model for Events {
+    ghost use Rattle.std.specs.Prelude.{List, ℕ, ◌≤◌, vec_len};
+    ghost use Rattle.ib_core.specs.declared.event.Event.{Event};
+    ghost use Rattle.ib_events.specs.declared.event_line.TheConstants.{MOST_EVENTS};
+    ghost use Rattle.std.specs.List.{AllByRecursion};
+    ghost use Rattle.ib_events.specs.Events.{IsInRange};
+
+    ghost Value = { List (ℕ × Event) };
+
+    ghost view = { λ events. events.list.items };
+
+    ghost invariant = { λ events. (vec_len events.list ≤ MOST_EVENTS) × AllByRecursion IsInRange events.list.items };
+}
+
+impl Events {
+    /// The events in order, at most `MOST_EVENTS`, each of a session and on a latch that there is.
+    pub fn list(&self) -> &[(u32, Event)]
+        ensures list { result.now ≡ self.now }
+        ensures few { length self.now ≤ MOST_EVENTS }
+        ensures in_range { AllByRecursion IsInRange self.now }
+    {
+        &self.list
+    }
+}
+
+// An event at the end.
+fn add(list: &mut Vec<(u32, Event)>, session: u32, event: Event) -> Result<(), AllocError>
+    ensures added { OnOk result (list.new.items ≡ list.old.items ++ (session, event) ∷ []) }
+    ensures at_most { vec_len list.new ≤ vec_len list.old + 1 }
+{
+    list.push((session, event))?;
+    Ok(())
+}
+
+// Takes the next line: its event stands behind the others.
+fn take(list: &mut Vec<(u32, Event)>, line: &[u8]) -> Result<(), LineFault>
+    requires { vec_len list.old ≤ MOST_EVENTS }
+    ensures takes { TakesEvent (event_reading_of line.now) list.old.items result list.new.items }
+    ensures few { vec_len list.new ≤ MOST_EVENTS }
+{
+    match event_reading_of(line)? {
+        EventLine::Skipped => Ok(()),
+        EventLine::Event { session, event } => {
+            if list.len() == MOST_EVENTS as usize {
+                return Err(LineFault::Bad(LineKind::Many));
+            }
+            add(list, session, event)?;
+            Ok(())
+        }
+    }
+}
+
+/// The events that these bytes spell, one a line, or the first bad line, or want of memory. Linear in the bytes.
+///
+/// Lines are empty, or begin with `#`, or are `N EVENT L` with further fields, N being 1 to 64 and L 0 to 15.
+pub fn read_events(alloc: Global, bytes: &[u8]) -> Result<Events, ScriptFault>
+    requires { length bytes.now < 2 ^ 32 - 1 }
+    ensures good { IfOk result (λ _. event_fault bytes.now ≡ None) }
+    ensures events { IfOk result (λ events. events ≡ events_of bytes.now) }
+    ensures bad { (line : ℕ) (kind : LineKind) → result ≡ Err (ScriptFault.BadLine line kind) → event_fault bytes.now ≡ Some (line, kind) }
+{
+    let mut list = Vec::new(alloc);
+    let mut rest = bytes;
+    let mut count = 0;
+    while !rest.is_empty() {
+        let (line, after) = first_line(rest);
+        count += 1;
+        match take(&mut list, line) {
+            Ok(()) => rest = after,
+            Err(fault) => return Err(fault.at(count)),
+        }
+    }
+    Ok(Events { list })
+}

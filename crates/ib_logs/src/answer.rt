@@ -1,0 +1,24 @@
+//! What is answered to a raw log that was read.
+
+ghost use Rattle.std.specs.Prelude.{◌≡◌, ◌≤◌, length};
+ghost use Rattle.ib_edge.specs.Faults.{Rose};
+ghost use Rattle.ib_edge.specs.Told.{IsMemory, Told};
+ghost use Rattle.ib_logs.specs.Answers.{AnswersLog};
+
+use crate::bad_log::refuse;
+use crate::replaying::show;
+use ib_edge::{INPUT_BYTES, Sink, Status};
+use ib_replay::replay_file;
+use std::alloc::Global;
+
+/// Answers a raw log that was read: replays it and writes its log and its map, or tells where it is refused and why.
+pub fn answer_log<K: Sink>(alloc: Global, input: &[u8], sink: &mut K) -> Status
+    requires { length input.now ≤ INPUT_BYTES }
+    ensures told { Told (AnswersLog input.now) IsMemory (K.written sink.old) (K.written sink.new) result }
+    ensures write { result ≡ Status.WriteFault → Rose (K.faults sink.old) (K.faults sink.new) }
+{
+    match replay_file(alloc, input) {
+        Ok(replayed) => show(sink, replayed),
+        Err(fault) => refuse(sink, fault),
+    }
+}

@@ -1,8 +1,0 @@
-use Rattle.std.proofs.Common.{List, ℕ, drop}
-use Rattle.ib_map.specs.Chunks.{spans_of}
-use Rattle.ib_script.specs.Writer.{Puts}
-use Rattle.ib_script.proofs.ChunkLines.{IsPrintedUpTo, spans_text}
-use Rattle.ib_script.proofs.writer.Writer.chunk_lines.Given as goal
-
-abbrev pub invariant-loop-chunk : goal.invariant-loop-chunk
-invariant-loop-chunk g l = (printed : List ℕ) × Puts g.K.Sink.written g.K.Sink.faults l.fn.self l.self printed × IsPrintedUpTo (spans_text (spans_of l.list l.pairs)) l.pairs printed l.first l.last (drop l.chunk-index l.rest)

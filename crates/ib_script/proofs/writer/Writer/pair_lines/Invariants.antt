@@ -1,8 +1,0 @@
-use Rattle.std.proofs.Common.{take}
-use Rattle.std.specs.Prelude.{flat_map}
-use Rattle.ib_script.specs.Output.{pair_line}
-use Rattle.ib_script.specs.Writer.{Puts}
-use Rattle.ib_script.proofs.writer.Writer.pair_lines.Given as goal
-
-abbrev pub invariant-loop-pair : goal.invariant-loop-pair
-invariant-loop-pair g l = Puts g.K.Sink.written g.K.Sink.faults l.fn.self l.self (flat_map pair_line (take l.pair-index l.pairs))

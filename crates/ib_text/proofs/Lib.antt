@@ -1,0 +1,4 @@
+pub mod ChunkLines
+pub mod JoinedSpans
+pub mod Neighbours
+pub mod Records

@@ -1,0 +1,5 @@
+use Rattle.ib_edge.proofs.Writing.{puts_on}
+use Rattle.ib_text.proofs.map_part.print_map_line.Goals as goal
+
+pub returns : goal.returns
+returns g c = record { puts = puts_on c.print_pair.ensures.puts c.byte.ensures.puts }

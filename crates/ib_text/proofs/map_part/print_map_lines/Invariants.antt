@@ -1,0 +1,8 @@
+use Rattle.std.proofs.Common.{take}
+use Rattle.std.specs.Prelude.{flat_map}
+use Rattle.ib_text.specs.Output.{map_line}
+use Rattle.ib_edge.specs.Writer.{Puts}
+use Rattle.ib_text.proofs.map_part.print_map_lines.Given as goal
+
+abbrev pub invariant-loop-pair : goal.invariant-loop-pair
+invariant-loop-pair g l = Puts g.K.Sink.written g.K.Sink.faults l.fn.writer l.writer (flat_map map_line (take l.pair-index l.pairs))

@@ -1,0 +1,43 @@
+use Rattle.std.proofs.Common.{◌≡◌, ◌+◌, ◌∷◌, [], ◌++◌, get_or, drop, add-one}
+use Rattle.std.proofs.Math.Seq.{drop-cons}
+use Rattle.std.proofs.lemmas.List.{drop_all}
+use Rattle.ib_map.specs.declared.chunks.Chunk.{Chunk}
+use Rattle.ib_text.specs.Output.{span_text}
+use Rattle.ib_text.specs.Spans.{span_between}
+use Rattle.ib_text.proofs.ChunkLines.{printed_none, printed_together, printed_apart, printed_all, within_pairs}
+use Rattle.ib_edge.proofs.Writing.{puts_on, puts_none}
+use Rattle.ib_text.proofs.span_part.print_chunk_lines.Goals as goal
+use Rattle.ib_text.proofs.span_part.print_chunk_lines.Goals.{then-chunk-first, else-chunk-first}
+
+pub loop-chunk-init : goal.loop-chunk-init
+loop-chunk-init g c =
+    let list = c.in-Some.ensures.cases.0 in
+    ([], puts_none _, rw list (printed_none c.in-Some.chunk.now c.in-Some.rest.now c.args.pairs.now (rw list at c.requires)))
+
+pub print_joined_chunks-requires-clause-within : goal.print_joined_chunks-requires-clause-within
+print_joined_chunks-requires-clause-within g c = within_pairs _ _ _ _ _ _ c.loop-chunk.invariant.2
+
+pub loop-chunk-preserved : goal.loop-chunk-preserved
+loop-chunk-preserved g c =
+    let inv = c.loop-chunk.invariant in
+    let none : Chunk = record { low = 0; high = 0; place = 0; start = 0; len = 0 } in
+    let chunk : Chunk = get_or c.in-Some.rest.now c.loop-chunk.chunk-index none in
+    let split : drop c.loop-chunk.chunk-index c.in-Some.rest.now ≡ chunk ∷ drop (c.loop-chunk.chunk-index + 1) c.in-Some.rest.now = rw add-one (drop-cons c.in-Some.rest.now c.loop-chunk.chunk-index none c.loop-chunk-test.true) in
+    let is = rw split at inv.2 in
+    elim c.if-chunk-first.branch [
+      | then-chunk-first w ↦ (
+        inv.0 ++ span_text (span_between c.loop-chunk.first c.loop-chunk.last c.args.pairs.now),
+        rw w.writer-is (puts_on {y = span_text (span_between c.loop-chunk.first c.loop-chunk.last c.args.pairs.now)} inv.1 w.print_joined_chunks.ensures.puts),
+        rw w.first-is (printed_apart _ _ inv.0 c.loop-chunk.first c.loop-chunk.last chunk _ is w.if-chunk-first.true),
+      )
+      | else-chunk-first w ↦ (inv.0, rw w.writer-is inv.1, rw w.first-is (printed_together _ _ inv.0 c.loop-chunk.first c.loop-chunk.last chunk _ is w.if-chunk-first.false))
+    ]
+
+pub print_joined_chunks-requires-2-clause-within : goal.print_joined_chunks-requires-2-clause-within
+print_joined_chunks-requires-2-clause-within g c = within_pairs _ _ _ _ _ _ c.loop-chunk.invariant.2
+
+pub returns : goal.returns
+returns g c =
+    let inv = c.loop-chunk.invariant in
+    let is = rw (drop_all c.loop-chunk.chunk-index c.in-Some.rest.now c.loop-chunk-test.false) at inv.2 in
+    record { puts = rw (← printed_all _ _ inv.0 c.loop-chunk.first c.loop-chunk.last is) (puts_on inv.1 c.print_joined_chunks-2.ensures.puts) }

@@ -1,0 +1,3 @@
+pub mod Keys
+pub mod Output
+pub mod Spans

@@ -1,0 +1,69 @@
+//! The one text of a key, and the one reading of it.
+
+ghost use Rattle.std.specs.Prelude.{◌≡◌, ◌++◌};
+ghost use Rattle.ib_edge.specs.Writer.{Puts};
+ghost use Rattle.ib_text.specs.Keys.{key_in, key_text, pair_text};
+
+use ib_edge::{LineKind, Sink, Writer, number_in};
+use ib_map::Key;
+
+/// The key that a field is.
+#[tactic(auto, unfolding(crate::specs::Keys::key_in))]
+pub fn key_in(field: &[u8]) -> Result<Key, LineKind>
+    ensures { result ≡ key_in field.now }
+{
+    number_in(field)
+}
+
+/// A key.
+#[tactic(auto, unfolding(crate::specs::Keys::key_text))]
+pub fn print_key<K: Sink>(writer: &mut Writer<'_, K>, key: Key)
+    ensures puts { Puts K.written K.faults writer.old writer.new (key_text key) }
+{
+    writer.number(key);
+}
+
+// A key and its value.
+pub(crate) fn print_pair<K: Sink>(writer: &mut Writer<'_, K>, key: Key, value: u64)
+    ensures puts { Puts K.written K.faults writer.old writer.new (pair_text (key, value)) }
+{
+    print_key(writer, key);
+    writer.byte(b' ');
+    writer.number(value);
+}
+
+// A text and a key.
+pub(crate) fn print_word_and_key<K: Sink>(writer: &mut Writer<'_, K>, word: &[u8], key: Key)
+    ensures puts { Puts K.written K.faults writer.old writer.new (word.now ++ key_text key) }
+{
+    writer.text(word);
+    print_key(writer, key);
+}
+
+// A text, a key and its value.
+pub(crate) fn print_word_and_pair<K: Sink>(
+    writer: &mut Writer<'_, K>,
+    word: &[u8],
+    key: Key,
+    value: u64,
+)
+    ensures puts { Puts K.written K.faults writer.old writer.new (word.now ++ pair_text (key, value)) }
+{
+    writer.text(word);
+    print_pair(writer, key, value);
+}
+
+// A text and a key, twice.
+pub(crate) fn print_two_keys<K: Sink>(
+    writer: &mut Writer<'_, K>,
+    word: &[u8],
+    low: Key,
+    gap: &[u8],
+    high: Key,
+)
+    ensures puts { Puts K.written K.faults writer.old writer.new (word.now ++ key_text low ++ gap.now ++ key_text high) }
+{
+    print_word_and_key(writer, word, low);
+    writer.text(gap);
+    print_key(writer, high);
+}

@@ -1,0 +1,14 @@
+//! Texts of what a run gives: keys and pairs, records, the chunks of scans, sessions' parts, logs and maps.
+#![tactic(auto)]
+
+mod key;
+mod log_part;
+mod map_part;
+mod record_part;
+mod session_part;
+mod span_part;
+
+pub use key::{key_in, print_key};
+pub use log_part::{ChangeLog, print_log};
+pub use map_part::{all_pairs, print_map};
+pub use session_part::print_session;
