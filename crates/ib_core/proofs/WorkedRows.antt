@@ -1,12 +1,18 @@
--- The law of states tried on more sessions than a machine of one thread has.
-use Rattle.std.proofs.Common.{◌≡◌, ◌<◌, ◌≤◌, ℕ, length, replicate, ap, arith}
+-- Laws tried: that of states on more sessions than a machine of one thread has, and that of grants on an owner of SX.
+use Rattle.std.proofs.Common.{◌≡◌, ◌<◌, ◌≤◌, [], ◌∷◌, length, replicate, ap, inl, inr, refl, arith}
 use Rattle.std.proofs.lemmas.List.{length-replicate}
-use Rattle.ib_word.specs.declared.word.TheConstants.{MOST_READERS}
+use Rattle.ib_word.specs.declared.word.LockWord.{LockWord}
+use Rattle.ib_levels.specs.declared.level.Level.TheVariants.{TreeNode}
+use Rattle.ib_levels.specs.Holding.{hold}
 use Rattle.ib_core.specs.declared.machine.TheConstants.{MOST_SESSIONS}
 use Rattle.ib_core.specs.declared.event.Event.{Event}
+use Rattle.ib_core.specs.declared.event.Event.TheVariants.{X}
+use Rattle.ib_core.specs.declared.event.Answer.TheVariants.{Granted, Busy}
+use Rattle.ib_core.specs.declared.phase.Phase.TheVariants.{Free}
+use Rattle.ib_core.specs.Holders.{IsTaken}
 use Rattle.ib_core.specs.Responses.{latch_of}
 use Rattle.ib_core.specs.Sessions.{HasFewReaders, idle, reads}
-use Rattle.ib_core.specs.Machine.{CoreState, IsGoodState, marks_at, opening, outcome_of}
+use Rattle.ib_core.specs.Machine.{CoreState, IsGoodState, fresh, opening, outcome_of}
 use Rattle.ib_core.proofs.Places.{all_zero}
 use Rattle.ib_core.proofs.Opened.{at_replicate}
 use Rattle.ib_core.proofs.InWords.{event_kept, opening_good}
@@ -29,3 +35,18 @@ last_session_keeps_it_good event among =
     event_kept many_sessions (record { place = 1999; event = event }) few_readers
     (record { session = let n = length-replicate 2000 idle in omega arith; latch = among })
     (opening_good 2000 1)
+
+-- one session owns SX of a latch, and wishes for X of it ..
+abbrev pub sx_owned : CoreState
+sx_owned = record { sessions = record { held = hold 0 TreeNode 0 1 0 ∷ []; phase = Free } ∷ []; marks = fresh ∷ [] }
+
+pub x_granted : (outcome_of sx_owned 0 (X 0 TreeNode)).answer ≡ Granted
+x_granted = refl
+
+-- .. so that it is not told busy, which would take nothing
+pub x_not_busy : (w : LockWord) → ¬ ((outcome_of sx_owned 0 (X 0 TreeNode)).answer ≡ Busy w)
+x_not_busy w busy = let granted = x_granted in absurd (cc)
+
+pub busy_not_taken : (w : LockWord) → ¬ IsTaken (Busy w)
+busy_not_taken w (inl granted) = absurd (cc)
+busy_not_taken w (inr reserved) = absurd (cc)

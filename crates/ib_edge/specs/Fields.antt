@@ -1,8 +1,9 @@
 -- Fields of a line, read from left to right: the first that is wrong is told.
-use Rattle.std.specs.Prelude.{ℕ, List, [], ◌∷◌, Some, None, Result, Ok, Err}
+use Rattle.std.specs.Prelude.{ℕ, List, [], ◌∷◌, Some, None, Result, Ok, Err, nat_le, ◌&&◌, if◌then◌else◌}
 use Rattle.ib_edge.specs.Numbers.{number_of}
 use Rattle.ib_edge.specs.declared.line_kind.LineKind.{LineKind}
-use Rattle.ib_edge.specs.declared.line_kind.LineKind.TheVariants.{Fields, Number}
+use Rattle.ib_edge.specs.declared.line_kind.LineKind.TheVariants.{Fields, Number, Session}
+use Rattle.ib_edge.specs.declared.line_kind.TheConstants.{MOST_SCRIPT_SESSIONS}
 
 -- what is behind a result
 infixl 10 ◌>>=◌
@@ -13,6 +14,10 @@ abbrev pub ◌>>=◌ : {A B : Type 0} → Result A LineKind → (A → Result B 
 -- a field that is a number
 abbrev pub number_in : List ℕ → Result ℕ LineKind
 number_in field = elim (number_of field) [ Some n ↦ Ok n | None ↦ Err Number ]
+
+-- a field that is a session's number: 1 to the most that there may be
+abbrev pub session_in : List ℕ → Result ℕ LineKind
+session_in field = number_in field >>= (λ n. if nat_le 1 n && nat_le n MOST_SCRIPT_SESSIONS then Ok n else Err Session)
 
 -- one field, read so
 abbrev pub one_field : {A : Type 0} → (List ℕ → Result A LineKind) → List (List ℕ) → Result A LineKind

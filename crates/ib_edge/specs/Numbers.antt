@@ -15,10 +15,6 @@ is_headed [] = false
 is_headed (digit ∷ []) = true
 is_headed (first ∷ next ∷ digits) = not (first == 48)
 
--- digits that don't begin with 0, or 0 alone
-abbrev pub is_spelled : List ℕ → Bool
-is_spelled field = is_headed field && list_all is_digit field
-
--- the number that a field spells: at most the greatest of 64 bits
+-- the number that a field spells by digits that don't begin with 0, or by 0 alone: at most the greatest of 64 bits
 abbrev pub number_of : List ℕ → Option ℕ
-number_of field = if is_spelled field && nat_lt (value_of field) (2 ^ 64) then Some (value_of field) else None
+number_of field = if (is_headed field && list_all is_digit field) && nat_lt (value_of field) (2 ^ 64) then Some (value_of field) else None

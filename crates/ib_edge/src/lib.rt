@@ -22,7 +22,7 @@ pub use line::{first_field, first_line, is_skipped};
 pub use line_kind::{LineKind, MOST_SCRIPT_SESSIONS};
 pub use memory_sink::MemSink;
 pub use memory_source::MemSource;
-pub use number::{number_in, number_of};
+pub use number::{number_in, session_in};
 pub use printed::{Printed, tell};
 pub use read::{INPUT_BYTES, PIECE_BYTES, ReadError, read_all};
 pub use sink::{Failed, Sink, write_all};

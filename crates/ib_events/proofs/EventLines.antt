@@ -1,15 +1,21 @@
 -- One more event is printed behind the others.
-use Rattle.std.proofs.Common.{◌≡◌, ◌∙◌, ℕ, ◌+◌, ◌<◌, List, [], ◌∷◌, ◌++◌, length, take, get_or, ap, sym, append_assoc}
+use Rattle.std.proofs.Common.{◌≡◌, ◌∙◌, ℕ, ◌+◌, ◌-◌, ◌<◌, List, [], ◌∷◌, ◌++◌, length, take, get_or, ap, sym, append_assoc}
 use Rattle.std.specs.Prelude.{fold}
 use Rattle.std.proofs.lemmas.List.{append-nil, take_more}
-use Rattle.ib_core.specs.Machine.{CoreState}
-use Rattle.ib_core.specs.Actions.{state_after}
+use Rattle.ib_core.specs.Machine.{CoreState, outcome_of}
+use Rattle.ib_core.specs.Responses.{latch_of}
+use Rattle.ib_core.specs.Sessions.{word_on}
 use Rattle.ib_core.specs.declared.event.Event.{Event}
-use Rattle.ib_events.specs.Latching.{action_of, line_of, lines_from}
+use Rattle.ib_events.specs.EventText.{event_line}
+use Rattle.ib_events.specs.Latching.{lines_from}
 
 -- the state after one event
 abbrev pub state_with : CoreState → ℕ × Event → CoreState
-state_with state at = state_after state (action_of at ∷ [])
+state_with state at = (outcome_of state (at.0 - 1) at.1).state
+
+-- the line of an event
+abbrev pub line_of : CoreState → ℕ × Event → List ℕ
+line_of state at = event_line at.0 at.1 (outcome_of state (at.0 - 1) at.1).answer (word_on (latch_of at.1) (state_with state at).sessions)
 
 lines_from-push : (state : CoreState) (events : List (ℕ × Event)) (at : ℕ × Event) → lines_from state (events ++ at ∷ []) ≡ lines_from state events ++ line_of (fold state_with state events) at
 lines_from-push state [] at = append-nil (line_of state at)

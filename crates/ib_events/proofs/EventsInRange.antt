@@ -1,6 +1,6 @@
 -- The events of a text are of sessions and latches that there are.
 use Rattle.std.proofs.Common.{◌≡◌, ◌≤◌, ℕ, List, [], ◌∷◌, Bool, true, false, map, refl, sym, ap, ◌∙◌, cond}
-use Rattle.std.specs.Prelude.{Option, Some, None, Result, Ok, Err, nat_le, ◌&&◌, if◌then◌else◌}
+use Rattle.std.specs.Prelude.{Result, Ok, Err, nat_le, ◌&&◌}
 use Rattle.std.specs.List.{AllByRecursion}
 use Rattle.std.proofs.lemmas.Bool.{leb-true}
 use Rattle.ib_core.specs.declared.event.Event.{Event}
@@ -8,17 +8,16 @@ use Rattle.ib_core.specs.declared.event.Event.TheVariants.{S, Sx, X, Us, Usx, Ux
 use Rattle.ib_core.specs.Responses.{latch_of}
 use Rattle.ib_levels.specs.declared.level.Level.{Level}
 use Rattle.ib_levels.specs.declared.level.Mode.{Mode}
-use Rattle.ib_events.specs.Events.{EventReading, IsInRange, events_in, event_of, event_word, event_reading_of, event_reading_of_fields, latch_in, latch_in_mode, level_in, mode_in, number_passing, session_in, worded}
-use Rattle.ib_edge.specs.Fields.{◌>>=◌, one_field, two_fields}
+use Rattle.ib_events.specs.Events.{EventReading, IsInRange, events_in, event_of, event_word, event_reading_of, event_reading_of_fields, latch_in, latch_in_mode, level_in, mode_in}
+use Rattle.ib_edge.specs.Fields.{◌>>=◌, number_in, one_field, session_in, two_fields}
 use Rattle.ib_edge.specs.Lines.{fields_of}
-use Rattle.ib_edge.specs.Numbers.{number_of}
 use Rattle.ib_edge.specs.Lines.{is_skipped}
 use Rattle.ib_events.specs.declared.event_line.TheConstants.{MOST_LATCH}
 use Rattle.ib_events.specs.declared.event_line.EventLine.TheVariants.{Skipped, Event as EventOf}
 use Rattle.ib_events.specs.declared.event_line.EventWord.{EventWord}
 use Rattle.ib_events.specs.declared.event_line.EventWord.TheVariants.{S as WordS, Sx as WordSx, X as WordX, Us as WordUs, Usx as WordUsx, Ux as WordUx, Arm as WordArm, Flag as WordFlag, Again as WordAgain, Quit as WordQuit, Sleep as WordSleep, Ready as WordReady, Exarm as WordExarm, Look as WordLook, Clear as WordClear, Raise as WordRaise}
 use Rattle.ib_edge.specs.declared.line_kind.LineKind.{LineKind}
-use Rattle.ib_edge.specs.declared.line_kind.LineKind.TheVariants.{Number, Session, Latch}
+use Rattle.ib_edge.specs.declared.line_kind.LineKind.TheVariants.{Session, Latch}
 use Rattle.ib_edge.specs.declared.line_kind.TheConstants.{MOST_SCRIPT_SESSIONS}
 
 -- both parts of a reading that is good are good
@@ -26,16 +25,15 @@ both-ok : {A B : Type 0} (r : Result A LineKind) (f : A → Result B LineKind) (
 both-ok (Ok a) f b is = (a, refl, is)
 both-ok (Err kind) f b is = absurd (cc)
 
-number_passing-passes : (passes : ℕ → Bool) (kind : LineKind) (field : List ℕ) (n : ℕ) → number_passing passes kind field ≡ Ok n → passes n ≡ true
-number_passing-passes passes kind field n = read (number_of field)
+-- a number that is taken where it passes a test has passed it
+passed : (passes : ℕ → Bool) (kind : LineKind) (field : List ℕ) (n : ℕ) → (number_in field >>= (λ m. cond {A = Result ℕ LineKind} (passes m) (Ok m) (Err kind))) ≡ Ok n → passes n ≡ true
+passed passes kind field n is =
+    let read = both-ok (number_in field) (λ m. cond {A = Result ℕ LineKind} (passes m) (Ok m) (Err kind)) n is in
+    test read.0 (passes read.0) refl read.2
   where
     test : (m : ℕ) (b : Bool) → passes m ≡ b → cond {A = Result ℕ LineKind} b (Ok m) (Err kind) ≡ Ok n → passes n ≡ true
-    test m true passed is = let same : m ≡ n = cc in rw same at passed
-    test m false passed is = absurd (cc)
-
-    read : (o : Option ℕ) → (let r : Result ℕ LineKind = elim o [ Some m ↦ if passes m then Ok m else Err kind | None ↦ Err Number ] in r ≡ Ok n) → passes n ≡ true
-    read None is = absurd (cc)
-    read (Some m) is = test m (passes m) refl is
+    test m true pass is = let same : m ≡ n = cc in rw same at pass
+    test m false pass is = absurd (cc)
 
 both : (a b : Bool) → (a && b) ≡ true → (a ≡ true) × (b ≡ true)
 both true true is = (refl, refl)
@@ -44,11 +42,11 @@ both false b is = absurd (cc)
 
 session_in-range : (field : List ℕ) (n : ℕ) → session_in field ≡ Ok n → (1 ≤ n) × (n ≤ MOST_SCRIPT_SESSIONS)
 session_in-range field n is =
-    let passed = both (nat_le 1 n) (nat_le n MOST_SCRIPT_SESSIONS) (number_passing-passes (λ n. nat_le 1 n && nat_le n MOST_SCRIPT_SESSIONS) Session field n is) in
-    (leb-true 1 n passed.0, leb-true n MOST_SCRIPT_SESSIONS passed.1)
+    let within = both (nat_le 1 n) (nat_le n MOST_SCRIPT_SESSIONS) (passed (λ n. nat_le 1 n && nat_le n MOST_SCRIPT_SESSIONS) Session field n is) in
+    (leb-true 1 n within.0, leb-true n MOST_SCRIPT_SESSIONS within.1)
 
 latch_in-range : (field : List ℕ) (n : ℕ) → latch_in field ≡ Ok n → n ≤ MOST_LATCH
-latch_in-range field n is = leb-true n MOST_LATCH (number_passing-passes (λ n. nat_le n MOST_LATCH) Latch field n is)
+latch_in-range field n is = leb-true n MOST_LATCH (passed (λ n. nat_le n MOST_LATCH) Latch field n is)
 
 alone-range : (fields : List (List ℕ)) (n : ℕ) → one_field latch_in fields ≡ Ok n → n ≤ MOST_LATCH
 alone-range [] n is = absurd (cc)
@@ -112,20 +110,17 @@ event-range WordLook fields event is = made-alone Look (λ n. refl) fields event
 event-range WordClear fields event is = made-alone Clear (λ n. refl) fields event is
 event-range WordRaise fields event is = made-alone Raise (λ n. refl) fields event is
 
-worded-range : (word : Option EventWord) (fields : List (List ℕ)) (event : Event) → worded word fields ≡ Ok event → latch_of event ≤ MOST_LATCH
-worded-range None fields event is = absurd (cc)
-worded-range (Some word) fields event is = event-range word fields event is
-
 fields-range : (fields : List (List ℕ)) (session : ℕ) (event : Event) → event_reading_of_fields fields ≡ Ok (EventOf session event) → IsInRange (session, event)
 fields-range [] session event is = absurd (cc)
 fields-range (n ∷ []) session event is = absurd (cc)
 fields-range (n ∷ word ∷ fields) session event is =
-    let first = both-ok (session_in n) (λ session. worded (event_word word) fields >>= (λ event. Ok (EventOf session event))) (EventOf session event) is in
-    let second = both-ok (worded (event_word word) fields) (λ event. Ok (EventOf first.0 event)) (EventOf session event) first.2 in
+    let first = both-ok (session_in n) (λ session. event_word word >>= (λ step. event_of step fields >>= (λ event. Ok (EventOf session event)))) (EventOf session event) is in
+    let second = both-ok (event_word word) (λ step. event_of step fields >>= (λ event. Ok (EventOf first.0 event))) (EventOf session event) first.2 in
+    let third = both-ok (event_of second.0 fields) (λ event. Ok (EventOf first.0 event)) (EventOf session event) second.2 in
     let same : first.0 ≡ session = cc in
-    let same-event : second.0 ≡ event = cc in
+    let same-event : third.0 ≡ event = cc in
     let sessions : (1 ≤ session) × (session ≤ MOST_SCRIPT_SESSIONS) = rw same at (session_in-range n first.0 first.1) in
-    let latch : latch_of event ≤ MOST_LATCH = rw same-event at (worded-range (event_word word) fields second.0 second.1) in
+    let latch : latch_of event ≤ MOST_LATCH = rw same-event at (event-range second.0 fields third.0 third.1) in
     (sessions.0, sessions.1, latch)
 
 line-range : (line : List ℕ) (session : ℕ) (event : Event) → event_reading_of line ≡ Ok (EventOf session event) → IsInRange (session, event)

@@ -40,10 +40,6 @@ step_text (Look latch) = codes "look " ++ decimal latch
 step_text (Clear latch) = codes "clear " ++ decimal latch
 step_text (Raise latch) = codes "raise " ++ decimal latch
 
--- an event of a session as its line has it
-abbrev pub event_text : ℕ → Event → List ℕ
-event_text session event = decimal session ++ codes " " ++ step_text event
-
 -- whether the waiters flag is set
 abbrev pub flag_text : Bool → List ℕ
 flag_text false = codes "0"
@@ -71,7 +67,7 @@ answer_text (Signalled generation) = codes "signalled " ++ decimal generation
 answer_text QuitAnswer = codes "quit"
 answer_text (Refused refusal) = codes "refused " ++ refusal_text refusal
 
--- an event of a session, its answer and the lock word on a line
+-- an event of a session as its line has it, its answer and the lock word on a line
 abbrev pub event_line : ℕ → Event → Answer → ℤ → List ℕ
 event_line session event answer word =
-    event_text session event ++ codes " -> " ++ answer_text answer ++ codes ", word " ++ signed_decimal word ++ codes "\n"
+    (decimal session ++ codes " " ++ step_text event) ++ codes " -> " ++ answer_text answer ++ codes ", word " ++ signed_decimal word ++ codes "\n"

@@ -1,5 +1,5 @@
 -- Events: what a text asks of the latch machine, and which of its lines is the first bad one.
-use Rattle.std.specs.Prelude.{◌≡◌, ◌≤◌, MatchResult, ℕ, List, [], ◌∷◌, ◌++◌, Bool, Option, Some, None, Result, Ok, Err, codes, bytes_eq, nat_le, nat_lt, ◌&&◌, length, ◌==◌, if◌then◌else◌}
+use Rattle.std.specs.Prelude.{◌≡◌, ◌≤◌, MatchResult, ℕ, List, [], ◌∷◌, ◌++◌, Option, Some, None, Result, Ok, Err, codes, bytes_eq, nat_le, nat_lt, length, ◌==◌, if◌then◌else◌}
 use Rattle.std.specs.List.{filter_map}
 use Rattle.ib_levels.specs.declared.level.Level.{Level}
 use Rattle.ib_levels.specs.declared.level.Level.TheVariants.{Log, PageNew, Space as SpaceLevel, TreeNode, IndexTree}
@@ -8,11 +8,10 @@ use Rattle.ib_levels.specs.declared.level.Mode.TheVariants.{S as ModeS, Sx as Mo
 use Rattle.ib_core.specs.Responses.{latch_of}
 use Rattle.ib_core.specs.declared.event.Event.{Event}
 use Rattle.ib_core.specs.declared.event.Event.TheVariants.{S, Sx, X, Us, Usx, Ux, Arm, Flag, Again, Quit, Sleep, Ready, Exarm, Look, Clear, Raise}
-use Rattle.ib_edge.specs.Fields.{◌>>=◌, one_field, two_fields}
+use Rattle.ib_edge.specs.Fields.{◌>>=◌, number_in, one_field, session_in, two_fields}
 use Rattle.ib_edge.specs.Lines.{fields_of, first_bad, is_skipped, readings_by}
 use Rattle.ib_edge.specs.BadLines.{IsFault}
 use Rattle.ib_edge.specs.declared.bad_line.LineFault.{LineFault}
-use Rattle.ib_edge.specs.Numbers.{number_of}
 use Rattle.ib_events.specs.declared.event_line.TheConstants.{MOST_LATCH, MOST_EVENTS}
 use Rattle.ib_events.specs.declared.event_line.EventLine.{EventLine}
 use Rattle.ib_events.specs.declared.event_line.EventLine.TheVariants.{Skipped, Event as EventOf}
@@ -20,39 +19,27 @@ use Rattle.ib_events.specs.declared.event_line.EventWord.{EventWord}
 use Rattle.ib_events.specs.declared.event_line.EventWord.TheVariants.{S as WordS, Sx as WordSx, X as WordX, Us as WordUs, Usx as WordUsx, Ux as WordUx, Arm as WordArm, Flag as WordFlag, Again as WordAgain, Quit as WordQuit, Sleep as WordSleep, Ready as WordReady, Exarm as WordExarm, Look as WordLook, Clear as WordClear, Raise as WordRaise}
 use Rattle.ib_edge.specs.declared.line_kind.TheConstants.{MOST_SCRIPT_SESSIONS}
 use Rattle.ib_edge.specs.declared.line_kind.LineKind.{LineKind}
-use Rattle.ib_edge.specs.declared.line_kind.LineKind.TheVariants.{Word, Fields, Number, Session, Many, Latch, Level as LevelKind}
+use Rattle.ib_edge.specs.declared.line_kind.LineKind.TheVariants.{Word, Fields, Many, Latch, Level as LevelKind}
 
 -- what a line says by itself, or what is wrong with it
 abbrev pub EventReading : Type 0
 EventReading = Result EventLine LineKind
 
--- a field's number, where it is one, if it passes the test; else the line is of this kind
-abbrev pub number_passing : (ℕ → Bool) → LineKind → List ℕ → Result ℕ LineKind
-number_passing passes kind field = elim (number_of field) [ Some n ↦ if passes n then Ok n else Err kind | None ↦ Err Number ]
-
-abbrev pub session_in : List ℕ → Result ℕ LineKind
-session_in field = number_passing (λ n. nat_le 1 n && nat_le n MOST_SCRIPT_SESSIONS) Session field
-
 abbrev pub latch_in : List ℕ → Result ℕ LineKind
-latch_in field = number_passing (λ n. nat_le n MOST_LATCH) Latch field
+latch_in field = number_in field >>= (λ n. if nat_le n MOST_LATCH then Ok n else Err Latch)
 
 -- the level with this number, 1 to 5
-abbrev pub level_numbered : ℕ → Option Level
+abbrev pub level_numbered : ℕ → Result Level LineKind
 level_numbered n =
-    if n == 1 then Some Log
-    else if n == 2 then Some PageNew
-    else if n == 3 then Some SpaceLevel
-    else if n == 4 then Some TreeNode
-    else if n == 5 then Some IndexTree
-    else None
-
--- a level by its number
-abbrev pub level_of : Option ℕ → Result Level LineKind
-level_of None = Err Number
-level_of (Some n) = elim (level_numbered n) [ Some level ↦ Ok level | None ↦ Err LevelKind ]
+    if n == 1 then Ok Log
+    else if n == 2 then Ok PageNew
+    else if n == 3 then Ok SpaceLevel
+    else if n == 4 then Ok TreeNode
+    else if n == 5 then Ok IndexTree
+    else Err LevelKind
 
 abbrev pub level_in : List ℕ → Result Level LineKind
-level_in field = level_of (number_of field)
+level_in field = number_in field >>= level_numbered
 
 -- a mode by its word
 abbrev pub mode_in : List ℕ → Result Mode LineKind
@@ -63,29 +50,29 @@ mode_in field =
     else Err Word
 
 -- the words of the steps of waiting and signalling
-abbrev pub waiting_word : List ℕ → Option EventWord
+abbrev pub waiting_word : List ℕ → Result EventWord LineKind
 waiting_word word =
-    if bytes_eq word (codes "flag") then Some WordFlag
-    else if bytes_eq word (codes "again") then Some WordAgain
-    else if bytes_eq word (codes "quit") then Some WordQuit
-    else if bytes_eq word (codes "sleep") then Some WordSleep
-    else if bytes_eq word (codes "ready") then Some WordReady
-    else if bytes_eq word (codes "exarm") then Some WordExarm
-    else if bytes_eq word (codes "look") then Some WordLook
-    else if bytes_eq word (codes "clear") then Some WordClear
-    else if bytes_eq word (codes "raise") then Some WordRaise
-    else None
+    if bytes_eq word (codes "flag") then Ok WordFlag
+    else if bytes_eq word (codes "again") then Ok WordAgain
+    else if bytes_eq word (codes "quit") then Ok WordQuit
+    else if bytes_eq word (codes "sleep") then Ok WordSleep
+    else if bytes_eq word (codes "ready") then Ok WordReady
+    else if bytes_eq word (codes "exarm") then Ok WordExarm
+    else if bytes_eq word (codes "look") then Ok WordLook
+    else if bytes_eq word (codes "clear") then Ok WordClear
+    else if bytes_eq word (codes "raise") then Ok WordRaise
+    else Err Word
 
 -- an event by its word
-abbrev pub event_word : List ℕ → Option EventWord
+abbrev pub event_word : List ℕ → Result EventWord LineKind
 event_word word =
-    if bytes_eq word (codes "s") then Some WordS
-    else if bytes_eq word (codes "sx") then Some WordSx
-    else if bytes_eq word (codes "x") then Some WordX
-    else if bytes_eq word (codes "us") then Some WordUs
-    else if bytes_eq word (codes "usx") then Some WordUsx
-    else if bytes_eq word (codes "ux") then Some WordUx
-    else if bytes_eq word (codes "arm") then Some WordArm
+    if bytes_eq word (codes "s") then Ok WordS
+    else if bytes_eq word (codes "sx") then Ok WordSx
+    else if bytes_eq word (codes "x") then Ok WordX
+    else if bytes_eq word (codes "us") then Ok WordUs
+    else if bytes_eq word (codes "usx") then Ok WordUsx
+    else if bytes_eq word (codes "ux") then Ok WordUx
+    else if bytes_eq word (codes "arm") then Ok WordArm
     else waiting_word word
 
 -- the three fields of an event on a latch in a mode at a level
@@ -112,15 +99,10 @@ event_of WordLook fields = one_field latch_in fields >>= (λ latch. Ok (Look lat
 event_of WordClear fields = one_field latch_in fields >>= (λ latch. Ok (Clear latch))
 event_of WordRaise fields = one_field latch_in fields >>= (λ latch. Ok (Raise latch))
 
--- an event whose word may be none
-abbrev pub worded : Option EventWord → List (List ℕ) → Result Event LineKind
-worded None fields = Err Word
-worded (Some word) fields = event_of word fields
-
 -- a line by its fields: the session, the event's word, and what is behind it
 abbrev pub event_reading_of_fields : List (List ℕ) → EventReading
 event_reading_of_fields (n ∷ word ∷ fields) =
-    session_in n >>= (λ session. worded (event_word word) fields >>= (λ event. Ok (EventOf session event)))
+    session_in n >>= (λ session. event_word word >>= (λ step. event_of step fields >>= (λ event. Ok (EventOf session event))))
 event_reading_of_fields _ = Err Fields
 
 abbrev pub event_reading_of : List ℕ → EventReading
@@ -148,10 +130,6 @@ event_fault_behind before (Ok (EventOf session event)) = if nat_lt (length (even
 -- the first bad line of a text of events: its number, counted from 1 over all lines, and its kind
 abbrev pub event_fault : List ℕ → Option (ℕ × LineKind)
 event_fault text = first_bad event_fault_behind [] (readings_by event_reading_of text)
-
--- the events that a text asks for
-abbrev pub events_of : List ℕ → List (ℕ × Event)
-events_of text = events_in (readings_by event_reading_of text)
 
 -- these are the events of the lines so far
 abbrev pub AreEvents : List EventReading → List (ℕ × Event) → Type 0

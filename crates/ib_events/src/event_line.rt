@@ -2,11 +2,11 @@
 
 ghost use Rattle.std.specs.Prelude.{◌≡◌, ◌∷◌};
 ghost use Rattle.ib_edge.specs.Fields.{one_field, two_fields};
-ghost use Rattle.ib_events.specs.Events.{event_of, event_reading_of, event_reading_of_fields, event_word, latch_in, latch_in_mode, level_in, mode_in, session_in, waiting_word};
+ghost use Rattle.ib_events.specs.Events.{event_of, event_reading_of, event_reading_of_fields, event_word, latch_in, latch_in_mode, level_in, mode_in, waiting_word};
 ghost use Rattle.ib_edge.specs.Lines.{fields_behind};
 
 use ib_core::Event;
-use ib_edge::{LineKind, MOST_SCRIPT_SESSIONS, first_field, is_skipped, number_of};
+use ib_edge::{LineKind, first_field, is_skipped, number_in, session_in};
 use ib_levels::{Level, Mode};
 
 /// The greatest number of a latch that an event may be about.
@@ -49,20 +49,10 @@ pub enum EventLine {
     Event { session: u32, event: Event },
 }
 
-fn session_in(field: &[u8]) -> Result<u32, LineKind>
-    ensures { result ≡ session_in field.now }
-{
-    let number = number_of(field).ok_or(LineKind::Number)?;
-    match u32::try_from(number) {
-        Ok(session @ 1..=MOST_SCRIPT_SESSIONS) => Ok(session),
-        _ => Err(LineKind::Session),
-    }
-}
-
 fn latch_in(field: &[u8]) -> Result<u32, LineKind>
     ensures { result ≡ latch_in field.now }
 {
-    let latch = number_of(field).ok_or(LineKind::Number)?;
+    let latch = number_in(field)?;
     match u32::try_from(latch) {
         Ok(latch @ 0..=MOST_LATCH) => Ok(latch),
         _ => Err(LineKind::Latch),
@@ -72,7 +62,7 @@ fn latch_in(field: &[u8]) -> Result<u32, LineKind>
 fn level_in(field: &[u8]) -> Result<Level, LineKind>
     ensures { result ≡ level_in field.now }
 {
-    let number = number_of(field).ok_or(LineKind::Number)?;
+    let number = number_in(field)?;
     match u32::try_from(number) {
         Ok(number) => Level::from_number(number).ok_or(LineKind::Level),
         Err(_) => Err(LineKind::Level),
@@ -140,62 +130,62 @@ fn latch_in_mode(fields: Option<&[u8]>) -> Result<(u32, Mode, Level), LineKind>
 }
 
 // The words of the steps of waiting and signalling.
-fn waiting_word(word: &[u8]) -> Option<EventWord>
+fn waiting_word(word: &[u8]) -> Result<EventWord, LineKind>
     ensures { result ≡ waiting_word word.now }
 {
     if word == b"flag".as_slice() {
-        return Some(EventWord::Flag);
+        return Ok(EventWord::Flag);
     }
     if word == b"again".as_slice() {
-        return Some(EventWord::Again);
+        return Ok(EventWord::Again);
     }
     if word == b"quit".as_slice() {
-        return Some(EventWord::Quit);
+        return Ok(EventWord::Quit);
     }
     if word == b"sleep".as_slice() {
-        return Some(EventWord::Sleep);
+        return Ok(EventWord::Sleep);
     }
     if word == b"ready".as_slice() {
-        return Some(EventWord::Ready);
+        return Ok(EventWord::Ready);
     }
     if word == b"exarm".as_slice() {
-        return Some(EventWord::Exarm);
+        return Ok(EventWord::Exarm);
     }
     if word == b"look".as_slice() {
-        return Some(EventWord::Look);
+        return Ok(EventWord::Look);
     }
     if word == b"clear".as_slice() {
-        return Some(EventWord::Clear);
+        return Ok(EventWord::Clear);
     }
     if word == b"raise".as_slice() {
-        return Some(EventWord::Raise);
+        return Ok(EventWord::Raise);
     }
-    None
+    Err(LineKind::Word)
 }
 
-fn event_word(word: &[u8]) -> Option<EventWord>
+fn event_word(word: &[u8]) -> Result<EventWord, LineKind>
     ensures { result ≡ event_word word.now }
 {
     if word == b"s".as_slice() {
-        return Some(EventWord::S);
+        return Ok(EventWord::S);
     }
     if word == b"sx".as_slice() {
-        return Some(EventWord::Sx);
+        return Ok(EventWord::Sx);
     }
     if word == b"x".as_slice() {
-        return Some(EventWord::X);
+        return Ok(EventWord::X);
     }
     if word == b"us".as_slice() {
-        return Some(EventWord::Us);
+        return Ok(EventWord::Us);
     }
     if word == b"usx".as_slice() {
-        return Some(EventWord::Usx);
+        return Ok(EventWord::Usx);
     }
     if word == b"ux".as_slice() {
-        return Some(EventWord::Ux);
+        return Ok(EventWord::Ux);
     }
     if word == b"arm".as_slice() {
-        return Some(EventWord::Arm);
+        return Ok(EventWord::Arm);
     }
     waiting_word(word)
 }
@@ -278,7 +268,7 @@ fn reading_of_fields(first: &[u8], fields: Option<&[u8]>) -> Result<EventLine, L
 {
     let (word, fields) = first_field(fields.ok_or(LineKind::Fields)?);
     let session = session_in(first)?;
-    let word = event_word(word).ok_or(LineKind::Word)?;
+    let word = event_word(word)?;
     let event = event_of(word, fields)?;
     Ok(EventLine::Event { session, event })
 }

@@ -2,7 +2,8 @@
 
 ghost use Rattle.std.specs.Prelude.{◌≡◌, ◌≤◌, ◌-◌, ◌<◌, ◌^◌, ◌+◌, ℕ, None, Some, Ok, Err, [], ◌∷◌, ◌++◌, length, vec_len, IfOk, OnOk};
 ghost use Rattle.std.specs.List.{AllByRecursion};
-ghost use Rattle.ib_events.specs.Events.{IsInRange, TakesEvent, event_fault, event_reading_of, events_of};
+ghost use Rattle.ib_events.specs.Events.{IsInRange, TakesEvent, event_fault, event_reading_of, events_in};
+ghost use Rattle.ib_edge.specs.Lines.{readings_by};
 ghost use Rattle.ib_edge.specs.declared.line_kind.LineKind.{LineKind};
 
 use crate::event_line::{EventLine, MOST_EVENTS, event_reading_of};
@@ -75,7 +76,7 @@ fn take(list: &mut Vec<(u32, Event)>, line: &[u8]) -> Result<(), LineFault>
 pub fn read_events(alloc: Global, bytes: &[u8]) -> Result<Events, ScriptFault>
     requires { length bytes.now < 2 ^ 32 - 1 }
     ensures good { IfOk result (λ _. event_fault bytes.now ≡ None) }
-    ensures events { IfOk result (λ events. events ≡ events_of bytes.now) }
+    ensures events { IfOk result (λ events. events ≡ events_in (readings_by event_reading_of bytes.now)) }
     ensures bad { (line : ℕ) (kind : LineKind) → result ≡ Err (ScriptFault.BadLine line kind) → event_fault bytes.now ≡ Some (line, kind) }
 {
     let mut list = Vec::new(alloc);

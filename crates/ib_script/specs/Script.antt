@@ -1,5 +1,5 @@
 -- Scripts: what a text asks for, and which of its lines is the first bad one.
-use Rattle.std.specs.Prelude.{◌≡◌, ℕ, ◌≤◌, ◌+◌, List, [], ◌∷◌, Bool, true, false, Option, Some, None, Result, Ok, Err, codes, bytes_eq, nat_le, nat_lt, ◌&&◌, ◌||◌, not, ◌==◌, length, map, filter, count_by, max, fold, sum_by, slice_index_or, if◌then◌else◌}
+use Rattle.std.specs.Prelude.{◌≡◌, ℕ, ◌≤◌, ◌+◌, List, [], ◌∷◌, Bool, true, false, Option, Some, None, Result, Ok, Err, codes, bytes_eq, nat_lt, ◌&&◌, ◌||◌, not, ◌==◌, length, map, filter, count_by, max, fold, sum_by, slice_index_or, if◌then◌else◌}
 use Rattle.std.specs.List.{list_all}
 use Rattle.ib_layout.specs.Geometry.{Sizes, has_log}
 use Rattle.ib_map.specs.Space.{has_pages}
@@ -8,12 +8,12 @@ use Rattle.ib_layout.specs.declared.geometry.TheConstants.{MOST_LOG_WORDS}
 use Rattle.ib_map.specs.declared.call.Call.{Call}
 use Rattle.ib_map.specs.declared.call.Call.TheVariants.{Insert, Delete, Get, Scan}
 use Rattle.ib_edge.specs.Lines.{fields_of, first_bad, is_skipped}
-use Rattle.ib_edge.specs.Fields.{◌>>=◌, number_in, one_field, two_fields}
+use Rattle.ib_edge.specs.Fields.{◌>>=◌, number_in, one_field, session_in, two_fields}
 use Rattle.ib_text.specs.Keys.{key_in}
 use Rattle.ib_script.specs.declared.script_line.TheConstants.{MOST_COMMANDS, MOST_SCANS}
 use Rattle.ib_edge.specs.declared.line_kind.TheConstants.{MOST_SCRIPT_SESSIONS}
 use Rattle.ib_edge.specs.declared.line_kind.LineKind.{LineKind}
-use Rattle.ib_edge.specs.declared.line_kind.LineKind.TheVariants.{Word, Session as SessionKind, Space as SpaceKind, Many}
+use Rattle.ib_edge.specs.declared.line_kind.LineKind.TheVariants.{Word, Space as SpaceKind, Many}
 use Rattle.ib_script.specs.declared.script_line.ScriptLine.{ScriptLine}
 use Rattle.ib_script.specs.declared.script_line.ScriptLine.TheVariants.{Skipped, Space, Session, Command}
 
@@ -21,16 +21,9 @@ use Rattle.ib_script.specs.declared.script_line.ScriptLine.TheVariants.{Skipped,
 abbrev pub Reading : Type 0
 Reading = Result ScriptLine LineKind
 
--- sessions are 1 to the most that there may be
-abbrev pub session_line : ℕ → Reading
-session_line n = if nat_le 1 n && nat_le n MOST_SCRIPT_SESSIONS then Ok (Session n) else Err SessionKind
-
 -- the space of these sizes, where there is one
-abbrev pub geometry_of : ℕ × ℕ → Option Sizes
-geometry_of sizes = if has_pages sizes.0 && has_log sizes.1 then Some (record { pages = sizes.0; log_words = sizes.1 }) else None
-
 abbrev pub space_line : ℕ × ℕ → Reading
-space_line sizes = elim (geometry_of sizes) [ Some space ↦ Ok (Space space) | None ↦ Err SpaceKind ]
+space_line sizes = if has_pages sizes.0 && has_log sizes.1 then Ok (Space (record { pages = sizes.0; log_words = sizes.1 })) else Err SpaceKind
 
 -- a line by its first field and those behind it
 abbrev pub reading_of_fields : List (List ℕ) → Reading
@@ -40,7 +33,7 @@ reading_of_fields (word ∷ fields) =
     else if bytes_eq word (codes "delete") then one_field key_in fields >>= (λ key. Ok (Command (Delete key)))
     else if bytes_eq word (codes "get") then one_field key_in fields >>= (λ key. Ok (Command (Get key)))
     else if bytes_eq word (codes "scan") then two_fields key_in key_in fields >>= (λ pair. Ok (Command (Scan pair.0 pair.1)))
-    else if bytes_eq word (codes "session") then one_field number_in fields >>= session_line
+    else if bytes_eq word (codes "session") then one_field session_in fields >>= (λ n. Ok (Session n))
     else if bytes_eq word (codes "space") then two_fields number_in number_in fields >>= space_line
     else Err Word
 

@@ -1,13 +1,16 @@
 //! What a line of a script says by itself.
 
-ghost use Rattle.std.specs.Prelude.{◌≡◌, ◌∷◌, IfOk, Ok};
-ghost use Rattle.ib_edge.specs.Fields.{number_in, one_field, two_fields};
+ghost use Rattle.std.specs.Prelude.{◌≡◌, ◌≤◌, ◌∷◌, ◌&&◌, IfOk, IsTrue, Ok, SomeIff};
+ghost use Rattle.ib_layout.specs.Geometry.{has_log};
+ghost use Rattle.ib_map.specs.Space.{has_pages};
+ghost use Rattle.ib_edge.specs.Fields.{number_in, one_field, session_in, two_fields};
+ghost use Rattle.ib_edge.specs.declared.line_kind.TheConstants.{MOST_SCRIPT_SESSIONS};
 ghost use Rattle.ib_edge.specs.Lines.{fields_behind};
 ghost use Rattle.ib_text.specs.Keys.{key_in};
-ghost use Rattle.ib_script.specs.Script.{IsInRange, geometry_of, is_scan, reading_of, reading_of_fields, session_line, space_line};
+ghost use Rattle.ib_script.specs.Script.{IsInRange, is_scan, reading_of, reading_of_fields, space_line};
 ghost use Rattle.ib_script.specs.declared.script_line.ScriptLine.TheVariants.{Command};
 
-use ib_edge::{LineKind, MOST_SCRIPT_SESSIONS, first_field, is_skipped, number_in};
+use ib_edge::{LineKind, first_field, is_skipped, number_in, session_in};
 use ib_layout::Geometry;
 use ib_map::{Call, Key};
 use ib_text::key_in;
@@ -46,14 +49,15 @@ fn one_key(fields: Option<&[u8]>) -> Result<Key, LineKind>
     }
 }
 
-// One field, a number.
-fn one_number(fields: Option<&[u8]>) -> Result<u64, LineKind>
-    ensures { result ≡ one_field number_in (fields_behind fields.entry) }
+// One field, a session.
+fn one_session(fields: Option<&[u8]>) -> Result<u32, LineKind>
+    ensures session { result ≡ one_field session_in (fields_behind fields.entry) }
+    ensures in_range { IfOk result (λ session. (1 ≤ session) × (session ≤ MOST_SCRIPT_SESSIONS)) }
 {
     let (field, rest) = first_field(fields.ok_or(LineKind::Fields)?);
     match rest {
         Some(_) => Err(LineKind::Fields),
-        None => number_in(field),
+        None => session_in(field),
     }
 }
 
@@ -105,18 +109,8 @@ fn two_numbers(fields: Option<&[u8]>) -> Result<(u64, u64), LineKind>
     }
 }
 
-fn session_line(number: u64) -> Result<ScriptLine, LineKind>
-    ensures reading { result ≡ session_line number }
-    ensures in_range { IfOk result IsInRange }
-{
-    match u32::try_from(number) {
-        Ok(number @ 1..=MOST_SCRIPT_SESSIONS) => Ok(ScriptLine::Session { number }),
-        _ => Err(LineKind::Session),
-    }
-}
-
 fn geometry_of(pages: u64, log_words: u64) -> Option<Geometry>
-    ensures { result ≡ geometry_of (pages, log_words) }
+    ensures { SomeIff result (IsTrue (has_pages pages && has_log log_words)) (record { pages = pages; log_words = log_words }) }
 {
     let pages = u32::try_from(pages).ok()?;
     let log_words = u32::try_from(log_words).ok()?;
@@ -163,7 +157,8 @@ fn reading_of_fields(word: &[u8], fields: Option<&[u8]>) -> Result<ScriptLine, L
         });
     }
     if word == b"session".as_slice() {
-        return session_line(one_number(fields)?);
+        let number = one_session(fields)?;
+        return Ok(ScriptLine::Session { number });
     }
     if word == b"space".as_slice() {
         let (pages, log_words) = two_numbers(fields)?;

@@ -9,9 +9,9 @@ use Rattle.ib_map.specs.Replies.{Span}
 use Rattle.ib_map.specs.Chunks.{AreAdjacent, span_of, spans_of}
 use Rattle.ib_map.specs.declared.chunks.Chunk.{Chunk}
 use Rattle.ib_map.proofs.ChunkLaws.{AreAdjacent-le}
-use Rattle.ib_text.specs.Output.{span_text, span_with, joined_spans}
+use Rattle.ib_text.specs.Output.{span_text, joined_spans}
 use Rattle.ib_text.specs.Spans.{AreNeighbours, span_between}
-use Rattle.ib_text.proofs.JoinedSpans.{joined_spans-apart, joined_spans-together}
+use Rattle.ib_text.proofs.JoinedSpans.{joined_spans-apart, joined_spans-together, span_with}
 
 abbrev pub spans_text : List Span → List ℕ
 spans_text spans = flat_map span_text (joined_spans spans)

@@ -1,9 +1,13 @@
 -- Neighbouring chunks of one place may be joined from the front.
-use Rattle.std.proofs.Common.{◌≡◌, List, [], ◌∷◌, true, false, ap, sym, refl, append_assoc}
+use Rattle.std.proofs.Common.{◌≡◌, List, [], ◌∷◌, ◌++◌, true, false, ap, sym, refl, append_assoc}
 use Rattle.std.specs.Prelude.{◌==◌, if◌then◌else◌}
 use Rattle.std.proofs.lemmas.Bool.{eqb-true}
 use Rattle.ib_map.specs.Replies.{Span}
-use Rattle.ib_text.specs.Output.{span_with, span_and, joined_spans}
+use Rattle.ib_text.specs.Output.{span_and, joined_spans}
+
+-- two neighbouring chunks as one
+abbrev pub span_with : Span → Span → Span
+span_with a b = record a { high = b.high; pairs = a.pairs ++ b.pairs }
 
 span_with-assoc : (a b c : Span) → span_with a (span_with b c) ≡ span_with (span_with a b) c
 span_with-assoc a b c = ap (λ pairs. let span : Span = record { low = a.low; high = c.high; place = a.place; pairs = pairs } in span) (sym (append_assoc a.pairs b.pairs c.pairs))

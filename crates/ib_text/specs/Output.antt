@@ -52,14 +52,10 @@ abbrev pub span_text : Span → List ℕ
 span_text span = codes "from " ++ key_text span.low ++ codes " to " ++ key_text span.high ++ codes " at " ++ decimal span.place ++ codes "\n"
     ++ flat_map pair_line span.pairs
 
--- two neighbouring chunks as one
-abbrev pub span_with : Span → Span → Span
-span_with a b = record { low = a.low; high = b.high; place = a.place; pairs = a.pairs ++ b.pairs }
-
 -- a chunk before others: neighbours of one place are one
 abbrev pub span_and : Span → List Span → List Span
 span_and a [] = a ∷ []
-span_and a (b ∷ spans) = if a.place == b.place then span_with a b ∷ spans else a ∷ b ∷ spans
+span_and a (b ∷ spans) = if a.place == b.place then record a { high = b.high; pairs = a.pairs ++ b.pairs } ∷ spans else a ∷ b ∷ spans
 
 abbrev pub joined_spans : List Span → List Span
 joined_spans [] = []

@@ -2,17 +2,21 @@
 use Rattle.std.proofs.Common.{◌≡◌, ◌⊎◌, ◌∙◌, ℕ, List, inl, inr, sym, ap, subst, arith, Some, None, Option}
 use Rattle.ib_edge.proofs.Reading.{ReadsAll-known, ConsumesMore-known}
 use Rattle.ib_edge.proofs.Telling.{complete, done_lines, told_as}
-use Rattle.ib_edge.specs.Input.{ReadsAll}
+use Rattle.ib_edge.specs.Input.{ConsumesAtMost, ReadsAll}
 use Rattle.ib_edge.specs.Told.{Ending, IsComplete, IsMemory, Told}
 use Rattle.ib_edge.specs.declared.read.TheConstants.{INPUT_BYTES}
 use Rattle.ib_edge.specs.declared.status.Status.{Status}
 use Rattle.ib_edge.specs.declared.status.Status.TheVariants.{Done, ReadFault, WriteFault, Memory}
 use Rattle.ib_logs.specs.Answers.{AnswersLog}
 use Rattle.ib_replay.proofs.OneFault.{raw_log-no_fault}
-use Rattle.ib_tool.specs.Answers.{AnswersInput, IsGood, IsOwedAt, IsServed, IsSilent, IsSilentAt, Owes}
+use Rattle.ib_tool.specs.Answers.{AnswersInput, IsGood, IsOwedAt, IsServed, IsSilent, Owes}
 use Rattle.ib_tool.specs.Words.{form_of}
 use Rattle.ib_tool.specs.declared.form.Form.{Form}
 use Rattle.ib_tool.specs.declared.form.Form.TheVariants.{Run, Latch, Replay}
+
+-- reading failed, or memory ran out
+abbrev pub IsSilentAt : Option (List ℕ) → Option (List ℕ) → Status → Type 0
+IsSilentAt old new status = ((status ≡ ReadFault) × ConsumesAtMost old new INPUT_BYTES) ⊎ (status ≡ Memory)
 
 -- what is told of an input that was read
 pub told_input : (form : Form) (old new : Option (List ℕ)) (input : List ℕ) → ReadsAll old new INPUT_BYTES input → (written now : Option (List ℕ)) (status : Status)

@@ -32,15 +32,12 @@ pub record IsOutcome (commands : List (List Call)) (text : List ℕ) : Type 0 wh
   pub run : IsPlainRun commands runs history map
   pub printed : text ≡ output_of runs history map
 
--- a script's first bad line is told, or else an outcome of its commands is printed
-abbrev pub AnswersScript : List ℕ → Ending → Type 0
-AnswersScript input e =
+-- The ending that is owed for an input that was read. A script's first bad line is told, or else an outcome of its commands is
+-- printed.
+abbrev pub AnswersInput : Form → List ℕ → Ending → Type 0
+AnswersInput Run input e =
     OwesLines (first_fault (readings_by reading_of input))
     (λ text. (script : ScriptValue) × IsScript (readings_by reading_of input) script × IsOutcome script.commands text) e
-
--- the ending that is owed for an input that was read
-abbrev pub AnswersInput : Form → List ℕ → Ending → Type 0
-AnswersInput Run input e = AnswersScript input e
 AnswersInput Latch input e = AnswersEvents input e
 AnswersInput Replay input e = AnswersLog input e
 
@@ -56,13 +53,9 @@ Owes words old new e =
     ((form_of words ≡ None) × Keeps old new × (e ≡ ends Usage usage_line))
     ⊎ ((form : Form) × (form_of words ≡ Some form) × IsOwedAt form old new e)
 
--- where a status that writes nothing may come while a form reads and works
-abbrev pub IsSilentAt : Option (List ℕ) → Option (List ℕ) → Status → Type 0
-IsSilentAt old new status = ((status ≡ ReadFault) × ConsumesAtMost old new INPUT_BYTES) ⊎ (status ≡ Memory)
-
--- where a status that writes nothing may come: the words are a form
+-- where a status that writes nothing may come: the words are a form, and reading failed or memory ran out
 abbrev pub IsSilent : List (List ℕ) → Option (List ℕ) → Option (List ℕ) → Status → Type 0
-IsSilent words old new status = (form : Form) × (form_of words ≡ Some form) × IsSilentAt old new status
+IsSilent words old new status = (form : Form) × (form_of words ≡ Some form) × (((status ≡ ReadFault) × ConsumesAtMost old new INPUT_BYTES) ⊎ (status ≡ Memory))
 
 -- nothing is wrong with the input: each line is good, or the bytes are the file of a lawful log
 abbrev pub IsGood : Form → List ℕ → Type 0

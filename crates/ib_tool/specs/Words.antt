@@ -3,17 +3,13 @@ use Rattle.std.specs.Prelude.{ℕ, List, [], ◌∷◌, Option, Some, None, code
 use Rattle.ib_tool.specs.declared.form.Form.{Form}
 use Rattle.ib_tool.specs.declared.form.Form.TheVariants.{Run, Latch, Replay}
 
--- the form that a word names
-abbrev pub form_named : List ℕ → Option Form
-form_named word =
+-- the forms that are built: one word alone
+abbrev pub form_of : List (List ℕ) → Option Form
+form_of (word ∷ []) =
     if bytes_eq word (codes "run") then Some Run
     else if bytes_eq word (codes "latch") then Some Latch
     else if bytes_eq word (codes "replay") then Some Replay
     else None
-
--- the forms that are built: one word alone
-abbrev pub form_of : List (List ℕ) → Option Form
-form_of (word ∷ []) = form_named word
 form_of _ = None
 
 abbrev pub usage_line : List ℕ

@@ -4,7 +4,7 @@ ghost use Rattle.std.specs.Prelude.{◌≡◌, ◌≤◌, length};
 ghost use Rattle.ib_edge.specs.Faults.{Rose};
 ghost use Rattle.ib_edge.specs.Told.{IsMemory, Told};
 ghost use Rattle.ib_script.specs.Script.{IsSmall};
-ghost use Rattle.ib_tool.specs.Answers.{AnswersInput, AnswersScript, IsOutcome};
+ghost use Rattle.ib_tool.specs.Answers.{AnswersInput, IsOutcome};
 
 use crate::form::Form;
 use crate::run_script::run_script;
@@ -29,7 +29,7 @@ fn run<K: Sink>(alloc: Global, script: &Script, sink: &mut K) -> Status
 // Answers a script that was read: runs it, or tells where it is refused and why.
 fn answer_script<K: Sink>(alloc: Global, input: &[u8], sink: &mut K) -> Status
     requires { length input.now ≤ INPUT_BYTES }
-    ensures told { Told (AnswersScript input.now) IsMemory (K.written sink.old) (K.written sink.new) result }
+    ensures told { Told (AnswersInput Form.Run input.now) IsMemory (K.written sink.old) (K.written sink.new) result }
     ensures write { result ≡ Status.WriteFault → Rose (K.faults sink.old) (K.faults sink.new) }
 {
     match read_script::<PlainLines>(alloc, input) {

@@ -1,7 +1,7 @@
 //! The forms of the command line.
 
-ghost use Rattle.std.specs.Prelude.{◌≡◌, map, string_bytes};
-ghost use Rattle.ib_tool.specs.Words.{form_named, form_of};
+ghost use Rattle.std.specs.Prelude.{◌≡◌, [], ◌∷◌, map, string_bytes};
+ghost use Rattle.ib_tool.specs.Words.{form_of};
 
 /// What the program is asked for.
 #[derive(Clone, Copy, Debug, PartialEq, Eq)]
@@ -15,7 +15,7 @@ pub enum Form {
 }
 
 fn form_named(word: &[u8]) -> Option<Form>
-    ensures { result ≡ form_named word.now }
+    ensures { result ≡ form_of (word.now ∷ []) }
 {
     if word == b"run".as_slice() {
         Some(Form::Run)

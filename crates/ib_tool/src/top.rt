@@ -1,8 +1,9 @@
 //! The public call `top`: the program, from the bytes that it reads to the bytes that it writes.
 
-ghost use Rattle.std.specs.Prelude.{◌≡◌, Some, map, string_bytes};
+ghost use Rattle.std.specs.Prelude.{◌≡◌, ◌⊎◌, Some, map, string_bytes};
 ghost use Rattle.ib_edge.specs.Faults.{Rose};
-ghost use Rattle.ib_tool.specs.Answers.{IsOwedAt, IsServed, IsSilent, IsSilentAt, Owes};
+ghost use Rattle.ib_edge.specs.Input.{ConsumesAtMost};
+ghost use Rattle.ib_tool.specs.Answers.{IsOwedAt, IsServed, IsSilent, Owes};
 ghost use Rattle.ib_edge.specs.Told.{IsComplete, Told};
 ghost use Rattle.ib_tool.specs.Words.{form_of};
 ghost use Rattle.ib_tool.specs.declared.form.Form.{Form};
@@ -21,7 +22,8 @@ fn read_and_answer<S: Source, K: Sink>(
     source: &mut S,
     sink: &mut K,
 ) -> Status
-    ensures told { Told (IsOwedAt form (S.left source.old) (S.left source.new)) (IsSilentAt (S.left source.old) (S.left source.new)) (K.written sink.old) (K.written sink.new) result }
+    ensures told { Told (IsOwedAt form (S.left source.old) (S.left source.new))
+        (λ s. ((s ≡ Status.ReadFault) × ConsumesAtMost (S.left source.old) (S.left source.new) INPUT_BYTES) ⊎ (s ≡ Status.Memory)) (K.written sink.old) (K.written sink.new) result }
     ensures read { result ≡ Status.ReadFault → Rose (S.faults source.old) (S.faults source.new) }
     ensures write { result ≡ Status.WriteFault → Rose (K.faults sink.old) (K.faults sink.new) }
 {

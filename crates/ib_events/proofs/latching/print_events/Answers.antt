@@ -10,8 +10,7 @@ use Rattle.ib_levels.specs.declared.level.Level.TheVariants.{Log}
 use Rattle.ib_events.specs.EventText.{event_line}
 use Rattle.ib_edge.specs.Writer.{Puts}
 use Rattle.ib_edge.proofs.Writing.{puts_on}
-use Rattle.ib_events.specs.Latching.{line_of}
-use Rattle.ib_events.proofs.EventLines.{lines_from-more, state_with}
+use Rattle.ib_events.proofs.EventLines.{line_of, lines_from-more, state_with}
 use Rattle.ib_events.proofs.latching.print_events.Goals as goal
 
 pub loop-session-preserved : goal.loop-session-preserved
