@@ -64,3 +64,7 @@ all_below n (h ∷ held) within =
 
 pub has_room : (n l : ℕ) (held : List Holding) → ((l : ℕ) → on l (λ h. 1) held ≤ 1) → ((l : ℕ) → n ≤ l → on l (λ h. 1) held ≡ 0) → l < n → on l (λ h. 1) held ≡ 0 → length held < n
 has_room n l held single within inside none = let a = all_below n held within in let b = fewer_below n l held single inside none in omega arith
+
+-- no more are held than there are latches
+pub few_held : (n : ℕ) (held : List Holding) → ((l : ℕ) → on l (λ h. 1) held ≤ 1) → ((l : ℕ) → n ≤ l → on l (λ h. 1) held ≡ 0) → length held ≤ n
+few_held n held single within = let a = all_below n held within in let b = few_below n held single in omega arith

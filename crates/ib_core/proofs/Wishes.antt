@@ -30,7 +30,7 @@ pub at_free : (a : Session) → a.phase ≡ Free → a ≡ with_phase Free a.hel
 at_free a free = λ j. record { held = a.held; phase = free j }
 
 -- the order of levels allows it, or the latch is held already
-allowed_new : (l : ℕ) (v : Level) (a : Session) (r : Response) → is_held l a.held ≡ false → MayTake v (levels_of a.held) → if_allowed (answer_to (is_held l a.held) v (levels_of a.held)) a r ≡ r
+pub allowed_new : (l : ℕ) (v : Level) (a : Session) (r : Response) → is_held l a.held ≡ false → MayTake v (levels_of a.held) → if_allowed (answer_to (is_held l a.held) v (levels_of a.held)) a r ≡ r
 allowed_new l v a r unheld may = ap (λ b. if_allowed (answer_to b v (levels_of a.held)) a r) unheld ∙ ap (λ (o : Option Level). if_allowed (refused_by v o) a r) (none_from_may v (levels_of a.held) may)
 
 held_is : (l : ℕ) (held : List Holding) → 0 < on l (λ h. 1) held → is_held l held ≡ true

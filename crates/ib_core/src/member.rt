@@ -1,6 +1,6 @@
 //! A session of the machine, among a number of latches.
 
-ghost use Rattle.std.specs.Prelude.{◌≡◌, ◌+◌, ◌<◌, ◌≤◌, ◌^◌, IfOk};
+ghost use Rattle.std.specs.Prelude.{◌≡◌, ℕ, ◌+◌, ◌<◌, ◌≤◌, ◌^◌, length, IfOk};
 ghost use Rattle.ib_levels.specs.Listed.{answer_to};
 ghost use Rattle.ib_levels.specs.Holding.{is_held, levels_of};
 ghost use Rattle.ib_core.specs.Sessions.{holdings, reads, sx_grants, x_grants};
@@ -60,8 +60,12 @@ impl Member {
 
     /// What it holds, in order of taking.
     pub fn held(&self) -> &[Holding]
-        ensures { result.now ≡ self.now.session.held }
+        ensures held { result.now ≡ self.now.session.held }
+        ensures few { ((l : ℕ) → holdings l self.now.session ≤ 1)
+            → length result.now < 2 ^ 32 }
     {
+        // The number of latches is one of 32 bits.
+        let _latches = self.latches;
         self.actor.held.as_slice()
     }
 

@@ -1,0 +1,37 @@
+//! The shared table: all words that sessions share (lock words, flags, generations, pages, log) as
+//! one table of atomic words, under a rule that says that words and sessions stand for one good
+//! state of the latch machine, between any two steps of any threads.
+#![tactic(auto)]
+
+mod closed;
+mod kind;
+mod laws;
+mod looks;
+mod memory;
+mod mirror;
+mod pass;
+mod releases;
+mod rest;
+mod room;
+mod rule;
+mod scratch;
+mod seats;
+mod sleeping;
+mod space;
+mod step;
+mod takings;
+#[cfg(test)]
+mod tests;
+mod turns;
+mod view;
+
+pub use closed::{CloseRefused, Closed};
+pub use kind::{Kind, Op};
+pub use laws::{latch_law, sleeper_law};
+pub use looks::{Grants, Look, Looks};
+pub use memory::{Loaded, Memory, OpenAppend, Since};
+pub use pass::{ENTRY_WORDS, MOST_HELD, Pass};
+pub use rule::Ruled;
+pub use scratch::Scratch;
+pub use space::{ConnectFault, OutOfMemory, Space};
+pub use view::{Ended, Role, View};

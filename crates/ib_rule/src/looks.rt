@@ -1,0 +1,42 @@
+//! Grants, and looks at lock words.
+
+use std::collections::LinkedList;
+
+/// Grants by mode. A reservation of X counts as one grant of X.
+#[derive(Clone, Copy, PartialEq, Eq, Debug)]
+pub struct Grants {
+    /// Of S.
+    pub s: u64,
+    /// Of SX.
+    pub sx: u64,
+    /// Of X.
+    pub x: u64,
+}
+
+impl Grants {
+    /// No grant.
+    pub const NONE: Grants = Grants { s: 0, sx: 0, x: 0 };
+}
+
+/// A look: a step that found a lock word without having changed it before.
+#[derive(Clone, Copy)]
+pub struct Look {
+    /// The latch.
+    pub latch: u32,
+    /// The word found, with its bias.
+    pub found: u64,
+    /// The word that an exchange expected, with its bias.
+    pub expected: Option<u64>,
+    /// How many steps on lock words the session had made before it.
+    pub at: u64,
+}
+
+/// The looks of a session.
+pub struct Looks {
+    /// How many there were.
+    pub count: u64,
+    /// How many steps on lock words there were, looks and others.
+    pub steps: u64,
+    /// All looks, the last one first.
+    pub all: LinkedList<Look>,
+}

@@ -1,0 +1,140 @@
+//! The steps that give grants back.
+
+ghost use Rattle.std.specs.Prelude.{◌≡◌, ◌+◌, ◌-◌, ◌<◌, ◌==◌, if◌then◌else◌};
+ghost use Rattle.ib_word.specs.Word.{cell_of};
+ghost use Rattle.ib_word.specs.Weight.{x_weight};
+ghost use Rattle.ib_word.specs.declared.word.TheConstants.{X_LOCK_DECR, X_LOCK_HALF_DECR};
+ghost use Rattle.ib_levels.specs.declared.level.Mode.TheVariants.{S as ModeS, Sx as ModeSx, X as ModeX};
+ghost use Rattle.ib_levels.specs.Holding.{changed, without};
+ghost use Rattle.ib_layout.specs.Places.{latches_of};
+ghost use Rattle.ib_core.specs.declared.event.Event.TheVariants.{Us, Usx, Ux};
+ghost use Rattle.ib_core.specs.declared.phase.Phase.TheVariants.{Free, OwesLook};
+ghost use Rattle.ib_core.specs.Good.{IsProper};
+ghost use Rattle.ib_core.specs.Takings.{given_back, one_fewer, owed_by_s};
+ghost use Rattle.ib_core.specs.Sessions.{reads, sx_grants, x_grants};
+ghost use Rattle.ib_rule.specs.Pass.{IsOf};
+ghost use Rattle.ib_rule.specs.Turns.{IsTurn};
+
+use crate::kind::Op;
+use crate::pass::Pass;
+use crate::space::Space;
+use crate::turns::{HALF, WHOLE};
+use ib_core::{Event, LatchWord};
+use ib_levels::Latch;
+use ib_logrec::Law;
+use ib_word::{LockWord, from_cell, give_x};
+
+impl<L: Law> Space<L> {
+    /// Gives S back: adds 1 to the lock word. Where 0 or minus HALF is left, a next writer waits
+    /// for the raise of the ex generation that is owed then. It answers the word after the step.
+    pub fn s_on(&self, pass: &mut Pass, latch: Latch) -> LockWord
+        requires own { IsOf self.now pass.old }
+        requires latch { latch.0 < latches_of self.now.sizes }
+        requires free { pass.old.view.session.phase ≡ Free }
+        requires holds { 0 < reads latch.0 pass.old.view.session }
+        ensures turn { IsTurn (Us latch.0) (cell_of result.0 - 1) pass.old pass.new }
+        ensures session { pass.new.view.session
+            ≡ record {
+              held = without latch.0 pass.old.view.session.held;
+              phase = owed_by_s latch.0 result.0;
+            } }
+    {
+        let event = Event::Us { latch: latch.0 };
+        let (found, _) = self.turn(pass, event, LatchWord::Lock, Op::Add(1));
+        from_cell(found + 1)
+    }
+
+    /// Gives the last SX back, with no X of one's own: adds HALF to the lock word. A look at the
+    /// waiters flag is owed then. It answers the word after the step.
+    pub fn sx_on(&self, pass: &mut Pass, latch: Latch) -> LockWord
+        requires own { IsOf self.now pass.old }
+        requires latch { latch.0 < latches_of self.now.sizes }
+        requires free { pass.old.view.session.phase ≡ Free }
+        requires last { sx_grants latch.0 pass.old.view.session ≡ 1 }
+        requires no_x { x_grants latch.0 pass.old.view.session ≡ 0 }
+        ensures turn { IsTurn (Usx latch.0) (cell_of result.0 - X_LOCK_HALF_DECR) pass.old
+            pass.new }
+        ensures session { pass.new.view.session
+            ≡ record {
+              held = without latch.0 pass.old.view.session.held;
+              phase = OwesLook latch.0;
+            } }
+    {
+        self.last_sx_on(pass, latch)
+    }
+
+    /// Gives the last SX back beside one's own X: adds HALF to the lock word, and nothing is owed.
+    /// It answers the word after the step.
+    pub fn sx_on_under_x(&self, pass: &mut Pass, latch: Latch) -> LockWord
+        requires own { IsOf self.now pass.old }
+        requires latch { latch.0 < latches_of self.now.sizes }
+        requires free { pass.old.view.session.phase ≡ Free }
+        requires last { sx_grants latch.0 pass.old.view.session ≡ 1 }
+        requires owns_x { 0 < x_grants latch.0 pass.old.view.session }
+        ensures turn { IsTurn (Usx latch.0) (cell_of result.0 - X_LOCK_HALF_DECR) pass.old
+            pass.new }
+        ensures session { pass.new.view.session
+            ≡ record {
+              held = changed latch.0 (one_fewer ModeSx) pass.old.view.session.held;
+              phase = Free;
+            } }
+    {
+        self.last_sx_on(pass, latch)
+    }
+
+    /// Gives the last X back: adds `X_LOCK_DECR` to the lock word. A look at the waiters flag is
+    /// owed then, also where SX is left. It answers the word after the step.
+    pub fn x_on(&self, pass: &mut Pass, latch: Latch) -> LockWord
+        requires own { IsOf self.now pass.old }
+        requires latch { latch.0 < latches_of self.now.sizes }
+        requires free { pass.old.view.session.phase ≡ Free }
+        requires last { x_grants latch.0 pass.old.view.session ≡ 1 }
+        ensures turn { IsTurn (Ux latch.0) (cell_of result.0 - X_LOCK_DECR) pass.old pass.new }
+        ensures session { pass.new.view.session
+            ≡ record {
+              held = given_back ModeX latch.0 pass.old.view.session;
+              phase = OwesLook latch.0;
+            } }
+    {
+        let event = Event::Ux { latch: latch.0 };
+        let (found, _) = self.turn(pass, event, LatchWord::Lock, Op::Add(WHOLE));
+        from_cell(found + WHOLE)
+    }
+
+    /// Gives an X back that is not the last: adds `X_LOCK_DECR` to the lock word where one is left,
+    /// and else 1. Nothing is owed. It answers the word after the step.
+    pub fn x_on_again(&self, pass: &mut Pass, latch: Latch) -> LockWord
+        requires own { IsOf self.now pass.old }
+        requires latch { latch.0 < latches_of self.now.sizes }
+        requires free { pass.old.view.session.phase ≡ Free }
+        requires more { 1 < x_grants latch.0 pass.old.view.session }
+        ensures turn { let x = x_grants latch.0 pass.old.view.session in
+            IsTurn (Ux latch.0) (cell_of result.0 - (x_weight x - x_weight (x - 1))) pass.old
+            pass.new }
+        ensures session { pass.new.view.session
+            ≡ record {
+              held = changed latch.0 (one_fewer ModeX) pass.old.view.session.held;
+              phase = Free;
+            } }
+    {
+        let weight = u64::from(give_x(pass.member.counts(latch).x));
+        let event = Event::Ux { latch: latch.0 };
+        let (found, _) = self.turn(pass, event, LatchWord::Lock, Op::Add(weight));
+        from_cell(found + weight)
+    }
+
+    // Gives the last SX back: adds HALF to the lock word.
+    fn last_sx_on(&self, pass: &mut Pass, latch: Latch) -> LockWord
+        requires own { IsOf self.now pass.old }
+        requires latch { latch.0 < latches_of self.now.sizes }
+        requires free { pass.old.view.session.phase ≡ Free }
+        requires last { sx_grants latch.0 pass.old.view.session ≡ 1 }
+        ensures turn { IsTurn (Usx latch.0) (cell_of result.0 - X_LOCK_HALF_DECR) pass.old
+            pass.new }
+        ensures proper { IsProper pass.old.view.session }
+    {
+        let event = Event::Usx { latch: latch.0 };
+        let (found, _) = self.turn(pass, event, LatchWord::Lock, Op::Add(HALF));
+        from_cell(found + HALF)
+    }
+}

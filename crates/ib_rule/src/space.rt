@@ -1,0 +1,228 @@
+//! The table with the space's own seat, and its sessions.
+
+ghost use Rattle.std.specs.Prelude.{◌≡◌, ◌↔◌, ℕ, ◌+◌, ◌-◌, ◌<◌, ◌≤◌, true, [], ◌∷◌, length, nat_lt, replicate, if◌then◌else◌, Err, IfOk, IfErr, IsSome};
+ghost use mathlib.Core.List.{IsPrefix};
+ghost use Rattle.ib_map.specs.Space.{has_pages};
+ghost use Rattle.ib_layout.specs.Places.{latches_of, words_of};
+ghost use Rattle.ib_core.specs.Sessions.{idle};
+ghost use Rattle.ib_rule.specs.declared.view.Role.TheVariants.{Session};
+ghost use Rattle.ib_rule.specs.Memory.{page_places};
+ghost use Rattle.ib_rule.specs.Rule.{IsOpening};
+ghost use Rattle.ib_rule.specs.Opening.{AreFreed, AreOpened};
+ghost use Rattle.ib_rule.specs.Views.{ended_as, longer, seated, seeing};
+ghost use Rattle.ib_rule.specs.Pass.{IsFrom, IsOf, with_view};
+
+use crate::pass::Pass;
+use crate::rest::Rest;
+use crate::room::Room;
+use crate::rule::Ruled;
+use crate::seats::{draw, leave, tell};
+use crate::view::View;
+use atomic_table::{Seat, Table};
+use ib_layout::Geometry;
+use ib_levels::Latch;
+use ib_logrec::{Law, MOST_SESSIONS};
+use ib_map::PAGE_WORDS;
+use ib_word::{LockWord, to_cell};
+use std::alloc::{AllocError, Global};
+use std::marker::Model;
+use thiserror::Error;
+
+/// There was no memory.
+pub type OutOfMemory = AllocError;
+
+/// The words that the sessions of a space share, under the rule of the law `L`. It is
+/// not dropped but closed.
+pub struct Space<L: Law> {
+    pub(crate) table: Table<(), View, Geometry, Ruled<L>, Global>,
+    pub(crate) rest: Option<Rest>,
+    pub(crate) geometry: Geometry,
+    pub(crate) drawn: u32,
+    pub(crate) ended: u32,
+}
+
+impl<L: Law> Model for Space<L> {
+    ghost use Rattle.ib_rule.specs.Space.{SpaceState, space_state, IsSpace};
+
+    ghost Value = { SpaceState };
+
+    ghost view = { λ p. space_state p };
+
+    ghost invariant = { λ p. IsSpace p };
+}
+
+/// Why no session was drawn.
+#[derive(Debug, Drop, Error)]
+pub enum ConnectFault {
+    /// As many were drawn as there can be, 1,024.
+    #[error("{drawn} sessions were drawn")]
+    TooManySessions { drawn: u32 },
+    /// There was no memory for its pass.
+    #[error("out of memory")]
+    OutOfMemory,
+}
+
+// The seat, out of its place.
+fn take_out(rest: &mut Option<Rest>) -> Seat<(), View>
+    requires { IsSome rest.old }
+    ensures seat { rest.old ≡ Some record { seat = result } }
+    ensures none { rest.new ≡ None }
+{
+    let Some(rest) = rest.take() else {
+        unreachable!()
+    };
+    rest.into_seat()
+}
+
+fn put_back(rest: &mut Option<Rest>, seat: Seat<(), View>)
+    requires { rest.old ≡ None }
+    ensures { rest.new ≡ Some record { seat = seat } }
+{
+    if let Some(other) = rest.replace(Rest::new(seat)) {
+        drop(other.into_seat());
+    }
+}
+
+// The words of a space that opens.
+fn opening<L: Law>(alloc: Global, geometry: Geometry) -> Result<Vec<u64>, OutOfMemory>
+    ensures words { IfOk result (λ v. IsOpening L.opening geometry v.items) }
+    ensures pages { has_pages geometry.pages ≡ true }
+{
+    let latches = geometry.pages() + 2;
+    let count = geometry.words();
+    let mut words = vec![in alloc; 0; count]?;
+    fill::<L>(geometry, latches, words.as_mut_slice());
+    Ok(words)
+}
+
+// Zeros become the words of a space that opens.
+fn fill<L: Law>(geometry: Geometry, latches: u32, words: &mut [u64])
+    requires zeros { words.old ≡ replicate (words_of geometry) 0 }
+    requires latches { latches ≡ latches_of geometry }
+    ensures { IsOpening L.opening geometry words.new }
+{
+    free_latches(geometry, latches, words);
+    open_pages::<L>(geometry, words);
+}
+
+// Each of the latches is free.
+fn free_latches(geometry: Geometry, latches: u32, words: &mut [u64])
+    requires size { length words.old ≡ words_of geometry }
+    requires latches { latches ≡ latches_of geometry }
+    ensures { AreFreed latches words.old words.new }
+{
+    let free = to_cell(LockWord::FREE);
+    for latch in 0..latches {
+        words[geometry.lock_place(Latch(latch))] = free;
+    }
+}
+
+// Each page word is the law's.
+fn open_pages<L: Law>(geometry: Geometry, words: &mut [u64])
+    requires { length words.old ≡ words_of geometry }
+    ensures { AreOpened L.opening geometry (page_places geometry) words.old words.new }
+{
+    let pages = geometry.pages();
+    let width = PAGE_WORDS as u32;
+    let first = geometry.page_place(0, 0);
+    for place in 0..pages * width {
+        words[first + place as usize] = L::opening_word(pages, place / width, place % width);
+    }
+}
+
+impl<L: Law> Space<L> {
+    /// The opening memory of the law, an empty log, and no sessions.
+    pub fn open(alloc: Global, geometry: Geometry) -> Result<Space<L>, OutOfMemory>
+        ensures { IfOk result (λ s. s
+            ≡ record { table = s.table; sizes = geometry; drawn = 0; ended = [] }) }
+    {
+        let words = opening::<L>(alloc, geometry)?;
+        let (table, seat) = Table::of_words(alloc, words.as_slice(), &geometry)?;
+        Ok(Space {
+            table,
+            rest: Some(Rest::new(seat)),
+            geometry,
+            drawn: 0,
+            ended: 0,
+        })
+    }
+
+    /// The sizes of the space.
+    pub fn geometry(&self) -> Geometry
+        ensures { result ≡ self.now.sizes }
+    {
+        self.geometry
+    }
+
+    /// How many passes are not given back yet.
+    pub fn connected(&self) -> u32
+        ensures { result ≡ self.now.drawn - length self.now.ended }
+    {
+        self.drawn - self.ended
+    }
+
+    /// Draws the next number, and gives its session's pass: nothing seen, held or granted, the phase
+    /// free, and the scratch in it. Refused as `TooManySessions` exactly where 1,024 were drawn.
+    /// Where memory lacks, no number is drawn.
+    pub fn connect(&mut self, alloc: Global) -> Result<Pass, ConnectFault>
+        ensures pass { IfOk result (λ p. IsOf self.old p × (p.number ≡ self.old.drawn + 1)
+            × (p.view ≡ seated (Session (self.old.drawn + 1))) × (p.has_scratch ≡ true)) }
+        ensures drawn { IfOk result (λ p. self.new
+            ≡ record self.old { drawn = self.old.drawn + 1 }) }
+        ensures err { IfErr result (λ e. self.new ≡ self.old) }
+        ensures full { (result ≡ Err (ConnectFault.TooManySessions 1024))
+            ↔ (self.old.drawn ≡ 1024) }
+        ensures few { self.old.drawn ≤ 1024 }
+    {
+        if self.drawn >= MOST_SESSIONS {
+            return Err(ConnectFault::TooManySessions { drawn: self.drawn });
+        }
+        let Ok(room) = Room::new(alloc, self.geometry.pages() + 2) else {
+            return Err(ConnectFault::OutOfMemory);
+        };
+        let mut own = take_out(&mut self.rest);
+        let seat = draw(&self.table.shared, &mut own);
+        put_back(&mut self.rest, own);
+        self.drawn += 1;
+        Ok(room.into_pass(seat, self.drawn))
+    }
+
+    /// The session ends, and its lists are kept. It holds nothing, its phase is free, and its
+    /// scratch is in the pass.
+    pub fn disconnect(&mut self, pass: Pass)
+        requires own { IsOf self.old pass }
+        requires idle { pass.view.session ≡ idle }
+        requires scratch { pass.has_scratch ≡ true }
+        ensures { self.new ≡ record self.old { ended = ended_as pass.view ∷ self.old.ended } }
+    {
+        let mut own = take_out(&mut self.rest);
+        leave(&self.table.shared, &mut own, pass.into_seat());
+        put_back(&mut self.rest, own);
+        self.ended += 1;
+    }
+
+    /// Afterwards `to` has seen what both had seen: the longer of the two lists, of which both are
+    /// fronts. What contracts see of `from` is as before.
+    pub fn meet(&self, to: &mut Pass, from: &mut Pass)
+        requires to { IsFrom self.now to.old }
+        requires from { IsFrom self.now from.old }
+        ensures from { from.new ≡ from.old }
+        ensures to { to.new ≡ with_view to.old
+            (seeing (longer to.old.view.memory.seen from.old.view.memory.seen) to.old.view) }
+        ensures mine { IsPrefix to.old.view.memory.seen to.new.view.memory.seen }
+        ensures theirs { IsPrefix from.old.view.memory.seen to.new.view.memory.seen }
+        ensures legal { L.lawful self.now.sizes.pages to.new.view.memory.seen }
+    {
+        // The law of logs speaks of the numbers of pages that a space has.
+        let _ = self.geometry.pages();
+        tell(&self.table.shared, &mut to.seat, &mut from.seat);
+        to.place = greater(to.place, from.place);
+    }
+}
+
+// The greater of two numbers.
+fn greater(one: u32, other: u32) -> u32
+    ensures { result ≡ if nat_lt one other then other else one }
+{
+    if one < other { other } else { one }
+}

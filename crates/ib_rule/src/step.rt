@@ -1,0 +1,107 @@
+//! The atomic steps under the rule. Each call says by ghosts what its step is, which picks what the
+//! step tells.
+
+ghost use Rattle.std.specs.Prelude.{◌≡◌, ◌<◌, ◌==◌};
+ghost use prog.Atomic.{either};
+ghost use Rattle.atomic_table.specs.Table.{Allows};
+ghost use Rattle.ib_rule.specs.Rule.{RuleHolds};
+ghost use Rattle.ib_rule.specs.Steps.{run};
+ghost use Rattle.ib_rule.specs.Told.{tells};
+
+use crate::kind::{Kind, Op};
+use crate::rule::Ruled;
+use crate::view::View;
+use atomic_table::{Play, Seat, Shared};
+use ib_layout::Geometry;
+use ib_logrec::Law;
+use std::marker::{Brand, PhantomData};
+
+/// What a step is: its kind, the sizes of its space, and the entry of which it stores a word.
+pub trait Naming {
+    ghost use Rattle.ib_layout.specs.Geometry.{Sizes};
+    ghost use Rattle.ib_logrec.specs.declared.entry.Entry.{Entry};
+    ghost use Rattle.ib_rule.specs.declared.kind.Kind.{Kind};
+
+    ghost kind: { Kind };
+
+    ghost key: { Sizes };
+
+    ghost entry: { Entry };
+}
+
+impl Naming for Brand {
+    ghost use Rattle.ib_rule.specs.declared.kind.Kind.TheVariants.{Look};
+    ghost use Rattle.ib_rule.specs.Stores.{no_entry};
+
+    ghost kind = { Look 0 };
+
+    ghost key = { record { pages = 0; log_words = 0 } };
+
+    ghost entry = { no_entry };
+}
+
+/// What a step tells its caller.
+pub struct Tells<T, L> {
+    kind: PhantomData<(T, L)>,
+}
+
+impl<T: Naming, L: Law> Play<(), View> for Tells<T, L> {
+    ghost use Rattle.ib_rule.specs.Told.{tells};
+
+    ghost then = { λ _ m n w. tells L.lawful L.opening T.key T.entry T.kind m n w };
+}
+
+/// The table as threads share it.
+pub(crate) type Board<L> = Shared<(), View, Geometry, Ruled<L>>;
+
+// A step of this kind, which does this to its word. It answers the word found.
+pub(crate) fn act<L: Law, T: Naming>(
+    shared: &Board<L>,
+    seat: &mut Seat<(), View>,
+    word: usize,
+    op: Op,
+    kind: Kind,
+) -> u64
+    requires kind { kind ≡ T.kind }
+    requires key { shared.now.key ≡ T.key }
+    requires own { seat.old.table_id ≡ shared.now.table_id }
+    requires range { word < shared.now.table_id.words }
+    requires allowed { Allows (RuleHolds L.lawful L.opening shared.now.key)
+        shared.now.table_id.slots seat.old.id seat.old.me word (λ n. run op n)
+        (tells L.lawful L.opening shared.now.key T.entry kind seat.old.me) }
+    ensures own { (seat.new.table_id ≡ seat.old.table_id) × (seat.new.id ≡ seat.old.id) }
+    ensures told { tells L.lawful L.opening shared.now.key T.entry kind seat.old.me result
+        seat.new.me }
+{
+    let _ = kind;
+    match op {
+        Op::Load => shared.load::<Tells<T, L>>(seat, word),
+        Op::Swap(new) => shared.swap::<Tells<T, L>>(seat, word, new),
+        Op::Add(k) => shared.fetch_add::<Tells<T, L>>(seat, word, k),
+        Op::Sub(k) => shared.fetch_sub::<Tells<T, L>>(seat, word, k),
+    }
+}
+
+// One exchange of the word for a new one, where it is the old one. It answers the word found.
+pub(crate) fn exchange<L: Law, T: Naming>(
+    shared: &Board<L>,
+    seat: &mut Seat<(), View>,
+    word: usize,
+    old: u64,
+    new: u64,
+    kind: Kind,
+) -> u64
+    requires kind { kind ≡ T.kind }
+    requires key { shared.now.key ≡ T.key }
+    requires own { seat.old.table_id ≡ shared.now.table_id }
+    requires range { word < shared.now.table_id.words }
+    requires allowed { Allows (RuleHolds L.lawful L.opening shared.now.key)
+        shared.now.table_id.slots seat.old.id seat.old.me word (λ n. either (n == old) new n)
+        (tells L.lawful L.opening shared.now.key T.entry kind seat.old.me) }
+    ensures own { (seat.new.table_id ≡ seat.old.table_id) × (seat.new.id ≡ seat.old.id) }
+    ensures told { tells L.lawful L.opening shared.now.key T.entry kind seat.old.me result
+        seat.new.me }
+{
+    let _ = kind;
+    shared.compare_exchange::<Tells<T, L>>(seat, word, old, new)
+}

@@ -1,0 +1,266 @@
+//! The steps that look at a lock word and take grants.
+
+ghost use Rattle.std.specs.Prelude.{◌≡◌, ◌≢◌, ◌+◌, ◌-◌, ◌<◌, true, false, IsTrue, IsOk, pos, ◌-ℤ◌, if◌then◌else◌};
+ghost use Rattle.ib_word.specs.Word.{IsCounted, cell_of};
+ghost use Rattle.ib_word.specs.Weight.{x_weight};
+ghost use Rattle.ib_word.specs.declared.word.TheConstants.{X_LOCK_DECR, X_LOCK_HALF_DECR};
+ghost use Rattle.ib_levels.specs.declared.level.Level.TheVariants.{Log};
+ghost use Rattle.ib_levels.specs.declared.level.Mode.TheVariants.{S as ModeS, Sx as ModeSx, X as ModeX};
+ghost use Rattle.ib_levels.specs.Holding.{changed};
+ghost use Rattle.ib_layout.specs.Places.{latches_of};
+ghost use Rattle.ib_core.specs.declared.event.Event.TheVariants.{Sx as SxEvent, X as XEvent};
+ghost use Rattle.ib_core.specs.declared.phase.Phase.TheVariants.{Free};
+ghost use Rattle.ib_core.specs.Takings.{holding_too, is_given_at, level_on, one_fewer, one_more, reserving};
+ghost use Rattle.ib_core.specs.Responses.{is_above_0};
+ghost use Rattle.ib_core.specs.Sessions.{claims, sx_grants, x_grants};
+ghost use Rattle.ib_core.specs.Holders.{OwnsSx};
+ghost use Rattle.ib_rule.specs.Pass.{IsOf, with_view};
+ghost use Rattle.ib_rule.specs.Views.{signed};
+ghost use Rattle.ib_rule.specs.Steps.{event_at, view_after};
+ghost use Rattle.ib_rule.specs.Conditions.{MayGrow, MayTry, try_event, word_kind, writer_event};
+ghost use Rattle.ib_rule.specs.Told.{Happens};
+ghost use Rattle.ib_rule.specs.Turns.{IsTry, IsTurn};
+ghost use Rattle.ib_rule.specs.Afterwards.{in_phase, word_loaded};
+
+use crate::kind::Op;
+use crate::pass::Pass;
+use crate::space::Space;
+use crate::turns::{HALF, WHOLE};
+use ib_core::{Event, LatchWord, Phase};
+use ib_levels::{Latch, Level, Mode};
+use ib_logrec::Law;
+use ib_word::{LockWord, again_x, from_cell};
+
+impl<L: Law> Space<L> {
+    /// Loads the lock word. It is a look, and for a session that waits on the latch an event: for a
+    /// next writer `ready`, and for one that has set the flag `again`, where the word refuses its
+    /// wish.
+    pub fn load_word(&self, pass: &mut Pass, latch: Latch) -> LockWord
+        requires own { IsOf self.now pass.old }
+        requires latch { latch.0 < latches_of self.now.sizes }
+        ensures counted { IsCounted result.0 }
+        ensures view { pass.new ≡ with_view pass.old
+            (view_after (word_kind latch.0 pass.old.view.session.phase) (cell_of result.0)
+            pass.old.view) }
+        ensures event { Happens
+            (event_at (word_kind latch.0 pass.old.view.session.phase) pass.old.view.session
+            (cell_of result.0)) pass.old.view.session (cell_of result.0)
+            pass.new.view.session }
+        ensures session { pass.new.view.session ≡ in_phase
+            (word_loaded latch.0 (cell_of result.0) pass.old.view.session
+            pass.old.view.session.phase) pass.old.view.session }
+    {
+        let found = match pass.member.phase() {
+            Phase::Next { latch: at, .. } | Phase::NextArmed { latch: at, .. } if at == latch.0 => {
+                let event = Event::Ready { latch: latch.0 };
+                self.turn(pass, event, LatchWord::Lock, Op::Load).0
+            }
+            Phase::Flagged { latch: at, .. } if at == latch.0 => self.recheck(pass, latch),
+            _ => self.look(pass, latch),
+        };
+        from_cell(found)
+    }
+
+    /// Takes S: one exchange that takes 1 off the lock word, where it is the expected one. Else it
+    /// answers the word found, and nothing is changed but the looks.
+    pub fn s_off(
+        &self,
+        pass: &mut Pass,
+        latch: Latch,
+        level: Level,
+        expected: LockWord,
+    ) -> Result<(), LockWord>
+        requires own { IsOf self.now pass.old }
+        requires latch { latch.0 < latches_of self.now.sizes }
+        requires may { MayTry ModeS latch.0 level pass.old.view.session
+            pass.old.view.session.phase }
+        requires grows { MayGrow pass.old.view }
+        requires given { IsTrue (is_given_at ModeS expected.0) }
+        ensures tried { IsTry (try_event ModeS latch.0 level pass.old.view.session.phase) expected
+            result pass.old pass.new }
+        ensures session { IsOk result → pass.new.view.session
+            ≡ record {
+              held = holding_too ModeS latch.0 level pass.old.view.session.held;
+              phase = Free;
+            } }
+    {
+        self.first_off(pass, Mode::S, latch, level, expected)
+    }
+
+    /// Takes SX, with nothing held on the latch: one exchange that takes HALF off the lock word,
+    /// where it is the expected one. Else it answers the word found, and nothing is changed but the
+    /// looks.
+    pub fn sx_off(
+        &self,
+        pass: &mut Pass,
+        latch: Latch,
+        level: Level,
+        expected: LockWord,
+    ) -> Result<(), LockWord>
+        requires own { IsOf self.now pass.old }
+        requires latch { latch.0 < latches_of self.now.sizes }
+        requires may { MayTry ModeSx latch.0 level pass.old.view.session
+            pass.old.view.session.phase }
+        requires grows { MayGrow pass.old.view }
+        requires given { IsTrue (is_given_at ModeSx expected.0) }
+        ensures tried { IsTry (try_event ModeSx latch.0 level pass.old.view.session.phase) expected
+            result pass.old pass.new }
+        ensures session { IsOk result → pass.new.view.session
+            ≡ record {
+              held = holding_too ModeSx latch.0 level pass.old.view.session.held;
+              phase = Free;
+            } }
+    {
+        self.first_off(pass, Mode::Sx, latch, level, expected)
+    }
+
+    /// Takes or reserves X, with nothing held on the latch: one exchange that takes `X_LOCK_DECR`
+    /// off the lock word, where it is the expected one. X is owned where 0 is left, and else the
+    /// session is the next writer. Where the word is another, it answers that, and nothing is
+    /// changed but the looks.
+    pub fn x_off(
+        &self,
+        pass: &mut Pass,
+        latch: Latch,
+        level: Level,
+        expected: LockWord,
+    ) -> Result<(), LockWord>
+        requires own { IsOf self.now pass.old }
+        requires latch { latch.0 < latches_of self.now.sizes }
+        requires may { MayTry ModeX latch.0 level pass.old.view.session
+            pass.old.view.session.phase }
+        requires grows { MayGrow pass.old.view }
+        requires given { IsTrue (is_given_at ModeX expected.0) }
+        ensures tried { IsTry (try_event ModeX latch.0 level pass.old.view.session.phase) expected
+            result pass.old pass.new }
+        ensures session { IsOk result → pass.new.view.session
+            ≡ (reserving latch.0 level (expected.0 -ℤ pos X_LOCK_DECR)
+            (holding_too ModeX latch.0 level pass.old.view.session.held)).session }
+    {
+        self.first_off(pass, Mode::X, latch, level, expected)
+    }
+
+    /// Takes or reserves X beside one's own SX: one exchange that takes `X_LOCK_DECR` off the lock
+    /// word, where it is the expected one. X is owned where minus HALF is left, and else the session
+    /// is the next writer. The latch keeps the level of its first grant.
+    pub fn upgrade(&self, pass: &mut Pass, latch: Latch, expected: LockWord) -> Result<(), LockWord>
+        requires own { IsOf self.now pass.old }
+        requires latch { latch.0 < latches_of self.now.sizes }
+        requires free { pass.old.view.session.phase ≡ Free }
+        requires owns_sx { 0 < sx_grants latch.0 pass.old.view.session }
+        requires no_x { x_grants latch.0 pass.old.view.session ≡ 0 }
+        requires grows { MayGrow pass.old.view }
+        requires given { IsTrue (is_above_0 expected.0) }
+        ensures tried { IsTry (XEvent latch.0 Log) expected result pass.old pass.new }
+        ensures session { IsOk result → pass.new.view.session
+            ≡ (reserving latch.0 (level_on latch.0 Log pass.old.view.session.held)
+            (expected.0 -ℤ pos X_LOCK_DECR)
+            (changed latch.0 (one_more ModeX) pass.old.view.session.held)).session }
+    {
+        let event = Event::X {
+            latch: latch.0,
+            level: Level::Log,
+        };
+        match self.attempt(pass, event, expected, WHOLE) {
+            Ok(_) => Ok(()),
+            Err(found) => Err(found),
+        }
+    }
+
+    /// Takes X once more: `X_LOCK_DECR` off the lock word where it was owned once, and else 1. It
+    /// answers the word after the step.
+    pub fn x_off_again(&self, pass: &mut Pass, latch: Latch) -> LockWord
+        requires own { IsOf self.now pass.old }
+        requires latch { latch.0 < latches_of self.now.sizes }
+        requires free { pass.old.view.session.phase ≡ Free }
+        requires owns { 0 < x_grants latch.0 pass.old.view.session }
+        requires grows { MayGrow pass.old.view }
+        ensures turn { let x = x_grants latch.0 pass.old.view.session in
+            IsTurn (XEvent latch.0 Log) (cell_of result.0 + (x_weight (x + 1) - x_weight x))
+            pass.old pass.new }
+        ensures session { pass.new.view.session
+            ≡ record {
+              held = changed latch.0 (one_more ModeX) pass.old.view.session.held;
+              phase = Free;
+            } }
+    {
+        let weight = u64::from(again_x(pass.member.counts(latch).x));
+        let event = Event::X {
+            latch: latch.0,
+            level: Level::Log,
+        };
+        let (found, _) = self.turn(pass, event, LatchWord::Lock, Op::Sub(weight));
+        from_cell(found - weight)
+    }
+
+    /// Takes a first SX beside one's own X: HALF off the lock word. It answers the word after the
+    /// step.
+    pub fn sx_off_under_x(&self, pass: &mut Pass, latch: Latch) -> LockWord
+        requires own { IsOf self.now pass.old }
+        requires latch { latch.0 < latches_of self.now.sizes }
+        requires free { pass.old.view.session.phase ≡ Free }
+        requires owns_x { 0 < x_grants latch.0 pass.old.view.session }
+        requires no_sx { sx_grants latch.0 pass.old.view.session ≡ 0 }
+        requires grows { MayGrow pass.old.view }
+        ensures turn { IsTurn (SxEvent latch.0 Log) (cell_of result.0 + X_LOCK_HALF_DECR)
+            pass.old pass.new }
+        ensures session { pass.new.view.session
+            ≡ record {
+              held = changed latch.0 (one_more ModeSx) pass.old.view.session.held;
+              phase = Free;
+            } }
+    {
+        let event = Event::Sx {
+            latch: latch.0,
+            level: Level::Log,
+        };
+        let (found, _) = self.turn(pass, event, LatchWord::Lock, Op::Sub(HALF));
+        from_cell(found - HALF)
+    }
+
+    /// Loads the writer, which counts a further SX, or, with `back`, one SX given back that is not
+    /// the last. It answers the word.
+    pub fn load_writer(&self, pass: &mut Pass, latch: Latch, back: bool) -> u64
+        requires own { IsOf self.now pass.old }
+        requires latch { latch.0 < latches_of self.now.sizes }
+        requires free { pass.old.view.session.phase ≡ Free }
+        requires owns { 0 < sx_grants latch.0 pass.old.view.session }
+        requires more { IsTrue back → 1 < sx_grants latch.0 pass.old.view.session }
+        requires grows { back ≡ false → MayGrow pass.old.view }
+        ensures turn { IsTurn (writer_event latch.0 back) result pass.old pass.new }
+        ensures session { pass.new.view.session
+            ≡ record {
+              held = changed latch.0 (if back then one_fewer ModeSx else one_more ModeSx)
+                  pass.old.view.session.held;
+              phase = Free;
+            } }
+    {
+        let event = writer_event(latch.0, back);
+        self.turn(pass, event, LatchWord::Writer, Op::Load).0
+    }
+
+    /// Stores the session's number as the writer of a latch that it has in SX or X, or is the next
+    /// writer of.
+    pub fn store_writer(&self, pass: &mut Pass, latch: Latch)
+        requires own { IsOf self.now pass.old }
+        requires latch { latch.0 < latches_of self.now.sizes }
+        requires claims { 0 < claims latch.0 pass.old.view.session }
+        ensures { pass.new ≡ with_view pass.old (signed latch.0 pass.old.view) }
+    {
+        self.sign(pass, latch);
+    }
+}
+
+// The event of a load of the writer.
+fn writer_event(latch: u32, back: bool) -> Event
+    ensures { result ≡ writer_event latch back }
+{
+    if back {
+        Event::Usx { latch }
+    } else {
+        Event::Sx {
+            latch,
+            level: Level::Log,
+        }
+    }
+}

@@ -1,0 +1,258 @@
+//! A step on a word of a latch that is the turn of an event, and the looks that are none.
+
+ghost use Rattle.std.specs.Prelude.{◌≡◌, ◌≢◌, ℕ, ◌-◌, ◌<◌, ◌≤◌, IsTrue, IfOk, IfErr, IsOk, pos, ◌-ℤ◌};
+ghost use Rattle.ib_word.specs.Word.{cell_of};
+ghost use Rattle.ib_layout.specs.Places.{latches_of, words_of};
+ghost use Rattle.ib_core.specs.declared.latch_word.LatchWord.TheVariants.{Lock};
+ghost use Rattle.ib_core.specs.Good.{IsProper};
+ghost use Rattle.ib_core.specs.Takings.{first_response, first_weight, holding_too, is_given_at};
+ghost use Rattle.ib_core.specs.Responses.{latch_of};
+ghost use Rattle.ib_core.specs.Sessions.{claims};
+ghost use Rattle.ib_core.specs.Turns.{Leaves, turn_at, word_for};
+ghost use Rattle.ib_rule.specs.declared.kind.Kind.TheVariants.{Look, Recheck, Try, Turn};
+ghost use Rattle.ib_rule.specs.Pass.{IsOf, with_view};
+ghost use Rattle.ib_rule.specs.Views.{signed};
+ghost use Rattle.ib_rule.specs.Steps.{event_at, place_of, run, view_after};
+ghost use Rattle.ib_rule.specs.Told.{CanBe, Happens, IsEvent};
+ghost use Rattle.ib_rule.specs.Conditions.{CanTake, MayGrow, MayTry, found_by, try_event};
+
+use crate::kind::{Kind, Op};
+use crate::mirror::{counted, is_refused, turn_on};
+use crate::pass::Pass;
+use crate::space::Space;
+use crate::step::{act, exchange};
+use ib_core::{Answer, Event, LatchWord, Phase};
+use ib_layout::Geometry;
+use ib_levels::{Latch, Level, Mode};
+use ib_logrec::Law;
+use ib_word::{LockWord, X_LOCK_DECR, X_LOCK_HALF_DECR, from_cell, to_cell};
+use std::marker::Brand;
+
+// What a first grant of SX and one of X take off a lock word.
+pub(crate) const HALF: u64 = X_LOCK_HALF_DECR as u64;
+
+pub(crate) const WHOLE: u64 = X_LOCK_DECR as u64;
+
+// The place of a word of a latch.
+fn place(geometry: &Geometry, word: LatchWord, latch: Latch) -> usize
+    requires { latch.0 < latches_of geometry.now }
+    ensures place { result ≡ place_of word latch.0 }
+    ensures in_range { result < words_of geometry.now }
+{
+    match word {
+        LatchWord::Lock => geometry.lock_place(latch),
+        LatchWord::Waiters => geometry.waiters_place(latch),
+        LatchWord::Writer => geometry.writer_place(latch),
+        LatchWord::Generation => geometry.gen_place(latch),
+        LatchWord::ExGeneration => geometry.ex_gen_place(latch),
+    }
+}
+
+impl<L: Law> Space<L> {
+    // One step on the word of the event's latch that the event reads, which is the turn of the
+    // event. It answers the word found, and what the latch machine answers there.
+    pub(crate) fn turn(
+        &self,
+        pass: &mut Pass,
+        event: Event,
+        word: LatchWord,
+        op: Op,
+    ) -> (u64, Answer)
+        requires own { IsOf self.now pass.old }
+        requires latch { latch_of event < latches_of self.now.sizes }
+        requires word { word_for event pass.old.view.session ≡ word }
+        requires step { IsProper pass.old.view.session → (n : ℕ)
+            → CanBe word (latch_of event) pass.old.view.session n
+            → CanTake event pass.old.view n
+            × Leaves word event pass.old.view.session n (run op n) }
+        ensures view { pass.new
+            ≡ with_view pass.old (view_after (Turn event) result.0 pass.old.view) }
+        ensures answer { result.1 ≡ (turn_at event result.0 pass.old.view.session).answer }
+        ensures event { IsEvent event pass.old.view.session result.1 pass.new.view.session }
+        ensures found { CanBe word (latch_of event) pass.old.view.session result.0 }
+        ensures proper { IsProper pass.old.view.session }
+    {
+        let place = place(&self.geometry, word, Latch(event.latch()));
+        let before = pass.member.phase();
+        let found = act::<L, Brand>(
+            &self.table.shared,
+            &mut pass.seat,
+            place,
+            op,
+            Kind::Turn(event),
+        );
+        let answer = turn_on(&mut pass.member, event, word, found);
+        pass.grants = counted(pass.grants, before, event, answer);
+        (found, answer)
+    }
+
+    // One exchange of the lock word, which is the turn of the event where the word is the expected
+    // one. Else it answers the word found.
+    pub(crate) fn attempt(
+        &self,
+        pass: &mut Pass,
+        event: Event,
+        expected: LockWord,
+        taken: u64,
+    ) -> Result<Answer, LockWord>
+        requires own { IsOf self.now pass.old }
+        requires latch { latch_of event < latches_of self.now.sizes }
+        requires word { word_for event pass.old.view.session ≡ Lock }
+        requires step { IsProper pass.old.view.session
+            → CanBe Lock (latch_of event) pass.old.view.session (cell_of expected.0)
+            → CanTake event pass.old.view (cell_of expected.0)
+            × Leaves Lock event pass.old.view.session (cell_of expected.0)
+            (cell_of expected.0 - taken) }
+        requires room { taken ≤ cell_of expected.0 }
+        ensures view { pass.new ≡ with_view pass.old
+            (view_after (Try event (cell_of expected.0)) (found_by result expected) pass.old.view) }
+        ensures event { IfOk result (λ answer. IsEvent event pass.old.view.session answer
+            pass.new.view.session) }
+        ensures answer { IfOk result (λ answer. answer
+            ≡ (turn_at event (cell_of expected.0) pass.old.view.session).answer) }
+        ensures lost { IfErr result (λ found. found.0 ≢ expected.0) }
+        ensures found { CanBe Lock (latch_of event) pass.old.view.session
+            (found_by result expected) }
+        ensures proper { IsProper pass.old.view.session }
+    {
+        let place = place(&self.geometry, LatchWord::Lock, Latch(event.latch()));
+        let before = pass.member.phase();
+        let old = to_cell(expected);
+        let found = exchange::<L, Brand>(
+            &self.table.shared,
+            &mut pass.seat,
+            place,
+            old,
+            old - taken,
+            Kind::Try(event, old),
+        );
+        if found != old {
+            return Err(from_cell(found));
+        }
+        let answer = turn_on(&mut pass.member, event, LatchWord::Lock, found);
+        pass.grants = counted(pass.grants, before, event, answer);
+        Ok(answer)
+    }
+
+    // A look at the lock word, which is no event. It answers the word found.
+    pub(crate) fn look(&self, pass: &mut Pass, latch: Latch) -> u64
+        requires own { IsOf self.now pass.old }
+        requires latch { latch.0 < latches_of self.now.sizes }
+        ensures view { pass.new
+            ≡ with_view pass.old (view_after (Look latch.0) result pass.old.view) }
+        ensures event { Happens (event_at (Look latch.0) pass.old.view.session result)
+            pass.old.view.session result pass.new.view.session }
+        ensures found { CanBe Lock latch.0 pass.old.view.session result }
+    {
+        let place = place(&self.geometry, LatchWord::Lock, latch);
+        act::<L, Brand>(
+            &self.table.shared,
+            &mut pass.seat,
+            place,
+            Op::Load,
+            Kind::Look(latch.0),
+        )
+    }
+
+    // A load of the lock word by who set the flag: the event `again` where the wish is refused.
+    pub(crate) fn recheck(&self, pass: &mut Pass, latch: Latch) -> u64
+        requires own { IsOf self.now pass.old }
+        requires latch { latch.0 < latches_of self.now.sizes }
+        ensures view { pass.new
+            ≡ with_view pass.old (view_after (Recheck latch.0) result pass.old.view) }
+        ensures event { Happens (event_at (Recheck latch.0) pass.old.view.session result)
+            pass.old.view.session result pass.new.view.session }
+        ensures found { CanBe Lock latch.0 pass.old.view.session result }
+    {
+        let place = place(&self.geometry, LatchWord::Lock, latch);
+        let before = pass.member.phase();
+        let found = act::<L, Brand>(
+            &self.table.shared,
+            &mut pass.seat,
+            place,
+            Op::Load,
+            Kind::Recheck(latch.0),
+        );
+        if is_refused(before, found) {
+            let event = Event::Again { latch: latch.0 };
+            let answer = turn_on(&mut pass.member, event, LatchWord::Lock, found);
+            pass.grants = counted(pass.grants, before, event, answer);
+        }
+        found
+    }
+
+    // The session's number is stored as the writer.
+    pub(crate) fn sign(&self, pass: &mut Pass, latch: Latch)
+        requires own { IsOf self.now pass.old }
+        requires latch { latch.0 < latches_of self.now.sizes }
+        requires claims { 0 < claims latch.0 pass.old.view.session }
+        ensures { pass.new ≡ with_view pass.old (signed latch.0 pass.old.view) }
+    {
+        let place = place(&self.geometry, LatchWord::Writer, latch);
+        act::<L, Brand>(
+            &self.table.shared,
+            &mut pass.seat,
+            place,
+            Op::Swap(u64::from(pass.number)),
+            Kind::StoreWriter(latch.0),
+        );
+    }
+
+    // A first try for a mode: an exchange that takes off what it weighs.
+    pub(crate) fn first_off(
+        &self,
+        pass: &mut Pass,
+        mode: Mode,
+        latch: Latch,
+        level: Level,
+        expected: LockWord,
+    ) -> Result<(), LockWord>
+        requires own { IsOf self.now pass.old }
+        requires latch { latch.0 < latches_of self.now.sizes }
+        requires may { MayTry mode latch.0 level pass.old.view.session
+            pass.old.view.session.phase }
+        requires grows { MayGrow pass.old.view }
+        requires given { IsTrue (is_given_at mode expected.0) }
+        ensures view { pass.new ≡ with_view pass.old (view_after
+            (Try (try_event mode latch.0 level pass.old.view.session.phase) (cell_of expected.0))
+            (found_by result expected) pass.old.view) }
+        ensures event { IsOk result
+            → IsEvent (try_event mode latch.0 level pass.old.view.session.phase)
+            pass.old.view.session
+            (turn_at (try_event mode latch.0 level pass.old.view.session.phase)
+            (cell_of expected.0) pass.old.view.session).answer pass.new.view.session }
+        ensures session { IsOk result → pass.new.view.session
+            ≡ (first_response mode latch.0 level (expected.0 -ℤ pos (first_weight mode))
+            (holding_too mode latch.0 level pass.old.view.session.held)).session }
+        ensures lost { IfErr result (λ found. found.0 ≢ expected.0) }
+    {
+        let event = try_event(mode, latch.0, level, pass.member.phase());
+        match self.attempt(pass, event, expected, first_weight(mode)) {
+            Ok(_) => Ok(()),
+            Err(found) => Err(found),
+        }
+    }
+}
+
+// What a first grant of the mode takes off.
+fn first_weight(mode: Mode) -> u64
+    ensures { result ≡ first_weight mode }
+{
+    match mode {
+        Mode::S => 1,
+        Mode::Sx => HALF,
+        Mode::X => WHOLE,
+    }
+}
+
+// The event of a first try for the mode.
+fn try_event(mode: Mode, latch: u32, level: Level, phase: Phase) -> Event
+    ensures { result ≡ try_event mode latch level phase }
+{
+    match (phase, mode) {
+        (Phase::Flagged { .. }, _) => Event::Again { latch },
+        (_, Mode::S) => Event::S { latch, level },
+        (_, Mode::Sx) => Event::Sx { latch, level },
+        (_, Mode::X) => Event::X { latch, level },
+    }
+}
