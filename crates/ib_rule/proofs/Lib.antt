@@ -17,3 +17,4 @@ mod Results
 mod Opening
 mod HeldNow
 mod Closing
+mod Wishing

@@ -30,7 +30,7 @@ pub use kind::{Kind, Op};
 pub use laws::{latch_law, sleeper_law};
 pub use looks::{Grants, Look, Looks};
 pub use memory::{Loaded, Memory, OpenAppend, Since};
-pub use pass::{ENTRY_WORDS, MOST_HELD, Pass};
+pub use pass::{ENTRY_WORDS, MOST_GRANTS, MOST_HELD, Pass};
 pub use rule::Ruled;
 pub use scratch::Scratch;
 pub use space::{ConnectFault, OutOfMemory, Space};

@@ -1,11 +1,12 @@
 //! The token of one session, and what a caller may ask it.
 
-ghost use Rattle.std.specs.Prelude.{◌≡◌, ◌+◌, ◌<◌, ◌≤◌, ◌^◌, None, sum_by, true, false, [], IsTrue, length, slice_get, vec_capacity, IfSome};
+ghost use Rattle.std.specs.Prelude.{◌≡◌, ◌↔◌, ◌+◌, ◌<◌, ◌≤◌, ◌^◌, None, sum_by, true, false, [], IsTrue, length, slice_get, vec_capacity, IfSome};
 ghost use Rattle.ib_levels.specs.Holding.{is_held, levels_of};
 ghost use Rattle.ib_levels.specs.Listed.{answer_to};
 ghost use Rattle.ib_core.specs.Good.{IsProper};
-ghost use Rattle.ib_core.specs.Sessions.{reads, sx_grants, x_grants};
-ghost use Rattle.ib_rule.specs.Conditions.{held_now};
+ghost use Rattle.ib_core.specs.Holders.{CanWish};
+ghost use Rattle.ib_core.specs.Sessions.{claims, idle, reads, sx_grants, x_grants};
+ghost use Rattle.ib_rule.specs.Conditions.{MayGrow, held_now};
 ghost use Rattle.ib_rule.specs.declared.view.Role.TheVariants.{Session};
 ghost use Rattle.ib_rule.specs.Gauges.{mode_held};
 ghost use Rattle.ib_rule.specs.Lending.{LendsWords};
@@ -29,6 +30,11 @@ const _: () = prove!(ENTRY_WORDS == 8196);
 pub const MOST_HELD: usize = 8192;
 
 const _: () = prove!(MOST_HELD == 8192);
+
+/// How many grants a session may ever take.
+pub const MOST_GRANTS: u64 = 1 << 52;
+
+const _: () = prove!(MOST_GRANTS == 4_503_599_627_370_496);
 
 /// The token of one session: it is drawn from a space by `connect`, given back by `disconnect`, and
 /// may go over to another thread. It has the seat with which the session makes its steps, mirrors
@@ -120,6 +126,7 @@ impl Pass {
         ensures s { result.s ≡ reads latch.0 self.now.view.session }
         ensures sx { result.sx ≡ sx_grants latch.0 self.now.view.session }
         ensures x { result.x ≡ x_grants latch.0 self.now.view.session }
+        ensures claims { result.sx + result.x ≡ claims latch.0 self.now.view.session }
     {
         let counts = self.member.counts(latch);
         Grants {
@@ -137,6 +144,35 @@ impl Pass {
             (levels_of self.now.view.session.held) }
     {
         self.member.may_take(latch, level)
+    }
+
+    /// Whether it holds nothing and is in the middle of nothing, as a session must be that ends.
+    pub fn is_idle(&self) -> bool
+        ensures { IsTrue result ↔ (self.now.view.session ≡ idle) }
+    {
+        match self.phase() {
+            Phase::Free => self.member.held().is_empty(),
+            _ => false,
+        }
+    }
+
+    /// Whether it may wish for the latch at the level: it is in the middle of nothing, holds nothing
+    /// there, and the order of levels allows it.
+    pub fn can_wish(&self, latch: Latch, level: Level) -> bool
+        ensures { IsTrue result ↔ CanWish latch.0 level self.now.view.session }
+    {
+        match self.phase() {
+            Phase::Free if !self.member.holds(latch) => self.may_take(latch, level).is_ok(),
+            _ => false,
+        }
+    }
+
+    /// Whether it may take a grant: it holds fewer than `MOST_HELD`, and has taken fewer than 2^52.
+    pub fn may_grow(&self) -> bool
+        ensures { IsTrue result ↔ MayGrow self.now.view }
+    {
+        let Grants { s, sx, x } = self.grants;
+        s + sx + x < MOST_GRANTS && self.held() < MOST_HELD as u64
     }
 
     /// The words for an entry, lent to be filled: `ENTRY_WORDS` of them. The pass has no open append.

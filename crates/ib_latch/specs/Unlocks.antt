@@ -1,0 +1,29 @@
+-- What a release leaves.
+use Rattle.std.specs.Prelude.{◌≡◌, ℕ, ◌+◌, ◌==◌, ◌||◌, not, nat_lt, if◌then◌else◌, List, filter}
+use Rattle.ib_levels.specs.declared.holding.Holding.{Holding}
+use Rattle.ib_core.specs.declared.phase.Phase.TheVariants.{Free}
+use Rattle.ib_core.specs.declared.session.Session.{Session}
+use Rattle.ib_core.specs.Sessions.{claims, sx_grants}
+use Rattle.ib_rule.specs.declared.view.View.{View}
+use Rattle.ib_rule.specs.Pass.{PassState, with_view}
+use Rattle.ib_rule.specs.Views.{memory_left, with_looks}
+
+-- the view in which the session is this: where it has nothing left on the latch, what it knew of it and had stored there ends
+abbrev pub left_as : ℕ → Session → View → View
+left_as l a v = record v {
+  session = a;
+  written = filter (λ k. not (k == l) || nat_lt 0 (claims l a)) v.written;
+  memory = memory_left l a v.memory;
+}
+
+abbrev pub IsLeftAs : ℕ → Session → PassState → PassState → Type 0
+IsLeftAs l a p q = q ≡ with_view p (left_as l a p.view)
+
+-- a grant on the latch was given back: this is held, nothing is owed, and so many steps more were made on lock words, none of them a look
+abbrev pub IsReleased : ℕ → ℕ → List Holding → PassState → PassState → Type 0
+IsReleased steps l held p q =
+    q ≡ with_view p (with_looks (record p.view.looks { steps = p.view.looks.steps + steps }) (left_as l (record { held = held; phase = Free }) p.view))
+
+-- the steps on the lock word that giving SX back takes: none where more of it is left, since the writer is looked at then
+abbrev pub sx_steps : ℕ → Session → ℕ
+sx_steps l a = if nat_lt 1 (sx_grants l a) then 0 else 1

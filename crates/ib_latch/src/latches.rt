@@ -1,0 +1,131 @@
+//! A space whose sessions take its latches, from its opening on.
+
+ghost use Rattle.std.specs.Prelude.{◌≡◌, ◌↔◌, ◌+◌, ◌-◌, ◌≤◌, true, [], ◌∷◌, length, Err, IfOk, IfErr};
+ghost use mathlib.Core.List.{IsPrefix};
+ghost use Rattle.ib_core.specs.Sessions.{idle};
+ghost use Rattle.ib_rule.specs.declared.view.Role.TheVariants.{Session};
+ghost use Rattle.ib_rule.specs.Closed.{IsClosed};
+ghost use Rattle.ib_rule.specs.Views.{ended_as, longer, seated, seeing};
+ghost use Rattle.ib_rule.specs.Pass.{IsFrom, IsOf, with_view};
+
+use crate::sleep::Sleep;
+use ib_layout::Geometry;
+use ib_logrec::Law;
+use ib_rule::{CloseRefused as SpaceRefused, Closed, ConnectFault, OutOfMemory, Pass, Space};
+use std::alloc::Global;
+use std::marker::Model;
+
+/// A space and how its sessions sleep. Contracts see it as its space. It is not dropped, as its
+/// space is not.
+pub struct Latches<L: Law, S: Sleep> {
+    pub(crate) space: Space<L>,
+    pub(crate) sleep: S,
+}
+
+impl<L: Law, S: Sleep> Model for Latches<L, S> {
+    ghost use Rattle.ib_rule.specs.Space.{SpaceState};
+
+    ghost Value = { SpaceState };
+
+    ghost view = { λ p. p.space };
+}
+
+/// There was no memory to copy the words. The latches come back as they were.
+pub struct CloseRefused<L: Law, S: Sleep> {
+    pub latches: Latches<L, S>,
+}
+
+impl<L: Law, S: Sleep> Latches<L, S> {
+    /// The opening memory of the law, an empty log, no sessions, and every latch free. Refused
+    /// where memory lacks.
+    pub fn open(alloc: Global, geometry: Geometry, sleep: S) -> Result<Latches<L, S>, OutOfMemory>
+        ensures { IfOk result (λ s. s
+            ≡ record { table = s.table; sizes = geometry; drawn = 0; ended = [] }) }
+    {
+        let space = Space::open(alloc, geometry)?;
+        Ok(Latches { space, sleep })
+    }
+
+    /// The space, for steps that are none on latches.
+    pub fn space(&self) -> &Space<L>
+        ensures { result.now ≡ self.now }
+    {
+        &self.space
+    }
+
+    /// How many passes are not given back yet.
+    pub fn connected(&self) -> u32
+        ensures { result ≡ self.now.drawn - length self.now.ended }
+    {
+        self.space.connected()
+    }
+
+    /// Draws the next number, and gives its session's pass: nothing seen, held or granted, the phase
+    /// free, and the scratch in it. Refused as `TooManySessions` exactly where 1,024 were drawn.
+    /// Where memory lacks, no number is drawn.
+    pub fn connect(&mut self, alloc: Global) -> Result<Pass, ConnectFault>
+        ensures pass { IfOk result (λ p. IsOf self.old p × (p.number ≡ self.old.drawn + 1)
+            × (p.view ≡ seated (Session (self.old.drawn + 1))) × (p.has_scratch ≡ true)) }
+        ensures drawn { IfOk result (λ p. self.new
+            ≡ record self.old { drawn = self.old.drawn + 1 }) }
+        ensures err { IfErr result (λ e. self.new ≡ self.old) }
+        ensures full { (result ≡ Err (ConnectFault.TooManySessions 1024))
+            ↔ (self.old.drawn ≡ 1024) }
+        ensures few { self.old.drawn ≤ 1024 }
+    {
+        self.space.connect(alloc)
+    }
+
+    /// The session ends, and its lists are kept. It holds nothing, its phase is free, and its
+    /// scratch is in the pass.
+    pub fn disconnect(&mut self, pass: Pass)
+        requires own { IsOf self.old pass }
+        requires idle { pass.view.session ≡ idle }
+        requires scratch { pass.has_scratch ≡ true }
+        ensures { self.new ≡ record self.old { ended = ended_as pass.view ∷ self.old.ended } }
+    {
+        self.space.disconnect(pass);
+    }
+
+    /// Afterwards `to` has seen what both had seen: the longer of the two lists, of which both are
+    /// fronts. What contracts see of `from` is as before.
+    pub fn meet(&self, to: &mut Pass, from: &mut Pass)
+        requires to { IsFrom self.now to.old }
+        requires from { IsFrom self.now from.old }
+        ensures from { from.new ≡ from.old }
+        ensures to { to.new ≡ with_view to.old
+            (seeing (longer to.old.view.memory.seen from.old.view.memory.seen) to.old.view) }
+        ensures mine { IsPrefix to.old.view.memory.seen to.new.view.memory.seen }
+        ensures theirs { IsPrefix from.old.view.memory.seen to.new.view.memory.seen }
+        ensures legal { L.lawful self.now.sizes.pages to.new.view.memory.seen }
+    {
+        self.space.meet(to, from);
+    }
+
+    /// Closes the space, where nobody is connected: its words are those of a lawful log, the pages
+    /// are the memory after all of it, each session that has ended had seen a front of it, and its
+    /// own entries are exactly those of its number. Refused for want of memory alone.
+    pub fn close(self, alloc: Global) -> Result<Closed, CloseRefused<L, S>>
+        requires none { length self.ended ≡ self.drawn }
+        ensures ok { IfOk result (λ c. (c.sizes ≡ self.sizes) × (c.drawn ≡ self.drawn)
+            × IsClosed L.lawful L.opening self.sizes c.words self.ended) }
+        ensures err { IfErr result (λ e. e.latches ≡ self) }
+    {
+        let Latches { space, sleep } = self;
+        match space.close(alloc) {
+            Ok(closed) => Ok(closed),
+            Err(refused) => {
+                let SpaceRefused { space } = refused;
+                Err(CloseRefused {
+                    latches: Latches { space, sleep },
+                })
+            }
+        }
+    }
+
+    /// Gives the space up, with its log and its pages: for who cannot close it.
+    pub fn discard(self) {
+        let Latches { space, sleep: _ } = self;
+        space.discard();
+    }
+}

@@ -1,0 +1,143 @@
+//! The releases, and the raises that they owe.
+
+ghost use Rattle.std.specs.Prelude.{◌≡◌, ◌<◌, ◌==◌, nat_lt, if◌then◌else◌};
+ghost use Rattle.ib_levels.specs.declared.level.Mode.TheVariants.{Sx as ModeSx, X as ModeX};
+ghost use Rattle.ib_levels.specs.Holding.{without};
+ghost use Rattle.ib_layout.specs.Places.{latches_of};
+ghost use Rattle.ib_core.specs.declared.phase.Phase.TheVariants.{Free, OwesClear, OwesLook, OwesRaise, OwesRaiseEx};
+ghost use Rattle.ib_core.specs.Responses.{is_drained};
+ghost use Rattle.ib_core.specs.Sessions.{reads, sx_grants, x_grants};
+ghost use Rattle.ib_core.specs.Takings.{given_back};
+ghost use Rattle.ib_rule.specs.Afterwards.{in_phase};
+ghost use Rattle.ib_rule.specs.Pass.{IsOf};
+ghost use Rattle.ib_latch.specs.Unlocks.{IsLeftAs, IsReleased, sx_steps};
+
+use crate::latches::Latches;
+use crate::sleep::Sleep;
+use ib_levels::Latch;
+use ib_logrec::Law;
+use ib_rule::Pass;
+use ib_word::{LockWord, X_LOCK_HALF_DECR};
+
+impl<L: Law, S: Sleep> Latches<L, S> {
+    /// Gives S back (sync0rw, `rw_lock_s_unlock_func`). The last reader before a next writer raises
+    /// the ex generation, and wakes it.
+    pub fn unlock_s(&self, pass: &mut Pass, latch: Latch)
+        requires own { IsOf self.now pass.old }
+        requires latch { latch.0 < latches_of self.now.sizes }
+        requires free { pass.old.view.session.phase ≡ Free }
+        requires holds { 0 < reads latch.0 pass.old.view.session }
+        ensures { IsReleased 1 latch.0 (without latch.0 pass.old.view.session.held) pass.old
+            pass.new }
+    {
+        let word = self.space.s_on(pass, latch);
+        if is_drained(word) {
+            self.raise_ex(pass, latch);
+            self.sleep.wake();
+        }
+    }
+
+    /// Gives one SX back (WL#6363, `rw_lock_sx_unlock_func`). The last one, where no X is held
+    /// beside it, wakes who waits.
+    pub fn unlock_sx(&self, pass: &mut Pass, latch: Latch)
+        requires own { IsOf self.now pass.old }
+        requires latch { latch.0 < latches_of self.now.sizes }
+        requires free { pass.old.view.session.phase ≡ Free }
+        requires holds { 0 < sx_grants latch.0 pass.old.view.session }
+        ensures { IsReleased (sx_steps latch.0 pass.old.view.session) latch.0
+            (given_back ModeSx latch.0 pass.old.view.session) pass.old pass.new }
+    {
+        let counts = pass.counts(latch);
+        if counts.sx > 1 {
+            self.space.load_writer(pass, latch, true);
+        } else if counts.x > 0 {
+            self.space.sx_on_under_x(pass, latch);
+        } else {
+            self.space.sx_on(pass, latch);
+            self.pay(pass, latch);
+        }
+    }
+
+    /// Gives one X back (sync0rw, `rw_lock_x_unlock_func`). The last one wakes who waits.
+    pub fn unlock_x(&self, pass: &mut Pass, latch: Latch)
+        requires own { IsOf self.now pass.old }
+        requires latch { latch.0 < latches_of self.now.sizes }
+        requires free { pass.old.view.session.phase ≡ Free }
+        requires holds { 0 < x_grants latch.0 pass.old.view.session }
+        ensures { IsReleased 1 latch.0 (given_back ModeX latch.0 pass.old.view.session) pass.old
+            pass.new }
+    {
+        if pass.counts(latch).x > 1 {
+            self.space.x_on_again(pass, latch);
+        } else {
+            self.space.x_on(pass, latch);
+            self.pay(pass, latch);
+        }
+    }
+
+    // What a last release of SX or X owes: a look at the waiters flag, and where it is set, its
+    // clearing and the raise of the generation, which wakes who waits. With nobody waiting that is
+    // one load.
+    fn pay(&self, pass: &mut Pass, latch: Latch)
+        requires own { IsOf self.now pass.old }
+        requires latch { latch.0 < latches_of self.now.sizes }
+        requires owes { pass.old.view.session.phase ≡ OwesLook latch.0 }
+        ensures { IsLeftAs latch.0 (in_phase Free pass.old.view.session) pass.old pass.new }
+    {
+        if self.look(pass, latch) {
+            if self.clear(pass, latch) {
+                self.raise(pass, latch);
+                self.sleep.wake();
+            }
+        }
+    }
+
+    // The look at the waiters flag: whether it is set.
+    fn look(&self, pass: &mut Pass, latch: Latch) -> bool
+        requires own { IsOf self.now pass.old }
+        requires latch { latch.0 < latches_of self.now.sizes }
+        requires owes { pass.old.view.session.phase ≡ OwesLook latch.0 }
+        ensures { IsLeftAs latch.0 (in_phase (if result then OwesClear latch.0 else Free)
+            pass.old.view.session) pass.old pass.new }
+    {
+        self.space.load_waiters(pass, latch) > 0
+    }
+
+    // The clearing of the waiters flag: whether it was set.
+    fn clear(&self, pass: &mut Pass, latch: Latch) -> bool
+        requires own { IsOf self.now pass.old }
+        requires latch { latch.0 < latches_of self.now.sizes }
+        requires owes { pass.old.view.session.phase ≡ OwesClear latch.0 }
+        ensures { IsLeftAs latch.0 (in_phase (if result then OwesRaise latch.0 else Free)
+            pass.old.view.session) pass.old pass.new }
+    {
+        self.space.swap_waiters(pass, latch) > 0
+    }
+
+    // The raise of the generation.
+    fn raise(&self, pass: &mut Pass, latch: Latch)
+        requires own { IsOf self.now pass.old }
+        requires latch { latch.0 < latches_of self.now.sizes }
+        requires owes { pass.old.view.session.phase ≡ OwesRaise latch.0 }
+        ensures { IsLeftAs latch.0 (in_phase Free pass.old.view.session) pass.old pass.new }
+    {
+        self.space.raise_gen(pass, latch);
+    }
+
+    // The raise of the ex generation.
+    fn raise_ex(&self, pass: &mut Pass, latch: Latch)
+        requires own { IsOf self.now pass.old }
+        requires latch { latch.0 < latches_of self.now.sizes }
+        requires owes { pass.old.view.session.phase ≡ OwesRaiseEx latch.0 }
+        ensures { IsLeftAs latch.0 (in_phase Free pass.old.view.session) pass.old pass.new }
+    {
+        self.space.raise_ex_gen(pass, latch);
+    }
+}
+
+// A next writer owns X at the word: no reader is left.
+fn is_drained(word: LockWord) -> bool
+    ensures { result ≡ is_drained word.0 }
+{
+    word.0 == 0 || word.0 == -(X_LOCK_HALF_DECR as i32)
+}
