@@ -1,12 +1,12 @@
 -- What a session has in SX and X on a latch.
-use Rattle.std.proofs.Common.{◌≡◌, ◌≢◌, ℕ, ◌+◌, ◌<◌, ◌≤◌, List, [], ◌∷◌, refl, true, false, if◌then◌else◌, ap, ◌∙◌, arith}
+use Rattle.std.proofs.Common.{◌≡◌, ℕ, ◌+◌, ◌<◌, ◌≤◌, List, [], ◌∷◌, refl, arith}
 use Rattle.std.specs.Prelude.{nat_lt, cond}
 use Rattle.ib_levels.specs.declared.holding.Holding.{Holding}
 use Rattle.ib_levels.specs.declared.level.Level.{Level}
 use Rattle.ib_levels.specs.declared.level.Mode.{Mode}
 use Rattle.ib_levels.specs.declared.level.Mode.TheVariants.{S, Sx, X}
 use Rattle.ib_levels.specs.Holding.{on, changed}
-use Rattle.ib_levels.proofs.Counts.{by_equal, on-cons, part-here, part-away, on-changed, part}
+use Rattle.ib_levels.proofs.Counts.{by_equal, on-cons, on-changed, part}
 use Rattle.ib_core.specs.declared.session.Session.{Session}
 use Rattle.ib_core.specs.Sessions.{claims, sx_grants, x_grants}
 use Rattle.ib_core.specs.Takings.{one_more, holding_too}

@@ -1,3 +1,3 @@
 pub mod Claims
 pub mod Takes
-pub mod Leaves
+pub mod Stills

@@ -1,2 +1,3 @@
 pub mod Tries
 pub mod Unlocks
+pub mod Waits

@@ -1,5 +1,5 @@
 -- What a try is: a look at the lock word, and at most one exchange of it.
-use Rattle.std.specs.Prelude.{◌≡◌, ◌≢◌, ℕ, ◌<◌, ◌+◌, ◌-◌, Bool, true, false, IsTrue, if◌then◌else◌, nat_lt, List, Some, ℤ, pos, ◌-ℤ◌, Result, Ok, Err}
+use Rattle.std.specs.Prelude.{◌≡◌, ◌≢◌, ℕ, ◌<◌, ◌+◌, ◌-◌, Bool, true, false, if◌then◌else◌, nat_lt, List, Some, ℤ, pos, ◌-ℤ◌, Result, Ok, Err}
 use Rattle.std.specs.Ordering.{int_eq}
 use Rattle.ib_word.specs.Word.{cell_of}
 use Rattle.ib_word.specs.Weight.{x_weight}
@@ -13,17 +13,15 @@ use Rattle.ib_levels.specs.declared.holding.Holding.{Holding}
 use Rattle.ib_levels.specs.Holding.{changed}
 use Rattle.ib_core.specs.declared.phase.Phase.{Phase}
 use Rattle.ib_core.specs.declared.phase.Phase.TheVariants.{Free, Next}
-use Rattle.ib_core.specs.declared.event.Event.{Event}
 use Rattle.ib_core.specs.declared.event.Event.TheVariants.{Sx, X, Ready}
 use Rattle.ib_core.specs.declared.session.Session.{Session}
 use Rattle.ib_core.specs.Holders.{CanWish}
-use Rattle.ib_core.specs.Responses.{latch_of, is_above_0, is_above_half, is_drained}
+use Rattle.ib_core.specs.Responses.{is_drained}
 use Rattle.ib_core.specs.Sessions.{reads, claims, sx_grants, x_grants}
 use Rattle.ib_core.specs.Table.{owns_x_at}
-use Rattle.ib_core.specs.Takings.{first_weight, holding_too, is_given_at, level_on, one_more, wish}
-use Rattle.ib_rule.specs.declared.kind.Kind.TheVariants.{Look, Try, Turn}
+use Rattle.ib_core.specs.Takings.{holding_too, is_given_at, level_on, one_more}
 use Rattle.ib_rule.specs.declared.view.View.{View}
-use Rattle.ib_rule.specs.Steps.{view_after}
+use Rattle.ib_rule.specs.Afterwards.{granted, looked_on, tried_on}
 use Rattle.ib_rule.specs.Turns.{IsTurn}
 use Rattle.ib_rule.specs.Views.{signed, with_grant}
 use Rattle.ib_rule.specs.Pass.{PassState, with_view}
@@ -46,13 +44,9 @@ is_free_word w = int_eq w (pos X_LOCK_DECR)
 
 -- the pass after a look at the lock word that found this word
 abbrev pub looked_at : ℕ → LockWord → PassState → PassState
-looked_at l w p = with_view p (view_after (Look l) (cell_of w.0) p.view)
+looked_at l w p = with_view p (looked_on l w p.view)
 
--- .. after an exchange that is this event where it found the word expected
-abbrev pub exchanged : Event → LockWord → LockWord → PassState → PassState
-exchanged e expected found p = with_view p (view_after (Try e (cell_of expected.0)) (cell_of found.0) p.view)
-
--- .. and after its number was stored as the writer of the latch, which it is for SX and X
+-- .. after its number was stored as the writer of the latch, which it is for SX and X
 abbrev pub signed_on : ℕ → PassState → PassState
 signed_on l p = with_view p (signed l p.view)
 
@@ -61,20 +55,50 @@ signed_for ModeS l p = p
 signed_for ModeSx l p = signed_on l p
 signed_for ModeX l p = signed_on l p
 
--- a try for the mode: a look, and where the test holds of the word found, one exchange, which is the event. It is won where the exchange found that very word again, refused where the test does not hold, and lost where the exchange found another word
-abbrev pub IsTryAt : (ℤ → Bool) → Mode → Event → PassState → Result LockWord TryFault → PassState → Type 0
-IsTryAt test mode e p (Ok w) q = (test w.0 ≡ true) × (q ≡ signed_for mode (latch_of e) (exchanged e w w (looked_at (latch_of e) w p)))
-IsTryAt test mode e p (Err (Busy w)) q = (test w.0 ≡ false) × (q ≡ looked_at (latch_of e) w p)
-IsTryAt test mode e p (Err (Raced w found)) q = (test w.0 ≡ true) × (found.0 ≢ w.0) × (q ≡ exchanged e w found (looked_at (latch_of e) w p))
+-- .. after an exchange that found the word expected, and took a grant of the mode, with which the session is this
+abbrev pub won_with : Mode → ℕ → LockWord → Session → PassState → PassState
+won_with mode l w a p = signed_for mode l (with_view p (granted mode a (tried_on l w w p.view)))
+
+-- .. and after one that found another
+abbrev pub lost_at : ℕ → LockWord → LockWord → PassState → PassState
+lost_at l w found p = with_view p (tried_on l w found p.view)
+
+-- a try for the mode: a look, and where the test holds of the word found, one exchange. It is won where the exchange found that very word again, refused where the test does not hold, and lost where the exchange found another word. What the session is then, the word tells
+abbrev pub IsTryAt : (ℤ → Bool) → Mode → ℕ → (LockWord → Session) → PassState → Result LockWord TryFault → PassState → Type 0
+IsTryAt test mode l after p (Ok w) q = (test w.0 ≡ true) × (q ≡ won_with mode l w (after w) (looked_at l w p))
+IsTryAt test mode l after p (Err (Busy w)) q = (test w.0 ≡ false) × (q ≡ looked_at l w p)
+IsTryAt test mode l after p (Err (Raced w found)) q = (test w.0 ≡ true) × (found.0 ≢ w.0) × (q ≡ lost_at l w found (looked_at l w p))
 
 -- .. at some word
-abbrev pub IsTryOf : (ℤ → Bool) → Mode → Event → PassState → Result (Unit {0}) TryFault → PassState → Type 0
-IsTryOf test mode e p (Ok x) q = (w : LockWord) × IsTryAt test mode e p (Ok w) q
-IsTryOf test mode e p (Err fault) q = IsTryAt test mode e p (Err fault) q
+abbrev pub IsTryOf : (ℤ → Bool) → Mode → ℕ → (LockWord → Session) → PassState → Result (Unit {0}) TryFault → PassState → Type 0
+IsTryOf test mode l after p (Ok x) q = (w : LockWord) × IsTryAt test mode l after p (Ok w) q
+IsTryOf test mode l after p (Err fault) q = IsTryAt test mode l after p (Err fault) q
+
+-- X is owned where this word is left, and else its session is the next writer
+abbrev pub reserve_at : ℤ → Reserve
+reserve_at w = if is_drained w then Owned else NextWriter (record { 0 = w })
+
+-- the phase after a reservation
+abbrev pub phase_of : ℕ → Level → Reserve → Phase
+phase_of l v Owned = Free
+phase_of l v (NextWriter w) = Next l v
+
+-- the phase after a first grant at the word
+abbrev pub phase_by : Mode → ℕ → Level → ℤ → Phase
+phase_by ModeS l v w = Free
+phase_by ModeSx l v w = Free
+phase_by ModeX l v w = phase_of l v (reserve_at (w -ℤ pos X_LOCK_DECR))
+
+-- the session after a first grant at the word, and after X was taken beside its own SX
+abbrev pub first_session : Mode → ℕ → Level → List Holding → LockWord → Session
+first_session mode l v held w = record { held = holding_too mode l v held; phase = phase_by mode l v w.0 }
+
+abbrev pub upgraded : ℕ → List Holding → LockWord → Session
+upgraded l held w = record { held = changed l (one_more ModeX) held; phase = phase_of l (level_on l Log held) (reserve_at (w.0 -ℤ pos X_LOCK_DECR)) }
 
 -- a first try for the mode
 abbrev pub IsFirstTry : Mode → ℕ → Level → PassState → Result (Unit {0}) TryFault → PassState → Type 0
-IsFirstTry mode l v p result q = IsTryOf (is_given_at mode) mode (wish mode l v) p result q
+IsFirstTry mode l v p result q = IsTryOf (is_given_at mode) mode l (first_session mode l v p.view.session.held) p result q
 
 -- what is held after one more grant of the mode on the latch: a holding more, where nothing was held in SX or X
 abbrev pub held_with : Mode → ℕ → Level → Session → List Holding
@@ -95,10 +119,11 @@ pub record IsUnchanged (more : ℕ) (before after : View) : Type 0 where
   pub memory : after.memory ≡ before.memory
   pub looks : after.looks.count ≡ before.looks.count + more
 
--- one more grant of the mode: this is held then, in this phase
+-- one more grant of the mode: this is held then, in this phase, and of the log and the pages as much is known as before
 pub record IsTaken (mode : Mode) (held : List Holding) (phase : Phase) (before after : View) : Type 0 where
   pub session : after.session ≡ record { held = held; phase = phase }
   pub grants : after.grants ≡ with_grant (Some mode) before.grants
+  pub memory : after.memory ≡ before.memory
 
 -- SX more beside one's own SX is a load of the writer, and beside one's own X alone HALF is taken off the lock word, which leaves this word
 abbrev pub TakesSxUnderX : ℕ → LockWord → PassState → PassState → Type 0
@@ -113,25 +138,10 @@ abbrev pub IsXMore : ℕ → PassState → PassState → Type 0
 IsXMore l p q = let x = x_grants l p.view.session in
     (left : LockWord) × (between : PassState) × IsTurn (X l Log) (cell_of left.0 + (x_weight (x + 1) - x_weight x)) p between × (q ≡ signed_on l between)
 
--- X is owned where this word is left, and else its session is the next writer
-abbrev pub reserve_at : ℤ → Reserve
-reserve_at w = if is_drained w then Owned else NextWriter (record { 0 = w })
-
--- the phase after a reservation
-abbrev pub phase_of : ℕ → Level → Reserve → Phase
-phase_of l v Owned = Free
-phase_of l v (NextWriter w) = Next l v
-
--- the phase after a first grant at the word
-abbrev pub phase_by : Mode → ℕ → Level → ℤ → Phase
-phase_by ModeS l v w = Free
-phase_by ModeSx l v w = Free
-phase_by ModeX l v w = phase_of l v (reserve_at (w -ℤ pos X_LOCK_DECR))
-
 -- a try for X that may have to wait for readers: where it is won at a word, X is reserved
-abbrev pub IsReserveOf : (ℤ → Bool) → Event → PassState → Result Reserve TryFault → PassState → Type 0
-IsReserveOf test e p (Ok r) q = (w : LockWord) × IsTryAt test ModeX e p (Ok w) q × (r ≡ reserve_at (w.0 -ℤ pos X_LOCK_DECR))
-IsReserveOf test e p (Err fault) q = IsTryAt test ModeX e p (Err fault) q
+abbrev pub IsReserveOf : (ℤ → Bool) → ℕ → (LockWord → Session) → PassState → Result Reserve TryFault → PassState → Type 0
+IsReserveOf test l after p (Ok r) q = (w : LockWord) × IsTryAt test ModeX l after p (Ok w) q × (r ≡ reserve_at (w.0 -ℤ pos X_LOCK_DECR))
+IsReserveOf test l after p (Err fault) q = IsTryAt test ModeX l after p (Err fault) q
 
 -- the level of a latch that is reserved: the one at which it was taken first
 abbrev pub level_with : ℕ → Level → Session → Level

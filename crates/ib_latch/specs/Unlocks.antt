@@ -1,23 +1,11 @@
 -- What a release leaves.
-use Rattle.std.specs.Prelude.{◌≡◌, ℕ, ◌+◌, ◌==◌, ◌||◌, not, nat_lt, if◌then◌else◌, List, filter}
+use Rattle.std.specs.Prelude.{◌≡◌, ℕ, ◌+◌, nat_lt, if◌then◌else◌, List}
 use Rattle.ib_levels.specs.declared.holding.Holding.{Holding}
 use Rattle.ib_core.specs.declared.phase.Phase.TheVariants.{Free}
 use Rattle.ib_core.specs.declared.session.Session.{Session}
-use Rattle.ib_core.specs.Sessions.{claims, sx_grants}
-use Rattle.ib_rule.specs.declared.view.View.{View}
+use Rattle.ib_core.specs.Sessions.{sx_grants}
 use Rattle.ib_rule.specs.Pass.{PassState, with_view}
-use Rattle.ib_rule.specs.Views.{memory_left, with_looks}
-
--- the view in which the session is this: where it has nothing left on the latch, what it knew of it and had stored there ends
-abbrev pub left_as : ℕ → Session → View → View
-left_as l a v = record v {
-  session = a;
-  written = filter (λ k. not (k == l) || nat_lt 0 (claims l a)) v.written;
-  memory = memory_left l a v.memory;
-}
-
-abbrev pub IsLeftAs : ℕ → Session → PassState → PassState → Type 0
-IsLeftAs l a p q = q ≡ with_view p (left_as l a p.view)
+use Rattle.ib_rule.specs.Views.{left_as, with_looks}
 
 -- a grant on the latch was given back: this is held, nothing is owed, and so many steps more were made on lock words, none of them a look
 abbrev pub IsReleased : ℕ → ℕ → List Holding → PassState → PassState → Type 0

@@ -8,16 +8,18 @@ ghost use Rattle.ib_rule.specs.Closed.{IsClosed};
 ghost use Rattle.ib_rule.specs.Views.{ended_as, longer, seated, seeing};
 ghost use Rattle.ib_rule.specs.Pass.{IsFrom, IsOf, with_view};
 
+use crate::parkers::Parkers;
 use crate::sleep::Sleep;
 use ib_layout::Geometry;
-use ib_logrec::Law;
+use ib_logrec::{Law, MOST_SESSIONS};
 use ib_rule::{CloseRefused as SpaceRefused, Closed, ConnectFault, OutOfMemory, Pass, Space};
 use std::alloc::Global;
 use std::marker::Model;
+use std::sync::Wait;
 
 /// A space and how its sessions sleep. Contracts see it as its space. It is not dropped, as its
 /// space is not.
-pub struct Latches<L: Law, S: Sleep> {
+pub struct Latches<L: Law, S: Sleep = Parkers> {
     pub(crate) space: Space<L>,
     pub(crate) sleep: S,
 }
@@ -31,17 +33,18 @@ impl<L: Law, S: Sleep> Model for Latches<L, S> {
 }
 
 /// There was no memory to copy the words. The latches come back as they were.
-pub struct CloseRefused<L: Law, S: Sleep> {
+pub struct CloseRefused<L: Law, S: Sleep = Parkers> {
     pub latches: Latches<L, S>,
 }
 
 impl<L: Law, S: Sleep> Latches<L, S> {
     /// The opening memory of the law, an empty log, no sessions, and every latch free. Refused
     /// where memory lacks.
-    pub fn open(alloc: Global, geometry: Geometry, sleep: S) -> Result<Latches<L, S>, OutOfMemory>
+    pub fn open(alloc: Global, geometry: Geometry) -> Result<Latches<L, S>, OutOfMemory>
         ensures { IfOk result (λ s. s
             ≡ record { table = s.table; sizes = geometry; drawn = 0; ended = [] }) }
     {
+        let sleep = S::new(alloc)?;
         let space = Space::open(alloc, geometry)?;
         Ok(Latches { space, sleep })
     }
@@ -55,7 +58,8 @@ impl<L: Law, S: Sleep> Latches<L, S> {
 
     /// How many passes are not given back yet.
     pub fn connected(&self) -> u32
-        ensures { result ≡ self.now.drawn - length self.now.ended }
+        ensures connected { result ≡ self.now.drawn - length self.now.ended }
+        ensures few { length self.now.ended ≤ self.now.drawn }
     {
         self.space.connected()
     }
@@ -73,6 +77,10 @@ impl<L: Law, S: Sleep> Latches<L, S> {
             ↔ (self.old.drawn ≡ 1024) }
         ensures few { self.old.drawn ≤ 1024 }
     {
+        let drawn = self.space.drawn();
+        if drawn < MOST_SESSIONS && self.sleep.admit(drawn + 1).is_err() {
+            return Err(ConnectFault::OutOfMemory);
+        }
         self.space.connect(alloc)
     }
 
@@ -127,5 +135,17 @@ impl<L: Law, S: Sleep> Latches<L, S> {
     pub fn discard(self) {
         let Latches { space, sleep: _ } = self;
         space.discard();
+    }
+}
+
+impl<L: Law> Latches<L, Parkers> {
+    /// How many wait cells were ever reserved, up to 4,294,967,295.
+    pub fn cells_ever<R: Wait>(&self, rt: &R) -> u32 {
+        self.sleep.ever(rt)
+    }
+
+    /// How many wait cells are reserved now: no more than sessions wait.
+    pub fn cells_reserved<R: Wait>(&self, rt: &R) -> usize {
+        self.sleep.reserved(rt)
     }
 }

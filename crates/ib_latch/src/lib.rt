@@ -1,14 +1,22 @@
-//! The latches of a space by tries that never wait: S, SX and X are taken by at most one exchange
-//! on the lock word, and given back with the raises that are owed then (sync0rw, WL#6363).
+//! The latches of a space: S, SX and X are taken by tries that never wait, at most one exchange on
+//! the lock word each, or by calls that block, which sleep while others hold them; and they are given
+//! back with the raises that are owed then (sync0rw, sync0arr, WL#6363).
 #![tactic(auto)]
 
+mod arming;
 mod latches;
+mod locks;
+mod parkers;
 mod sleep;
 #[cfg(test)]
 mod tests;
 mod tries;
 mod unlocks;
+mod waiting;
+#[cfg(test)]
+mod waiting_tests;
 
 pub use latches::{CloseRefused, Latches};
-pub use sleep::{NoSleep, Sleep};
+pub use parkers::Parkers;
+pub use sleep::{NoSleep, Raised, Sleep};
 pub use tries::{NotReady, Reserve, TryFault};

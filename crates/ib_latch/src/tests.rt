@@ -21,22 +21,22 @@ use std::sync::Wait;
 use std::thread;
 use std::thread::{Threads, join_mut};
 
-type Table = Latches<AnyLaw, NoSleep>;
+type Table<S> = Latches<AnyLaw, S>;
 
 // Page 1, and the level of a page.
-const PAGE: Latch = Latch(3);
+pub(super) const PAGE: Latch = Latch(3);
 
-const NODE: Level = Level::TreeNode;
+pub(super) const NODE: Level = Level::TreeNode;
 
 // A table of 16 pages, with the shortest log.
-fn smallest(rt: &impl Abort, alloc: Global) -> Table
+pub(super) fn smallest<S: Sleep>(rt: &impl Abort, alloc: Global) -> Table<S>
     ensures ended { result.ended ≡ [] }
 {
     let sizes = Geometry::new(16, 8196).expect(rt, "there are such sizes");
-    Latches::open(alloc, sizes, NoSleep).expect(rt, "there is memory")
+    Latches::open(alloc, sizes).expect(rt, "there is memory")
 }
 
-fn come(rt: &impl Abort, alloc: Global, table: &mut Table) -> Pass
+pub(super) fn come<S: Sleep>(rt: &impl Abort, alloc: Global, table: &mut Table<S>) -> Pass
     ensures own { IsOf table.new result }
     ensures scratch { result.has_scratch ≡ true }
     ensures table { table.new.table ≡ table.old.table }
@@ -46,7 +46,7 @@ fn come(rt: &impl Abort, alloc: Global, table: &mut Table) -> Pass
 }
 
 // The latch is one of the table's, and the pass is in the middle of nothing and may take a grant.
-fn is_ready(rt: &impl Abort, table: &Table, pass: &Pass, latch: Latch)
+pub(super) fn is_ready<S: Sleep>(rt: &impl Abort, table: &Table<S>, pass: &Pass, latch: Latch)
     ensures latch { latch.0 < latches_of table.now.sizes }
     ensures free { pass.now.view.session.phase ≡ Free }
     ensures grows { MayGrow pass.now.view }
@@ -57,7 +57,7 @@ fn is_ready(rt: &impl Abort, table: &Table, pass: &Pass, latch: Latch)
 }
 
 // It may wish for the latch, or has SX or X of it.
-fn may_claim(rt: &impl Abort, pass: &Pass, latch: Latch)
+pub(super) fn may_claim(rt: &impl Abort, pass: &Pass, latch: Latch)
     ensures { MayClaim latch.0 TreeNode pass.now.view.session }
 {
     let counts = pass.counts(latch);
@@ -65,7 +65,12 @@ fn may_claim(rt: &impl Abort, pass: &Pass, latch: Latch)
     assert!(rt; counts.sx > 0 || counts.x > 0 || pass.can_wish(latch, NODE));
 }
 
-fn word(rt: &impl Abort, table: &Table, pass: &mut Pass, latch: Latch) -> LockWord
+pub(super) fn word<S: Sleep>(
+    rt: &impl Abort,
+    table: &Table<S>,
+    pass: &mut Pass,
+    latch: Latch,
+) -> LockWord
     requires own { IsOf table.now pass.old }
     ensures own { IsOf table.now pass.new }
     ensures scratch { pass.new.has_scratch ≡ pass.old.has_scratch }
@@ -74,7 +79,12 @@ fn word(rt: &impl Abort, table: &Table, pass: &mut Pass, latch: Latch) -> LockWo
     table.word_of(pass, latch)
 }
 
-fn s(rt: &impl Abort, table: &Table, pass: &mut Pass, latch: Latch) -> Result<(), TryFault>
+pub(super) fn s<S: Sleep>(
+    rt: &impl Abort,
+    table: &Table<S>,
+    pass: &mut Pass,
+    latch: Latch,
+) -> Result<(), TryFault>
     requires own { IsOf table.now pass.old }
     ensures own { IsOf table.now pass.new }
     ensures scratch { pass.new.has_scratch ≡ pass.old.has_scratch }
@@ -84,7 +94,12 @@ fn s(rt: &impl Abort, table: &Table, pass: &mut Pass, latch: Latch) -> Result<()
     table.try_s(pass, latch, NODE)
 }
 
-fn sx(rt: &impl Abort, table: &Table, pass: &mut Pass, latch: Latch) -> Result<(), TryFault>
+pub(super) fn sx<S: Sleep>(
+    rt: &impl Abort,
+    table: &Table<S>,
+    pass: &mut Pass,
+    latch: Latch,
+) -> Result<(), TryFault>
     requires own { IsOf table.now pass.old }
     ensures own { IsOf table.now pass.new }
     ensures scratch { pass.new.has_scratch ≡ pass.old.has_scratch }
@@ -94,7 +109,12 @@ fn sx(rt: &impl Abort, table: &Table, pass: &mut Pass, latch: Latch) -> Result<(
     table.try_sx(pass, latch, NODE)
 }
 
-fn x(rt: &impl Abort, table: &Table, pass: &mut Pass, latch: Latch) -> Result<(), TryFault>
+pub(super) fn x<S: Sleep>(
+    rt: &impl Abort,
+    table: &Table<S>,
+    pass: &mut Pass,
+    latch: Latch,
+) -> Result<(), TryFault>
     requires own { IsOf table.now pass.old }
     ensures own { IsOf table.now pass.new }
     ensures scratch { pass.new.has_scratch ≡ pass.old.has_scratch }
@@ -106,9 +126,9 @@ fn x(rt: &impl Abort, table: &Table, pass: &mut Pass, latch: Latch) -> Result<()
     table.try_x(pass, latch, NODE)
 }
 
-fn reserve(
+pub(super) fn reserve<S: Sleep>(
     rt: &impl Abort,
-    table: &Table,
+    table: &Table<S>,
     pass: &mut Pass,
     latch: Latch,
 ) -> Result<Reserve, TryFault>
@@ -121,7 +141,12 @@ fn reserve(
     table.reserve_x(pass, latch, NODE)
 }
 
-fn ready(rt: &impl Abort, table: &Table, pass: &mut Pass, latch: Latch) -> Result<(), NotReady>
+pub(super) fn ready<S: Sleep>(
+    rt: &impl Abort,
+    table: &Table<S>,
+    pass: &mut Pass,
+    latch: Latch,
+) -> Result<(), NotReady>
     requires own { IsOf table.now pass.old }
     ensures own { IsOf table.now pass.new }
     ensures scratch { pass.new.has_scratch ≡ pass.old.has_scratch }
@@ -135,7 +160,7 @@ fn ready(rt: &impl Abort, table: &Table, pass: &mut Pass, latch: Latch) -> Resul
     table.ready_x(pass, latch)
 }
 
-fn un_s(rt: &impl Abort, table: &Table, pass: &mut Pass, latch: Latch)
+pub(super) fn un_s<S: Sleep>(rt: &impl Abort, table: &Table<S>, pass: &mut Pass, latch: Latch)
     requires own { IsOf table.now pass.old }
     ensures own { IsOf table.now pass.new }
     ensures scratch { pass.new.has_scratch ≡ pass.old.has_scratch }
@@ -145,7 +170,7 @@ fn un_s(rt: &impl Abort, table: &Table, pass: &mut Pass, latch: Latch)
     table.unlock_s(pass, latch);
 }
 
-fn un_sx(rt: &impl Abort, table: &Table, pass: &mut Pass, latch: Latch)
+pub(super) fn un_sx<S: Sleep>(rt: &impl Abort, table: &Table<S>, pass: &mut Pass, latch: Latch)
     requires own { IsOf table.now pass.old }
     ensures own { IsOf table.now pass.new }
     ensures scratch { pass.new.has_scratch ≡ pass.old.has_scratch }
@@ -155,7 +180,7 @@ fn un_sx(rt: &impl Abort, table: &Table, pass: &mut Pass, latch: Latch)
     table.unlock_sx(pass, latch);
 }
 
-fn un_x(rt: &impl Abort, table: &Table, pass: &mut Pass, latch: Latch)
+pub(super) fn un_x<S: Sleep>(rt: &impl Abort, table: &Table<S>, pass: &mut Pass, latch: Latch)
     requires own { IsOf table.now pass.old }
     ensures own { IsOf table.now pass.new }
     ensures scratch { pass.new.has_scratch ≡ pass.old.has_scratch }
@@ -166,7 +191,7 @@ fn un_x(rt: &impl Abort, table: &Table, pass: &mut Pass, latch: Latch)
 }
 
 // A session that holds nothing any more ends.
-fn leave(rt: &impl Abort, table: &mut Table, pass: Pass)
+pub(super) fn leave<S: Sleep>(rt: &impl Abort, table: &mut Table<S>, pass: Pass)
     requires own { IsOf table.old pass }
     requires scratch { pass.has_scratch ≡ true }
     ensures table { table.new.table ≡ table.old.table }
@@ -176,7 +201,7 @@ fn leave(rt: &impl Abort, table: &mut Table, pass: Pass)
     table.disconnect(pass);
 }
 
-fn busy(word: i32) -> Result<(), TryFault> {
+pub(super) fn busy(word: i32) -> Result<(), TryFault> {
     Err(TryFault::Busy {
         word: LockWord(word),
     })
@@ -184,7 +209,7 @@ fn busy(word: i32) -> Result<(), TryFault> {
 
 #[test]
 fn readers_and_sx(rt: HostRuntime) {
-    let mut table = smallest(&rt, rt.alloc());
+    let mut table: Table<NoSleep> = smallest(&rt, rt.alloc());
     let mut one = come(&rt, rt.alloc(), &mut table);
     let mut two = come(&rt, rt.alloc(), &mut table);
     let mut three = come(&rt, rt.alloc(), &mut table);
@@ -207,7 +232,7 @@ fn readers_and_sx(rt: HostRuntime) {
 
 #[test]
 fn the_next_writer(rt: HostRuntime) {
-    let mut table = smallest(&rt, rt.alloc());
+    let mut table: Table<NoSleep> = smallest(&rt, rt.alloc());
     let mut one = come(&rt, rt.alloc(), &mut table);
     let mut two = come(&rt, rt.alloc(), &mut table);
     let mut three = come(&rt, rt.alloc(), &mut table);
@@ -240,7 +265,7 @@ fn the_next_writer(rt: HostRuntime) {
 
 #[test]
 fn an_upgrade_past_a_reader(rt: HostRuntime) {
-    let mut table = smallest(&rt, rt.alloc());
+    let mut table: Table<NoSleep> = smallest(&rt, rt.alloc());
     let mut one = come(&rt, rt.alloc(), &mut table);
     let mut two = come(&rt, rt.alloc(), &mut table);
     let left = LockWord(-268_435_457);
@@ -266,7 +291,7 @@ fn an_upgrade_past_a_reader(rt: HostRuntime) {
 
 #[test]
 fn there_are_1024_sessions(rt: HostRuntime) {
-    let mut table = smallest(&rt, rt.alloc());
+    let mut table: Table<NoSleep> = smallest(&rt, rt.alloc());
     for number in 1..1025 {
         let pass = come(&rt, rt.alloc(), &mut table);
         assert_eq!(rt; pass.number(), number);
@@ -282,7 +307,7 @@ fn there_are_1024_sessions(rt: HostRuntime) {
 }
 
 // X is owned once no reader is left.
-fn wait<R: Abort + Wait>(rt: &R, table: &Table, pass: &mut Pass, latch: Latch)
+fn wait<R: Abort + Wait>(rt: &R, table: &Table<NoSleep>, pass: &mut Pass, latch: Latch)
     requires own { IsOf table.now pass.old }
     ensures own { IsOf table.now pass.new }
     ensures scratch { pass.new.has_scratch ≡ pass.old.has_scratch }
@@ -296,7 +321,7 @@ fn wait<R: Abort + Wait>(rt: &R, table: &Table, pass: &mut Pass, latch: Latch)
 }
 
 // S, and what is refused is let be.
-fn read(rt: &impl Abort, table: &Table, pass: &mut Pass, latch: Latch)
+pub(super) fn read<S: Sleep>(rt: &impl Abort, table: &Table<S>, pass: &mut Pass, latch: Latch)
     requires own { IsOf table.now pass.old }
     ensures own { IsOf table.now pass.new }
     ensures scratch { pass.new.has_scratch ≡ pass.old.has_scratch }
@@ -307,7 +332,7 @@ fn read(rt: &impl Abort, table: &Table, pass: &mut Pass, latch: Latch)
 }
 
 // SX twice, and X beside it.
-fn claim<R: Abort + Wait>(rt: &R, table: &Table, pass: &mut Pass, latch: Latch)
+fn claim<R: Abort + Wait>(rt: &R, table: &Table<NoSleep>, pass: &mut Pass, latch: Latch)
     requires own { IsOf table.now pass.old }
     ensures own { IsOf table.now pass.new }
     ensures scratch { pass.new.has_scratch ≡ pass.old.has_scratch }
@@ -323,7 +348,7 @@ fn claim<R: Abort + Wait>(rt: &R, table: &Table, pass: &mut Pass, latch: Latch)
 }
 
 // X, as soon as no reader is left.
-fn own<R: Abort + Wait>(rt: &R, table: &Table, pass: &mut Pass, latch: Latch)
+fn own<R: Abort + Wait>(rt: &R, table: &Table<NoSleep>, pass: &mut Pass, latch: Latch)
     requires own { IsOf table.now pass.old }
     ensures own { IsOf table.now pass.new }
     ensures scratch { pass.new.has_scratch ≡ pass.old.has_scratch }
@@ -340,7 +365,7 @@ fn own<R: Abort + Wait>(rt: &R, table: &Table, pass: &mut Pass, latch: Latch)
 }
 
 // X alone.
-fn write(rt: &impl Abort, table: &Table, pass: &mut Pass, latch: Latch)
+pub(super) fn write<S: Sleep>(rt: &impl Abort, table: &Table<S>, pass: &mut Pass, latch: Latch)
     requires own { IsOf table.now pass.old }
     ensures own { IsOf table.now pass.new }
     ensures scratch { pass.new.has_scratch ≡ pass.old.has_scratch }
@@ -350,7 +375,7 @@ fn write(rt: &impl Abort, table: &Table, pass: &mut Pass, latch: Latch)
     }
 }
 
-fn turn<R: Abort + Wait>(rt: &R, table: &Table, pass: &mut Pass, round: u32)
+fn turn<R: Abort + Wait>(rt: &R, table: &Table<NoSleep>, pass: &mut Pass, round: u32)
     requires own { IsOf table.now pass.old }
     ensures own { IsOf table.now pass.new }
     ensures scratch { pass.new.has_scratch ≡ pass.old.has_scratch }
@@ -365,7 +390,7 @@ fn turn<R: Abort + Wait>(rt: &R, table: &Table, pass: &mut Pass, round: u32)
 }
 
 // What one thread does.
-fn work<R: Abort + Wait>(rt: &R, table: &Table, pass: &mut Pass)
+fn work<R: Abort + Wait>(rt: &R, table: &Table<NoSleep>, pass: &mut Pass)
     requires own { IsOf table.now pass.old }
     ensures own { IsOf table.now pass.new }
     ensures scratch { pass.new.has_scratch ≡ pass.old.has_scratch }
@@ -376,7 +401,12 @@ fn work<R: Abort + Wait>(rt: &R, table: &Table, pass: &mut Pass)
 }
 
 // Two threads.
-fn pair<R: Abort + Wait + Threads + Sync>(rt: &R, table: &Table, one: &mut Pass, two: &mut Pass)
+fn pair<R: Abort + Wait + Threads + Sync>(
+    rt: &R,
+    table: &Table<NoSleep>,
+    one: &mut Pass,
+    two: &mut Pass,
+)
     requires one { IsOf table.now one.old }
     requires two { IsOf table.now two.old }
     ensures one { IsOf table.now one.new × (one.new.has_scratch ≡ one.old.has_scratch) }
@@ -389,7 +419,7 @@ fn pair<R: Abort + Wait + Threads + Sync>(rt: &R, table: &Table, one: &mut Pass,
     );
 }
 
-fn all_free(rt: &impl Abort, table: &Table, pass: &mut Pass)
+pub(super) fn all_free<S: Sleep>(rt: &impl Abort, table: &Table<S>, pass: &mut Pass)
     requires own { IsOf table.now pass.old }
     ensures own { IsOf table.now pass.new }
     ensures scratch { pass.new.has_scratch ≡ pass.old.has_scratch }
@@ -402,7 +432,7 @@ fn all_free(rt: &impl Abort, table: &Table, pass: &mut Pass)
 
 #[test]
 fn four_threads_leave_every_latch_free(rt: HostRuntime) {
-    let mut table = smallest(&rt, rt.alloc());
+    let mut table: Table<NoSleep> = smallest(&rt, rt.alloc());
     let mut one = come(&rt, rt.alloc(), &mut table);
     let mut two = come(&rt, rt.alloc(), &mut table);
     let mut three = come(&rt, rt.alloc(), &mut table);
@@ -413,9 +443,23 @@ fn four_threads_leave_every_latch_free(rt: HostRuntime) {
         &mut || pair(&rt, &table, &mut three, &mut four),
     );
     all_free(&rt, &table, &mut one);
+    table.meet(&mut one, &mut two);
+    table.meet(&mut three, &mut four);
     leave(&rt, &mut table, one);
     leave(&rt, &mut table, two);
     leave(&rt, &mut table, three);
     leave(&rt, &mut table, four);
-    table.discard();
+    finish(&rt, rt.alloc(), table, 4);
+}
+
+// Nobody is connected any more: the table is closed, with an empty log.
+pub(super) fn finish<S: Sleep>(rt: &impl Abort, alloc: Global, table: Table<S>, sessions: u32) {
+    assert_eq!(rt; table.connected(), 0);
+    match table.close(alloc) {
+        Ok(closed) => assert_eq!(rt; (closed.sessions(), closed.log().len()), (sessions, 0)),
+        Err(refused) => {
+            refused.latches.discard();
+            panic!(rt; "there is memory")
+        }
+    }
 }

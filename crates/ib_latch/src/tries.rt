@@ -9,16 +9,15 @@ ghost use Rattle.ib_levels.specs.declared.level.Level.{Level};
 ghost use Rattle.ib_levels.specs.declared.level.Mode.TheVariants.{S as ModeS, Sx as ModeSx, X as ModeX};
 ghost use Rattle.ib_levels.specs.Holding.{changed};
 ghost use Rattle.ib_layout.specs.Places.{latches_of};
-ghost use Rattle.ib_core.specs.declared.event.Event.TheVariants.{X as WishX};
 ghost use Rattle.ib_core.specs.declared.phase.Phase.TheVariants.{Free, Next};
 ghost use Rattle.ib_core.specs.Holders.{CanWish};
 ghost use Rattle.ib_core.specs.Responses.{is_above_0, is_above_half};
 ghost use Rattle.ib_core.specs.Sessions.{claims, sx_grants, x_grants};
-ghost use Rattle.ib_core.specs.Takings.{holding_too, is_given_at, level_on, one_more, wish};
-ghost use Rattle.ib_rule.specs.Conditions.{MayGrow};
+ghost use Rattle.ib_core.specs.Takings.{holding_too, is_given_at, level_on, one_more};
+ghost use Rattle.ib_rule.specs.Conditions.{MayGrow, MayTry};
 ghost use Rattle.ib_rule.specs.Laws.{Stores};
 ghost use Rattle.ib_rule.specs.Pass.{IsOf, with_view};
-ghost use Rattle.ib_latch.specs.Tries.{IsClaim, IsFirstTry, IsReadyTry, IsReserveOf, IsSxMore, IsTaken, IsTryAt, IsTryOf, IsUnchanged, IsXMore, MayClaim, exchanged, held_with, is_free_word, level_with, looked_at, looks_of, phase_by, phase_of, reserve_at, signed_for, signed_on};
+ghost use Rattle.ib_latch.specs.Tries.{IsClaim, IsFirstTry, IsReadyTry, IsReserveOf, IsSxMore, IsTaken, IsTryAt, IsTryOf, IsUnchanged, IsXMore, MayClaim, first_session, held_with, is_free_word, level_with, looked_at, looks_of, lost_at, phase_by, phase_of, reserve_at, upgraded, won_with};
 
 use crate::latches::Latches;
 use crate::sleep::Sleep;
@@ -50,7 +49,7 @@ pub enum Reserve {
 
 // What a session has of a latch in SX and X.
 #[derive(Clone, Copy)]
-enum Claim {
+pub(crate) enum Claim {
     Nothing,
     // SX alone.
     Sx,
@@ -149,7 +148,8 @@ impl<L: Law, S: Sleep> Latches<L, S> {
         ensures own { IsOf self.now pass.new }
         ensures same { pass.new ≡ with_view pass.old pass.new.view }
         ensures first { claims latch.0 pass.old.view.session ≡ 0
-            → IsTryOf is_free_word ModeX (WishX latch.0 level) pass.old result pass.new }
+            → IsTryOf is_free_word ModeX latch.0
+            (first_session ModeX latch.0 level pass.old.view.session.held) pass.old result pass.new }
         ensures more { 0 < x_grants latch.0 pass.old.view.session
             → (result ≡ Ok tt) × IsXMore latch.0 pass.old pass.new }
         ensures taken { IsOk result → IsTaken ModeX
@@ -189,10 +189,12 @@ impl<L: Law, S: Sleep> Latches<L, S> {
         ensures own { IsOf self.now pass.new }
         ensures same { pass.new ≡ with_view pass.old pass.new.view }
         ensures first { claims latch.0 pass.old.view.session ≡ 0
-            → IsReserveOf is_above_half (WishX latch.0 level) pass.old result pass.new }
+            → IsReserveOf is_above_half latch.0
+            (first_session ModeX latch.0 level pass.old.view.session.held) pass.old result pass.new }
         ensures upgrade { 0 < sx_grants latch.0 pass.old.view.session
             → x_grants latch.0 pass.old.view.session ≡ 0
-            → IsReserveOf is_above_0 (WishX latch.0 Log) pass.old result pass.new }
+            → IsReserveOf is_above_0 latch.0 (upgraded latch.0 pass.old.view.session.held)
+            pass.old result pass.new }
         ensures more { 0 < x_grants latch.0 pass.old.view.session
             → (result ≡ Ok Reserve.Owned) × IsXMore latch.0 pass.old pass.new }
         ensures taken { IfOk result (λ reserve. IsTaken ModeX
@@ -239,7 +241,7 @@ impl<L: Law, S: Sleep> Latches<L, S> {
     }
 
     // A first try for a mode. It answers the word that it found twice where it is won.
-    fn first_try(
+    pub(crate) fn first_try(
         &self,
         pass: &mut Pass,
         mode: Mode,
@@ -250,13 +252,14 @@ impl<L: Law, S: Sleep> Latches<L, S> {
         requires latch { latch.0 < latches_of self.now.sizes }
         requires grows { MayGrow pass.old.view }
         requires may { CanWish latch.0 level pass.old.view.session }
-        ensures tried { IsTryAt (is_given_at mode) mode (wish mode latch.0 level) pass.old result
+        ensures tried { IsTryAt (is_given_at mode) mode latch.0
+            (first_session mode latch.0 level pass.old.view.session.held) pass.old result
             pass.new }
         ensures taken { IfOk result (λ w. IsTaken mode
             (holding_too mode latch.0 level pass.old.view.session.held)
             (phase_by mode latch.0 level w.0) pass.old.view pass.new.view) }
     {
-        let word = self.space.load_word(pass, latch);
+        let word = self.word_of(pass, latch);
         if !is_given_at(mode, word) {
             return Err(TryFault::Busy { word });
         }
@@ -276,12 +279,13 @@ impl<L: Law, S: Sleep> Latches<L, S> {
         requires latch { latch.0 < latches_of self.now.sizes }
         requires grows { MayGrow pass.old.view }
         requires may { CanWish latch.0 level pass.old.view.session }
-        ensures tried { IsTryAt is_free_word ModeX (WishX latch.0 level) pass.old result pass.new }
+        ensures tried { IsTryAt is_free_word ModeX latch.0
+            (first_session ModeX latch.0 level pass.old.view.session.held) pass.old result pass.new }
         ensures taken { IsOk result → IsTaken ModeX
             (holding_too ModeX latch.0 level pass.old.view.session.held) Free pass.old.view
             pass.new.view }
     {
-        let word = self.space.load_word(pass, latch);
+        let word = self.word_of(pass, latch);
         if !is_free(word) {
             return Err(TryFault::Busy { word });
         }
@@ -295,7 +299,12 @@ impl<L: Law, S: Sleep> Latches<L, S> {
     }
 
     // A try for X with no X of one's own. It answers the word that it found twice where it is won.
-    fn claim_x(&self, pass: &mut Pass, latch: Latch, level: Level) -> Result<LockWord, TryFault>
+    pub(crate) fn claim_x(
+        &self,
+        pass: &mut Pass,
+        latch: Latch,
+        level: Level,
+    ) -> Result<LockWord, TryFault>
         requires own { IsOf self.now pass.old }
         requires latch { latch.0 < latches_of self.now.sizes }
         requires free { pass.old.view.session.phase ≡ Free }
@@ -305,9 +314,11 @@ impl<L: Law, S: Sleep> Latches<L, S> {
         ensures own { IsOf self.now pass.new }
         ensures same { pass.new ≡ with_view pass.old pass.new.view }
         ensures first { claims latch.0 pass.old.view.session ≡ 0
-            → IsTryAt is_above_half ModeX (WishX latch.0 level) pass.old result pass.new }
+            → IsTryAt is_above_half ModeX latch.0
+            (first_session ModeX latch.0 level pass.old.view.session.held) pass.old result pass.new }
         ensures upgrade { 0 < sx_grants latch.0 pass.old.view.session
-            → IsTryAt is_above_0 ModeX (WishX latch.0 Log) pass.old result pass.new }
+            → IsTryAt is_above_0 ModeX latch.0
+            (upgraded latch.0 pass.old.view.session.held) pass.old result pass.new }
         ensures above { IfOk result (λ w. is_above_0 w.0 ≡ true) }
         ensures taken { IfOk result (λ w. IsTaken ModeX
             (held_with ModeX latch.0 level pass.old.view.session)
@@ -325,20 +336,21 @@ impl<L: Law, S: Sleep> Latches<L, S> {
 
     // A try for X beside one's own SX alone. It answers the word that it found twice where it is
     // won.
-    fn upgrade(&self, pass: &mut Pass, latch: Latch) -> Result<LockWord, TryFault>
+    pub(crate) fn upgrade(&self, pass: &mut Pass, latch: Latch) -> Result<LockWord, TryFault>
         requires own { IsOf self.now pass.old }
         requires latch { latch.0 < latches_of self.now.sizes }
         requires free { pass.old.view.session.phase ≡ Free }
         requires grows { MayGrow pass.old.view }
         requires owns_sx { 0 < sx_grants latch.0 pass.old.view.session }
         requires no_x { x_grants latch.0 pass.old.view.session ≡ 0 }
-        ensures tried { IsTryAt is_above_0 ModeX (WishX latch.0 Log) pass.old result pass.new }
+        ensures tried { IsTryAt is_above_0 ModeX latch.0
+            (upgraded latch.0 pass.old.view.session.held) pass.old result pass.new }
         ensures taken { IfOk result (λ w. IsTaken ModeX
             (changed latch.0 (one_more ModeX) pass.old.view.session.held)
             (phase_of latch.0 (level_on latch.0 Log pass.old.view.session.held)
             (reserve_at (w.0 -ℤ pos X_LOCK_DECR))) pass.old.view pass.new.view) }
     {
-        let word = self.space.load_word(pass, latch);
+        let word = self.word_of(pass, latch);
         if !is_given_at(Mode::S, word) {
             return Err(TryFault::Busy { word });
         }
@@ -360,14 +372,10 @@ impl<L: Law, S: Sleep> Latches<L, S> {
         requires owns_sx { 0 < sx_grants latch.0 pass.old.view.session }
         requires no_x { x_grants latch.0 pass.old.view.session ≡ 0 }
         requires given { is_above_0 word.0 ≡ true }
-        ensures won { IsOk result → pass.new
-            ≡ signed_on latch.0 (exchanged (WishX latch.0 Log) word word pass.old) }
+        ensures won { IsOk result → pass.new ≡ won_with ModeX latch.0 word
+            (upgraded latch.0 pass.old.view.session.held word) pass.old }
         ensures lost { IfErr result (λ found. (found.0 ≢ word.0)
-            × (pass.new ≡ exchanged (WishX latch.0 Log) word found pass.old)) }
-        ensures taken { IsOk result → IsTaken ModeX
-            (changed latch.0 (one_more ModeX) pass.old.view.session.held)
-            (phase_of latch.0 (level_on latch.0 Log pass.old.view.session.held)
-            (reserve_at (word.0 -ℤ pos X_LOCK_DECR))) pass.old.view pass.new.view }
+            × (pass.new ≡ lost_at latch.0 word found pass.old)) }
     {
         self.space.upgrade(pass, latch, word)?;
         self.space.store_writer(pass, latch);
@@ -375,7 +383,7 @@ impl<L: Law, S: Sleep> Latches<L, S> {
     }
 
     // SX more, beside one's own SX or X.
-    fn sx_more(&self, pass: &mut Pass, latch: Latch)
+    pub(crate) fn sx_more(&self, pass: &mut Pass, latch: Latch)
         requires own { IsOf self.now pass.old }
         requires latch { latch.0 < latches_of self.now.sizes }
         requires free { pass.old.view.session.phase ≡ Free }
@@ -395,7 +403,7 @@ impl<L: Law, S: Sleep> Latches<L, S> {
     }
 
     // X more, beside one's own X.
-    fn x_more(&self, pass: &mut Pass, latch: Latch)
+    pub(crate) fn x_more(&self, pass: &mut Pass, latch: Latch)
         requires own { IsOf self.now pass.old }
         requires latch { latch.0 < latches_of self.now.sizes }
         requires free { pass.old.view.session.phase ≡ Free }
@@ -412,7 +420,7 @@ impl<L: Law, S: Sleep> Latches<L, S> {
 
     // One exchange of the lock word, for a first grant of the mode. Where SX or X is granted or
     // reserved by it, the session is stored as the writer.
-    fn exchange(
+    pub(crate) fn exchange(
         &self,
         pass: &mut Pass,
         mode: Mode,
@@ -423,12 +431,13 @@ impl<L: Law, S: Sleep> Latches<L, S> {
         requires own { IsOf self.now pass.old }
         requires latch { latch.0 < latches_of self.now.sizes }
         requires grows { MayGrow pass.old.view }
-        requires may { CanWish latch.0 level pass.old.view.session }
+        requires may { MayTry mode latch.0 level pass.old.view.session
+            pass.old.view.session.phase }
         requires given { is_given_at mode word.0 ≡ true }
-        ensures won { IsOk result → pass.new ≡ signed_for mode latch.0
-            (exchanged (wish mode latch.0 level) word word pass.old) }
+        ensures won { IsOk result → pass.new ≡ won_with mode latch.0 word
+            (first_session mode latch.0 level pass.old.view.session.held word) pass.old }
         ensures lost { IfErr result (λ found. (found.0 ≢ word.0)
-            × (pass.new ≡ exchanged (wish mode latch.0 level) word found pass.old)) }
+            × (pass.new ≡ lost_at latch.0 word found pass.old)) }
     {
         match mode {
             Mode::S => self.space.s_off(pass, latch, level, word),
@@ -447,7 +456,7 @@ impl<L: Law, S: Sleep> Latches<L, S> {
 }
 
 // What the session has of the latch in SX and X.
-fn claim_on(pass: &Pass, latch: Latch) -> Claim
+pub(crate) fn claim_on(pass: &Pass, latch: Latch) -> Claim
     ensures { IsClaim latch.0 pass.now.view.session result }
 {
     let counts = pass.counts(latch);
@@ -461,7 +470,7 @@ fn claim_on(pass: &Pass, latch: Latch) -> Claim
 }
 
 // A first grant of the mode is given at the word.
-fn is_given_at(mode: Mode, word: LockWord) -> bool
+pub(crate) fn is_given_at(mode: Mode, word: LockWord) -> bool
     ensures { result ≡ is_given_at mode word.0 }
 {
     match mode {
@@ -489,7 +498,7 @@ fn owns_x_at(has_sx: bool, word: LockWord) -> bool
 }
 
 // What a reservation came to that took `X_LOCK_DECR` off the word.
-fn reserve_at(word: LockWord) -> Reserve
+pub(crate) fn reserve_at(word: LockWord) -> Reserve
     requires { is_above_0 word.0 ≡ true }
     ensures { result ≡ reserve_at (word.0 -ℤ pos X_LOCK_DECR) }
 {

@@ -8,12 +8,12 @@ ghost use Rattle.ib_core.specs.declared.phase.Phase.TheVariants.{Free, OwesClear
 ghost use Rattle.ib_core.specs.Responses.{is_drained};
 ghost use Rattle.ib_core.specs.Sessions.{reads, sx_grants, x_grants};
 ghost use Rattle.ib_core.specs.Takings.{given_back};
-ghost use Rattle.ib_rule.specs.Afterwards.{in_phase};
-ghost use Rattle.ib_rule.specs.Pass.{IsOf};
-ghost use Rattle.ib_latch.specs.Unlocks.{IsLeftAs, IsReleased, sx_steps};
+ghost use Rattle.ib_rule.specs.Afterwards.{phased};
+ghost use Rattle.ib_rule.specs.Pass.{IsOf, with_view};
+ghost use Rattle.ib_latch.specs.Unlocks.{IsReleased, sx_steps};
 
 use crate::latches::Latches;
-use crate::sleep::Sleep;
+use crate::sleep::{Raised, Sleep};
 use ib_levels::Latch;
 use ib_logrec::Law;
 use ib_rule::Pass;
@@ -32,8 +32,8 @@ impl<L: Law, S: Sleep> Latches<L, S> {
     {
         let word = self.space.s_on(pass, latch);
         if is_drained(word) {
-            self.raise_ex(pass, latch);
-            self.sleep.wake();
+            let raised = self.raise_ex(pass, latch);
+            self.sleep.wake(raised);
         }
     }
 
@@ -82,12 +82,12 @@ impl<L: Law, S: Sleep> Latches<L, S> {
         requires own { IsOf self.now pass.old }
         requires latch { latch.0 < latches_of self.now.sizes }
         requires owes { pass.old.view.session.phase ≡ OwesLook latch.0 }
-        ensures { IsLeftAs latch.0 (in_phase Free pass.old.view.session) pass.old pass.new }
+        ensures { pass.new ≡ with_view pass.old (phased Free pass.old.view) }
     {
         if self.look(pass, latch) {
             if self.clear(pass, latch) {
-                self.raise(pass, latch);
-                self.sleep.wake();
+                let raised = self.raise(pass, latch);
+                self.sleep.wake(raised);
             }
         }
     }
@@ -97,8 +97,8 @@ impl<L: Law, S: Sleep> Latches<L, S> {
         requires own { IsOf self.now pass.old }
         requires latch { latch.0 < latches_of self.now.sizes }
         requires owes { pass.old.view.session.phase ≡ OwesLook latch.0 }
-        ensures { IsLeftAs latch.0 (in_phase (if result then OwesClear latch.0 else Free)
-            pass.old.view.session) pass.old pass.new }
+        ensures { pass.new ≡ with_view pass.old
+            (phased (if result then OwesClear latch.0 else Free) pass.old.view) }
     {
         self.space.load_waiters(pass, latch) > 0
     }
@@ -108,30 +108,32 @@ impl<L: Law, S: Sleep> Latches<L, S> {
         requires own { IsOf self.now pass.old }
         requires latch { latch.0 < latches_of self.now.sizes }
         requires owes { pass.old.view.session.phase ≡ OwesClear latch.0 }
-        ensures { IsLeftAs latch.0 (in_phase (if result then OwesRaise latch.0 else Free)
-            pass.old.view.session) pass.old pass.new }
+        ensures { pass.new ≡ with_view pass.old
+            (phased (if result then OwesRaise latch.0 else Free) pass.old.view) }
     {
         self.space.swap_waiters(pass, latch) > 0
     }
 
     // The raise of the generation.
-    fn raise(&self, pass: &mut Pass, latch: Latch)
+    fn raise(&self, pass: &mut Pass, latch: Latch) -> Raised
         requires own { IsOf self.now pass.old }
         requires latch { latch.0 < latches_of self.now.sizes }
         requires owes { pass.old.view.session.phase ≡ OwesRaise latch.0 }
-        ensures { IsLeftAs latch.0 (in_phase Free pass.old.view.session) pass.old pass.new }
+        ensures { pass.new ≡ with_view pass.old (phased Free pass.old.view) }
     {
         self.space.raise_gen(pass, latch);
+        Raised::on(latch.0)
     }
 
     // The raise of the ex generation.
-    fn raise_ex(&self, pass: &mut Pass, latch: Latch)
+    fn raise_ex(&self, pass: &mut Pass, latch: Latch) -> Raised
         requires own { IsOf self.now pass.old }
         requires latch { latch.0 < latches_of self.now.sizes }
         requires owes { pass.old.view.session.phase ≡ OwesRaiseEx latch.0 }
-        ensures { IsLeftAs latch.0 (in_phase Free pass.old.view.session) pass.old pass.new }
+        ensures { pass.new ≡ with_view pass.old (phased Free pass.old.view) }
     {
         self.space.raise_ex_gen(pass, latch);
+        Raised::on(latch.0)
     }
 }
 

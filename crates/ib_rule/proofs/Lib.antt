@@ -8,13 +8,23 @@ mod Moves
 mod Sessions
 mod Meeting
 mod Alone
+mod Remains
+mod Gains
 mod Passing
 mod Resting
 mod Grows
 mod LockSteps
 mod MarkSteps
 mod Results
+mod Outcomes
 mod Opening
 mod HeldNow
 mod Closing
 mod Wishing
+pub mod Lists
+mod Storing
+mod Seeing
+mod Stored
+mod Looking
+mod Spelling
+pub mod Watching

@@ -34,7 +34,7 @@ use Rattle.ib_rule.proofs.Knowing.{knows, old_since, prefix_short}
 use Rattle.ib_rule.proofs.Sessions.{split_step, map_twice}
 use Rattle.ib_rule.proofs.Turning.{map_same}
 use Rattle.ib_rule.proofs.Words.{set_same}
-use Rattle.ib_rule.proofs.Moves.{proper_now, few_now, taken_now}
+use Rattle.ib_rule.proofs.Moves.{proper_now, known_now, few_now, taken_now}
 
 -- of two beginnings of one list the shorter begins the longer
 prefix_of : {A : Type 0} (xs ys log : List A) → IsPrefix xs log → IsPrefix ys log → length xs ≤ length ys → IsPrefix xs ys
@@ -197,6 +197,7 @@ module _ (lawful : ℕ → List Entry → Type 0) (opening : ℕ → ℕ → ℕ
               view = (refl, all_in s k me.0.memory.met f.met shorter f.seen, (begins key.pages me.0.memory.seen f.seen.0 sized (subst (lawful key.pages) (sym f.seen.1) k.memory.legal)));
               event = refl;
               proper = proper_now lawful opening key s _ _ id me.1 me.0 w at after;
+              known = known_now lawful opening key s _ _ id me.1 me.0 w at after;
               range = tt;
               few = few_now lawful opening key s _ _ id me.1 me.0 w at after;
               taken = taken_now lawful opening key s _ _ id me.1 me.0 w at after;

@@ -39,7 +39,9 @@ use Rattle.ib_rule.specs.declared.view.View.{View}
 use Rattle.ib_rule.specs.Steps.{place_of, refuses, looks_after, view_after}
 use Rattle.ib_core.specs.Turns.{word_for, turn_at, Leaves}
 use Rattle.ib_core.specs.Debts.{wish_of, won, grants_won, debt}
-use Rattle.ib_rule.specs.Views.{total, role_of, session_of, turned_by, with_looks, signed}
+use Rattle.ib_rule.specs.Views.{KnowsHeld, total, role_of, session_of, turned_by, with_looks, signed}
+use Rattle.ib_rule.specs.declared.memory.Since.{Since}
+use Rattle.ib_rule.specs.declared.memory.Loaded.{Loaded}
 use Rattle.ib_rule.specs.Rule.{IsWriter, marks_in, LatchPart, IsIdle, RuleHolds}
 use Rattle.ib_rule.specs.Roles.{number_in, live, sessions_in, SessionsPart}
 use Rattle.ib_rule.specs.Told.{CanBe, Happens, tells}
@@ -76,6 +78,18 @@ module _ (lawful : ℕ → List Entry → Type 0) (opening : ℕ → ℕ → ℕ
   pub aside_keeps : (p n' : ℕ) (looks : Looks) (cs : List (ℕ × Unit {0})) → set s.words p n' ≡ s.words → RuleHolds lawful opening key (stepped s p n' id cs (with_looks looks v) keeps)
   aside_keeps p n' looks cs same = knows lawful opening key s kept id v at p n' looks v.memory cs same (kept.memory.follows id v at) (λ q h. h)
 
+-- what the rule says of what a session knows
+each_also : {A : Type 0} (P Q : A → Type 0) → ((x : A) → P x → Q x) → (xs : List A) → AllByRecursion P xs → AllByRecursion Q xs
+each_also P Q also [] each = tt
+each_also P Q also (x ∷ xs) each = (also x each.0, each_also P Q also xs each.1)
+
+pub known_in : (lawful : ℕ → List Entry → Type 0) (opening : ℕ → ℕ → ℕ → ℕ) (key : Sizes) (s : State (Unit {0}) View) (kept : RuleHolds lawful opening key s) (id : ℕ) (v : View) → get_elem? s.views id ≡ some v → KnowsHeld v
+known_in lawful opening key s kept id v at = let f = kept.memory.follows id v at in record {
+  since = each_also _ _ (λ (x : Since) is. is.0.held) v.memory.since f.since;
+  loaded = each_also _ _ (λ (x : Loaded) is. is.0) v.memory.loaded f.loaded;
+  written = each_also _ _ (λ (l : ℕ) is. is.0) v.written (kept.writers id v at);
+}
+
 -- what the state after a step says of the session
 module _ (lawful : ℕ → List Entry → Type 0) (opening : ℕ → ℕ → ℕ → ℕ) (key : Sizes) (s : State (Unit {0}) View) (p n id : ℕ) (cs : List (ℕ × Unit {0})) (v w : View) (at : get_elem? s.views id ≡ some v)
     (kept : RuleHolds lawful opening key (stepped s p n id cs w keeps)) where
@@ -87,6 +101,9 @@ module _ (lawful : ℕ → List Entry → Type 0) (opening : ℕ → ℕ → ℕ
 
   pub few_now : (l : ℕ) → grants l w.session ≤ 8192
   few_now = kept.latches.few id w.session here
+
+  pub known_now : KnowsHeld w
+  known_now = known_in lawful opening key (stepped s p n id cs w keeps) kept id w (set_here s.views id v w at)
 
   pub taken_now : total w.grants ≤ 2 ^ 52 * sessions_in w.role
   taken_now = kept.paid.bound id w (set_here s.views id v w at)
@@ -105,7 +122,7 @@ module _ (lawful : ℕ → List Entry → Type 0) (opening : ℕ → ℕ → ℕ
         keeps,
         tt,
         after,
-        (record { view = refl; event = is; proper = proper_now lawful opening key s _ (f n) id me.1 me.0 (view_after (Turns e) n me.0) at after; range = found; few = few_now lawful opening key s _ (f n) id me.1 me.0 (view_after (Turns e) n me.0) at after; taken = taken_now lawful opening key s _ (f n) id me.1 me.0 (view_after (Turns e) n me.0) at after }, refl),
+        (record { view = refl; event = is; proper = proper_now lawful opening key s _ (f n) id me.1 me.0 (view_after (Turns e) n me.0) at after; known = known_now lawful opening key s _ (f n) id me.1 me.0 (view_after (Turns e) n me.0) at after; range = found; few = few_now lawful opening key s _ (f n) id me.1 me.0 (view_after (Turns e) n me.0) at after; taken = taken_now lawful opening key s _ (f n) id me.1 me.0 (view_after (Turns e) n me.0) at after }, refl),
       )
 
   -- an exchange from the word expected
@@ -131,7 +148,7 @@ module _ (lawful : ℕ → List Entry → Type 0) (opening : ℕ → ℕ → ℕ
         keeps,
         tt,
         both.0,
-        (record { view = refl; event = both.1; proper = proper_now lawful opening key s _ _ id me.1 me.0 (view_after (Try e expected) n me.0) at both.0; range = found; few = few_now lawful opening key s _ _ id me.1 me.0 (view_after (Try e expected) n me.0) at both.0; taken = taken_now lawful opening key s _ _ id me.1 me.0 (view_after (Try e expected) n me.0) at both.0 }, refl),
+        (record { view = refl; event = both.1; proper = proper_now lawful opening key s _ _ id me.1 me.0 (view_after (Try e expected) n me.0) at both.0; known = known_now lawful opening key s _ _ id me.1 me.0 (view_after (Try e expected) n me.0) at both.0; range = found; few = few_now lawful opening key s _ _ id me.1 me.0 (view_after (Try e expected) n me.0) at both.0; taken = taken_now lawful opening key s _ _ id me.1 me.0 (view_after (Try e expected) n me.0) at both.0 }, refl),
       )
 
   -- a look at the lock word
@@ -142,7 +159,7 @@ module _ (lawful : ℕ → List Entry → Type 0) (opening : ℕ → ℕ → ℕ
         keeps,
         tt,
         aside_keeps lawful opening key s kept id me.0 at l inside (lock_place l) n (looks_after (Looked l) me.0.session n me.0.looks) me.1 (set_same s.words (lock_place l) (place_fits key s.words l Lock kept.sized inside)),
-        (record { view = refl; event = refl; proper = kept.latches.good.proper id me.0.session (at_map session_of s.views id me.0 at); range = found_in lawful opening key s kept id me.0 at l inside Lock; few = kept.latches.few id me.0.session (at_map session_of s.views id me.0 at); taken = kept.paid.bound id me.0 at }, refl),
+        (record { view = refl; event = refl; proper = kept.latches.good.proper id me.0.session (at_map session_of s.views id me.0 at); known = (let k = known_in lawful opening key s kept id me.0 at in record { since = k.since; loaded = k.loaded; written = k.written }); range = found_in lawful opening key s kept id me.0 at l inside Lock; few = kept.latches.few id me.0.session (at_map session_of s.views id me.0 at); taken = kept.paid.bound id me.0 at }, refl),
       )
 
   -- the wish that is refused is_drawn more takes nothing
@@ -170,7 +187,7 @@ module _ (lawful : ℕ → List Entry → Type 0) (opening : ℕ → ℕ → ℕ
         keeps,
         tt,
         both.0,
-        (record { view = refl; event = both.1; proper = proper_now lawful opening key s _ _ id me.1 me.0 (view_after (Recheck l) n me.0) at both.0; range = found; few = few_now lawful opening key s _ _ id me.1 me.0 (view_after (Recheck l) n me.0) at both.0; taken = taken_now lawful opening key s _ _ id me.1 me.0 (view_after (Recheck l) n me.0) at both.0 }, refl),
+        (record { view = refl; event = both.1; proper = proper_now lawful opening key s _ _ id me.1 me.0 (view_after (Recheck l) n me.0) at both.0; known = known_now lawful opening key s _ _ id me.1 me.0 (view_after (Recheck l) n me.0) at both.0; range = found; few = few_now lawful opening key s _ _ id me.1 me.0 (view_after (Recheck l) n me.0) at both.0; taken = taken_now lawful opening key s _ _ id me.1 me.0 (view_after (Recheck l) n me.0) at both.0 }, refl),
       )
     where
       by_flag : (s : State (Unit {0}) View) → RuleHolds lawful opening key s → get_elem? s.views id ≡ some me.0 → (b : Bool) → refuses me.0.session.phase (slice_index s.words (lock_place l)) ≡ b
@@ -226,7 +243,7 @@ module _ (lawful : ℕ → List Entry → Type 0) (opening : ℕ → ℕ → ℕ
         keeps,
         tt,
         after,
-        (record { view = refl; event = refl; proper = proper_now lawful opening key s _ _ id me.1 me.0 (signed l me.0) at after; range = tt; few = few_now lawful opening key s _ _ id me.1 me.0 (signed l me.0) at after; taken = taken_now lawful opening key s _ _ id me.1 me.0 (signed l me.0) at after }, refl),
+        (record { view = refl; event = refl; proper = proper_now lawful opening key s _ _ id me.1 me.0 (signed l me.0) at after; known = known_now lawful opening key s _ _ id me.1 me.0 (signed l me.0) at after; range = tt; few = few_now lawful opening key s _ _ id me.1 me.0 (signed l me.0) at after; taken = taken_now lawful opening key s _ _ id me.1 me.0 (signed l me.0) at after }, refl),
       )
     where
       same_marks : (words : List ℕ) (len l number latches : ℕ) → l < latches → writer_place l < length words → marks_in latches words ≡ marks_in latches (set words (writer_place l) number)

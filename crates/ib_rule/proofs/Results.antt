@@ -1,78 +1,44 @@
 -- The session after each step on a latch.
 use Rattle.std.proofs.Common.{◌≡◌, ℕ, ◌+◌, ◌<◌, Bool, true, false, ℤ, pos, Option, Some, None, refl, sym, ap, ◌∙◌, arith, eq-eqb, ne_eqb}
-use Rattle.std.specs.Prelude.{◌==◌, not, nat_lt, if◌then◌else◌, ◌-ℤ◌, ◌+ℤ◌}
+use Rattle.std.specs.Prelude.{◌==◌, not, nat_lt, if◌then◌else◌, ◌+ℤ◌}
 use Rattle.std.proofs.lemmas.Int.{ints}
 use mathlib.Core.Logic.{dite}
 use native.Mathlib.Decide.{ℕ_discrete}
-use Rattle.ib_word.specs.declared.word.TheConstants.{X_LOCK_DECR}
-use Rattle.ib_word.specs.Word.{word_in, cell_of}
+use Rattle.ib_word.specs.Word.{word_in}
 use Rattle.ib_levels.specs.declared.level.Level.{Level}
 use Rattle.ib_levels.specs.declared.level.Level.TheVariants.{Log}
 use Rattle.ib_levels.specs.declared.level.Mode.{Mode}
-use Rattle.ib_levels.specs.declared.level.Mode.TheVariants.{S as ModeS, Sx as ModeSx, X as ModeX}
+use Rattle.ib_levels.specs.declared.level.Mode.TheVariants.{Sx as ModeSx, X as ModeX}
 use Rattle.ib_levels.specs.Holding.{changed, without}
 use Rattle.ib_core.specs.declared.phase.Phase.{Phase}
 use Rattle.ib_core.specs.declared.phase.Phase.TheVariants.{Free, Armed, Flagged, Checked, Asleep, Next, NextArmed, NextChecked, NextAsleep, OwesLook, OwesClear, OwesRaise, OwesRaiseEx}
 use Rattle.ib_core.specs.declared.event.Event.{Event}
-use Rattle.ib_core.specs.declared.event.Event.TheVariants.{Sx, X, Usx, Ux, Flag, Again, Clear, Raise}
+use Rattle.ib_core.specs.declared.event.Event.TheVariants.{Sx, Usx, Ux, Flag, Clear, Raise}
 use Rattle.ib_core.specs.declared.event.Answer.TheVariants.{Armed as ArmedAt, Asleep as AsleepAt, Awake}
 use Rattle.ib_core.specs.declared.event.Refusal.TheVariants.{OutOfTurn, HeldAlready}
 use Rattle.ib_core.specs.declared.session.Session.{Session}
 use Rattle.ib_core.specs.Holders.{CanWish}
 use Rattle.ib_core.specs.Sessions.{claims, sx_grants, x_grants}
 use Rattle.ib_core.specs.Good.{IsProper}
-use Rattle.ib_core.specs.Responses.{Response, response, refused, latch_of, is_elsewhere, is_above_0}
+use Rattle.ib_core.specs.Responses.{Response, response, refused, latch_of, is_elsewhere}
 use Rattle.ib_core.specs.Table.{response_of, row_of, arming, sleeping}
-use Rattle.ib_core.specs.Takings.{first_response, first_weight, given_back, holding_too, is_given_at, level_on, one_fewer, one_more, reserving, where_allowed, wish}
-use Rattle.ib_core.specs.Turns.{marks_found}
-use Rattle.ib_core.proofs.After.{after_first, after_again, after_upgrade, after_further_x, after_further_sx, after_last_sx_back, after_sx_back, after_x_back, after_last_x_back, after_last_x_beside_sx}
+use Rattle.ib_core.specs.Takings.{given_back, one_fewer, one_more, where_allowed, wish}
+use Rattle.ib_core.specs.Turns.{marks_found, turn_at}
+use Rattle.ib_core.proofs.After.{after_further_sx, after_last_sx_back, after_sx_back, after_x_back, after_last_x_back, after_last_x_beside_sx}
 use Rattle.ib_core.proofs.OnLatch.{counted}
 use Rattle.ib_core.proofs.Phased.{with_phase}
 use Rattle.ib_core.proofs.Quiet.{at_itself}
 use Rattle.ib_core.proofs.Wishes.{allowed_new}
 use Rattle.ib_levels.proofs.Counts.{unheld_from_none}
-use Rattle.ib_rule.specs.declared.kind.Kind.TheVariants.{Turn as Turns, Try}
+use Rattle.ib_rule.specs.declared.kind.Kind.TheVariants.{Turn as Turns}
 use Rattle.ib_rule.specs.declared.view.View.{View}
-use Rattle.ib_rule.specs.Views.{turned_by}
 use Rattle.ib_rule.specs.Steps.{view_after}
-use Rattle.ib_rule.specs.Conditions.{IsArmed, MayLoadExGen, MayLoadFlag, MayLoadGen, MayTry, ex_gen_event, flag_event, gen_event, try_event, writer_event}
+use Rattle.ib_rule.specs.Conditions.{IsArmed, MayLoadExGen, MayLoadFlag, MayLoadGen, ex_gen_event, flag_event, gen_event, writer_event}
 use Rattle.ib_rule.specs.Afterwards.{cleared, ex_loaded, flag_loaded, flagged, gen_loaded, in_phase}
-use Rattle.ib_rule.proofs.LockSteps.{flagged_for, given_word}
 
 -- a step that was an event leaves the session of the event's response
 pub response_session : (v w : View) (e : Event) (n : ℕ) (r : Response) → w ≡ view_after (Turns e) n v → response_of (word_in n) (marks_found n) e v.session ≡ r → w.session ≡ r.session
 response_session v w e n r is response = ap (λ (u : View). u.session) is ∙ ap (λ (r : Response). r.session) response
-
--- .. and so does an exchange that found the word expected
-pub try_session : (v w : View) (e : Event) (n : ℕ) (r : Response) → w ≡ view_after (Try e n) n v → response_of (word_in n) (marks_found n) e v.session ≡ r → w.session ≡ r.session
-try_session v w e n r is response =
-    ap (λ (u : View). u.session) is
-    ∙ (ap (λ b. (turned_by (if b then Some e else None) n v).session) (eq-eqb n n refl) ∙ ap (λ (r : Response). r.session) response)
-
-module _ (v w : View) (l : ℕ) (level : Level) (word : ℤ) (mode : Mode) where
-  first_session : (p : Phase) → v.session.phase ≡ p → MayTry mode l level v.session p → is_given_at mode word ≡ true → w ≡ view_after (Try (try_event mode l level p) (cell_of word)) (cell_of word) v
-      → w.session ≡ (first_response mode l level (word -ℤ pos (first_weight mode)) (holding_too mode l level v.session.held)).session
-  first_session Free phase may given is =
-      let there = given_word mode word given in
-      try_session v w (wish mode l level) (cell_of word) _ is (after_first (word_in (cell_of word)) (marks_found (cell_of word)) l v.session mode level may (ap (is_given_at mode) there ∙ given))
-      ∙ ap (λ (z : ℤ). (first_response mode l level (z -ℤ pos (first_weight mode)) (holding_too mode l level v.session.held)).session) there
-  first_session (Flagged k m u g) phase may given is =
-      let there = given_word mode word given in
-      try_session v w (Again l) (cell_of word) _ is (after_again (word_in (cell_of word)) (marks_found (cell_of word)) l v.session mode level g (flagged_for mode l level v.session k m u g phase may) (ap (is_given_at mode) there ∙ given))
-      ∙ ap (λ (z : ℤ). (first_response mode l level (z -ℤ pos (first_weight mode)) (holding_too mode l level v.session.held)).session) there
-  first_session p phase may given is = absurd may
-
-  -- the session after a first try that was won
-  pub first_taken : MayTry mode l level v.session v.session.phase → is_given_at mode word ≡ true → w ≡ view_after (Try (try_event mode l level v.session.phase) (cell_of word)) (cell_of word) v
-      → w.session ≡ (first_response mode l level (word -ℤ pos (first_weight mode)) (holding_too mode l level v.session.held)).session
-  first_taken may given is = first_session v.session.phase refl may given is
-
-pub upgrade_taken : (v w : View) (l : ℕ) (word : ℤ) → v.session.phase ≡ Free → IsProper v.session → 0 < sx_grants l v.session → x_grants l v.session ≡ 0 → is_above_0 word ≡ true
-    → w ≡ view_after (Try (X l Log) (cell_of word)) (cell_of word) v → w.session ≡ (reserving l (level_on l Log v.session.held) (word -ℤ pos X_LOCK_DECR) (changed l (one_more ModeX) v.session.held)).session
-upgrade_taken v w l word free proper sx x up is =
-    let there = given_word ModeS word up in
-    try_session v w (X l Log) (cell_of word) _ is (after_upgrade (word_in (cell_of word)) (marks_found (cell_of word)) l v.session proper free Log sx x (ap is_above_0 there ∙ up))
-    ∙ ap (λ (z : ℤ). (reserving l (level_on l Log v.session.held) (z -ℤ pos X_LOCK_DECR) (changed l (one_more ModeX) v.session.held)).session) there
 
 -- the word after a step on a cell
 pub next_word : (n : ℕ) (w : ℤ) → w ≡ word_in (n + 1) → (word_in n +ℤ pos 1) ≡ w
@@ -80,11 +46,14 @@ next_word n w is = omega (arith, ints)
 
 -- an event in its turn, of a session in this phase on this latch
 module _ (v w : View) (l n : ℕ) where
+  pub row_session : (p : Phase) (e : Event) → v.session.phase ≡ p → is_elsewhere (latch_of e) p ≡ false → (turn_at e n v.session).session ≡ (row_of p (word_in n) (marks_found n) e (with_phase p v.session.held)).session
+  row_session p e phase here =
+      ap (λ (a : Session). (response_of (word_in n) (marks_found n) e a).session) (let same : v.session ≡ with_phase p v.session.held = λ j. record { held = v.session.held; phase = phase j } in same)
+      ∙ ap (λ b. (if b then refused OutOfTurn (with_phase p v.session.held) else row_of p (word_in n) (marks_found n) e (with_phase p v.session.held)).session) here
+
   by_row : (p : Phase) (e : Event) → v.session.phase ≡ p → is_elsewhere (latch_of e) p ≡ false → w ≡ view_after (Turns e) n v → w.session ≡ (row_of p (word_in n) (marks_found n) e (with_phase p v.session.held)).session
   by_row p e phase here is =
-      ap (λ (u : View). u.session) is
-      ∙ (ap (λ (a : Session). (response_of (word_in n) (marks_found n) e a).session) (let same : v.session ≡ with_phase p v.session.held = λ j. record { held = v.session.held; phase = phase j } in same)
-      ∙ ap (λ b. (if b then refused OutOfTurn (with_phase p v.session.held) else row_of p (word_in n) (marks_found n) e (with_phase p v.session.held)).session) here)
+      ap (λ (u : View). u.session) is ∙ row_session p e phase here
 
   at_latch : (k : ℕ) → k ≡ l → not (k == l) ≡ false
   at_latch k is = ap (λ (k : ℕ). not (k == l)) is ∙ at_itself l
@@ -153,9 +122,6 @@ module _ (v w : View) (l n : ℕ) where
 
 -- the session after each further grant and each release
 module _ (v w : View) (l n : ℕ) (free : v.session.phase ≡ Free) (proper : IsProper v.session) where
-  pub further_x_session : 0 < x_grants l v.session → w ≡ view_after (Turns (X l Log)) n v → w.session ≡ with_phase Free (changed l (one_more ModeX) v.session.held)
-  further_x_session has is = response_session v w (X l Log) n _ is (after_further_x (word_in n) (marks_found n) l v.session proper free Log has)
-
   pub further_sx_session : 0 < claims l v.session → w ≡ view_after (Turns (Sx l Log)) n v → w.session ≡ with_phase Free (changed l (one_more ModeSx) v.session.held)
   further_sx_session has is = response_session v w (Sx l Log) n _ is (after_further_sx (word_in n) (marks_found n) l v.session proper free Log has)
 

@@ -36,7 +36,7 @@ use Rattle.ib_core.specs.Debts.{debt}
 use Rattle.ib_rule.specs.Told.{tells}
 use Rattle.ib_rule.specs.Steps.{view_after}
 use Rattle.ib_rule.proofs.Turning.{map_same}
-use Rattle.ib_rule.proofs.Moves.{proper_now, few_now, taken_now}
+use Rattle.ib_rule.proofs.Moves.{proper_now, known_now, few_now, taken_now}
 
 -- where one seat is the space's, it has the whole count
 pub whole_count : (roles : List Role) (i d : ℕ) (ended : List Ended) → sum_by is_space roles ≡ 1 → get_elem? roles i ≡ some (Space d ended) → sum_by drawn_in roles ≡ d
@@ -367,6 +367,7 @@ module _ (lawful : ℕ → List Entry → Type 0) (opening : ℕ → ℕ → ℕ
               view = refl;
               event = refl;
               proper = proper_now lawful opening key s drawn_place _ id me.1 me.0 (with_role (entered me.0.role) me.0) at after;
+              known = known_now lawful opening key s drawn_place _ id me.1 me.0 (with_role (entered me.0.role) me.0) at after;
               range = tt;
               few = few_now lawful opening key s drawn_place _ id me.1 me.0 (with_role (entered me.0.role) me.0) at after;
               taken = taken_now lawful opening key s drawn_place _ id me.1 me.0 (with_role (entered me.0.role) me.0) at after;
@@ -393,6 +394,7 @@ module _ (lawful : ℕ → List Entry → Type 0) (opening : ℕ → ℕ → ℕ
               view = refl;
               event = refl;
               proper = proper_now lawful opening key s drawn_place _ id me.1 me.0 me.0 at after;
+              known = known_now lawful opening key s drawn_place _ id me.1 me.0 me.0 at after;
               range = subst (λ r. (length (ended_in r) ≤ drawn_in r) × (drawn_in r ≤ 1024)) (sym is)
                   (let w = whole_count roles id d ended k.sessions.one_space at' in let o = one_of sessions_in roles id (Space d ended) at' in
                   let p = k.sessions.all_stand in let q = k.sessions.few in (omega arith, omega arith));

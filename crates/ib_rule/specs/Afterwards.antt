@@ -1,18 +1,42 @@
--- The session after a step of one that waits, or that owes a signal.
+-- The view after a step on a latch: a grant taken, or another phase.
 use Rattle.std.specs.Prelude.{ℕ, ◌==◌, nat_lt, if◌then◌else◌, Option, Some, None}
 use Rattle.ib_levels.specs.declared.level.Mode.{Mode}
 use Rattle.ib_levels.specs.declared.level.Level.{Level}
-use Rattle.ib_word.specs.Word.{word_in}
+use Rattle.ib_word.specs.Word.{cell_of, word_in}
+use Rattle.ib_word.specs.declared.word.LockWord.{LockWord}
 use Rattle.ib_core.specs.declared.phase.Phase.{Phase}
 use Rattle.ib_core.specs.declared.phase.Phase.TheVariants.{Free, Armed, Flagged, Checked, Asleep, Next, NextArmed, NextChecked, NextAsleep, OwesLook, OwesClear, OwesRaise}
 use Rattle.ib_core.specs.declared.session.Session.{Session}
 use Rattle.ib_core.specs.Sessions.{sx_grants}
 use Rattle.ib_core.specs.Table.{owns_x_at}
 use Rattle.ib_core.specs.Takings.{is_given_at}
+use Rattle.ib_rule.specs.declared.view.View.{View}
+use Rattle.ib_rule.specs.Steps.{looked, stepped_on}
+use Rattle.ib_rule.specs.Views.{with_grant, with_looks}
 
 -- the session in another phase
 abbrev pub in_phase : Phase → Session → Session
 in_phase p a = record a { phase = p }
+
+-- .. and the view, of which nothing else is changed
+abbrev pub phased : Phase → View → View
+phased p v = record v { session = in_phase p v.session }
+
+-- a grant of the mode more, with which the session is this
+abbrev pub granted : Mode → Session → View → View
+granted mode a v = record v { session = a; grants = with_grant (Some mode) v.grants }
+
+-- a look at a lock word, which found this
+abbrev pub looked_on : ℕ → LockWord → View → View
+looked_on l found v = with_looks (looked l (cell_of found.0) None v.looks) v
+
+-- an exchange of a lock word, which found this where it expected that
+abbrev pub tried_on : ℕ → LockWord → LockWord → View → View
+tried_on l expected found v = with_looks (looked l (cell_of found.0) (Some (cell_of expected.0)) v.looks) v
+
+-- a step on a lock word that is no look
+abbrev pub with_step : View → View
+with_step v = with_looks (stepped_on v.looks) v
 
 -- who is about to sleep, or sleeps, looked at its generation: it sleeps on where that is the recorded one
 abbrev pub slept : ℕ → Phase → Phase

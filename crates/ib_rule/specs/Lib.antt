@@ -8,6 +8,7 @@ pub mod Stores
 pub mod Told
 pub mod Conditions
 pub mod Space
+pub mod Desk
 pub mod Pass
 pub mod Gauges
 pub mod Turns
@@ -16,3 +17,4 @@ pub mod Room
 pub mod Closed
 pub mod Laws
 pub mod Lending
+pub mod Writing

@@ -1,24 +1,34 @@
 -- What contracts see of a pass, and how its fields stand for that.
-use Rattle.std.specs.Prelude.{◌≡◌, ℕ, ◌≤◌, ◌^◌, Bool, true, false, List, [], length, vec_len, vec_capacity, Option, Some, None}
+use Rattle.std.specs.Prelude.{◌≡◌, ℕ, ◌≤◌, ◌^◌, Bool, List, [], length, vec_len, None}
 use Rattle.atomic_table.specs.Seated.{TableId}
+use Rattle.ib_layout.specs.Geometry.{Sizes}
 use Rattle.ib_layout.specs.Places.{latches_of}
 use Rattle.ib_core.specs.Good.{IsProper}
 use Rattle.ib_core.specs.Sessions.{grants}
-use Rattle.ib_rule.specs.declared.scratch.Scratch.{Scratch}
+use Rattle.ib_logrec.specs.declared.entry.TheConstants.{MOST_SESSIONS}
+use Rattle.ib_logrec.specs.Log.{used}
+use Rattle.ib_levels.specs.declared.latch.Latch.{Latch}
+use Rattle.ib_levels.specs.declared.level.Mode.{Mode}
+use Rattle.ib_page.specs.Work.{WorkPage}
 use Rattle.ib_rule.specs.declared.pass.TheConstants.{ENTRY_WORDS, MOST_HELD}
 use Rattle.ib_rule.specs.declared.pass.Pass.TheInside.{Inside}
+use Rattle.ib_rule.specs.declared.memory.Memory.{Memory}
 use Rattle.ib_rule.specs.declared.view.Role.TheVariants.{Session}
 use Rattle.ib_rule.specs.declared.view.View.{View}
-use Rattle.ib_rule.specs.Views.{total}
+use Rattle.ib_rule.specs.Desk.{IsDesk, desk_state}
+use Rattle.ib_rule.specs.Views.{total, KnowsHeld}
 use Rattle.ib_rule.specs.Space.{SpaceState}
 
--- a pass: its number and view, whether its scratch is in it, and its words for an entry
+-- a pass: the sizes of its space, its number and view, whether its scratch is in it and free, whether a mini-transaction works in the scratch, on which pages and with which grants, and its words for an entry
 pub record PassState : Type 0 where
   pub table : TableId
-  pub latches : ℕ
+  pub sizes : Sizes
   pub number : ℕ
   pub view : View
   pub has_scratch : Bool
+  pub is_working : Bool
+  pub work : List WorkPage
+  pub memo : List (Latch × Mode)
   pub words : List ℕ
 
 -- the pass with another view
@@ -27,37 +37,38 @@ with_view p v = record p { view = v }
 
 -- the pass was drawn from this space
 abbrev pub IsFrom : SpaceState → PassState → Type 0
-IsFrom space p = (p.table ≡ space.table) × (p.latches ≡ latches_of space.sizes)
+IsFrom space p = (p.table ≡ space.table) × (p.sizes ≡ space.sizes)
 
 -- .. and has no open append
 pub record IsOf (space : SpaceState) (p : PassState) : Type 0 where
   pub table : p.table ≡ space.table
-  pub latches : p.latches ≡ latches_of space.sizes
+  pub sizes : p.sizes ≡ space.sizes
   pub closed : p.view.memory.append ≡ None
 
--- a scratch is there
-abbrev pub is_there : Option Scratch → Bool
-is_there None = false
-is_there (Some s) = true
-
 abbrev pub pass_state : Inside → PassState
-pass_state p = record { table = p.seat.table_id; latches = p.member.latches; number = p.number; view = p.seat.me.0; has_scratch = is_there p.scratch; words = p.words.items }
+pass_state p = let d = desk_state p.desk in record { table = p.seat.table_id; sizes = p.geometry; number = p.number; view = p.seat.me.0; has_scratch = d.is_free; is_working = d.is_taken; work = d.work; memo = d.memo; words = p.words.items }
 
--- an empty scratch, with room for as many grants as a session holds
-abbrev pub IsEmptyScratch : Option Scratch → Type 0
-IsEmptyScratch None = Unit {0}
-IsEmptyScratch (Some s) = (s.work ≡ []) × (s.memo.items ≡ []) × (MOST_HELD ≤ vec_capacity s.memo)
+-- what is seen fits the log, has at least a word for each entry, and has the session's own entries
+pub record IsFront (sizes : Sizes) (m : Memory) : Type 0 where
+  pub mine : length m.own ≤ length m.seen
+  pub short : length m.seen ≤ used m.seen
+  pub room : used m.seen ≤ sizes.log_words
 
 -- the fields of a pass mirror the view of its seat
 pub record IsPass (p : Inside) : Type 0 where
   pub plain : p.seat.me.1 ≡ []
   pub role : p.seat.me.0.role ≡ Session p.number
+  pub drawn : (1 ≤ p.number) × (p.number ≤ MOST_SESSIONS)
+  pub latches : p.member.latches ≡ latches_of p.geometry
   pub session : p.member.session ≡ p.seat.me.0.session
   pub counts : p.grants ≡ p.seat.me.0.grants
   pub place : p.place ≡ length p.seat.me.0.memory.seen
+  pub used : p.used ≡ used p.seat.me.0.memory.seen
   pub made : p.made ≡ length p.seat.me.0.memory.own
+  pub front : IsFront p.geometry p.seat.me.0.memory
   pub proper : IsProper p.seat.me.0.session
+  pub known : KnowsHeld p.seat.me.0
   pub few : (l : ℕ) → grants l p.seat.me.0.session ≤ MOST_HELD
   pub taken : total p.seat.me.0.grants ≤ 2 ^ 52
   pub sized : vec_len p.words ≡ ENTRY_WORDS
-  pub scratch : IsEmptyScratch p.scratch
+  pub desk : IsDesk p.desk

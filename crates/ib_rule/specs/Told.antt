@@ -23,7 +23,7 @@ use Rattle.ib_rule.specs.declared.kind.Kind.{Kind}
 use Rattle.ib_rule.specs.declared.kind.Kind.TheVariants.{Turn, Try, Recheck, Look, Count, Meet, LoadEnd, LoadLog, StorePage, StoreLog, StoreEnd}
 use Rattle.ib_rule.specs.declared.view.View.{View}
 use Rattle.ib_rule.specs.Roles.{drawn_in, ended_in, sessions_in}
-use Rattle.ib_rule.specs.Views.{total, reaching}
+use Rattle.ib_rule.specs.Views.{total, reaching, KnowsHeld}
 use Rattle.ib_rule.specs.Stores.{IsWhole, storing_page, storing_word, appending}
 use Rattle.ib_rule.specs.Steps.{event_at, view_after}
 
@@ -77,6 +77,7 @@ pub record Told (lawful : ℕ → List Entry → Type 0) (opening : ℕ → ℕ 
   pub view : After lawful opening key e kind v found w
   pub event : Happens (event_at kind v.session found) v.session found w.session
   pub proper : IsProper w.session
+  pub known : KnowsHeld w
   pub range : CanFind kind v found
   pub few : (l : ℕ) → grants l w.session ≤ 8192
   pub taken : total w.grants ≤ 2 ^ 52 * sessions_in w.role

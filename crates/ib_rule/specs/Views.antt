@@ -1,5 +1,6 @@
 -- What a seat knows, at the start and after each kind of change.
-use Rattle.std.specs.Prelude.{ℕ, ◌+◌, ◌==◌, ◌||◌, not, nat_lt, Bool, true, false, cond, if◌then◌else◌, List, [], ◌∷◌, ◌++◌, length, filter, Option, Some, None}
+use Rattle.std.specs.Prelude.{ℕ, ◌+◌, ◌<◌, ◌==◌, ◌||◌, not, nat_lt, Bool, true, false, cond, if◌then◌else◌, List, [], ◌∷◌, ◌++◌, length, filter, Option, Some, None}
+use Rattle.std.specs.List.{AllByRecursion}
 use Rattle.ib_levels.specs.declared.holding.Holding.{Holding}
 use Rattle.ib_levels.specs.declared.level.Mode.{Mode}
 use Rattle.ib_levels.specs.declared.level.Mode.TheVariants.{S, Sx, X}
@@ -90,6 +91,14 @@ abbrev pub turned_by : Option Event → ℕ → View → View
 turned_by None n v = v
 turned_by (Some e) n v = turned e n v
 
+-- the view in which the session is this: where it has nothing left on the latch, what it knew of it and had stored there ends
+abbrev pub left_as : ℕ → CoreSession → View → View
+left_as l a v = record v {
+  session = a;
+  written = filter (λ k. not (k == l) || nat_lt 0 (claims l a)) v.written;
+  memory = memory_left l a v.memory;
+}
+
 -- the writer word of the latch is stored
 abbrev pub signed : ℕ → View → View
 signed l v = record v { written = l ∷ v.written }
@@ -152,3 +161,9 @@ with_ended v w = record v { role = ended_more (ended_as w) v.role; grants = plus
 
 abbrev pub nobody : View
 nobody = seated Spent
+
+-- what a session knows is of latches that it holds, and what it has stored as a writer of those that it has in SX or X, or is the next writer of
+pub record KnowsHeld (v : View) : Type 0 where
+  pub since : AllByRecursion (λ since. 0 < holdings since.latch v.session) v.memory.since
+  pub loaded : AllByRecursion (λ x. 0 < holdings (latch_at x.place) v.session) v.memory.loaded
+  pub written : AllByRecursion (λ l. 0 < claims l v.session) v.written

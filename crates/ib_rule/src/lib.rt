@@ -4,8 +4,10 @@
 #![tactic(auto)]
 
 mod closed;
+mod desk;
 mod kind;
 mod laws;
+mod loads;
 mod looks;
 mod memory;
 mod mirror;
@@ -19,11 +21,13 @@ mod seats;
 mod sleeping;
 mod space;
 mod step;
+mod stores;
 mod takings;
 #[cfg(test)]
 mod tests;
 mod turns;
 mod view;
+mod working;
 
 pub use closed::{CloseRefused, Closed};
 pub use kind::{Kind, Op};

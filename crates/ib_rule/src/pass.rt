@@ -6,6 +6,8 @@ ghost use Rattle.ib_levels.specs.Listed.{answer_to};
 ghost use Rattle.ib_core.specs.Good.{IsProper};
 ghost use Rattle.ib_core.specs.Holders.{CanWish};
 ghost use Rattle.ib_core.specs.Sessions.{claims, idle, reads, sx_grants, x_grants};
+ghost use Rattle.ib_logrec.specs.declared.entry.TheConstants.{MOST_SESSIONS};
+ghost use Rattle.ib_logrec.specs.Log.{used};
 ghost use Rattle.ib_rule.specs.Conditions.{MayGrow, held_now};
 ghost use Rattle.ib_rule.specs.declared.view.Role.TheVariants.{Session};
 ghost use Rattle.ib_rule.specs.Gauges.{mode_held};
@@ -13,11 +15,13 @@ ghost use Rattle.ib_rule.specs.Lending.{LendsWords};
 ghost use Rattle.ib_rule.specs.declared.pass.TheConstants.{ENTRY_WORDS};
 ghost use Rattle.std.specs.Borrow.{sem};
 
+use crate::desk::Desk;
 use crate::looks::Grants;
 use crate::scratch::Scratch;
 use crate::view::View;
 use atomic_table::Seat;
 use ib_core::{Member, Phase};
+use ib_layout::Geometry;
 use ib_levels::{Against, Holding, Latch, Level, Mode};
 use std::marker::Model;
 
@@ -42,13 +46,15 @@ const _: () = prove!(MOST_GRANTS == 4_503_599_627_370_496);
 /// step takes memory. It is not dropped.
 pub struct Pass {
     pub(crate) seat: Seat<(), View>,
+    pub(crate) geometry: Geometry,
     pub(crate) number: u32,
     pub(crate) member: Member,
     pub(crate) grants: Grants,
     pub(crate) place: u32,
+    pub(crate) used: u32,
     pub(crate) made: u32,
     pub(crate) words: Vec<u64>,
-    pub(crate) scratch: Option<Scratch>,
+    pub(crate) desk: Desk,
 }
 
 impl Model for Pass {
@@ -62,9 +68,12 @@ impl Model for Pass {
 }
 
 impl Pass {
-    /// The session's number, from 1 on.
+    /// The session's number, from 1 to `MOST_SESSIONS`.
     pub fn number(&self) -> u32
-        ensures { result ≡ self.now.number }
+        ensures number { result ≡ self.now.number }
+        ensures session { self.now.view.role ≡ Session self.now.number }
+        ensures least { 1 ≤ result }
+        ensures most { result ≤ MOST_SESSIONS }
     {
         self.number
     }
@@ -76,9 +85,19 @@ impl Pass {
         self.place
     }
 
+    /// How many words the entries have that it has seen.
+    pub fn used(&self) -> u32
+        ensures used { result ≡ used self.now.view.memory.seen }
+        ensures entries { length self.now.view.memory.seen ≤ result }
+        ensures room { result ≤ self.now.sizes.log_words }
+    {
+        self.used
+    }
+
     /// How many entries it has made.
     pub fn made(&self) -> u32
-        ensures { result ≡ length self.now.view.memory.own }
+        ensures made { result ≡ length self.now.view.memory.own }
+        ensures seen { result ≤ length self.now.view.memory.seen }
     {
         self.made
     }
@@ -175,6 +194,14 @@ impl Pass {
         s + sx + x < MOST_GRANTS && self.held() < MOST_HELD as u64
     }
 
+    /// The words for an entry, as they were filled last: `ENTRY_WORDS` of them.
+    pub fn words(&self) -> &[u64]
+        ensures words { result.now ≡ self.now.words }
+        ensures size { length result.now ≡ ENTRY_WORDS }
+    {
+        self.words.as_slice()
+    }
+
     /// The words for an entry, lent to be filled: `ENTRY_WORDS` of them. The pass has no open append.
     pub fn entry_words(&mut self) -> &mut [u64]
         requires { self.old.view.memory.append ≡ None }
@@ -186,30 +213,29 @@ impl Pass {
     }
 
     /// The scratch, which is out of the pass from then on: no pages, with room for 32, and an empty
-    /// memo, with room for 8,192 grants.
+    /// memo, with room for 8,192 grants. No mini-transaction works in it.
     pub fn take_scratch(&mut self) -> Scratch
         requires { IsTrue self.old.has_scratch }
         ensures work { result.work ≡ [] }
         ensures memo { result.memo.items ≡ [] }
         ensures room { 8192 ≤ vec_capacity result.memo }
         ensures out { self.new ≡ record self.old { has_scratch = false } }
+        ensures rests { self.new.is_working ≡ false }
     {
-        let Some(scratch) = self.scratch.take() else {
-            unreachable!()
-        };
-        scratch
+        self.desk.take()
     }
 
-    /// The scratch is in the pass again, emptied.
+    /// The scratch is in the pass again, emptied. No mini-transaction works there.
     pub fn put_scratch(&mut self, scratch: Scratch)
         requires out { self.old.has_scratch ≡ false }
+        requires rests { self.old.is_working ≡ false }
         requires room { 8192 ≤ vec_capacity scratch.memo }
         ensures { self.new ≡ record self.old { has_scratch = true } }
     {
         let Scratch { mut work, mut memo } = scratch;
         work.clear();
         memo.clear();
-        self.scratch = Some(Scratch { work, memo });
+        self.desk = Desk::Free(Scratch { work, memo });
     }
 }
 
@@ -222,13 +248,15 @@ impl Pass {
     {
         let Pass {
             seat,
+            geometry: _,
             number: _,
             member: _,
             grants: _,
             place: _,
+            used: _,
             made: _,
             words: _,
-            scratch: _,
+            desk: _,
         } = self;
         seat
     }

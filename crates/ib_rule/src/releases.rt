@@ -12,8 +12,10 @@ ghost use Rattle.ib_core.specs.declared.phase.Phase.TheVariants.{Free, OwesLook}
 ghost use Rattle.ib_core.specs.Good.{IsProper};
 ghost use Rattle.ib_core.specs.Takings.{given_back, one_fewer, owed_by_s};
 ghost use Rattle.ib_core.specs.Sessions.{reads, sx_grants, x_grants};
-ghost use Rattle.ib_rule.specs.Pass.{IsOf};
+ghost use Rattle.ib_rule.specs.Afterwards.{with_step};
+ghost use Rattle.ib_rule.specs.Pass.{IsOf, with_view};
 ghost use Rattle.ib_rule.specs.Turns.{IsTurn};
+ghost use Rattle.ib_rule.specs.Views.{left_as};
 
 use crate::kind::Op;
 use crate::pass::Pass;
@@ -33,11 +35,10 @@ impl<L: Law> Space<L> {
         requires free { pass.old.view.session.phase ≡ Free }
         requires holds { 0 < reads latch.0 pass.old.view.session }
         ensures turn { IsTurn (Us latch.0) (cell_of result.0 - 1) pass.old pass.new }
-        ensures session { pass.new.view.session
-            ≡ record {
-              held = without latch.0 pass.old.view.session.held;
-              phase = owed_by_s latch.0 result.0;
-            } }
+        ensures left { pass.new ≡ with_view pass.old (with_step (left_as latch.0 (record {
+          held = without latch.0 pass.old.view.session.held;
+          phase = owed_by_s latch.0 result.0;
+        }) pass.old.view)) }
     {
         let event = Event::Us { latch: latch.0 };
         let (found, _) = self.turn(pass, event, LatchWord::Lock, Op::Add(1));
@@ -54,11 +55,10 @@ impl<L: Law> Space<L> {
         requires no_x { x_grants latch.0 pass.old.view.session ≡ 0 }
         ensures turn { IsTurn (Usx latch.0) (cell_of result.0 - X_LOCK_HALF_DECR) pass.old
             pass.new }
-        ensures session { pass.new.view.session
-            ≡ record {
-              held = without latch.0 pass.old.view.session.held;
-              phase = OwesLook latch.0;
-            } }
+        ensures left { pass.new ≡ with_view pass.old (with_step (left_as latch.0 (record {
+          held = without latch.0 pass.old.view.session.held;
+          phase = OwesLook latch.0;
+        }) pass.old.view)) }
     {
         self.last_sx_on(pass, latch)
     }
@@ -73,11 +73,10 @@ impl<L: Law> Space<L> {
         requires owns_x { 0 < x_grants latch.0 pass.old.view.session }
         ensures turn { IsTurn (Usx latch.0) (cell_of result.0 - X_LOCK_HALF_DECR) pass.old
             pass.new }
-        ensures session { pass.new.view.session
-            ≡ record {
-              held = changed latch.0 (one_fewer ModeSx) pass.old.view.session.held;
-              phase = Free;
-            } }
+        ensures left { pass.new ≡ with_view pass.old (with_step (left_as latch.0 (record {
+          held = changed latch.0 (one_fewer ModeSx) pass.old.view.session.held;
+          phase = Free;
+        }) pass.old.view)) }
     {
         self.last_sx_on(pass, latch)
     }
@@ -90,11 +89,10 @@ impl<L: Law> Space<L> {
         requires free { pass.old.view.session.phase ≡ Free }
         requires last { x_grants latch.0 pass.old.view.session ≡ 1 }
         ensures turn { IsTurn (Ux latch.0) (cell_of result.0 - X_LOCK_DECR) pass.old pass.new }
-        ensures session { pass.new.view.session
-            ≡ record {
-              held = given_back ModeX latch.0 pass.old.view.session;
-              phase = OwesLook latch.0;
-            } }
+        ensures left { pass.new ≡ with_view pass.old (with_step (left_as latch.0 (record {
+          held = given_back ModeX latch.0 pass.old.view.session;
+          phase = OwesLook latch.0;
+        }) pass.old.view)) }
     {
         let event = Event::Ux { latch: latch.0 };
         let (found, _) = self.turn(pass, event, LatchWord::Lock, Op::Add(WHOLE));
@@ -111,11 +109,10 @@ impl<L: Law> Space<L> {
         ensures turn { let x = x_grants latch.0 pass.old.view.session in
             IsTurn (Ux latch.0) (cell_of result.0 - (x_weight x - x_weight (x - 1))) pass.old
             pass.new }
-        ensures session { pass.new.view.session
-            ≡ record {
-              held = changed latch.0 (one_fewer ModeX) pass.old.view.session.held;
-              phase = Free;
-            } }
+        ensures left { pass.new ≡ with_view pass.old (with_step (left_as latch.0 (record {
+          held = changed latch.0 (one_fewer ModeX) pass.old.view.session.held;
+          phase = Free;
+        }) pass.old.view)) }
     {
         let weight = u64::from(give_x(pass.member.counts(latch).x));
         let event = Event::Ux { latch: latch.0 };

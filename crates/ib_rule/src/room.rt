@@ -1,10 +1,13 @@
 //! The memory of a pass, before it has a seat.
 
-ghost use Rattle.std.specs.Prelude.{◌≡◌, ◌<◌, ◌+◌, true, [], IfOk};
+ghost use Rattle.std.specs.Prelude.{◌≡◌, ◌<◌, ◌≤◌, ◌+◌, true, [], IfOk};
+ghost use Rattle.ib_layout.specs.Places.{latches_of};
+ghost use Rattle.ib_logrec.specs.declared.entry.TheConstants.{MOST_SESSIONS};
 ghost use Rattle.ib_rule.specs.declared.view.Role.TheVariants.{Session};
 ghost use Rattle.ib_rule.specs.Room.{IsRoom};
 ghost use Rattle.ib_rule.specs.Views.{seated};
 
+use crate::desk::Desk;
 use crate::looks::Grants;
 use crate::pass::{ENTRY_WORDS, MOST_HELD, Pass};
 use crate::scratch::Scratch;
@@ -12,6 +15,7 @@ use crate::space::OutOfMemory;
 use crate::view::View;
 use atomic_table::Seat;
 use ib_core::Member;
+use ib_layout::Geometry;
 use ib_page::WorkSet;
 use std::alloc::Global;
 
@@ -38,12 +42,14 @@ impl Room {
         })
     }
 
-    // The pass of the session with this number, by its seat.
-    pub(crate) fn into_pass(self, seat: Seat<(), View>, number: u32) -> Pass
-        requires room { IsRoom self.member.latches self }
+    // The pass of the session with this number, by its seat, in a space of these sizes.
+    pub(crate) fn into_pass(self, seat: Seat<(), View>, geometry: Geometry, number: u32) -> Pass
+        requires room { IsRoom (latches_of geometry) self }
         requires seat { seat.me ≡ (seated (Session number), []) }
+        requires least { 1 ≤ number }
+        requires most { number ≤ MOST_SESSIONS }
         ensures table { result.table ≡ seat.table_id }
-        ensures latches { result.latches ≡ self.member.latches }
+        ensures sizes { result.sizes ≡ geometry }
         ensures number { result.number ≡ number }
         ensures view { result.view ≡ seated (Session number) }
         ensures scratch { result.has_scratch ≡ true }
@@ -55,13 +61,15 @@ impl Room {
         } = self;
         Pass {
             seat,
+            geometry,
             number,
             member,
             grants: Grants::NONE,
             place: 0,
+            used: 0,
             made: 0,
             words,
-            scratch: Some(scratch),
+            desk: Desk::Free(scratch),
         }
     }
 }

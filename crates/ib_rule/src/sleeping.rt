@@ -7,10 +7,10 @@ ghost use Rattle.ib_levels.specs.declared.level.Mode.{Mode};
 ghost use Rattle.ib_layout.specs.Places.{latches_of};
 ghost use Rattle.ib_core.specs.declared.event.Event.TheVariants.{Clear, Flag, Raise};
 ghost use Rattle.ib_core.specs.declared.phase.Phase.TheVariants.{Free, OwesClear, OwesRaise, OwesRaiseEx};
-ghost use Rattle.ib_rule.specs.Pass.{IsOf};
+ghost use Rattle.ib_rule.specs.Pass.{IsOf, with_view};
 ghost use Rattle.ib_rule.specs.Conditions.{IsArmed, MayLoadExGen, MayLoadFlag, MayLoadGen, ex_gen_event, flag_event, gen_event};
 ghost use Rattle.ib_rule.specs.Turns.{IsTurn};
-ghost use Rattle.ib_rule.specs.Afterwards.{cleared, ex_loaded, flag_loaded, flagged, gen_loaded, in_phase};
+ghost use Rattle.ib_rule.specs.Afterwards.{cleared, ex_loaded, flag_loaded, flagged, gen_loaded, phased};
 
 use crate::kind::Op;
 use crate::pass::Pass;
@@ -29,9 +29,7 @@ impl<L: Law> Space<L> {
         requires may { MayLoadGen latch.0 wish pass.old.view.session
             pass.old.view.session.phase }
         ensures turn { IsTurn (gen_event latch.0 wish) result pass.old pass.new }
-        ensures session { pass.new.view.session
-            ≡ in_phase (gen_loaded latch.0 wish result pass.old.view.session.phase)
-            pass.old.view.session }
+        ensures same { pass.new ≡ with_view pass.old (phased (gen_loaded latch.0 wish result pass.old.view.session.phase) pass.old.view) }
     {
         let event = gen_event(latch.0, wish);
         self.turn(pass, event, LatchWord::Generation, Op::Load).0
@@ -45,8 +43,7 @@ impl<L: Law> Space<L> {
         requires may { MayLoadExGen latch.0 pass.old.view.session.phase }
         ensures turn { IsTurn (ex_gen_event latch.0 pass.old.view.session.phase) result pass.old
             pass.new }
-        ensures session { pass.new.view.session
-            ≡ in_phase (ex_loaded result pass.old.view.session.phase) pass.old.view.session }
+        ensures same { pass.new ≡ with_view pass.old (phased (ex_loaded result pass.old.view.session.phase) pass.old.view) }
     {
         let phase = pass.member.phase();
         let event = ex_gen_event(latch.0, phase);
@@ -59,8 +56,7 @@ impl<L: Law> Space<L> {
         requires latch { latch.0 < latches_of self.now.sizes }
         requires armed { IsArmed latch.0 pass.old.view.session.phase }
         ensures turn { (found : ℕ) × (found ≤ 1) × IsTurn (Flag latch.0) found pass.old pass.new }
-        ensures session { pass.new.view.session
-            ≡ in_phase (flagged pass.old.view.session.phase) pass.old.view.session }
+        ensures same { pass.new ≡ with_view pass.old (phased (flagged pass.old.view.session.phase) pass.old.view) }
     {
         let event = Event::Flag { latch: latch.0 };
         self.turn(pass, event, LatchWord::Waiters, Op::Swap(1));
@@ -74,8 +70,7 @@ impl<L: Law> Space<L> {
         requires may { MayLoadFlag latch.0 pass.old.view.session.phase }
         ensures turn { IsTurn (flag_event latch.0 pass.old.view.session.phase) result pass.old
             pass.new }
-        ensures session { pass.new.view.session
-            ≡ in_phase (flag_loaded result pass.old.view.session.phase) pass.old.view.session }
+        ensures same { pass.new ≡ with_view pass.old (phased (flag_loaded result pass.old.view.session.phase) pass.old.view) }
         ensures flag { result ≤ 1 }
     {
         let phase = pass.member.phase();
@@ -90,8 +85,7 @@ impl<L: Law> Space<L> {
         requires latch { latch.0 < latches_of self.now.sizes }
         requires owes { pass.old.view.session.phase ≡ OwesClear latch.0 }
         ensures turn { IsTurn (Clear latch.0) result pass.old pass.new }
-        ensures session { pass.new.view.session
-            ≡ in_phase (cleared latch.0 result) pass.old.view.session }
+        ensures same { pass.new ≡ with_view pass.old (phased (cleared latch.0 result) pass.old.view) }
         ensures flag { result ≤ 1 }
     {
         let event = Event::Clear { latch: latch.0 };
@@ -105,7 +99,7 @@ impl<L: Law> Space<L> {
         requires latch { latch.0 < latches_of self.now.sizes }
         requires owes { pass.old.view.session.phase ≡ OwesRaise latch.0 }
         ensures turn { IsTurn (Raise latch.0) (result - 1) pass.old pass.new }
-        ensures session { pass.new.view.session ≡ in_phase Free pass.old.view.session }
+        ensures same { pass.new ≡ with_view pass.old (phased Free pass.old.view) }
         ensures raised { 0 < result }
     {
         let event = Event::Raise { latch: latch.0 };
@@ -119,7 +113,7 @@ impl<L: Law> Space<L> {
         requires latch { latch.0 < latches_of self.now.sizes }
         requires owes { pass.old.view.session.phase ≡ OwesRaiseEx latch.0 }
         ensures turn { IsTurn (Raise latch.0) (result - 1) pass.old pass.new }
-        ensures session { pass.new.view.session ≡ in_phase Free pass.old.view.session }
+        ensures same { pass.new ≡ with_view pass.old (phased Free pass.old.view) }
         ensures raised { 0 < result }
     {
         let event = Event::Raise { latch: latch.0 };

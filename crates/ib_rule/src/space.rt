@@ -154,9 +154,18 @@ impl<L: Law> Space<L> {
         self.geometry
     }
 
+    /// How many numbers were drawn, at most 1,024.
+    pub fn drawn(&self) -> u32
+        ensures drawn { result ≡ self.now.drawn }
+        ensures few { result ≤ 1024 }
+    {
+        self.drawn
+    }
+
     /// How many passes are not given back yet.
     pub fn connected(&self) -> u32
-        ensures { result ≡ self.now.drawn - length self.now.ended }
+        ensures connected { result ≡ self.now.drawn - length self.now.ended }
+        ensures few { length self.now.ended ≤ self.now.drawn }
     {
         self.drawn - self.ended
     }
@@ -177,14 +186,15 @@ impl<L: Law> Space<L> {
         if self.drawn >= MOST_SESSIONS {
             return Err(ConnectFault::TooManySessions { drawn: self.drawn });
         }
-        let Ok(room) = Room::new(alloc, self.geometry.pages() + 2) else {
+        let geometry = self.geometry;
+        let Ok(room) = Room::new(alloc, geometry.pages() + 2) else {
             return Err(ConnectFault::OutOfMemory);
         };
         let mut own = take_out(&mut self.rest);
         let seat = draw(&self.table.shared, &mut own);
         put_back(&mut self.rest, own);
         self.drawn += 1;
-        Ok(room.into_pass(seat, self.drawn))
+        Ok(room.into_pass(seat, geometry, self.drawn))
     }
 
     /// The session ends, and its lists are kept. It holds nothing, its phase is free, and its
@@ -216,13 +226,15 @@ impl<L: Law> Space<L> {
         // The law of logs speaks of the numbers of pages that a space has.
         let _ = self.geometry.pages();
         tell(&self.table.shared, &mut to.seat, &mut from.seat);
-        to.place = greater(to.place, from.place);
+        let front = further((to.place, to.used), (from.place, from.used));
+        to.place = front.0;
+        to.used = front.1;
     }
 }
 
-// The greater of two numbers.
-fn greater(one: u32, other: u32) -> u32
-    ensures { result ≡ if nat_lt one other then other else one }
+// Of two fronts of the log, by entries and words, the longer one.
+fn further(one: (u32, u32), other: (u32, u32)) -> (u32, u32)
+    ensures { result ≡ if nat_lt one.0 other.0 then other else one }
 {
-    if one < other { other } else { one }
+    if one.0 < other.0 { other } else { one }
 }

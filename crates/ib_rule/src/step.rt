@@ -1,9 +1,10 @@
 //! The atomic steps under the rule. Each call says by ghosts what its step is, which picks what the
 //! step tells.
 
-ghost use Rattle.std.specs.Prelude.{◌≡◌, ◌<◌, ◌==◌};
+ghost use Rattle.std.specs.Prelude.{◌≡◌, ◌<◌, ◌==◌, ℕ};
 ghost use prog.Atomic.{either};
 ghost use Rattle.atomic_table.specs.Table.{Allows};
+ghost use Rattle.ib_logrec.specs.Words.{entry_in};
 ghost use Rattle.ib_rule.specs.Rule.{RuleHolds};
 ghost use Rattle.ib_rule.specs.Steps.{run};
 ghost use Rattle.ib_rule.specs.Told.{tells};
@@ -80,6 +81,31 @@ pub(crate) fn act<L: Law, T: Naming>(
         Op::Add(k) => shared.fetch_add::<Tells<T, L>>(seat, word, k),
         Op::Sub(k) => shared.fetch_sub::<Tells<T, L>>(seat, word, k),
     }
+}
+
+// A store of a word of the entry at the front of `words`.
+pub(crate) fn store<L: Law, T: Naming>(
+    shared: &Board<L>,
+    seat: &mut Seat<(), View>,
+    words: &[u64],
+    word: usize,
+    value: u64,
+    kind: Kind,
+)
+    requires kind { kind ≡ T.kind }
+    requires key { shared.now.key ≡ T.key }
+    requires entry { entry_in words.now ≡ T.entry }
+    requires own { seat.old.table_id ≡ shared.now.table_id }
+    requires range { word < shared.now.table_id.words }
+    requires allowed { Allows (RuleHolds L.lawful L.opening shared.now.key)
+        shared.now.table_id.slots seat.old.id seat.old.me word (λ _. value)
+        (tells L.lawful L.opening shared.now.key (entry_in words.now) kind seat.old.me) }
+    ensures own { (seat.new.table_id ≡ seat.old.table_id) × (seat.new.id ≡ seat.old.id) }
+    ensures told { (n : ℕ) × tells L.lawful L.opening shared.now.key (entry_in words.now) kind
+        seat.old.me n seat.new.me }
+{
+    let _ = words;
+    act::<L, T>(shared, seat, word, Op::Swap(value), kind);
 }
 
 // One exchange of the word for a new one, where it is the old one. It answers the word found.

@@ -1,6 +1,6 @@
 //! The steps that look at a lock word and take grants.
 
-ghost use Rattle.std.specs.Prelude.{◌≡◌, ◌≢◌, ◌+◌, ◌-◌, ◌<◌, true, false, IsTrue, IsOk, pos, ◌-ℤ◌, if◌then◌else◌};
+ghost use Rattle.std.specs.Prelude.{◌≡◌, ◌≢◌, ◌+◌, ◌-◌, ◌<◌, true, false, IsTrue, IsOk, IfErr, pos, ◌-ℤ◌, if◌then◌else◌};
 ghost use Rattle.ib_word.specs.Word.{IsCounted, cell_of};
 ghost use Rattle.ib_word.specs.Weight.{x_weight};
 ghost use Rattle.ib_word.specs.declared.word.TheConstants.{X_LOCK_DECR, X_LOCK_HALF_DECR};
@@ -15,12 +15,12 @@ ghost use Rattle.ib_core.specs.Responses.{is_above_0};
 ghost use Rattle.ib_core.specs.Sessions.{claims, sx_grants, x_grants};
 ghost use Rattle.ib_core.specs.Holders.{OwnsSx};
 ghost use Rattle.ib_rule.specs.Pass.{IsOf, with_view};
-ghost use Rattle.ib_rule.specs.Views.{signed};
+ghost use Rattle.ib_rule.specs.Views.{KnowsHeld, left_as, signed};
 ghost use Rattle.ib_rule.specs.Steps.{event_at, view_after};
 ghost use Rattle.ib_rule.specs.Conditions.{MayGrow, MayTry, try_event, word_kind, writer_event};
 ghost use Rattle.ib_rule.specs.Told.{Happens};
 ghost use Rattle.ib_rule.specs.Turns.{IsTry, IsTurn};
-ghost use Rattle.ib_rule.specs.Afterwards.{in_phase, word_loaded};
+ghost use Rattle.ib_rule.specs.Afterwards.{granted, looked_on, phased, tried_on, with_step, word_loaded};
 
 use crate::kind::Op;
 use crate::pass::Pass;
@@ -46,19 +46,11 @@ impl<L: Law> Space<L> {
             (event_at (word_kind latch.0 pass.old.view.session.phase) pass.old.view.session
             (cell_of result.0)) pass.old.view.session (cell_of result.0)
             pass.new.view.session }
-        ensures session { pass.new.view.session ≡ in_phase
+        ensures same { pass.new ≡ with_view pass.old (looked_on latch.0 result (phased
             (word_loaded latch.0 (cell_of result.0) pass.old.view.session
-            pass.old.view.session.phase) pass.old.view.session }
+            pass.old.view.session.phase) pass.old.view)) }
     {
-        let found = match pass.member.phase() {
-            Phase::Next { latch: at, .. } | Phase::NextArmed { latch: at, .. } if at == latch.0 => {
-                let event = Event::Ready { latch: latch.0 };
-                self.turn(pass, event, LatchWord::Lock, Op::Load).0
-            }
-            Phase::Flagged { latch: at, .. } if at == latch.0 => self.recheck(pass, latch),
-            _ => self.look(pass, latch),
-        };
-        from_cell(found)
+        self.loaded_word(pass, latch)
     }
 
     /// Takes S: one exchange that takes 1 off the lock word, where it is the expected one. Else it
@@ -78,11 +70,12 @@ impl<L: Law> Space<L> {
         requires given { IsTrue (is_given_at ModeS expected.0) }
         ensures tried { IsTry (try_event ModeS latch.0 level pass.old.view.session.phase) expected
             result pass.old pass.new }
-        ensures session { IsOk result → pass.new.view.session
-            ≡ record {
-              held = holding_too ModeS latch.0 level pass.old.view.session.held;
-              phase = Free;
-            } }
+        ensures taken { IsOk result → pass.new ≡ with_view pass.old (granted ModeS (record {
+          held = holding_too ModeS latch.0 level pass.old.view.session.held;
+          phase = Free;
+        }) (tried_on latch.0 expected expected pass.old.view)) }
+        ensures lost { IfErr result (λ found. pass.new
+            ≡ with_view pass.old (tried_on latch.0 expected found pass.old.view)) }
     {
         self.first_off(pass, Mode::S, latch, level, expected)
     }
@@ -105,11 +98,12 @@ impl<L: Law> Space<L> {
         requires given { IsTrue (is_given_at ModeSx expected.0) }
         ensures tried { IsTry (try_event ModeSx latch.0 level pass.old.view.session.phase) expected
             result pass.old pass.new }
-        ensures session { IsOk result → pass.new.view.session
-            ≡ record {
-              held = holding_too ModeSx latch.0 level pass.old.view.session.held;
-              phase = Free;
-            } }
+        ensures taken { IsOk result → pass.new ≡ with_view pass.old (granted ModeSx (record {
+          held = holding_too ModeSx latch.0 level pass.old.view.session.held;
+          phase = Free;
+        }) (tried_on latch.0 expected expected pass.old.view)) }
+        ensures lost { IfErr result (λ found. pass.new
+            ≡ with_view pass.old (tried_on latch.0 expected found pass.old.view)) }
     {
         self.first_off(pass, Mode::Sx, latch, level, expected)
     }
@@ -133,9 +127,12 @@ impl<L: Law> Space<L> {
         requires given { IsTrue (is_given_at ModeX expected.0) }
         ensures tried { IsTry (try_event ModeX latch.0 level pass.old.view.session.phase) expected
             result pass.old pass.new }
-        ensures session { IsOk result → pass.new.view.session
-            ≡ (reserving latch.0 level (expected.0 -ℤ pos X_LOCK_DECR)
-            (holding_too ModeX latch.0 level pass.old.view.session.held)).session }
+        ensures taken { IsOk result → pass.new ≡ with_view pass.old (granted ModeX
+            (reserving latch.0 level (expected.0 -ℤ pos X_LOCK_DECR)
+            (holding_too ModeX latch.0 level pass.old.view.session.held)).session
+            (tried_on latch.0 expected expected pass.old.view)) }
+        ensures lost { IfErr result (λ found. pass.new
+            ≡ with_view pass.old (tried_on latch.0 expected found pass.old.view)) }
     {
         self.first_off(pass, Mode::X, latch, level, expected)
     }
@@ -152,10 +149,13 @@ impl<L: Law> Space<L> {
         requires grows { MayGrow pass.old.view }
         requires given { IsTrue (is_above_0 expected.0) }
         ensures tried { IsTry (XEvent latch.0 Log) expected result pass.old pass.new }
-        ensures session { IsOk result → pass.new.view.session
-            ≡ (reserving latch.0 (level_on latch.0 Log pass.old.view.session.held)
+        ensures taken { IsOk result → pass.new ≡ with_view pass.old (granted ModeX
+            (reserving latch.0 (level_on latch.0 Log pass.old.view.session.held)
             (expected.0 -ℤ pos X_LOCK_DECR)
-            (changed latch.0 (one_more ModeX) pass.old.view.session.held)).session }
+            (changed latch.0 (one_more ModeX) pass.old.view.session.held)).session
+            (tried_on latch.0 expected expected pass.old.view)) }
+        ensures lost { IfErr result (λ found. pass.new
+            ≡ with_view pass.old (tried_on latch.0 expected found pass.old.view)) }
     {
         let event = Event::X {
             latch: latch.0,
@@ -178,11 +178,10 @@ impl<L: Law> Space<L> {
         ensures turn { let x = x_grants latch.0 pass.old.view.session in
             IsTurn (XEvent latch.0 Log) (cell_of result.0 + (x_weight (x + 1) - x_weight x))
             pass.old pass.new }
-        ensures session { pass.new.view.session
-            ≡ record {
-              held = changed latch.0 (one_more ModeX) pass.old.view.session.held;
-              phase = Free;
-            } }
+        ensures taken { pass.new ≡ with_view pass.old (granted ModeX (record {
+          held = changed latch.0 (one_more ModeX) pass.old.view.session.held;
+          phase = Free;
+        }) (with_step pass.old.view)) }
     {
         let weight = u64::from(again_x(pass.member.counts(latch).x));
         let event = Event::X {
@@ -204,11 +203,10 @@ impl<L: Law> Space<L> {
         requires grows { MayGrow pass.old.view }
         ensures turn { IsTurn (SxEvent latch.0 Log) (cell_of result.0 + X_LOCK_HALF_DECR)
             pass.old pass.new }
-        ensures session { pass.new.view.session
-            ≡ record {
-              held = changed latch.0 (one_more ModeSx) pass.old.view.session.held;
-              phase = Free;
-            } }
+        ensures taken { pass.new ≡ with_view pass.old (granted ModeSx (record {
+          held = changed latch.0 (one_more ModeSx) pass.old.view.session.held;
+          phase = Free;
+        }) (with_step pass.old.view)) }
     {
         let event = Event::Sx {
             latch: latch.0,
@@ -228,12 +226,14 @@ impl<L: Law> Space<L> {
         requires more { IsTrue back → 1 < sx_grants latch.0 pass.old.view.session }
         requires grows { back ≡ false → MayGrow pass.old.view }
         ensures turn { IsTurn (writer_event latch.0 back) result pass.old pass.new }
-        ensures session { pass.new.view.session
-            ≡ record {
-              held = changed latch.0 (if back then one_fewer ModeSx else one_more ModeSx)
-                  pass.old.view.session.held;
-              phase = Free;
-            } }
+        ensures taken { back ≡ false → pass.new ≡ with_view pass.old (granted ModeSx (record {
+          held = changed latch.0 (one_more ModeSx) pass.old.view.session.held;
+          phase = Free;
+        }) pass.old.view) }
+        ensures given { IsTrue back → pass.new ≡ with_view pass.old (left_as latch.0 (record {
+          held = changed latch.0 (one_fewer ModeSx) pass.old.view.session.held;
+          phase = Free;
+        }) pass.old.view) }
     {
         let event = writer_event(latch.0, back);
         self.turn(pass, event, LatchWord::Writer, Op::Load).0
@@ -248,6 +248,31 @@ impl<L: Law> Space<L> {
         ensures { pass.new ≡ with_view pass.old (signed latch.0 pass.old.view) }
     {
         self.sign(pass, latch);
+    }
+
+    // The load of the lock word, as the kind of step that it is in each phase.
+    fn loaded_word(&self, pass: &mut Pass, latch: Latch) -> LockWord
+        requires own { IsOf self.now pass.old }
+        requires latch { latch.0 < latches_of self.now.sizes }
+        ensures counted { IsCounted result.0 }
+        ensures view { pass.new ≡ with_view pass.old
+            (view_after (word_kind latch.0 pass.old.view.session.phase) (cell_of result.0)
+            pass.old.view) }
+        ensures event { Happens
+            (event_at (word_kind latch.0 pass.old.view.session.phase) pass.old.view.session
+            (cell_of result.0)) pass.old.view.session (cell_of result.0)
+            pass.new.view.session }
+        ensures known { KnowsHeld pass.old.view }
+    {
+        let found = match pass.member.phase() {
+            Phase::Next { latch: at, .. } | Phase::NextArmed { latch: at, .. } if at == latch.0 => {
+                let event = Event::Ready { latch: latch.0 };
+                self.turn(pass, event, LatchWord::Lock, Op::Load).0
+            }
+            Phase::Flagged { latch: at, .. } if at == latch.0 => self.recheck(pass, latch),
+            _ => self.look(pass, latch),
+        };
+        from_cell(found)
     }
 }
 

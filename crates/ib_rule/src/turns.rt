@@ -11,7 +11,8 @@ ghost use Rattle.ib_core.specs.Sessions.{claims};
 ghost use Rattle.ib_core.specs.Turns.{Leaves, turn_at, word_for};
 ghost use Rattle.ib_rule.specs.declared.kind.Kind.TheVariants.{Look, Recheck, Try, Turn};
 ghost use Rattle.ib_rule.specs.Pass.{IsOf, with_view};
-ghost use Rattle.ib_rule.specs.Views.{signed};
+ghost use Rattle.ib_rule.specs.Afterwards.{granted, looked_on, tried_on};
+ghost use Rattle.ib_rule.specs.Views.{KnowsHeld, signed};
 ghost use Rattle.ib_rule.specs.Steps.{event_at, place_of, run, view_after};
 ghost use Rattle.ib_rule.specs.Told.{CanBe, Happens, IsEvent};
 ghost use Rattle.ib_rule.specs.Conditions.{CanTake, MayGrow, MayTry, found_by, try_event};
@@ -71,6 +72,7 @@ impl<L: Law> Space<L> {
         ensures event { IsEvent event pass.old.view.session result.1 pass.new.view.session }
         ensures found { CanBe word (latch_of event) pass.old.view.session result.0 }
         ensures proper { IsProper pass.old.view.session }
+        ensures known { KnowsHeld pass.old.view }
     {
         let place = place(&self.geometry, word, Latch(event.latch()));
         let before = pass.member.phase();
@@ -111,9 +113,12 @@ impl<L: Law> Space<L> {
         ensures answer { IfOk result (λ answer. answer
             ≡ (turn_at event (cell_of expected.0) pass.old.view.session).answer) }
         ensures lost { IfErr result (λ found. found.0 ≢ expected.0) }
+        ensures refused { IfErr result (λ found. pass.new
+            ≡ with_view pass.old (tried_on (latch_of event) expected found pass.old.view)) }
         ensures found { CanBe Lock (latch_of event) pass.old.view.session
             (found_by result expected) }
         ensures proper { IsProper pass.old.view.session }
+        ensures known { KnowsHeld pass.old.view }
     {
         let place = place(&self.geometry, LatchWord::Lock, Latch(event.latch()));
         let before = pass.member.phase();
@@ -221,9 +226,12 @@ impl<L: Law> Space<L> {
             pass.old.view.session
             (turn_at (try_event mode latch.0 level pass.old.view.session.phase)
             (cell_of expected.0) pass.old.view.session).answer pass.new.view.session }
-        ensures session { IsOk result → pass.new.view.session
-            ≡ (first_response mode latch.0 level (expected.0 -ℤ pos (first_weight mode))
-            (holding_too mode latch.0 level pass.old.view.session.held)).session }
+        ensures taken { IsOk result → pass.new ≡ with_view pass.old (granted mode
+            (first_response mode latch.0 level (expected.0 -ℤ pos (first_weight mode))
+            (holding_too mode latch.0 level pass.old.view.session.held)).session
+            (tried_on latch.0 expected expected pass.old.view)) }
+        ensures refused { IfErr result (λ found. pass.new
+            ≡ with_view pass.old (tried_on latch.0 expected found pass.old.view)) }
         ensures lost { IfErr result (λ found. found.0 ≢ expected.0) }
     {
         let event = try_event(mode, latch.0, level, pass.member.phase());

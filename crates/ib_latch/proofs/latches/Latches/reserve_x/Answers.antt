@@ -1,5 +1,5 @@
 -- A reservation beside one's own X.
-use Rattle.std.proofs.Common.{◌≡◌, arith, subst, sym, List}
+use Rattle.std.proofs.Common.{arith, subst, sym, List}
 use Rattle.ib_levels.specs.declared.holding.Holding.{Holding}
 use Rattle.ib_levels.specs.declared.level.Mode.TheVariants.{X}
 use Rattle.ib_core.specs.declared.phase.Phase.TheVariants.{Free}

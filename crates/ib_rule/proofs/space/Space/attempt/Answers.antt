@@ -37,7 +37,7 @@ pub invariant_of-pass-2 : goal.invariant_of-pass-2
 invariant_of-pass-2 g c =
     let told = c.exchange-found.ensures.told in
     pass_turned c.pass.inside _ c.args.event c.exchange-found.result c.turn_on-answer.result _ c.pass.invariant
-    told.1 (told.0.view ∙ ap (λ b. with_looks (looked (latch_of c.args.event) c.exchange-found.result (Some c.to_cell-old.result) c.pass.inside.seat.me.0.looks) (turned_by (if b then Some c.args.event else None) c.exchange-found.result c.pass.inside.seat.me.0)) (eq-eqb c.exchange-found.result c.to_cell-old.result c.if-found-old.false)) told.0.proper told.0.few told.0.taken
+    told.1 (told.0.view ∙ ap (λ b. with_looks (looked (latch_of c.args.event) c.exchange-found.result (Some c.to_cell-old.result) c.pass.inside.seat.me.0.looks) (turned_by (if b then Some c.args.event else None) c.exchange-found.result c.pass.inside.seat.me.0)) (eq-eqb c.exchange-found.result c.to_cell-old.result c.if-found-old.false)) told.0.proper told.0.known told.0.few told.0.taken
     c.turn_on-answer.ensures.turn
     (rw c.phase-before.ensures at c.counted-pass-inside.ensures)
-    refl refl refl refl refl
+    c.turn_on-answer.ensures.latches refl refl refl refl refl refl refl

@@ -1,14 +1,16 @@
 -- A first try takes off what it weighs.
-use Rattle.std.proofs.Common.{ap, ◌∙◌}
+use Rattle.std.proofs.Common.{ℕ, ap, ◌∙◌}
 use Rattle.ib_word.specs.Word.{cell_of}
 use Rattle.ib_core.specs.declared.session.Session.{Session}
+use Rattle.ib_core.specs.Responses.{latch_of}
 use Rattle.ib_core.specs.Turns.{word_for}
 use Rattle.ib_rule.specs.declared.kind.Kind.TheVariants.{Try}
-use Rattle.ib_rule.specs.Pass.{PassState}
+use Rattle.ib_rule.specs.Afterwards.{tried_on}
+use Rattle.ib_rule.specs.Pass.{PassState, with_view}
 use Rattle.ib_rule.specs.Steps.{view_after}
 use Rattle.ib_rule.specs.Conditions.{try_event}
 use Rattle.ib_rule.proofs.LockSteps.{first_word, first_try}
-use Rattle.ib_rule.proofs.Results.{first_taken}
+use Rattle.ib_rule.proofs.Outcomes.{first_view, try_latch}
 use Rattle.ib_rule.proofs.space.Space.first_off.Goals as goal
 
 pub attempt-requires-clause-word : goal.attempt-requires-clause-word
@@ -21,8 +23,14 @@ attempt-requires-clause-step g c =
     let is = c.try_event-event.ensures ∙ ap (try_event c.args.mode c.args.latch.0 c.args.level) (c.phase.ensures ∙ (ap (λ (a : Session). a.phase) c.pass.invariant.session ∙ ap (λ (p : PassState). p.view.session.phase) c.pass.view_is)) in
     λ _ _. first_try c.args.pass.now.view c.args.latch.0 c.args.level c.args.mode c.args.expected.0 c.try_event-event.result c.first_weight.result is c.first_weight.ensures c.requires.may c.requires.grows c.requires.given
 
-pub returns-in-Ok-clause-session : goal.returns-in-Ok-clause-session
-returns-in-Ok-clause-session g c =
+pub returns-in-Ok-clause-taken : goal.returns-in-Ok-clause-taken
+returns-in-Ok-clause-taken g c =
+    let p = c.args.pass.now in
     let is = c.try_event-event.ensures ∙ ap (try_event c.args.mode c.args.latch.0 c.args.level) (c.phase.ensures ∙ (ap (λ (a : Session). a.phase) c.pass.invariant.session ∙ ap (λ (p : PassState). p.view.session.phase) c.pass.view_is)) in
-    λ _. first_taken c.args.pass.now.view _ c.args.latch.0 c.args.level c.args.expected.0 c.args.mode c.requires.may c.requires.given
-    (ap (λ (p : PassState). p.view) c.in-Ok.ensures.view ∙ ap (λ e. view_after (Try e (cell_of c.args.expected.0)) (cell_of c.args.expected.0) c.args.pass.now.view) is)
+    λ _. c.in-Ok.ensures.view ∙ ap (λ e. with_view p (view_after (Try e (cell_of c.args.expected.0)) (cell_of c.args.expected.0) p.view)) is
+    ∙ ap (with_view p) (first_view p.view c.args.latch.0 c.args.expected.0 c.attempt.ensures.known c.args.mode c.args.level c.requires.may c.requires.given)
+
+pub returns-in-Err-clause-refused : goal.returns-in-Err-clause-refused
+returns-in-Err-clause-refused g c =
+    let is = c.try_event-event.ensures ∙ ap (try_event c.args.mode c.args.latch.0 c.args.level) (c.phase.ensures ∙ (ap (λ (a : Session). a.phase) c.pass.invariant.session ∙ ap (λ (p : PassState). p.view.session.phase) c.pass.view_is)) in
+    c.in-Err.ensures.refused ∙ ap (λ (l : ℕ). with_view c.args.pass.now (tried_on l c.args.expected c.in-Err.found c.args.pass.now.view)) (ap latch_of is ∙ try_latch c.args.mode c.args.latch.0 c.args.level c.args.pass.now.view.session.phase)

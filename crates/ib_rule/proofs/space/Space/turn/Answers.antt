@@ -32,7 +32,7 @@ pub invariant_of-pass : goal.invariant_of-pass
 invariant_of-pass g c =
     let told = c.act-found.ensures.told in
     pass_turned c.pass.inside _ c.args.event c.act-found.result c.turn_on-answer.result _ c.pass.invariant
-    told.1 told.0.view told.0.proper told.0.few told.0.taken
+    told.1 told.0.view told.0.proper told.0.known told.0.few told.0.taken
     c.turn_on-answer.ensures.turn
     (rw c.phase-before.ensures at c.counted-pass-inside.ensures)
-    refl refl refl refl refl
+    c.turn_on-answer.ensures.latches refl refl refl refl refl refl refl

@@ -1,8 +1,8 @@
 use Rattle.std.proofs.Common.{◌≤◌, ap, sym, ◌∙◌, subst}
 use Rattle.ib_core.specs.Sessions.{holdings, x_grants}
-use Rattle.ib_rule.specs.Pass.{PassState}
+use Rattle.ib_rule.specs.Pass.{PassState, with_view}
 use Rattle.ib_rule.proofs.LockSteps.{either_small, further_x_step}
-use Rattle.ib_rule.proofs.Results.{further_x_session}
+use Rattle.ib_rule.proofs.Outcomes.{further_x_view}
 use Rattle.ib_rule.proofs.space.Space.x_off_again.Goals as goal
 
 pub counts-requires : goal.counts-requires
@@ -11,5 +11,5 @@ counts-requires g c = subst (λ a. holdings c.args.latch.0 a ≤ 1) (sym c.pass.
 pub turn-found-requires-clause-step : goal.turn-found-requires-clause-step
 turn-found-requires-clause-step g c = λ proper n found. further_x_step c.args.pass.now.view c.args.latch.0 n c.requires.free proper c.from-weight.result c.counts.result.x c.requires.grows (c.counts.ensures.x ∙ (ap (x_grants c.args.latch.0) c.pass.invariant.session ∙ ap (λ (p : PassState). x_grants c.args.latch.0 p.view.session) c.pass.view_is)) c.requires.owns (rw c.from-weight.ensures c.again_x.ensures.weighs) (either_small _ c.from-weight.result (c.from-weight.ensures ∙ c.again_x.ensures.table)) found
 
-pub returns-clause-session : goal.returns-clause-session
-returns-clause-session g c = further_x_session c.args.pass.now.view _ c.args.latch.0 _ c.requires.free c.turn-found.ensures.proper c.requires.owns (ap (λ (p : PassState). p.view) c.turn-found.ensures.view)
+pub returns-clause-taken : goal.returns-clause-taken
+returns-clause-taken g c = c.turn-found.ensures.view ∙ ap (with_view c.args.pass.now) (further_x_view c.args.pass.now.view c.args.latch.0 c.turn-found.result.0 c.turn-found.ensures.known c.requires.free c.turn-found.ensures.proper c.requires.owns)

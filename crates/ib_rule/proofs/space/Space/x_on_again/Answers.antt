@@ -1,7 +1,11 @@
-use Rattle.std.proofs.Common.{◌≤◌, ap, sym, ◌∙◌, subst, arith}
+use Rattle.std.proofs.Common.{◌≤◌, refl, ap, sym, ◌∙◌, subst, arith}
 use Rattle.ib_core.specs.Sessions.{holdings, x_grants}
-use Rattle.ib_rule.specs.Pass.{PassState}
+use Rattle.ib_core.specs.declared.event.Event.TheVariants.{Ux}
+use Rattle.ib_rule.specs.Pass.{PassState, with_view}
 use Rattle.ib_rule.proofs.LockSteps.{either_small, x_back_step}
+use Rattle.ib_rule.specs.declared.kind.Kind.TheVariants.{Turn}
+use Rattle.ib_rule.specs.Steps.{view_after}
+use Rattle.ib_rule.proofs.Outcomes.{x_back_view}
 use Rattle.ib_rule.proofs.Results.{x_back_session}
 use Rattle.ib_rule.proofs.space.Space.x_on_again.Goals as goal
 
@@ -11,5 +15,7 @@ counts-requires g c = subst (λ a. holdings c.args.latch.0 a ≤ 1) (sym c.pass.
 pub turn-found-requires-clause-step : goal.turn-found-requires-clause-step
 turn-found-requires-clause-step g c = λ proper n found. x_back_step c.args.pass.now.view c.args.latch.0 n c.requires.free proper c.from-weight.result c.counts.result.x (c.counts.ensures.x ∙ (ap (x_grants c.args.latch.0) c.pass.invariant.session ∙ ap (λ (p : PassState). x_grants c.args.latch.0 p.view.session) c.pass.view_is)) (omega arith) (rw c.from-weight.ensures c.give_x.ensures.weighs) (either_small _ c.from-weight.result (c.from-weight.ensures ∙ c.give_x.ensures.table)) found
 
-pub returns-clause-session : goal.returns-clause-session
-returns-clause-session g c = x_back_session c.args.pass.now.view _ c.args.latch.0 _ c.requires.free c.turn-found.ensures.proper c.requires.more (ap (λ (p : PassState). p.view) c.turn-found.ensures.view)
+pub returns-clause-left : goal.returns-clause-left
+returns-clause-left g c =
+    let v = c.args.pass.now.view in let n = c.turn-found.result.0 in
+    c.turn-found.ensures.view ∙ ap (with_view c.args.pass.now) (x_back_view v (view_after (Turn (Ux c.args.latch.0)) n v) c.args.latch.0 n _ refl (x_back_session v _ c.args.latch.0 n c.requires.free c.turn-found.ensures.proper c.requires.more refl))

@@ -1,0 +1,147 @@
+-- Sessions that wait: nothing is changed but the phase and the looks.
+use Rattle.std.proofs.Common.{◌≡◌, ◌≢◌, inl, ℕ, ◌+◌, ◌≤◌, List, ◌∷◌, Some, None, Bool, true, false, pos, ◌-ℤ◌, eq-eqb, refl, sym, ap, ◌∙◌, subst, arith}
+use Rattle.std.specs.Prelude.{◌==◌, if◌then◌else◌}
+use Rattle.ib_word.specs.Word.{cell_of, word_in}
+use Rattle.ib_word.specs.declared.word.TheConstants.{X_LOCK_DECR}
+use Rattle.ib_word.specs.declared.word.LockWord.{LockWord}
+use Rattle.ib_levels.specs.declared.level.Level.{Level}
+use Rattle.ib_levels.specs.declared.level.Mode.{Mode}
+use Rattle.ib_levels.specs.declared.level.Mode.TheVariants.{S, Sx, X}
+use Rattle.ib_levels.specs.Holding.{changed}
+use Rattle.ib_levels.specs.declared.level.Level.TheVariants.{Log}
+use Rattle.ib_core.specs.declared.phase.Phase.{Phase}
+use Rattle.ib_core.specs.declared.phase.Phase.TheVariants.{Free, Next, NextArmed, NextChecked}
+use Rattle.ib_core.specs.Responses.{is_drained}
+use Rattle.ib_core.specs.Sessions.{sx_grants}
+use Rattle.ib_core.specs.Table.{owns_x_at}
+use Rattle.ib_core.specs.declared.session.Session.{Session}
+use Rattle.ib_core.specs.Takings.{holding_too, is_given_at, level_on, one_more}
+use Rattle.ib_rule.specs.declared.looks.Look.{Look}
+use Rattle.ib_rule.specs.declared.looks.Looks.{Looks}
+use Rattle.ib_rule.specs.declared.view.View.{View}
+use Rattle.ib_rule.specs.Afterwards.{looked_on, phased, tried_on, word_loaded}
+use Rattle.ib_rule.specs.Laws.{Stores}
+use Rattle.ib_rule.specs.Pass.{PassState, with_view}
+use Rattle.ib_rule.specs.Views.{with_looks}
+use Rattle.ib_latch.specs.declared.tries.Reserve.{Reserve}
+use Rattle.ib_latch.specs.declared.tries.Reserve.TheVariants.{Owned, Next as NextWriter}
+use Rattle.ib_latch.specs.Tries.{IsTaken, first_session, looked_at, lost_at, phase_by, phase_of, reserve_at, upgraded, won_with}
+use Rattle.ib_latch.specs.Waits.{EndsAsReserved, EndsOwned, IsStill, IsUpgraded, IsWon, reserved_by}
+use Rattle.ib_latch.proofs.Takes.{won_taken}
+
+-- a pass in another phase, with other looks
+pub view_still : (f : Phase) (k : Looks) (p q : PassState) → q ≡ with_view p (with_looks k (phased f p.view)) → p.view.looks.count ≤ k.count → IsStill f p q
+view_still f k p q is more =
+    let looks : q.view.looks ≡ k = ap (λ (q : PassState). q.view.looks) is in record {
+      same = is ∙ ap (λ (k : Looks). with_view p (with_looks k (phased f p.view))) (sym looks);
+      looks = subst (λ (k : Looks). p.view.looks.count ≤ k.count) (sym looks) more;
+    }
+
+pub phased_still : (f : Phase) (p q : PassState) → q ≡ with_view p (phased f p.view) → IsStill f p q
+phased_still f p q is = view_still f p.view.looks p q is (omega arith)
+
+pub looked_still : (f : Phase) (l : ℕ) (w : LockWord) (p q : PassState) → q ≡ with_view p (looked_on l w (phased f p.view)) → IsStill f p q
+looked_still f l w p q is = view_still f (looked_on l w p.view).looks p q is (omega arith)
+
+-- a view is itself in its own phase
+as_phased : (f : Phase) (v : View) → v.session.phase ≡ f → v ≡ phased f v
+as_phased f v is = λ j. record v { session = record v.session { phase = is j } }
+
+pub raced_still : (f : Phase) (l : ℕ) (w found : LockWord) (p q : PassState) → p.view.session.phase ≡ f → q ≡ lost_at l w found (looked_at l w p) → IsStill f p q
+raced_still f l w found p q phase is =
+    view_still f (tried_on l w found (looked_on l w p.view)).looks p q (is ∙ ap (λ (v : View). with_view p (tried_on l w found (looked_on l w v))) (as_phased f p.view phase)) (omega arith)
+
+-- one after the other
+pub still_then : (f g : Phase) (p q r : PassState) → IsStill f p q → IsStill g q r → IsStill g p r
+still_then f g p q r a b = record {
+  same = b.same ∙ ap (λ (q : PassState). with_view q (with_looks r.view.looks (phased g q.view))) a.same;
+  looks = let x = a.looks in let y = b.looks in omega arith;
+}
+
+-- what the next writer owns X by is the same while it waits
+pub still_owned : (f : Phase) (l : ℕ) (k : Looks) (p q : PassState) → IsStill f p q → EndsOwned (sx_grants l q.view.session) l k → EndsOwned (sx_grants l p.view.session) l k
+still_owned f l k p q still owned = subst (λ (sx : ℕ). EndsOwned sx l k) (ap (λ (q : PassState). sx_grants l q.view.session) still.same) owned
+
+-- who was the next writer and is free has found a word at which it owns X
+owns_at : (sx n : ℕ) (waiting : Phase) → waiting ≢ Free → (if owns_x_at sx (word_in n) then Free else waiting) ≡ Free → owns_x_at sx (word_in n) ≡ true
+owns_at sx n waiting waits is = by_test (owns_x_at sx (word_in n)) refl is
+  where
+    by_test : (b : Bool) → owns_x_at sx (word_in n) ≡ b → (if b then Free else waiting) ≡ Free → owns_x_at sx (word_in n) ≡ true
+    by_test true found free = found
+    by_test false found free = absurd (waits free)
+
+module _ (l : ℕ) (w : LockWord) (p q : PassState) (is : q ≡ with_view p (looked_on l w (phased (word_loaded l (cell_of w.0) p.view.session p.view.session.phase) p.view))) (free : q.view.session.phase ≡ Free) where
+  owned_by : (waiting other : Phase) → waiting ≢ Free → word_loaded l (cell_of w.0) p.view.session p.view.session.phase ≡ (if l == l then (if owns_x_at (sx_grants l p.view.session) (word_in (cell_of w.0)) then Free else waiting) else other) → EndsOwned (sx_grants l p.view.session) l q.view.looks
+  owned_by waiting other waits row =
+      let here = ap (λ b. if b then (if owns_x_at (sx_grants l p.view.session) (word_in (cell_of w.0)) then Free else waiting) else other) (eq-eqb l l refl) in
+      record {
+        found = cell_of w.0;
+        owned = owns_at (sx_grants l p.view.session) (cell_of w.0) waiting waits (sym (row ∙ here) ∙ (sym (ap (λ (q : PassState). q.view.session.phase) is) ∙ free));
+        at = p.view.looks.steps;
+        before = p.view.looks.all;
+        last = ap (λ (q : PassState). q.view.looks.all) is;
+      }
+
+  pub next_owned : (v : Level) → p.view.session.phase ≡ Next l v → EndsOwned (sx_grants l p.view.session) l q.view.looks
+  next_owned v next = owned_by (Next l v) (Next l v) (λ e. absurd (cc)) (ap (word_loaded l (cell_of w.0) p.view.session) next)
+
+  pub armed_owned : (v : Level) (g : ℕ) → p.view.session.phase ≡ NextArmed l v g → EndsOwned (sx_grants l p.view.session) l q.view.looks
+  armed_owned v g armed = owned_by (NextChecked l v g) (NextArmed l v g) (λ e. absurd (cc)) (ap (word_loaded l (cell_of w.0) p.view.session) armed)
+
+-- who reserved X by a won exchange, and is no next writer, owns it by that
+as_reserved : (l : ℕ) (v : Level) (w : LockWord) (k : Looks) (at : ℕ) (before : List Look)
+    → k.all ≡ record { latch = l; found = cell_of w.0; expected = Some (cell_of w.0); at = at + 1 } ∷ record { latch = l; found = cell_of w.0; expected = None; at = at } ∷ before
+    → EndsAsReserved l (phase_of l v (reserve_at (w.0 -ℤ pos X_LOCK_DECR))) k
+as_reserved l v w k at before last_two = by_test (is_drained (w.0 -ℤ pos X_LOCK_DECR)) refl
+  where
+    by_test : (b : Bool) → is_drained (w.0 -ℤ pos X_LOCK_DECR) ≡ b → EndsAsReserved l (phase_of l v (if b then Owned else NextWriter (record { 0 = w.0 -ℤ pos X_LOCK_DECR }))) k
+    by_test true drained = record { word = w; given = drained; at = at; before = before; last_two = last_two }
+    by_test false drained = tt
+
+-- X that was taken beside one's own SX, at a word
+pub upgraded_is : (l : ℕ) (w : LockWord) (r : Reserve) (p q : PassState) → r ≡ reserve_at (w.0 -ℤ pos X_LOCK_DECR) → q ≡ won_with X l w (upgraded l p.view.session.held w) (looked_at l w p) → IsUpgraded l r p q
+upgraded_is l w r p q came is = record {
+  taken = subst (λ (r : Reserve). IsTaken X (changed l (one_more X) p.view.session.held) (phase_of l (level_on l Log p.view.session.held) r) p.view q.view) (sym came) (won_taken X l w (upgraded l p.view.session.held w) p q is);
+  owns_x = subst (λ (q : PassState). EndsAsReserved l q.view.session.phase q.view.looks) (sym is) (as_reserved l (level_on l Log p.view.session.held) w (tried_on l w w (looked_on l w p.view)).looks p.view.looks.steps p.view.looks.all refl);
+  signed = subst (λ (q : PassState). Stores l q.view.written) (sym is) (inl refl);
+  looks = let more = ap (λ (q : PassState). q.view.looks.count) is in omega arith;
+}
+
+-- a first grant that was won at a word
+module _ (l : ℕ) (v : Level) (w : LockWord) (p q : PassState) where
+  won_phase : (mode : Mode) → phase_by mode l v w.0 ≡ phase_of l v (reserved_by mode w.0)
+  won_phase S = refl
+  won_phase Sx = refl
+  won_phase X = refl
+
+  won_looks : (mode : Mode) (a : Session) → (won_with mode l w a (looked_at l w p)).view.looks ≡ (tried_on l w w (looked_on l w p.view)).looks
+  won_looks S a = refl
+  won_looks Sx a = refl
+  won_looks X a = refl
+
+  won_owned : (mode : Mode) → mode ≢ X → reserved_by mode w.0 ≡ Owned
+  won_owned S other = refl
+  won_owned Sx other = refl
+  won_owned X other = absurd (other refl)
+
+  won_signed : (mode : Mode) (a : Session) → mode ≢ S → Stores l (won_with mode l w a (looked_at l w p)).view.written
+  won_signed S a other = absurd (other refl)
+  won_signed Sx a other = inl refl
+  won_signed X a other = inl refl
+
+  won_owns : (mode : Mode) → mode ≡ X → q ≡ won_with mode l w (first_session mode l v p.view.session.held w) (looked_at l w p) → EndsAsReserved l q.view.session.phase q.view.looks
+  won_owns S other is = absurd (cc)
+  won_owns Sx other is = absurd (cc)
+  won_owns X refl_x is = subst (λ (q : PassState). EndsAsReserved l q.view.session.phase q.view.looks) (sym is) (as_reserved l v w (tried_on l w w (looked_on l w p.view)).looks p.view.looks.steps p.view.looks.all refl)
+
+  pub won_is : (mode : Mode) (r : Reserve) → is_given_at mode w.0 ≡ true → r ≡ reserved_by mode w.0 → q ≡ won_with mode l w (first_session mode l v p.view.session.held w) (looked_at l w p) → IsWon mode l v r p q
+  won_is mode r given came is =
+      let looks = ap (λ (q : PassState). q.view.looks) is ∙ won_looks mode (first_session mode l v p.view.session.held w) in
+      record {
+        taken = subst (λ (f : Phase). IsTaken mode (holding_too mode l v p.view.session.held) f p.view q.view) (won_phase mode ∙ ap (phase_of l v) (sym came)) (won_taken mode l w (first_session mode l v p.view.session.held w) p q is);
+        won = record { word = w; given = given; at = p.view.looks.steps; before = p.view.looks.all; last_two = ap (λ (k : Looks). k.all) looks };
+        owned = λ other. came ∙ won_owned mode other;
+        owns_x = λ is_x. won_owns mode is_x is;
+        signed = λ other. subst (λ (q : PassState). Stores l q.view.written) (sym is) (won_signed mode (first_session mode l v p.view.session.held w) other);
+        looks = let more = ap (λ (k : Looks). k.count) looks in omega arith;
+      }

@@ -1,0 +1,8 @@
+use Rattle.std.proofs.Common.{sym, ◌∙◌}
+use Rattle.ib_latch.proofs.Stills.{next_owned}
+use Rattle.ib_latch.proofs.latches.Latches.looks_ready.Goals as goal
+
+-- src/locks.rt:120:5
+pub returns-in-Free-clause-owned : goal.returns-in-Free-clause-owned
+returns-in-Free-clause-owned g c =
+    λ is_true. next_owned c.args.latch.0 c.load_word.result c.args.pass.now c.load_word.new.pass c.load_word.ensures.same (sym c.phase.ensures ∙ c.in-Free.is) c.args.level c.requires.next

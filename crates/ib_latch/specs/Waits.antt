@@ -1,0 +1,119 @@
+-- What a session that waits for a latch is, and what a lock call comes to.
+use Rattle.std.specs.Prelude.{◌≡◌, ◌≢◌, ◌⊎◌, ℕ, ◌+◌, ◌<◌, ◌≤◌, Bool, true, false, List, ◌∷◌, Some, None, ℤ, pos, ◌-ℤ◌, Result, Ok, Err}
+use Rattle.ib_word.specs.Word.{cell_of, word_in}
+use Rattle.ib_word.specs.declared.word.LockWord.{LockWord}
+use Rattle.ib_word.specs.declared.word.TheConstants.{X_LOCK_DECR}
+use Rattle.ib_levels.specs.declared.level.Level.{Level}
+use Rattle.ib_levels.specs.declared.level.Mode.{Mode}
+use Rattle.ib_levels.specs.declared.level.Mode.TheVariants.{S as ModeS, Sx as ModeSx, X as ModeX}
+use Rattle.ib_core.specs.declared.phase.Phase.{Phase}
+use Rattle.ib_core.specs.declared.phase.Phase.TheVariants.{Checked, Flagged, Free, Next, NextAsleep, NextChecked}
+use Rattle.ib_core.specs.Responses.{is_drained}
+use Rattle.ib_core.specs.Table.{owns_x_at}
+use Rattle.ib_levels.specs.Holding.{changed}
+use Rattle.ib_levels.specs.declared.level.Level.TheVariants.{Log}
+use Rattle.ib_core.specs.Takings.{holding_too, is_given_at, level_on, one_more}
+use Rattle.ib_wait.specs.declared.cells.Wish.{Wish}
+use Rattle.ib_wait.specs.declared.cells.Wish.TheVariants.{S as WishS, Sx as WishSx, X as WishX}
+use Rattle.ib_rule.specs.declared.looks.Look.{Look}
+use Rattle.ib_rule.specs.declared.looks.Looks.{Looks}
+use Rattle.ib_rule.specs.Afterwards.{looked_on, phased}
+use Rattle.ib_rule.specs.Laws.{Stores}
+use Rattle.ib_rule.specs.Pass.{PassState, with_view}
+use Rattle.ib_rule.specs.Views.{with_looks}
+use Rattle.ib_latch.specs.declared.tries.Reserve.{Reserve}
+use Rattle.ib_latch.specs.declared.tries.Reserve.TheVariants.{Owned}
+use Rattle.ib_latch.specs.declared.tries.TryFault.{TryFault}
+use Rattle.ib_latch.specs.declared.tries.TryFault.TheVariants.{Busy, Raced}
+use Rattle.ib_latch.specs.Tries.{IsTaken, first_session, looked_at, lost_at, phase_of, reserve_at, won_with}
+
+-- what a first grant of the mode at a word came to
+abbrev pub reserved_by : Mode → ℤ → Reserve
+reserved_by ModeS w = Owned
+reserved_by ModeSx w = Owned
+reserved_by ModeX w = reserve_at (w -ℤ pos X_LOCK_DECR)
+
+-- one more try by who set the flag: a look, which leaves it checked where the word refuses its wish, and else one exchange
+abbrev pub IsRecheck : Mode → ℕ → Level → ℕ → PassState → Result Reserve TryFault → PassState → Type 0
+IsRecheck mode l v g p (Ok r) q = (w : LockWord) × (is_given_at mode w.0 ≡ true) × (r ≡ reserved_by mode w.0) × (q ≡ won_with mode l w (first_session mode l v p.view.session.held w) (looked_at l w p))
+IsRecheck mode l v g p (Err (Busy w)) q = (is_given_at mode w.0 ≡ false) × (q ≡ with_view p (looked_on l w (phased (Checked l mode v g) p.view)))
+IsRecheck mode l v g p (Err (Raced w found)) q = (is_given_at mode w.0 ≡ true) × (found.0 ≢ w.0) × (q ≡ lost_at l w found (looked_at l w p))
+
+-- who set the flag, or has checked, may give up: on a latch that is there
+abbrev pub MayStandDown : ℕ → Phase → Type 0
+MayStandDown latches (Flagged l mode v g) = l < latches
+MayStandDown latches (Checked l mode v g) = l < latches
+MayStandDown latches p = ⊥
+
+abbrev pub latch_waited : Phase → ℕ
+latch_waited (Flagged l mode v g) = l
+latch_waited (Checked l mode v g) = l
+latch_waited p = 0
+
+-- the session looked as often as it liked, and is in this phase; nothing else is changed
+pub record IsStill (phase : Phase) (p q : PassState) : Type 0 where
+  pub same : q ≡ with_view p (with_looks q.view.looks (phased phase p.view))
+  pub looks : p.view.looks.count ≤ q.view.looks.count
+
+-- the last look was a won exchange on the latch, from a word of which the test holds, and the look before it found that word
+pub record EndsWon (test : ℤ → Bool) (l : ℕ) (looks : Looks) : Type 0 where
+  pub word : LockWord
+  pub given : test word.0 ≡ true
+  pub at : ℕ
+  pub before : List Look
+  pub last_two : looks.all ≡ record { latch = l; found = cell_of word.0; expected = Some (cell_of word.0); at = at + 1 } ∷ record { latch = l; found = cell_of word.0; expected = None; at = at } ∷ before
+
+-- the last look was a load of the lock word, at which its next writer owns X
+pub record EndsOwned (has_sx l : ℕ) (looks : Looks) : Type 0 where
+  pub found : ℕ
+  pub owned : owns_x_at has_sx (word_in found) ≡ true
+  pub at : ℕ
+  pub before : List Look
+  pub last : looks.all ≡ record { latch = l; found = found; expected = None; at = at } ∷ before
+
+-- X is left where this much is taken off the word and no reader is there
+abbrev pub is_left_drained : ℤ → Bool
+is_left_drained w = is_drained (w -ℤ pos X_LOCK_DECR)
+
+-- the last look tells that X is owned: a won exchange that left no reader, or a load of such a word by the next writer
+abbrev pub EndsOwning : ℕ → ℕ → Looks → Type 0
+EndsOwning has_sx l looks = EndsWon is_left_drained l looks ⊎ EndsOwned has_sx l looks
+
+-- .. where the session owns X, and is not its next writer, after a won exchange
+abbrev pub EndsAsReserved : ℕ → Phase → Looks → Type 0
+EndsAsReserved l Free looks = EndsWon is_left_drained l looks
+EndsAsReserved l p looks = Unit {0}
+
+-- a first grant of the mode, by a won exchange, which came to this
+pub record IsWon (mode : Mode) (l : ℕ) (v : Level) (r : Reserve) (p q : PassState) : Type 0 where
+  pub taken : IsTaken mode (holding_too mode l v p.view.session.held) (phase_of l v r) p.view q.view
+  pub won : EndsWon (is_given_at mode) l q.view.looks
+  pub owned : mode ≢ ModeX → r ≡ Owned
+  pub owns_x : mode ≡ ModeX → EndsAsReserved l q.view.session.phase q.view.looks
+  pub signed : mode ≢ ModeS → Stores l q.view.written
+  pub looks : p.view.looks.count ≤ q.view.looks.count
+
+-- X taken beside one's own SX alone, by a won exchange, which came to this
+pub record IsUpgraded (l : ℕ) (r : Reserve) (p q : PassState) : Type 0 where
+  pub taken : IsTaken ModeX (changed l (one_more ModeX) p.view.session.held) (phase_of l (level_on l Log p.view.session.held) r) p.view q.view
+  pub owns_x : EndsAsReserved l q.view.session.phase q.view.looks
+  pub signed : Stores l q.view.written
+  pub looks : p.view.looks.count ≤ q.view.looks.count
+
+-- a next writer at this level has checked, or sleeps
+abbrev pub NextWaits : ℕ → Level → Phase → Type 0
+NextWaits l v (NextChecked k u g) = (k ≡ l) × Path Level u v
+NextWaits l v (NextAsleep k u g) = (k ≡ l) × Path Level u v
+NextWaits l v p = ⊥
+
+-- what is written in the cell of who waits for a first grant of the mode
+abbrev pub wish_for : Mode → Wish
+wish_for ModeS = WishS
+wish_for ModeSx = WishSx
+wish_for ModeX = WishX
+
+-- who reserved X on the latch owns it, or is its next writer
+abbrev pub HasReserved : ℕ → Phase → Type 0
+HasReserved l Free = Unit {0}
+HasReserved l (Next k v) = k ≡ l
+HasReserved l p = ⊥

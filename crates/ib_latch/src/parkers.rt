@@ -1,0 +1,75 @@
+//! Sessions that sleep on parkers of their own, and write down in the wait array what they wait for.
+
+use crate::sleep::{Raised, Sleep};
+use ib_rule::OutOfMemory;
+use ib_wait::{Cell, Sleepers, WaitArray};
+use std::alloc::Global;
+use std::sync::Wait;
+use std::thread;
+
+/// How many cells a wait array has: as many as there can be sessions.
+const CELLS: usize = 1024;
+
+/// A parker for each session, and a wait array of 1,024 cells (sync0arr).
+#[derive(Drop)]
+pub struct Parkers {
+    array: WaitArray,
+    sleepers: Sleepers,
+}
+
+impl Sleep for Parkers {
+    fn new(alloc: Global) -> Result<Parkers, OutOfMemory> {
+        let array = WaitArray::new(alloc, CELLS)?;
+        Ok(Parkers {
+            array,
+            sleepers: Sleepers::new(alloc),
+        })
+    }
+
+    fn admit(&mut self, number: u32) -> Result<(), OutOfMemory> {
+        if self.sleepers.len() < number as usize {
+            self.sleepers.add()
+        } else {
+            Ok(())
+        }
+    }
+
+    fn wake(&self, raised: Raised) {
+        raised.settle();
+        self.sleepers.wake_all();
+    }
+}
+
+impl Parkers {
+    // Reserves a cell. None where all are reserved.
+    pub(crate) fn reserve<R: Wait>(&self, rt: &R, cell: Cell) -> Option<usize> {
+        self.array.lend(rt).reserve(cell).ok()
+    }
+
+    // Returns the cell at a place.
+    pub(crate) fn free<R: Wait>(&self, rt: &R, place: usize) {
+        let mut cells = self.array.lend(rt);
+        if cells.report(place).is_some() {
+            cells.free(place);
+        }
+    }
+
+    // The session sleeps until it is woken.
+    pub(crate) fn sleep<R: Wait>(&self, rt: &R, number: u32) {
+        if number >= 1 && number as usize <= self.sleepers.len() {
+            self.sleepers.sleep(rt, number);
+        } else {
+            thread::yield_now();
+        }
+    }
+
+    // How many reservations were made so far, as far as the number goes.
+    pub(crate) fn ever<R: Wait>(&self, rt: &R) -> u32 {
+        u32::try_from(self.array.ever(rt)).unwrap_or(u32::MAX)
+    }
+
+    // How many cells are reserved now.
+    pub(crate) fn reserved<R: Wait>(&self, rt: &R) -> usize {
+        self.array.reserved(rt)
+    }
+}

@@ -1,0 +1,44 @@
+-- After a look at the log's end each latch that is held has a since.
+use Rattle.std.proofs.Common.{◌≡◌, ◌⊎◌, inl, inr, ⊎_elim, ℕ, ◌<◌, Bool, true, false, cond, eqb, eq-eqb, List, [], ◌∷◌, ◌++◌, length, refl, ap, subst, arith}
+use Rattle.std.specs.Prelude.{◌||◌, nat_lt}
+use mathlib.Core.Logic.{dite}
+use native.Mathlib.Decide.{ℕ_discrete}
+use Rattle.ib_levels.specs.declared.holding.Holding.{Holding}
+use Rattle.ib_levels.specs.Holding.{on}
+use Rattle.ib_levels.proofs.Counts.{on-cons, part-away}
+use Rattle.ib_core.specs.declared.session.Session.{Session}
+use Rattle.ib_core.specs.Sessions.{claims, holdings}
+use Rattle.ib_logrec.specs.declared.entry.Entry.{Entry}
+use Rattle.ib_rule.specs.declared.memory.Since.{Since}
+use Rattle.ib_rule.specs.declared.view.View.{View}
+use Rattle.ib_rule.specs.Views.{is_watched, reaching, starts}
+use Rattle.ib_rule.proofs.Lists.{or_says}
+
+either_true : {c : Bool} (b : Bool) → c ≡ true → (b || c) ≡ true
+either_true true is = refl
+either_true false is = is
+
+joined : (l : ℕ) (ss ts : List Since) → (is_watched l ss ≡ true) ⊎ (is_watched l ts ≡ true) → is_watched l (ss ++ ts) ≡ true
+joined l [] ts either = ⊎_elim (λ z. absurd (cc)) (λ z. z) either
+joined l (s ∷ ss) ts either = ⊎_elim
+    (λ z. ⊎_elim (λ here. ap (λ b. b || is_watched l (ss ++ ts)) here) (λ there. either_true (eqb s.latch l) (joined l ss ts (inl there))) (or_says (eqb s.latch l) (is_watched l ss) z))
+    (λ z. either_true (eqb s.latch l) (joined l ss ts (inr z)))
+    either
+
+module _ (a : Session) (n : ℕ) (ss : List Since) where
+  started : (l : ℕ) (hs : List Holding) → 0 < on l (λ h. 1) hs → (is_watched l ss ≡ true) ⊎ (is_watched l (starts a hs ss n) ≡ true)
+  started l [] some = absurd (omega arith)
+  started l (h ∷ hs) some = dite (ℕ_discrete h.latch.0 l)
+      (λ here. by_test here (is_watched h.latch.0 ss) refl)
+      (λ away. ⊎_elim (λ z. inl z) (λ z. inr (later (is_watched h.latch.0 ss) z)) (started l hs (let c = on-cons l (λ h. 1) h hs in let p = part-away l (λ h. 1) h away in omega arith)))
+    where
+      by_test : h.latch.0 ≡ l → (b : Bool) → is_watched h.latch.0 ss ≡ b → (is_watched l ss ≡ true) ⊎ (is_watched l (cond b (starts a hs ss n) (record { latch = h.latch.0; claims = nat_lt 0 (claims h.latch.0 a); place = n } ∷ starts a hs ss n)) ≡ true)
+      by_test here true is = inl (subst (λ k. is_watched k ss ≡ true) here is)
+      by_test here false is = inr (ap (λ b. b || is_watched l (starts a hs ss n)) (eq-eqb h.latch.0 l here))
+
+      later : (b : Bool) → is_watched l (starts a hs ss n) ≡ true → is_watched l (cond b (starts a hs ss n) (record { latch = h.latch.0; claims = nat_lt 0 (claims h.latch.0 a); place = n } ∷ starts a hs ss n)) ≡ true
+      later true z = z
+      later false z = either_true (eqb h.latch.0 l) z
+
+pub watched_after : (log : List Entry) (v : View) (l : ℕ) → 0 < holdings l v.session → is_watched l (reaching log v).memory.since ≡ true
+watched_after log v l held = joined l v.memory.since (starts v.session v.session.held v.memory.since (length log)) (started v.session (length log) v.memory.since l v.session.held held)

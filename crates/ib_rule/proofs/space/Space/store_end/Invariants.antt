@@ -1,0 +1,5 @@
+use Rattle.ib_logrec.specs.Words.{entry_in}
+use Rattle.ib_rule.proofs.space.Space.store_end.Given as goal
+
+abbrev pub ghosts-store : goal.ghosts-store
+ghosts-store g a = record { kind = a.kind; key = a.shared.now.key; entry = entry_in a.words.now }

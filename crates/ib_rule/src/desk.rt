@@ -1,0 +1,123 @@
+//! Where the scratch of a session is.
+
+ghost use Rattle.std.specs.Prelude.{◌≡◌, ◌<◌, ◌≤◌, ◌++◌, ◌∷◌, [], true, false, Some, length, slice_get, remove};
+ghost use Rattle.std.specs.Borrow.{sem};
+ghost use Rattle.ib_rule.specs.Desk.{desk_state, room_at};
+ghost use Rattle.ib_rule.specs.Lending.{LendsDesk};
+
+use crate::scratch::Scratch;
+use ib_levels::{Latch, Mode};
+use ib_page::WorkSet;
+use std::mem;
+
+// The desk of a session.
+#[derive(Drop)]
+pub(crate) enum Desk {
+    // The scratch is there, with nothing in it.
+    Free(Scratch),
+    // A caller has taken the scratch.
+    Bare,
+    // A mini-transaction works in the scratch.
+    Taken(Scratch),
+}
+
+impl Desk {
+    // The scratch, which is with the caller from then on.
+    pub(crate) fn take(&mut self) -> Scratch
+        requires { (desk_state self.old).is_free ≡ true }
+        ensures was { self.old ≡ Desk.Free result }
+        ensures bare { self.new ≡ Desk.Bare }
+    {
+        match mem::replace(self, Desk::Bare) {
+            Desk::Free(scratch) => scratch,
+            _ => unreachable!(),
+        }
+    }
+
+    // The work of a mini-transaction ends, and no page is there any more.
+    pub(crate) fn end(&mut self)
+        requires { (desk_state self.old).is_taken ≡ true }
+        ensures state { desk_state self.new ≡ record {
+          is_free = true;
+          is_taken = false;
+          work = [];
+          memo = (desk_state self.old).memo;
+        } }
+        ensures room { room_at self.old ≤ room_at self.new }
+    {
+        match mem::replace(self, Desk::Bare) {
+            Desk::Taken(mut scratch) => {
+                scratch.work.clear();
+                *self = Desk::Free(scratch);
+            }
+            _ => unreachable!(),
+        }
+    }
+
+    // The grants that the mini-transaction remembers.
+    pub(crate) fn memo(&self) -> &[(Latch, Mode)]
+        ensures { result.now ≡ (desk_state self.now).memo }
+    {
+        match self {
+            Desk::Free(scratch) | Desk::Taken(scratch) => scratch.memo.as_slice(),
+            Desk::Bare => &[],
+        }
+    }
+
+    // One more grant is remembered.
+    pub(crate) fn remember(&mut self, latch: Latch, mode: Mode)
+        requires taken { (desk_state self.old).is_taken ≡ true }
+        requires room { length (desk_state self.old).memo < room_at self.old }
+        ensures state { desk_state self.new ≡ record (desk_state self.old) {
+          memo = (desk_state self.old).memo ++ (latch, mode) ∷ [];
+        } }
+        ensures room { room_at self.old ≤ room_at self.new }
+    {
+        match self {
+            Desk::Taken(scratch) => {
+                // There is room, so the call takes no memory, and does not fail.
+                let _ = scratch.memo.push((latch, mode));
+            }
+            _ => unreachable!(),
+        }
+    }
+
+    // The grant at a place of the memo is forgotten.
+    pub(crate) fn forget_at(&mut self, at: usize) -> (Latch, Mode)
+        requires taken { (desk_state self.old).is_taken ≡ true }
+        requires at { at < length (desk_state self.old).memo }
+        ensures grant { slice_get (desk_state self.old).memo at ≡ Some result }
+        ensures state { desk_state self.new ≡ record (desk_state self.old) {
+          memo = remove (desk_state self.old).memo at;
+        } }
+        ensures room { room_at self.old ≤ room_at self.new }
+    {
+        match self {
+            Desk::Taken(scratch) => scratch.memo.remove(at),
+            _ => unreachable!(),
+        }
+    }
+
+    // The pages that the mini-transaction works on.
+    pub(crate) fn work(&self) -> &WorkSet
+        requires { (desk_state self.now).is_taken ≡ true }
+        ensures { result.now ≡ (desk_state self.now).work }
+    {
+        match self {
+            Desk::Taken(scratch) => &scratch.work,
+            _ => unreachable!(),
+        }
+    }
+
+    // .. lent.
+    pub(crate) fn work_mut(&mut self) -> &mut WorkSet
+        requires { (desk_state self.old).is_taken ≡ true }
+        ensures* lends { sem 𝓛 (LendsDesk self.entry result) }
+        ensures work { result.now ≡ (desk_state self.old).work }
+    {
+        match self {
+            Desk::Taken(scratch) => &mut scratch.work,
+            _ => unreachable!(),
+        }
+    }
+}

@@ -1,0 +1,105 @@
+//! The room of a pass while a mini-transaction works in it: its memo and its work set.
+
+ghost use Rattle.std.specs.Prelude.{◌≡◌, ◌<◌, ◌++◌, ◌∷◌, [], true, false, Some, IsTrue, length, slice_get, remove};
+ghost use Rattle.std.specs.Borrow.{sem};
+ghost use Rattle.ib_core.specs.Good.{IsProper};
+ghost use Rattle.ib_rule.specs.declared.pass.TheConstants.{MOST_HELD};
+ghost use Rattle.ib_rule.specs.Lending.{LendsWork};
+
+use crate::desk::Desk;
+use crate::pass::Pass;
+use ib_levels::{Latch, Mode};
+use ib_page::WorkSet;
+
+impl Pass {
+    /// Whether the scratch is in the pass, and no mini-transaction works in it.
+    pub fn has_scratch(&self) -> bool
+        ensures { result ≡ self.now.has_scratch }
+    {
+        matches!(self.desk, Desk::Free(_))
+    }
+
+    /// Whether a mini-transaction works in the scratch.
+    pub fn is_working(&self) -> bool
+        ensures { result ≡ self.now.is_working }
+    {
+        matches!(self.desk, Desk::Taken(_))
+    }
+
+    /// A mini-transaction works in the scratch from then on (mtr0mtr, `mtr_t::start`): its memo and
+    /// its work set are empty.
+    pub fn begin_work(&mut self)
+        requires { IsTrue self.old.has_scratch }
+        ensures begun { self.new ≡ record self.old {
+          has_scratch = false;
+          is_working = true;
+          work = [];
+          memo = [];
+        } }
+        ensures session { IsProper self.old.view.session }
+    {
+        let scratch = self.desk.take();
+        self.desk = Desk::Taken(scratch);
+    }
+
+    /// The mini-transaction ends, with nothing in its memo: its pages are gone, and the scratch is
+    /// free again.
+    pub fn end_work(&mut self)
+        requires works { IsTrue self.old.is_working }
+        requires none { self.old.memo ≡ [] }
+        ensures { self.new ≡ record self.old {
+          has_scratch = true;
+          is_working = false;
+          work = [];
+        } }
+    {
+        self.desk.end();
+    }
+
+    /// The grants that the mini-transaction remembers, in order of taking. None where none works.
+    pub fn memo(&self) -> &[(Latch, Mode)]
+        ensures { result.now ≡ self.now.memo }
+    {
+        self.desk.memo()
+    }
+
+    /// The mini-transaction remembers one more grant, behind the others. It remembers fewer than
+    /// `MOST_HELD`, so this takes no memory.
+    pub fn remember(&mut self, latch: Latch, mode: Mode)
+        requires works { IsTrue self.old.is_working }
+        requires room { length self.old.memo < MOST_HELD }
+        ensures more { self.new ≡ record self.old { memo = self.old.memo ++ (latch, mode) ∷ [] } }
+        ensures session { IsProper self.old.view.session }
+    {
+        self.desk.remember(latch, mode);
+    }
+
+    /// The mini-transaction forgets the grant at a place of its memo, from 0 on, and those behind it
+    /// move down.
+    pub fn forget_at(&mut self, at: usize) -> (Latch, Mode)
+        requires works { IsTrue self.old.is_working }
+        requires at { at < length self.old.memo }
+        ensures grant { slice_get self.old.memo at ≡ Some result }
+        ensures fewer { self.new ≡ record self.old { memo = remove self.old.memo at } }
+        ensures session { IsProper self.old.view.session }
+    {
+        self.desk.forget_at(at)
+    }
+
+    /// The pages that the mini-transaction works on.
+    pub fn work(&self) -> &WorkSet
+        requires { IsTrue self.now.is_working }
+        ensures { result.now ≡ self.now.work }
+    {
+        self.desk.work()
+    }
+
+    /// The same, lent to be changed.
+    pub fn work_mut(&mut self) -> &mut WorkSet
+        requires { IsTrue self.old.is_working }
+        ensures* lends { sem 𝓛 (LendsWork self.entry result) }
+        ensures work { result.now ≡ self.old.work }
+    {
+        self.desk.work_mut()
+    }
+}
