@@ -1,0 +1,4 @@
+mod Reading
+mod LaidOut
+mod Storing
+mod Trying

@@ -1,0 +1,95 @@
+-- What each call leaves is a mini-transaction again.
+use Rattle.std.proofs.Common.{◌≡◌, ℕ, ◌+◌, ◌<◌, List, [], ◌∷◌, ◌++◌, Some, None, slice_get, refl, sym, ap, ◌∙◌, subst, arith}
+use Rattle.std.specs.List.{All, remove}
+use Rattle.std.proofs.lemmas.List.Elements.{All-push, All-weaker}
+use Rattle.ib_levels.specs.declared.latch.Latch.{Latch}
+use Rattle.ib_levels.specs.declared.level.Level.{Level}
+use Rattle.ib_levels.specs.declared.level.Mode.{Mode}
+use Rattle.ib_levels.specs.Holding.{on}
+use Rattle.ib_layout.specs.Places.{latches_of}
+use Rattle.ib_core.specs.declared.phase.Phase.TheVariants.{Free}
+use Rattle.ib_core.specs.declared.session.Session.{Session}
+use Rattle.ib_core.specs.Good.{IsProper}
+use Rattle.ib_core.specs.Sessions.{holdings}
+use Rattle.ib_page.specs.Work.{WorkPage}
+use Rattle.ib_rule.specs.declared.memory.Memory.{Memory}
+use Rattle.ib_rule.specs.declared.view.View.{View}
+use Rattle.ib_rule.specs.Pass.{PassState, IsOf, with_view}
+use Rattle.ib_rule.specs.Space.{SpaceState}
+use Rattle.ib_latch.specs.Tries.{IsTaken, IsUnchanged, held_with}
+use Rattle.ib_mtr.specs.Memo.{HasExactly}
+use Rattle.ib_mtr.specs.Mtr.{IsMtr, IsUnchangedOn, pages_left, released, released_at, with_memo, with_work, without_grant}
+use Rattle.ib_mtr.proofs.Grants.{exact_fewer, exact_more, still_held}
+use Rattle.ib_mtr.proofs.Lists.{All-remove}
+use Rattle.ib_mtr.proofs.Pages.{pages_held}
+
+-- the pass is one of the space with other pages and another memo too, and with another view that has no open append
+own_with : (space : SpaceState) (p : PassState) (v : View) (pages : List WorkPage) (memo : List (Latch × Mode)) → IsOf space p → v.memory.append ≡ None → IsOf space (record p { view = v; work = pages; memo = memo })
+own_with space p v pages memo own closed = record { table = own.table; sizes = own.sizes; closed = closed }
+
+-- other pages whose latches are held
+pub with_pages : (space : SpaceState) (p : PassState) (pages : List WorkPage) → IsMtr space p → All (λ w. 0 < holdings (w.page + 2) p.view.session) pages → IsMtr space (with_work pages p)
+with_pages space p pages mtr held = record {
+  own = own_with space p p.view pages p.memo mtr.own mtr.own.closed;
+  works = mtr.works;
+  free = mtr.free;
+  proper = mtr.proper;
+  exact = mtr.exact;
+  known = mtr.known;
+  held = held;
+}
+
+-- a try that took nothing
+pub refused : (space : SpaceState) (p q : PassState) (more : ℕ) → IsMtr space p → q ≡ with_view p q.view → IsUnchanged more p.view q.view → IsMtr space q
+refused space p q more mtr same unchanged = subst (IsMtr space) (sym same) (record {
+  own = own_with space p q.view p.work p.memo mtr.own (ap (λ (m : Memory). m.append) unchanged.memory ∙ mtr.own.closed);
+  works = mtr.works;
+  free = ap (λ (a : Session). a.phase) unchanged.session ∙ mtr.free;
+  proper = subst IsProper (sym unchanged.session) mtr.proper;
+  exact = subst (HasExactly p.memo) (sym unchanged.session) mtr.exact;
+  known = mtr.known;
+  held = subst (λ (a : Session). All (λ w. 0 < holdings (w.page + 2) a) p.work) (sym unchanged.session) mtr.held;
+})
+
+-- a grant, on top of the memo
+pub granted : (space : SpaceState) (p q r : PassState) (mode : Mode) (latch : Latch) (v : Level) → IsMtr space p → latch.0 < latches_of space.sizes
+    → q ≡ with_view p q.view → IsTaken mode (held_with mode latch.0 v p.view.session) Free p.view q.view → IsProper q.view.session
+    → r ≡ with_memo (q.memo ++ (latch, mode) ∷ []) q → IsMtr space r
+granted space p q r mode latch v mtr low same taken proper more =
+    let now : q.view.session.held ≡ held_with mode latch.0 v p.view.session = ap (λ (a : Session). a.held) taken.session in
+    let after : IsMtr space (with_memo (p.memo ++ (latch, mode) ∷ []) (with_view p q.view)) = record {
+      own = own_with space p q.view p.work (p.memo ++ (latch, mode) ∷ []) mtr.own (ap (λ (m : Memory). m.append) taken.memory ∙ mtr.own.closed);
+      works = mtr.works;
+      free = ap (λ (a : Session). a.phase) taken.session;
+      proper = proper;
+      exact = exact_more p.memo p.view.session q.view.session latch mode v mtr.exact mtr.proper now;
+      known = All-push (λ g. g.0.0 < latches_of space.sizes) p.memo (latch, mode) mtr.known low;
+      held = All-weaker (λ w. 0 < holdings (w.page + 2) p.view.session) (λ w. 0 < holdings (w.page + 2) q.view.session)
+          (λ w has. let same = ap (on (w.page + 2) (λ h. 1)) now in let s = still_held mode latch.0 (w.page + 2) v p.view.session has in omega arith) p.work mtr.held;
+    } in subst (IsMtr space) (sym (more ∙ ap (λ (q : PassState). with_memo (q.memo ++ (latch, mode) ∷ []) q) same)) after
+
+-- the pages of a latch that was given back are as they were
+pub unchanged_then : (p q r : PassState) (at : ℕ) (g : Latch × Mode) → q ≡ with_view p (released g.1 g.0.0 p.view) → r ≡ with_memo (remove q.memo at) q → IsUnchangedOn g.0.0 p.work → IsUnchangedOn g.0.0 r.work
+unchanged_then p q r at g unlocked forgotten unchanged =
+    subst (IsUnchangedOn g.0.0) (sym (ap (λ (r : PassState). r.work) forgotten ∙ ap (λ (q : PassState). q.work) unlocked)) unchanged
+
+-- the grant at a place of the memo was given back, in three steps
+module _ (p q r s : PassState) (at : ℕ) (g : Latch × Mode) (unlocked : q ≡ with_view p (released g.1 g.0.0 p.view)) (forgotten : r ≡ with_memo (remove q.memo at) q)
+    (left : s ≡ with_work (pages_left g.0.0 r.view.session r.work) r) where
+  pub released_is : s ≡ released_at at g p
+  released_is =
+      let third : r ≡ with_memo (remove p.memo at) (with_view p (without_grant g p.view)) = forgotten ∙ ap (λ (q : PassState). with_memo (remove q.memo at) q) unlocked in
+      left ∙ ap (λ (r : PassState). with_work (pages_left g.0.0 r.view.session r.work) r) third
+
+  pub released_mtr : (space : SpaceState) → IsMtr space p → slice_get p.memo at ≡ Some g → IsProper q.view.session → IsMtr space s
+  released_mtr space mtr there proper =
+      let after = without_grant g p.view in
+      let end : IsMtr space (released_at at g p) = record {
+        own = own_with space p after (pages_left g.0.0 after.session p.work) (remove p.memo at) mtr.own mtr.own.closed;
+        works = mtr.works;
+        free = refl;
+        proper = subst (λ (q : PassState). IsProper q.view.session) unlocked proper;
+        exact = exact_fewer p.memo p.view.session after.session at g mtr.exact mtr.proper there refl;
+        known = All-remove (λ g. g.0.0 < latches_of space.sizes) p.memo at mtr.known;
+        held = pages_held g.1 g.0.0 p.view.session after.session p.work refl mtr.held;
+      } in subst (IsMtr space) (sym released_is) end

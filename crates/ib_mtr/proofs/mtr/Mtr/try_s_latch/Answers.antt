@@ -1,0 +1,29 @@
+-- Refused, the pass is as it was but for looks; granted, the memo and the session have one grant more.
+use Rattle.std.proofs.Common.{List, ap, ◌+◌, refl, subst, sym, arith, length}
+use Rattle.ib_levels.specs.declared.holding.Holding.{Holding}
+use Rattle.ib_levels.specs.declared.level.Mode.TheVariants.{S}
+use Rattle.ib_levels.proofs.Counts.{on-none}
+use Rattle.ib_core.specs.declared.phase.Phase.TheVariants.{Free}
+use Rattle.ib_rule.specs.Pass.{PassState}
+use Rattle.ib_latch.specs.Tries.{IsTaken}
+use Rattle.ib_latch.proofs.Claims.{held_first}
+use Rattle.ib_mtr.proofs.Held.{length_held}
+use Rattle.ib_mtr.proofs.Keeping.{granted, refused}
+use Rattle.ib_mtr.proofs.mtr.Mtr.try_s_latch.Goals as goal
+
+pub returns-in_err-try_s-clause-mtr : goal.returns-in_err-try_s-clause-mtr
+returns-in_err-try_s-clause-mtr g c =
+    refused c.args.self.now.latches.now c.args.self.now.pass.now c.try_s.new.pass _ c.requires.mtr c.try_s.ensures.same c.in_err-try_s.ensures.refused
+
+pub remember-requires-clause-room : goal.remember-requires-clause-room
+remember-requires-clause-room g c =
+    let mtr = c.requires.mtr in
+    let few = length_held c.args.self.now.pass.now.memo c.args.self.now.pass.now.view.session mtr.exact mtr.proper in
+    let same = ap (λ (p : PassState). length p.memo) c.try_s.ensures.same in let grows = c.requires.grows.1 in omega arith
+
+pub returns-clause-mtr : goal.returns-clause-mtr
+returns-clause-mtr g c =
+    let l = c.args.latch.0 in let a = c.args.self.now.pass.now.view.session in let v = c.args.level in
+    let taken = subst (λ (held : List Holding). IsTaken S held Free c.args.self.now.pass.now.view c.try_s.new.pass.view) (sym (held_first S l v a (on-none l (λ h. h.sx + h.x) a.held c.requires.may.none))) (c.in_ok-try_s.ensures.taken refl) in
+    granted c.args.self.now.latches.now c.args.self.now.pass.now c.try_s.new.pass c.remember.new.self S c.args.latch c.args.level c.requires.mtr c.requires.latch
+    c.try_s.ensures.same taken c.remember.ensures.session c.remember.ensures.more

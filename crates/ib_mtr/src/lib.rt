@@ -1,0 +1,10 @@
+//! Mini-transactions: a memo of the latch grants that one took, in order of taking, and the pages
+//! that it read and changed (mtr0mtr).
+#![tactic(auto)]
+
+mod memo;
+mod mtr;
+#[cfg(test)]
+mod tests;
+
+pub use mtr::Mtr;
