@@ -1,5 +1,5 @@
 -- What each call leaves is a mini-transaction again.
-use Rattle.std.proofs.Common.{◌≡◌, ℕ, ◌+◌, ◌<◌, List, [], ◌∷◌, ◌++◌, Some, None, slice_get, refl, sym, ap, ◌∙◌, subst, arith}
+use Rattle.std.proofs.Common.{◌≡◌, ℕ, ◌+◌, ◌<◌, List, [], ◌∷◌, ◌++◌, Some, None, length, slice_get, refl, sym, ap, ◌∙◌, subst, arith}
 use Rattle.std.specs.List.{All, remove}
 use Rattle.std.proofs.lemmas.List.Elements.{All-push, All-weaker}
 use Rattle.ib_levels.specs.declared.latch.Latch.{Latch}
@@ -14,12 +14,15 @@ use Rattle.ib_core.specs.Sessions.{holdings}
 use Rattle.ib_page.specs.Work.{WorkPage}
 use Rattle.ib_rule.specs.declared.memory.Memory.{Memory}
 use Rattle.ib_rule.specs.declared.view.View.{View}
+use Rattle.ib_rule.specs.declared.pass.TheConstants.{MOST_HELD}
+use Rattle.ib_rule.specs.Conditions.{MayGrow}
 use Rattle.ib_rule.specs.Pass.{PassState, IsOf, with_view}
 use Rattle.ib_rule.specs.Space.{SpaceState}
 use Rattle.ib_latch.specs.Tries.{IsTaken, IsUnchanged, held_with}
 use Rattle.ib_mtr.specs.Memo.{HasExactly}
 use Rattle.ib_mtr.specs.Mtr.{IsMtr, IsUnchangedOn, pages_left, released, released_at, with_memo, with_work, without_grant}
 use Rattle.ib_mtr.proofs.Grants.{exact_fewer, exact_more, still_held}
+use Rattle.ib_mtr.proofs.Held.{length_held}
 use Rattle.ib_mtr.proofs.Lists.{All-remove}
 use Rattle.ib_mtr.proofs.Pages.{pages_held}
 
@@ -50,6 +53,12 @@ refused space p q more mtr same unchanged = subst (IsMtr space) (sym same) (reco
   known = mtr.known;
   held = subst (λ (a : Session). All (λ w. 0 < holdings (w.page + 2) a) p.work) (sym unchanged.session) mtr.held;
 })
+
+-- the memo has room for one grant more, where the session may take one
+pub memo_room : (space : SpaceState) (p q : PassState) → IsMtr space p → MayGrow p.view → q ≡ with_view p q.view → length q.memo < MOST_HELD
+memo_room space p q mtr grows same =
+    let few = length_held p.memo p.view.session mtr.exact mtr.proper in
+    let memo = ap (λ (q : PassState). length q.memo) same in let more = grows.1 in omega arith
 
 -- a grant, on top of the memo
 pub granted : (space : SpaceState) (p q r : PassState) (mode : Mode) (latch : Latch) (v : Level) → IsMtr space p → latch.0 < latches_of space.sizes

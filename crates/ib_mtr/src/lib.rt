@@ -2,6 +2,9 @@
 //! that it read and changed (mtr0mtr).
 #![tactic(auto)]
 
+#[cfg(test)]
+mod lock_tests;
+mod locks;
 mod memo;
 mod mtr;
 #[cfg(test)]

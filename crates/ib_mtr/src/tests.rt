@@ -7,7 +7,7 @@ ghost use Rattle.ib_rule.specs.Pass.{IsOf};
 ghost use Rattle.ib_mtr.specs.Mtr.{IsMtr, IsUnchangedOn, with_work};
 
 use super::*;
-use ib_latch::{Latches, NoSleep, TryFault};
+use ib_latch::{Latches, NoSleep, Sleep, TryFault};
 use ib_layout::Geometry;
 use ib_levels::{Latch, Level, Mode};
 use ib_logrec::AnyLaw;
@@ -16,17 +16,15 @@ use ib_rule::Pass;
 use std::alloc::Global;
 use std::process::Abort;
 
-type Table = Latches<AnyLaw, NoSleep>;
-
 type Work<'a> = Mtr<'a, AnyLaw, NoSleep>;
 
 // A table of 16 pages, with the shortest log.
-fn smallest(rt: &impl Abort, alloc: Global) -> Table {
+pub(super) fn smallest<S: Sleep>(rt: &impl Abort, alloc: Global) -> Latches<AnyLaw, S> {
     let sizes = Geometry::new(16, 8196).expect(rt, "there are such sizes");
     Latches::open(alloc, sizes).expect(rt, "there is memory")
 }
 
-fn come(rt: &impl Abort, alloc: Global, table: &mut Table) -> Pass
+pub(super) fn come<S: Sleep>(rt: &impl Abort, alloc: Global, table: &mut Latches<AnyLaw, S>) -> Pass
     ensures own { IsOf table.new result }
     ensures idle { result.view.session ≡ idle }
     ensures scratch { result.has_scratch ≡ true }
@@ -51,7 +49,7 @@ fn s(rt: &impl Abort, mtr: &mut Work<'_>, latch: Latch, level: Level) -> Result<
 }
 
 // The grant at a place of the memo is given back, while no page is changed.
-fn give(rt: &impl Abort, mtr: &mut Work<'_>, at: usize)
+pub(super) fn give<S: Sleep>(rt: &impl Abort, mtr: &mut Mtr<'_, AnyLaw, S>, at: usize)
     requires mtr { IsMtr mtr.old.latches.now mtr.old.pass.now }
     requires unchanged { (l : ℕ) → IsUnchangedOn l mtr.old.pass.now.work }
     ensures mtr { IsMtr mtr.new.latches.now mtr.new.pass.now }
@@ -85,7 +83,7 @@ fn take_in(mtr: &mut Work<'_>, page: u32, image: &Image)
 
 #[test]
 fn a_memo_in_order_of_taking(rt: HostRuntime) {
-    let mut table = smallest(&rt, rt.alloc());
+    let mut table: Latches<AnyLaw, NoSleep> = smallest(&rt, rt.alloc());
     let mut one = come(&rt, rt.alloc(), &mut table);
     let mut mtr = Mtr::start(&table, &mut one);
     assert_eq!(rt; s(&rt, &mut mtr, Latch::INDEX, Level::IndexTree), Ok(()));
@@ -116,7 +114,7 @@ fn a_memo_in_order_of_taking(rt: HostRuntime) {
 
 #[test]
 fn a_page_leaves_with_its_latch(rt: HostRuntime) {
-    let mut table = smallest(&rt, rt.alloc());
+    let mut table: Latches<AnyLaw, NoSleep> = smallest(&rt, rt.alloc());
     let mut one = come(&rt, rt.alloc(), &mut table);
     let mut mtr = Mtr::start(&table, &mut one);
     assert_eq!(rt; s(&rt, &mut mtr, Latch(3), Level::TreeNode), Ok(()));

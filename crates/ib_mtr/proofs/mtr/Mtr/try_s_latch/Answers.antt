@@ -1,14 +1,12 @@
 -- Refused, the pass is as it was but for looks; granted, the memo and the session have one grant more.
-use Rattle.std.proofs.Common.{List, ap, ◌+◌, refl, subst, sym, arith, length}
+use Rattle.std.proofs.Common.{List, ◌+◌, refl, subst, sym}
 use Rattle.ib_levels.specs.declared.holding.Holding.{Holding}
 use Rattle.ib_levels.specs.declared.level.Mode.TheVariants.{S}
 use Rattle.ib_levels.proofs.Counts.{on-none}
 use Rattle.ib_core.specs.declared.phase.Phase.TheVariants.{Free}
-use Rattle.ib_rule.specs.Pass.{PassState}
 use Rattle.ib_latch.specs.Tries.{IsTaken}
 use Rattle.ib_latch.proofs.Claims.{held_first}
-use Rattle.ib_mtr.proofs.Held.{length_held}
-use Rattle.ib_mtr.proofs.Keeping.{granted, refused}
+use Rattle.ib_mtr.proofs.Keeping.{granted, memo_room, refused}
 use Rattle.ib_mtr.proofs.mtr.Mtr.try_s_latch.Goals as goal
 
 pub returns-in_err-try_s-clause-mtr : goal.returns-in_err-try_s-clause-mtr
@@ -17,9 +15,7 @@ returns-in_err-try_s-clause-mtr g c =
 
 pub remember-requires-clause-room : goal.remember-requires-clause-room
 remember-requires-clause-room g c =
-    let mtr = c.requires.mtr in
-    let few = length_held c.args.self.now.pass.now.memo c.args.self.now.pass.now.view.session mtr.exact mtr.proper in
-    let same = ap (λ (p : PassState). length p.memo) c.try_s.ensures.same in let grows = c.requires.grows.1 in omega arith
+    memo_room c.args.self.now.latches.now c.args.self.now.pass.now c.try_s.new.pass c.requires.mtr c.requires.grows c.try_s.ensures.same
 
 pub returns-clause-mtr : goal.returns-clause-mtr
 returns-clause-mtr g c =
