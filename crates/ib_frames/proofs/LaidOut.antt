@@ -11,7 +11,10 @@ use Rattle.ib_map.specs.Writes.{page_at}
 use Rattle.ib_map.proofs.WriteLaws.{touches-written, writes_at-range}
 use Rattle.ib_page.specs.Work.{WorkPage}
 use Rattle.ib_page.specs.Writes.{writes_of}
+use Rattle.ib_levels.proofs.Counts.{on-add}
 use Rattle.ib_layout.specs.Geometry.{Sizes}
+use Rattle.ib_core.specs.declared.session.Session.{Session as CoreSession}
+use Rattle.ib_core.specs.Sessions.{claims, sx_grants}
 use Rattle.ib_logrec.specs.declared.entry.Entry.{Entry}
 use Rattle.ib_logrec.specs.declared.entry.TheConstants.{HEAD_WORDS, MOST_WRITES}
 use Rattle.ib_logrec.specs.Words.{words_of_entry, entry_in}
@@ -54,6 +57,10 @@ laid_out e w out rest is size room =
     let long : length w ≡ ENTRY_WORDS = omega (arith, ap length is, length-append (words_of_entry e) (drop (HEAD_WORDS + 2 * length e.writes) out), length-words_of_entry e, length-drop (HEAD_WORDS + 2 * length e.writes) out) in
     (drop (HEAD_WORDS + 2 * length e.writes) out, sym (take_at w rest ENTRY_WORDS long ∙ is))
 
+-- who has SX has a claim
+claimed : (a : CoreSession) → 0 < sx_grants 1 a → 0 < claims 1 a
+claimed a has = let c = on-add 1 (λ h. h.sx) (λ h. h.x) a.held in omega arith
+
 -- the append of the entry that was laid out
 pub appended : (old start next : PassState) (e : Entry) → start ≡ record old { words = start.words } → entry_of start ≡ e → next ≡ with_view start (appending (entry_of start) start.view)
     → next ≡ record (with_view old (appending e old.view)) { words = next.words }
@@ -82,7 +89,7 @@ module _ (key : Sizes) (lawful : List Entry → Type 0) (p : PassState) (change 
             pages_x = λ q here.
                 let inside = writes_at-range 0 (writes_of pages) (key.pages * PAGE_WORDS) q in_grammar.places here in
                 (omega arith, may.pages_x (page_at q) (touches-written q (writes_of pages) here));
-            index = may.index;
+            index = λ spans. claimed p.view.session (may.index spans).0;
             legal = may.legal;
             room = let long = length-words_of_entry (entry_for p change pages) in let most = in_grammar.most_writes in omega arith;
           };

@@ -1,4 +1,4 @@
 mod Reading
 mod LaidOut
 mod Storing
-mod Trying
+pub mod Trying

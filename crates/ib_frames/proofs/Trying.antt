@@ -27,7 +27,8 @@ use Rattle.ib_frames.specs.Appends.{entry_for, MayAppend}
 pub held_by_x : (l : ℕ) (a : Session) → 0 < x_grants l a → 0 < holdings l a
 held_by_x l a x = dite (ℕ_discrete (holdings l a) 0) (λ none. let z : x_grants l a ≡ 0 = on-none l (λ h. h.x) a.held none in absurd (omega arith)) (λ some. omega arith)
 
-grammar_more : (pages : ℕ) (log : List Entry) (e : Entry) → AreInGrammar pages log → IsInGrammar pages e → AreInGrammar pages (log ++ e ∷ [])
+-- entries in the grammar, with one more
+pub grammar_more : (pages : ℕ) (log : List Entry) (e : Entry) → AreInGrammar pages log → IsInGrammar pages e → AreInGrammar pages (log ++ e ∷ [])
 grammar_more pages [] e are is = (is, tt)
 grammar_more pages (x ∷ log) e are is = (are.0, grammar_more pages log e are.1 is)
 
@@ -35,15 +36,15 @@ module _ (p : WorkPage) where
   elsewhere : (page : ℕ) → p.page ≢ page → changed_of page (p ∷ []) ≡ None
   elsewhere page away = rw (ne_eqb p.page page away) refl
 
-  alone : (page : ℕ) → touches page (writes_of (p ∷ [])) ≡ true → p.page ≡ page
+  pub alone : (page : ℕ) → touches page (writes_of (p ∷ [])) ≡ true → p.page ≡ page
   alone page is = dite (ℕ_discrete p.page page) (λ here. here) (λ away. let z : true ≡ false = sym is ∙ untouched (p ∷ []) page (elsewhere page away) in absurd (cc))
 
   rises : (pages : ℕ) → p.page < pages → PlacesRise 0 (writes_of (p ∷ [])) (pages * PAGE_WORDS)
   rises pages inside = writes_rise 0 pages (p ∷ []) (omega arith, tt) (All-cons (λ (q : WorkPage). q.page < pages) p [] inside (All-nil (λ (q : WorkPage). q.page < pages)))
 
-  module _ (pages : ℕ) (pass : PassState) (key value : ℕ) (inside : p.page < pages) (number : (1 ≤ pass.number) × (pass.number ≤ MOST_SESSIONS)) (made : length pass.view.memory.own < 1000) (is_key : key < 2 ^ 64)
+  module _ (pages : ℕ) (pass : PassState) (key value : ℕ) (inside : p.page < pages) (number : (1 ≤ pass.number) × (pass.number ≤ MOST_SESSIONS)) (made : length pass.view.memory.own + 1 < 2 ^ 32) (is_key : key < 2 ^ 64)
       (some : 0 < length (writes_of (p ∷ []))) (few : length (writes_of (p ∷ [])) ≤ 128) where
-    entry_fits : IsInGrammar pages (entry_for pass (Insert key value) (p ∷ []))
+    pub entry_fits : IsInGrammar pages (entry_for pass (Insert key value) (p ∷ []))
     entry_fits = record {
       session = number.0;
       most_session = number.1;

@@ -5,7 +5,7 @@ use Rattle.ib_map.specs.Writes.{spans_pages, touches}
 use Rattle.ib_page.specs.Work.{WorkPage}
 use Rattle.ib_page.specs.Writes.{writes_of}
 use Rattle.ib_core.specs.declared.phase.Phase.TheVariants.{Free}
-use Rattle.ib_core.specs.Sessions.{claims, x_grants}
+use Rattle.ib_core.specs.Sessions.{sx_grants, x_grants}
 use Rattle.ib_logrec.specs.declared.entry.Entry.{Entry}
 use Rattle.ib_rule.specs.Views.{is_watched}
 use Rattle.ib_rule.specs.Pass.{PassState}
@@ -18,11 +18,11 @@ entry_by session number change pages = record { session = session; number = numb
 abbrev pub entry_for : PassState → Change → List WorkPage → Entry
 entry_for p change pages = entry_by p.number (length p.view.memory.own + 1) change pages
 
--- it may be appended: the session is in the middle of nothing, owns X on the log latch, with a look at the log's end since, and on each page that is written, and SX or X on the index where more than one is; and the entry is lawful behind what was seen
+-- it may be appended: the session is in the middle of nothing, owns X on the log latch, with a look at the log's end since, and on each page that is written, and where more than one is, SX on the index and not X; and the entry is lawful behind what was seen
 pub record MayAppend (lawful : List Entry → Type 0) (p : PassState) (change : Change) (pages : List WorkPage) : Type 0 where
   pub free : p.view.session.phase ≡ Free
   pub log_x : 0 < x_grants 0 p.view.session
   pub watched : is_watched 0 p.view.memory.since ≡ true
   pub pages_x : (page : ℕ) → touches page (writes_of pages) ≡ true → 0 < x_grants (page + 2) p.view.session
-  pub index : spans_pages (writes_of pages) ≡ true → 0 < claims 1 p.view.session
+  pub index : spans_pages (writes_of pages) ≡ true → (0 < sx_grants 1 p.view.session) × (x_grants 1 p.view.session ≡ 0)
   pub legal : lawful (p.view.memory.seen ++ entry_for p change pages ∷ [])

@@ -33,7 +33,7 @@ pub struct LogFull {
 /// The words that differ are stored in the pages, then the entry's words behind those of the log
 /// (head, then place and value of each write: as log0recv reads them), and at last the log's end, which
 /// is the append. Nobody else stores meanwhile, since the session owns X on the log latch and on each
-/// page that it writes, and SX or X on the index where it writes more than one (as WL#6326 has it).
+/// page that it writes, and, where it writes more than one, SX on the index and not X (WL#6326).
 ///
 /// Refused exactly where the log has no room for the longest entry, `ENTRY_WORDS` words: then nothing
 /// happened. Of the pass only its view changes, and the words that it lends for an entry.

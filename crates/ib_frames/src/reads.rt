@@ -8,7 +8,7 @@ ghost use Rattle.ib_logrec.specs.Log.{by_place, memory_after, used};
 ghost use Rattle.ib_rule.specs.Pass.{IsFrom, IsOf, with_view};
 ghost use Rattle.ib_rule.specs.Stores.{IsLook};
 ghost use Rattle.ib_rule.specs.Views.{reaching};
-ghost use Rattle.ib_frames.specs.Reads.{with_page_loaded};
+ghost use Rattle.ib_frames.specs.Reads.{AreRight, with_page_loaded};
 
 use ib_logrec::Law;
 use ib_map::PAGE_WORDS;
@@ -30,6 +30,7 @@ pub fn read_page<L: Law>(space: &Space<L>, pass: &mut Pass, page: u32, out: &mut
         (with_page_loaded page out.new pass.old.view)) }
     ensures looked { IsLook space.now.sizes (L.lawful space.now.sizes.pages) pass.old.view
         pass.new.view.memory.seen }
+    ensures right { AreRight (by_place L.opening space.now.sizes.pages) pass.new.view }
 {
     load_words(space, pass, page, out);
     space.load_end(pass);
@@ -57,7 +58,7 @@ pub struct LogEnd {
 
 /// Looks at the log's end, by one load, as log0log's `lsn` is read. The session has seen all of the
 /// log then. Of what others appended since its last look nothing conflicts with a latch that it has
-/// held since then.
+/// held since then, and what it loaded of the pages that it holds is right still.
 pub fn log_end<L: Law>(space: &Space<L>, pass: &mut Pass) -> LogEnd
     requires { IsFrom space.now pass.old }
     ensures entries { result.entries ≡ length pass.new.view.memory.seen }
@@ -66,6 +67,7 @@ pub fn log_end<L: Law>(space: &Space<L>, pass: &mut Pass) -> LogEnd
         ≡ with_view pass.old (reaching pass.new.view.memory.seen pass.old.view) }
     ensures looked { IsLook space.now.sizes (L.lawful space.now.sizes.pages) pass.old.view
         pass.new.view.memory.seen }
+    ensures right { AreRight (by_place L.opening space.now.sizes.pages) pass.new.view }
 {
     let _ = space.load_end(pass);
     LogEnd {

@@ -71,7 +71,7 @@ more_counts X Sx h = omega arith
 more_counts X X h = omega arith
 
 -- the session with a grant more, the first one or a further one
-more_grant : (m : Mode) (k : ℕ) (mode : Mode) (l : ℕ) (v : Level) (a : Session) → IsProper a → on k (count_of m) (held_with mode l v a) ≡ on k (count_of m) a.held + hit m k mode l
+pub more_grant : (m : Mode) (k : ℕ) (mode : Mode) (l : ℕ) (v : Level) (a : Session) → IsProper a → on k (count_of m) (held_with mode l v a) ≡ on k (count_of m) a.held + hit m k mode l
 more_grant m k mode l v a proper = by_claims (nat_lt 0 (claims l a)) refl
   where
     further : 0 < claims l a → on l (count_of m) (changed l (one_more mode) a.held) ≡ on l (count_of m) a.held + cond (same_mode m mode) 1 0

@@ -19,10 +19,12 @@ use Rattle.ib_rule.specs.Conditions.{MayGrow}
 use Rattle.ib_rule.specs.Pass.{PassState, IsOf, with_view}
 use Rattle.ib_rule.specs.Space.{SpaceState}
 use Rattle.ib_latch.specs.Tries.{IsTaken, IsUnchanged, held_with}
+use Rattle.ib_frames.specs.Reads.{IsLoadedImage}
 use Rattle.ib_mtr.specs.Memo.{HasExactly}
 use Rattle.ib_mtr.specs.Mtr.{IsMtr, IsUnchangedOn, pages_left, released, released_at, with_memo, with_work, without_grant}
 use Rattle.ib_mtr.proofs.Grants.{exact_fewer, exact_more, still_held}
 use Rattle.ib_mtr.proofs.Held.{length_held}
+use Rattle.ib_mtr.proofs.Images.{pages_read}
 use Rattle.ib_mtr.proofs.Lists.{All-remove}
 use Rattle.ib_mtr.proofs.Pages.{pages_held}
 
@@ -30,9 +32,10 @@ use Rattle.ib_mtr.proofs.Pages.{pages_held}
 own_with : (space : SpaceState) (p : PassState) (v : View) (pages : List WorkPage) (memo : List (Latch × Mode)) → IsOf space p → v.memory.append ≡ None → IsOf space (record p { view = v; work = pages; memo = memo })
 own_with space p v pages memo own closed = record { table = own.table; sizes = own.sizes; closed = closed }
 
--- other pages whose latches are held
-pub with_pages : (space : SpaceState) (p : PassState) (pages : List WorkPage) → IsMtr space p → All (λ w. 0 < holdings (w.page + 2) p.view.session) pages → IsMtr space (with_work pages p)
-with_pages space p pages mtr held = record {
+-- other pages whose latches are held, as they were loaded
+pub with_pages : (space : SpaceState) (p : PassState) (pages : List WorkPage) → IsMtr space p → All (λ w. 0 < holdings (w.page + 2) p.view.session) pages
+    → All (λ w. IsLoadedImage p.view.memory.loaded w.page w.before) pages → IsMtr space (with_work pages p)
+with_pages space p pages mtr held read = record {
   own = own_with space p p.view pages p.memo mtr.own mtr.own.closed;
   works = mtr.works;
   free = mtr.free;
@@ -40,6 +43,7 @@ with_pages space p pages mtr held = record {
   exact = mtr.exact;
   known = mtr.known;
   held = held;
+  read = read;
 }
 
 -- a try that took nothing
@@ -52,6 +56,7 @@ refused space p q more mtr same unchanged = subst (IsMtr space) (sym same) (reco
   exact = subst (HasExactly p.memo) (sym unchanged.session) mtr.exact;
   known = mtr.known;
   held = subst (λ (a : Session). All (λ w. 0 < holdings (w.page + 2) a) p.work) (sym unchanged.session) mtr.held;
+  read = subst (λ (m : Memory). All (λ w. IsLoadedImage m.loaded w.page w.before) p.work) (sym unchanged.memory) mtr.read;
 })
 
 -- the memo has room for one grant more, where the session may take one
@@ -75,6 +80,7 @@ granted space p q r mode latch v mtr low same taken proper more =
       known = All-push (λ g. g.0.0 < latches_of space.sizes) p.memo (latch, mode) mtr.known low;
       held = All-weaker (λ w. 0 < holdings (w.page + 2) p.view.session) (λ w. 0 < holdings (w.page + 2) q.view.session)
           (λ w has. let same = ap (on (w.page + 2) (λ h. 1)) now in let s = still_held mode latch.0 (w.page + 2) v p.view.session has in omega arith) p.work mtr.held;
+      read = subst (λ (m : Memory). All (λ w. IsLoadedImage m.loaded w.page w.before) p.work) (sym taken.memory) mtr.read;
     } in subst (IsMtr space) (sym (more ∙ ap (λ (q : PassState). with_memo (q.memo ++ (latch, mode) ∷ []) q) same)) after
 
 -- the pages of a latch that was given back are as they were
@@ -101,4 +107,5 @@ module _ (p q r s : PassState) (at : ℕ) (g : Latch × Mode) (unlocked : q ≡ 
         exact = exact_fewer p.memo p.view.session after.session at g mtr.exact mtr.proper there refl;
         known = All-remove (λ g. g.0.0 < latches_of space.sizes) p.memo at mtr.known;
         held = pages_held g.1 g.0.0 p.view.session after.session p.work refl mtr.held;
+        read = pages_read g.0.0 after.session p.view.memory.loaded p.work mtr.read;
       } in subst (IsMtr space) (sym released_is) end

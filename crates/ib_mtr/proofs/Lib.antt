@@ -3,5 +3,10 @@ pub mod Grants
 pub mod Pages
 pub mod Held
 pub mod Places
+pub mod Images
 pub mod Keeping
 pub mod Releasing
+pub mod Looking
+pub mod Ending
+pub mod Committing
+pub mod Trying

@@ -1,3 +1,5 @@
 pub mod Memo
 pub mod Mtr
+pub mod Loads
+pub mod Commits
 pub mod Lending

@@ -18,9 +18,10 @@ use Rattle.ib_rule.specs.Pass.{PassState, IsOf}
 use Rattle.ib_rule.specs.Space.{SpaceState}
 use Rattle.ib_rule.specs.Views.{left_as, with_looks}
 use Rattle.ib_latch.specs.Unlocks.{sx_steps}
+use Rattle.ib_frames.specs.Reads.{IsLoadedImage}
 use Rattle.ib_mtr.specs.Memo.{HasExactly}
 
--- a mini-transaction works in the pass, which is one of the space: the session is in the middle of nothing, has exactly the grants of the memo, and holds the latch of each page of the work set
+-- a mini-transaction works in the pass, which is one of the space: the session is in the middle of nothing, has exactly the grants of the memo, and holds the latch of each page of the work set, whose image as read is what was loaded under the grant that is held now
 pub record IsMtr (space : SpaceState) (p : PassState) : Type 0 where
   pub own : IsOf space p
   pub works : IsTrue p.is_working
@@ -29,6 +30,7 @@ pub record IsMtr (space : SpaceState) (p : PassState) : Type 0 where
   pub exact : HasExactly p.memo p.view.session
   pub known : All (λ g. g.0.0 < latches_of space.sizes) p.memo
   pub held : All (λ w. 0 < holdings (w.page + 2) p.view.session) p.work
+  pub read : All (λ w. IsLoadedImage p.view.memory.loaded w.page w.before) p.work
 
 -- the pass with other pages, or with another memo
 abbrev pub with_work : List WorkPage → PassState → PassState

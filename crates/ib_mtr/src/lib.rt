@@ -3,6 +3,11 @@
 #![tactic(auto)]
 
 #[cfg(test)]
+mod commit_tests;
+mod commits;
+mod laws;
+mod loads;
+#[cfg(test)]
 mod lock_tests;
 mod locks;
 mod memo;
@@ -10,4 +15,5 @@ mod mtr;
 #[cfg(test)]
 mod tests;
 
+pub use laws::edit_law;
 pub use mtr::Mtr;

@@ -15,7 +15,7 @@ use std::process::Abort;
 type Work<'a> = Mtr<'a, AnyLaw>;
 
 // The latch is one of the table's, which may be wished for or is claimed, and a grant may be taken.
-fn may_claim(rt: &impl Abort, mtr: &Work<'_>, latch: Latch, level: Level)
+pub(super) fn may_claim(rt: &impl Abort, mtr: &Work<'_>, latch: Latch, level: Level)
     ensures latch { latch.0 < latches_of mtr.now.latches.now.sizes }
     ensures grows { MayGrow mtr.now.pass.now.view }
     ensures may { MayClaim latch.0 level mtr.now.pass.now.view.session }

@@ -96,7 +96,7 @@ impl<'a, L: Law, S: Sleep> Mtr<'a, L, S> {
 
     // Gives all grants of the memo back, from the newest to the oldest
     // (`mtr_t::Command::release_all`). No page is there.
-    fn release_all(&mut self)
+    pub(crate) fn release_all(&mut self)
         requires mtr { IsMtr self.old.latches.now self.old.pass.now }
         requires pages { self.old.pass.now.work ≡ [] }
         ensures mtr { IsMtr self.new.latches.now self.new.pass.now }

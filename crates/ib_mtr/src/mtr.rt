@@ -5,6 +5,7 @@ ghost use Rattle.std.specs.Borrow.{sem};
 ghost use Rattle.ib_core.specs.Sessions.{idle};
 ghost use Rattle.ib_page.specs.Work.{before_of, changed_of, without_page};
 ghost use Rattle.ib_rule.specs.Pass.{IsOf};
+ghost use Rattle.ib_rule.specs.Views.{KnowsHeld};
 ghost use Rattle.ib_mtr.specs.Mtr.{IsMtr, finished, started, with_work};
 ghost use Rattle.ib_mtr.specs.Lending.{LendsPages};
 
@@ -43,6 +44,7 @@ impl<'a, L: Law, S: Sleep> Mtr<'a, L, S> {
         requires none { self.pass.now.memo ≡ [] }
         ensures finished { self.exit.1.0.now ≡ finished self.entry.pass.now }
         ensures idle { self.exit.1.0.now.view.session ≡ idle }
+        ensures known { KnowsHeld self.exit.1.0.now.view }
     {
         let Mtr { latches: _, pass } = self;
         pass.end_work();

@@ -2,16 +2,14 @@
 
 ghost use Rattle.std.specs.Prelude.{◌≡◌, ◌+◌, ◌<◌, ℕ, true, []};
 ghost use Rattle.ib_core.specs.Sessions.{holdings, idle};
-ghost use Rattle.ib_page.specs.Work.{with_read};
 ghost use Rattle.ib_rule.specs.Pass.{IsOf};
-ghost use Rattle.ib_mtr.specs.Mtr.{IsMtr, IsUnchangedOn, with_work};
+ghost use Rattle.ib_mtr.specs.Mtr.{IsMtr, IsUnchangedOn};
 
 use super::*;
 use ib_latch::{Latches, NoSleep, Sleep, TryFault};
 use ib_layout::Geometry;
 use ib_levels::{Latch, Level, Mode};
 use ib_logrec::AnyLaw;
-use ib_page::Image;
 use ib_rule::Pass;
 use std::alloc::Global;
 use std::process::Abort;
@@ -68,17 +66,18 @@ fn is_read(rt: &impl Abort, mtr: &Work<'_>, latch: Latch)
     assert!(rt; mtr.pass().counts(latch).s > 0);
 }
 
-// A page whose latch is held is taken in, as it was read.
-fn take_in(mtr: &mut Work<'_>, page: u32, image: &Image)
+// A page whose latch is held is loaded, and no other is.
+fn load(mtr: &mut Work<'_>, page: u32)
     requires mtr { IsMtr mtr.old.latches.now mtr.old.pass.now }
     requires none { mtr.old.pass.now.work ≡ [] }
     requires held { 0 < holdings (page + 2) mtr.old.pass.now.view.session }
+    requires page { page < mtr.old.latches.now.sizes.pages }
     ensures mtr { IsMtr mtr.new.latches.now mtr.new.pass.now }
     ensures latches { mtr.new.latches ≡ mtr.old.latches }
     ensures pass { mtr.new.pass.ghost_name ≡ mtr.old.pass.ghost_name }
-    ensures work { mtr.new.pass.now ≡ with_work (with_read page image.now []) mtr.old.pass.now }
+    ensures unchanged { (l : ℕ) → IsUnchangedOn l mtr.new.pass.now.work }
 {
-    mtr.work().add(page, image);
+    mtr.load(page);
 }
 
 #[test]
@@ -119,7 +118,8 @@ fn a_page_leaves_with_its_latch(rt: HostRuntime) {
     let mut mtr = Mtr::start(&table, &mut one);
     assert_eq!(rt; s(&rt, &mut mtr, Latch(3), Level::TreeNode), Ok(()));
     is_read(&rt, &mtr, Latch(3));
-    take_in(&mut mtr, 1, &Image::free(7));
+    assert!(rt; 1 < mtr.latches.space().geometry().pages());
+    load(&mut mtr, 1);
     assert!(rt; mtr.image(1).is_some());
     give(&rt, &mut mtr, 0);
     assert_eq!(rt; (mtr.image(1).is_none(), mtr.savepoint()), (true, 0));

@@ -34,6 +34,19 @@ impl Desk {
         }
     }
 
+    // The scratch in which a mini-transaction works, with all that is in it. It is with the caller from
+    // then on.
+    pub(crate) fn leave(&mut self) -> Scratch
+        requires { (desk_state self.old).is_taken ≡ true }
+        ensures was { self.old ≡ Desk.Taken result }
+        ensures bare { self.new ≡ Desk.Bare }
+    {
+        match mem::replace(self, Desk::Bare) {
+            Desk::Taken(scratch) => scratch,
+            _ => unreachable!(),
+        }
+    }
+
     // The work of a mini-transaction ends, and no page is there any more.
     pub(crate) fn end(&mut self)
         requires { (desk_state self.old).is_taken ≡ true }

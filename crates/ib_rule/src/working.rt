@@ -1,13 +1,15 @@
 //! The room of a pass while a mini-transaction works in it: its memo and its work set.
 
-ghost use Rattle.std.specs.Prelude.{◌≡◌, ◌<◌, ◌++◌, ◌∷◌, [], true, false, Some, IsTrue, length, slice_get, remove};
+ghost use Rattle.std.specs.Prelude.{◌≡◌, ◌<◌, ◌≤◌, ◌++◌, ◌∷◌, [], true, false, Some, IsTrue, length, slice_get, remove, vec_capacity};
 ghost use Rattle.std.specs.Borrow.{sem};
 ghost use Rattle.ib_core.specs.Good.{IsProper};
 ghost use Rattle.ib_rule.specs.declared.pass.TheConstants.{MOST_HELD};
 ghost use Rattle.ib_rule.specs.Lending.{LendsWork};
+ghost use Rattle.ib_rule.specs.Views.{KnowsHeld};
 
 use crate::desk::Desk;
 use crate::pass::Pass;
+use crate::scratch::Scratch;
 use ib_levels::{Latch, Mode};
 use ib_page::WorkSet;
 
@@ -42,16 +44,44 @@ impl Pass {
         self.desk = Desk::Taken(scratch);
     }
 
+    /// The room of the mini-transaction, with its pages and its grants, which is out of the pass until
+    /// `resume_work`: so that a step of the pass may read or fill the pages.
+    pub fn leave_work(&mut self) -> Scratch
+        requires { IsTrue self.old.is_working }
+        ensures work { result.work ≡ self.old.work }
+        ensures memo { result.memo.items ≡ self.old.memo }
+        ensures room { MOST_HELD ≤ vec_capacity result.memo }
+        ensures out { self.new ≡ record self.old { is_working = false; work = []; memo = [] } }
+        ensures bare { self.old.has_scratch ≡ false }
+    {
+        self.desk.leave()
+    }
+
+    /// The mini-transaction works on in this room, with the pages and the grants that are in it.
+    pub fn resume_work(&mut self, room: Scratch)
+        requires out { self.old.has_scratch ≡ false }
+        requires rests { self.old.is_working ≡ false }
+        requires room { MOST_HELD ≤ vec_capacity room.memo }
+        ensures { self.new ≡ record self.old {
+          is_working = true;
+          work = room.work;
+          memo = room.memo.items;
+        } }
+    {
+        self.desk = Desk::Taken(room);
+    }
+
     /// The mini-transaction ends, with nothing in its memo: its pages are gone, and the scratch is
     /// free again.
     pub fn end_work(&mut self)
         requires works { IsTrue self.old.is_working }
         requires none { self.old.memo ≡ [] }
-        ensures { self.new ≡ record self.old {
+        ensures ended { self.new ≡ record self.old {
           has_scratch = true;
           is_working = false;
           work = [];
         } }
+        ensures known { KnowsHeld self.old.view }
     {
         self.desk.end();
     }

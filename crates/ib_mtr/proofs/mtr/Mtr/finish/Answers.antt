@@ -7,4 +7,4 @@ use Rattle.ib_mtr.proofs.mtr.Mtr.finish.Goals as goal
 pub returns-clause-idle : goal.returns-clause-idle
 returns-clause-idle g c =
     let mtr = c.requires.mtr in
-    ap (λ (p : PassState). p.view.session) c.end_work.ensures ∙ idle_by c.args.self.pass.now.memo c.args.self.pass.now.view.session mtr.exact mtr.proper c.requires.none mtr.free
+    ap (λ (p : PassState). p.view.session) c.end_work.ensures.ended ∙ idle_by c.args.self.pass.now.memo c.args.self.pass.now.view.session mtr.exact mtr.proper c.requires.none mtr.free

@@ -1,0 +1,146 @@
+//! The end of a mini-transaction: its commit, which is one append, or its end without a change.
+
+ghost use Rattle.std.specs.Prelude.{◌≡◌, ◌<◌, ◌+◌, ◌≤◌, ◌↔◌, [], true, length, IfOk, IfErr};
+ghost use Rattle.ib_core.specs.Sessions.{idle};
+ghost use Rattle.ib_logrec.specs.Log.{by_place, used};
+ghost use Rattle.ib_page.specs.Work.{IsWork};
+ghost use Rattle.ib_frames.specs.Appends.{MayAppend, entry_for};
+ghost use Rattle.ib_rule.specs.declared.pass.TheConstants.{ENTRY_WORDS};
+ghost use Rattle.ib_rule.specs.declared.view.Role.TheVariants.{Session};
+ghost use Rattle.ib_rule.specs.Pass.{with_view};
+ghost use Rattle.ib_rule.specs.Stores.{appending};
+ghost use Rattle.ib_mtr.specs.Commits.{HasCommitted, HasRead, IsFull, MayCommit};
+ghost use Rattle.ib_mtr.specs.Mtr.{IsMtr, released_to, with_work};
+
+use crate::mtr::Mtr;
+use ib_frames::{LogFull, append};
+use ib_latch::{Latches, Parkers, Sleep};
+use ib_levels::{Latch, Level};
+use ib_logrec::Law;
+use ib_map::Change;
+use ib_rule::Pass;
+use std::sync::Wait;
+
+impl<'a, L: Law> Mtr<'a, L, Parkers> {
+    /// Commits (`mtr_t::commit`): takes X on the log latch, looks at the log's end, and appends one
+    /// entry for the change, with the words in which the pages of the work set differ from what was
+    /// read. It answers the entry's place, and each page of the work set is from there on as it was
+    /// changed. `LogFull` exactly where the log has no room for the longest entry, `ENTRY_WORDS` words: then nothing is
+    /// written. Either way all latches are given back, from the newest to the oldest, the log latch
+    /// first.
+    ///
+    /// What others appended since the last look conflicts with no latch that was watched when the
+    /// call began. The condition is on every such list of entries: the change is lawful behind it.
+    pub fn commit<R: Wait>(self, rt: &R, change: Change) -> Result<u32, LogFull>
+        requires mtr { IsMtr self.latches.now self.pass.now }
+        requires may { MayCommit (L.lawful self.latches.now.sizes.pages) self.pass.now change }
+        ensures committed { IfOk result (λ place. HasCommitted self.entry.latches.now.sizes
+            (L.lawful self.entry.latches.now.sizes.pages)
+            (by_place L.opening self.entry.latches.now.sizes.pages)
+            change self.entry.pass.now place self.exit.1.0.now) }
+        ensures full { IfErr result (λ full. IsFull self.entry.latches.now.sizes
+            (L.lawful self.entry.latches.now.sizes.pages)
+            self.entry.pass.now full self.exit.1.0.now) }
+    {
+        let Mtr { latches, pass } = self;
+        commit_in(latches, pass, rt, change)
+    }
+}
+
+impl<'a, L: Law, S: Sleep> Mtr<'a, L, S> {
+    /// Ends without a change (`mtr_t::commit` of a mini-transaction that made no modifications), once the
+    /// log's end was looked at: it answers the place after all entries seen. All latches are given back,
+    /// from the newest to the oldest, and nothing is written.
+    pub fn commit_read(self) -> u32
+        requires { IsMtr self.latches.now self.pass.now }
+        ensures { HasRead self.entry.latches.now.sizes
+            (L.lawful self.entry.latches.now.sizes.pages)
+            self.entry.pass.now result self.exit.1.0.now }
+    {
+        let Mtr { latches, pass } = self;
+        read_and_end(latches, pass)
+    }
+
+    // Appends the entry of the change, with what the work set changes.
+    fn append_entry(&mut self, change: Change) -> Result<u32, LogFull>
+        requires mtr { IsMtr self.old.latches.now self.old.pass.now }
+        requires may { used self.old.pass.now.view.memory.seen + ENTRY_WORDS
+            ≤ self.old.latches.now.sizes.log_words
+            → MayAppend (L.lawful self.old.latches.now.sizes.pages) self.old.pass.now change
+            self.old.pass.now.work }
+        ensures latches { self.new.latches ≡ self.old.latches }
+        ensures pass { self.new.pass.ghost_name ≡ self.old.pass.ghost_name }
+        ensures place { IfOk result (λ place. place ≡ length self.old.pass.now.view.memory.seen) }
+        ensures ok { IfOk result (λ place. self.new.pass.now ≡ record (with_view self.old.pass.now
+            (appending (entry_for self.old.pass.now change self.old.pass.now.work)
+            self.old.pass.now.view)) {
+              words = self.new.pass.now.words;
+            }) }
+        ensures err { IfErr result (λ full. (full.used ≡ used self.old.pass.now.view.memory.seen)
+            × (full.cap ≡ self.old.latches.now.sizes.log_words)
+            × (self.old.latches.now.sizes.log_words
+            < used self.old.pass.now.view.memory.seen + ENTRY_WORDS)
+            × (self.new.pass.now ≡ self.old.pass.now)) }
+        ensures work { IsWork self.old.pass.now.work }
+    {
+        let room = self.pass.leave_work();
+        // The pages of a work set ascend.
+        let _ = room.work.len();
+        let result = append(self.latches.space(), self.pass, change, &room.work);
+        self.pass.resume_work(room);
+        result
+    }
+
+    // All pages leave the work set, and all grants are given back.
+    fn give_back(&mut self)
+        requires { IsMtr self.old.latches.now (with_work [] self.old.pass.now) }
+        ensures pass { self.new.pass.ghost_name ≡ self.old.pass.ghost_name }
+        ensures mtr { IsMtr self.new.latches.now self.new.pass.now }
+        ensures given { self.new.pass.now ≡ released_to 0 (with_work [] self.old.pass.now) }
+        ensures idle { self.new.pass.now.view.session ≡ idle }
+    {
+        self.pass.work_mut().clear();
+        self.release_all();
+    }
+}
+
+// The commit of the mini-transaction that works in the pass.
+fn commit_in<L: Law, R: Wait>(
+    latches: &Latches<L, Parkers>,
+    pass: &mut Pass,
+    rt: &R,
+    change: Change,
+) -> Result<u32, LogFull>
+    requires mtr { IsMtr latches.now pass.old }
+    requires may { MayCommit (L.lawful latches.now.sizes.pages) pass.old change }
+    ensures committed { IfOk result (λ place. HasCommitted latches.now.sizes
+        (L.lawful latches.now.sizes.pages) (by_place L.opening latches.now.sizes.pages)
+        change pass.old place pass.new) }
+    ensures full { IfErr result (λ full. IsFull latches.now.sizes
+        (L.lawful latches.now.sizes.pages) pass.old full pass.new) }
+{
+    // The session's number, which no step changes.
+    let _ = pass.number();
+    let mut mtr = Mtr { latches, pass };
+    mtr.x_latch(rt, Latch::LOG, Level::Log);
+    let _ = mtr.pass.number();
+    mtr.log_end();
+    let result = mtr.append_entry(change);
+    // What is seen fits the log.
+    let _ = mtr.pass.used();
+    mtr.give_back();
+    mtr.finish();
+    result
+}
+
+// A look at the log's end, and the end of the mini-transaction that works in the pass.
+fn read_and_end<L: Law, S: Sleep>(latches: &Latches<L, S>, pass: &mut Pass) -> u32
+    requires { IsMtr latches.now pass.old }
+    ensures { HasRead latches.now.sizes (L.lawful latches.now.sizes.pages) pass.old result pass.new }
+{
+    let mut reader = Mtr { latches, pass };
+    let place = reader.log_end().entries;
+    reader.give_back();
+    reader.finish();
+    place
+}

@@ -1,0 +1,73 @@
+//! Pages that are loaded under their latches, and changed, and looks at the log's end.
+
+ghost use Rattle.std.specs.Prelude.{◌≡◌, ◌<◌, ◌+◌, ℕ, List, Some, None, IsSome, length};
+ghost use Rattle.std.specs.Borrow.{sem};
+ghost use Rattle.ib_core.specs.Sessions.{holdings, x_grants};
+ghost use Rattle.ib_logrec.specs.Log.{by_place, used};
+ghost use Rattle.ib_page.specs.declared.work.TheConstants.{MOST_WORK_PAGES};
+ghost use Rattle.ib_page.specs.Work.{changed_of};
+ghost use Rattle.ib_mtr.specs.Lending.{LendsImage};
+ghost use Rattle.ib_mtr.specs.Loads.{HasLoaded, HasLooked};
+ghost use Rattle.ib_mtr.specs.Mtr.{IsMtr};
+
+use crate::mtr::Mtr;
+use ib_frames::{LogEnd, read_page};
+use ib_latch::Sleep;
+use ib_logrec::Law;
+use ib_page::Image;
+
+impl<'a, L: Law, S: Sleep> Mtr<'a, L, S> {
+    /// Loads a page into the work set, of which the session holds the latch in some mode, and which is
+    /// not there yet (`buf_page_get_gen`, then `mtr_t::memo_push`): its words, and then a look at the log's end. It
+    /// is the page after all entries that the session has seen then. The work set has at most
+    /// `MOST_WORK_PAGES` pages.
+    pub fn load(&mut self, page: u32)
+        requires mtr { IsMtr self.old.latches.now self.old.pass.now }
+        requires page { page < self.old.latches.now.sizes.pages }
+        requires held { 0 < holdings (page + 2) self.old.pass.now.view.session }
+        requires absent { changed_of page self.old.pass.now.work ≡ None }
+        requires few { length self.old.pass.now.work < MOST_WORK_PAGES }
+        ensures mtr { IsMtr self.new.latches.now self.new.pass.now }
+        ensures latches { self.new.latches ≡ self.old.latches }
+        ensures pass { self.new.pass.ghost_name ≡ self.old.pass.ghost_name }
+        ensures loaded { HasLoaded self.old.latches.now.sizes
+            (L.lawful self.old.latches.now.sizes.pages)
+            (by_place L.opening self.old.latches.now.sizes.pages)
+            page self.old.pass.now self.new.pass.now }
+    {
+        let mut room = self.pass.leave_work();
+        let image = room.work.read_in(page);
+        read_page(self.latches.space(), self.pass, page, image);
+        // An image has as many words as a page.
+        let _ = image.word(0);
+        self.pass.resume_work(room);
+    }
+
+    /// The changed image of a page, lent to be changed: the page is loaded, and the session owns X on
+    /// its latch. It is a mini-transaction again afterwards (`edit_law`).
+    pub fn edit(&mut self, page: u32) -> &mut Image
+        requires mtr { IsMtr self.old.latches.now self.old.pass.now }
+        requires held { 0 < x_grants (page + 2) self.old.pass.now.view.session }
+        requires loaded { IsSome (changed_of page self.old.pass.now.work) }
+        ensures* lends { sem 𝓛 (LendsImage L.row S.row L.Law self.entry page result) }
+        ensures image { changed_of page self.old.pass.now.work ≡ Some result.now }
+    {
+        self.pass.work_mut().edit(page)
+    }
+
+    /// Looks at the log's end: all of the log is seen then. Memo and work set stay as they are.
+    pub fn log_end(&mut self) -> LogEnd
+        requires mtr { IsMtr self.old.latches.now self.old.pass.now }
+        ensures mtr { IsMtr self.new.latches.now self.new.pass.now }
+        ensures latches { self.new.latches ≡ self.old.latches }
+        ensures pass { self.new.pass.ghost_name ≡ self.old.pass.ghost_name }
+        ensures entries { result.entries ≡ length self.new.pass.now.view.memory.seen }
+        ensures words { result.words ≡ used self.new.pass.now.view.memory.seen }
+        ensures looked { HasLooked self.old.latches.now.sizes
+            (L.lawful self.old.latches.now.sizes.pages)
+            (by_place L.opening self.old.latches.now.sizes.pages)
+            self.old.pass.now self.new.pass.now }
+    {
+        ib_frames::log_end(self.latches.space(), self.pass)
+    }
+}
