@@ -1,5 +1,5 @@
 pub mod FileLaws
-pub mod StoreLaws
+pub mod TreeSteps
 pub mod ReplayLaws
 pub mod OnlyLog
 pub mod OneFault

@@ -1,16 +1,16 @@
 -- Bytes have one first fault, and those of a lawful log's file have none.
-use Rattle.std.proofs.Common.{◌≡◌, ◌⊎◌, ℕ, List, [], ◌∷◌, ◌++◌, Some, inl, inr, refl, sym, ap, subst, ◌∙◌, append_assoc}
+use Rattle.std.proofs.Common.{◌≡◌, ◌⊎◌, ℕ, List, [], ◌∷◌, ◌++◌, Option, None, Some, inl, inr, refl, sym, ap, subst, ◌∙◌, append_assoc}
 use Rattle.std.specs.Prelude.{Result, Ok, Err, IfOk, IfErr, MatchResult}
 use Rattle.ib_logrec.specs.declared.entry.Entry.{Entry}
 use Rattle.ib_logrec.specs.declared.fault.LogFault.{LogFault}
 use Rattle.ib_logrec.specs.declared.fault.LogFault.TheVariants.{OutOfMemory}
-use Rattle.ib_logrec.specs.Words.{words_of_entry}
+use Rattle.ib_logrec.specs.Words.{words_of_entry, entry_in}
 use Rattle.ib_logrec.specs.Grammar.{IsInGrammar}
 use Rattle.ib_logrec.specs.Law.{AreInGrammar}
 use Rattle.ib_logrec.specs.Log.{log_words}
 use Rattle.ib_replay.specs.declared.log_replay.Replayed.{Replayed}
 use Rattle.ib_replay.specs.Files.{file_fault}
-use Rattle.ib_replay.specs.Replays.{fault_behind, IsFirstFault}
+use Rattle.ib_replay.specs.Replays.{fault_behind, IsFirstOf, IsFirstFault}
 use Rattle.ib_replay.specs.RawLogs.{IsRawLog, IsReplayed, IsWordFault, IsRawFault}
 use Rattle.ib_replay.proofs.FileLaws.{file_fault-none, file_of-one, has_pages-fits}
 use Rattle.ib_replay.proofs.OnlyLog.{same_rest, no_fault_behind, not_first_fault, log_words-one}
@@ -51,18 +51,20 @@ fronts pages (x ∷ xs) (y ∷ ys) r s x_is y_is same =
       | inr (inr on) ↦ inr (inr (GoesOn-behind pages y x ys xs s first.0 on))
     ]
 
+-- two first faults of the same words are the same
+IsFirstOf-one : (pages : ℕ) (front : List Entry) (e : Entry) (found : Option LogFault) (a b : LogFault) → IsFirstOf pages front e found a → IsFirstOf pages front e found b → a ≡ b
+IsFirstOf-one pages front e (Some found) a b is_a is_b = sym is_a ∙ is_b
+IsFirstOf-one pages front e None a b is_a is_b = is_a.is ∙ sym is_b.is
+
 pub first_fault-one : (pages : ℕ) (words : List ℕ) (a b : LogFault) → IsFirstFault pages words a → IsFirstFault pages words b → a ≡ b
 first_fault-one pages words a b is_a is_b =
     elim (fronts pages is_a.front is_b.front is_a.rest is_b.rest is_a.lawful.grammar is_b.lawful.grammar (sym is_a.parts ∙ is_b.parts)) [
       | inl both ↦
-          let here = ap (fault_behind pages is_a.front) both.1 ∙ ap (λ (front : List Entry). fault_behind pages front is_b.rest) both.0 in
-          let found : Some a ≡ Some b = sym is_a.found ∙ here ∙ is_b.found in cc
-      | inr (inl on) ↦
-          let none = no_fault_behind pages is_a.front on.more is_b.front on.entry is_a.rest on.tail is_b.lawful on.parts on.spelled on.is in
-          let found = is_a.found in absurd (cc)
-      | inr (inr on) ↦
-          let none = no_fault_behind pages is_b.front on.more is_a.front on.entry is_b.rest on.tail is_a.lawful on.parts on.spelled on.is in
-          let found = is_b.found in absurd (cc)
+          let here = subst (λ (front : List Entry). IsFirstOf pages front (entry_in is_b.rest) (fault_behind pages front is_b.rest) a) both.0
+          (subst (λ (rest : List ℕ). IsFirstOf pages is_a.front (entry_in rest) (fault_behind pages is_a.front rest) a) both.1 is_a.found) in
+          IsFirstOf-one pages is_b.front (entry_in is_b.rest) (fault_behind pages is_b.front is_b.rest) a b here is_b.found
+      | inr (inl on) ↦ absurd (no_fault_behind pages is_a.front on.more is_b.front on.entry is_a.rest on.tail a is_b.lawful on.parts on.spelled on.is is_a.found)
+      | inr (inr on) ↦ absurd (no_fault_behind pages is_b.front on.more is_a.front on.entry is_b.rest on.tail b is_a.lawful on.parts on.spelled on.is is_b.found)
     ]
 
 -- the bytes of a lawful log's file have no fault

@@ -1,5 +1,5 @@
 -- The words of a lawful log are no other log's, and have no fault.
-use Rattle.std.proofs.Common.{◌≡◌, ℕ, ◌+◌, ◌<◌, true, List, [], ◌∷◌, ◌++◌, length, None, refl, sym, ap, subst, ◌∙◌, arith, append_assoc, length-append}
+use Rattle.std.proofs.Common.{◌≡◌, ℕ, ◌+◌, ◌<◌, true, List, [], ◌∷◌, ◌++◌, length, Option, None, refl, sym, ap, subst, ◌∙◌, arith, append_assoc, length-append}
 use Rattle.std.specs.Prelude.{Result, Ok, Err, IfOk, IfErr, MatchResult}
 use Rattle.std.proofs.Math.Seq.{take-length}
 use Rattle.std.proofs.lemmas.Bool.{eq-eqb}
@@ -19,7 +19,11 @@ use Rattle.ib_logrec.proofs.EntryLaws.{length-words_of_entry, entry_in-words, fa
 use Rattle.ib_logrec.proofs.WordLaws.{words_of_entry-one}
 use Rattle.ib_logrec.proofs.LogLaws.{history_of-append}
 use Rattle.ib_replay.specs.declared.log_replay.Replayed.{Replayed}
-use Rattle.ib_replay.specs.Replays.{IsLawful, change_fault, fault_behind, IsFirstFault, IsReplayFault}
+use Rattle.ib_walk.specs.Opening.{opening_word}
+use Rattle.ib_tree.specs.Logs.{IsTreeEntry}
+use Rattle.ib_tree.specs.TreeLog.{IsTreeLog}
+use Rattle.ib_tree.proofs.OpeningLaws.{by_place-opening}
+use Rattle.ib_replay.specs.Replays.{change_fault, fault_behind, IsFirstOf, IsFirstFault, IsReplayFault}
 
 -- what begins with an entry's words goes on with what stands behind them
 pub same_rest : (pages : ℕ) (e f : Entry) (x y : List ℕ) → IsInGrammar pages e → IsInGrammar pages f → words_of_entry e ++ x ≡ words_of_entry f ++ y → (e ≡ f) × (x ≡ y)
@@ -65,27 +69,29 @@ no_change_fault place front e legal =
     rw (eq-eqb _ _ numbered, made) refl
 
 -- behind a front of a lawful log stand the words of its next entry, and nothing is wrong with them
-pub no_fault_behind : (pages : ℕ) (front more log : List Entry) (e : Entry) (rest tail : List ℕ) → IsLawful pages log → log ≡ front ++ e ∷ more → rest ≡ words_of_entry e ++ tail → IsInGrammar pages e
-    → fault_behind pages front rest ≡ None
-no_fault_behind pages front more log e rest tail lawful parts spelled is =
+pub no_fault_behind : (pages : ℕ) (front more log : List Entry) (e : Entry) (rest tail : List ℕ) (fault : LogFault) → IsTreeLog pages log → log ≡ front ++ e ∷ more → rest ≡ words_of_entry e ++ tail → IsInGrammar pages e
+    → IsFirstOf pages front (entry_in rest) (fault_behind pages front rest) fault → ⊥
+no_fault_behind pages front more log e rest tail fault lawful parts spelled is first =
     let read : entry_in rest ≡ e = ap entry_in spelled ∙ entry_in-words e tail is.most_writes in
     let words : fault_at pages (used front) rest ≡ None = ap (fault_at pages (used front)) spelled ∙ fault_at-words pages (used front) e tail is in
     let legal = legal_next front more e (subst (λ (l : List Entry). IsLegalHistory (history_of l)) parts lawful.legal) in
-    rw (words, read) (no_change_fault (used front) front e legal)
+    let none : fault_behind pages front rest ≡ None = rw (words, read) (no_change_fault (used front) front e legal) in
+    let found = subst (λ (o : Option LogFault). IsFirstOf pages front (entry_in rest) o fault) none first in
+    let entry : IsTreeEntry pages 1 opening_word front e = subst (λ (start : ℕ → ℕ). IsTreeEntry pages 1 start front e) (by_place-opening pages) (lawful.entries front e more parts) in
+    found.none (subst (IsTreeEntry pages 1 opening_word front) (sym read) entry)
 
-pub not_first_fault : (pages : ℕ) (log : List Entry) (fault : LogFault) → IsLawful pages log → IsFirstFault pages (log_words log) fault → ⊥
+pub not_first_fault : (pages : ℕ) (log : List Entry) (fault : LogFault) → IsTreeLog pages log → IsFirstFault pages (log_words log) fault → ⊥
 not_first_fault pages log fault lawful first =
     let next = next_entry pages first.front log first.rest first.lawful.grammar lawful.grammar first.parts first.more in
-    let none = no_fault_behind pages first.front next.1 log next.0 first.rest (log_words next.1) lawful next.2 next.3 next.4 in
-    let found = first.found in cc
+    no_fault_behind pages first.front next.1 log next.0 first.rest (log_words next.1) fault lawful next.2 next.3 next.4 first.found
 
-no_fault : (pages : ℕ) (log : List Entry) (fault : LogFault) → IsLawful pages log → IsReplayFault pages (log_words log) fault → fault ≡ OutOfMemory
+no_fault : (pages : ℕ) (log : List Entry) (fault : LogFault) → IsTreeLog pages log → IsReplayFault pages (log_words log) fault → fault ≡ OutOfMemory
 no_fault pages log OutOfMemory lawful is = refl
 no_fault pages log fault lawful is = absurd (not_first_fault pages log fault lawful is)
 
 -- what is replayed of a lawful log's words are its entries
-pub only_entries : (pages : ℕ) (words : List ℕ) (r : Result Replayed LogFault) → IfOk r (λ replayed. words ≡ log_words replayed.entries.items) → IfOk r (λ replayed. IsLawful pages replayed.entries.items)
-    → IfErr r (IsReplayFault pages words) → (log : List Entry) → IsLawful pages log → words ≡ log_words log
+pub only_entries : (pages : ℕ) (words : List ℕ) (r : Result Replayed LogFault) → IfOk r (λ replayed. words ≡ log_words replayed.entries.items) → IfOk r (λ replayed. IsTreeLog pages replayed.entries.items)
+    → IfErr r (IsReplayFault pages words) → (log : List Entry) → IsTreeLog pages log → words ≡ log_words log
     → MatchResult r (λ replayed. replayed.entries.items ≡ log) (λ fault. fault ≡ OutOfMemory)
 only_entries pages words (Ok replayed) found lawful fault log is_lawful is = log_words-one pages replayed.entries.items log lawful.grammar is_lawful.grammar (sym found ∙ is)
 only_entries pages words (Err fault) found lawful is_fault log is_lawful is = no_fault pages log fault is_lawful (subst (λ (ws : List ℕ). IsReplayFault pages ws fault) is is_fault)

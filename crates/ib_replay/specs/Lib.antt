@@ -1,3 +1,4 @@
 pub mod Files
 pub mod Replays
 pub mod RawLogs
+pub mod TreeSteps

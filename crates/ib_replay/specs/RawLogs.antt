@@ -5,12 +5,13 @@ use Rattle.ib_logrec.specs.declared.entry.Entry.{Entry}
 use Rattle.ib_logrec.specs.declared.fault.LogFault.{LogFault}
 use Rattle.ib_logrec.specs.Log.{log_words}
 use Rattle.ib_replay.specs.Files.{AreWords, file_of, file_fault}
-use Rattle.ib_replay.specs.Replays.{IsLawful, IsMemory, IsFirstFault}
+use Rattle.ib_replay.specs.Replays.{IsMemory, IsFirstFault}
+use Rattle.ib_tree.specs.TreeLog.{IsTreeLog}
 
 -- the bytes are the file of these entries, which are lawful, in a space of so many pages
 pub record IsRawLog (bytes : List ℕ) (pages : ℕ) (log : List Entry) : Type 0 where
   pub space : has_pages pages ≡ true
-  pub lawful : IsLawful pages log
+  pub lawful : IsTreeLog pages log
   pub fits : AreWords (log_words log)
   pub file : bytes ≡ file_of pages (log_words log)
 

@@ -13,3 +13,5 @@ pub use raw_log_replay::replay_file;
 
 #[cfg(test)]
 mod tests;
+#[cfg(test)]
+mod tree_tests;

@@ -12,7 +12,8 @@ use ib_logrec::LogFault;
 use std::alloc::Global;
 
 /// What the log in a file makes of the opening memory of its space and of the empty map. A fault is the first one:
-/// of the file, or of the words of an entry, or of its number, or of its change.
+/// of the file, or of the words of an entry, or of its number, or of its change, or that its pages are no tree with
+/// what the map has.
 pub fn replay_file(alloc: Global, bytes: &[u8]) -> Result<Replayed, LogFault>
     requires small { length bytes.now < 2 ^ 35 }
 

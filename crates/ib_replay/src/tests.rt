@@ -8,7 +8,7 @@ use std::alloc::Global;
 use std::test::Fail;
 
 // Session 1 inserts 10 with 100 and then 11 with 110, on page 1.
-const LOG: [u64; 22] = [
+const LOG: [u64; 24] = [
     0x1_0001_0004,
     1,
     10,
@@ -21,10 +21,12 @@ const LOG: [u64; 22] = [
     10,
     137,
     100, //
-    0x1_0001_0003,
+    0x1_0001_0004,
     2,
     11,
     110,
+    130,
+    2,
     133,
     2,
     138,
@@ -34,8 +36,8 @@ const LOG: [u64; 22] = [
 ];
 
 // The log with another word at this place.
-fn changed(at: usize, word: u64) -> [u64; 22]
-    requires { at < 22 }
+fn changed(at: usize, word: u64) -> [u64; 24]
+    requires { at < 24 }
 {
     let mut words = LOG;
     words[at] = word;
@@ -87,6 +89,7 @@ fn a_log_is_replayed(rt: HostRuntime) -> Result<(), Fail> {
     let images = replayed.memory.images();
     assert_eq!(rt; images.len(), 16);
     assert_eq!(rt; images[0].word(0), 3);
+    assert_eq!(rt; images[1].word(2), 2);
     assert_eq!(rt; images[1].word(8), 10);
     assert_eq!(rt; images[1].word(5), 2);
     assert_eq!(rt; images[1].word(10), 11);
@@ -107,11 +110,13 @@ fn faults_of_the_second_entry(rt: HostRuntime) {
         unlawful(UnlawfulKind::Change)
     );
     assert_eq!(rt;
-        fault(alloc, &changed(12, 0x2_0001_0003)),
+        fault(alloc, &changed(12, 0x2_0001_0004)),
         unlawful(UnlawfulKind::Number)
     );
+    // The record is not counted.
+    assert_eq!(rt; fault(alloc, &changed(17, 1)), unlawful(UnlawfulKind::Tree));
     assert_eq!(rt;
-        fault(alloc, &LOG[..21]),
+        fault(alloc, &LOG[..23]),
         Some(LogFault::Short { place: 12 })
     );
     assert_eq!(rt; fault(alloc, &LOG), None);

@@ -5,7 +5,7 @@ ghost use Rattle.std.specs.Prelude.{◌<◌};
 use super::*;
 
 // Session 1 inserts 10 with 100 and then 11 with 110, on page 1.
-const LOG: [u64; 22] = [
+const LOG: [u64; 24] = [
     0x1_0001_0004,
     1,
     10,
@@ -18,10 +18,12 @@ const LOG: [u64; 22] = [
     10,
     137,
     100, //
-    0x1_0001_0003,
+    0x1_0001_0004,
     2,
     11,
     110,
+    130,
+    2,
     133,
     2,
     138,
@@ -30,8 +32,11 @@ const LOG: [u64; 22] = [
     110,
 ];
 
+// What is printed of it.
+const TEXT: &[u8] = b"log 2\n1 1 insert 10 100\n1 2 insert 11 110\nmap 2\n10 100\n11 110\n";
+
 // The log with other words at these places.
-fn changed(changes: &[(usize, u64)]) -> [u64; 22] {
+fn changed(changes: &[(usize, u64)]) -> [u64; 24] {
     let mut words = LOG;
     for &(at, word) in changes {
         if at < words.len() {
@@ -85,6 +90,12 @@ fn a_log_of_one_insert(rt: HostRuntime) -> Result<(), Fail> {
         alloc,
         &changed(&[(10, 2048)])[..12],
         "outside at 0 word 2048",
+    )?;
+    refused(
+        &rt,
+        alloc,
+        &changed(&[(11, 101)])[..12],
+        "unlawful at 0 tree",
     )
 }
 
@@ -92,15 +103,11 @@ fn a_log_of_one_insert(rt: HostRuntime) -> Result<(), Fail> {
 fn logs_that_are_lawful(rt: HostRuntime) -> Result<(), Fail> {
     let alloc = rt.alloc();
     replayed(&rt, alloc, &[], b"log 0\nmap 0\n")?;
-    replayed(
-        &rt,
-        alloc,
-        &LOG,
-        b"log 2\n1 1 insert 10 100\n1 2 insert 11 110\nmap 2\n10 100\n11 110\n",
-    )?;
-    // Session 1,024 deletes 10, with writes on two pages.
+    replayed(&rt, alloc, &LOG, TEXT)?;
+    // Session 1,024 deletes 10, with writes on two pages. On page 15, which is free, it is the clock.
     let mut words = Vec::from_slice(alloc, &LOG)?;
-    words.extend_from_slice(&[0x400_0006_0002, 1, 10, 0, 133, 3, 2047, u64::MAX])?;
+    words.extend_from_slice(&[0x400_0006_0007, 1, 10, 0, 130, 1, 133, 3])?;
+    words.extend_from_slice(&[136, 11, 137, 110, 138, 0, 139, 0, 1925, u64::MAX])?;
     replayed(
         &rt,
         alloc,
@@ -155,15 +162,19 @@ fn every_word_too_great(rt: HostRuntime) -> Result<(), Fail> {
     let alloc = rt.alloc();
     for at in 0..LOG.len() {
         let entry = if at < 12 { 0 } else { 12 };
-        let within = at - entry;
-        // A key, a value and a written word may be any number.
-        let what = match within {
-            0 | 1 => "head",
-            4 | 6 | 8 | 10 => "outside",
-            _ => continue,
+        let words = changed(&[(at, u64::MAX)]);
+        let what = match at - entry {
+            // A clock may be any number.
+            7 => {
+                replayed(&rt, alloc, &words, TEXT)?;
+                continue;
+            }
+            0 | 1 => format!(in alloc; "head at {entry} word 18446744073709551615")?,
+            4 | 6 | 8 | 10 => format!(in alloc; "outside at {entry} word 18446744073709551615")?,
+            // With another key, value or written word the page does not have what the map has.
+            _ => format!(in alloc; "unlawful at {entry} tree")?,
         };
-        let fault = format!(in alloc; "{what} at {entry} word 18446744073709551615")?;
-        refused(&rt, alloc, &changed(&[(at, u64::MAX)]), &fault)?;
+        refused(&rt, alloc, &words, &what)?;
     }
     Ok(())
 }
@@ -172,53 +183,67 @@ fn every_word_too_great(rt: HostRuntime) -> Result<(), Fail> {
 fn faults_of_the_second_entry(rt: HostRuntime) -> Result<(), Fail> {
     let alloc = rt.alloc();
     refused(&rt, alloc, &LOG[..15], "short at 12")?;
-    refused(&rt, alloc, &LOG[..21], "short at 12")?;
-    let rows: [(&[(usize, u64)], &str); 18] = [
+    refused(&rt, alloc, &LOG[..23], "short at 12")?;
+    let rows: [(&[(usize, u64)], &str); 22] = [
         (&[(12, 3)], "head at 12 word 3"),
-        (&[(12, 0x401_0001_0003)], "head at 12 word 4402341543939"),
-        (&[(12, 0x1_0003_0003)], "head at 12 word 4295163907"),
+        (&[(12, 0x401_0001_0004)], "head at 12 word 4402341543940"),
+        (&[(12, 0x1_0003_0004)], "head at 12 word 4295163908"),
         (&[(12, 0x1_0001_0000)], "head at 12 word 4295032832"),
         (&[(12, 0x1_0001_1001)], "head at 12 word 4295036929"),
         (&[(13, 0)], "head at 12 word 0"),
         (&[(13, 1 << 32)], "head at 12 word 4294967296"),
-        (&[(12, 0x1_0002_0003)], "head at 12 word 110"),
-        (&[(12, 0x1_0001_0004)], "short at 12"),
-        (&[(20, 2048)], "outside at 12 word 2048"),
-        (&[(18, 133)], "write at 12 word 133"),
-        (&[(18, 132)], "write at 12 word 132"),
-        (&[(20, 256)], "head at 12 word 4295032835"),
-        (&[(12, 0x1_0005_0003)], "head at 12 word 4295294979"),
+        (&[(12, 0x1_0002_0004)], "head at 12 word 110"),
+        (&[(12, 0x1_0001_0005)], "short at 12"),
+        (&[(22, 2048)], "outside at 12 word 2048"),
+        (&[(20, 133)], "write at 12 word 133"),
+        (&[(20, 132)], "write at 12 word 132"),
+        (&[(22, 256)], "head at 12 word 4295032836"),
+        (&[(12, 0x1_0005_0004)], "head at 12 word 4295294980"),
         (&[(13, 1)], "unlawful at 12 number"),
-        (&[(12, 0x2_0001_0003)], "unlawful at 12 number"),
+        (&[(12, 0x2_0001_0004)], "unlawful at 12 number"),
         (&[(14, 10)], "unlawful at 12 change"),
-        (&[(12, 0x1_0002_0003), (15, 0)], "unlawful at 12 change"),
+        (&[(12, 0x1_0002_0004), (15, 0)], "unlawful at 12 change"),
+        (&[(14, 12)], "unlawful at 12 tree"),
+        (&[(17, 1)], "unlawful at 12 tree"),
+        (&[(21, 12)], "unlawful at 12 tree"),
+        (
+            &[(12, 0x1_0005_0004), (16, 0), (17, 7)],
+            "unlawful at 12 tree",
+        ),
     ];
     for (changes, fault) in rows {
         refused(&rt, alloc, &changed(changes), fault)?;
     }
-    Ok(())
+    // The record is not counted.
+    let mut words = Vec::from_slice(alloc, &LOG[..12])?;
+    words.extend_from_slice(&[0x1_0001_0003, 2, 11, 110, 133, 2, 138, 11, 139, 110])?;
+    refused(&rt, alloc, &words, "unlawful at 12 tree")
 }
 
 #[test]
 fn the_first_fault_is_told(rt: HostRuntime) -> Result<(), Fail> {
     let alloc = rt.alloc();
-    let rows: [(&[(usize, u64)], &str); 13] = [
+    let rows: [(&[(usize, u64)], &str); 17] = [
         (&[(12, 3), (13, 0)], "head at 12 word 3"),
-        (&[(12, 0x1_0002_0003), (13, 0)], "head at 12 word 0"),
-        (&[(12, 0x1_0002_0004)], "head at 12 word 110"),
-        (&[(12, 0x1_0001_0004), (16, 5000)], "short at 12"),
+        (&[(12, 0x1_0002_0004), (13, 0)], "head at 12 word 0"),
+        (&[(12, 0x1_0002_0005)], "head at 12 word 110"),
+        (&[(12, 0x1_0001_0005), (16, 5000)], "short at 12"),
         (&[(16, 2048), (18, 130)], "outside at 12 word 2048"),
-        (&[(18, 132), (20, 2048)], "write at 12 word 132"),
+        (&[(20, 132), (22, 2048)], "write at 12 word 132"),
         (&[(16, 140), (18, 2048)], "outside at 12 word 2048"),
-        (&[(12, 0x1_0005_0003), (18, 133)], "write at 12 word 133"),
+        (&[(12, 0x1_0005_0004), (20, 133)], "write at 12 word 133"),
         (
-            &[(12, 0x1_0005_0003), (13, 3)],
-            "head at 12 word 4295294979",
+            &[(12, 0x1_0005_0004), (13, 3)],
+            "head at 12 word 4295294980",
         ),
         (&[(13, 3), (14, 10)], "unlawful at 12 number"),
         (&[(0, 0), (12, 0)], "head at 0 word 0"),
         (&[(1, 2), (12, 0)], "unlawful at 0 number"),
-        (&[(2, 11), (13, 3)], "unlawful at 12 number"),
+        (&[(2, 11), (9, 11), (13, 3)], "unlawful at 12 number"),
+        (&[(2, 11), (9, 11)], "unlawful at 12 change"),
+        (&[(14, 10), (23, 7)], "unlawful at 12 change"),
+        (&[(13, 3), (17, 1)], "unlawful at 12 number"),
+        (&[(2, 11), (12, 0)], "unlawful at 0 tree"),
     ];
     for (changes, fault) in rows {
         refused(&rt, alloc, &changed(changes), fault)?;

@@ -1,0 +1,150 @@
+#!/usr/bin/env python3
+"""Makes log files whose pages are a tree, and tells how long `ib_tool replay` takes for each entry.
+
+A log has inserts of the keys 1 to N in turn, with the splits and root raises that they need, and then twice N changes of one
+key: a delete and an insert in turn. The pages are kept here as lists of words, apart from the crates, and an entry is the
+words in which they differ. Words: N, for each log one (20000 40000). The changes are of the greatest key, so that each of
+them writes a few words, and the file stays below the program's limit.
+"""
+
+import os
+import struct
+import subprocess
+import sys
+import time
+
+TOP = os.path.dirname(os.path.dirname(os.path.abspath(__file__)))
+PAGES, WORDS, MOST = 4096, 128, 35
+FORM = 0x49424C4F47353730
+INSERT, DELETE, STRUCTURAL = 1, 2, 4
+
+
+def free_page(clock=0):
+    return [0] * 5 + [clock] + [0] * (WORDS - 6)
+
+
+class Tree:
+    """The pages of a space with one tree, and the words of the log that made them."""
+
+    def __init__(self):
+        self.pages = {0: [3] + [0] * (WORDS - 1), 1: [1] + [0] * (WORDS - 1)}
+        self.next_free = 2
+        self.log = []
+        self.number = 0
+        self.touched = {}
+
+    def edit(self, page):
+        """A page that the entry writes: its clock goes on by one."""
+        words = self.pages.setdefault(page, free_page())
+        if page not in self.touched:
+            self.touched[page] = list(words)
+            words[64 if page == 0 else 5] += 1
+        return words
+
+    def records(self, page):
+        words = self.pages[page]
+        return [(words[8 + 2 * i], words[9 + 2 * i]) for i in range(words[2])]
+
+    def put(self, page, level, prev, next_page, records):
+        words = self.edit(page)
+        flat = [word for record in records for word in record]
+        words[:] = [1, level, len(records), prev, next_page, words[5], 0, 0] + flat + [0] * (WORDS - 8 - len(flat))
+
+    def with_records(self, page, records):
+        words = self.pages[page]
+        self.put(page, words[1], words[3], words[4], records)
+
+    def take_page(self):
+        page = self.next_free
+        self.next_free += 1
+        self.edit(0)[page // 64] |= 1 << page % 64
+        self.edit(page)
+        return page
+
+    def path(self, key):
+        page, pages = 1, [1]
+        while self.pages[page][1] > 0:
+            page = [child for first, child in self.records(page) if first <= key][-1]
+            pages.append(page)
+        return pages
+
+    def insert_into(self, path, record):
+        page = path.pop()
+        records = sorted(self.records(page) + [record])
+        if len(records) <= MOST:
+            self.with_records(page, records)
+        elif page == 1:
+            self.raise_root(records)
+        else:
+            right = self.split(page, records)
+            self.insert_into(path, (self.records(right)[0][0], right))
+
+    def split(self, page, records):
+        level, prev, next_page = self.pages[page][1], self.pages[page][3], self.pages[page][4]
+        right = self.take_page()
+        leaf = level == 0
+        self.put(page, level, prev, right if leaf else 0, records[:18])
+        self.put(right, level, page if leaf else 0, next_page if leaf else 0, records[18:])
+        if leaf and next_page:
+            self.edit(next_page)[3] = right
+        return right
+
+    def raise_root(self, records):
+        level = self.pages[1][1]
+        left, right = self.take_page(), self.take_page()
+        leaf = level == 0
+        self.put(left, level, 0, right if leaf else 0, records[:18])
+        self.put(right, level, left if leaf else 0, 0, records[18:])
+        self.put(1, level + 1, 0, 0, [(0, left), (records[18][0], right)])
+
+    def commit(self, flags, key, value):
+        writes = []
+        for page in sorted(self.touched):
+            before, after = self.touched[page], self.pages[page]
+            writes += [(page * WORDS + i, after[i]) for i in range(WORDS) if before[i] != after[i]]
+        if len({place // WORDS for place, _ in writes}) > 1:
+            flags |= STRUCTURAL
+        self.number += 1
+        self.log += [1 << 32 | flags << 16 | len(writes), self.number, key, value]
+        self.log += [word for write in writes for word in write]
+        self.touched = {}
+
+    def insert(self, key, value):
+        self.insert_into(self.path(key), (key, value))
+        self.commit(INSERT, key, value)
+
+    def delete(self, key):
+        page = self.path(key)[-1]
+        self.with_records(page, [record for record in self.records(page) if record[0] != key])
+        self.commit(DELETE, key, 0)
+
+    def file(self):
+        return struct.pack(f">{len(self.log) + 2}Q", FORM, PAGES, *self.log)
+
+
+def log_of(count):
+    tree = Tree()
+    for key in range(1, count + 1):
+        tree.insert(key, key)
+    for _ in range(count):
+        tree.delete(count)
+        tree.insert(count, count)
+    return tree.file()
+
+
+def main():
+    for count in [int(word) for word in sys.argv[1:]] or [20_000, 40_000]:
+        data = log_of(count)
+        times = []
+        for _ in range(5):
+            start = time.monotonic()
+            done = subprocess.run([os.path.join(TOP, "ib_tool"), "replay"], input=data, stdout=subprocess.PIPE)
+            times.append(time.monotonic() - start)
+        head = done.stdout.decode().split("\n", 1)[0]
+        entries = 3 * count
+        best = min(times)
+        print(f"{len(data)} bytes, {head}, status {done.returncode}: {best:.3f} s, {best / entries * 1e6:.2f} microseconds an entry", flush=True)
+
+
+if __name__ == "__main__":
+    main()

@@ -1,0 +1,15 @@
+pub mod MemoryLaws
+pub mod ChildLaws
+pub mod PositionLaws
+pub mod StepLaws
+pub mod RangeLaws
+pub mod RestLaws
+pub mod LinkLaws
+pub mod SoundLaws
+pub mod ContentLaws
+pub mod FreshLaws
+pub mod ListedLaws
+pub mod PassLaws
+pub mod StoreLaws
+pub mod CopyLaws
+pub mod GoodLaws

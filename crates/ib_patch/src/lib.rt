@@ -1,0 +1,26 @@
+//! Whether a patch of pages leaves lawful trees, by the written pages and their neighbours alone.
+#![tactic(auto)]
+
+mod attach;
+mod back;
+mod bits;
+mod children;
+mod content;
+mod copies;
+mod detach;
+mod good;
+mod links;
+mod marks;
+mod page_test;
+mod patch;
+mod position;
+mod reading;
+mod stores;
+mod tree_pages;
+mod visit;
+
+pub use position::PagePosition;
+pub use tree_pages::TreePages;
+
+#[cfg(test)]
+mod tests;

@@ -1,0 +1,110 @@
+ghost use Rattle.std.specs.Prelude.{◌≡◌, ◌<◌, IsTrue};
+ghost use Rattle.ib_patch.specs.Positions.{positions_of};
+
+use crate::TreePages;
+use ib_map::{Key, LEAST_PAGES, PAGE_WORDS, PlainMap, Write};
+use std::test::Fail;
+
+// A word of a page.
+fn word(page: u32, index: u32, value: u64) -> Write
+    requires page { page < LEAST_PAGES }
+    requires index { index < PAGE_WORDS }
+{
+    Write {
+        place: page * PAGE_WORDS as u32 + index,
+        value,
+    }
+}
+
+// The root is raised over two leaves, 2 and 3, each with a key. `prev` is the link of leaf 3.
+fn raised_root(prev: u64) -> [Write; 14] {
+    [
+        word(0, 0, 15),
+        word(1, 1, 1),
+        word(1, 2, 2),
+        word(1, 9, 2),
+        word(1, 10, 7),
+        word(1, 11, 3),
+        word(2, 0, 1),
+        word(2, 2, 1),
+        word(2, 4, 3),
+        word(2, 8, 3),
+        word(3, 0, 1),
+        word(3, 2, 1),
+        word(3, 3, prev),
+        word(3, 8, 7),
+    ]
+}
+
+// Whether the pages are a tree after these writes, which are then settled.
+fn leaves_tree(pages: &mut TreePages, writes: &[Write], key: Key, map: &PlainMap) -> bool
+    requires { positions_of pages.old.met_after ≡ positions_of pages.old.met_before }
+    ensures { IsTrue result → positions_of pages.new.met_after ≡ positions_of pages.new.met_before }
+{
+    let end = pages.images().len() * PAGE_WORDS;
+    if !writes.iter().all(|write| (write.place as usize) < end) {
+        return false;
+    }
+    pages.store(writes);
+    if !pages.is_tree(key, map) {
+        return false;
+    }
+    pages.settle();
+    true
+}
+
+#[test]
+fn an_insert_leaves_a_tree(rt: HostRuntime) -> Result<(), Fail> {
+    let mut pages = TreePages::opening(rt.alloc(), 16)?;
+    let mut map = PlainMap::new(rt.alloc());
+    assert!(rt; leaves_tree(&mut pages, &[word(1, 5, 1)], 7, &map));
+    map.insert(7, 9)?;
+    let insert = [word(1, 2, 1), word(1, 5, 2), word(1, 8, 7), word(1, 9, 9)];
+    assert!(rt; leaves_tree(&mut pages, &insert, 7, &map));
+    Ok(())
+}
+
+#[test]
+fn another_value_leaves_none(rt: HostRuntime) -> Result<(), Fail> {
+    let mut pages = TreePages::opening(rt.alloc(), 16)?;
+    let mut map = PlainMap::new(rt.alloc());
+    map.insert(7, 9)?;
+    let insert = [word(1, 2, 1), word(1, 5, 1), word(1, 8, 7), word(1, 9, 8)];
+    assert!(rt; !leaves_tree(&mut pages, &insert, 7, &map));
+    Ok(())
+}
+
+#[test]
+fn a_bit_of_a_page_that_is_not_met_leaves_none(rt: HostRuntime) -> Result<(), Fail> {
+    let mut pages = TreePages::opening(rt.alloc(), 16)?;
+    let map = PlainMap::new(rt.alloc());
+    let bits = Write { place: 0, value: 7 };
+    assert!(rt; !leaves_tree(&mut pages, &[bits, word(1, 5, 1)], 7, &map));
+    Ok(())
+}
+
+#[test]
+fn a_raised_root_leaves_a_tree(rt: HostRuntime) -> Result<(), Fail> {
+    let mut pages = TreePages::opening(rt.alloc(), 16)?;
+    let mut map = PlainMap::new(rt.alloc());
+    map.insert(3, 0)?;
+    map.insert(7, 0)?;
+    assert!(rt; leaves_tree(&mut pages, &raised_root(2), 7, &map));
+    map.insert(4, 1)?;
+    let insert = [word(2, 2, 2), word(2, 10, 4), word(2, 11, 1)];
+    assert!(rt; leaves_tree(&mut pages, &insert, 4, &map));
+    map.insert(8, 1)?;
+    let elsewhere = [word(2, 2, 3), word(2, 12, 8), word(2, 13, 1)];
+    assert!(rt; !leaves_tree(&mut pages, &elsewhere, 8, &map));
+    Ok(())
+}
+
+#[test]
+fn a_link_that_does_not_lead_back_leaves_none(rt: HostRuntime) -> Result<(), Fail> {
+    let mut pages = TreePages::opening(rt.alloc(), 16)?;
+    let mut map = PlainMap::new(rt.alloc());
+    map.insert(3, 0)?;
+    map.insert(7, 0)?;
+    assert!(rt; !leaves_tree(&mut pages, &raised_root(0), 7, &map));
+    Ok(())
+}

@@ -1,0 +1,37 @@
+-- The opening words of the law of a tree are those of a new space.
+use Rattle.std.proofs.Common.{◌≡◌, ℕ, ◌<◌, true, List, [], ◌∷◌, refl, sym, subst, arith}
+use Rattle.std.proofs.lemmas.Bool.Decides.{nat_tests}
+use Rattle.std.specs.List.{AllByRecursion}
+use Rattle.ib_map.specs.Space.{has_pages}
+use Rattle.ib_map.specs.Writes.{spans_pages}
+use Rattle.ib_logrec.specs.declared.entry.Entry.{Entry}
+use Rattle.ib_logrec.specs.Law.{AreInGrammar}
+use Rattle.ib_logrec.specs.Log.{by_place}
+use Rattle.ib_walk.specs.Opening.{opening_word}
+use Rattle.ib_walk.specs.Trees.{content_of}
+use Rattle.ib_walk.specs.Words.{pages_of, IsLawfulMemory}
+use Rattle.ib_patch.specs.PatchTest.{IsKeptBeside}
+use Rattle.ib_tree.specs.TreeLog.{opening}
+use Rattle.ib_tree.specs.Tests.{opening_positions}
+use Rattle.ib_walk.proofs.SpaceLaws.{IsLawfulMemory-opening, content_of-opening, pages_of-root}
+use Rattle.ib_tree.proofs.ListLaws.{IsKeptBeside-opening}
+
+pub by_place-opening : (pages : ℕ) → by_place opening pages ≡ opening_word
+unfolding opening_word
+by_place-opening pages = refl
+
+pub opens : (pages : ℕ) → has_pages pages ≡ true → IsLawfulMemory pages 1 (by_place opening pages)
+opens pages fits = subst (IsLawfulMemory pages 1) (sym (by_place-opening pages)) (IsLawfulMemory-opening pages fits)
+
+pub opens-empty : (pages : ℕ) → content_of (pages_of (by_place opening pages)) 1 ≡ []
+opens-empty pages = subst (λ (w : ℕ → ℕ). content_of (pages_of w) 1 ≡ []) (sym (by_place-opening pages)) content_of-opening
+
+pub opens-kept : (pages : ℕ) → has_pages pages ≡ true → IsKeptBeside (pages_of (by_place opening pages)) 1 pages opening_positions
+opens-kept pages fits =
+    let least : 1 < pages = grind (arith, nat_tests, fits) in
+    subst (λ (w : ℕ → ℕ). IsKeptBeside (pages_of w) 1 pages opening_positions) (sym (by_place-opening pages))
+    (IsKeptBeside-opening (pages_of opening_word) pages (let e = pages_of-root 1 refl in rw e refl) least)
+
+pub structural-grammar : (pages : ℕ) (log : List Entry) → AreInGrammar pages log → AllByRecursion (λ e. e.structural ≡ spans_pages e.writes) log
+structural-grammar pages [] are = tt
+structural-grammar pages (e ∷ es) are = (let a = are.0 in a.structural, structural-grammar pages es are.1)

@@ -1,0 +1,4 @@
+pub mod Logs
+pub mod TreeLog
+pub mod PageLists
+pub mod Tests

@@ -1,0 +1,71 @@
+//! The laws of the tests, as contracts: each passes exactly where the trees are lawful, and says where each
+//! page is met afterwards.
+
+ghost use Rattle.std.specs.Prelude.{◌≡◌, ℕ, ◌*◌, ◌≤◌, Bool, true, List, [], ◌∷◌, ◌++◌};
+ghost use Rattle.ib_map.specs.Keys.{end_rank};
+ghost use Rattle.ib_map.specs.Space.{has_pages};
+ghost use Rattle.ib_map.specs.Writes.{PlacesRise};
+ghost use Rattle.ib_map.specs.declared.TheConstants.{PAGE_WORDS};
+ghost use Rattle.ib_logrec.specs.declared.entry.Entry.{Entry};
+ghost use Rattle.ib_logrec.specs.Log.{by_place};
+ghost use Rattle.ib_walk.specs.Pages.{PageMemory};
+ghost use Rattle.ib_walk.specs.Walk.{Visit};
+ghost use Rattle.ib_walk.specs.Trees.{IsLawful, free_page};
+ghost use Rattle.ib_walk.specs.Words.{pages_of, IsLawfulMemory};
+ghost use Rattle.ib_patch.specs.PatchTest.{Positions, IsListed, IsKeptBeside, PassesTest};
+ghost use Rattle.ib_tree.specs.Logs.{pages_after, IsTreeEntry};
+ghost use Rattle.ib_tree.specs.TreeLog.{opening, IsTreeLog};
+ghost use Rattle.ib_tree.specs.PageLists.{touched_pages};
+ghost use Rattle.ib_tree.specs.Tests.{KeepRanges, TellsGood, IsPatchGiven, writes_page, IsEntryGiven, PassesEntry, opening_positions, PassesWhole};
+
+/// The law of the test of a patch, as a contract. Of lawful trees whose positions are known, it passes
+/// exactly where the new trees are lawful and every page that is not written keeps root, level and range;
+/// the positions that are left are those of the new trees. The test of a whole memory is that of a patch of
+/// all pages of a new space (`btr_validate_index`).
+pub fn patch_law()
+    ensures sound { (written : ℕ → Bool) (m new : PageMemory) (good : ℕ → Visit → Bool) (bits after : ℕ → ℕ)
+        (roots pages : ℕ) (ps : List ℕ) (old table : Positions)
+        → IsPatchGiven written m new good bits roots pages ps old
+        → PassesTest written m new good bits after roots end_rank ps old table
+        → IsLawful new after roots × KeepRanges written m new roots × IsKeptBeside new roots pages table }
+    ensures complete { (written : ℕ → Bool) (m new : PageMemory) (good : ℕ → Visit → Bool) (bits after : ℕ → ℕ)
+        (roots pages : ℕ) (ps : List ℕ) (old : Positions)
+        → IsPatchGiven written m new good bits roots pages ps old
+        → IsLawful new after roots → KeepRanges written m new roots
+        → (table : Positions) × PassesTest written m new good bits after roots end_rank ps old table }
+    // No test passes with two tables.
+    ensures once { (written : ℕ → Bool) (m new : PageMemory) (good : ℕ → Visit → Bool) (bits after : ℕ → ℕ)
+        (roots end : ℕ) (ps : List ℕ) (old table other : Positions)
+        → PassesTest written m new good bits after roots end ps old table
+        → PassesTest written m new good bits after roots end ps old other → table ≡ other }
+    // The words of a whole memory, where the pages that the space doesn't have are free.
+    ensures whole_sound { (pages : ℕ) (words : ℕ → ℕ) (good : ℕ → Visit → Bool) (table : Positions)
+        → has_pages pages ≡ true → ((page : ℕ) → pages ≤ page → pages_of words page ≡ free_page)
+        → TellsGood good (pages_of words) → PassesWhole pages words good table
+        → IsLawfulMemory pages 1 words × IsKeptBeside (pages_of words) 1 pages table }
+    ensures whole_complete { (pages : ℕ) (words : ℕ → ℕ) (good : ℕ → Visit → Bool)
+        → has_pages pages ≡ true → ((page : ℕ) → pages ≤ page → pages_of words page ≡ free_page)
+        → TellsGood good (pages_of words) → IsLawfulMemory pages 1 words
+        → (table : Positions) × PassesWhole pages words good table }
+{}
+
+/// The law of the test of an entry, as a contract. Behind a lawful log of one tree, an entry passes exactly
+/// where it is a tree's entry; then the log with it is lawful, and the positions that are left are those of
+/// the pages after it.
+pub fn entry_law()
+    // The pages of a new space have their positions.
+    ensures opening { (pages : ℕ) → has_pages pages ≡ true
+        → IsKeptBeside (pages_of (by_place opening pages)) 1 pages opening_positions }
+    ensures sound { (pages : ℕ) (front : List Entry) (e : Entry) (good : ℕ → Visit → Bool) (ps : List ℕ) (old table : Positions)
+        → has_pages pages ≡ true → IsEntryGiven pages 1 (by_place opening pages) front e good ps old
+        → PassesEntry pages 1 (by_place opening pages) front e good ps old table
+        → IsTreeEntry pages 1 (by_place opening pages) front e × IsTreeLog pages (front ++ e ∷ [])
+        × IsKeptBeside (pages_after (by_place opening pages) (front ++ e ∷ [])) 1 pages table }
+    ensures complete { (pages : ℕ) (front : List Entry) (e : Entry) (good : ℕ → Visit → Bool) (ps : List ℕ) (old : Positions)
+        → has_pages pages ≡ true → IsEntryGiven pages 1 (by_place opening pages) front e good ps old
+        → IsTreeEntry pages 1 (by_place opening pages) front e
+        → (table : Positions) × PassesEntry pages 1 (by_place opening pages) front e good ps old table }
+    // The pages that an entry in the space writes, as a list.
+    ensures listed { (pages : ℕ) (e : Entry) → PlacesRise 0 e.writes (pages * PAGE_WORDS)
+        → IsListed (writes_page e) (touched_pages e.writes) pages }
+{}

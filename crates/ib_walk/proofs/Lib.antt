@@ -1,0 +1,9 @@
+pub mod ChoiceLaws
+pub mod WalkLaws
+pub mod MeetLaws
+pub mod SearchLaws
+pub mod TreeLaws
+pub mod LeafLaws
+pub mod OpeningLaws
+pub mod ImageLaws
+pub mod SpaceLaws

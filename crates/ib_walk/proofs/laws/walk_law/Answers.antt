@@ -1,0 +1,30 @@
+-- The law of walks, clause by clause.
+use Rattle.ib_map.proofs.KeyLaws.{rank-lt_end}
+use Rattle.ib_walk.proofs.TreeLaws.{IsPageFor-leaf, value_at-content_of, IsTiled-leaves, Rises-content_of, times_met-le}
+use Rattle.ib_walk.proofs.SpaceLaws.{image_of-opening, IsLawfulMemory-opening, content_of-opening}
+use Rattle.ib_page.specs.declared.TheConstants.{MOST_RECORDS}
+use Rattle.ib_walk.proofs.laws.walk_law.Goals as goal
+
+pub returns-clause-map : goal.returns-clause-map
+returns-clause-map c memory bits roots root law some le = Rises-content_of memory root (law.trees root some le).0
+
+pub returns-clause-tiled : goal.returns-clause-tiled
+returns-clause-tiled c memory bits roots root law some le = IsTiled-leaves memory root (law.trees root some le).0
+
+pub returns-clause-once : goal.returns-clause-once
+returns-clause-once c memory bits roots page law = times_met-le (λ n. MOST_RECORDS) memory bits roots page law
+
+pub returns-clause-leaf : goal.returns-clause-leaf
+returns-clause-leaf c memory bits roots root key law some le is = IsPageFor-leaf memory key root (rank-lt_end key is) (law.trees root some le).0
+
+pub returns-clause-value : goal.returns-clause-value
+returns-clause-value c memory bits roots root key law some le is = value_at-content_of memory key root (rank-lt_end key is) (law.trees root some le).0
+
+pub returns-clause-opening : goal.returns-clause-opening
+returns-clause-opening c pages fits = IsLawfulMemory-opening pages fits
+
+pub returns-clause-images : goal.returns-clause-images
+returns-clause-images c page = image_of-opening page
+
+pub returns-clause-empty : goal.returns-clause-empty
+returns-clause-empty c = content_of-opening
