@@ -21,12 +21,12 @@ use Rattle.ib_patch.proofs.PositionLaws.{marks_of-within, positions_of-past}
 use Rattle.ib_patch.proofs.ListedLaws.{listed-each, listed-mine}
 
 -- the bit of a page that is there, and of one that is not
-bits_in-there : (images : List (List ℕ)) (page : ℕ) → page < length images → length (image_at images 0) ≡ PAGE_WORDS → bits_in images page ≡ bit_of (is_taken (image_at images 0) page)
+pub bits_in-there : (images : List (List ℕ)) (page : ℕ) → page < length images → length (image_at images 0) ≡ PAGE_WORDS → bits_in images page ≡ bit_of (is_taken (image_at images 0) page)
 unfolding bits_of
 bits_in-there images page lt whole =
     cond-true (ltb page (length images)) _ 0 (lt-ltb page (length images) lt) ∙ ap (λ (ws : List ℕ). bit_of (is_taken ws page)) (image_of-whole images 0 whole)
 
-bits_in-past : (images : List (List ℕ)) (page : ℕ) → length images ≤ page → bits_in images page ≡ 0
+pub bits_in-past : (images : List (List ℕ)) (page : ℕ) → length images ≤ page → bits_in images page ≡ 0
 unfolding bits_of
 bits_in-past images page le = cond-false (ltb page (length images)) _ 0 (le-ltb page (length images) le)
 
@@ -35,7 +35,7 @@ unfolding bits_of
 bits_in-same before after page size same =
     ap (λ n. bits_of n (word_at after) page) size ∙ ap (λ (ws : List ℕ). cond (ltb page (length before)) (cond (is_taken ws page) 1 0) 0) (image_of-same after before 0 same)
 
-bit-once : (b : Bool) → bit_of b ≤ 1
+pub bit-once : (b : Bool) → bit_of b ≤ 1
 bit-once true = omega arith
 bit-once false = omega arith
 
@@ -51,7 +51,7 @@ level-of (FreeValue clock) fits = omega arith
 level-of MalformedValue fits = omega arith
 
 -- whatever the words are, the level of their page is one that a tree has
-low-level : (images : List (List ℕ)) (page : ℕ) → (memory_of images page).level ≤ MOST_LEVEL
+pub low-level : (images : List (List ℕ)) (page : ℕ) → (memory_of images page).level ≤ MOST_LEVEL
 unfolding pages_of
 low-level images page = level-of (page_of (image_of (word_at images) page)) (λ p e. tree_fits (image_of (word_at images) page) p e)
 

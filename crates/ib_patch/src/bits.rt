@@ -13,8 +13,8 @@ const BIT_WORDS: usize = 64;
 
 const WORD_BITS: usize = 64;
 
-// The image of page 0, which has all words, as each image has.
-pub(crate) fn space_page(images: &[Image]) -> &Image
+/// The image of page 0, which has all words, as each image has.
+pub fn space_page(images: &[Image]) -> &Image
     requires { 0 < length images.now }
     ensures image { result.now ≡ image_at images.now 0 }
     ensures size { length result.now ≡ PAGE_WORDS }

@@ -14,13 +14,16 @@ mod marks;
 mod page_test;
 mod patch;
 mod position;
-mod reading;
+pub mod reading;
 mod stores;
 mod tree_pages;
 mod visit;
 
+pub use bits::space_page;
+pub use page_test::all_pass;
 pub use position::PagePosition;
 pub use tree_pages::TreePages;
+pub use visit::visit_levels;
 
 #[cfg(test)]
 mod tests;

@@ -71,8 +71,9 @@ fn passes(after: &[Image], table: &[Option<PagePosition>], space: &SpaceImage, p
         && is_linked_where_met(after, table, page)
 }
 
-// Whether these pages pass.
-pub(crate) fn all_pass(after: &[Image], table: &[Option<PagePosition>], pages: &[u32]) -> bool
+/// Whether these pages pass by themselves, where `table` has where each page is met: each is sound, its bit is
+/// set exactly where it is met, and a leaf is linked with its neighbours (btr0btr, `btr_validate_level`).
+pub fn all_pass(after: &[Image], table: &[Option<PagePosition>], pages: &[u32]) -> bool
     requires size { length after.now ≡ length table.now }
     requires some { 0 < length table.now }
     requires few { length table.now ≤ MAPPED_PAGES }

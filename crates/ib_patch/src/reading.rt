@@ -29,8 +29,8 @@ pub(crate) fn is_tree(image: &Image) -> bool
     is_formed(image) && image.kind() != Kind::Free
 }
 
-// The level of the page.
-pub(crate) fn level(image: &Image) -> u32
+/// The level of the page.
+pub fn level(image: &Image) -> u32
     ensures level { result ≡ (state_of (page_of image.now)).level }
     ensures low { result ≤ MOST_LEVEL }
     ensures size { length image.now ≡ PAGE_WORDS }
@@ -46,16 +46,16 @@ pub(crate) fn prev(image: &Image) -> u32
     if is_formed(image) { image.prev() } else { 0 }
 }
 
-// The leaf behind the page, 0 for none.
-pub(crate) fn next(image: &Image) -> u32
+/// The leaf behind the page, 0 for none.
+pub fn next(image: &Image) -> u32
     ensures next { result ≡ (state_of (page_of image.now)).next }
     ensures size { length image.now ≡ PAGE_WORDS }
 {
     if is_formed(image) { image.next() } else { 0 }
 }
 
-// How many records the page has.
-pub(crate) fn count(image: &Image) -> usize
+/// How many records the page has.
+pub fn count(image: &Image) -> usize
     ensures count { result ≡ length (state_of (page_of image.now)).records }
     ensures few { result ≤ MOST_RECORDS }
     ensures tree { 0 < result → IsTreePage image.now }
@@ -64,8 +64,8 @@ pub(crate) fn count(image: &Image) -> usize
     if is_formed(image) { image.len() } else { 0 }
 }
 
-// A record of the page, by its place in the order of keys.
-pub(crate) fn record_at(image: &Image, place: usize) -> (Key, u64)
+/// A record of the page, by its place in the order of keys.
+pub fn record_at(image: &Image, place: usize) -> (Key, u64)
     requires tree { IsTreePage image.now }
     requires in_range { place < length (state_of (page_of image.now)).records }
     ensures { slice_get (state_of (page_of image.now)).records place ≡ Some result }

@@ -1,3 +1,5 @@
+//! Entries over the pages of a new space: which of them leave a tree.
+
 ghost use Rattle.std.specs.Prelude.{◌≡◌, ◌<◌, IsTrue};
 ghost use Rattle.ib_patch.specs.Positions.{positions_of};
 

@@ -65,8 +65,11 @@ fn visit_level(
     true
 }
 
-// Those of all heights, from the highest down.
-pub(crate) fn visit_levels(
+/// Visits these pages at all heights, from the highest down. `table` has where each page is met, above all the
+/// written roots, `old` where it was met before, and `written` marks the pages that may be met elsewhere than
+/// before. False where a page is met twice, where one that is not written is met elsewhere, or where a page
+/// is no leaf or node of its height and range (btr0btr, `btr_validate_level`).
+pub fn visit_levels(
     table: &mut [Option<PagePosition>],
     after: &[Image],
     old: &[Option<PagePosition>],

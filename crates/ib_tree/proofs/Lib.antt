@@ -11,6 +11,9 @@ pub mod SoundLaws
 pub mod CompleteLaws
 pub mod PatchTheorem
 pub mod WholeLaws
+pub mod RootPositionLaws
+pub mod WholeTestLaws
+pub mod ContentLaws
 pub mod ListLaws
 pub mod KeptLaws
 pub mod GivenLaws

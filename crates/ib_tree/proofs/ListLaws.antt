@@ -1,4 +1,4 @@
--- Lists of pages: those that are written, those that writes touch, and all pages. And the positions of a new space.
+-- Lists of pages: those that are written, those that writes touch, and all pages.
 use Rattle.std.specs.List.{AllByRecursion, range_with_len}
 use Rattle.std.proofs.Common.{◌≡◌, ℕ, zero, suc, ◌+◌, ◌*◌, ◌<◌, ◌≤◌, inl, inr, Bool, true, false, cond, List, [], ◌∷◌, Option, Some, None, refl, sym, ap, subst, ◌∙◌, arith, eqb, ltb, leb, ◌≢◌}
 use Rattle.std.specs.Prelude.{◌||◌, ◌&&◌}
@@ -8,15 +8,11 @@ use Rattle.ib_map.specs.Writes.{page_at, touches, PlacesRise}
 use Rattle.ib_map.specs.declared.TheConstants.{PAGE_WORDS}
 use Rattle.ib_map.specs.declared.write.Write.{Write}
 use Rattle.ib_logrec.specs.declared.entry.Entry.{Entry}
-use Rattle.ib_walk.specs.Pages.{PageMemory}
 use Rattle.ib_walk.specs.Walk.{Visit}
-use Rattle.ib_walk.specs.Trees.{weight_of}
-use Rattle.ib_patch.specs.Patch.{on_written, top}
-use Rattle.ib_patch.specs.PatchTest.{Position, Positions, visit_of, at_page, positions_over, list_over, IsListed, IsKeptBeside}
+use Rattle.ib_patch.specs.Patch.{on_written}
+use Rattle.ib_patch.specs.PatchTest.{Position, Positions, visit_of, at_page, positions_over, list_over, IsListed}
 use Rattle.ib_tree.specs.PageLists.{is_among, AreOnce, touched_pages, pages_below, is_below}
-use Rattle.ib_tree.specs.Tests.{writes_page, root_position, opening_positions}
-use Rattle.ib_walk.proofs.ChoiceLaws.{Some-same, cond-eq, cond-ne}
-use Rattle.ib_tree.proofs.PositionLaws.{positions_over-set_at}
+use Rattle.ib_tree.specs.Tests.{writes_page}
 
 positions_over-empty : (f : ℕ → Visit → ℕ) (root : ℕ) (t : Positions) (n : ℕ) → positions_over (on_written (λ p. false) f) root t n ≡ 0
 positions_over-empty f root t zero = refl
@@ -127,22 +123,3 @@ is_among-below n p = is_among-range 0 n p ∙ (let a = le-leb 0 p (omega arith) 
 
 pub IsListed-below : (n : ℕ) → IsListed (is_below n) (pages_below n) n
 IsListed-below n = IsListed-among (is_below n) (pages_below n) n (subst (AreOnce (pages_below n)) (omega arith) (AreOnce-range 0 n)) (λ p. sym (is_among-below n p))
-
-pub IsKeptBeside-opening : (m : PageMemory) (n : ℕ) → (m 1).level ≡ 0 → 1 < n → IsKeptBeside m 1 n opening_positions
-IsKeptBeside-opening m n leaf lt = record {
-  table = λ root s l f.
-      let e : root ≡ 1 = omega arith in
-      subst (λ r. weight_of f m r ≡ positions_over f r opening_positions n) (sym e)
-      (let a = positions_over-set_at f 1 (λ p. None) n 1 (Some root_position) lt in
-      let b = none-table f 1 n in
-      let c : weight_of f m 1 ≡ f 0 (top 1) + 0 = rw leaf refl in omega arith);
-  few = λ p ge. cond-ne p 1 (Some root_position) None (λ e. omega arith);
-  trees = λ p e at. elim (cases_eq p 1) [
-    | inl s ↦ let q = ap (λ (d : Position). d.tree) (Some-same root_position e (sym (cond-eq p 1 (Some root_position) None s) ∙ at)) in (omega arith, omega arith)
-    | inr ne ↦ absurd (let x = sym (cond-ne p 1 (Some root_position) None ne) ∙ at in cc)
-  ];
-}
-  where
-    none-table : (f : ℕ → Visit → ℕ) (root n : ℕ) → positions_over f root (λ p. None) n ≡ 0
-    none-table f root zero = refl
-    none-table f root (suc n) = let r = none-table f root n in omega arith

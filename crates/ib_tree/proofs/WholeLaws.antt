@@ -10,6 +10,8 @@ use Rattle.ib_patch.specs.Patch.{off_written, IsGoodAt}
 use Rattle.ib_walk.specs.Walk.{is_visit}
 use Rattle.ib_patch.specs.PatchTest.{Positions, IsListed, IsKeptBeside, PassesTest}
 use Rattle.ib_map.specs.Space.{has_pages}
+use Rattle.ib_map.specs.declared.TheConstants.{MOST_PAGES}
+use Rattle.ib_page.specs.declared.space.TheConstants.{MAPPED_PAGES}
 use Rattle.ib_walk.specs.Trees.{opening as opening_pages, opening_bits, free_page}
 use Rattle.ib_walk.specs.Words.{pages_of, bits_of, IsLawfulMemory}
 use Rattle.ib_tree.specs.PageLists.{is_below, pages_below}
@@ -17,7 +19,8 @@ use Rattle.ib_tree.specs.Tests.{TellsGood, opening_positions, PassesWhole}
 use Rattle.ib_walk.proofs.MeetLaws.{is_page-own}
 use Rattle.ib_walk.proofs.OpeningLaws.{IsLawful-opening}
 use Rattle.ib_walk.proofs.TreeLaws.{weight_of-le}
-use Rattle.ib_tree.proofs.ListLaws.{IsKeptBeside-opening, IsListed-below}
+use Rattle.ib_tree.proofs.ListLaws.{IsListed-below}
+use Rattle.ib_tree.proofs.RootPositionLaws.{IsKeptBeside-opening}
 use Rattle.ib_tree.proofs.PatchLaws.{is_visit-other, is_visit-own}
 use Rattle.ib_tree.proofs.PatchTheorem.{test-complete, test-sound}
 use Rattle.ib_tree.proofs.WeightLaws.{weight-le}
@@ -84,34 +87,34 @@ module _ (m new : PageMemory) (bits after : ℕ → ℕ) (roots n : ℕ) (law : 
       (λ r s l f. weight_of-beyond new after roots n new-law end-now r s l f ∙ sym (weight_of-beyond m bits roots n law end r s l f))
 
 -- the words of a space's pages, and none beyond them
-module _ (pages : ℕ) (fits : has_pages pages ≡ true) (words : ℕ → ℕ) (beyond : (page : ℕ) → pages ≤ page → pages_of words page ≡ free_page)
-    (good : ℕ → Visit → Bool) (is_good : TellsGood good (pages_of words)) where
-  least : 2 ≤ pages
-  least = grind (arith, nat_tests, fits)
+module _ (pages : ℕ) (fits : has_pages pages ≡ true) (roots : ℕ) (few : roots < pages) (words : ℕ → ℕ)
+    (beyond : (page : ℕ) → pages ≤ page → pages_of words page ≡ free_page) (good : ℕ → Visit → Bool) (is_good : TellsGood good (pages_of words)) where
+  mapped : roots < MAPPED_PAGES
+  mapped = let most : pages ≤ MOST_PAGES = grind (arith, nat_tests, fits) in omega arith
 
-  same : (page : ℕ) → pages ≤ page → pages_of words page ≡ opening_pages 1 page
-  same page le = let yes = lt-ltb 1 page (let a = least in omega arith) in beyond page le ∙ rw yes refl
+  same : (page : ℕ) → pages ≤ page → pages_of words page ≡ opening_pages roots page
+  same page le = let yes = lt-ltb roots page (omega arith) in beyond page le ∙ rw yes refl
 
-  none-open : (page : ℕ) → pages ≤ page → opening_bits 1 page ≡ 0
-  none-open page le = let yes = lt-ltb 1 page (let a = least in omega arith) in rw yes refl
+  none-open : (page : ℕ) → pages ≤ page → opening_bits roots page ≡ 0
+  none-open page le = let yes = lt-ltb roots page (omega arith) in rw yes refl
 
   none-after : (page : ℕ) → pages ≤ page → bits_of pages words page ≡ 0
   unfolding bits_of
   none-after page le = let no = le-ltb page pages le in rw no refl
 
-  kept-open : IsKeptBeside (opening_pages 1) 1 pages opening_positions
-  kept-open = IsKeptBeside-opening (opening_pages 1) pages refl (let a = least in omega arith)
+  kept-open : IsKeptBeside (opening_pages roots) roots pages (opening_positions roots)
+  kept-open = IsKeptBeside-opening (opening_pages roots) pages roots (λ r some le. let no = le-ltb roots r le in rw no refl) few
 
   -- a memory that passes is lawful, and the positions that are left are its own
-  pub IsLawfulMemory-passes : (table : Positions) → PassesWhole pages words good table → IsLawfulMemory pages 1 words × IsKeptBeside (pages_of words) 1 pages table
+  pub IsLawfulMemory-passes : (table : Positions) → PassesWhole pages roots words good table → IsLawfulMemory pages roots words × IsKeptBeside (pages_of words) roots pages table
   IsLawfulMemory-passes table passes =
-      let found = whole-sound (opening_pages 1) (pages_of words) (opening_bits 1) (bits_of pages words) 1 pages (IsLawful-opening 1 (omega arith)) same opening_positions kept-open
+      let found = whole-sound (opening_pages roots) (pages_of words) (opening_bits roots) (bits_of pages words) roots pages (IsLawful-opening roots mapped) same (opening_positions roots) kept-open
       (pages_below pages) (IsListed-below pages) good none-open (λ h v. (is_good h v).0) table passes.patch in
       (record { space = passes.space; law = found.0 }, found.1)
 
   -- a lawful memory passes
-  pub passes-IsLawfulMemory : IsLawfulMemory pages 1 words → (table : Positions) × PassesWhole pages words good table
+  pub passes-IsLawfulMemory : IsLawfulMemory pages roots words → (table : Positions) × PassesWhole pages roots words good table
   passes-IsLawfulMemory lawful =
-      let found = whole-complete (opening_pages 1) (pages_of words) (opening_bits 1) (bits_of pages words) 1 pages (IsLawful-opening 1 (omega arith)) same opening_positions kept-open
+      let found = whole-complete (opening_pages roots) (pages_of words) (opening_bits roots) (bits_of pages words) roots pages (IsLawful-opening roots mapped) same (opening_positions roots) kept-open
       (pages_below pages) (IsListed-below pages) good none-open (λ h v. (is_good h v).1) lawful.law none-after in
       (found.0, record { space = lawful.space; patch = found.1 })

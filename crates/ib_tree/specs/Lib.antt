@@ -2,3 +2,5 @@ pub mod Logs
 pub mod TreeLog
 pub mod PageLists
 pub mod Tests
+pub mod WholeTest
+pub mod Roots

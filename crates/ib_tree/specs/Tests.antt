@@ -1,5 +1,5 @@
 -- What the tests of a patch, of an entry behind a lawful log and of a whole memory are given, and what they ask.
-use Rattle.std.specs.Prelude.{◌≡◌, ◌↔◌, ℕ, ◌<◌, Bool, true, false, List, [], ◌∷◌, ◌++◌, Some, None}
+use Rattle.std.specs.Prelude.{◌≡◌, ◌↔◌, ℕ, zero, suc, ◌<◌, Bool, true, false, List, [], ◌∷◌, ◌++◌, Some, None}
 use Rattle.ib_map.specs.Keys.{end_rank}
 use Rattle.ib_map.specs.Map.{key_of}
 use Rattle.ib_map.specs.History.{IsLegalHistory}
@@ -55,14 +55,15 @@ pub record PassesEntry (pages roots : ℕ) (opening : ℕ → ℕ) (front : List
       (bits_of pages (memory_after opening front)) (bits_of pages (memory_after opening (front ++ e ∷ []))) roots end_rank ps old table
   pub content : IsSliced (pages_after opening (front ++ e ∷ [])) (fresh_of ps table 1) (map_of (front ++ e ∷ [])) (key_of e.change)
 
--- in a new space page 1 alone is met: it is a leaf with all keys
-abbrev pub root_position : Position
-root_position = record { tree = 1; height = 0; low = 0; high = end_rank }
+-- in a new space the roots alone are met: each is a leaf with all keys
+abbrev pub root_position : ℕ → Position
+root_position root = record { tree = root; height = 0; low = 0; high = end_rank }
 
-abbrev pub opening_positions : Positions
-opening_positions = set_at (λ page. None) 1 (Some root_position)
+abbrev pub opening_positions : ℕ → Positions
+opening_positions zero = λ page. None
+opening_positions (suc root) = set_at (opening_positions root) (suc root) (Some (root_position (suc root)))
 
 -- all that the test of a whole memory asks: page 0 is the space page, and all pages pass the test of a patch over those of a new space
-pub record PassesWhole (pages : ℕ) (words : ℕ → ℕ) (good : ℕ → Visit → Bool) (table : Positions) : Type 0 where
+pub record PassesWhole (pages roots : ℕ) (words : ℕ → ℕ) (good : ℕ → Visit → Bool) (table : Positions) : Type 0 where
   pub space : IsSpacePage pages (image_of words 0)
-  pub patch : PassesTest (is_below pages) (opening_pages 1) (pages_of words) good (opening_bits 1) (bits_of pages words) 1 end_rank (pages_below pages) opening_positions table
+  pub patch : PassesTest (is_below pages) (opening_pages roots) (pages_of words) good (opening_bits roots) (bits_of pages words) roots end_rank (pages_below pages) (opening_positions roots) table

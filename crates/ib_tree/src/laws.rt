@@ -1,7 +1,7 @@
 //! The laws of the tests, as contracts: each passes exactly where the trees are lawful, and says where each
 //! page is met afterwards.
 
-ghost use Rattle.std.specs.Prelude.{◌≡◌, ℕ, ◌*◌, ◌≤◌, Bool, true, List, [], ◌∷◌, ◌++◌};
+ghost use Rattle.std.specs.Prelude.{◌≡◌, ℕ, ◌*◌, ◌<◌, ◌≤◌, Bool, true, List, [], ◌∷◌, ◌++◌};
 ghost use Rattle.ib_map.specs.Keys.{end_rank};
 ghost use Rattle.ib_map.specs.Space.{has_pages};
 ghost use Rattle.ib_map.specs.Writes.{PlacesRise};
@@ -39,14 +39,14 @@ pub fn patch_law()
         → PassesTest written m new good bits after roots end ps old table
         → PassesTest written m new good bits after roots end ps old other → table ≡ other }
     // The words of a whole memory, where the pages that the space doesn't have are free.
-    ensures whole_sound { (pages : ℕ) (words : ℕ → ℕ) (good : ℕ → Visit → Bool) (table : Positions)
-        → has_pages pages ≡ true → ((page : ℕ) → pages ≤ page → pages_of words page ≡ free_page)
-        → TellsGood good (pages_of words) → PassesWhole pages words good table
-        → IsLawfulMemory pages 1 words × IsKeptBeside (pages_of words) 1 pages table }
-    ensures whole_complete { (pages : ℕ) (words : ℕ → ℕ) (good : ℕ → Visit → Bool)
-        → has_pages pages ≡ true → ((page : ℕ) → pages ≤ page → pages_of words page ≡ free_page)
-        → TellsGood good (pages_of words) → IsLawfulMemory pages 1 words
-        → (table : Positions) × PassesWhole pages words good table }
+    ensures whole_sound { (pages roots : ℕ) (words : ℕ → ℕ) (good : ℕ → Visit → Bool) (table : Positions)
+        → has_pages pages ≡ true → roots < pages → ((page : ℕ) → pages ≤ page → pages_of words page ≡ free_page)
+        → TellsGood good (pages_of words) → PassesWhole pages roots words good table
+        → IsLawfulMemory pages roots words × IsKeptBeside (pages_of words) roots pages table }
+    ensures whole_complete { (pages roots : ℕ) (words : ℕ → ℕ) (good : ℕ → Visit → Bool)
+        → has_pages pages ≡ true → roots < pages → ((page : ℕ) → pages ≤ page → pages_of words page ≡ free_page)
+        → TellsGood good (pages_of words) → IsLawfulMemory pages roots words
+        → (table : Positions) × PassesWhole pages roots words good table }
 {}
 
 /// The law of the test of an entry, as a contract. Behind a lawful log of one tree, an entry passes exactly
@@ -55,7 +55,7 @@ pub fn patch_law()
 pub fn entry_law()
     // The pages of a new space have their positions.
     ensures opening { (pages : ℕ) → has_pages pages ≡ true
-        → IsKeptBeside (pages_of (by_place opening pages)) 1 pages opening_positions }
+        → IsKeptBeside (pages_of (by_place opening pages)) 1 pages (opening_positions 1) }
     ensures sound { (pages : ℕ) (front : List Entry) (e : Entry) (good : ℕ → Visit → Bool) (ps : List ℕ) (old table : Positions)
         → has_pages pages ≡ true → IsEntryGiven pages 1 (by_place opening pages) front e good ps old
         → PassesEntry pages 1 (by_place opening pages) front e good ps old table

@@ -1,10 +1,17 @@
-//! Lawful logs of trees, and the test of one entry by the pages that it writes.
+//! Lawful logs of trees, and the test of one entry by the pages that it writes; the test of a whole memory, and
+//! the content of its trees.
 #![tactic(auto)]
 
+mod content;
 mod laws;
+#[cfg(test)]
+mod memory_tests;
 #[cfg(test)]
 mod tests;
 mod tree_law;
+mod whole;
 
+pub use content::content_of;
 pub use laws::{entry_law, patch_law};
 pub use tree_law::{TreeLaw, Trees};
+pub use whole::check_tree;

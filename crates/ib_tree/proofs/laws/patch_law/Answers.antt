@@ -15,7 +15,7 @@ pub returns-clause-once : goal.returns-clause-once
 returns-clause-once c written m new good bits after roots end ps old table other a b = passes-once written m new good bits after roots end ps old table other a b
 
 pub returns-clause-whole_sound : goal.returns-clause-whole_sound
-returns-clause-whole_sound c pages words good table fits beyond tells passes = IsLawfulMemory-passes pages fits words beyond good tells table passes
+returns-clause-whole_sound c pages roots words good table fits few beyond tells passes = IsLawfulMemory-passes pages fits roots few words beyond good tells table passes
 
 pub returns-clause-whole_complete : goal.returns-clause-whole_complete
-returns-clause-whole_complete c pages words good fits beyond tells lawful = passes-IsLawfulMemory pages fits words beyond good tells lawful
+returns-clause-whole_complete c pages roots words good fits few beyond tells lawful = passes-IsLawfulMemory pages fits roots few words beyond good tells lawful

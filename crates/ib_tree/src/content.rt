@@ -1,0 +1,79 @@
+//! The content of a tree, read from its leaves.
+
+ghost use Rattle.std.specs.Prelude.{◌≡◌, ◌<◌, ◌++◌, length, OnOk, IfOk};
+ghost use Rattle.ib_map.specs.Keys.{end_rank};
+ghost use Rattle.ib_map.specs.Pairs.{Rises, put};
+ghost use Rattle.ib_page.specs.Form.{page_of};
+ghost use Rattle.ib_walk.specs.Trees.{content_of, leaves_of};
+ghost use Rattle.ib_walk.specs.Walk.{first_page};
+ghost use Rattle.ib_walk.specs.Words.{memory_of, state_of};
+ghost use Rattle.ib_tree.specs.Roots.{HasRoot};
+
+use ib_map::{Key, OutOfMemory, PlainMap};
+use ib_page::Image;
+use ib_patch::reading;
+use std::alloc::{AllocError, Global};
+
+/// The content of the tree of a root, as a map: the records of its leaves, from the first one along the links. The
+/// images are those of a lawful memory, as `check_tree` tells, and the root is one of its roots. Refused only for want
+/// of memory.
+pub fn content_of(alloc: Global, memory: &[Image], root: u32) -> Result<PlainMap, OutOfMemory>
+    requires { HasRoot memory.now root }
+    ensures { IfOk result (λ map. map ≡ content_of (memory_of memory.now) root) }
+{
+    let mut map = PlainMap::new(alloc);
+    let mut page = first_leaf(memory, root);
+    for _ in 0..memory.len() {
+        if page == 0 {
+            return Ok(map);
+        }
+        let leaf = image_at(memory, page);
+        insert_records(&mut map, leaf)?;
+        page = reading::next(leaf);
+    }
+    Ok(map)
+}
+
+// The first leaf of the tree of a root: the root's first child, that one's first child, and so on down.
+fn first_leaf(memory: &[Image], root: u32) -> u32
+    requires { HasRoot memory.now root }
+    ensures { result ≡ first_page (leaves_of (memory_of memory.now) root) 0 }
+{
+    let mut page = root;
+    for _ in 0..reading::level(image_at(memory, root)) {
+        page = reading::record_at(image_at(memory, page), 0).1 as u32;
+    }
+    page
+}
+
+// The image of a page, which has all words, as each image has.
+fn image_at(memory: &[Image], page: u32) -> &Image
+    requires { page < length memory.now }
+    ensures { memory_of memory.now page ≡ state_of (page_of result.now) }
+{
+    let image = &memory[page as usize];
+    let _first = image.word(0);
+    image
+}
+
+// Inserts the records of a leaf, whose keys are above all of the map's.
+fn insert_records(map: &mut PlainMap, leaf: &Image) -> Result<(), OutOfMemory>
+    requires { Rises 0 (map.old ++ (state_of (page_of leaf.now)).records) end_rank }
+    ensures { OnOk result (map.new ≡ map.old ++ (state_of (page_of leaf.now)).records) }
+{
+    for place in 0..reading::count(leaf) {
+        let (key, value) = reading::record_at(leaf, place);
+        insert(map, key, value)?;
+    }
+    Ok(())
+}
+
+// Inserts a pair. No tree has a key twice, so where that fails it is for want of memory.
+fn insert(map: &mut PlainMap, key: Key, value: u64) -> Result<(), OutOfMemory>
+    ensures { OnOk result (map.new ≡ put key value map.old) }
+{
+    match map.insert(key, value) {
+        Ok(()) => Ok(()),
+        Err(_) => Err(AllocError),
+    }
+}
