@@ -2,7 +2,7 @@
 """Compares the program with small models of its forms, on random inputs, good ones and bad ones.
 
 The models stand apart from the definitions: scripts on a dictionary, events on latches that keep who holds them, logs
-by their table. The proofs say that the program answers as the definitions do; this tries whether they say what was
+by their table, with a walk of the whole tree after each entry. The proofs say that the program answers as the definitions do; this tries whether they say what was
 meant. Words: how many inputs of each form (2,000 if none), and a seed (57). The first difference is printed, with the
 input in a file, and the status is then 1.
 """
@@ -12,6 +12,8 @@ import random
 import subprocess
 import sys
 import tempfile
+
+from tree_logs import FORM, WORDS, Tree, entry_words, file_of, new_space
 
 TOP = os.path.dirname(os.path.dirname(os.path.abspath(__file__)))
 WRAPPER = os.path.join(TOP, "ib_tool")
@@ -375,36 +377,103 @@ def entry_fault(words, at, pages):
     return None, 4 + 2 * writes
 
 
+class NoTree(Exception):
+    """Why pages are no tree."""
+
+
+def must(holds, why):
+    if not holds:
+        raise NoTree(why)
+
+
+def records_of(words):
+    """The records of a page of the tree, whose words must be in its form."""
+    kind, level, count, prev, behind = words[:5]
+    must(kind == 1 and level <= 7 and count <= 35 and words[6:8] == [0, 0], "head")
+    must(prev < 2**32 and behind < 2**32 and (level == 0 or prev == behind == 0), "links")
+    must(not any(words[8 + 2 * count :]), "words behind the records")
+    records = list(zip(words[8 : 8 + 2 * count : 2], words[9 : 9 + 2 * count : 2]))
+    must(all(one[0] < two[0] for one, two in zip(records, records[1:])), "order of keys")
+    return records
+
+
+def tree_of(pages, count):
+    """Where each page is met, as a level and the ends of its keys, and the records of the leaves; all pages but these are free."""
+    must(not any(pages[0][WORDS // 2 + 1 :]), "space page")
+    bits = {page for page in range(64 * 64) if pages[0][page // 64] >> page % 64 & 1}
+    met, content = {}, []
+    visits, level = [(1, 0, 2**64)], pages[1][1]
+    while visits:
+        below, before = [], 0
+        for i, (page, low, high) in enumerate(visits):
+            must(page not in met and page in pages, "a page met twice, or none")
+            words = pages[page]
+            records = records_of(words)
+            keys = [key for key, _ in records]
+            must(words[1] == level and all(low <= key < high for key in keys), "level or range")
+            met[page] = (level, low, high)
+            if level:
+                must(keys[:1] == [low], "first key")
+                below += zip([child for _, child in records], keys, keys[1:] + [high])
+            else:
+                must(words[3] == before and words[4] == (visits[i + 1][0] if i + 1 < len(visits) else 0), "links")
+                before, content = page, content + records
+        visits, level = below, level - 1
+    must(bits == {0, *met} and max(bits) < count, "bits")
+    for page, words in pages.items():
+        must(page == 0 or page in met or not any(words[:5] + words[6:]), "free page")
+    return met, content
+
+
+def is_tree_behind(met, pages, count, pairs, writes):
+    """Where pages are met after an entry, or none where it leaves no tree of the map, or moves a page that it does not write."""
+    written = {place // WORDS for place, _ in writes}
+    try:
+        now, content = tree_of(pages, count)
+        must(0 not in now and content == sorted(pairs.items()), "content")
+        must(all(met.get(page) == now.get(page) for page in {*met, *now} - written), "an unwritten page")
+        return now
+    except NoTree:
+        return None
+
+
 def replay(data):
     if len(data) % 8:
         return 7, f"bad log: odd length {len(data)}\n"
     words = [int.from_bytes(data[i : i + 8], "big") for i in range(0, len(data), 8)]
     if len(words) < 2:
         return 7, "bad log: short at 0\n"
-    if words[0] != int.from_bytes(b"IBLOG570", "big"):
+    if words[0] != FORM:
         return 7, f"bad log: file at 0 word {words[0]}\n"
     if not 16 <= words[1] <= 4096:
         return 7, f"bad log: file at 1 word {words[1]}\n"
-    pages, words, at = words[1], words[2:], 0
-    pairs, log, made = {}, [], {}
+    count, words, at = words[1], words[2:], 0
+    pairs, log, made, pages = {}, [], {}, new_space()
+    met, _ = tree_of(pages, count)
     while at < len(words):
-        fault, length = entry_fault(words, at, pages)
+        fault, length = entry_fault(words, at, count)
         if fault:
             return 7, f"bad log: {fault}\n"
-        head, count, key, value = words[at : at + 4]
+        head, number, key, value = words[at : at + 4]
         session, flags = head >> 32, head >> 16 & 0xFFFF
         inserts = flags in (1, 5)
-        if count != made.get(session, 0) + 1:
+        if number != made.get(session, 0) + 1:
             return 7, f"bad log: unlawful at {at} number\n"
         if inserts == (key in pairs):
             return 7, f"bad log: unlawful at {at} change\n"
-        made[session] = count
+        made[session] = number
         if inserts:
             pairs[key] = value
-            log.append(f"{session} {count} insert {key} {value}\n")
+            log.append(f"{session} {number} insert {key} {value}\n")
         else:
             del pairs[key]
-            log.append(f"{session} {count} delete {key}\n")
+            log.append(f"{session} {number} delete {key}\n")
+        writes = list(zip(words[at + 4 : at + length : 2], words[at + 5 : at + length : 2]))
+        for place, word in writes:
+            pages.setdefault(place // WORDS, [0] * WORDS)[place % WORDS] = word
+        met = is_tree_behind(met, pages, count, pairs, writes)
+        if met is None:
+            return 7, f"bad log: unlawful at {at} tree\n"
         at += length
     return 0, log_and_map(log, pairs)
 
@@ -462,30 +531,50 @@ def some_events(dice):
     return events if dice.randrange(3) else spoiled(dice, events)
 
 
-def some_log(dice):
-    pages = dice.choice([16, 17, 4096])
-    pairs, made = {}, {}
-    words = [int.from_bytes(b"IBLOG570", "big"), pages]
-    for _ in range(dice.choice([0, 1, 3, 20])):
-        session, key, value = dice.choice([1, 2, 1024]), a_number(dice, 12), a_number(dice, 1000)
-        inserts = key not in pairs
-        made[session] = made.get(session, 0) + 1
-        if inserts:
-            pairs[key] = value
+def some_tree(dice, pages):
+    """Entries of a tree, in the middle of which one may be changed."""
+    tree, keys = Tree(), set()
+    small = dice.choice([3, 12, 200])
+    for _ in range(dice.choice([0, 1, 3, 20, 120])):
+        key = a_number(dice, small)
+        if key in keys:
+            tree.delete(key)
         else:
-            del pairs[key]
-        page = dice.randrange(pages)
-        among = range(page * 128, page * 128 + 128) if dice.randrange(3) else range(pages * 128)
-        places = sorted(dice.sample(among, dice.choice([1, 2, 8])))
-        flags = (1 if inserts else 2) + (4 if len({place // 128 for place in places}) > 1 else 0)
-        words += [session << 32 | flags << 16 | len(places), made[session], key, value if inserts else 0]
-        for place in places:
-            words += [place, a_number(dice, 1000)]
-    for _ in range(dice.choice([0, 0, 1, 2])):
+            tree.insert(key, a_number(dice, 1000))
+        keys ^= {key}
+    if tree.entries and dice.randrange(3):
+        _, _, _, writes = dice.choice(tree.entries[-5:])
+        writes[:] = sorted(changed(dice, dict(writes), pages).items())
+    return tree.entries
+
+
+def changed(dice, writes, pages):
+    """The writes, of which one is left out, or has another word, or is new."""
+    place, how = dice.choice(list(writes)), dice.randrange(3)
+    if how == 0 and len(writes) > 1:
+        del writes[place]
+        return writes
+    if how == 1:
+        page = dice.choice([place // WORDS, place // WORDS, dice.randrange(min(pages, 20))])
+        place = page * WORDS + dice.choice([dice.randrange(10), dice.randrange(WORDS)])
+    word = writes.get(place, 0)
+    writes[place] = dice.choice([0, 1, 2, 3, word + 1, word ^ 1 << dice.randrange(64), dice.choice(list(writes.values())), GREATEST]) & GREATEST
+    return writes
+
+
+def some_log(dice):
+    pages, made, words = dice.choice([16, 17, 4096]), {}, []
+    for entry in some_tree(dice, pages):
+        session = dice.choice([1, 2, 1024])
+        made[session] = made.get(session, 0) + 1
+        words += entry_words(session, made[session], *entry)
+    for _ in range(dice.choice([0, 0, 0, 1, 2]) if words else 0):
         at = dice.randrange(len(words))
         words[at] = dice.choice([0, 1, words[at] + 1, words[at] ^ 1 << dice.randrange(64), words[dice.randrange(len(words))], GREATEST]) & GREATEST
-    data = b"".join(word.to_bytes(8, "big") for word in words)
-    return data[: dice.randrange(len(data) + 1)] if not dice.randrange(5) else data
+    data = bytearray(file_of(pages, words))
+    if not dice.randrange(10):
+        data[dice.randrange(16)] ^= 1 << dice.randrange(8)
+    return bytes(data[: dice.randrange(len(data) + 1)] if not dice.randrange(10) else data)
 
 
 def compare(form, model, make, dice, count):

@@ -4,13 +4,14 @@
 The inputs are made here, from a fixed seed, in a folder that is removed afterwards. Nothing is judged.
 """
 
-import array
 import os
 import random
 import subprocess
 import sys
 import tempfile
 import time
+
+from tree_logs import Tree, log_of
 
 TOP = os.path.dirname(os.path.dirname(os.path.abspath(__file__)))
 PROGRAM = os.path.join(TOP, "ib_tool")
@@ -57,26 +58,12 @@ def events(count):
         yield f"{session} raise {latch}\n"
 
 
-def one_write_each(keys):
-    """A log of inserts by session 1 that each write the clock of page 1 alone."""
-    for number, key in enumerate(keys, 1):
-        yield (0x1_0001_0001, number, key, number, 133, number)
-
-
-def widest(count):
-    """A log of inserts by session 1 that each write as many words as an entry can have, on 32 pages."""
-    places = range(128, 128 + 4096)
-    for number in range(1, count + 1):
-        yield (0x1_0005_1000, number, number, number, *(word for place in places for word in (place, number)))
-
-
-def raw_log(pages, entries):
-    """The file of the entries' words, the highest byte of each first."""
-    numbers = array.array("Q", [int.from_bytes(b"IBLOG570", "big"), pages])
-    for words in entries:
-        numbers.extend(words)
-    numbers.byteswap()
-    yield numbers.tobytes()
+def tree_of(keys):
+    """The log file of inserts of these keys in turn."""
+    tree = Tree()
+    for key in keys:
+        tree.insert(key, key)
+    yield tree.file()
 
 
 def measure(name, form, script, output):
@@ -111,11 +98,9 @@ def main():
         run("200,000 mixed commands of 4 sessions over 20,000 keys", "run", mixed(200_000, 4, 20_000), folder)
         run("1,000,000 commands, 990,000 of them gets", "run", gets(1_000_000), folder)
         run("1,000,000 events of 64 sessions on 16 latches", "latch", events(1_000_000), folder)
-        ascending_keys = range(9, 9 * 1_398_102, 9)
-        run("a log of 1,398,101 inserts, of the greatest size", "replay", raw_log(16, one_write_each(ascending_keys)), folder)
-        shuffled = random.Random(57).sample(range(10_000_000), 100_000)
-        run("a log of 100,000 inserts in mixed order", "replay", raw_log(16, one_write_each(shuffled)), folder)
-        run("a log of 1,023 inserts with 4,096 writes each", "replay", raw_log(4096, widest(1023)), folder)
+        run("a log of 20,000 inserts and 600,000 changes of one key", "replay", [log_of(20_000, 600_000)], folder)
+        shuffled = random.Random(57).sample(range(10_000_000), 60_000)
+        run("a log of 60,000 inserts in mixed order", "replay", tree_of(shuffled), folder)
         run("67,108,864 bytes of zeros", "replay", [bytes(67_108_864)], folder)
     return 0
 

@@ -4,7 +4,7 @@
 A log has inserts of the keys 1 to N in turn, with the splits and root raises that they need, and then twice N changes of one
 key: a delete and an insert in turn. The pages are kept here as lists of words, apart from the crates, and an entry is the
 words in which they differ. Words: N, for each log one (20000 40000). The changes are of the greatest key, so that each of
-them writes a few words, and the file stays below the program's limit.
+them writes a few words, and the file stays below the program's limit. Other scripts of this folder take their logs from here.
 """
 
 import os
@@ -14,6 +14,7 @@ import sys
 import time
 
 TOP = os.path.dirname(os.path.dirname(os.path.abspath(__file__)))
+PROGRAM = os.path.join(TOP, "crates", "ib_tool", "out", "ib_tool")
 PAGES, WORDS, MOST = 4096, 128, 35
 FORM = 0x49424C4F47353730
 INSERT, DELETE, STRUCTURAL = 1, 2, 4
@@ -23,14 +24,29 @@ def free_page(clock=0):
     return [0] * 5 + [clock] + [0] * (WORDS - 6)
 
 
+def new_space():
+    """The first two pages of a new space; all others are free."""
+    return {0: [3] + [0] * (WORDS - 1), 1: [1] + [0] * (WORDS - 1)}
+
+
+def entry_words(session, number, inserts, key, value, writes):
+    """The words of an entry; writes are pairs of a place and a word."""
+    flags = (INSERT if inserts else DELETE) | (STRUCTURAL if len({place // WORDS for place, _ in writes}) > 1 else 0)
+    return [session << 32 | flags << 16 | len(writes), number, key, value, *(word for write in writes for word in write)]
+
+
+def file_of(pages, words):
+    """The bytes of a log file: each number has 64 bits, the highest byte first."""
+    return struct.pack(f">{len(words) + 2}Q", FORM, pages, *words)
+
+
 class Tree:
-    """The pages of a space with one tree, and the words of the log that made them."""
+    """The pages of a space with one tree, and the entries that made them: what each changed and wrote."""
 
     def __init__(self):
-        self.pages = {0: [3] + [0] * (WORDS - 1), 1: [1] + [0] * (WORDS - 1)}
+        self.pages = new_space()
         self.next_free = 2
-        self.log = []
-        self.number = 0
+        self.entries = []
         self.touched = {}
 
     def edit(self, page):
@@ -97,48 +113,50 @@ class Tree:
         self.put(right, level, left if leaf else 0, 0, records[18:])
         self.put(1, level + 1, 0, 0, [(0, left), (records[18][0], right)])
 
-    def commit(self, flags, key, value):
+    def commit(self, inserts, key, value):
         writes = []
         for page in sorted(self.touched):
             before, after = self.touched[page], self.pages[page]
             writes += [(page * WORDS + i, after[i]) for i in range(WORDS) if before[i] != after[i]]
-        if len({place // WORDS for place, _ in writes}) > 1:
-            flags |= STRUCTURAL
-        self.number += 1
-        self.log += [1 << 32 | flags << 16 | len(writes), self.number, key, value]
-        self.log += [word for write in writes for word in write]
+        self.entries.append((inserts, key, value, writes))
         self.touched = {}
 
     def insert(self, key, value):
         self.insert_into(self.path(key), (key, value))
-        self.commit(INSERT, key, value)
+        self.commit(True, key, value)
 
     def delete(self, key):
         page = self.path(key)[-1]
         self.with_records(page, [record for record in self.records(page) if record[0] != key])
-        self.commit(DELETE, key, 0)
+        self.commit(False, key, 0)
 
     def file(self):
-        return struct.pack(f">{len(self.log) + 2}Q", FORM, PAGES, *self.log)
+        """The file of all entries, by session 1."""
+        words = []
+        for number, entry in enumerate(self.entries, 1):
+            words += entry_words(1, number, *entry)
+        return file_of(PAGES, words)
 
 
-def log_of(count):
+def log_of(inserts, changes):
+    """Inserts of the keys from 1 on in turn, and then so many changes of the greatest."""
     tree = Tree()
-    for key in range(1, count + 1):
+    for key in range(1, inserts + 1):
         tree.insert(key, key)
-    for _ in range(count):
-        tree.delete(count)
-        tree.insert(count, count)
+    for _ in range(changes // 2):
+        tree.delete(inserts)
+        tree.insert(inserts, inserts)
     return tree.file()
 
 
 def main():
+    subprocess.run([os.path.join(TOP, "ib_tool"), "run"], stdin=subprocess.DEVNULL, stdout=subprocess.DEVNULL, check=True)
     for count in [int(word) for word in sys.argv[1:]] or [20_000, 40_000]:
-        data = log_of(count)
+        data = log_of(count, 2 * count)
         times = []
         for _ in range(5):
             start = time.monotonic()
-            done = subprocess.run([os.path.join(TOP, "ib_tool"), "replay"], input=data, stdout=subprocess.PIPE)
+            done = subprocess.run([PROGRAM, "replay"], input=data, stdout=subprocess.PIPE)
             times.append(time.monotonic() - start)
         head = done.stdout.decode().split("\n", 1)[0]
         entries = 3 * count
