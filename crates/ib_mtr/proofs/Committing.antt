@@ -176,8 +176,9 @@ module _ (key : Sizes) (lawful : List Entry → Type 0) (opening : ℕ → ℕ) 
     -- the pass p3 after the append, and q after the end
     pub committed : (p3 q : PassState) (answer : ℕ) → MayCommit lawful p change → p3 ≡ record (with_view p2 (appending (entry_for p2 change p2.work) p2.view)) { words = p3.words }
         → answer ≡ length p2.view.memory.seen → used p3.view.memory.seen ≤ key.log_words
+        → used p2.view.memory.seen + Rattle.ib_rule.specs.declared.pass.TheConstants.ENTRY_WORDS ≤ key.log_words
         → HasEnded p3 p3.view.grants p3.view.memory.seen p3.view.memory.own p3.view.memory.ends q → HasCommitted key lawful opening change p answer q
-    committed p3 q answer may is3 place room ended =
+    committed p3 q answer may is3 place room wide ended =
         let e = commit_entry p change in
         let seen3 : p3.view.memory.seen ≡ p2.view.memory.seen ++ commit_entry p change ∷ [] =
         ap (λ (q : PassState). q.view.memory.seen) is3 ∙ ap (λ (e : Entry). p2.view.memory.seen ++ e ∷ []) same_entry in
@@ -203,6 +204,7 @@ module _ (key : Sizes) (lawful : List Entry → Type 0) (opening : ℕ → ℕ) 
           mine = filter-append (λ e. Rattle.std.specs.Prelude.◌==◌ e.session p.number) p2.view.memory.seen (commit_entry p change ∷ [])
               ∙ (λ j. mine j ++ itself j);
           room = subst (λ (xs : List Entry). used xs ≤ key.log_words) seen3 room;
+          wide = wide;
           pages = pages_after;
         }
       where

@@ -53,7 +53,7 @@ one_end_more p found = p.view.memory.ends ++ found ∷ []
 abbrev pub commit_grants : PassState → Grants
 commit_grants p = with_grant (Some X) p.view.grants
 
--- it committed at this place: its entry stands last, behind all that was seen and the harmless entries of others; and each page of the work set is in the memory after it as it was changed
+-- it committed at this place: its entry stands last, behind all that was seen and the harmless entries of others, where the longest entry had room; and each page of the work set is in the memory after it as it was changed
 pub record HasCommitted (key : Sizes) (lawful : List Entry → Type 0) (opening : ℕ → ℕ) (change : Change) (p : PassState) (answer : ℕ) (q : PassState) : Type 0 where
   pub log : List Entry
   pub looked : IsLook key lawful p.view log
@@ -62,6 +62,7 @@ pub record HasCommitted (key : Sizes) (lawful : List Entry → Type 0) (opening 
   pub legal : lawful (log ++ commit_entry p change ∷ [])
   pub mine : entries_of p.number (log ++ commit_entry p change ∷ []) ≡ p.view.memory.own ++ commit_entry p change ∷ []
   pub room : used (log ++ commit_entry p change ∷ []) ≤ key.log_words
+  pub wide : used log + ENTRY_WORDS ≤ key.log_words
   pub pages : All (λ w. IsPageAfter opening (log ++ commit_entry p change ∷ []) w.page w.changed) p.work
 
 -- the log, all of which was seen, had no room for the longest entry

@@ -71,6 +71,8 @@ impl<'a, L: Law, S: Sleep> Mtr<'a, L, S> {
         ensures latches { self.new.latches ≡ self.old.latches }
         ensures pass { self.new.pass.ghost_name ≡ self.old.pass.ghost_name }
         ensures place { IfOk result (λ place. place ≡ length self.old.pass.now.view.memory.seen) }
+        ensures wide { IfOk result (λ _. used self.old.pass.now.view.memory.seen + ENTRY_WORDS
+            ≤ self.old.latches.now.sizes.log_words) }
         ensures ok { IfOk result (λ place. self.new.pass.now ≡ record (with_view self.old.pass.now
             (appending (entry_for self.old.pass.now change self.old.pass.now.work)
             self.old.pass.now.view)) {

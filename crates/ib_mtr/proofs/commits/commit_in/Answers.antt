@@ -63,8 +63,11 @@ returns-clause-committed g c = of_ok c.append_entry-result.result (λ place is.
     let at = subst (λ (r : Result ℕ LogFull). IfOk r (λ place. place ≡ length p2.view.memory.seen)) is a.place in
     let sizes : p3.sizes ≡ c.args.latches.now.sizes = ap (λ (q : PassState). q.sizes) ok ∙ (l.mtr.own.sizes ∙ ap (λ (s : Bor SpaceState). s.now.sizes) (l.latches ∙ x.latches)) in
     let room : used p3.view.memory.seen ≤ c.args.latches.now.sizes.log_words = let u = c.used.ensures.used in let r = c.used.ensures.room in let w = ap (λ (s : Sizes). s.log_words) sizes in omega arith in
+    let most = subst (λ (r : Result ℕ LogFull). IfOk r (λ _. used p2.view.memory.seen + ENTRY_WORDS ≤ c.log_end.new.self.latches.now.sizes.log_words)) is a.wide in
+    let cap : c.log_end.new.self.latches.now.sizes.log_words ≡ c.args.latches.now.sizes.log_words = ap (λ (s : Bor SpaceState). s.now.sizes.log_words) (l.latches ∙ x.latches) in
+    let wide : used p2.view.memory.seen + ENTRY_WORDS ≤ c.args.latches.now.sizes.log_words = omega arith in
     committed c.args.latches.now.sizes (g.L.Law.lawful c.args.latches.now.sizes.pages) (by_place g.L.Law.opening c.args.latches.now.sizes.pages) c.args.change p p1 p2
-    c.requires.mtr.proper c.number.ensures.session c.number-2.ensures.session memo1 x.taken x.looks looked.looked looked.pass l.mtr.read looked.right a.work p3 _ place c.requires.may ok at room
+    c.requires.mtr.proper c.number.ensures.session c.number-2.ensures.session memo1 x.taken x.looks looked.looked looked.pass l.mtr.read looked.right a.work p3 _ place c.requires.may ok at room wide
     (ended_after p3 p3 c.give_back.new.self.pass.now c.finish.new.self.1.0 _ refl b.given e.finished e.known e.idle (ap (λ (q : PassState). q.view.memory.append) ok) (search rules)))
 
 pub returns-clause-full : goal.returns-clause-full
