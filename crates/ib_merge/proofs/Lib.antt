@@ -1,0 +1,13 @@
+pub mod ImageLaws
+pub mod BesideLaws
+pub mod GiveLaws
+pub mod MergeEdits
+pub mod WayLaws
+pub mod MergerLaws
+pub mod MergedLaws
+pub mod AtLaws
+pub mod NextLaws
+pub mod NodeLaws
+pub mod LiftEdits
+pub mod ClimbLaws
+pub mod FinishLaws

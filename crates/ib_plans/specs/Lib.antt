@@ -1,0 +1,7 @@
+pub mod Marks
+pub mod Split
+pub mod Insert
+pub mod Merge
+pub mod Delete
+pub mod Leads
+pub mod Agreement

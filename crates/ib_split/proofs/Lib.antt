@@ -1,0 +1,11 @@
+pub mod HalfLaws
+pub mod SplitEdits
+pub mod BitLaws
+pub mod FreeLaws
+pub mod WayLaws
+pub mod Pending
+pub mod Putting
+pub mod Splitting
+pub mod Raising
+pub mod Climbing
+pub mod Planning

@@ -1,0 +1,83 @@
+-- The record that is left goes into its page, which has room: the plan is done.
+use Rattle.std.proofs.Common.{◌≡◌, ◌≢◌, ◌∙◌, ℕ, ◌+◌, ◌<◌, true, List, length, take, refl, sym, ap, subst, arith, inl, inr, length-take}
+use Rattle.std.specs.Prelude.{nat_lt, IsSome}
+use Rattle.std.proofs.lemmas.Bool.{cases_eq}
+use Rattle.ib_map.specs.Keys.{MapKey}
+use Rattle.ib_page.specs.declared.TheConstants.{MOST_RECORDS}
+use Rattle.ib_page.specs.Work.{WorkPage}
+use Rattle.ib_walk.specs.Pages.{PageState, PageMemory}
+use Rattle.ib_walk.specs.Search.{page_below}
+use Rattle.ib_walk.specs.Trees.{height_of}
+use Rattle.ib_walk.proofs.ChoiceLaws.{cond-eq, cond-ne}
+use Rattle.ib_walk.proofs.SearchLaws.{above}
+use Rattle.ib_plans.specs.Marks.{with_clock, ticked}
+use Rattle.ib_plans.specs.Insert.{Growth, insert_below, planned_insert}
+use Rattle.ib_plans.specs.Agreement.{IsThere, memory_in, Sets, tick}
+use Rattle.ib_plans.proofs.EditLaws.{set-reads, set-same, set-others, set-other, set-there, set-was}
+use Rattle.ib_plans.proofs.NeedLaws.{IsCounted-need}
+use Rattle.ib_plans.proofs.SettledLaws.{planned_insert-short}
+use Rattle.ib_split.specs.Inserts.{with_record, IsClimbed}
+use Rattle.ib_split.proofs.Pending.{IsPending, HasRoom, ticked-on, ticked-same, on-path, clean-here, kept-here, long-here, memory-other, now, length-here}
+
+module _ (roots root : ℕ) (key : MapKey) (value : ℕ) (fresh : List ℕ) (old : List WorkPage) (m : PageMemory) (bits : ℕ → ℕ) (x : HasRoom roots root key fresh m bits)
+    (height depth page : ℕ) (tall : height_of m root ≡ above depth height) (at : page_below m key depth root ≡ page) (k : MapKey) (v : ℕ) (work : List WorkPage)
+    (p : IsPending key value fresh old m bits height page k v work) (here : IsThere old page) where
+  -- the page is as it was
+  pub page-now : memory_in work page ≡ m page
+  page-now = now roots root key value fresh old m bits x height depth page tall at k v work p page
+      (on-path roots root key value fresh old m bits x height depth page tall at k v work p).some
+      (clean-here roots root key value fresh old m bits x height depth page tall at k v work p) here
+
+  module _ (room : length (m page).records < MOST_RECORDS) (new : List WorkPage) (sets : Sets page (tick (with_record k v (memory_in work page))) work new) where
+    some : page ≢ 0
+    some = (on-path roots root key value fresh old m bits x height depth page tall at k v work p).some
+
+    there-here : IsThere work page
+    there-here = subst IsSome (sym (kept-here roots root key value fresh old m bits x height depth page tall at k v work p)) here
+
+    abbrev g : Growth
+    g = insert_below m bits fresh key value height page
+
+    whole : planned_insert m bits fresh key value root ≡ insert_below m bits fresh key value height page
+    whole = planned_insert-short m bits roots x.law key value x.in_range root x.some x.le fresh x.free x.missing depth height page tall at
+        (IsCounted-need m bits roots x.law key value x.in_range root x.some x.le fresh x.free x.missing x.room height depth page tall at).enough
+        (let l = length-here roots root key value fresh old m bits x height depth page tall at k v work p in omega arith)
+
+    touched-here : g.touched page ≡ true
+    touched-here = p.touched_is page some ∙ cond-eq page page true (p.touched page) refl
+
+    same-here : memory_in new page ≡ ticked m g.touched g.memory page
+    same-here =
+        set-same page (tick (with_record k v (memory_in work page))) work new sets there-here
+        ∙ (ap (λ (q : PageState). tick (with_record k v q)) page-now
+        ∙ sym (ticked-on m g.touched g.memory page touched-here ∙ ap (λ (q : PageState). with_clock ((m page).clock + 1) q) (long-here roots root key value fresh old m bits x height depth page tall at k v work p)))
+
+    same-other : (n : ℕ) → n ≢ 0 → n ≢ page → IsThere new n → memory_in new n ≡ ticked m g.touched g.memory n
+    same-other n ns ne there =
+        set-other page (tick (with_record k v (memory_in work page))) work new sets n (λ e. ne (sym e))
+        ∙ (p.same n ns (set-was page (tick (with_record k v (memory_in work page))) work new sets n there-here there)
+        ∙ ticked-same m p.touched g.touched p.memory g.memory n (sym (p.touched_is n ns ∙ cond-ne n page true (p.touched n) ne))
+        (sym (memory-other roots root key value fresh old m bits x height depth page tall at k v work p n ne)))
+
+    there-after : (n : ℕ) → n ≢ 0 → g.touched n ≡ true → IsThere new n
+    there-after n ns on = set-there page (tick (with_record k v (memory_in work page))) work new sets n there-here (elim (cases_eq n page) [
+      | inl e ↦ subst (IsThere work) (sym e) there-here
+      | inr ne ↦ p.there n ns (sym (p.touched_is n ns ∙ cond-ne n page true (p.touched n) ne) ∙ on)
+    ])
+
+    -- so the work set has the pages of the plan
+    climbed : IsClimbed (take height fresh) m g.memory g.bits bits g.touched old new
+    climbed = record {
+      reads = set-reads page (tick (with_record k v (memory_in work page))) work new sets ∙ p.reads;
+      there = there-after;
+      same = λ n ns there. elim (cases_eq n page) [
+        | inl e ↦ subst (λ q. memory_in new q ≡ ticked m g.touched g.memory q) (sym e) same-here
+        | inr ne ↦ same-other n ns ne there
+      ];
+      space = set-others page (tick (with_record k v (memory_in work page))) work new sets 0 some ∙ p.space;
+      bits_are = p.bits_is;
+      zero = p.zero_is ∙ ap (nat_lt 0) (let t = length-take height fresh in let f = p.few in omega arith);
+    }
+
+    pub put-climbed : let g = planned_insert m bits fresh key value root in IsClimbed (take height fresh) m g.memory g.bits bits g.touched old new
+    put-climbed = subst (λ (g : Growth). IsClimbed (take height fresh) m g.memory g.bits bits g.touched old new) (sym whole) climbed

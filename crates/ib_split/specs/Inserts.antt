@@ -1,0 +1,202 @@
+-- What a planned insert asks of its work set, and what a split and a raise do to it.
+use Rattle.std.specs.Prelude.{◌≡◌, ◌≢◌, ℕ, suc, ◌+◌, ◌<◌, ◌≤◌, ◌^◌, ◌==◌, Bool, true, List, [], ◌∷◌, length, take, nat_lt, Some, None, IsSomeAnd, IfSome, slice_index, if◌then◌else◌}
+use Rattle.std.specs.List.{All}
+use Rattle.ib_map.specs.Keys.{MapKey, least}
+use Rattle.ib_map.specs.Pairs.{put, value_at}
+use Rattle.ib_page.specs.declared.TheConstants.{MOST_LEVEL, MOST_RECORDS}
+use Rattle.ib_page.specs.declared.space.TheConstants.{MAPPED_PAGES}
+use Rattle.ib_page.specs.Image.{IsTreePage, IsFormed}
+use Rattle.ib_page.specs.Space.{space_clock_of}
+use Rattle.ib_page.specs.Work.{WorkPage, changed_of, with_changed}
+use Rattle.ib_walk.specs.Pages.{Tree, PageState, PageMemory}
+use Rattle.ib_walk.specs.Trees.{height_of, most_height}
+use Rattle.ib_walk.specs.Full.{need_of, is_root_full, free_of, chosen}
+use Rattle.ib_plans.specs.Split.{with_records, with_prev, left_part, right_part, first_key}
+use Rattle.ib_plans.specs.Insert.{planned_insert, AreFresh}
+use Rattle.ib_plans.specs.Marks.{ticked}
+use Rattle.ib_plans.specs.Agreement.{IsThere, memory_in, reads_of, Agrees, IsPlanned, Sets, tick, HasTreePages, MayTick, last_of, taken_bits, with_bits}
+
+-- the fresh pages are the lowest free ones, as many as the insert takes, and it raises no root that is as high as it may be
+pub record HasFresh (pages roots root : ℕ) (key : MapKey) (fresh : List ℕ) (memory : PageMemory) (bits : ℕ → ℕ) : Type 0 where
+  pub chosen_are : fresh ≡ chosen bits pages (need_of memory key root)
+  pub enough : need_of memory key root ≤ free_of bits pages
+  pub low : is_root_full memory key root ≡ true → height_of memory root < most_height roots
+
+-- the images of the path, of the leaf behind the key's leaf where that is full, of the fresh pages, and of page 0 where there are any
+pub record HasImages (path fresh : List ℕ) (work : List WorkPage) : Type 0 where
+  pub path_there : HasTreePages path work
+  pub fresh_there : All (IsThere work) fresh
+  pub next_there : length (memory_in work (last_of path)).records ≡ MOST_RECORDS → (memory_in work (last_of path)).next ≢ 0 → IsThere work (memory_in work (last_of path)).next
+  pub space_there : 0 < length fresh → IsThere work 0
+
+-- an insert may be planned: for one memory whose pages these are, all that it reads and writes is there
+pub record CanInsert (path fresh : List ℕ) (key : MapKey) (work : List WorkPage) : Type 0 where
+  pub pages : ℕ
+  pub roots : ℕ
+  pub root : ℕ
+  pub memory : PageMemory
+  pub bits : ℕ → ℕ
+  pub agrees : Agrees pages roots root key path work memory bits
+  pub fits : HasFresh pages roots root key fresh memory bits
+  pub images : HasImages path fresh work
+  pub clocks : MayTick work
+
+-- the plan of the insert, for a memory whose pages these are
+abbrev pub IsPlannedInsert : List ℕ → MapKey → ℕ → ℕ → ℕ → PageMemory → (ℕ → ℕ) → List WorkPage → List WorkPage → Type 0
+IsPlannedInsert fresh key value pages root memory bits old new =
+    let g = planned_insert memory bits fresh key value root in IsPlanned pages memory g.memory g.bits g.touched old new
+
+-- .. for every such memory
+abbrev pub IsPlannedForAll : List ℕ → List ℕ → MapKey → ℕ → List WorkPage → List WorkPage → Type 0
+IsPlannedForAll path fresh key value old new = (pages roots root : ℕ) (memory : PageMemory) (bits : ℕ → ℕ)
+    → Agrees pages roots root key path old memory bits → HasFresh pages roots root key fresh memory bits
+    → IsPlannedInsert fresh key value pages root memory bits old new
+
+-- a page with one record too many as two halves: what stays in it, and what goes to the fresh page
+abbrev pub lower_half : PageState → ℕ → PageState
+lower_half long fresh = record {
+  kind = long.kind;
+  level = long.level;
+  prev = long.prev;
+  next = if long.level == 0 then fresh else long.next;
+  clock = long.clock;
+  records = left_part long.records;
+}
+
+abbrev pub upper_half : PageState → ℕ → ℕ → PageState
+upper_half long page clock = record {
+  kind = Tree;
+  level = long.level;
+  prev = if long.level == 0 then page else 0;
+  next = if long.level == 0 then long.next else 0;
+  clock = clock;
+  records = right_part long.records;
+}
+
+-- the two pages below a root with one record too many that is raised, and the root
+abbrev pub raised_left : PageState → ℕ → ℕ → PageState
+raised_left long right clock = record {
+  kind = Tree;
+  level = long.level;
+  prev = 0;
+  next = if long.level == 0 then right else 0;
+  clock = clock;
+  records = left_part long.records;
+}
+
+abbrev pub raised_right : PageState → ℕ → ℕ → PageState
+raised_right long left clock = record {
+  kind = Tree;
+  level = long.level;
+  prev = if long.level == 0 then left else 0;
+  next = 0;
+  clock = clock;
+  records = right_part long.records;
+}
+
+abbrev pub raised_root : PageState → ℕ → ℕ → PageState
+raised_root long left right = record {
+  kind = Tree;
+  level = suc long.level;
+  prev = 0;
+  next = 0;
+  clock = long.clock;
+  records = (least, left) ∷ (first_key (right_part long.records), right) ∷ [];
+}
+
+-- a page with one more record
+abbrev pub with_record : MapKey → ℕ → PageState → PageState
+with_record key value page = with_records (put key value page.records) page
+
+-- a full page was split: with the record it has one too many, of which the first half stays, the other half stands in the fresh page, and a leaf behind it is linked back to that one. `first` is the first key of the fresh page
+pub record IsSplit (page fresh : ℕ) (key : MapKey) (value : ℕ) (old : List WorkPage) (first : MapKey) (new : List WorkPage) : Type 0 where
+  pub one : List WorkPage
+  pub two : List WorkPage
+  pub left : Sets page (tick (lower_half (with_record key value (memory_in old page)) fresh)) old one
+  pub right : Sets fresh (tick (upper_half (with_record key value (memory_in old page)) page (memory_in old fresh).clock)) one two
+  pub alone : (memory_in old page).next ≡ 0 → new ≡ two
+  pub next : (memory_in old page).next ≢ 0 → Sets (memory_in old page).next (tick (with_prev fresh (memory_in old (memory_in old page).next))) two new
+  pub key_is : first ≡ first_key (right_part (put key value (memory_in old page).records))
+
+-- a full root was raised
+pub record IsRaised (root left right : ℕ) (key : MapKey) (value : ℕ) (old new : List WorkPage) : Type 0 where
+  pub one : List WorkPage
+  pub two : List WorkPage
+  pub at_root : Sets root (tick (raised_root (with_record key value (memory_in old root)) left right)) old one
+  pub at_left : Sets left (tick (raised_left (with_record key value (memory_in old root)) right (memory_in old left).clock)) one two
+  pub at_right : Sets right (tick (raised_right (with_record key value (memory_in old root)) left (memory_in old right).clock)) two new
+
+-- the leaf behind a page is there, and is another page than this one and the fresh one
+pub record HasNeighbour (page fresh : ℕ) (work : List WorkPage) : Type 0 where
+  pub there : (memory_in work page).next ≢ 0 → IsSomeAnd (changed_of (memory_in work page).next work) IsTreePage
+  pub level : (memory_in work page).next ≢ 0 → (memory_in work (memory_in work page).next).level ≡ 0
+  pub not_page : (memory_in work page).next ≢ page
+  pub not_fresh : (memory_in work page).next ≢ 0 → (memory_in work page).next ≢ fresh
+  pub clock : (memory_in work (memory_in work page).next).clock < 2 ^ 63
+
+-- a record may be put into a page: it is a page of a tree, with room, without the key, and its clock may tick
+pub record CanPut (page : ℕ) (key : MapKey) (work : List WorkPage) : Type 0 where
+  pub tree : IsSomeAnd (changed_of page work) IsTreePage
+  pub room : length (memory_in work page).records < MOST_RECORDS
+  pub absent : value_at key (memory_in work page).records ≡ None
+  pub clock : (memory_in work page).clock < 2 ^ 63
+
+-- a full page without the key may be split
+pub record CanSplit (page fresh : ℕ) (key : MapKey) (work : List WorkPage) : Type 0 where
+  pub tree : IsSomeAnd (changed_of page work) IsTreePage
+  pub free : IsSomeAnd (changed_of fresh work) IsFormed
+  pub full : length (memory_in work page).records ≡ MOST_RECORDS
+  pub absent : value_at key (memory_in work page).records ≡ None
+  pub clock : (memory_in work page).clock < 2 ^ 63
+  pub fresh_clock : (memory_in work fresh).clock < 2 ^ 63
+  pub apart : page ≢ fresh
+  pub next : HasNeighbour page fresh work
+
+-- a full root without the key, which is not as high as can be, may be raised
+pub record CanRaise (root left right : ℕ) (key : MapKey) (work : List WorkPage) : Type 0 where
+  pub tree : IsSomeAnd (changed_of root work) IsTreePage
+  pub left_free : IsSomeAnd (changed_of left work) IsFormed
+  pub right_free : IsSomeAnd (changed_of right work) IsFormed
+  pub full : length (memory_in work root).records ≡ MOST_RECORDS
+  pub absent : value_at key (memory_in work root).records ≡ None
+  pub low : (memory_in work root).level < MOST_LEVEL
+  pub no_prev : (memory_in work root).prev ≡ 0
+  pub no_next : (memory_in work root).next ≡ 0
+  pub clock : (memory_in work root).clock < 2 ^ 63
+  pub left_clock : (memory_in work left).clock < 2 ^ 63
+  pub right_clock : (memory_in work right).clock < 2 ^ 63
+  pub apart_left : root ≢ left
+  pub apart_right : root ≢ right
+  pub apart : left ≢ right
+
+-- these pages are free, and may be taken
+pub record MayTakePages (pages : List ℕ) (work : List WorkPage) : Type 0 where
+  pub there : IsThere work 0
+  pub free : IfSome (changed_of 0 work) (λ image. AreFresh (taken_bits image) pages)
+  pub clock : IfSome (changed_of 0 work) (λ image. space_clock_of image < 2 ^ 63)
+
+-- page 0 has these pages taken, and its clock is one higher
+pub record TakesPages (taken : List ℕ) (old new : List WorkPage) : Type 0 where
+  pub was : List ℕ
+  pub image : List ℕ
+  pub before : changed_of 0 old ≡ Some was
+  pub work : new ≡ with_changed 0 image old
+  pub size : length image ≡ length was
+  pub bits : (page : ℕ) → page < MAPPED_PAGES → taken_bits image page ≡ with_bits taken 1 (taken_bits was) page
+  pub clock : space_clock_of image ≡ space_clock_of was + 1
+  pub behind : (i : ℕ) → 64 < i → slice_index image i ≡ slice_index was i
+
+-- the tree's pages are those of the plan, all but page 0, which is as it was; these fresh pages were used, and the plan has taken them
+pub record IsClimbed (used : List ℕ) (memory planned : PageMemory) (bits before : ℕ → ℕ) (touched : ℕ → Bool) (old new : List WorkPage) : Type 0 where
+  pub reads : reads_of new ≡ reads_of old
+  pub there : (page : ℕ) → page ≢ 0 → touched page ≡ true → IsThere new page
+  pub same : (page : ℕ) → page ≢ 0 → IsThere new page → memory_in new page ≡ ticked memory touched planned page
+  pub space : changed_of 0 new ≡ changed_of 0 old
+  pub bits_are : (page : ℕ) → bits page ≡ with_bits used 1 before page
+  pub zero : touched 0 ≡ nat_lt 0 (length used)
+
+-- .. for every memory whose pages these were
+abbrev pub IsClimbedForAll : List ℕ → List ℕ → MapKey → ℕ → ℕ → List WorkPage → List WorkPage → Type 0
+IsClimbedForAll path fresh key value used old new = (pages roots root : ℕ) (memory : PageMemory) (bits : ℕ → ℕ)
+    → Agrees pages roots root key path old memory bits → HasFresh pages roots root key fresh memory bits
+    → let g = planned_insert memory bits fresh key value root in IsClimbed (take used fresh) memory g.memory g.bits bits g.touched old new

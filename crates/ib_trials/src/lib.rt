@@ -1,0 +1,16 @@
+//! Whole plans on one memory, as tests: each insert and each delete begins on pages that are checked to be lawful
+//! trees, and the pages that it plans are stored.
+#![tactic(auto)]
+
+#[cfg(test)]
+mod beside;
+#[cfg(test)]
+mod changes;
+#[cfg(test)]
+mod pages;
+#[cfg(test)]
+mod row_tests;
+#[cfg(test)]
+mod shape_tests;
+#[cfg(test)]
+mod trial;
