@@ -3,8 +3,8 @@
 
 The program is plans_main.txt beside this, with the changes of the crate ib_trials, whose asserts it meets. It stands in no
 crate, since its asserts are run and not proved: it is built over the crates as they stand, in a folder of its own, by `rt
-try`. Each change begins on pages that `check_tree` finds lawful, behind it they are checked again, and the content of the
-tree is compared with a plain map's. Words: how many changes (100000), in how many programs (4), which run beside each other
+try`. Each change begins on pages that `check_tree` finds lawful, the last one's are checked too, and behind each the content of
+the tree is compared with a plain map's. Words: how many changes (100000), in how many programs (4), which run beside each other
 with other numbers. Where one ends otherwise than with its counts, the status is 1.
 """
 
@@ -27,13 +27,19 @@ def text_of(path):
         return file.read()
 
 
+def played(text):
+    """A file of the tests as one of the program: a memory is checked where the next change begins, and not twice."""
+    text = text.replace("ib_trials", "ib_played").replace("        assert!(rt; check_tree(&self.memory, 1));\n", "")
+    return text.replace("use ib_tree::{check_tree, content_of};", "use ib_tree::content_of;")
+
+
 def repository(changes, seed):
     """A folder with the crates and the program, which is built for so many changes."""
     folder = tempfile.mkdtemp(prefix="plans")
     shutil.copytree(os.path.join(TOP, "crates"), os.path.join(folder, "crates"), ignore=shutil.ignore_patterns(*LEFT_OUT))
     shutil.copy(os.path.join(TOP, "HANDLES"), folder)
     lines = [line for line in text_of("crates.txt").splitlines() if not line.startswith("ib_trials:")]
-    files = {name: text_of(f"crates/ib_trials/{name}").replace("ib_trials", "ib_played") for name in TAKEN}
+    files = {name: played(text_of(f"crates/ib_trials/{name}")) for name in TAKEN}
     files["src/main.rt"] = text_of("bench/plans_main.txt").replace("@CHANGES@", str(changes)).replace("@SEED@", str(seed))
     files["../../crates.txt"] = "\n".join([*lines, f"ib_played: {DEPS}", ""])
     for name, text in files.items():

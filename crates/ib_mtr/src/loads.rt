@@ -1,11 +1,15 @@
 //! Pages that are loaded under their latches, and changed, and looks at the log's end.
 
-ghost use Rattle.std.specs.Prelude.{◌≡◌, ◌<◌, ◌+◌, ℕ, List, Some, None, IsSome, length};
+ghost use Rattle.std.specs.Prelude.{◌≡◌, ◌<◌, ◌+◌, ℕ, List, Some, None, IsSome, length, true};
 ghost use Rattle.std.specs.Borrow.{sem};
+ghost use Rattle.ib_map.specs.declared.TheConstants.{PAGE_WORDS};
+ghost use Rattle.ib_map.specs.Writes.{word_place};
 ghost use Rattle.ib_core.specs.Sessions.{holdings, x_grants};
-ghost use Rattle.ib_logrec.specs.Log.{by_place, used};
+ghost use Rattle.ib_logrec.specs.Log.{by_place, memory_after, used};
 ghost use Rattle.ib_page.specs.declared.work.TheConstants.{MOST_WORK_PAGES};
 ghost use Rattle.ib_page.specs.Work.{changed_of};
+ghost use Rattle.ib_rule.specs.Pass.{with_view};
+ghost use Rattle.ib_rule.specs.Views.{is_watched, loading};
 ghost use Rattle.ib_mtr.specs.Lending.{LendsImage};
 ghost use Rattle.ib_mtr.specs.Loads.{HasLoaded, HasLooked};
 ghost use Rattle.ib_mtr.specs.Mtr.{IsMtr};
@@ -14,6 +18,7 @@ use crate::mtr::Mtr;
 use ib_frames::{LogEnd, read_page};
 use ib_latch::Sleep;
 use ib_logrec::Law;
+use ib_map::PAGE_WORDS;
 use ib_page::Image;
 
 impl<'a, L: Law, S: Sleep> Mtr<'a, L, S> {
@@ -41,6 +46,29 @@ impl<'a, L: Law, S: Sleep> Mtr<'a, L, S> {
         // An image has as many words as a page.
         let _ = image.word(0);
         self.pass.resume_work(room);
+    }
+
+    /// A word of a page where it lies, of which the session holds the latch in some mode, with a look at
+    /// the log's end since: it is that of the page after all entries seen. The page is not in the work
+    /// set by it: a search reads a node in place, of whose latch it has the page by the word.
+    pub fn word(&mut self, page: u32, index: usize) -> u64
+        requires mtr { IsMtr self.old.latches.now self.old.pass.now }
+        requires page { page < self.old.latches.now.sizes.pages }
+        requires index { index < PAGE_WORDS }
+        requires held { 0 < holdings (page + 2) self.old.pass.now.view.session }
+        requires watched { is_watched (page + 2) self.old.pass.now.view.memory.since ≡ true }
+        ensures mtr { IsMtr self.new.latches.now self.new.pass.now }
+        ensures latches { self.new.latches ≡ self.old.latches }
+        ensures pass { self.new.pass.ghost_name ≡ self.old.pass.ghost_name }
+        ensures word { result
+            ≡ memory_after (by_place L.opening self.old.latches.now.sizes.pages)
+            self.old.pass.now.view.memory.seen (word_place page index) }
+        ensures loaded { self.new.pass.now ≡ with_view self.old.pass.now
+            (loading (word_place page index) result self.old.pass.now.view) }
+    {
+        self.latches
+            .space()
+            .load_page_word(self.pass, page, index as u32)
     }
 
     /// The changed image of a page, lent to be changed: the page is loaded, and the session owns X on

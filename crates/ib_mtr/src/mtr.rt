@@ -10,6 +10,7 @@ ghost use Rattle.ib_mtr.specs.Mtr.{IsMtr, finished, started, with_work};
 ghost use Rattle.ib_mtr.specs.Lending.{LendsPages};
 
 use ib_latch::{Latches, Parkers, Sleep};
+use ib_layout::Geometry;
 use ib_logrec::Law;
 use ib_page::{Image, WorkSet};
 use ib_rule::Pass;
@@ -55,6 +56,13 @@ impl<'a, L: Law, S: Sleep> Mtr<'a, L, S> {
         ensures { result.now ≡ self.now.pass.now }
     {
         self.pass
+    }
+
+    /// How many pages the space has, and how many words its log.
+    pub fn geometry(&self) -> Geometry
+        ensures { result ≡ self.now.latches.now.sizes }
+    {
+        self.latches.space().geometry()
     }
 
     /// How many entries of the log the session has seen. Nothing is read.

@@ -4,6 +4,7 @@ pub mod WordLaws
 pub mod ChangeLaws
 pub mod ReadLaws
 pub mod RouteLaws
+pub mod SearchLaws
 pub mod SpaceLaws
 pub mod WriteLaws
 pub mod RoomLaws

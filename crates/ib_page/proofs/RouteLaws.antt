@@ -17,7 +17,7 @@ pub records_ascend : (ws : List ℕ) → HoldsTree (page_of ws) → Rises 0 (pag
 records_ascend ws holds = let h = tree_in ws holds in subst (λ v. Rises 0 (page_in v).records end_rank) (sym h.holds) h.fits.ascends
 
 -- a rank that was reached is no lower than the lower bound
-rank-at : (low : ℕ) (xs : Pairs) (high : ℕ) (i : ℕ) (r : MapKey × ℕ) → Rises low xs high → slice_get xs i ≡ Some r → low ≤ rank r.0
+pub rank-at : (low : ℕ) (xs : Pairs) (high : ℕ) (i : ℕ) (r : MapKey × ℕ) → Rises low xs high → slice_get xs i ≡ Some r → low ≤ rank r.0
 rank-at low [] high i r h at = cc
 rank-at low (x ∷ xs) high zero r h at = let same : x ≡ r = cc in subst (λ (y : MapKey × ℕ). low ≤ rank y.0) same h.0
 rank-at low (x ∷ xs) high (suc i) r h at = let rest = rank-at (rank x.0 + 1) xs high i r h.1 at in omega arith

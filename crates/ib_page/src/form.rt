@@ -13,6 +13,7 @@ ghost use Rattle.ib_page.specs.Image.{IsTreePage, IsFormed, level_of, prev_of, n
 
 use crate::fault::PageFault;
 use crate::page::{CLOCK, are_zeros, has_limits, is_free};
+use crate::words::PageWords;
 use crate::{MOST_LEVEL, MOST_RECORDS};
 use ib_map::{Key, PAGE_WORDS, is_below, is_same};
 
@@ -202,6 +203,58 @@ pub fn route_to(words: &[u64], key: Key) -> (Key, u64)
     ensures not_above { rank result.0 ≤ rank key }
 {
     record_at(words, route(words, key))
+}
+
+/// The level of a page, by one word of it.
+pub fn level_in<W: PageWords>(page: &mut W) -> u32
+    requires can { W.can_read page.old }
+    requires tree { IsTreePage (W.words page.old) }
+    ensures level { result ≡ level_of (W.words page.old) }
+    ensures low { result ≤ MOST_LEVEL }
+    ensures same { W.words page.new ≡ W.words page.old }
+    ensures can { W.can_read page.new }
+    ensures read { W.has_read page.old page.new }
+{
+    page.word(LEVEL) as u32
+}
+
+/// How many records a page has, by one word of it.
+pub(crate) fn count_in<W: PageWords>(page: &mut W) -> usize
+    requires can { W.can_read page.old }
+    requires tree { IsTreePage (W.words page.old) }
+    ensures count { result ≡ length (records_of (W.words page.old)) }
+    ensures few { result ≤ MOST_RECORDS }
+    ensures same { W.words page.new ≡ W.words page.old }
+    ensures can { W.can_read page.new }
+    ensures read { W.has_read page.old page.new }
+{
+    page.word(COUNT) as usize
+}
+
+/// The key of a record, by one word of the page.
+pub(crate) fn key_in<W: PageWords>(page: &mut W, place: usize) -> Key
+    requires can { W.can_read page.old }
+    requires tree { IsTreePage (W.words page.old) }
+    requires in_range { place < length (records_of (W.words page.old)) }
+    ensures key { IsSomeAnd (slice_get (records_of (W.words page.old)) place) (λ r. r.0 ≡ result) }
+    ensures same { W.words page.new ≡ W.words page.old }
+    ensures can { W.can_read page.new }
+    ensures read { W.has_read page.old page.new }
+{
+    page.word(start_of(place))
+}
+
+/// The value of a record, by one word of the page.
+pub(crate) fn value_in<W: PageWords>(page: &mut W, place: usize) -> u64
+    requires can { W.can_read page.old }
+    requires tree { IsTreePage (W.words page.old) }
+    requires in_range { place < length (records_of (W.words page.old)) }
+    ensures value { IsSomeAnd (slice_get (records_of (W.words page.old)) place) (λ r. r.1 ≡ result) }
+    ensures same { W.words page.new ≡ W.words page.old }
+    ensures can { W.can_read page.new }
+    ensures read { W.has_read page.old page.new }
+{
+    page.word(start_of(place) + 1)
 }
 
 /// Copies the records whose keys are neither below `low` nor above `high`, and says how many they are.

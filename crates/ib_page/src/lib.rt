@@ -8,17 +8,22 @@ mod laws;
 mod opening;
 mod page;
 mod path;
+mod search;
 mod space;
 #[cfg(test)]
 mod tests;
+mod words;
 mod work;
 
 pub use fault::PageFault;
+pub use form::level_in;
 pub use image::{Image, Kind};
 pub use laws::{page_law, work_law};
 pub use opening::{opening_image, opening_word};
 pub use path::{MOST_PATH, Path};
+pub use search::child_in;
 pub use space::{MAPPED_PAGES, SpaceImage};
+pub use words::PageWords;
 pub use work::{MOST_WORK_PAGES, PageImages, WorkSet, Written};
 
 /// The most records that a page has.

@@ -1,6 +1,11 @@
 //! What a work set counts, and pages and page 0 as a change uses them.
 
+ghost use Rattle.std.specs.Prelude.{◌≡◌};
+ghost use Rattle.ib_page.specs.Image.{IsTreePage};
+
 use super::*;
+use ib_map::{Key, is_below};
+use std::process::Abort;
 use std::test::Fail;
 
 #[test]
@@ -135,4 +140,28 @@ fn the_last_word_counts_in_part(rt: HostRuntime) {
     space.take(2);
     assert_eq!(rt; space.lowest_free(3), None);
     assert_eq!(rt; space.lowest_free(100), Some(3));
+}
+
+// The child of a key, where the first record is not above it.
+fn child(rt: &impl Abort, image: &mut Image, key: Key) -> u64
+    requires { IsTreePage image.old }
+    ensures { image.new ≡ image.old }
+{
+    assert!(rt; image.len() > 0);
+    assert!(rt; !is_below(key, image.record_at(0).0));
+    child_in(image, key)
+}
+
+#[test]
+fn a_key_is_led_to_its_child(rt: HostRuntime) -> Result<(), Fail> {
+    let mut image = Image::node(1, 0);
+    image.insert(0, 7)?;
+    image.insert(10, 8)?;
+    image.insert(20, 9)?;
+    assert_eq!(rt; level_in(&mut image), 1);
+    assert_eq!(rt; child(&rt, &mut image, 0), 7);
+    assert_eq!(rt; child(&rt, &mut image, 9), 7);
+    assert_eq!(rt; child(&rt, &mut image, 10), 8);
+    assert_eq!(rt; child(&rt, &mut image, 21), 9);
+    Ok(())
 }

@@ -11,7 +11,7 @@ use lib.ListN.{get_elem?}
 use native.Mathlib.Decide.{ℕ_discrete}
 use Rattle.atomic_table.specs.Table.{State, Me, keeps, stepped, Allows}
 use Rattle.ib_map.specs.declared.TheConstants.{PAGE_WORDS}
-use Rattle.ib_map.specs.Writes.{word_place}
+use Rattle.ib_map.specs.Writes.{page_at, word_place}
 use Rattle.ib_levels.specs.declared.holding.Holding.{Holding}
 use Rattle.ib_levels.specs.Holding.{on}
 use Rattle.ib_levels.proofs.Counts.{on-cons, part-here}
@@ -34,6 +34,8 @@ use Rattle.ib_rule.specs.Rule.{RuleHolds}
 use Rattle.ib_rule.specs.Told.{tells}
 use Rattle.ib_rule.proofs.Alone.{alone, number_live}
 use Rattle.ib_rule.proofs.Knowing.{knows, old_since, prefix_short}
+use Rattle.ib_rule.proofs.Looking.{looked}
+use Rattle.ib_rule.proofs.Watching.{untouched, word_stays}
 use Rattle.ib_rule.proofs.Lists.{each_append, nil_append}
 use Rattle.ib_rule.proofs.Moves.{proper_now, known_now, few_now, taken_now}
 use Rattle.ib_rule.proofs.Words.{set_same}
@@ -63,6 +65,23 @@ module _ (lawful : ℕ → List Entry → Type 0) (opening : ℕ → ℕ → ℕ
     found_right : (q : ℕ) → q < page_places key → v.memory.append ≡ None → 0 < holdings (latch_at q) v.session → slice_index s.words (base key + q) ≡ memory_after (by_place opening key.pages) kept.log q
     found_right q inside closed held = kept.memory.paged q inside (unstored q closed held)
 
+    -- what the log has beyond what is seen writes no page whose latch is watched
+    settled : (live v.role ≡ 0 → ⊥) → (q : ℕ) → is_watched (latch_at q) v.memory.since ≡ true → memory_after (by_place opening key.pages) kept.log q ≡ memory_after (by_place opening key.pages) v.memory.seen q
+    settled alive q watched =
+        let f = kept.memory.follows id v at in
+        let look = looked key (lawful key.pages) (by_place opening key.pages) v (slice_index s.words end_place) kept.log record {
+          longer = f.seen;
+          legal = kept.memory.legal;
+          end = kept.memory.end;
+          few = kept.memory.short;
+          room = kept.memory.room;
+          mine = f.mine (number_live lawful opening key s kept id v at alive);
+          since = f.since;
+          loaded = f.loaded;
+        } in
+        ap (λ log. memory_after (by_place opening key.pages) log q) (sym look.longer)
+        ∙ word_stays (by_place opening key.pages) v.memory.seen look.others q (untouched (number_in v.role) (page_at q) v.memory.since look.others watched look.harmless)
+
   -- each latch that is held has a since from now on
   starts_right : (v : View) (n : ℕ) (log : List Entry) (hs : List Holding) (ss : List Since) → ((l : ℕ) → on l (λ h. 1) hs ≤ holdings l v.session) → AllByRecursion (SinceFact n v.session (length log) log) (starts v.session hs ss (length log))
   starts_right v n log [] ss within = tt
@@ -80,8 +99,8 @@ module _ (lawful : ℕ → List Entry → Type 0) (opening : ℕ → ℕ → ℕ
 
   module _ (entry : Entry) (slots id : ℕ) (me : Me (Unit {0}) View) where
     -- a word of a page that is held
-    page_allowed : (q : ℕ) → q < page_places key → me.0.memory.append ≡ None → 0 < holdings (latch_at q) me.0.session → Allows (RuleHolds lawful opening key) slots id me (base key + q) (λ n. n) (tells lawful opening key entry (LoadPage q) me)
-    page_allowed q inside closed held s k _ at _ =
+    page_allowed : (live me.0.role ≡ 0 → ⊥) → (q : ℕ) → q < page_places key → me.0.memory.append ≡ None → 0 < holdings (latch_at q) me.0.session → Allows (RuleHolds lawful opening key) slots id me (base key + q) (λ n. n) (tells lawful opening key entry (LoadPage q) me)
+    page_allowed alive q inside closed held s k _ at _ =
         let n : ℕ = slice_index s.words (base key + q) in
         let f = k.memory.follows id me.0 at in
         let after : RuleHolds lawful opening key (stepped s (base key + q) (slice_index s.words (base key + q)) id me.1 (loading q (slice_index s.words (base key + q)) me.0) keeps) =
@@ -102,7 +121,7 @@ module _ (lawful : ℕ → List Entry → Type 0) (opening : ℕ → ℕ → ℕ
           after,
           (
             record {
-              view = refl;
+              view = (refl, λ watched. found_right s k id me.0 at q inside closed held ∙ settled s k id me.0 at alive q watched);
               event = refl;
               proper = proper_now lawful opening key s _ _ id me.1 me.0 (loading q n me.0) at after;
               known = known_now lawful opening key s _ _ id me.1 me.0 (loading q n me.0) at after;
@@ -115,11 +134,11 @@ module _ (lawful : ℕ → List Entry → Type 0) (opening : ℕ → ℕ → ℕ
         )
 
     -- .. by its page and index
-    pub page_allowed_at : (p page index : ℕ) → p ≡ page_place key page index → page < key.pages → index < PAGE_WORDS → me.0.memory.append ≡ None → 0 < holdings (page + 2) me.0.session
+    pub page_allowed_at : (live me.0.role ≡ 0 → ⊥) → (p page index : ℕ) → p ≡ page_place key page index → page < key.pages → index < PAGE_WORDS → me.0.memory.append ≡ None → 0 < holdings (page + 2) me.0.session
         → Allows (RuleHolds lawful opening key) slots id me p (λ n. n) (tells lawful opening key entry (LoadPage (word_place page index)) me)
-    page_allowed_at p page index is inside small closed held =
+    page_allowed_at alive p page index is inside small closed held =
         subst (λ p. Allows (RuleHolds lawful opening key) slots id me p (λ n. n) (tells lawful opening key entry (LoadPage (word_place page index)) me)) (let z : base key + word_place page index ≡ p = omega arith in z)
-        (page_allowed (word_place page index) (omega arith) closed (subst (λ l. 0 < holdings l me.0.session) (sym (page_latch page index small)) held))
+        (page_allowed alive (word_place page index) (omega arith) closed (subst (λ l. 0 < holdings l me.0.session) (sym (page_latch page index small)) held))
 
     -- a word of the log, of those of the entries seen
     pub log_allowed_at : (p w : ℕ) → p ≡ log_place key w → w < used me.0.memory.seen → Allows (RuleHolds lawful opening key) slots id me p (λ n. n) (tells lawful opening key entry (LoadLog w) me)

@@ -1,5 +1,5 @@
 -- What an atomic step tells its caller.
-use Rattle.std.specs.Prelude.{◌≡◌, ◌≢◌, ℕ, ◌+◌, ◌*◌, ◌^◌, ◌≤◌, List, length, slice_set, slice_index_or, Option, Some, None}
+use Rattle.std.specs.Prelude.{◌≡◌, ◌≢◌, ℕ, ◌+◌, ◌*◌, ◌^◌, ◌≤◌, true, List, length, slice_set, slice_index_or, Option, Some, None}
 use Rattle.std.specs.List.{AllByRecursion}
 use mathlib.Core.List.{IsPrefix}
 use Rattle.atomic_table.specs.Table.{Me}
@@ -18,12 +18,13 @@ use Rattle.ib_core.specs.Table.{turn_of}
 use Rattle.ib_core.specs.Good.{IsGood, IsProper}
 use Rattle.ib_core.specs.Turns.{turn_at, word_for}
 use Rattle.ib_logrec.specs.declared.entry.Entry.{Entry}
-use Rattle.ib_logrec.specs.Log.{log_words, by_place}
+use Rattle.ib_logrec.specs.Log.{log_words, memory_after, by_place}
 use Rattle.ib_rule.specs.declared.kind.Kind.{Kind}
-use Rattle.ib_rule.specs.declared.kind.Kind.TheVariants.{Turn, Try, Recheck, Look, Count, Meet, LoadEnd, LoadLog, StorePage, StoreLog, StoreEnd}
+use Rattle.ib_rule.specs.declared.kind.Kind.TheVariants.{Turn, Try, Recheck, Look, Count, Meet, LoadPage, LoadEnd, LoadLog, StorePage, StoreLog, StoreEnd}
 use Rattle.ib_rule.specs.declared.view.View.{View}
 use Rattle.ib_rule.specs.Roles.{drawn_in, ended_in, sessions_in}
-use Rattle.ib_rule.specs.Views.{total, reaching, KnowsHeld}
+use Rattle.ib_rule.specs.Memory.{latch_at}
+use Rattle.ib_rule.specs.Views.{total, loading, is_watched, reaching, KnowsHeld}
 use Rattle.ib_rule.specs.Stores.{IsWhole, storing_page, storing_word, appending}
 use Rattle.ib_rule.specs.Steps.{event_at, view_after}
 
@@ -62,9 +63,14 @@ CanFind (Look l) v n = CanBe Lock l v.session n
 CanFind Count v n = (length (ended_in v.role) ≤ drawn_in v.role) × (drawn_in v.role ≤ 1024)
 CanFind kind v n = Unit {0}
 
+-- a word of a page whose latch is watched is that of the page after all that is seen, since nothing later conflicts with the latch
+abbrev pub IsSettled : (ℕ → ℕ) → View → ℕ → ℕ → Type 0
+IsSettled opening v q n = is_watched (latch_at q) v.memory.since ≡ true → n ≡ memory_after opening v.memory.seen q
+
 -- the view after a step. A load of the log's end shows all of the log, which the word alone does not tell
 abbrev pub After : (ℕ → List Entry → Type 0) → (ℕ → ℕ → ℕ → ℕ) → Sizes → Entry → Kind → View → ℕ → View → Type 0
 After lawful opening key e LoadEnd v n w = (w ≡ reaching w.memory.seen v) × IsWhole key (lawful key.pages) (by_place opening key.pages) v n w.memory.seen
+After lawful opening key e (LoadPage q) v n w = (w ≡ loading q n v) × IsSettled (by_place opening key.pages) v q n
 After lawful opening key e Meet v n w = (w ≡ view_after Meet n v) × AllByRecursion (λ xs. IsPrefix xs v.memory.seen) v.memory.met × lawful key.pages v.memory.seen
 After lawful opening key e (LoadLog k) v n w = (w ≡ v) × (n ≡ slice_index_or (log_words v.memory.seen) k 0)
 After lawful opening key e (StorePage q x) v n w = w ≡ storing_page e q v

@@ -1,15 +1,15 @@
 //! The loads of page words, of words of the log, and of the log's end.
 
-ghost use Rattle.std.specs.Prelude.{◌≡◌, ◌+◌, ◌*◌, ◌^◌, ◌<◌, ◌≤◌, length, slice_index_or};
+ghost use Rattle.std.specs.Prelude.{◌≡◌, ◌+◌, ◌*◌, ◌^◌, ◌<◌, ◌≤◌, length, slice_index_or, true};
 ghost use Rattle.std.specs.List.{AllByRecursion};
 ghost use Rattle.ib_map.specs.declared.TheConstants.{PAGE_WORDS};
 ghost use Rattle.ib_map.specs.Writes.{word_place};
 ghost use Rattle.ib_core.specs.Sessions.{holdings};
-ghost use Rattle.ib_logrec.specs.Log.{by_place, log_words, used};
+ghost use Rattle.ib_logrec.specs.Log.{by_place, log_words, memory_after, used};
 ghost use Rattle.ib_rule.specs.Memory.{LoadedFact};
 ghost use Rattle.ib_rule.specs.Pass.{IsFrom, IsOf, with_view};
 ghost use Rattle.ib_rule.specs.Stores.{IsLook};
-ghost use Rattle.ib_rule.specs.Views.{loading, reaching};
+ghost use Rattle.ib_rule.specs.Views.{is_watched, loading, reaching};
 
 use crate::kind::{Kind, Op};
 use crate::pass::Pass;
@@ -22,14 +22,19 @@ use std::marker::Brand;
 
 impl<L: Law> Space<L> {
     /// Loads a word of a page that the session holds in some mode. While it holds the page, and until
-    /// it stores a word of an entry itself, the word stays that of the page.
+    /// it stores a word of an entry itself, the word stays that of the page. Where it has looked at the
+    /// log's end since it took the latch, the word is that of the page after all entries seen: what the
+    /// log has beyond them wrote no word of the page.
     pub fn load_page_word(&self, pass: &mut Pass, page: u32, index: u32) -> u64
         requires own { IsOf self.now pass.old }
         requires page { page < self.now.sizes.pages }
         requires index { index < PAGE_WORDS }
         requires held { 0 < holdings (page + 2) pass.old.view.session }
-        ensures { pass.new ≡ with_view pass.old
+        ensures view { pass.new ≡ with_view pass.old
             (loading (word_place page index) result pass.old.view) }
+        ensures settled { is_watched (page + 2) pass.old.view.memory.since ≡ true
+            → result ≡ memory_after (by_place L.opening self.now.sizes.pages)
+            pass.old.view.memory.seen (word_place page index) }
     {
         let geometry = self.geometry;
         // The places of page words fit 32 bits.

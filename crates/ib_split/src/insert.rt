@@ -18,7 +18,6 @@ use ib_plans::TreeFault;
 /// once. `Duplicate` exactly where the key is there, and then nothing is changed.
 ///
 /// The changed images are planned for every lawful memory whose pages these are.
-
 pub fn plan_insert(
     work: &mut WorkSet,
     path: &Path,
@@ -54,7 +53,6 @@ fn value_in(work: &WorkSet, path: &[u32], key: Key) -> Option<u64>
 
 // Puts the record into the last page of the path and splits each full page on the way up, or raises the root at the end. It
 // answers how many fresh pages it used.
-
 fn climb(work: &mut WorkSet, path: &[u32], fresh: &[u32], key: Key, value: u64) -> usize
     requires can { CanInsert path.now fresh.now key work.old }
     requires some { 0 < length path.now }

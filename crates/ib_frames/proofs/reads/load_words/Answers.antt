@@ -11,4 +11,4 @@ pub loop-index-preserved : goal.loop-index-preserved
 loop-index-preserved g c =
     let size = c.set_word.ensures.size in let t = c.loop-index-test.true in
     subst (λ (o : List ℕ). c.load_page_word-word.new.pass ≡ with_view c.args.pass.now (with_loaded c.args.page o (c.loop-index.index + 1) c.args.pass.now.view)) (sym c.set_word.ensures.word)
-    (loaded_more c.args.pass.now c.loop-index.pass c.load_page_word-word.new.pass c.args.page c.loop-index.index c.load_page_word-word.result c.loop-index.out (omega arith) c.loop-index.invariant c.load_page_word-word.ensures)
+    (loaded_more c.args.pass.now c.loop-index.pass c.load_page_word-word.new.pass c.args.page c.loop-index.index c.load_page_word-word.result c.loop-index.out (omega arith) c.loop-index.invariant c.load_page_word-word.ensures.view)

@@ -8,7 +8,7 @@ use Rattle.ib_rule.proofs.space.Space.load_page_word.Goals as goal
 pub act-requires-clause-allowed : goal.act-requires-clause-allowed
 act-requires-clause-allowed g c =
     let mine = ap (λ (p : PassState). p.view) c.pass.view_is in
-    page_allowed_at g.L.Law.lawful g.L.Law.opening _ _ _ _ _ _ c.args.page c.args.index
+    page_allowed_at g.L.Law.lawful g.L.Law.opening _ _ _ _ _ (rw c.pass.invariant.role (λ e. absurd (cc))) _ c.args.page c.args.index
     (rw c.self.invariant.key c.page_place.ensures.place)
     (rw (c.self.invariant.key, ap (λ (o : SpaceState). o.sizes) c.self.view_is) c.requires.page)
     c.requires.index

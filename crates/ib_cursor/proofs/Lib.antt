@@ -1,0 +1,9 @@
+mod WayLaws
+mod PageLaws
+mod StandLaws
+mod GrantLaws
+mod LogLaws
+mod StepLaws
+mod DownLaws
+mod HinderLaws
+mod NextLaws

@@ -1,0 +1,107 @@
+-- A page of page memory by its image: its words, and what a search finds there.
+use Rattle.std.proofs.Common.{◌≡◌, inl, inr, ℕ, zero, suc, ◌+◌, ◌-◌, ◌*◌, ◌<◌, ◌≤◌, ◌^◌, true, [], ◌∷◌, Option, Some, get_or, slice_get, IsSomeAnd, refl, sym, ap, ◌∙◌, arith}
+use Rattle.std.specs.Prelude.{slice_index, unwrap_or, nat_le}
+use Rattle.std.proofs.lemmas.Bool.{cases_lt, lt-ltb, le-ltb, le-leb, lt-leb, leb-true, and_parts}
+use Rattle.ib_map.specs.Keys.{MapKey, rank}
+use Rattle.ib_map.specs.Space.{has_pages}
+use Rattle.ib_map.specs.declared.TheConstants.{LEAST_PAGES, MOST_PAGES}
+use Rattle.ib_map.specs.Pairs.{Pairs, place_after}
+use Rattle.ib_map.specs.Writes.{word_place}
+use Rattle.ib_map.specs.declared.TheConstants.{PAGE_WORDS}
+use Rattle.ib_page.specs.Page.{PageValue, HoldsTree, page_in}
+use Rattle.ib_page.specs.Page.PageValue.{Malformed as MalformedValue, Free as FreeValue, Tree as TreeValue}
+use Rattle.ib_page.specs.Form.{page_of}
+use Rattle.ib_page.specs.Image.{IsTreePage, level_of, next_of, records_of}
+use Rattle.ib_page.proofs.RouteLaws.{IsSomeAnd_get}
+use Rattle.ib_walk.specs.Pages.{Tree}
+use Rattle.ib_walk.specs.Words.{words_at, image_of, pages_of, state_of}
+use Rattle.ib_walk.specs.Search.{child_for}
+use Rattle.ib_walk.proofs.ImageLaws.{pages_of-image}
+
+-- a word of an image
+word-at : (words : ℕ → ℕ) (place n i : ℕ) → i < n → get_or (words_at words place n) i 0 ≡ words (place + i)
+word-at words place zero i lt = absurd (omega arith)
+word-at words place (suc n) zero lt = ap words (let e : place ≡ place + 0 = omega arith in e)
+word-at words place (suc n) (suc i) lt = word-at words (place + 1) n i (omega arith) ∙ ap words (let e : place + 1 + i ≡ place + suc i = omega arith in e)
+
+pub word_of_image : (words : ℕ → ℕ) (page index : ℕ) → index < PAGE_WORDS → slice_index (image_of words page) index ≡ words (word_place page index)
+unfolding image_of
+word_of_image words page index lt = word-at words (page * PAGE_WORDS) PAGE_WORDS index lt
+
+-- what a page of the tree says, its image says
+pub record IsTreeImage (words : ℕ → ℕ) (page : ℕ) : Type 0 where
+  pub tree : IsTreePage (image_of words page)
+  pub level : (pages_of words page).level ≡ level_of (image_of words page)
+  pub next : (pages_of words page).next ≡ next_of (image_of words page)
+  pub records : (pages_of words page).records ≡ records_of (image_of words page)
+
+tree-value : (v : PageValue) → (state_of v).kind ≡ Tree → HoldsTree v
+tree-value (TreeValue p) e = tt
+tree-value (FreeValue clock) e = cc
+tree-value MalformedValue e = cc
+
+level-value : (v : PageValue) → (state_of v).level ≡ (page_in v).level
+level-value (TreeValue p) = refl
+level-value (FreeValue clock) = refl
+level-value MalformedValue = refl
+
+next-value : (v : PageValue) → (state_of v).next ≡ (page_in v).next
+next-value (TreeValue p) = refl
+next-value (FreeValue clock) = refl
+next-value MalformedValue = refl
+
+records-value : (v : PageValue) → (state_of v).records ≡ (page_in v).records
+records-value (TreeValue p) = refl
+records-value (FreeValue clock) = refl
+records-value MalformedValue = refl
+
+pub tree_image : (words : ℕ → ℕ) (page : ℕ) → (pages_of words page).kind ≡ Tree → IsTreeImage words page
+tree_image words page kind =
+    let is = pages_of-image words page in let v = page_of (image_of words page) in
+    record {
+      tree = tree-value v (ap (λ s. s.kind) (sym is) ∙ kind);
+      level = ap (λ s. s.level) is ∙ level-value v;
+      next = ap (λ s. s.next) is ∙ next-value v;
+      records = ap (λ s. s.records) is ∙ records-value v;
+    }
+
+-- the child of a key stands in the last record that is not above the key
+no-child : (key : MapKey) (d : ℕ) (xs : Pairs) → place_after key xs ≡ 0 → child_for key d xs ≡ d
+no-child key d [] e = refl
+no-child key d (x ∷ xs) e = elim (cases_lt (rank key) (rank x.0)) [
+  | inl lt ↦ let yes = lt-ltb (rank key) (rank x.0) lt in rw yes refl
+  | inr le ↦ let yes = le-leb (rank x.0) (rank key) le in let bad : 1 + place_after key xs ≡ 0 = rw yes at e in absurd (omega arith)
+]
+
+child-at-place : (key : MapKey) (d : ℕ) (xs : Pairs) (i : ℕ) (r : MapKey × ℕ) → i + 1 ≡ place_after key xs → slice_get xs i ≡ Some r → child_for key d xs ≡ r.1
+child-at-place key d [] i r e g = absurd (omega arith)
+child-at-place key d (x ∷ xs) i r e g = elim (cases_lt (rank key) (rank x.0)) [
+  | inl lt ↦ let none = lt-leb (rank x.0) (rank key) lt in let bad : i + 1 ≡ 0 = rw none at e in absurd (omega arith)
+  | inr le ↦ let yes = le-leb (rank x.0) (rank key) le in
+      let more : i + 1 ≡ 1 + place_after key xs = rw yes at e in
+      let none = le-ltb (rank key) (rank x.0) le in
+      rw none (go i more g (λ j h k. child-at-place key x.1 xs j r h k))
+]
+  where
+    go : (j : ℕ) → j + 1 ≡ 1 + place_after key xs → slice_get (x ∷ xs) j ≡ Some r → ((j : ℕ) → j + 1 ≡ place_after key xs → slice_get xs j ≡ Some r → child_for key x.1 xs ≡ r.1) → child_for key x.1 xs ≡ r.1
+    go zero h k later = no-child key x.1 xs (omega (arith, h)) ∙ ap (λ (o : Option (MapKey × ℕ)). (unwrap_or o r).1) k
+    go (suc j) h k later = later j (omega (arith, h)) k
+
+some-there : (key : MapKey) (xs : Pairs) → IsSomeAnd (slice_get xs 0) (λ r. rank r.0 ≤ rank key) → 1 ≤ place_after key xs
+some-there key [] first = absurd first
+some-there key (x ∷ xs) first = rw (le-leb (rank x.0) (rank key) first) (omega arith)
+
+pub child_read : (key : MapKey) (xs : Pairs) (child : ℕ) → IsSomeAnd (slice_get xs 0) (λ r. rank r.0 ≤ rank key)
+    → IsSomeAnd (slice_get xs (place_after key xs - 1)) (λ r. r.1 ≡ child) → child ≡ child_for key 0 xs
+child_read key xs child first read =
+    let some = some-there key xs first in
+    let got = IsSomeAnd_get (slice_get xs (place_after key xs - 1)) (λ r. r.1 ≡ child) read in
+    sym (child-at-place key 0 xs (place_after key xs - 1) got.0 (omega arith) got.1 ∙ got.2)
+
+-- the pages of a space are few
+pub few : (pages n : ℕ) → has_pages pages ≡ true → n < pages → n < 2 ^ 32
+few pages n has lt =
+    let most = leb-true pages MOST_PAGES (and_parts (nat_le LEAST_PAGES pages) (nat_le pages MOST_PAGES) has).1 in omega arith
+
+pub few_pages : (pages n : ℕ) → has_pages pages ≡ true → n < pages → n < MOST_PAGES
+few_pages pages n has lt = let most = leb-true pages MOST_PAGES (and_parts (nat_le LEAST_PAGES pages) (nat_le pages MOST_PAGES) has).1 in omega arith

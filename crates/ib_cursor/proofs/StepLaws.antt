@@ -1,0 +1,154 @@
+-- The steps of a descent: the root is taken behind the index, and the child of a node, which is then given up.
+use Rattle.std.specs.List.{AllByRecursion}
+use Rattle.std.proofs.Common.{◌≡◌, ◌≢◌, ℕ, suc, ◌+◌, ◌<◌, ◌≤◌, false, List, [], ◌∷◌, ◌++◌, Some, refl, sym, ap, subst, ◌∙◌, arith}
+use Rattle.ib_map.specs.Keys.{MapKey, rank, end_rank}
+use Rattle.ib_map.specs.Writes.{touches, word_place}
+use Rattle.ib_levels.specs.declared.level.Level.TheVariants.{TreeNode}
+use Rattle.ib_levels.specs.declared.level.Mode.{Mode}
+use Rattle.ib_layout.specs.Geometry.{Sizes}
+use Rattle.ib_core.specs.Holders.{CanWish}
+use Rattle.ib_core.specs.Sessions.{holdings}
+use Rattle.ib_page.specs.Image.{level_of, records_of}
+use Rattle.ib_logrec.specs.declared.entry.Entry.{Entry}
+use Rattle.ib_logrec.specs.Log.{memory_after}
+use Rattle.ib_rule.specs.declared.memory.Loaded.{Loaded}
+use Rattle.ib_rule.specs.Pass.{PassState, with_view}
+use Rattle.ib_rule.specs.Views.{with_grant}
+use Rattle.ib_rule.proofs.Watching.{word_stays}
+use Rattle.ib_walk.specs.Trees.{height_of}
+use Rattle.ib_walk.specs.Search.{child_for}
+use Rattle.ib_walk.specs.Words.{image_of}
+use Rattle.ib_walk.proofs.ImageLaws.{image_of-same, page_at-word}
+use Rattle.ib_tree.specs.Logs.{pages_after}
+use Rattle.ib_mtr.specs.Mtr.{IsReleasedAt}
+use Rattle.ib_cursor.specs.Way.{IsOnWay}
+use Rattle.ib_cursor.specs.Reading.{HasRead, with_loads}
+use Rattle.ib_cursor.specs.Grants.{Grant, index_grant, page_grant, HasGrants, IsAway}
+use Rattle.ib_cursor.specs.Going.{WentOn, HasSeen, HasStood}
+use Rattle.ib_cursor.specs.Descent.{IsAt}
+use Rattle.ib_cursor.proofs.StandLaws.{IsBeside, went_beside, went_both, known_beside}
+use Rattle.ib_cursor.proofs.GrantLaws.{HasGiven, can_wish, last_held, grants_more, given, grants_left}
+use Rattle.ib_cursor.proofs.LogLaws.{Laws, IsWayImage, way_image, way_stays, child_way, root_way, levels_differ}
+
+-- words that are loaded change nothing else
+pub beside_read : (p q : PassState) → HasRead p q → IsBeside p q
+beside_read p q read = subst (IsBeside p) (sym read.same) (record { table = refl; sizes = refl; number = refl; own = refl; seen = refl; ends = refl })
+
+seen-loads : (sizes : Sizes) (lawful : List Entry → Type 0) (p q : PassState) (loaded : List Loaded) → HasSeen sizes lawful p q → HasSeen sizes lawful p (with_view q (with_loads loaded q.view))
+seen-loads sizes lawful p q loaded s = record {
+  went = record { table = s.went.table; sizes = s.went.sizes; number = s.went.number; own = s.went.own; more = s.went.more; seen = s.went.seen; added = s.went.added; ends = s.went.ends; bounds = s.went.bounds };
+  looked = s.looked;
+  known = record { legal = s.known.legal; room = s.known.room; mine = s.known.mine };
+  steady = s.steady;
+  watched = s.watched;
+}
+
+pub seen_read : (sizes : Sizes) (lawful : List Entry → Type 0) (p q r : PassState) → HasSeen sizes lawful p q → HasRead q r → HasSeen sizes lawful p r
+seen_read sizes lawful p q r s read = subst (HasSeen sizes lawful p) (sym read.same) (seen-loads sizes lawful p q r.view.memory.loaded s)
+
+at-loads : (sizes : Sizes) (lawful : List Entry → Type 0) (opening : ℕ → ℕ) (root : ℕ) (key : MapKey) (front : List Grant) (page level : ℕ) (mode : Mode) (p : PassState) (loaded : List Loaded)
+    → IsAt sizes lawful opening root key front page level mode p → IsAt sizes lawful opening root key front page level mode (with_view p (with_loads loaded p.view))
+at-loads sizes lawful opening root key front page level mode p loaded a = record {
+  grants = record { memo = a.grants.memo; session = a.grants.session };
+  watched = a.watched;
+  work = a.work;
+  known = record { legal = a.known.legal; room = a.known.room; mine = a.known.mine };
+  way = a.way;
+}
+
+pub at_read : (sizes : Sizes) (lawful : List Entry → Type 0) (opening : ℕ → ℕ) (root : ℕ) (key : MapKey) (front : List Grant) (page level : ℕ) (mode : Mode) (p q : PassState)
+    → IsAt sizes lawful opening root key front page level mode p → HasRead p q → IsAt sizes lawful opening root key front page level mode q
+at_read sizes lawful opening root key front page level mode p q a read =
+    subst (IsAt sizes lawful opening root key front page level mode) (sym read.same) (at-loads sizes lawful opening root key front page level mode p q.view.memory.loaded a)
+
+-- the image of a page stays behind entries that write no word of it
+pub image_stays : (opening : ℕ → ℕ) (seen more : List Entry) (page : ℕ) → AllByRecursion (λ e. touches page e.writes ≡ false) more → image_of (memory_after opening (seen ++ more)) page ≡ image_of (memory_after opening seen) page
+image_stays opening seen more page calm = image_of-same (memory_after opening seen) (memory_after opening (seen ++ more)) page
+    (λ index lt. word_stays opening seen more (word_place page index) (subst (λ (p : ℕ). AllByRecursion (λ (e : Entry). touches p e.writes ≡ false) more) (sym (page_at-word page index lt)) calm))
+
+-- the latch of the page that is stood on is held
+pub at_held : (sizes : Sizes) (lawful : List Entry → Type 0) (opening : ℕ → ℕ) (root : ℕ) (key : MapKey) (front : List Grant) (page level : ℕ) (mode : Mode) (p : PassState)
+    → IsAt sizes lawful opening root key front page level mode p → 0 < holdings (page + 2) p.view.session
+at_held sizes lawful opening root key front page level mode p a = last_held front (page_grant page mode) p a.grants
+
+module _ (sizes : Sizes) (roots : ℕ) (lawful : List Entry → Type 0) (opening : ℕ → ℕ) (laws : Laws sizes.pages roots lawful opening) (root : ℕ) (some : 0 < root) (le : root ≤ roots) (key : MapKey) (lt : rank key < end_rank) where
+  -- what the page that is stood on says
+  pub at_image : (front : List Grant) (page level : ℕ) (mode : Mode) (p : PassState) → IsAt sizes lawful opening root key front page level mode p → IsWayImage sizes.pages (memory_after opening p.view.memory.seen) key page level
+  at_image front page level mode p a = way_image sizes.pages roots lawful opening laws root some le key lt p.view.memory.seen page level a.known.legal a.way
+
+  -- the root is a page of the space
+  pub root_inside : lawful [] → root < sizes.pages
+  root_inside legal = (way_image sizes.pages roots lawful opening laws root some le key lt [] root _ legal (root_way sizes.pages roots lawful opening laws root some le key lt [] legal)).there
+
+  -- the root, taken behind the index
+  module _ (mode : Mode) (p q : PassState) (index : HasGrants (index_grant ∷ []) p) (none : p.work ≡ []) (stood : HasStood sizes lawful (page_grant root mode) p q) where
+    pub root_at : IsAt sizes lawful opening root key (index_grant ∷ []) root (level_of (image_of (memory_after opening q.view.memory.seen) root)) mode q
+    root_at =
+        let two = grants_more (index_grant ∷ []) (page_grant root mode) p q index stood.memo stood.session in
+        record {
+          grants = two;
+          watched = stood.seen.watched (root + 2) (last_held (index_grant ∷ []) (page_grant root mode) q two);
+          work = stood.work ∙ none;
+          known = stood.seen.known;
+          way = root_way sizes.pages roots lawful opening laws root some le key lt q.view.memory.seen stood.seen.known.legal;
+        }
+
+    pub root_height : level_of (image_of (memory_after opening q.view.memory.seen) root) ≡ height_of (pages_after opening q.view.memory.seen) root
+    root_height =
+        sym (way_image sizes.pages roots lawful opening laws root some le key lt q.view.memory.seen root _ stood.seen.known.legal
+        (root_way sizes.pages roots lawful opening laws root some le key lt q.view.memory.seen stood.seen.known.legal)).image.level
+
+  -- the child of a node that is held
+  module _ (page level : ℕ) (held : Mode) (p : PassState) (here : IsAt sizes lawful opening root key (index_grant ∷ []) page (suc level) held p) where
+    child-way : IsOnWay (pages_after opening p.view.memory.seen) root key (child_for key 0 (records_of (image_of (memory_after opening p.view.memory.seen) page))) level
+    child-way = child_way sizes.pages roots lawful opening laws root some le key lt p.view.memory.seen page level here.known.legal here.way
+
+    pub child_inside : child_for key 0 (records_of (image_of (memory_after opening p.view.memory.seen) page)) < sizes.pages
+    child_inside = (way_image sizes.pages roots lawful opening laws root some le key lt p.view.memory.seen _ level here.known.legal child-way).there
+
+    pub child_other : page ≢ child_for key 0 (records_of (image_of (memory_after opening p.view.memory.seen) page))
+    child_other = levels_differ sizes.pages roots lawful opening laws root some le key lt p.view.memory.seen page _ level here.known.legal here.way child-way
+
+    module _ (child : ℕ) (is : child ≡ child_for key 0 (records_of (image_of (memory_after opening p.view.memory.seen) page))) where
+      other : page ≢ child
+      other e = child_other (e ∙ is)
+
+      away : IsAway (child + 2) (index_grant ∷ page_grant page held ∷ [])
+      away = ((λ e. absurd (omega arith)), ((λ e. other (omega arith)), tt))
+
+      pub child_may : CanWish (child + 2) TreeNode p.view.session
+      child_may = can_wish (index_grant ∷ page_grant page held ∷ []) p here.grants (child + 2) TreeNode away (refl, (refl, tt))
+
+      -- the child is on the way after all that was seen since
+      pub child_on : (q : PassState) → HasSeen sizes lawful p q → IsOnWay (pages_after opening q.view.memory.seen) root key child level
+      child_on q seen =
+          let calm = seen.steady page here.watched in
+          let legal = subst lawful seen.went.seen seen.known.legal in
+          let on = way_stays sizes.pages roots lawful opening laws root some le key lt p.view.memory.seen seen.went.more page (suc level) legal calm here.way in
+          let below = child_way sizes.pages roots lawful opening laws root some le key lt (p.view.memory.seen ++ seen.went.more) page level legal on in
+          let same = ap (λ ws. child_for key 0 (records_of ws)) (image_stays opening p.view.memory.seen seen.went.more page calm) ∙ sym is in
+          subst (λ l. IsOnWay (pages_after opening l) root key child level) (sym seen.went.seen)
+          (subst (λ c. IsOnWay (pages_after opening (p.view.memory.seen ++ seen.went.more)) root key c level) same below)
+
+      module _ (mode : Mode) (q : PassState) (stood : HasStood sizes lawful (page_grant child mode) p q) where
+        three : HasGrants (index_grant ∷ page_grant page held ∷ page_grant child mode ∷ []) q
+        three = grants_more (index_grant ∷ page_grant page held ∷ []) (page_grant child mode) p q here.grants stood.memo stood.session
+
+        module _ (r : PassState) (release : IsReleasedAt 1 q r) where
+          gave : HasGiven (page_grant page held) q r
+          gave = given (index_grant ∷ []) (page_grant page held) (page_grant child mode ∷ []) q r three ((λ e. absurd (omega arith)), tt) ((λ e. other (omega arith)), tt) release
+
+          pub child_at : IsAt sizes lawful opening root key (index_grant ∷ []) child level mode r
+          child_at = record {
+            grants = grants_left (index_grant ∷ []) (page_grant page held) (page_grant child mode ∷ []) q r three ((λ e. absurd (omega arith)), tt) ((λ e. other (omega arith)), tt) release;
+            watched = gave.watched (child + 2) (λ e. other (omega arith)) ∙ stood.seen.watched (child + 2) (last_held (index_grant ∷ page_grant page held ∷ []) (page_grant child mode) q three);
+            work = gave.work (stood.work ∙ here.work);
+            known = known_beside sizes lawful q r gave.beside stood.seen.known;
+            way = subst (λ l. IsOnWay (pages_after opening l) root key child level) (sym gave.beside.seen) (child_on q stood.seen);
+          }
+
+          pub child_went : WentOn p r
+          child_went = went_both p q r stood.seen.went (went_beside q r gave.beside)
+
+          pub child_grants : r.view.grants ≡ with_grant (Some mode) p.view.grants
+          child_grants = gave.grants ∙ stood.grants

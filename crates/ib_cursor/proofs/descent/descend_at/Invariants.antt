@@ -1,0 +1,20 @@
+-- How far the descent has come; the level falls.
+use Rattle.std.proofs.Common.{◌≡◌, ◌∷◌, [], length}
+use Rattle.ib_logrec.specs.Log.{by_place}
+use Rattle.ib_mtr.specs.Mtr.{IsMtr}
+use Rattle.ib_cursor.specs.Descent.{IsDown}
+use Rattle.ib_cursor.specs.Grants.{index_grant}
+use Rattle.ib_cursor.specs.Modes.{is_exclusive}
+use Rattle.ib_cursor.proofs.descent.descend_at.Given as goal
+
+abbrev pub invariant-loop-level : goal.invariant-loop-level
+invariant-loop-level g l = record {
+  mtr : IsMtr l.mtr.latches.now l.mtr.pass.now;
+  latches : l.mtr.latches ≡ l.fn.mtr.latches;
+  pass : l.mtr.pass.ghost_name ≡ l.fn.mtr.pass.ghost_name;
+  down : IsDown l.fn.mtr.latches.now.sizes (g.L.Law.lawful l.fn.mtr.latches.now.sizes.pages) (by_place g.L.Law.opening l.fn.mtr.latches.now.sizes.pages) l.root l.key (index_grant ∷ []) (is_exclusive l.mode)
+      (length l.path) l.page l.level l.fn.mtr.pass.now l.mtr.pass.now;
+}
+
+abbrev pub decreases-loop-level : goal.decreases-loop-level
+decreases-loop-level g l = l.level

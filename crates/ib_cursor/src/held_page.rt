@@ -1,0 +1,126 @@
+//! A page that is read where it lies, under its latch.
+
+ghost use Rattle.std.specs.Prelude.{◌≡◌, ◌<◌, ◌-◌, ◌≤◌, ◌^◌, refl, slice_get, IsSomeAnd};
+ghost use Rattle.std.proofs.Common.{◌∙◌};
+ghost use Rattle.ib_map.specs.Keys.{rank};
+ghost use Rattle.ib_logrec.specs.Log.{by_place, memory_after};
+ghost use Rattle.ib_page.specs.Image.{IsTreePage, level_of, records_of};
+ghost use Rattle.ib_page.specs.declared.TheConstants.{MOST_LEVEL};
+ghost use Rattle.ib_walk.specs.Search.{child_for};
+ghost use Rattle.ib_walk.specs.Words.{image_of};
+ghost use Rattle.ib_mtr.specs.Mtr.{IsMtr};
+ghost use Rattle.ib_cursor.specs.Reading.{CanRead, HasRead, read_none, read_more};
+
+use ib_latch::Sleep;
+use ib_logrec::Law;
+use ib_map::Key;
+use ib_mtr::Mtr;
+use ib_page::{PageWords, child_in, level_in};
+
+// A page of which the mini-transaction holds the latch, with a look at the log's end since. It is not
+// loaded: its words are read one by one, where they lie.
+#[derive(Drop)]
+struct HeldPage<'m, 'a, L: Law, S: Sleep> {
+    mtr: &'m mut Mtr<'a, L, S>,
+    page: u32,
+}
+
+impl<'m, 'a, L: Law, S: Sleep> PageWords for HeldPage<'m, 'a, L, S> {
+    ghost words = { λ h. image_of (memory_after (by_place L.opening h.mtr.now.latches.now.sizes.pages) h.mtr.now.pass.now.view.memory.seen) h.page };
+
+    ghost can_read = { λ h. CanRead h.mtr.now.latches.now h.page h.mtr.now.pass.now };
+
+    ghost has_read = { λ h k. (k.mtr.ghost_name ≡ h.mtr.ghost_name) × (k.page ≡ h.page) × (k.mtr.now.latches ≡ h.mtr.now.latches) × (k.mtr.now.pass.ghost_name ≡ h.mtr.now.pass.ghost_name) × HasRead h.mtr.now.pass.now k.mtr.now.pass.now };
+
+    fn word(&mut self, index: usize) -> u64 {
+        self.mtr.word(self.page, index)
+    }
+
+    ghost read_none = { λ h. (refl, refl, refl, refl, read_none h.mtr.now.pass.now) };
+
+    ghost read_more = { λ h k l one two. (two.0 ∙ one.0, two.1 ∙ one.1, two.2 ∙ one.2, two.3 ∙ one.3, read_more h.mtr.now.pass.now k.mtr.now.pass.now l.mtr.now.pass.now one.4 two.4) };
+}
+
+impl<'m, 'a, L: Law, S: Sleep> HeldPage<'m, 'a, L, S> {
+    // The level of the page, by one word of it.
+    fn level(&mut self) -> u32
+        requires can { CanRead self.old.mtr.now.latches.now self.old.page self.old.mtr.now.pass.now }
+        requires tree { IsTreePage (image_of (memory_after (by_place L.opening
+            self.old.mtr.now.latches.now.sizes.pages)
+            self.old.mtr.now.pass.now.view.memory.seen) self.old.page) }
+        ensures level { result ≡ level_of (image_of (memory_after (by_place L.opening
+            self.old.mtr.now.latches.now.sizes.pages)
+            self.old.mtr.now.pass.now.view.memory.seen) self.old.page) }
+        ensures low { result ≤ MOST_LEVEL }
+        ensures same { self.new.mtr.ghost_name ≡ self.old.mtr.ghost_name }
+        ensures latches { self.new.mtr.now.latches ≡ self.old.mtr.now.latches }
+        ensures pass { self.new.mtr.now.pass.ghost_name ≡ self.old.mtr.now.pass.ghost_name }
+        ensures mtr { IsMtr self.new.mtr.now.latches.now self.new.mtr.now.pass.now }
+        ensures read { HasRead self.old.mtr.now.pass.now self.new.mtr.now.pass.now }
+    {
+        level_in(self)
+    }
+
+    // The child of the key on the page, which is a node.
+    fn child(&mut self, key: Key) -> u32
+        requires can { CanRead self.old.mtr.now.latches.now self.old.page self.old.mtr.now.pass.now }
+        requires tree { IsTreePage (image_of (memory_after (by_place L.opening
+            self.old.mtr.now.latches.now.sizes.pages)
+            self.old.mtr.now.pass.now.view.memory.seen) self.old.page) }
+        requires first { IsSomeAnd (slice_get (records_of (image_of (memory_after (by_place L.opening
+            self.old.mtr.now.latches.now.sizes.pages)
+            self.old.mtr.now.pass.now.view.memory.seen) self.old.page)) 0)
+            (λ r. rank r.0 ≤ rank key) }
+        requires small { child_for key 0 (records_of (image_of (memory_after (by_place L.opening
+            self.old.mtr.now.latches.now.sizes.pages)
+            self.old.mtr.now.pass.now.view.memory.seen) self.old.page)) < 2 ^ 32 }
+        ensures child { result ≡ child_for key 0 (records_of (image_of (memory_after (by_place L.opening
+            self.old.mtr.now.latches.now.sizes.pages)
+            self.old.mtr.now.pass.now.view.memory.seen) self.old.page)) }
+        ensures same { self.new.mtr.ghost_name ≡ self.old.mtr.ghost_name }
+        ensures latches { self.new.mtr.now.latches ≡ self.old.mtr.now.latches }
+        ensures pass { self.new.mtr.now.pass.ghost_name ≡ self.old.mtr.now.pass.ghost_name }
+        ensures mtr { IsMtr self.new.mtr.now.latches.now self.new.mtr.now.pass.now }
+        ensures read { HasRead self.old.mtr.now.pass.now self.new.mtr.now.pass.now }
+    {
+        child_in(self, key) as u32
+    }
+}
+
+// The level of a page that is held, and is one of the tree, by one word of it.
+pub(crate) fn level_of<L: Law, S: Sleep>(mtr: &mut Mtr<'_, L, S>, page: u32) -> u32
+    requires can { CanRead mtr.old.latches.now page mtr.old.pass.now }
+    requires tree { IsTreePage (image_of (memory_after (by_place L.opening
+        mtr.old.latches.now.sizes.pages) mtr.old.pass.now.view.memory.seen) page) }
+    ensures level { result ≡ level_of (image_of (memory_after (by_place L.opening
+        mtr.old.latches.now.sizes.pages) mtr.old.pass.now.view.memory.seen) page) }
+    ensures low { result ≤ MOST_LEVEL }
+    ensures mtr { IsMtr mtr.new.latches.now mtr.new.pass.now }
+    ensures latches { mtr.new.latches ≡ mtr.old.latches }
+    ensures pass { mtr.new.pass.ghost_name ≡ mtr.old.pass.ghost_name }
+    ensures read { HasRead mtr.old.pass.now mtr.new.pass.now }
+{
+    let mut held = HeldPage { mtr, page };
+    held.level()
+}
+
+// The child of the key on a node that is held: the node is not loaded, but searched where it lies.
+pub(crate) fn child_of<L: Law, S: Sleep>(mtr: &mut Mtr<'_, L, S>, page: u32, key: Key) -> u32
+    requires can { CanRead mtr.old.latches.now page mtr.old.pass.now }
+    requires tree { IsTreePage (image_of (memory_after (by_place L.opening
+        mtr.old.latches.now.sizes.pages) mtr.old.pass.now.view.memory.seen) page) }
+    requires first { IsSomeAnd (slice_get (records_of (image_of (memory_after (by_place L.opening
+        mtr.old.latches.now.sizes.pages) mtr.old.pass.now.view.memory.seen) page)) 0)
+        (λ r. rank r.0 ≤ rank key) }
+    requires small { child_for key 0 (records_of (image_of (memory_after (by_place L.opening
+        mtr.old.latches.now.sizes.pages) mtr.old.pass.now.view.memory.seen) page)) < 2 ^ 32 }
+    ensures child { result ≡ child_for key 0 (records_of (image_of (memory_after (by_place L.opening
+        mtr.old.latches.now.sizes.pages) mtr.old.pass.now.view.memory.seen) page)) }
+    ensures mtr { IsMtr mtr.new.latches.now mtr.new.pass.now }
+    ensures latches { mtr.new.latches ≡ mtr.old.latches }
+    ensures pass { mtr.new.pass.ghost_name ≡ mtr.old.pass.ghost_name }
+    ensures read { HasRead mtr.old.pass.now mtr.new.pass.now }
+{
+    let mut held = HeldPage { mtr, page };
+    held.child(key)
+}

@@ -1,0 +1,19 @@
+//! The cursor of a tree: the way of a key from the root to its leaf, under latches that are coupled, and
+//! from a leaf to the next (btr0cur, btr0pcur; the order of latches is that of WL#6326).
+#![tactic(auto)]
+
+mod descent;
+mod fault;
+mod held_page;
+mod next;
+mod nowait;
+mod search;
+mod stands;
+#[cfg(test)]
+mod tests;
+
+pub use descent::{descend, descend_at};
+pub use fault::NowaitFault;
+pub use next::next_leaf;
+pub use nowait::descend_nowait;
+pub use search::Search;

@@ -1,0 +1,222 @@
+//! The descent that does not wait.
+
+ghost use Rattle.std.specs.Prelude.{◌≡◌, ◌+◌, ◌-◌, ◌<◌, ◌≤◌, ◌^◌, ◌∷◌, [], false, Some, IfErr, IfOk, OnOk};
+ghost use Rattle.ib_map.specs.Keys.{rank, end_rank};
+ghost use Rattle.ib_levels.specs.declared.level.Mode.TheVariants.{S as ModeS};
+ghost use Rattle.ib_levels.specs.declared.level.Level.TheVariants.{TreeNode};
+ghost use Rattle.ib_layout.specs.Places.{latches_of};
+ghost use Rattle.ib_page.specs.declared.TheConstants.{MOST_LEVEL};
+ghost use Rattle.ib_core.specs.Holders.{CanWish};
+ghost use Rattle.ib_logrec.specs.Log.{by_place};
+ghost use Rattle.ib_rule.specs.Conditions.{MayGrow};
+ghost use Rattle.ib_rule.specs.Views.{total, with_grant};
+ghost use Rattle.ib_mtr.specs.Mtr.{IsMtr};
+ghost use Rattle.ib_cursor.specs.Descent.{HasDescended, IsAt, IsDown, IsStanding};
+ghost use Rattle.ib_cursor.specs.Going.{HasSeen, HasStood, WentOn};
+ghost use Rattle.ib_cursor.specs.Grants.{HasGrants, HasTaken, index_grant, page_grant};
+ghost use Rattle.ib_cursor.specs.Hindrance.{IsInVain, IsStopped, IsHindered};
+
+use crate::fault::NowaitFault;
+use crate::held_page::{child_of, level_of};
+use crate::search::Sought;
+use crate::stands::{look, read};
+use ib_latch::Sleep;
+use ib_levels::{Latch, Level};
+use ib_logrec::Law;
+use ib_map::Key;
+use ib_mtr::Mtr;
+use ib_page::Path;
+use ib_tree::Trees;
+
+// Tries S on a latch of which the session holds nothing. Where it is refused, the log's end is looked at.
+fn try_latch<L: Law, S: Sleep>(
+    mtr: &mut Mtr<'_, L, S>,
+    latch: Latch,
+    level: Level,
+) -> Result<(), NowaitFault>
+    requires mtr { IsMtr mtr.old.latches.now mtr.old.pass.now }
+    requires latch { latch.0 < latches_of mtr.old.latches.now.sizes }
+    requires grows { MayGrow mtr.old.pass.now.view }
+    requires may { CanWish latch.0 level mtr.old.pass.now.view.session }
+    ensures mtr { IsMtr mtr.new.latches.now mtr.new.pass.now }
+    ensures latches { mtr.new.latches ≡ mtr.old.latches }
+    ensures pass { mtr.new.pass.ghost_name ≡ mtr.old.pass.ghost_name }
+    ensures taken { OnOk result (HasTaken (record { latch = latch.0; mode = ModeS; level = level })
+        mtr.old.pass.now mtr.new.pass.now) }
+    ensures vain { IfErr result (λ fault. IsInVain mtr.old.latches.now.sizes
+        (L.lawful mtr.old.latches.now.sizes.pages) latch.0 fault
+        mtr.old.pass.now mtr.new.pass.now) }
+    ensures looks { mtr.old.pass.now.view.looks.count ≤ mtr.new.pass.now.view.looks.count }
+{
+    match mtr.try_s_latch(latch, level) {
+        Ok(()) => Ok(()),
+        Err(fault) => {
+            look(mtr);
+            Err(NowaitFault::of(latch, fault))
+        }
+    }
+}
+
+// Tries S on the latch of a page, and looks at the log's end either way.
+fn try_stand<L: Law, S: Sleep>(mtr: &mut Mtr<'_, L, S>, page: u32) -> Result<(), NowaitFault>
+    requires mtr { IsMtr mtr.old.latches.now mtr.old.pass.now }
+    requires page { page < mtr.old.latches.now.sizes.pages }
+    requires grows { MayGrow mtr.old.pass.now.view }
+    requires may { CanWish (page + 2) TreeNode mtr.old.pass.now.view.session }
+    ensures mtr { IsMtr mtr.new.latches.now mtr.new.pass.now }
+    ensures latches { mtr.new.latches ≡ mtr.old.latches }
+    ensures pass { mtr.new.pass.ghost_name ≡ mtr.old.pass.ghost_name }
+    ensures stood { OnOk result (HasStood mtr.old.latches.now.sizes
+        (L.lawful mtr.old.latches.now.sizes.pages) (page_grant page ModeS)
+        mtr.old.pass.now mtr.new.pass.now) }
+    ensures vain { IfErr result (λ fault. IsInVain mtr.old.latches.now.sizes
+        (L.lawful mtr.old.latches.now.sizes.pages) (page + 2) fault
+        mtr.old.pass.now mtr.new.pass.now) }
+    ensures looks { mtr.old.pass.now.view.looks.count ≤ mtr.new.pass.now.view.looks.count }
+{
+    let _ = mtr.geometry().pages();
+    try_latch(mtr, Latch::page(page), Level::TreeNode)?;
+    look(mtr);
+    Ok(())
+}
+
+// Tries the root behind the index, looks, and reads its level.
+fn try_root<L: Trees, S: Sleep>(mtr: &mut Mtr<'_, L, S>, sought: Sought) -> Result<u32, NowaitFault>
+    requires mtr { IsMtr mtr.old.latches.now mtr.old.pass.now }
+    requires index { HasGrants (index_grant ∷ []) mtr.old.pass.now }
+    requires none { mtr.old.pass.now.work ≡ [] }
+    requires room { total mtr.old.pass.now.view.grants < 2 ^ 52 }
+    requires some { 0 < sought.root }
+    requires root { sought.root ≤ L.ROOTS }
+    requires key { rank sought.key < end_rank }
+    ensures mtr { IsMtr mtr.new.latches.now mtr.new.pass.now }
+    ensures latches { mtr.new.latches ≡ mtr.old.latches }
+    ensures pass { mtr.new.pass.ghost_name ≡ mtr.old.pass.ghost_name }
+    ensures here { IfOk result (λ level. IsAt mtr.old.latches.now.sizes
+        (L.lawful mtr.old.latches.now.sizes.pages)
+        (by_place L.opening mtr.old.latches.now.sizes.pages) sought.root sought.key
+        (index_grant ∷ []) sought.root level ModeS mtr.new.pass.now) }
+    ensures low { IfOk result (λ level. level ≤ MOST_LEVEL) }
+    ensures seen { OnOk result (HasSeen mtr.old.latches.now.sizes
+        (L.lawful mtr.old.latches.now.sizes.pages) mtr.old.pass.now mtr.new.pass.now) }
+    ensures grants { OnOk result (mtr.new.pass.now.view.grants
+        ≡ with_grant (Some ModeS) mtr.old.pass.now.view.grants) }
+    ensures stopped { IfErr result (λ fault. IsStopped mtr.old.latches.now.sizes
+        (L.lawful mtr.old.latches.now.sizes.pages)
+        (by_place L.opening mtr.old.latches.now.sizes.pages) sought.root sought.key fault
+        mtr.old.pass.now mtr.new.pass.now) }
+    ensures looks { mtr.old.pass.now.view.looks.count ≤ mtr.new.pass.now.view.looks.count }
+{
+    L::trees_law();
+    let _ = mtr.geometry().pages();
+    match try_stand(mtr, sought.root) {
+        Ok(()) => Ok(level_of(mtr, sought.root)),
+        Err(fault) => Err(fault),
+    }
+}
+
+// From a node that is held to the key's child, tried and looked at before the node is given up. Where it
+// is refused, the node is still held.
+fn try_down<L: Trees, S: Sleep>(
+    mtr: &mut Mtr<'_, L, S>,
+    sought: Sought,
+    page: u32,
+    level: u32,
+) -> Result<u32, NowaitFault>
+    requires mtr { IsMtr mtr.old.latches.now mtr.old.pass.now }
+    requires here { IsStanding mtr.old.latches.now.sizes (L.lawful mtr.old.latches.now.sizes.pages)
+        (by_place L.opening mtr.old.latches.now.sizes.pages) sought.root sought.key
+        (index_grant ∷ []) page level mtr.old.pass.now }
+    requires node { 0 < level }
+    requires room { total mtr.old.pass.now.view.grants < 2 ^ 52 }
+    requires some { 0 < sought.root }
+    requires root { sought.root ≤ L.ROOTS }
+    requires key { rank sought.key < end_rank }
+    ensures mtr { IsMtr mtr.new.latches.now mtr.new.pass.now }
+    ensures latches { mtr.new.latches ≡ mtr.old.latches }
+    ensures pass { mtr.new.pass.ghost_name ≡ mtr.old.pass.ghost_name }
+    ensures here { IfOk result (λ child. IsAt mtr.old.latches.now.sizes
+        (L.lawful mtr.old.latches.now.sizes.pages)
+        (by_place L.opening mtr.old.latches.now.sizes.pages) sought.root sought.key
+        (index_grant ∷ []) child (level - 1) ModeS mtr.new.pass.now) }
+    ensures went { OnOk result (WentOn mtr.old.pass.now mtr.new.pass.now) }
+    ensures grants { OnOk result (mtr.new.pass.now.view.grants
+        ≡ with_grant (Some ModeS) mtr.old.pass.now.view.grants) }
+    ensures stopped { IfErr result (λ fault. IsStopped mtr.old.latches.now.sizes
+        (L.lawful mtr.old.latches.now.sizes.pages)
+        (by_place L.opening mtr.old.latches.now.sizes.pages) sought.root sought.key fault
+        mtr.old.pass.now mtr.new.pass.now) }
+    ensures looks { mtr.old.pass.now.view.looks.count ≤ mtr.new.pass.now.view.looks.count }
+{
+    L::trees_law();
+    let _ = mtr.geometry().pages();
+    let child = child_of(mtr, page, sought.key);
+    match try_stand(mtr, child) {
+        Ok(()) => {
+            mtr.release_at(1);
+            Ok(child)
+        }
+        Err(fault) => Err(fault),
+    }
+}
+
+/// Descends to the leaf of a key as a reader, without waiting: each latch is tried
+/// (`rw_lock_s_lock_nowait`). Where one is refused, the log's end is looked at, and then the latches are
+/// given up: memo and work set are empty again. `Busy` and `Raced` tell the latch that was not had, the
+/// index or a page of the key's way, and the words of the try.
+pub fn descend_nowait<L: Trees, S: Sleep>(
+    mtr: &mut Mtr<'_, L, S>,
+    key: Key,
+) -> Result<Path, NowaitFault>
+    requires mtr { IsMtr mtr.old.latches.now mtr.old.pass.now }
+    requires memo { mtr.old.pass.now.memo ≡ [] }
+    requires none { mtr.old.pass.now.work ≡ [] }
+    requires room { total mtr.old.pass.now.view.grants + 64 ≤ 2 ^ 52 }
+    requires root { 1 ≤ L.ROOTS }
+    ensures mtr { IsMtr mtr.new.latches.now mtr.new.pass.now }
+    ensures latches { mtr.new.latches ≡ mtr.old.latches }
+    ensures pass { mtr.new.pass.ghost_name ≡ mtr.old.pass.ghost_name }
+    ensures descended { IfOk result (λ path. HasDescended mtr.old.latches.now.sizes
+        (L.lawful mtr.old.latches.now.sizes.pages)
+        (by_place L.opening mtr.old.latches.now.sizes.pages) 1 key false path
+        mtr.old.pass.now mtr.new.pass.now) }
+    ensures hindered { IfErr result (λ fault. IsHindered mtr.old.latches.now.sizes
+        (L.lawful mtr.old.latches.now.sizes.pages)
+        (by_place L.opening mtr.old.latches.now.sizes.pages) 1 key fault
+        mtr.old.pass.now mtr.new.pass.now) }
+{
+    L::trees_law();
+    let _ = mtr.geometry().pages();
+    let sought = Sought { root: 1, key };
+    match try_latch(mtr, Latch::INDEX, Level::IndexTree) {
+        Ok(()) => {}
+        Err(fault) => return Err(fault),
+    }
+    let mut level = match try_root(mtr, sought) {
+        Ok(level) => level,
+        Err(fault) => {
+            mtr.release_at(0);
+            return Err(fault);
+        }
+    };
+    let mut page = 1;
+    let mut path = Path::new();
+    while level > 0 {
+        match try_down(mtr, sought, page, level) {
+            Ok(child) => {
+                path.push(page);
+                page = child;
+                level -= 1;
+            }
+            Err(fault) => {
+                mtr.release_at(1);
+                mtr.release_at(0);
+                return Err(fault);
+            }
+        }
+    }
+    mtr.release_at(0);
+    read(mtr, page);
+    path.push(page);
+    Ok(path)
+}

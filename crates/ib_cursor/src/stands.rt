@@ -1,0 +1,109 @@
+//! A latch is taken, and then the log's end is looked at.
+
+ghost use Rattle.std.specs.Prelude.{◌≡◌, ◌<◌, ◌+◌, true, None, length};
+ghost use Rattle.ib_map.specs.Space.{has_pages};
+ghost use Rattle.ib_levels.specs.declared.level.Level.TheVariants.{TreeNode};
+ghost use Rattle.ib_layout.specs.Places.{latches_of};
+ghost use Rattle.ib_core.specs.Holders.{CanWish};
+ghost use Rattle.ib_core.specs.Sessions.{holdings};
+ghost use Rattle.ib_page.specs.declared.work.TheConstants.{MOST_WORK_PAGES};
+ghost use Rattle.ib_page.specs.Work.{changed_of};
+ghost use Rattle.ib_logrec.specs.Log.{by_place};
+ghost use Rattle.ib_rule.specs.Conditions.{MayGrow};
+ghost use Rattle.ib_mtr.specs.Mtr.{IsMtr};
+ghost use Rattle.ib_cursor.specs.Descent.{HasPage};
+ghost use Rattle.ib_cursor.specs.Going.{HasSeen, HasStood};
+ghost use Rattle.ib_cursor.specs.Grants.{HasTaken, page_grant};
+
+use ib_latch::{Parkers, Sleep};
+use ib_levels::{Latch, Level, Mode};
+use ib_logrec::Law;
+use ib_mtr::Mtr;
+use std::sync::Wait;
+
+// Takes a latch of which the session holds nothing, and waits until it is granted.
+pub(crate) fn take<L: Law, R: Wait>(
+    rt: &R,
+    mtr: &mut Mtr<'_, L, Parkers>,
+    latch: Latch,
+    mode: Mode,
+    level: Level,
+)
+    requires mtr { IsMtr mtr.old.latches.now mtr.old.pass.now }
+    requires latch { latch.0 < latches_of mtr.old.latches.now.sizes }
+    requires grows { MayGrow mtr.old.pass.now.view }
+    requires may { CanWish latch.0 level mtr.old.pass.now.view.session }
+    ensures mtr { IsMtr mtr.new.latches.now mtr.new.pass.now }
+    ensures latches { mtr.new.latches ≡ mtr.old.latches }
+    ensures pass { mtr.new.pass.ghost_name ≡ mtr.old.pass.ghost_name }
+    ensures taken { HasTaken (record { latch = latch.0; mode = mode; level = level })
+        mtr.old.pass.now mtr.new.pass.now }
+{
+    match mode {
+        Mode::S => mtr.s_latch(rt, latch, level),
+        Mode::Sx => mtr.sx_latch(rt, latch, level),
+        Mode::X => mtr.x_latch(rt, latch, level),
+    }
+}
+
+// Looks at the log's end.
+pub(crate) fn look<L: Law, S: Sleep>(mtr: &mut Mtr<'_, L, S>)
+    requires mtr { IsMtr mtr.old.latches.now mtr.old.pass.now }
+    ensures mtr { IsMtr mtr.new.latches.now mtr.new.pass.now }
+    ensures latches { mtr.new.latches ≡ mtr.old.latches }
+    ensures pass { mtr.new.pass.ghost_name ≡ mtr.old.pass.ghost_name }
+    ensures seen { HasSeen mtr.old.latches.now.sizes
+        (L.lawful mtr.old.latches.now.sizes.pages) mtr.old.pass.now mtr.new.pass.now }
+    ensures memo { mtr.new.pass.now.memo ≡ mtr.old.pass.now.memo }
+    ensures session { mtr.new.pass.now.view.session ≡ mtr.old.pass.now.view.session }
+    ensures grants { mtr.new.pass.now.view.grants ≡ mtr.old.pass.now.view.grants }
+    ensures work { mtr.new.pass.now.work ≡ mtr.old.pass.now.work }
+    ensures looks { mtr.new.pass.now.view.looks ≡ mtr.old.pass.now.view.looks }
+{
+    // The session's entries are those of its number.
+    let _ = mtr.pass().number();
+    let _ = mtr.log_end();
+}
+
+// Takes the latch of a page of which the session holds nothing, and looks at the log's end: the latch
+// is watched from then on.
+pub(crate) fn stand<L: Law, R: Wait>(rt: &R, mtr: &mut Mtr<'_, L, Parkers>, page: u32, mode: Mode)
+    requires mtr { IsMtr mtr.old.latches.now mtr.old.pass.now }
+    requires page { page < mtr.old.latches.now.sizes.pages }
+    requires grows { MayGrow mtr.old.pass.now.view }
+    requires may { CanWish (page + 2) TreeNode mtr.old.pass.now.view.session }
+    ensures mtr { IsMtr mtr.new.latches.now mtr.new.pass.now }
+    ensures latches { mtr.new.latches ≡ mtr.old.latches }
+    ensures pass { mtr.new.pass.ghost_name ≡ mtr.old.pass.ghost_name }
+    ensures stood { HasStood mtr.old.latches.now.sizes
+        (L.lawful mtr.old.latches.now.sizes.pages) (page_grant page mode)
+        mtr.old.pass.now mtr.new.pass.now }
+    ensures space { has_pages mtr.old.latches.now.sizes.pages ≡ true }
+{
+    let _ = mtr.geometry().pages();
+    take(rt, mtr, Latch::page(page), mode, Level::TreeNode);
+    look(mtr);
+}
+
+// Loads a page of which the latch is held, and looks at the log's end.
+pub(crate) fn read<L: Law, S: Sleep>(mtr: &mut Mtr<'_, L, S>, page: u32)
+    requires mtr { IsMtr mtr.old.latches.now mtr.old.pass.now }
+    requires page { page < mtr.old.latches.now.sizes.pages }
+    requires held { 0 < holdings (page + 2) mtr.old.pass.now.view.session }
+    requires absent { changed_of page mtr.old.pass.now.work ≡ None }
+    requires few { length mtr.old.pass.now.work < MOST_WORK_PAGES }
+    ensures mtr { IsMtr mtr.new.latches.now mtr.new.pass.now }
+    ensures latches { mtr.new.latches ≡ mtr.old.latches }
+    ensures pass { mtr.new.pass.ghost_name ≡ mtr.old.pass.ghost_name }
+    ensures seen { HasSeen mtr.old.latches.now.sizes
+        (L.lawful mtr.old.latches.now.sizes.pages) mtr.old.pass.now mtr.new.pass.now }
+    ensures memo { mtr.new.pass.now.memo ≡ mtr.old.pass.now.memo }
+    ensures session { mtr.new.pass.now.view.session ≡ mtr.old.pass.now.view.session }
+    ensures grants { mtr.new.pass.now.view.grants ≡ mtr.old.pass.now.view.grants }
+    ensures loaded { HasPage (by_place L.opening mtr.old.latches.now.sizes.pages) page
+        mtr.old.pass.now mtr.new.pass.now }
+{
+    // The session's entries are those of its number.
+    let _ = mtr.pass().number();
+    mtr.load(page);
+}

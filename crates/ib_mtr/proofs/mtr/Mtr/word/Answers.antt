@@ -1,0 +1,7 @@
+-- After the load it is a mini-transaction.
+use Rattle.ib_map.specs.Writes.{word_place}
+use Rattle.ib_mtr.proofs.Looking.{worded_mtr}
+use Rattle.ib_mtr.proofs.mtr.Mtr.word.Goals as goal
+
+pub returns-clause-mtr : goal.returns-clause-mtr
+returns-clause-mtr g c = worded_mtr c.args.self.now.latches.now c.args.self.now.pass.now c.load_page_word.new.pass (word_place c.args.page c.args.index) c.load_page_word.result c.requires.mtr c.load_page_word.ensures.view
