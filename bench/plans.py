@@ -4,8 +4,8 @@
 The program is plans_main.txt beside this, with the changes of the crate ib_trials, whose asserts it meets. It stands in no
 crate, since its asserts are run and not proved: it is built over the crates as they stand, in a folder of its own, by `rt
 try`. Each change begins on pages that `check_tree` finds lawful, the last one's are checked too, and behind each the content of
-the tree is compared with a plain map's. Words: how many changes (100000), in how many programs (4), which run beside each other
-with other numbers. Where one ends otherwise than with its counts, the status is 1.
+the tree is compared with a plain map's. Words: how many changes (100000), in how many programs (1), which run beside each other,
+each on a memory of its own with other numbers. Where one ends otherwise than with its counts, the status is 1.
 """
 
 import os
@@ -57,7 +57,7 @@ def started(folder):
 
 
 def main():
-    changes, programs = [int(word) for word in sys.argv[1:]] + [100000, 4][len(sys.argv) - 1:]
+    changes, programs = [int(word) for word in sys.argv[1:]] + [100000, 1][len(sys.argv) - 1:]
     folders = [repository(changes // programs, seed + 1) for seed in range(programs)]
     bad = 0
     for folder, process in [(folder, started(folder)) for folder in folders]:
