@@ -21,3 +21,4 @@ pub mod LogLaws
 pub mod EntryLaws
 pub mod OpeningLaws
 pub mod MemoryLaws
+pub mod FitLaws

@@ -4,3 +4,5 @@ pub mod PageLists
 pub mod Tests
 pub mod WholeTest
 pub mod Roots
+pub mod Scans
+pub mod Fits

@@ -1,21 +1,28 @@
 //! The laws of the tests, as contracts: each passes exactly where the trees are lawful, and says where each
 //! page is met afterwards.
 
-ghost use Rattle.std.specs.Prelude.{◌≡◌, ℕ, ◌*◌, ◌<◌, ◌≤◌, Bool, true, List, [], ◌∷◌, ◌++◌};
-ghost use Rattle.ib_map.specs.Keys.{end_rank};
+ghost use Rattle.std.specs.Prelude.{◌≡◌, ℕ, ◌*◌, ◌<◌, ◌≤◌, Bool, true, List, [], ◌∷◌, ◌++◌, length};
+ghost use Rattle.ib_map.specs.Keys.{MapKey, IsKey, rank, end_rank};
+ghost use Rattle.ib_map.specs.History.{map_after};
+ghost use Rattle.ib_map.specs.Replies.{Span, FullRecord, pair_count, AreChunks};
+ghost use Rattle.ib_map.specs.Runs.{reach_after, AreAnswers};
+ghost use Rattle.ib_map.specs.declared.call.Call.TheVariants.{Scan};
+ghost use Rattle.ib_map.specs.declared.call.Reply.TheVariants.{Scanned};
 ghost use Rattle.ib_map.specs.Space.{has_pages};
 ghost use Rattle.ib_map.specs.Writes.{PlacesRise};
 ghost use Rattle.ib_map.specs.declared.TheConstants.{PAGE_WORDS};
 ghost use Rattle.ib_logrec.specs.declared.entry.Entry.{Entry};
-ghost use Rattle.ib_logrec.specs.Log.{by_place};
+ghost use Rattle.ib_logrec.specs.Log.{by_place, history_of};
 ghost use Rattle.ib_walk.specs.Pages.{PageMemory};
 ghost use Rattle.ib_walk.specs.Walk.{Visit};
-ghost use Rattle.ib_walk.specs.Trees.{IsLawful, free_page};
+ghost use Rattle.ib_walk.specs.Trees.{content_of, IsLawful, free_page};
 ghost use Rattle.ib_walk.specs.Words.{pages_of, IsLawfulMemory};
 ghost use Rattle.ib_patch.specs.PatchTest.{Positions, IsListed, IsKeptBeside, PassesTest};
 ghost use Rattle.ib_tree.specs.Logs.{pages_after, IsTreeEntry};
 ghost use Rattle.ib_tree.specs.TreeLog.{opening, IsTreeLog};
 ghost use Rattle.ib_tree.specs.PageLists.{touched_pages};
+ghost use Rattle.ib_tree.specs.Scans.{AreWhole};
+ghost use Rattle.ib_tree.specs.Fits.{TreeSpace, tree_at, FitsLog};
 ghost use Rattle.ib_tree.specs.Tests.{KeepRanges, TellsGood, IsPatchGiven, writes_page, IsEntryGiven, PassesEntry, opening_positions, PassesWhole};
 
 /// The law of the test of a patch, as a contract. Of lawful trees whose positions are known, it passes
@@ -68,4 +75,29 @@ pub fn entry_law()
     // The pages that an entry in the space writes, as a list.
     ensures listed { (pages : ℕ) (e : Entry) → PlacesRise 0 e.writes (pages * PAGE_WORDS)
         → IsListed (writes_page e) (touched_pages e.writes) pages }
+{}
+
+/// The law of records beside a log of trees, as a contract: one that fits a log fits each longer one, and
+/// the chunks of a whole scan, each read off the leaves at its own place, are what the map of the log has.
+pub fn fits_law()
+    ensures longer { (space : TreeSpace) (log more : List Entry) (session reach : ℕ) (r : FullRecord)
+        → FitsLog space log session reach r → FitsLog space (log ++ more) session reach r }
+    ensures within { (space : TreeSpace) (log : List Entry) (session reach : ℕ) (r : FullRecord)
+        → FitsLog space log session reach r → reach_after r ≤ length log }
+    ensures answers { (space : TreeSpace) (log more : List Entry) (session reach : ℕ) (rs : List FullRecord)
+        → AreAnswers (FitsLog space log session) reach rs → AreAnswers (FitsLog space (log ++ more) session) reach rs }
+    // Where the first tree has at each place what the map has there.
+    ensures chunks { (space : TreeSpace) (log : List Entry) (low high : MapKey) (floor : ℕ) (spans : List Span) (end : ℕ)
+        → ((n : ℕ) → n ≤ length log → content_of (tree_at space log n) 1 ≡ map_after (history_of log) n)
+        → IsKey high → rank low ≤ rank high → AreWhole space.opening log 1 low high floor spans end
+        → AreChunks (history_of log) low high floor spans end }
+    ensures scan { (space : TreeSpace) (log : List Entry) (session reach : ℕ) (low high : MapKey) (floor : ℕ) (spans : List Span) (end : ℕ)
+        → ((n : ℕ) → n ≤ length log → content_of (tree_at space log n) 1 ≡ map_after (history_of log) n)
+        → IsKey high → rank low ≤ rank high → AreWhole space.opening log 1 low high floor spans end
+        → FitsLog space log session reach (record {
+          call = Scan low high;
+          reply = Scanned (length spans) (pair_count spans);
+          place = end;
+          spans = spans;
+        }) }
 {}
