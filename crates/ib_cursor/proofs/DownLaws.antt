@@ -23,7 +23,8 @@ use Rattle.ib_cursor.specs.Descent.{IsAt, IsDown, WasRaised, one_if, HasPage, Ha
 use Rattle.ib_cursor.proofs.WayLaws.{leaf_on-way}
 use Rattle.ib_cursor.proofs.StandLaws.{went_beside, went_both, beside_taken, looked_first, looked_then}
 use Rattle.ib_cursor.proofs.GrantLaws.{HasGiven, last_held, given, grants_left}
-use Rattle.ib_cursor.proofs.LogLaws.{Laws, way_stays}
+use Rattle.ib_cursor.specs.Laws.{Laws}
+use Rattle.ib_cursor.proofs.LogLaws.{way_stays}
 
 -- a grant of S, or of X where the flag is set
 grant-s : (b : Bool) (g : Grants) → (with_grant (Some (mode_by b)) g).s ≡ g.s + one_if (not b)

@@ -30,7 +30,7 @@ use Rattle.ib_cursor.specs.Grants.{Grant, memo_of, hold_of, HasGrants, IsAway}
 use Rattle.ib_cursor.proofs.StandLaws.{IsBeside}
 
 -- the holding of a grant
-hold-latch : (g : Grant) → (hold_of g).latch.0 ≡ g.latch
+pub hold-latch : (g : Grant) → (hold_of g).latch.0 ≡ g.latch
 hold-latch g = one_more-latch g.mode (hold g.latch g.level 0 0 0)
 
 mode-level : (m : Mode) (h : Holding) → (one_more m h).level ≡ h.level

@@ -1,9 +1,9 @@
-mod WayLaws
-mod PageLaws
-mod StandLaws
-mod GrantLaws
-mod LogLaws
-mod StepLaws
-mod DownLaws
-mod HinderLaws
-mod NextLaws
+pub mod WayLaws
+pub mod PageLaws
+pub mod StandLaws
+pub mod GrantLaws
+pub mod LogLaws
+pub mod StepLaws
+pub mod DownLaws
+pub mod HinderLaws
+pub mod NextLaws

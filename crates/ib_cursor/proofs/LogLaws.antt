@@ -14,17 +14,12 @@ use Rattle.ib_walk.specs.Trees.{height_of, IsTreeOf}
 use Rattle.ib_walk.specs.Search.{child_for}
 use Rattle.ib_walk.specs.Words.{image_of, bits_of, IsLawfulMemory}
 use Rattle.ib_tree.specs.Logs.{HasRange, pages_after}
+use Rattle.ib_cursor.specs.Laws.{Laws}
 use Rattle.ib_cursor.specs.Way.{IsOnWay}
 use Rattle.ib_cursor.proofs.WayLaws.{root_on-way, child_on-way, stays_on-way, page_on-way, bit_on-way}
 use Rattle.ib_cursor.proofs.PageLaws.{IsTreeImage, tree_image}
 
--- the laws of trees on a space of so many pages
-pub record Laws (pages roots : ℕ) (lawful : List Entry → Type 0) (opening : ℕ → ℕ) : Type 0 where
-  pub begins : (xs ys : List Entry) → lawful (xs ++ ys) → lawful xs
-  pub memory : (log : List Entry) → lawful log → IsLawfulMemory pages roots (memory_after opening log)
-  pub stays : (xs : List Entry) (e : Entry) (page : ℕ) (r : PageRange) → lawful (xs ++ e ∷ []) → touches page e.writes ≡ false
-      → HasRange roots (pages_after opening xs) page r → HasRange roots (pages_after opening (xs ++ e ∷ [])) page r
-
+-- .. from the clauses of a law of trees
 pub laws_of : (pages roots : ℕ) (lawful : List Entry → Type 0) (opening : ℕ → ℕ) (range : List Entry → ℕ → PageRange → Type 0)
     → ((xs ys : List Entry) → lawful (xs ++ ys) → lawful xs)
     → ((log : List Entry) → lawful log → IsLawfulMemory pages roots (memory_after opening log))

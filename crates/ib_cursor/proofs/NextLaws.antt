@@ -47,7 +47,8 @@ use Rattle.ib_cursor.specs.Descent.{HasPage}
 use Rattle.ib_cursor.specs.Nexts.{HoldsLeaf, HasNext}
 use Rattle.ib_cursor.proofs.StandLaws.{went_beside, went_both, known_beside, beside_taken}
 use Rattle.ib_cursor.proofs.GrantLaws.{HasGiven, away-none, away_left, away_append, none_away, last_held, grants_more, given, grants_left, released_is}
-use Rattle.ib_cursor.proofs.LogLaws.{Laws, tree_of-log, range_stays, bit_inside}
+use Rattle.ib_cursor.specs.Laws.{Laws}
+use Rattle.ib_cursor.proofs.LogLaws.{tree_of-log, range_stays, bit_inside}
 use Rattle.ib_cursor.proofs.WayLaws.{IsIn, stands}
 use Rattle.ib_cursor.proofs.PageLaws.{IsTreeImage, tree_image}
 
@@ -67,21 +68,21 @@ split v [] there = absurd there
 split v (x ∷ xs) (inl is) = record { before = []; behind = xs; is = ap (λ (u : Visit). u ∷ xs) (sym is) }
 split v (x ∷ xs) (inr later) = let r = split v xs later in record { before = x ∷ r.before; behind = r.behind; is = ap (λ vs. x ∷ vs) r.is }
 
-leaf-met : (m : PageMemory) (root : ℕ) (v : Visit) → 0 < weight_of (is_visit 0 v) m root → IsLeaf m root v
+pub leaf-met : (m : PageMemory) (root : ℕ) (v : Visit) → 0 < weight_of (is_visit 0 v) m root → IsLeaf m root v
 leaf-met m root v met =
     let s = stands m (height_of m root) 0 v (top_of root) met in
     let deep : s.depth ≡ height_of m root = let h = s.height in omega arith in
     let r = split v (below m s.depth (top_of root)) s.there in
     record { before = r.before; behind = r.behind; is = ap (λ d. below m d (top_of root)) (sym deep) ∙ r.is }
 
-leaf-counts : (m : PageMemory) (root : ℕ) (v : Visit) → IsLeaf m root v → (f : ℕ → Visit → ℕ) → 1 ≤ f 0 v → 1 ≤ weight_of f m root
+pub leaf-counts : (m : PageMemory) (root : ℕ) (v : Visit) → IsLeaf m root v → (f : ℕ → Visit → ℕ) → 1 ≤ f 0 v → 1 ≤ weight_of f m root
 leaf-counts m root v l f one =
     let a = lowest-le_weight f m (height_of m root) (top_of root) in
     let b = ap (sum_of (f 0)) l.is in
     let c = sum_of-append (f 0) l.before (v ∷ l.behind) in omega arith
 
 -- behind a leaf that has a next link stands the leaf that the link names
-linked-at : (m : PageMemory) (prev : ℕ) (before : List Visit) (v : Visit) (behind : List Visit) (next : ℕ) → AreLinked m prev (before ++ v ∷ behind) next → (m v.page).next ≡ first_page behind next
+pub linked-at : (m : PageMemory) (prev : ℕ) (before : List Visit) (v : Visit) (behind : List Visit) (next : ℕ) → AreLinked m prev (before ++ v ∷ behind) next → (m v.page).next ≡ first_page behind next
 linked-at m prev [] v behind next h = h.1
 linked-at m prev (x ∷ xs) v behind next h = linked-at m x.page xs v behind next h.2
 

@@ -192,6 +192,10 @@ seen_loaded sizes lawful opening page p q role load =
     }
 
 -- looks on the way
+pub added_both : (p q r : PassState) (a : WentOn p q) (b : WentOn q r) → (went_both p q r a b).added ≡ a.added ++ b.added
+unfolding went_both
+added_both p q r a b = refl
+
 pub looked_first : (p q r : PassState) (a : WentOn p q) (b : WentOn q r) → 0 < length a.added → 0 < length (went_both p q r a b).added
 unfolding went_both
 looked_first p q r a b some = let l = length-append a.added b.added in omega arith

@@ -28,7 +28,8 @@ use Rattle.ib_cursor.specs.Going.{WentOn, HasSeen, HasStood}
 use Rattle.ib_cursor.specs.Descent.{IsAt}
 use Rattle.ib_cursor.proofs.StandLaws.{IsBeside, went_beside, went_both, known_beside}
 use Rattle.ib_cursor.proofs.GrantLaws.{HasGiven, can_wish, last_held, grants_more, given, grants_left}
-use Rattle.ib_cursor.proofs.LogLaws.{Laws, IsWayImage, way_image, way_stays, child_way, root_way, levels_differ}
+use Rattle.ib_cursor.specs.Laws.{Laws}
+use Rattle.ib_cursor.proofs.LogLaws.{IsWayImage, way_image, way_stays, child_way, root_way, levels_differ}
 
 -- words that are loaded change nothing else
 pub beside_read : (p q : PassState) → HasRead p q → IsBeside p q

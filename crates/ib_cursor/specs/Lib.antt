@@ -1,4 +1,5 @@
 pub mod Way
+pub mod Laws
 pub mod Reading
 pub mod Grants
 pub mod Going
@@ -6,3 +7,4 @@ pub mod Modes
 pub mod Descent
 pub mod Hindrance
 pub mod Nexts
+pub mod Spaces

@@ -17,3 +17,4 @@ pub use fault::NowaitFault;
 pub use next::next_leaf;
 pub use nowait::descend_nowait;
 pub use search::Search;
+pub use stands::{read, take};

@@ -21,8 +21,9 @@ use ib_logrec::Law;
 use ib_mtr::Mtr;
 use std::sync::Wait;
 
-// Takes a latch of which the session holds nothing, and waits until it is granted.
-pub(crate) fn take<L: Law, R: Wait>(
+/// A step of a cursor: takes a latch of which the session holds nothing, and waits until it is granted
+/// (`mtr_s_lock`, `mtr_sx_lock`, `mtr_x_lock`). The grant is on top of the memo.
+pub fn take<L: Law, R: Wait>(
     rt: &R,
     mtr: &mut Mtr<'_, L, Parkers>,
     latch: Latch,
@@ -85,8 +86,10 @@ pub(crate) fn stand<L: Law, R: Wait>(rt: &R, mtr: &mut Mtr<'_, L, Parkers>, page
     look(mtr);
 }
 
-// Loads a page of which the latch is held, and looks at the log's end.
-pub(crate) fn read<L: Law, S: Sleep>(mtr: &mut Mtr<'_, L, S>, page: u32)
+/// A step of a cursor: loads a page of which the latch is held in some mode, and looks at the log's end
+/// (`buf_page_get_gen`). The page stands in the work set, as it is after all entries seen, and each latch
+/// that is held is watched from then on.
+pub fn read<L: Law, S: Sleep>(mtr: &mut Mtr<'_, L, S>, page: u32)
     requires mtr { IsMtr mtr.old.latches.now mtr.old.pass.now }
     requires page { page < mtr.old.latches.now.sizes.pages }
     requires held { 0 < holdings (page + 2) mtr.old.pass.now.view.session }

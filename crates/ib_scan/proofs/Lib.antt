@@ -1,0 +1,9 @@
+pub mod KeyLaws
+pub mod StandLaws
+pub mod ChunkLaws
+pub mod WalkedLaws
+pub mod FrontLaws
+pub mod PassLaws
+pub mod LeaveLaws
+pub mod LoopLaws
+pub mod WholeLaws

@@ -1,0 +1,312 @@
+-- From leaf to leaf, and from chunk to chunk.
+use Rattle.std.specs.List.{AllByRecursion}
+use Rattle.std.specs.Prelude.{is_some}
+use Rattle.std.proofs.Common.{Option, None, Bool, true, false, cond, ◌≡◌, ◌⊎◌, inl, inr, ℕ, ◌+◌, ◌<◌, ◌≤◌, ◌^◌, List, [], ◌∷◌, ◌++◌, Some, length, refl, sym, ap, subst, ◌∙◌, arith, length-append}
+use Rattle.std.proofs.Math.Seq.{take-length}
+use Rattle.std.proofs.lemmas.List.{length-map}
+use Rattle.ib_map.specs.Keys.{MapKey, IsKey, rank, end_rank, key_after}
+use Rattle.ib_map.specs.Pairs.{Pairs, cut}
+use Rattle.ib_map.specs.Chunks.{HeldChunks}
+use Rattle.ib_map.specs.Replies.{Span}
+use Rattle.ib_map.proofs.CutLaws.{is_within}
+use Rattle.ib_map.proofs.KeyLaws.{after-least_above, after-above, after-none}
+use Rattle.ib_levels.specs.declared.level.Mode.TheVariants.{S}
+use Rattle.ib_layout.specs.Geometry.{Sizes}
+use Rattle.ib_page.specs.Image.{IsTreePage, next_of, records_of}
+use Rattle.ib_page.specs.Work.{changed_of}
+use Rattle.ib_page.specs.declared.TheConstants.{MOST_RECORDS}
+use Rattle.ib_page.specs.Page.{page_in}
+use Rattle.ib_page.proofs.FormLaws.{tree_in}
+use Rattle.ib_logrec.specs.declared.entry.Entry.{Entry}
+use Rattle.ib_rule.specs.declared.looks.Grants.{Grants}
+use Rattle.ib_rule.specs.Pass.{PassState}
+use Rattle.ib_rule.specs.Views.{total}
+use Rattle.ib_walk.specs.Chunk.{IsChunk, IsLastKey}
+use Rattle.ib_walk.proofs.WalkLaws.{AllByRecursion-append}
+use Rattle.ib_tree.specs.Logs.{pages_after}
+use Rattle.ib_tree.specs.Scans.{IsReadAt, AreFront, AreWhole}
+use Rattle.ib_cursor.specs.Grants.{Grant, page_grant, HasGrants}
+use Rattle.ib_cursor.specs.Going.{IsKnown, WentOn}
+use Rattle.ib_cursor.proofs.StandLaws.{went_beside, went_both, known_beside, seen_longer}
+use Rattle.ib_cursor.specs.Laws.{Laws}
+use Rattle.ib_scan.specs.declared.walk.Found.{Found}
+use Rattle.ib_scan.specs.Walked.{ReadLeaf, grants_of, IsSkipped, EndsBy, IsWalked}
+use Rattle.ib_scan.specs.Scanning.{Appends}
+use Rattle.ib_scan.specs.Steps.{MayPass, HasPassed, IsOnLeaf, IsAlong, HasCome, HasFront, HasSomeFront, IsAside, IsScannedTo, HasRun, HasEnded, HasHalted}
+use Rattle.ib_scan.proofs.FrontLaws.{front_longer, front_push, appends_more}
+use Rattle.ib_scan.proofs.LeaveLaws.{beside_aside}
+use Rattle.ib_scan.proofs.PassLaws.{loaded_there}
+use Rattle.ib_scan.proofs.StandLaws.{held_apart}
+use Rattle.ib_scan.proofs.WalkedLaws.{tree_at_log, tree_is, leaves_met, walked_stands, walked_tree, walked_chunk, walked_on}
+
+pub went_none : (p : PassState) → WentOn p p
+went_none p = went_beside p p (record { table = refl; sizes = refl; number = refl; own = refl; seen = refl; ends = refl })
+
+-- the image of a page of the tree, loaded
+pub record IsLoaded (leaf : ℕ) (image : List ℕ) (p : PassState) : Type 0 where
+  pub is : changed_of leaf p.work ≡ Some image
+  pub tree : IsTreePage image
+
+module _ (sizes : Sizes) (roots : ℕ) (lawful : List Entry → Type 0) (opening : ℕ → ℕ) (laws : Laws sizes.pages roots lawful opening) where
+  -- a scan stands on its first leaf
+  pub along_none : (leaf : ℕ) (start : MapKey) (p : PassState) (h : IsOnLeaf sizes lawful opening roots leaf start p) → IsAlong sizes lawful opening roots h.root start leaf 0 p p
+  along_none leaf start p h = record {
+    ps = [];
+    last = record { page = leaf; image = h.image };
+    here = refl;
+    count = refl;
+    few = omega arith;
+    scans = h.scans;
+    went = went_none p;
+    s = omega arith;
+    sx = refl;
+    x = refl;
+  }
+
+  module _ (root : ℕ) (start : MapKey) (leaf passed : ℕ) (p q : PassState) (a : IsAlong sizes lawful opening roots root start leaf passed p q) where
+    pub along_loaded : IsLoaded leaf a.last.image q
+    along_loaded = record {
+      is = loaded_there a.last.page leaf a.last.image q.work a.here a.scans.work;
+      tree = walked_tree sizes.pages roots lawful opening laws root q.view.memory.seen a.scans.known.legal start a.ps a.last a.scans.walked;
+    }
+
+    abbrev pub along_may : (next : ℕ) → next ≡ next_of a.last.image → IsSkipped start a.last.image → total p.view.grants + 4096 ≤ 2 ^ 52 → MayPass sizes lawful opening roots leaf next q
+    along_may next link skipped room = record {
+      root = root;
+      start = start;
+      ps = a.ps;
+      last = a.last;
+      scans = a.scans;
+      here = a.here;
+      link = link;
+      skipped = skipped;
+      room = let s = a.s in let sx = a.sx in let x = a.x in let f = a.few in omega arith;
+    }
+
+    pub along_passed : (next : ℕ) (r : PassState) → next ≡ next_of a.last.image → sizes.pages ≤ 4096 → HasPassed sizes lawful opening roots root start a.ps a.last q r → IsAlong sizes lawful opening roots root start next (passed + 1) p r
+    along_passed next r link most h =
+        let s : r.view.grants.s ≡ q.view.grants.s + 1 = ap (λ (g : Grants). g.s) h.grants in
+        let sx : r.view.grants.sx ≡ q.view.grants.sx = ap (λ (g : Grants). g.sx) h.grants in
+        let x : r.view.grants.x ≡ q.view.grants.x = ap (λ (g : Grants). g.x) h.grants in
+        let cs = a.s in let csx = a.sx in let cx = a.x in
+        let long = length-append a.ps (a.last ∷ []) in let count = a.count in let few = h.few in
+        record {
+          ps = a.ps ++ a.last ∷ [];
+          last = record { page = next_of a.last.image; image = h.out };
+          here = sym link;
+          count = omega arith;
+          few = omega arith;
+          scans = h.scans;
+          went = went_both p q r a.went h.went;
+          s = omega arith;
+          sx = omega arith;
+          x = omega arith;
+        }
+
+    -- the leaves in front
+    pub front_at : HasFront passed a.last.page a.last.image q
+    front_at = record {
+      front = grants_of a.ps;
+      size = length-map a.ps (λ (l : ReadLeaf). page_grant l.page S) ∙ a.count;
+      grants = a.scans.grants;
+      apart = held_apart (tree_at_log sizes.pages roots lawful opening laws root q.view.memory.seen a.scans.known.legal) root (tree_is sizes.pages roots lawful opening laws root q.view.memory.seen a.scans.known.legal a.scans.walked.met.0 a.scans.walked.met.1) start
+          sizes.pages (leaves_met sizes.pages roots lawful opening laws root q.view.memory.seen a.scans.known.legal a.scans.walked.met.0 a.scans.walked.met.1) a.ps a.last.page
+          (walked_stands sizes.pages roots lawful opening laws root q.view.memory.seen a.scans.known.legal start a.ps a.last a.scans.walked);
+      watched = a.scans.here;
+      work = a.scans.work;
+    }
+
+    abbrev pub some_front : HasSomeFront passed q
+    some_front = record { leaf = leaf; image = a.last.image; front = subst (λ k. HasFront passed k a.last.image q) a.here front_at }
+
+  module _ (root leaf : ℕ) (low start high : MapKey) (out0 out : HeldChunks) (p0 p : PassState) (i : IsScannedTo sizes lawful opening roots root leaf low start high out0 out p0 p) where
+    abbrev pub on_leaf : IsOnLeaf sizes lawful opening roots leaf start p
+    on_leaf = record { root = root; image = i.image; scans = i.scans; room = let r = i.room in omega arith }
+
+    module _ (found : Found) (q : PassState) (come : HasCome sizes lawful opening roots root start high found p q) where
+      abbrev image : List ℕ
+      image = come.along.last.image
+
+      abbrev pub span_read : Span
+      span_read = record { low = start; high = found.end; place = length q.view.memory.seen; pairs = cut (records_of image) start found.end }
+
+      legal : lawful q.view.memory.seen
+      legal = come.along.scans.known.legal
+
+      chunk : IsChunk (pages_after opening q.view.memory.seen) root start high found.end (cut (records_of image) start found.end)
+      chunk = walked_chunk sizes.pages roots lawful opening laws root q.view.memory.seen legal start come.along.ps come.along.last come.along.scans.walked high found.end come.ends
+
+      read : IsReadAt opening q.view.memory.seen root start high i.up_to.last span_read
+      read = record {
+        begins = refl;
+        placed = let a = i.up_to.within in let b = seen_longer p q come.along.went in omega arith;
+        within = omega arith;
+        chunk = subst (λ es. IsChunk (pages_after opening es) root start high found.end (cut (records_of image) start found.end)) (sym (take-length q.view.memory.seen)) chunk;
+      }
+
+      before : AreFront opening q.view.memory.seen root low high (length p0.view.memory.seen) i.up_to.spans start i.up_to.last
+      before = subst (λ es. AreFront opening es root low high (length p0.view.memory.seen) i.up_to.spans start i.up_to.last) (sym come.along.went.seen)
+          (front_longer opening root high p.view.memory.seen come.along.went.more low (length p0.view.memory.seen) i.up_to.spans start i.up_to.last i.up_to.chunks)
+
+      -- the leaves in front were given up
+      module _ (r : PassState) (f : HasFront 0 found.leaf image r) (aside : IsAside q r) where
+        went : WentOn p0 r
+        went = went_both p0 p r i.up_to.went (went_both p q r come.along.went (went_beside q r (beside_aside q r aside)))
+
+        known : IsKnown sizes lawful r
+        known = known_beside sizes lawful q r (beside_aside q r aside) come.along.scans.known
+
+        within : i.up_to.last ≤ length r.view.memory.seen
+        within = let a = i.up_to.within in let b = seen_longer p q come.along.went in let c = ap length aside.seen in omega arith
+
+        run : (new : HeldChunks) (spans : List Span) → Appends out0 new spans → AllByRecursion (λ span. length span.pairs ≤ MOST_RECORDS) spans → HasRun sizes lawful out0 new spans p0 r
+        run new spans appends short =
+            let gs = ap (λ (g : Grants). g.s) aside.grants in let gsx = ap (λ (g : Grants). g.sx) aside.grants in let gx = ap (λ (g : Grants). g.x) aside.grants in
+            let cs = come.along.s in let csx = come.along.sx in let cx = come.along.x in let few = come.along.few in
+            let is = i.up_to.s in let isx = i.up_to.sx in let ix = i.up_to.x in
+            record {
+              appends = appends;
+              short = short;
+              went = went;
+              known = known;
+              s = omega arith;
+              sx = omega arith;
+              x = omega arith;
+              leaf = found.leaf;
+              image = image;
+              front = f;
+            }
+
+        -- the chunk does not fit
+        pub halted : (out.chunk_room ≡ 0) ⊎ (out.pair_room < length span_read.pairs) → length span_read.pairs ≤ MOST_RECORDS → HasHalted sizes lawful opening root low high start out0 out p0 r
+        halted none most = record {
+          spans = i.up_to.spans;
+          run = run out i.up_to.spans i.up_to.appends i.up_to.short;
+          last = i.up_to.last;
+          chunks = subst (λ es. AreFront opening es root low high (length p0.view.memory.seen) i.up_to.spans start i.up_to.last) (sym aside.seen) before;
+          within = within;
+          from = elim i.up_to.first [ inl same ↦ let e = ap rank same.1 in omega arith | inr lt ↦ omega arith ];
+          to = i.up_to.to;
+          none = λ e. elim i.up_to.first [ inl same ↦ same.0 | inr lt ↦ absurd (let z = ap rank e in omega arith) ];
+          tight = record {
+            end = found.end;
+            pairs = cut (records_of image) start found.end;
+            chunk = subst (λ es. IsChunk (pages_after opening es) root start high found.end (cut (records_of image) start found.end)) (sym aside.seen) chunk;
+            none = none;
+          };
+          ahead = λ a b. elim i.up_to.first [
+            | inr lt ↦ lt
+            | inl same ↦ let c = ap (λ (o : HeldChunks). o.chunk_room) same.2 in let d = ap (λ (o : HeldChunks). o.pair_room) same.2 in elim none [
+              | inl z ↦ absurd (omega arith)
+              | inr lt ↦ absurd (omega arith)
+            ]
+          ];
+        }
+
+        module _ (new : HeldChunks) (put : Appends out new (span_read ∷ [])) (most : length span_read.pairs ≤ MOST_RECORDS) where
+          all-appends : Appends out0 new (i.up_to.spans ++ span_read ∷ [])
+          all-appends = appends_more out0 out new i.up_to.spans (span_read ∷ []) i.up_to.appends put
+
+          all-short : AllByRecursion (λ span. length span.pairs ≤ MOST_RECORDS) (i.up_to.spans ++ span_read ∷ [])
+          all-short = AllByRecursion-append (λ (span : Span). length span.pairs ≤ MOST_RECORDS) i.up_to.spans (span_read ∷ []) i.up_to.short (most, tt)
+
+          -- .. and is the last one
+          pub ended : found.end ≡ high → HasEnded sizes lawful opening root low high out0 new p0 r
+          ended to = record {
+            spans = i.up_to.spans ++ span_read ∷ [];
+            run = run new (i.up_to.spans ++ span_read ∷ []) all-appends all-short;
+            chunks = subst (λ es. AreWhole opening es root low high (length p0.view.memory.seen) (i.up_to.spans ++ span_read ∷ []) (length es)) (sym aside.seen) (record {
+              front = i.up_to.spans;
+              last = span_read;
+              are = refl;
+              next = start;
+              before_place = i.up_to.last;
+              before = before;
+              read = read;
+              to = to;
+              placed = refl;
+            });
+          }
+
+          -- .. or the next one begins behind the last key of the leaf, which is that of the chunk
+          record EndsOnKey : Type 0 where
+            last : IsLastKey (records_of image) found.end
+            from : rank start ≤ rank found.end
+
+          on-key : rank found.end < rank high → EndsBy start high found.end image → EndsOnKey
+          on-key lt (inl a) = absurd (let e = ap rank a.1 in omega arith)
+          on-key lt (inr b) = elim b.2 [
+            | inl c ↦ absurd (let e = ap rank c.1 in omega arith)
+            | inr c ↦ record { last = subst (IsLastKey (records_of image)) (sym c.1) b.1.is_last; from = let e : rank found.end ≡ rank b.0 = ap rank c.1 in let f = b.1.from in omega arith }
+          ]
+
+          pub again : (next : MapKey) → key_after found.end ≡ Some next → rank found.end < rank high → IsKey high → IsKey found.end → IsScannedTo sizes lawful opening roots root found.leaf low next high out0 new p0 r
+          again next after lt high_is end_is =
+              let key = on-key lt come.ends in
+              let up = after-above found.end next end_is after in
+              let from = key.from in
+              let gs = ap (λ (g : Grants). g.s) aside.grants in let gsx = ap (λ (g : Grants). g.sx) aside.grants in let gx = ap (λ (g : Grants). g.x) aside.grants in
+              let cs = come.along.s in let csx = come.along.sx in let cx = come.along.x in let few = come.along.few in
+              let is = i.up_to.s in let isx = i.up_to.sx in let ix = i.up_to.x in
+              let room = put.chunk_room in let had = i.room in
+              let walked = walked_on sizes.pages roots lawful opening laws root q.view.memory.seen legal start come.along.ps come.along.last come.along.scans.walked found.end next key.last up in
+              record {
+                up_to = record {
+                  spans = i.up_to.spans ++ span_read ∷ [];
+                  appends = all-appends;
+                  short = all-short;
+                  went = went;
+                  known = known;
+                  s = omega arith;
+                  sx = omega arith;
+                  x = omega arith;
+                  last = length q.view.memory.seen;
+                  chunks = subst (λ es. AreFront opening es root low high (length p0.view.memory.seen) (i.up_to.spans ++ span_read ∷ []) next (length q.view.memory.seen)) (sym aside.seen)
+                      (front_push opening root high q.view.memory.seen low (length p0.view.memory.seen) i.up_to.spans start i.up_to.last span_read next before read lt after);
+                  within = let c = ap length aside.seen in omega arith;
+                  to = (after-least_above found.end next high high_is after).0 lt;
+                  first = inr (elim i.up_to.first [ inl same ↦ let e = ap rank same.1 in omega arith | inr below ↦ omega arith ]);
+                };
+                image = image;
+                scans = record {
+                  grants = alone f.front f.size f.grants;
+                  watched = tt;
+                  here = f.watched;
+                  work = f.work;
+                  known = known;
+                  walked = subst (λ k. IsWalked roots opening r.view.memory.seen root next [] (record { page = k; image = image })) come.along.here
+                      (subst (λ es. IsWalked roots opening es root next [] come.along.last) (sym aside.seen) walked);
+                };
+                room = omega arith;
+              }
+            where
+              alone : (gs : List Grant) → length gs ≡ 0 → HasGrants (gs ++ page_grant found.leaf S ∷ []) r → HasGrants (page_grant found.leaf S ∷ []) r
+              alone [] z has = has
+              alone (g ∷ gs) z has = absurd (omega arith)
+
+-- a chunk ends at `high` or below, and where it ends below, there is a key behind its end
+pub ends_within : (start high end : MapKey) (image : List ℕ) → EndsBy start high end image → rank end ≤ rank high
+ends_within start high end image (inl a) = let e = ap rank a.1 in omega arith
+ends_within start high end image (inr b) = elim b.2 [
+  | inl c ↦ let e = ap rank c.1 in omega arith
+  | inr c ↦ let e : rank end ≡ rank b.0 = ap rank c.1 in let f = c.0 in omega arith
+]
+
+pub some_after : (end high : MapKey) (o : Option MapKey) → o ≡ key_after end → IsKey end → rank end < rank high → rank high < end_rank → is_some o ≡ true
+some_after end high None e key lt top = absurd (let f = after-none end key (sym e) in omega arith)
+some_after end high (Some next) e key lt top = refl
+
+-- a leaf has few records between any two keys
+cut-one : (b : Bool) (x : MapKey × ℕ) (ys zs : Pairs) → length ys ≤ length zs → length (cond b (x ∷ ys) ys) ≤ length (x ∷ zs)
+cut-one true x ys zs le = omega arith
+cut-one false x ys zs le = omega arith
+
+cut-short : (xs : Pairs) (low high : MapKey) → length (cut xs low high) ≤ length xs
+cut-short [] low high = omega arith
+cut-short (x ∷ xs) low high = cut-one (is_within low high x) x (cut xs low high) xs (cut-short xs low high)
+
+pub part_short : (image : List ℕ) (low high : MapKey) → IsTreePage image → length (cut (records_of image) low high) ≤ MOST_RECORDS
+part_short image low high tree =
+    let h = tree_in image tree in
+    let few : length (records_of image) ≤ MOST_RECORDS = subst (λ p. length (page_in p).records ≤ MOST_RECORDS) (sym h.holds) h.fits.few in
+    let short = cut-short (records_of image) low high in omega arith

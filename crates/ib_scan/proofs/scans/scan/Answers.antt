@@ -1,0 +1,18 @@
+-- The record of a scan fits what is seen.
+use Rattle.std.proofs.Common.{rules, ◌≡◌, true}
+use Rattle.ib_map.specs.Space.{has_pages}
+use Rattle.ib_layout.specs.Geometry.{Sizes}
+use Rattle.ib_logrec.specs.Log.{by_place}
+use Rattle.ib_scan.specs.Scanning.{HasScanned}
+use Rattle.ib_scan.specs.Scans.{FitsSeen}
+use Rattle.ib_scan.proofs.WholeLaws.{scan_fits, if_any}
+use Rattle.ib_scan.proofs.scans.scan.Goals as goal
+
+pub returns-clause-fits : goal.returns-clause-fits
+returns-clause-fits g c = λ le.
+    let key : Sizes = c.args.latches.now.sizes in
+    let has : has_pages key.pages ≡ true = search rules in
+    if_any (λ answer. (h : HasScanned key (g.L.Law.lawful key.pages) (by_place g.L.Law.opening key.pages) 1 c.args.low c.args.high answer c.args.out.now c.scan_at.new.out c.args.pass.now c.scan_at.new.pass)
+    → FitsSeen key (by_place g.L.Law.opening key.pages) answer h.gone.spans c.args.pass.now c.scan_at.new.pass) c.scan_at.result
+    (λ answer. scan_fits key (g.L.Law.lawful key.pages) (by_place g.L.Law.opening key.pages) (λ xs ys. g.met.L.Law.begins key.pages xs ys has) (λ log. c.trees_law.ensures.content key.pages log has) c.args.low c.args.high c.ranges.high.fits le
+    answer c.args.out.now c.scan_at.new.out c.args.pass.now c.scan_at.new.pass)

@@ -1,0 +1,149 @@
+-- The steps of a scan.
+use Rattle.std.specs.Prelude.{◌≡◌, ◌⊎◌, ℕ, ◌+◌, ◌*◌, ◌<◌, ◌≤◌, ◌^◌, true, List, [], ◌∷◌, ◌++◌, length, Some}
+use Rattle.std.specs.List.{AllByRecursion}
+use Rattle.ib_map.specs.Keys.{MapKey, rank}
+use Rattle.ib_map.specs.Chunks.{HeldChunks}
+use Rattle.ib_map.specs.Replies.{Span}
+use Rattle.ib_levels.specs.declared.level.Mode.TheVariants.{S}
+use Rattle.ib_layout.specs.Geometry.{Sizes}
+use Rattle.ib_page.specs.declared.TheConstants.{MOST_RECORDS}
+use Rattle.ib_page.specs.Image.{next_of}
+use Rattle.ib_logrec.specs.declared.entry.Entry.{Entry}
+use Rattle.ib_tree.specs.Scans.{AreFront, AreWhole}
+use Rattle.ib_rule.specs.Pass.{PassState}
+use Rattle.ib_rule.specs.Views.{is_watched, total, with_grant}
+use Rattle.ib_cursor.specs.Grants.{Grant, page_grant, HasGrants, IsAway}
+use Rattle.ib_cursor.specs.Going.{IsKnown, WentOn}
+use Rattle.ib_scan.specs.declared.walk.Found.{Found}
+use Rattle.ib_scan.specs.Scanning.{Appends, HasNoRoom}
+use Rattle.ib_scan.specs.Walked.{ReadLeaf, IsSkipped, EndsBy, IsScanning}
+
+-- the leaf on which a scan stands may be passed over: the next one is what its link names
+pub record MayPass (sizes : Sizes) (lawful : List Entry → Type 0) (opening : ℕ → ℕ) (roots leaf next : ℕ) (p : PassState) : Type 0 where
+  pub root : ℕ
+  pub start : MapKey
+  pub ps : List ReadLeaf
+  pub last : ReadLeaf
+  pub scans : IsScanning sizes lawful opening roots root start ps last p
+  pub here : last.page ≡ leaf
+  pub link : next ≡ next_of last.image
+  pub skipped : IsSkipped start last.image
+  pub room : total p.view.grants < 2 ^ 52
+
+-- it was passed over: the scan stands on the next one, and all that were held are held still. No more are held than there are pages
+pub record HasPassed (sizes : Sizes) (lawful : List Entry → Type 0) (opening : ℕ → ℕ) (roots root : ℕ) (start : MapKey) (ps : List ReadLeaf) (last : ReadLeaf) (p q : PassState) : Type 0 where
+  pub out : List ℕ
+  pub scans : IsScanning sizes lawful opening roots root start (ps ++ last ∷ []) (record { page = next_of last.image; image = out }) q
+  pub few : length ps + 2 ≤ sizes.pages
+  pub went : WentOn p q
+  pub grants : q.view.grants ≡ with_grant (Some S) p.view.grants
+
+-- a scan stands on a leaf and holds no other, with room for as many grants as there are pages
+pub record IsOnLeaf (sizes : Sizes) (lawful : List Entry → Type 0) (opening : ℕ → ℕ) (roots leaf : ℕ) (start : MapKey) (p : PassState) : Type 0 where
+  pub root : ℕ
+  pub image : List ℕ
+  pub scans : IsScanning sizes lawful opening roots root start [] (record { page = leaf; image = image }) p
+  pub room : total p.view.grants + 4096 ≤ 2 ^ 52
+
+-- it has gone on to this leaf, and holds so many that it passed over
+pub record IsAlong (sizes : Sizes) (lawful : List Entry → Type 0) (opening : ℕ → ℕ) (roots root : ℕ) (start : MapKey) (leaf passed : ℕ) (p q : PassState) : Type 0 where
+  pub ps : List ReadLeaf
+  pub last : ReadLeaf
+  pub here : last.page ≡ leaf
+  pub count : length ps ≡ passed
+  pub few : passed < 4096
+  pub scans : IsScanning sizes lawful opening roots root start ps last q
+  pub went : WentOn p q
+  pub s : q.view.grants.s ≡ p.view.grants.s + passed
+  pub sx : q.view.grants.sx ≡ p.view.grants.sx
+  pub x : q.view.grants.x ≡ p.view.grants.x
+
+-- .. to the leaf that gives the chunk
+pub record HasCome (sizes : Sizes) (lawful : List Entry → Type 0) (opening : ℕ → ℕ) (roots root : ℕ) (start high : MapKey) (found : Found) (p q : PassState) : Type 0 where
+  pub along : IsAlong sizes lawful opening roots root start found.leaf found.passed p q
+  pub ends : EndsBy start high found.end along.last.image
+
+-- each latch is that of one grant alone
+abbrev pub AreApart : List Grant → Type 0
+AreApart [] = Unit {0}
+AreApart (g ∷ gs) = IsAway g.latch gs × AreApart gs
+
+-- a leaf is held behind so many grants, and it alone is loaded, unchanged
+pub record HasFront (count leaf : ℕ) (image : List ℕ) (p : PassState) : Type 0 where
+  pub front : List Grant
+  pub size : length front ≡ count
+  pub grants : HasGrants (front ++ page_grant leaf S ∷ []) p
+  pub apart : AreApart (front ++ page_grant leaf S ∷ [])
+  pub watched : is_watched (leaf + 2) p.view.memory.since ≡ true
+  pub work : p.work ≡ record { page = leaf; before = image; changed = image } ∷ []
+
+-- .. some leaf
+pub record HasSomeFront (count : ℕ) (p : PassState) : Type 0 where
+  pub leaf : ℕ
+  pub image : List ℕ
+  pub front : HasFront count leaf image p
+
+-- what leaves the memory of the log and the counts as they are
+pub record IsAside (p q : PassState) : Type 0 where
+  pub table : q.table ≡ p.table
+  pub sizes : q.sizes ≡ p.sizes
+  pub number : q.number ≡ p.number
+  pub own : q.view.memory.own ≡ p.view.memory.own
+  pub seen : q.view.memory.seen ≡ p.view.memory.seen
+  pub ends : q.view.memory.ends ≡ p.view.memory.ends
+  pub grants : q.view.grants ≡ p.view.grants
+
+-- how far a scan of the tree has come, from where it stood on the leaf of `low`: chunks are appended up to what is before `start`
+pub record IsUpTo (sizes : Sizes) (lawful : List Entry → Type 0) (opening : ℕ → ℕ) (root : ℕ) (low start high : MapKey) (out new : HeldChunks) (p q : PassState) : Type 0 where
+  pub spans : List Span
+  pub appends : Appends out new spans
+  pub short : AllByRecursion (λ span. length span.pairs ≤ MOST_RECORDS) spans
+  pub went : WentOn p q
+  pub known : IsKnown sizes lawful q
+  pub s : q.view.grants.s + 8192 * new.chunk_room ≤ p.view.grants.s + 8192 * out.chunk_room
+  pub sx : q.view.grants.sx ≡ p.view.grants.sx
+  pub x : q.view.grants.x ≡ p.view.grants.x
+  pub last : ℕ
+  pub chunks : AreFront opening q.view.memory.seen root low high (length p.view.memory.seen) spans start last
+  pub within : last ≤ length q.view.memory.seen
+  pub to : rank start ≤ rank high
+  pub first : ((spans ≡ []) × (start ≡ low) × (new ≡ out)) ⊎ (rank low < rank start)
+
+-- .. and it stands on this leaf
+pub record IsScannedTo (sizes : Sizes) (lawful : List Entry → Type 0) (opening : ℕ → ℕ) (roots root leaf : ℕ) (low start high : MapKey) (out new : HeldChunks) (p q : PassState) : Type 0 where
+  pub up_to : IsUpTo sizes lawful opening root low start high out new p q
+  pub image : List ℕ
+  pub scans : IsScanning sizes lawful opening roots root start [] (record { page = leaf; image = image }) q
+  pub room : total q.view.grants + 8192 * new.chunk_room + 8183 ≤ 2 ^ 52
+
+-- how the loop went: the chunks are appended, few grants more were taken, and one leaf alone is held
+pub record HasRun (sizes : Sizes) (lawful : List Entry → Type 0) (out new : HeldChunks) (spans : List Span) (p q : PassState) : Type 0 where
+  pub appends : Appends out new spans
+  pub short : AllByRecursion (λ span. length span.pairs ≤ MOST_RECORDS) spans
+  pub went : WentOn p q
+  pub known : IsKnown sizes lawful q
+  pub s : q.view.grants.s ≤ p.view.grants.s + 8192 * out.chunk_room + 8183
+  pub sx : q.view.grants.sx ≡ p.view.grants.sx
+  pub x : q.view.grants.x ≡ p.view.grants.x
+  pub leaf : ℕ
+  pub image : List ℕ
+  pub front : HasFront 0 leaf image q
+
+-- .. to the end
+pub record HasEnded (sizes : Sizes) (lawful : List Entry → Type 0) (opening : ℕ → ℕ) (root : ℕ) (low high : MapKey) (out new : HeldChunks) (p q : PassState) : Type 0 where
+  pub spans : List Span
+  pub run : HasRun sizes lawful out new spans p q
+  pub chunks : AreWhole opening q.view.memory.seen root low high (length p.view.memory.seen) spans (length q.view.memory.seen)
+
+-- .. or up to a chunk that does not fit
+pub record HasHalted (sizes : Sizes) (lawful : List Entry → Type 0) (opening : ℕ → ℕ) (root : ℕ) (low high next : MapKey) (out new : HeldChunks) (p q : PassState) : Type 0 where
+  pub spans : List Span
+  pub run : HasRun sizes lawful out new spans p q
+  pub last : ℕ
+  pub chunks : AreFront opening q.view.memory.seen root low high (length p.view.memory.seen) spans next last
+  pub within : last ≤ length q.view.memory.seen
+  pub from : rank low ≤ rank next
+  pub to : rank next ≤ rank high
+  pub none : next ≡ low → spans ≡ []
+  pub tight : HasNoRoom opening q.view.memory.seen root next high new
+  pub ahead : 1 ≤ out.chunk_room → MOST_RECORDS ≤ out.pair_room → rank low < rank next

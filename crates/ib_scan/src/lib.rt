@@ -1,0 +1,14 @@
+//! Scans of one tree that sessions share, chunk by chunk: each chunk is what the tree had at the chunk's
+//! own place, and no page is latched between chunks but the leaf that gave the last one (row0sel,
+//! `row_search_mvcc`; btr0pcur, `btr_pcur_move_to_next_page`).
+#![tactic(auto)]
+
+mod more;
+mod part;
+mod scans;
+#[cfg(test)]
+mod tests;
+mod walk;
+
+pub use more::More;
+pub use scans::{scan, scan_at};

@@ -1,0 +1,12 @@
+//! A scan that found no room for its next chunk.
+
+use ib_map::Key;
+use thiserror::Error;
+
+/// The chunk that begins at `next` finds no chunk place spare, or fewer pair places than it has pairs.
+/// What comes before it is in the list. To go on, make room, and scan from `next` on.
+#[derive(Clone, Copy, PartialEq, Eq, Debug, Error)]
+#[error("no room for the chunk from {next} on")]
+pub struct More {
+    pub next: Key,
+}

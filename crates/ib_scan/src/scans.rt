@@ -1,0 +1,166 @@
+//! Scans.
+
+ghost use Rattle.std.specs.Prelude.{◌≡◌, ◌≤◌, ◌<◌, ◌+◌, ◌*◌, ◌^◌, [], true, length, Ok, IfErr, IfOk, MatchOption};
+ghost use Rattle.ib_map.specs.Keys.{rank, end_rank};
+ghost use Rattle.ib_core.specs.Sessions.{idle};
+ghost use Rattle.ib_logrec.specs.Log.{by_place};
+ghost use Rattle.ib_rule.specs.Pass.{IsOf};
+ghost use Rattle.ib_rule.specs.Views.{total};
+ghost use Rattle.ib_scan.specs.Scanning.{HasScanned, HasStopped};
+ghost use Rattle.ib_scan.specs.Scans.{FitsSeen, HasAll, scan_answer};
+
+use crate::more::More;
+use crate::walk::{Sought, scan_from, trees_of};
+use ib_cursor::{Search, descend_at};
+use ib_latch::{Latches, Parkers};
+use ib_map::{Call, Chunks, Key, Record, Reply, is_below};
+use ib_mtr::Mtr;
+use ib_rule::Pass;
+use ib_tree::Trees;
+use std::sync::Wait;
+
+// All chunks, or the key at which the first one begins that found no room.
+fn read_chunks<L: Trees, R: Wait>(
+    rt: &R,
+    latches: &Latches<L, Parkers>,
+    pass: &mut Pass,
+    sought: Sought,
+    out: &mut Chunks,
+) -> Option<Key>
+    requires own { IsOf latches.now pass.old }
+    requires idle { pass.old.view.session ≡ idle }
+    requires scratch { pass.old.has_scratch ≡ true }
+    requires room { total pass.old.view.grants + 8192 * out.old.chunk_room + 8192 ≤ 2 ^ 52 }
+    requires some { 0 < sought.root }
+    requires root { sought.root ≤ L.ROOTS }
+    requires ascends { rank sought.low ≤ rank sought.high }
+    requires key { rank sought.low < end_rank }
+    ensures own { IsOf latches.now pass.new }
+    ensures idle { pass.new.view.session ≡ idle }
+    ensures scratch { pass.new.has_scratch ≡ true }
+    ensures scanned { MatchOption result
+        (HasAll latches.now.sizes (L.lawful latches.now.sizes.pages)
+        (by_place L.opening latches.now.sizes.pages) sought.root sought.low sought.high
+        out.old out.new pass.old pass.new)
+        (λ next. HasStopped latches.now.sizes (L.lawful latches.now.sizes.pages)
+        (by_place L.opening latches.now.sizes.pages) sought.root sought.low sought.high next
+        out.old out.new pass.old pass.new) }
+{
+    let mut mtr = Mtr::start(latches, pass);
+    trees_of(&mtr);
+    let path = descend_at(rt, &mut mtr, sought.root, Search::Find, sought.low);
+    let first = path.pages()[path.len() - 1];
+    let stop = scan_from(rt, &mut mtr, sought, first, out);
+    mtr.release_at(0);
+    mtr.finish();
+    stop
+}
+
+/// Scans the keys from `low` to `high` of the tree of a root, with none where `low` is above `high`. What is
+/// there is appended chunk by chunk: a chunk ends at its leaf's last key, or at `high`, and is exactly what
+/// the tree has between its ends at its own place, the number of entries seen after its leaf was loaded
+/// (row0sel, `row_search_mvcc`). The next leaf is latched and loaded before an earlier one is given up,
+/// and the leaves that give no chunk are held until the next chunk's place is read (btr0pcur,
+/// `btr_pcur_move_to_next_page`). The record's place is the last chunk's.
+///
+/// `More` exactly where the next chunk finds no chunk place spare, or fewer pair places than it has pairs:
+/// the chunks before it were appended. Either way nothing is held at the end.
+pub fn scan_at<L: Trees, R: Wait>(
+    rt: &R,
+    latches: &Latches<L, Parkers>,
+    root: u32,
+    pass: &mut Pass,
+    low: Key,
+    high: Key,
+    out: &mut Chunks,
+) -> Result<Record, More>
+    requires own { IsOf latches.now pass.old }
+    requires idle { pass.old.view.session ≡ idle }
+    requires scratch { pass.old.has_scratch ≡ true }
+    requires room { total pass.old.view.grants + 8192 * out.old.chunk_room + 8192 ≤ 2 ^ 52 }
+    requires some { 0 < root }
+    requires root { root ≤ L.ROOTS }
+    ensures own { IsOf latches.now pass.new }
+    ensures idle { pass.new.view.session ≡ idle }
+    ensures scratch { pass.new.has_scratch ≡ true }
+    ensures scanned { rank low ≤ rank high → IfOk result (λ answer. HasScanned
+        latches.now.sizes (L.lawful latches.now.sizes.pages)
+        (by_place L.opening latches.now.sizes.pages) root low high answer
+        out.old out.new pass.old pass.new) }
+    ensures stopped { rank low ≤ rank high → IfErr result (λ more. HasStopped
+        latches.now.sizes (L.lawful latches.now.sizes.pages)
+        (by_place L.opening latches.now.sizes.pages) root low high more.next
+        out.old out.new pass.old pass.new) }
+    ensures none { rank high < rank low → result ≡ Ok
+        (scan_answer low high 0 0 (length pass.old.view.memory.seen)) }
+    ensures same { rank high < rank low → pass.new ≡ pass.old }
+    ensures same_out { rank high < rank low → out.new ≡ out.old }
+{
+    if is_below(high, low) {
+        return Ok(answer(low, high, 0, 0, pass.place()));
+    }
+    let before = out.room();
+    let sought = Sought { root, low, high };
+    match read_chunks(rt, latches, pass, sought, out) {
+        Some(next) => Err(More { next }),
+        None => {
+            let left = out.room();
+            let chunks = (before.0 - left.0) as u32;
+            let pairs = (before.1 - left.1) as u32;
+            Ok(answer(low, high, chunks, pairs, pass.place()))
+        }
+    }
+}
+
+/// Scans the first tree, that of page 1. The record of an `Ok` fits what is seen, by the map too.
+pub fn scan<L: Trees, R: Wait>(
+    rt: &R,
+    latches: &Latches<L, Parkers>,
+    pass: &mut Pass,
+    low: Key,
+    high: Key,
+    out: &mut Chunks,
+) -> Result<Record, More>
+    requires own { IsOf latches.now pass.old }
+    requires idle { pass.old.view.session ≡ idle }
+    requires scratch { pass.old.has_scratch ≡ true }
+    requires room { total pass.old.view.grants + 8192 * out.old.chunk_room + 8192 ≤ 2 ^ 52 }
+    requires root { 1 ≤ L.ROOTS }
+    ensures own { IsOf latches.now pass.new }
+    ensures idle { pass.new.view.session ≡ idle }
+    ensures scratch { pass.new.has_scratch ≡ true }
+    ensures scanned { rank low ≤ rank high → IfOk result (λ answer. HasScanned
+        latches.now.sizes (L.lawful latches.now.sizes.pages)
+        (by_place L.opening latches.now.sizes.pages) 1 low high answer
+        out.old out.new pass.old pass.new) }
+    ensures fits { rank low ≤ rank high → IfOk result (λ answer. (h : HasScanned
+        latches.now.sizes (L.lawful latches.now.sizes.pages)
+        (by_place L.opening latches.now.sizes.pages) 1 low high answer
+        out.old out.new pass.old pass.new) → FitsSeen latches.now.sizes
+        (by_place L.opening latches.now.sizes.pages) answer h.gone.spans pass.old pass.new) }
+    ensures stopped { rank low ≤ rank high → IfErr result (λ more. HasStopped
+        latches.now.sizes (L.lawful latches.now.sizes.pages)
+        (by_place L.opening latches.now.sizes.pages) 1 low high more.next
+        out.old out.new pass.old pass.new) }
+    ensures none { rank high < rank low → result ≡ Ok
+        (scan_answer low high 0 0 (length pass.old.view.memory.seen)) }
+    ensures fits_none { rank high < rank low → IfOk result (λ answer. FitsSeen latches.now.sizes
+        (by_place L.opening latches.now.sizes.pages) answer [] pass.old pass.new) }
+    ensures same { rank high < rank low → pass.new ≡ pass.old }
+    ensures same_out { rank high < rank low → out.new ≡ out.old }
+{
+    L::trees_law();
+    let _ = latches.space().geometry().pages();
+    scan_at(rt, latches, 1, pass, low, high, out)
+}
+
+// A record of a scan with so many chunks and pairs.
+fn answer(low: Key, high: Key, chunks: u32, pairs: u32, place: u32) -> Record
+    ensures { result ≡ scan_answer low high chunks pairs place }
+{
+    Record {
+        call: Call::Scan { low, high },
+        reply: Reply::Scanned { chunks, pairs },
+        place,
+    }
+}

@@ -1,0 +1,172 @@
+//! From leaf to leaf, and from chunk to chunk.
+
+ghost use Rattle.std.specs.Prelude.{◌≡◌, ◌≤◌, ◌+◌, ◌*◌, ◌^◌, ℕ, List, true, MatchOption};
+ghost use Rattle.ib_map.specs.Keys.{rank};
+ghost use Rattle.ib_map.specs.Space.{has_pages};
+ghost use Rattle.ib_logrec.specs.Log.{by_place};
+ghost use Rattle.ib_rule.specs.Views.{total};
+ghost use Rattle.ib_mtr.specs.Mtr.{IsMtr};
+ghost use Rattle.ib_cursor.specs.Laws.{Laws};
+ghost use Rattle.ib_scan.specs.Steps.{HasCome, HasEnded, HasFront, HasHalted, HasPassed, HasSomeFront, IsAside, IsOnLeaf, IsScannedTo, MayPass};
+
+use crate::part::{Part, part_of, put};
+use ib_cursor::{read, take};
+use ib_latch::{Parkers, Sleep};
+use ib_levels::{Latch, Level, Mode};
+use ib_logrec::Law;
+use ib_map::{Chunks, Key, after, is_same};
+use ib_mtr::Mtr;
+use ib_tree::Trees;
+use std::sync::Wait;
+
+// What is scanned: the keys from `low` to `high` in the tree of a root.
+#[derive(Clone, Copy)]
+pub(crate) struct Sought {
+    pub(crate) root: u32,
+    pub(crate) low: Key,
+    pub(crate) high: Key,
+}
+
+// The leaf in which a chunk ends, where it ends, and how many leaves before it are held.
+#[derive(Clone, Copy)]
+struct Found {
+    leaf: u32,
+    end: Key,
+    passed: usize,
+}
+
+// The trees of the space obey their law.
+pub(crate) fn trees_of<L: Trees, S: Sleep>(mtr: &Mtr<'_, L, S>)
+    ensures laws { Laws mtr.now.latches.now.sizes.pages L.ROOTS
+        (L.lawful mtr.now.latches.now.sizes.pages)
+        (by_place L.opening mtr.now.latches.now.sizes.pages) }
+    ensures space { has_pages mtr.now.latches.now.sizes.pages ≡ true }
+{
+    L::trees_law();
+    let _ = mtr.geometry().pages();
+}
+
+// Passes over the leaf on which the scan stands: the next one is taken in S and loaded, while that leaf
+// and those before it are still held.
+fn pass_over<L: Trees, R: Wait>(rt: &R, mtr: &mut Mtr<'_, L, Parkers>, leaf: u32, next: u32)
+    requires mtr { IsMtr mtr.old.latches.now mtr.old.pass.now }
+    requires may { MayPass mtr.old.latches.now.sizes (L.lawful mtr.old.latches.now.sizes.pages)
+        (by_place L.opening mtr.old.latches.now.sizes.pages) L.ROOTS leaf next mtr.old.pass.now }
+    ensures mtr { IsMtr mtr.new.latches.now mtr.new.pass.now }
+    ensures latches { mtr.new.latches ≡ mtr.old.latches }
+    ensures pass { mtr.new.pass.ghost_name ≡ mtr.old.pass.ghost_name }
+    ensures passed { (h : MayPass mtr.old.latches.now.sizes
+        (L.lawful mtr.old.latches.now.sizes.pages)
+        (by_place L.opening mtr.old.latches.now.sizes.pages) L.ROOTS leaf next mtr.old.pass.now)
+        → HasPassed mtr.old.latches.now.sizes (L.lawful mtr.old.latches.now.sizes.pages)
+        (by_place L.opening mtr.old.latches.now.sizes.pages) L.ROOTS h.root h.start h.ps h.last
+        mtr.old.pass.now mtr.new.pass.now }
+{
+    trees_of(mtr);
+    mtr.forget(leaf);
+    take(rt, mtr, Latch::page(next), Mode::S, Level::TreeNode);
+    read(mtr, next);
+}
+
+// Goes on to the leaf in which the chunk from `start` ends. Those that give no chunk are passed over, and
+// held still.
+fn come_to_end<L: Trees, R: Wait>(
+    rt: &R,
+    mtr: &mut Mtr<'_, L, Parkers>,
+    leaf: u32,
+    start: Key,
+    high: Key,
+) -> Found
+    requires mtr { IsMtr mtr.old.latches.now mtr.old.pass.now }
+    requires on { IsOnLeaf mtr.old.latches.now.sizes (L.lawful mtr.old.latches.now.sizes.pages)
+        (by_place L.opening mtr.old.latches.now.sizes.pages) L.ROOTS leaf start mtr.old.pass.now }
+    ensures mtr { IsMtr mtr.new.latches.now mtr.new.pass.now }
+    ensures latches { mtr.new.latches ≡ mtr.old.latches }
+    ensures pass { mtr.new.pass.ghost_name ≡ mtr.old.pass.ghost_name }
+    ensures come { (h : IsOnLeaf mtr.old.latches.now.sizes
+        (L.lawful mtr.old.latches.now.sizes.pages)
+        (by_place L.opening mtr.old.latches.now.sizes.pages) L.ROOTS leaf start mtr.old.pass.now)
+        → HasCome mtr.old.latches.now.sizes (L.lawful mtr.old.latches.now.sizes.pages)
+        (by_place L.opening mtr.old.latches.now.sizes.pages) L.ROOTS h.root start high result
+        mtr.old.pass.now mtr.new.pass.now }
+{
+    trees_of(mtr);
+    let mut at = leaf;
+    let mut passed = 0;
+    loop {
+        match part_of(mtr, at, start, high) {
+            Part::Passed { next } => {
+                pass_over(rt, mtr, at, next);
+                at = next;
+                passed += 1;
+            }
+            Part::Ends { end } => {
+                return Found {
+                    leaf: at,
+                    end,
+                    passed,
+                };
+            }
+        }
+    }
+}
+
+// The leaves in front of the one on which the scan stands are given up.
+fn leave_front<L: Law, S: Sleep>(mtr: &mut Mtr<'_, L, S>, count: usize)
+    requires mtr { IsMtr mtr.old.latches.now mtr.old.pass.now }
+    requires front { HasSomeFront count mtr.old.pass.now }
+    ensures mtr { IsMtr mtr.new.latches.now mtr.new.pass.now }
+    ensures latches { mtr.new.latches ≡ mtr.old.latches }
+    ensures pass { mtr.new.pass.ghost_name ≡ mtr.old.pass.ghost_name }
+    ensures left { (h : HasSomeFront count mtr.old.pass.now)
+        → HasFront 0 h.leaf h.image mtr.new.pass.now }
+    ensures aside { IsAside mtr.old.pass.now mtr.new.pass.now }
+{
+    for _ in 0..count {
+        mtr.release_at(0);
+    }
+}
+
+// Reads chunk after chunk, from the leaf of `low` on. None where all were appended, else the key at
+// which the first one begins that found no room. One leaf alone is held at the end.
+pub(crate) fn scan_from<L: Trees, R: Wait>(
+    rt: &R,
+    mtr: &mut Mtr<'_, L, Parkers>,
+    sought: Sought,
+    first: u32,
+    out: &mut Chunks,
+) -> Option<Key>
+    requires mtr { IsMtr mtr.old.latches.now mtr.old.pass.now }
+    requires begins { IsScannedTo mtr.old.latches.now.sizes
+        (L.lawful mtr.old.latches.now.sizes.pages)
+        (by_place L.opening mtr.old.latches.now.sizes.pages) L.ROOTS sought.root first sought.low
+        sought.low sought.high out.old out.old mtr.old.pass.now mtr.old.pass.now }
+    ensures mtr { IsMtr mtr.new.latches.now mtr.new.pass.now }
+    ensures latches { mtr.new.latches ≡ mtr.old.latches }
+    ensures pass { mtr.new.pass.ghost_name ≡ mtr.old.pass.ghost_name }
+    ensures scanned { MatchOption result
+        (HasEnded mtr.old.latches.now.sizes (L.lawful mtr.old.latches.now.sizes.pages)
+        (by_place L.opening mtr.old.latches.now.sizes.pages) sought.root sought.low sought.high
+        out.old out.new mtr.old.pass.now mtr.new.pass.now)
+        (λ next. HasHalted mtr.old.latches.now.sizes (L.lawful mtr.old.latches.now.sizes.pages)
+        (by_place L.opening mtr.old.latches.now.sizes.pages) sought.root sought.low sought.high
+        next out.old out.new mtr.old.pass.now mtr.new.pass.now) }
+{
+    trees_of(mtr);
+    let mut leaf = first;
+    let mut start = sought.low;
+    loop {
+        let found = come_to_end(rt, mtr, leaf, start, sought.high);
+        let place = mtr.place();
+        let fits = put(mtr, found.leaf, start, found.end, place, out);
+        leave_front(mtr, found.passed);
+        if !fits {
+            return Some(start);
+        }
+        if is_same(found.end, sought.high) {
+            return None;
+        }
+        leaf = found.leaf;
+        start = after(found.end).unwrap();
+    }
+}
