@@ -1,0 +1,4 @@
+mod LookupLaws
+mod LeafStays
+mod LeafCommits
+mod LeafCalls

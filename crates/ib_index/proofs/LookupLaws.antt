@@ -1,0 +1,233 @@
+-- What a lookup reads off the key's leaf is what the map of the log has.
+use Rattle.std.specs.List.{AllByRecursion}
+use Rattle.std.proofs.Common.{◌≡◌, ℕ, ◌-◌, ◌<◌, ◌≤◌, false, List, [], ◌∷◌, ◌++◌, length, Option, Some, None, slice_get, refl, sym, ap, subst, ◌∙◌, arith, length-append}
+use Rattle.ib_map.specs.Keys.{MapKey, rank, end_rank}
+use Rattle.ib_map.specs.Pairs.{value_at}
+use Rattle.ib_map.specs.Map.{lookup_answer, lookup_of, is_made}
+use Rattle.ib_map.specs.History.{map_after}
+use Rattle.ib_map.specs.Replies.{full_record, Fits}
+use Rattle.ib_map.specs.Writes.{touches}
+use Rattle.ib_map.specs.declared.call.Call.TheVariants.{Get}
+use Rattle.ib_map.specs.declared.call.Record.{Record}
+use Rattle.ib_map.specs.declared.call.Reply.{Reply}
+use Rattle.ib_map.proofs.HistoryLaws.{slice_get-last}
+use Rattle.ib_page.specs.Image.{IsTreePage, records_of}
+use Rattle.ib_layout.specs.Geometry.{Sizes}
+use Rattle.ib_logrec.specs.declared.entry.Entry.{Entry}
+use Rattle.ib_logrec.specs.Log.{memory_after, history_of, map_of, used}
+use Rattle.ib_logrec.proofs.LogLaws.{length-history_of}
+use Rattle.ib_rule.specs.declared.memory.Memory.{Memory}
+use Rattle.ib_rule.specs.declared.view.Role.{Role}
+use Rattle.ib_rule.specs.declared.view.Role.TheVariants.{Session as SessionRole}
+use Rattle.ib_rule.specs.declared.looks.Grants.{Grants}
+use Rattle.ib_rule.specs.Memory.{entries_of}
+use Rattle.ib_rule.specs.Pass.{PassState}
+use Rattle.ib_rule.specs.Roles.{number_in}
+use Rattle.ib_rule.proofs.Watching.{untouched}
+use Rattle.ib_walk.specs.Trees.{height_of, content_of}
+use Rattle.ib_walk.specs.Search.{leaf_for}
+use Rattle.ib_walk.specs.Words.{image_of}
+use Rattle.ib_walk.proofs.ImageLaws.{image_of-list}
+use Rattle.ib_walk.proofs.TreeLaws.{value_at-content_of}
+use Rattle.ib_tree.specs.Logs.{pages_after}
+use Rattle.ib_mtr.specs.Commits.{HasRead}
+use Rattle.ib_mtr.specs.Mtr.{started, finished}
+use Rattle.ib_cursor.specs.Way.{IsOnWay}
+use Rattle.ib_cursor.specs.Going.{IsKnown, WentOn}
+use Rattle.ib_cursor.specs.Descent.{HasDescended}
+use Rattle.ib_cursor.specs.Hindrance.{IsHindered}
+use Rattle.ib_cursor.specs.declared.fault.NowaitFault.{NowaitFault}
+use Rattle.ib_cursor.proofs.StandLaws.{went_both, looked_first, seen_longer}
+use Rattle.ib_cursor.specs.Laws.{Laws}
+use Rattle.ib_cursor.proofs.LogLaws.{tree_of-log, way_stays, way_image}
+use Rattle.ib_cursor.proofs.StepLaws.{image_stays}
+use Rattle.ib_cursor.proofs.WayLaws.{leaf_on-way}
+use Rattle.ib_index.specs.Calls.{HasCalled}
+use Rattle.ib_index.specs.Lookups.{HasLookedUp}
+
+-- the end of a mini-transaction that read, as a step of its session
+pub went_read : (sizes : Sizes) (lawful : List Entry → Type 0) (p : PassState) (place : ℕ) (q : PassState) → HasRead sizes lawful p place q → WentOn p q
+went_read sizes lawful p place q read =
+    let is = read.ended.memory in
+    let log : q.view.memory.seen ≡ read.log = ap (λ (m : Memory). m.seen) is in
+    record {
+      table = ap (λ (r : PassState). r.table) read.ended.pass;
+      sizes = ap (λ (r : PassState). r.sizes) read.ended.pass;
+      number = ap (λ (r : PassState). r.number) read.ended.pass;
+      own = ap (λ (m : Memory). m.own) is;
+      more = read.looked.others;
+      seen = log ∙ sym read.looked.longer;
+      added = place ∷ [];
+      ends = ap (λ (m : Memory). m.ends) is;
+      bounds = (
+        let e = ap length read.looked.longer in let l = length-append p.view.memory.seen read.looked.others in let s = ap length log in let at = read.place in (omega arith, omega arith),
+        tt,
+      );
+    }
+
+pub known_read : (sizes : Sizes) (lawful : List Entry → Type 0) (p : PassState) (place : ℕ) (q : PassState) → p.view.role ≡ SessionRole p.number → HasRead sizes lawful p place q → IsKnown sizes lawful q
+known_read sizes lawful p place q role read =
+    let is = read.ended.memory in
+    let log : q.view.memory.seen ≡ read.log = ap (λ (m : Memory). m.seen) is in
+    let own : q.view.memory.own ≡ p.view.memory.own = ap (λ (m : Memory). m.own) is in
+    let number : q.number ≡ p.number = ap (λ (r : PassState). r.number) read.ended.pass in
+    record {
+      legal = subst lawful (sym log) read.looked.legal;
+      room = subst (λ (log : List Entry). used log ≤ sizes.log_words) (sym log) read.looked.room;
+      mine = ap (λ n. entries_of n q.view.memory.seen) number ∙ (ap (entries_of p.number) log ∙ (ap (λ (r : Role). entries_of (number_in r) read.log) (sym role) ∙ (read.looked.mine ∙ sym own)));
+    }
+
+-- ends of the log that were found, of which the first was
+pub record HasFirst (ns : List ℕ) : Type 0 where
+  pub first : ℕ
+  pub rest : List ℕ
+  pub is : ns ≡ first ∷ rest
+
+pub first_of : (ns : List ℕ) → 0 < length ns → HasFirst ns
+first_of [] some = absurd (omega arith)
+first_of (n ∷ ns) some = record { first = n; rest = ns; is = refl }
+
+lookup-made : (v : Option ℕ) → is_made (lookup_answer v) ≡ false
+lookup-made (Some value) = refl
+lookup-made None = refl
+
+module _ (sizes : Sizes) (roots : ℕ) (lawful : List Entry → Type 0) (opening : ℕ → ℕ) (laws : Laws sizes.pages roots lawful opening) (one : 1 ≤ roots)
+    (content : (log : List Entry) → lawful log → content_of (pages_after opening log) 1 ≡ map_of log) (key : MapKey) (lt : rank key < end_rank) where
+  -- the key's leaf after a lawful log: what it has of the key, the map has
+  pub leaf_has : (log : List Entry) (leaf : ℕ) → lawful log → IsOnWay (pages_after opening log) 1 key leaf 0
+      → value_at key (records_of (image_of (memory_after opening log) leaf)) ≡ value_at key (map_of log)
+  leaf_has log leaf legal on =
+      let w = way_image sizes.pages roots lawful opening laws 1 (omega arith) one key lt log leaf 0 legal on in
+      let v = value_at-content_of (pages_after opening log) key 1 lt (tree_of-log sizes.pages roots lawful opening laws 1 (omega arith) one log legal) in
+      let at : leaf ≡ leaf_for (pages_after opening log) key 1 = leaf_on-way (pages_after opening log) 1 key leaf on in
+      sym (ap (value_at key) w.image.records) ∙ (ap (λ n. value_at key (pages_after opening log n).records) at ∙ (sym v ∙ ap (value_at key) (content log legal)))
+
+  module _ (path : List ℕ) (p q : PassState) (down : HasDescended sizes lawful opening 1 key false path p q) where
+    on_leaf : IsOnWay (pages_after opening q.view.memory.seen) 1 key down.leaf 0
+    on_leaf = record { depth = height_of (pages_after opening q.view.memory.seen) 1; height = omega arith; below = sym down.is_leaf }
+
+    image-is : image_of (memory_after opening q.view.memory.seen) down.leaf ≡ down.image
+    image-is = image_of-list (memory_after opening q.view.memory.seen) down.leaf down.image down.size (λ index lt. sym (down.is_page index lt))
+
+    -- the leaf that was loaded is a page of a tree
+    pub leaf_tree : IsTreePage down.image
+    leaf_tree = subst IsTreePage image-is (way_image sizes.pages roots lawful opening laws 1 (omega arith) one key lt q.view.memory.seen down.leaf 0 down.known.legal on_leaf).image.tree
+
+    module _ (place : ℕ) (r : PassState) (role : q.view.role ≡ SessionRole q.number) (read : HasRead sizes lawful q place r) where
+      log-is : r.view.memory.seen ≡ q.view.memory.seen ++ read.looked.others
+      log-is = ap (λ (m : Memory). m.seen) read.ended.memory ∙ sym read.looked.longer
+
+      calm : AllByRecursion (λ e. touches down.leaf e.writes ≡ false) read.looked.others
+      calm = untouched (number_in q.view.role) down.leaf q.view.memory.since read.looked.others down.watched read.looked.harmless
+
+      legal : lawful (q.view.memory.seen ++ read.looked.others)
+      legal = subst lawful (sym read.looked.longer) read.looked.legal
+
+      -- no entry first seen at the end writes the leaf: what was read off it is what the map of all that is seen has
+      value-is : value_at key (records_of down.image) ≡ value_at key (map_of r.view.memory.seen)
+      value-is =
+          let on = way_stays sizes.pages roots lawful opening laws 1 (omega arith) one key lt q.view.memory.seen read.looked.others down.leaf 0 legal calm on_leaf in
+          let has = leaf_has (q.view.memory.seen ++ read.looked.others) down.leaf legal on in
+          let same = image_stays opening q.view.memory.seen read.looked.others down.leaf calm ∙ image-is in
+          ap (λ ws. value_at key (records_of ws)) (sym same) ∙ (has ∙ ap (λ log. value_at key (map_of log)) (sym log-is))
+
+      module _ (reply : Reply) (is : reply ≡ lookup_answer (value_at key (records_of down.image))) where
+        at-end : place ≡ length r.view.memory.seen
+        at-end = read.place ∙ ap length (sym (ap (λ (m : Memory). m.seen) read.ended.memory))
+
+        not-made : is_made reply ≡ false
+        not-made = ap is_made is ∙ lookup-made (value_at key (records_of down.image))
+
+        went : WentOn p r
+        went = went_both p q r down.went (went_read sizes lawful q place r read)
+
+        found : HasFirst went.added
+        unfolding went
+        found = first_of went.added (looked_first p q r down.went (went_read sizes lawful q place r read) down.looked)
+
+        fits : Fits (history_of r.view.memory.seen) r.number (length p.view.memory.seen) (full_record (record { call = Get key; reply = reply; place = place }) [])
+        fits =
+            let long = length-history_of r.view.memory.seen in let end = at-end in
+            let here : map_of r.view.memory.seen ≡ map_after (history_of r.view.memory.seen) place = ap (map_after (history_of r.view.memory.seen)) (sym end) in
+            let said : reply ≡ lookup_of (map_after (history_of r.view.memory.seen) place) key = is ∙ ap lookup_answer (value-is ∙ ap (value_at key) here) in
+            (omega arith, (said, refl))
+
+        pub called : HasCalled sizes lawful opening (Get key) (record { call = Get key; reply = reply; place = place }) p r
+        called = record {
+          table = went.table;
+          sizes_are = went.sizes;
+          number = went.number;
+          more = went.more;
+          seen = went.seen;
+          known = known_read sizes lawful q place r role read;
+          first = found.first;
+          rest = found.rest;
+          ends = went.ends ∙ ap (λ ns. p.view.memory.ends ++ ns) found.is;
+          bounds = bounds;
+          call_is = refl;
+          from = let l = seen_longer p r went in let end = at-end in omega arith;
+          looked = let b = bounds.0.1 in let end = at-end in omega arith;
+          reach = sym at-end ∙ rw not-made refl;
+          fits = record { map = fits; tree = tt };
+          own = rw not-made went.own;
+        }
+          where
+            bounds : AllByRecursion (λ n. (length p.view.memory.seen ≤ n) × (n ≤ length r.view.memory.seen)) (found.first ∷ found.rest)
+            bounds = subst (AllByRecursion (λ n. (length p.view.memory.seen ≤ n) × (n ≤ length r.view.memory.seen))) found.is went.bounds
+
+        pub looked_up : HasLookedUp sizes lawful opening key (record { call = Get key; reply = reply; place = place }) p r
+        looked_up =
+            let f = down.finds refl in let f0 = f.0 in let f1 = f.1 in
+            let s = ap (λ (g : Grants). g.s) read.ended.grants in let x = ap (λ (g : Grants). g.x) read.ended.grants in let sx = ap (λ (g : Grants). g.sx) read.ended.grants in
+            let l = ap length down.ends in let m = length-append down.front (down.leaf ∷ []) in let most = down.s in
+            record { called = called; least = omega arith; most = omega arith; sx = sx ∙ down.sx; x = x ∙ f1 }
+
+-- the last page of a path
+pub last_is : (path front : List ℕ) (leaf page : ℕ) → path ≡ front ++ leaf ∷ [] → slice_get path (length path - 1) ≡ Some page → page ≡ leaf
+last_is path front leaf page is at =
+    let long = ap length is in let l = length-append front (leaf ∷ []) in
+    let place : length path - 1 ≡ length front = omega arith in
+    let a : slice_get path (length front) ≡ Some page = sym (ap (slice_get path) place) ∙ at in
+    let b : slice_get path (length front) ≡ Some leaf = ap (λ xs. slice_get xs (length front)) is ∙ slice_get-last front leaf in cc
+
+-- a mini-transaction starts with what the session had seen and taken
+pub from_start : (sizes : Sizes) (lawful : List Entry → Type 0) (opening : ℕ → ℕ) (key : MapKey) (answer : Record) (p q : PassState) → HasLookedUp sizes lawful opening key answer (started p) q → HasLookedUp sizes lawful opening key answer p q
+from_start sizes lawful opening key answer p q h = record {
+  called = record {
+    table = h.called.table;
+    sizes_are = h.called.sizes_are;
+    number = h.called.number;
+    more = h.called.more;
+    seen = h.called.seen;
+    known = h.called.known;
+    first = h.called.first;
+    rest = h.called.rest;
+    ends = h.called.ends;
+    bounds = h.called.bounds;
+    call_is = h.called.call_is;
+    from = h.called.from;
+    looked = h.called.looked;
+    reach = h.called.reach;
+    fits = h.called.fits;
+    own = h.called.own;
+  };
+  least = h.least;
+  most = h.most;
+  sx = h.sx;
+  x = h.x;
+}
+
+pub hindered_start : (sizes : Sizes) (lawful : List Entry → Type 0) (opening : ℕ → ℕ) (key : MapKey) (fault : NowaitFault) (p q : PassState)
+    → IsHindered sizes lawful opening 1 key fault (started p) q → IsHindered sizes lawful opening 1 key fault p (finished q)
+hindered_start sizes lawful opening key fault p q h = record {
+  went = record { table = h.went.table; sizes = h.went.sizes; number = h.went.number; own = h.went.own; more = h.went.more; seen = h.went.seen; added = h.went.added; ends = h.went.ends; bounds = h.went.bounds };
+  looked = h.looked;
+  known = record { legal = h.known.legal; room = h.known.room; mine = h.known.mine };
+  grants = record { memo = h.grants.memo; session = h.grants.session };
+  work = refl;
+  way = h.way;
+  refused = h.refused;
+  s = h.s;
+  sx = h.sx;
+  x = h.x;
+}

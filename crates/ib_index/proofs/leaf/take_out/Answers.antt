@@ -1,0 +1,55 @@
+-- The pair leaves the leaf, and that may be committed behind whatever others append.
+use Rattle.std.proofs.Common.{refl, ◌≡◌, ℕ, ◌^◌, ◌<◌, ◌∙◌, List, Option, None, Some, sym, ap, subst}
+use Rattle.std.specs.Prelude.{IsSome}
+use Rattle.ib_map.specs.Pairs.{value_at}
+use Rattle.ib_map.specs.declared.call.Change.TheVariants.{Delete}
+use Rattle.ib_page.specs.Form.{page_of}
+use Rattle.ib_page.specs.Image.{IsTreePage, clock_of, records_of}
+use Rattle.ib_page.specs.Work.{WorkPage, with_changed}
+use Rattle.ib_walk.specs.Words.{state_of}
+use Rattle.ib_kept.specs.Kept.{IsKeptLog}
+use Rattle.ib_kept.specs.LeafChange.{without_pair}
+use Rattle.ib_mtr.specs.Commits.{MayCommit}
+use Rattle.ib_mtr.specs.Mtr.{with_work}
+use Rattle.ib_mtr.proofs.Looking.{edited_mtr}
+use Rattle.ib_index.specs.Leaf.{leaf_page}
+use Rattle.ib_index.proofs.LeafStays.{clock-low, image-got, leaf-tree, records-are}
+use Rattle.ib_index.proofs.LeafCommits.{may-delete, work-is}
+use Rattle.ib_index.proofs.leaf.take_out.Goals as goal
+
+pub take_pair-requires-clause-tree : goal.take_pair-requires-clause-tree
+take_pair-requires-clause-tree c =
+    let p = c.args.mtr.now.pass.now in let sizes = c.args.mtr.now.latches.now.sizes in let r = c.requires in
+    let same = image-got sizes r.seated.fits c.args.key c.ranges.key.fits c.args.leaf p r.at c.edit.result.now c.edit.ensures.image in
+    subst IsTreePage (sym same) (leaf-tree sizes r.seated.fits c.args.key c.ranges.key.fits c.args.leaf p r.at)
+
+pub take_pair-requires-clause-there : goal.take_pair-requires-clause-there
+take_pair-requires-clause-there c =
+    let p = c.args.mtr.now.pass.now in let sizes = c.args.mtr.now.latches.now.sizes in let r = c.requires in
+    let same = image-got sizes r.seated.fits c.args.key c.ranges.key.fits c.args.leaf p r.at c.edit.result.now c.edit.ensures.image in
+    subst IsSome (sym (ap (λ (ws : List ℕ). value_at c.args.key (records_of ws)) same ∙ ap (value_at c.args.key) (records-are sizes r.seated.fits c.args.key c.ranges.key.fits c.args.leaf p r.at))) r.there
+
+pub take_pair-requires-clause-clock : goal.take_pair-requires-clause-clock
+take_pair-requires-clause-clock c =
+    let p = c.args.mtr.now.pass.now in let sizes = c.args.mtr.now.latches.now.sizes in let r = c.requires in
+    let same = image-got sizes r.seated.fits c.args.key c.ranges.key.fits c.args.leaf p r.at c.edit.result.now c.edit.ensures.image in
+    subst (λ (ws : List ℕ). clock_of ws < 2 ^ 63) (sym same) (clock-low sizes r.seated.fits c.args.key c.ranges.key.fits c.args.leaf p r.at r.seated.few)
+
+pub returns-clause-mtr : goal.returns-clause-mtr
+returns-clause-mtr c = edited_mtr c.args.mtr.now.latches.now c.args.mtr.now.pass.now c.args.leaf c.take_pair.new.image c.requires.mtr
+
+some-value : (o : Option ℕ) → IsSome o → (v : ℕ) × (o ≡ Some v)
+some-value None is = absurd (cc)
+some-value (Some v) is = (v, refl)
+
+pub returns-clause-taken : goal.returns-clause-taken
+returns-clause-taken c =
+    let p = c.args.mtr.now.pass.now in let sizes = c.args.mtr.now.latches.now.sizes in let r = c.requires in
+    let same = image-got sizes r.seated.fits c.args.key c.ranges.key.fits c.args.leaf p r.at c.edit.result.now c.edit.ensures.image in
+    let some = some-value (value_at c.args.key (leaf_page sizes c.args.key p).records) r.there in
+    let taken : state_of (page_of c.take_pair.new.image) ≡ without_pair c.args.key (state_of (page_of r.at.image)) =
+    c.take_pair.ensures ∙ ap (λ (ws : List ℕ). without_pair c.args.key (state_of (page_of ws))) same in
+    let may = subst (λ (w : List WorkPage). MayCommit (IsKeptLog sizes.pages) (with_work w p) (Delete c.args.key))
+    (sym (work-is sizes c.args.key c.ranges.key.fits c.args.leaf p r.at r.seated c.take_pair.new.image))
+    (may-delete sizes c.args.key c.ranges.key.fits c.args.leaf p r.at r.seated r.grows some.0 c.take_pair.new.image some.1 r.enough taken) in
+    (with_changed c.args.leaf c.take_pair.new.image p.work, refl, may)

@@ -1,0 +1,3 @@
+pub mod Calls
+pub mod Lookups
+pub mod Leaf

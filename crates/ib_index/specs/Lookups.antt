@@ -1,0 +1,17 @@
+-- What a lookup leaves.
+use Rattle.std.specs.Prelude.{◌≡◌, ℕ, ◌+◌, ◌≤◌, List}
+use Rattle.ib_map.specs.Keys.{MapKey}
+use Rattle.ib_map.specs.declared.call.Call.TheVariants.{Get}
+use Rattle.ib_map.specs.declared.call.Record.{Record}
+use Rattle.ib_layout.specs.Geometry.{Sizes}
+use Rattle.ib_logrec.specs.declared.entry.Entry.{Entry}
+use Rattle.ib_rule.specs.Pass.{PassState}
+use Rattle.ib_index.specs.Calls.{HasCalled}
+
+-- a lookup was answered: from two to nine grants of S were taken, for the index and each page of the key's way, and no other
+pub record HasLookedUp (sizes : Sizes) (lawful : List Entry → Type 0) (opening : ℕ → ℕ) (key : MapKey) (answer : Record) (p q : PassState) : Type 0 where
+  pub called : HasCalled sizes lawful opening (Get key) answer p q
+  pub least : p.view.grants.s + 2 ≤ q.view.grants.s
+  pub most : q.view.grants.s ≤ p.view.grants.s + 9
+  pub sx : q.view.grants.sx ≡ p.view.grants.sx
+  pub x : q.view.grants.x ≡ p.view.grants.x

@@ -1,0 +1,238 @@
+//! One tree that sessions share: how it is opened and closed, and how sessions come, look keys up and go.
+
+ghost use Rattle.std.specs.Prelude.{◌≡◌, ◌↔◌, ◌+◌, ◌-◌, ◌≤◌, ◌^◌, true, [], ◌∷◌, length, Err, IsTrue, IfOk, IfErr, IfSome, MatchOption};
+ghost use mathlib.Core.List.{IsPrefix};
+ghost use Rattle.ib_core.specs.Sessions.{idle};
+ghost use Rattle.ib_logrec.specs.Log.{by_place};
+ghost use Rattle.ib_rule.specs.declared.view.Role.TheVariants.{Session};
+ghost use Rattle.ib_rule.specs.Closed.{IsClosed};
+ghost use Rattle.ib_rule.specs.Pass.{IsFrom, IsOf, with_view};
+ghost use Rattle.ib_rule.specs.Views.{ended_as, longer, seated, seeing, total};
+ghost use Rattle.ib_kept.specs.Kept.{IsKeptLog};
+ghost use Rattle.ib_tree.specs.TreeLog.{opening};
+ghost use Rattle.ib_cursor.specs.Hindrance.{IsHindered};
+ghost use Rattle.ib_map.specs.declared.call.Call.TheVariants.{Delete, Insert};
+ghost use Rattle.ib_index.specs.Calls.{HasCalled};
+ghost use Rattle.ib_index.specs.Leaf.{IsFullFor, IsShortFor, NeededLeaf, NeedsTree, TakesFew};
+ghost use Rattle.ib_index.specs.Lookups.{HasLookedUp};
+
+use crate::{leaf, lookup, nowait};
+use ib_cursor::NowaitFault;
+use ib_kept::KeptLaw;
+use ib_latch::{CloseRefused as LatchesRefused, Latches, Parkers, Sleep};
+use ib_layout::Geometry;
+use ib_map::{Key, Record};
+use ib_rule::{Closed, ConnectFault, OutOfMemory, Pass};
+use std::alloc::Global;
+use std::marker::Model;
+use std::sync::Wait;
+
+/// A tree of records that sessions share (`dict_index_t` with its latches and pages). Contracts see it as
+/// its space. It is not dropped, but closed or discarded.
+pub struct Index<S: Sleep = Parkers> {
+    latches: Latches<KeptLaw, S>,
+}
+
+impl<S: Sleep> Model for Index<S> {
+    ghost use Rattle.ib_rule.specs.Space.{SpaceState};
+
+    ghost Value = { SpaceState };
+
+    ghost view = { λ i. i.latches };
+}
+
+/// There was no memory to copy the words. The index comes back as it was.
+pub struct IndexRefused<S: Sleep = Parkers> {
+    pub index: Index<S>,
+}
+
+impl<S: Sleep> Index<S> {
+    /// An index with no records, in a new space of these sizes: an empty log, no sessions, and every latch
+    /// free. Refused where memory lacks.
+    pub fn open(alloc: Global, geometry: Geometry) -> Result<Index<S>, OutOfMemory>
+        ensures { IfOk result (λ i. i
+            ≡ record { table = i.table; sizes = geometry; drawn = 0; ended = [] }) }
+    {
+        let latches = Latches::open(alloc, geometry)?;
+        Ok(Index { latches })
+    }
+
+    /// Its latches, for scans and for steps on a latch.
+    pub fn latches(&self) -> &Latches<KeptLaw, S>
+        ensures { result.now ≡ self.now }
+    {
+        &self.latches
+    }
+
+    /// How many passes are not given back yet.
+    pub fn connected(&self) -> u32
+        ensures connected { result ≡ self.now.drawn - length self.now.ended }
+        ensures few { length self.now.ended ≤ self.now.drawn }
+    {
+        self.latches.connected()
+    }
+
+    /// Draws the next number, and gives its session's pass: nothing seen, held or granted, and the scratch
+    /// in it. Refused as `TooManySessions` exactly where 1,024 were drawn. Where memory lacks, no number is
+    /// drawn.
+    pub fn connect(&mut self, alloc: Global) -> Result<Pass, ConnectFault>
+        ensures pass { IfOk result (λ p. IsOf self.old p × (p.number ≡ self.old.drawn + 1)
+            × (p.view ≡ seated (Session (self.old.drawn + 1))) × (p.has_scratch ≡ true)) }
+        ensures drawn { IfOk result (λ p. self.new
+            ≡ record self.old { drawn = self.old.drawn + 1 }) }
+        ensures err { IfErr result (λ e. self.new ≡ self.old) }
+        ensures full { (result ≡ Err (ConnectFault.TooManySessions 1024))
+            ↔ (self.old.drawn ≡ 1024) }
+        ensures few { self.old.drawn ≤ 1024 }
+    {
+        self.latches.connect(alloc)
+    }
+
+    /// The session ends, and what it has seen and made is kept. It holds nothing, and its scratch is in the
+    /// pass.
+    pub fn disconnect(&mut self, pass: Pass)
+        requires own { IsOf self.old pass }
+        requires idle { pass.view.session ≡ idle }
+        requires scratch { pass.has_scratch ≡ true }
+        ensures { self.new ≡ record self.old { ended = ended_as pass.view ∷ self.old.ended } }
+    {
+        self.latches.disconnect(pass);
+    }
+
+    /// Afterwards `to` has seen what both had seen: the longer of the two lists, of which both are fronts.
+    /// What contracts see of `from` is as before.
+    pub fn meet(&self, to: &mut Pass, from: &mut Pass)
+        requires to { IsFrom self.now to.old }
+        requires from { IsFrom self.now from.old }
+        ensures from { from.new ≡ from.old }
+        ensures to { to.new ≡ with_view to.old
+            (seeing (longer to.old.view.memory.seen from.old.view.memory.seen) to.old.view) }
+        ensures mine { IsPrefix to.old.view.memory.seen to.new.view.memory.seen }
+        ensures theirs { IsPrefix from.old.view.memory.seen to.new.view.memory.seen }
+        ensures legal { IsKeptLog self.now.sizes.pages to.new.view.memory.seen }
+    {
+        self.latches.meet(to, from);
+    }
+
+    /// Closes the space, where nobody is connected: its log's words are those of one kept log, its pages
+    /// are the memory after all of it, each session that has ended had seen a front of it, and its own
+    /// entries are exactly those of its number. Refused for want of memory alone.
+    pub fn close(self, alloc: Global) -> Result<Closed, IndexRefused<S>>
+        requires none { length self.ended ≡ self.drawn }
+        ensures ok { IfOk result (λ c. (c.sizes ≡ self.sizes) × (c.drawn ≡ self.drawn)
+            × IsClosed IsKeptLog opening self.sizes c.words self.ended) }
+        ensures err { IfErr result (λ e. e.index ≡ self) }
+    {
+        let Index { latches } = self;
+        match latches.close(alloc) {
+            Ok(closed) => Ok(closed),
+            Err(refused) => {
+                let LatchesRefused { latches } = refused;
+                Err(IndexRefused {
+                    index: Index { latches },
+                })
+            }
+        }
+    }
+
+    /// Gives the index up, with its log and its pages: for who cannot close it.
+    pub fn discard(self) {
+        let Index { latches } = self;
+        latches.discard();
+    }
+
+    /// Looks a key up without waiting: each latch is tried (`rw_lock_s_lock_nowait`). Where one is refused,
+    /// the log's end is looked at and then all latches are given up; `Busy` and `Raced` tell the latch that
+    /// was not had, the index or a page of the key's way, and the words of the last looks, both of this
+    /// call. The session holds nothing before and after.
+    pub fn get_nowait(&self, pass: &mut Pass, key: Key) -> Result<Record, NowaitFault>
+        requires own { IsOf self.now pass.old }
+        requires idle { pass.old.view.session ≡ idle }
+        requires scratch { IsTrue pass.old.has_scratch }
+        requires room { total pass.old.view.grants + 16384 ≤ 2 ^ 52 }
+        ensures own { IsOf self.now pass.new }
+        ensures idle { pass.new.view.session ≡ idle }
+        ensures scratch { IsTrue pass.new.has_scratch }
+        ensures looked_up { IfOk result (λ answer. HasLookedUp self.now.sizes
+            (IsKeptLog self.now.sizes.pages) (by_place opening self.now.sizes.pages) key answer
+            pass.old pass.new) }
+        ensures hindered { IfErr result (λ fault. IsHindered self.now.sizes
+            (IsKeptLog self.now.sizes.pages) (by_place opening self.now.sizes.pages) 1 key fault
+            pass.old pass.new) }
+    {
+        nowait::get_nowait(&self.latches, pass, key)
+    }
+}
+
+impl Index<Parkers> {
+    /// Looks a key up (`row_search_mvcc` by a key of the clustered index, without versions): `Found` with
+    /// its value or `NotFound`, at the place of the log after all that is seen then. Latches are taken in S
+    /// alone and waited for: the index, and each page of the key's way, from two to nine. The session holds
+    /// nothing before and after.
+    pub fn get<R: Wait>(&self, rt: &R, pass: &mut Pass, key: Key) -> Record
+        requires own { IsOf self.now pass.old }
+        requires idle { pass.old.view.session ≡ idle }
+        requires scratch { IsTrue pass.old.has_scratch }
+        requires room { total pass.old.view.grants + 16384 ≤ 2 ^ 52 }
+        ensures own { IsOf self.now pass.new }
+        ensures idle { pass.new.view.session ≡ idle }
+        ensures scratch { IsTrue pass.new.has_scratch }
+        ensures looked_up { HasLookedUp self.now.sizes (IsKeptLog self.now.sizes.pages)
+            (by_place opening self.now.sizes.pages) key result pass.old pass.new }
+    {
+        lookup::get(rt, &self.latches, pass, key)
+    }
+
+    /// Puts a pair in where that changes the key's leaf alone (`btr_cur_optimistic_insert`): the leaf is
+    /// taken in X, the index and the pages above it in S. `Duplicate` where the key is there; else
+    /// `Inserted`, at the place of its entry, or `LogFull` where the log has no room, at the place after all
+    /// entries seen. None exactly where the key is not there and its leaf is full: then nothing is changed,
+    /// and the insert needs a split. The session holds nothing before and after.
+    pub fn optimistic_insert<R: Wait>(
+        &self,
+        rt: &R,
+        pass: &mut Pass,
+        key: Key,
+        value: u64,
+    ) -> Option<Record>
+        requires own { IsOf self.now pass.old }
+        requires idle { pass.old.view.session ≡ idle }
+        requires scratch { IsTrue pass.old.has_scratch }
+        requires room { total pass.old.view.grants + 16384 ≤ 2 ^ 52 }
+        ensures own { IsOf self.now pass.new }
+        ensures idle { pass.new.view.session ≡ idle }
+        ensures scratch { IsTrue pass.new.has_scratch }
+        ensures called { MatchOption result (NeedsTree self.now.sizes (IsFullFor key) key
+            pass.old pass.new) (λ answer. HasCalled self.now.sizes (IsKeptLog self.now.sizes.pages)
+            (by_place opening self.now.sizes.pages) (Insert key value) answer pass.old pass.new) }
+        ensures alone { IfSome result (λ answer. NeededLeaf self.now.sizes (IsFullFor key) key
+            answer.place pass.new) }
+        ensures grants { TakesFew self.now.sizes 2 pass.old pass.new }
+    {
+        leaf::optimistic_insert(rt, &self.latches, pass, key, value)
+    }
+
+    /// Takes a key out where that changes its leaf alone (`btr_cur_optimistic_delete`): the leaf is taken in
+    /// X, the index and the pages above it in S. `Missing` where the key is not there; else `Deleted` with
+    /// its value, at the place of its entry, or `LogFull` where the log has no room, at the place after all
+    /// entries seen. None exactly where the key is there, its leaf is not the root, and has 17 records or
+    /// fewer: then nothing is changed, and the delete may need a merge. The session holds nothing before and
+    /// after.
+    pub fn optimistic_delete<R: Wait>(&self, rt: &R, pass: &mut Pass, key: Key) -> Option<Record>
+        requires own { IsOf self.now pass.old }
+        requires idle { pass.old.view.session ≡ idle }
+        requires scratch { IsTrue pass.old.has_scratch }
+        requires room { total pass.old.view.grants + 16384 ≤ 2 ^ 52 }
+        ensures own { IsOf self.now pass.new }
+        ensures idle { pass.new.view.session ≡ idle }
+        ensures scratch { IsTrue pass.new.has_scratch }
+        ensures called { MatchOption result (NeedsTree self.now.sizes (IsShortFor key) key
+            pass.old pass.new) (λ answer. HasCalled self.now.sizes (IsKeptLog self.now.sizes.pages)
+            (by_place opening self.now.sizes.pages) (Delete key) answer pass.old pass.new) }
+        ensures alone { IfSome result (λ answer. NeededLeaf self.now.sizes (IsShortFor key) key
+            answer.place pass.new) }
+        ensures grants { TakesFew self.now.sizes 2 pass.old pass.new }
+    {
+        leaf::optimistic_delete(rt, &self.latches, pass, key)
+    }
+}

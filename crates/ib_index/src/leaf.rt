@@ -1,0 +1,251 @@
+//! The change that needs the key's leaf alone.
+
+ghost use Rattle.std.specs.Prelude.{◌≡◌, ◌⊎◌, ℕ, ◌+◌, ◌<◌, ◌≤◌, ◌^◌, List, [], Some, None, length, IsSome, IsTrue, IfOk, IfErr, IfSome, MatchOption};
+ghost use Rattle.ib_core.specs.Sessions.{idle};
+ghost use Rattle.ib_map.specs.Pairs.{value_at};
+ghost use Rattle.ib_map.specs.declared.call.Call.TheVariants.{Insert as InsertCall, Delete as DeleteCall};
+ghost use Rattle.ib_map.specs.declared.call.Change.TheVariants.{Insert, Delete};
+ghost use Rattle.ib_map.specs.declared.call.Reply.TheVariants.{LogFull as LogFullReply};
+ghost use Rattle.ib_page.specs.declared.TheConstants.{MOST_RECORDS};
+ghost use Rattle.ib_page.specs.Form.{page_of};
+ghost use Rattle.ib_page.specs.Image.{IsTreePage, clock_of, records_of};
+ghost use Rattle.ib_page.specs.Work.{WorkPage, changed_of};
+ghost use Rattle.ib_logrec.specs.Log.{by_place};
+ghost use Rattle.ib_walk.specs.Words.{state_of};
+ghost use Rattle.ib_plans.specs.declared.TheConstants.{FEWEST_RECORDS};
+ghost use Rattle.ib_tree.specs.TreeLog.{opening};
+ghost use Rattle.ib_kept.specs.Kept.{IsKeptLog};
+ghost use Rattle.ib_kept.specs.LeafChange.{with_pair, without_pair};
+ghost use Rattle.ib_rule.specs.Pass.{IsOf};
+ghost use Rattle.ib_rule.specs.Views.{total};
+ghost use Rattle.ib_mtr.specs.Commits.{MayCommit};
+ghost use Rattle.ib_mtr.specs.Mtr.{IsMtr, with_work};
+ghost use Rattle.ib_index.specs.Calls.{HasCalled};
+ghost use Rattle.ib_index.specs.Leaf.{HasCome, IsAtLeaf, IsFullFor, IsSeated, IsShortFor, NeededLeaf, NeedsTree, TakesFew, leaf_page};
+
+use ib_cursor::{Search, descend};
+use ib_frames::LogFull;
+use ib_kept::KeptLaw;
+use ib_latch::{Latches, Parkers};
+use ib_map::{Call, Change, Key, Record, Reply};
+use ib_mtr::Mtr;
+use ib_page::{Image, MOST_RECORDS};
+use ib_plans::FEWEST_RECORDS;
+use ib_rule::Pass;
+use std::sync::Wait;
+
+// A mini-transaction on the pages of kept logs.
+type Work<'a> = Mtr<'a, KeptLaw, Parkers>;
+
+// The page of the first tree's root.
+const ROOT: u32 = 1;
+
+// What a leaf has: the value of the key that is sought, and how many records.
+#[derive(Clone, Copy)]
+struct Looked {
+    value: Option<u64>,
+    count: usize,
+}
+
+// Comes to the key's leaf: it is held in X, and loaded.
+fn come_to_leaf<R: Wait>(rt: &R, mtr: &mut Work<'_>, key: Key) -> u32
+    requires mtr { IsMtr mtr.old.latches.now mtr.old.pass.now }
+    requires memo { mtr.old.pass.now.memo ≡ [] }
+    requires none { mtr.old.pass.now.work ≡ [] }
+    requires room { total mtr.old.pass.now.view.grants + 16384 ≤ 2 ^ 52 }
+    ensures mtr { IsMtr mtr.new.latches.now mtr.new.pass.now }
+    ensures latches { mtr.new.latches ≡ mtr.old.latches }
+    ensures pass { mtr.new.pass.ghost_name ≡ mtr.old.pass.ghost_name }
+    ensures come { HasCome mtr.old.latches.now.sizes key result mtr.old.pass.now mtr.new.pass.now }
+{
+    let path = descend(rt, mtr, Search::ModifyLeaf, key);
+    // The session's number, and that what it has seen and made fits the log.
+    let geometry = mtr.geometry();
+    let _ = (geometry.pages(), geometry.log_words());
+    let pass = mtr.pass();
+    let _ = (pass.number(), pass.made(), pass.used());
+    path.last().unwrap()
+}
+
+// What the leaf that is loaded has.
+fn look_in(mtr: &Work<'_>, leaf: u32, key: Key) -> Looked
+    requires mtr { IsMtr mtr.now.latches.now mtr.now.pass.now }
+    requires at { IsAtLeaf mtr.now.latches.now.sizes key leaf mtr.now.pass.now }
+    requires seated { IsSeated mtr.now.latches.now.sizes mtr.now.pass.now }
+    ensures value { result.value
+        ≡ value_at key (leaf_page mtr.now.latches.now.sizes key mtr.now.pass.now).records }
+    ensures count { result.count
+        ≡ length (leaf_page mtr.now.latches.now.sizes key mtr.now.pass.now).records }
+    ensures few { result.count ≤ MOST_RECORDS }
+{
+    let image = mtr.image(leaf).unwrap();
+    Looked {
+        value: image.get(key),
+        count: image.len(),
+    }
+}
+
+// Puts a pair into a leaf that has room for it.
+fn put_pair(image: &mut Image, key: Key, value: u64)
+    requires tree { IsTreePage image.old }
+    requires missing { value_at key (records_of image.old) ≡ None }
+    requires room { length (records_of image.old) < MOST_RECORDS }
+    requires clock { clock_of image.old < 2 ^ 63 }
+    ensures { state_of (page_of image.new) ≡ with_pair key value (state_of (page_of image.old)) }
+{
+    let _ = image.insert(key, value);
+    image.touch();
+}
+
+// Takes the pair of a key out of its leaf.
+fn take_pair(image: &mut Image, key: Key)
+    requires tree { IsTreePage image.old }
+    requires there { IsSome (value_at key (records_of image.old)) }
+    requires clock { clock_of image.old < 2 ^ 63 }
+    ensures { state_of (page_of image.new) ≡ without_pair key (state_of (page_of image.old)) }
+{
+    let _ = image.remove(key);
+    image.touch();
+}
+
+// Puts the pair into the leaf that is held, which has room. The change may be committed then.
+fn put_in(mtr: &mut Work<'_>, leaf: u32, key: Key, value: u64)
+    requires mtr { IsMtr mtr.old.latches.now mtr.old.pass.now }
+    requires at { IsAtLeaf mtr.old.latches.now.sizes key leaf mtr.old.pass.now }
+    requires seated { IsSeated mtr.old.latches.now.sizes mtr.old.pass.now }
+    requires grows { total mtr.old.pass.now.view.grants < 2 ^ 52 }
+    requires missing { value_at key (leaf_page mtr.old.latches.now.sizes key mtr.old.pass.now).records ≡ None }
+    requires room { length (leaf_page mtr.old.latches.now.sizes key mtr.old.pass.now).records < MOST_RECORDS }
+    ensures mtr { IsMtr mtr.new.latches.now mtr.new.pass.now }
+    ensures latches { mtr.new.latches ≡ mtr.old.latches }
+    ensures pass { mtr.new.pass.ghost_name ≡ mtr.old.pass.ghost_name }
+    ensures put { (work : List WorkPage) × (mtr.new.pass.now ≡ with_work work mtr.old.pass.now)
+        × MayCommit (IsKeptLog mtr.old.latches.now.sizes.pages) mtr.new.pass.now (Insert key value) }
+{
+    put_pair(mtr.edit(leaf), key, value);
+}
+
+// Takes the pair of the key out of the leaf that is held, which is the root or keeps enough. The change may be
+// committed then.
+fn take_out(mtr: &mut Work<'_>, leaf: u32, key: Key)
+    requires mtr { IsMtr mtr.old.latches.now mtr.old.pass.now }
+    requires at { IsAtLeaf mtr.old.latches.now.sizes key leaf mtr.old.pass.now }
+    requires seated { IsSeated mtr.old.latches.now.sizes mtr.old.pass.now }
+    requires grows { total mtr.old.pass.now.view.grants < 2 ^ 52 }
+    requires there { IsSome (value_at key (leaf_page mtr.old.latches.now.sizes key mtr.old.pass.now).records) }
+    requires enough { (leaf ≡ 1) ⊎ (FEWEST_RECORDS < length (leaf_page mtr.old.latches.now.sizes key mtr.old.pass.now).records) }
+    ensures mtr { IsMtr mtr.new.latches.now mtr.new.pass.now }
+    ensures latches { mtr.new.latches ≡ mtr.old.latches }
+    ensures pass { mtr.new.pass.ghost_name ≡ mtr.old.pass.ghost_name }
+    ensures taken { (work : List WorkPage) × (mtr.new.pass.now ≡ with_work work mtr.old.pass.now)
+        × MayCommit (IsKeptLog mtr.old.latches.now.sizes.pages) mtr.new.pass.now (Delete key) }
+{
+    take_pair(mtr.edit(leaf), key);
+}
+
+// The answer to a change that was committed, or found the log full, all of whose entries were seen then.
+fn changed(call: Call, made: Reply, committed: Result<u32, LogFull>, seen: u32) -> Record
+    ensures made { IfOk committed (λ place. result
+        ≡ record { call = call; reply = made; place = place }) }
+    ensures full { IfErr committed (λ full. result
+        ≡ record { call = call; reply = LogFullReply full.used full.cap; place = seen }) }
+{
+    match committed {
+        Ok(place) => Record {
+            call,
+            reply: made,
+            place,
+        },
+        Err(full) => Record {
+            call,
+            reply: Reply::LogFull {
+                used: full.used,
+                cap: full.cap,
+            },
+            place: seen,
+        },
+    }
+}
+
+// The insert that changes the key's leaf alone, or none where it needs more.
+pub(crate) fn optimistic_insert<R: Wait>(
+    rt: &R,
+    latches: &Latches<KeptLaw, Parkers>,
+    pass: &mut Pass,
+    key: Key,
+    value: u64,
+) -> Option<Record>
+    requires own { IsOf latches.now pass.old }
+    requires idle { pass.old.view.session ≡ idle }
+    requires scratch { IsTrue pass.old.has_scratch }
+    requires room { total pass.old.view.grants + 16384 ≤ 2 ^ 52 }
+    ensures own { IsOf latches.now pass.new }
+    ensures idle { pass.new.view.session ≡ idle }
+    ensures scratch { IsTrue pass.new.has_scratch }
+    ensures called { MatchOption result (NeedsTree latches.now.sizes (IsFullFor key) key pass.old pass.new)
+        (λ answer. HasCalled latches.now.sizes (IsKeptLog latches.now.sizes.pages)
+        (by_place opening latches.now.sizes.pages) (InsertCall key value) answer pass.old pass.new) }
+    ensures alone { IfSome result (λ answer. NeededLeaf latches.now.sizes (IsFullFor key) key answer.place pass.new) }
+    ensures grants { TakesFew latches.now.sizes 2 pass.old pass.new }
+{
+    let call = Call::Insert { key, value };
+    let mut mtr = Mtr::start(latches, pass);
+    let leaf = come_to_leaf(rt, &mut mtr, key);
+    let looked = look_in(&mtr, leaf, key);
+    if looked.value.is_some() {
+        let place = mtr.commit_read();
+        return Some(Record {
+            call,
+            reply: Reply::Duplicate,
+            place,
+        });
+    }
+    if looked.count == MOST_RECORDS {
+        let _ = mtr.commit_read();
+        return None;
+    }
+    put_in(&mut mtr, leaf, key, value);
+    let committed = mtr.commit(rt, Change::Insert { key, value });
+    Some(changed(call, Reply::Inserted, committed, pass.place()))
+}
+
+// The delete that changes the key's leaf alone, or none where it needs more.
+pub(crate) fn optimistic_delete<R: Wait>(
+    rt: &R,
+    latches: &Latches<KeptLaw, Parkers>,
+    pass: &mut Pass,
+    key: Key,
+) -> Option<Record>
+    requires own { IsOf latches.now pass.old }
+    requires idle { pass.old.view.session ≡ idle }
+    requires scratch { IsTrue pass.old.has_scratch }
+    requires room { total pass.old.view.grants + 16384 ≤ 2 ^ 52 }
+    ensures own { IsOf latches.now pass.new }
+    ensures idle { pass.new.view.session ≡ idle }
+    ensures scratch { IsTrue pass.new.has_scratch }
+    ensures called { MatchOption result (NeedsTree latches.now.sizes (IsShortFor key) key pass.old pass.new)
+        (λ answer. HasCalled latches.now.sizes (IsKeptLog latches.now.sizes.pages)
+        (by_place opening latches.now.sizes.pages) (DeleteCall key) answer pass.old pass.new) }
+    ensures alone { IfSome result (λ answer. NeededLeaf latches.now.sizes (IsShortFor key) key answer.place pass.new) }
+    ensures grants { TakesFew latches.now.sizes 2 pass.old pass.new }
+{
+    let call = Call::Delete { key };
+    let mut mtr = Mtr::start(latches, pass);
+    let leaf = come_to_leaf(rt, &mut mtr, key);
+    let looked = look_in(&mtr, leaf, key);
+    let Some(value) = looked.value else {
+        let place = mtr.commit_read();
+        return Some(Record {
+            call,
+            reply: Reply::Missing,
+            place,
+        });
+    };
+    if leaf != ROOT && looked.count <= FEWEST_RECORDS {
+        let _ = mtr.commit_read();
+        return None;
+    }
+    take_out(&mut mtr, leaf, key);
+    let committed = mtr.commit(rt, Change::Delete { key });
+    Some(changed(call, Reply::Deleted { value }, committed, pass.place()))
+}

@@ -1,0 +1,13 @@
+//! The index: lookups and changes of one tree that sessions share.
+#![tactic(auto)]
+
+mod index;
+mod leaf;
+#[cfg(test)]
+mod leaf_tests;
+mod lookup;
+mod nowait;
+#[cfg(test)]
+mod tests;
+
+pub use index::{Index, IndexRefused};

@@ -1,0 +1,48 @@
+//! Lookups that do not wait.
+
+ghost use Rattle.std.specs.Prelude.{◌≡◌, ◌+◌, ◌≤◌, ◌^◌, IsTrue, IfOk, IfErr};
+ghost use Rattle.ib_core.specs.Sessions.{idle};
+ghost use Rattle.ib_logrec.specs.Log.{by_place};
+ghost use Rattle.ib_rule.specs.Pass.{IsOf};
+ghost use Rattle.ib_rule.specs.Views.{total};
+ghost use Rattle.ib_cursor.specs.Hindrance.{IsHindered};
+ghost use Rattle.ib_index.specs.Lookups.{HasLookedUp};
+
+use crate::lookup::look_up;
+use ib_cursor::{NowaitFault, descend_nowait};
+use ib_latch::{Latches, Sleep};
+use ib_map::{Key, Record};
+use ib_mtr::Mtr;
+use ib_rule::Pass;
+use ib_tree::Trees;
+
+// Looks a key up, or tells the latch that was not had.
+pub(crate) fn get_nowait<L: Trees, S: Sleep>(
+    latches: &Latches<L, S>,
+    pass: &mut Pass,
+    key: Key,
+) -> Result<Record, NowaitFault>
+    requires own { IsOf latches.now pass.old }
+    requires idle { pass.old.view.session ≡ idle }
+    requires scratch { IsTrue pass.old.has_scratch }
+    requires room { total pass.old.view.grants + 16384 ≤ 2 ^ 52 }
+    requires root { 1 ≤ L.ROOTS }
+    ensures own { IsOf latches.now pass.new }
+    ensures idle { pass.new.view.session ≡ idle }
+    ensures scratch { IsTrue pass.new.has_scratch }
+    ensures looked_up { IfOk result (λ answer. HasLookedUp latches.now.sizes
+        (L.lawful latches.now.sizes.pages) (by_place L.opening latches.now.sizes.pages) key answer
+        pass.old pass.new) }
+    ensures hindered { IfErr result (λ fault. IsHindered latches.now.sizes
+        (L.lawful latches.now.sizes.pages) (by_place L.opening latches.now.sizes.pages) 1 key fault
+        pass.old pass.new) }
+{
+    let mut mtr = Mtr::start(latches, pass);
+    match descend_nowait(&mut mtr, key) {
+        Ok(path) => Ok(look_up(mtr, &path, key)),
+        Err(fault) => {
+            mtr.finish();
+            Err(fault)
+        }
+    }
+}

@@ -1,0 +1,113 @@
+//! One session: what it is answered at which place.
+
+ghost use Rattle.std.specs.Prelude.{◌≡◌, true};
+ghost use Rattle.ib_core.specs.Sessions.{idle};
+ghost use Rattle.ib_rule.specs.Pass.{IsOf};
+
+use crate::space::{come, get, insert, open, scan_keys};
+use ib_index::Index;
+use ib_map::{Call, Chunk, Chunks, Record, Reply};
+use ib_rule::Pass;
+use ib_scan::More;
+use std::process::Abort;
+use std::sync::Wait;
+
+// Inserts the keys 1 to `count`, each with a value equal to it.
+fn insert_up_to<R: Abort + Wait>(rt: &R, index: &Index, pass: &mut Pass, count: u32)
+    requires own { IsOf index.now pass.old }
+    requires idle { pass.old.view.session ≡ idle }
+    requires scratch { pass.old.has_scratch ≡ true }
+    ensures own { IsOf index.now pass.new }
+    ensures idle { pass.new.view.session ≡ idle }
+    ensures scratch { pass.new.has_scratch ≡ true }
+{
+    for place in 0..count {
+        let key = place as u64 + 1;
+        assert_eq!(rt;
+            insert(rt, index, pass, key, key),
+            Some(inserted(key, key, place))
+        );
+    }
+}
+
+fn inserted(key: u64, value: u64, place: u32) -> Record {
+    Record {
+        call: Call::Insert { key, value },
+        reply: Reply::Inserted,
+        place,
+    }
+}
+
+#[test]
+fn a_scan_waits_for_room(rt: HostRuntime) {
+    let mut index = open(&rt, rt.alloc(), 16384);
+    let mut one = come(&rt, rt.alloc(), &mut index);
+    insert_up_to(&rt, &index, &mut one, 18);
+    let mut out = Chunks::with_room(rt.alloc(), 1, 4).expect(&rt, "there is memory");
+    assert_eq!(rt;
+        scan_keys(&rt, &index, &mut one, 1, 36, &mut out),
+        Err(More { next: 1 })
+    );
+    assert!(rt; out.list().is_empty());
+    assert_eq!(rt; out.room(), (1, 4));
+    out.reserve(1, 18).expect(&rt, "there is memory");
+    let whole = Record {
+        call: Call::Scan { low: 1, high: 36 },
+        reply: Reply::Scanned {
+            chunks: 1,
+            pairs: 18,
+        },
+        place: 18,
+    };
+    assert_eq!(rt;
+        scan_keys(&rt, &index, &mut one, 1, 36, &mut out),
+        Ok(whole)
+    );
+    let chunk = Chunk {
+        low: 1,
+        high: 36,
+        place: 18,
+        start: 0,
+        len: 18,
+    };
+    assert_eq!(rt; out.list(), [chunk].as_slice());
+    assert_eq!(rt; out.pairs().len(), 18);
+    assert_eq!(rt; out.pairs().first().copied(), Some((1, 1)));
+    assert_eq!(rt; out.pairs().last().copied(), Some((18, 18)));
+    assert_eq!(rt; out.room(), (0, 0));
+    index.disconnect(one);
+    index.discard();
+}
+
+#[test]
+fn a_log_has_room_for_one_entry(rt: HostRuntime) {
+    let mut index = open(&rt, rt.alloc(), 8196);
+    let mut one = come(&rt, rt.alloc(), &mut index);
+    assert_eq!(rt;
+        insert(&rt, &index, &mut one, 10, 100),
+        Some(inserted(10, 100, 0))
+    );
+    let full = Record {
+        call: Call::Insert { key: 11, value: 1 },
+        reply: Reply::LogFull {
+            used: 12,
+            cap: 8196,
+        },
+        place: 1,
+    };
+    assert_eq!(rt; insert(&rt, &index, &mut one, 11, 1), Some(full));
+    let there = Record {
+        call: Call::Insert { key: 10, value: 3 },
+        reply: Reply::Duplicate,
+        place: 1,
+    };
+    assert_eq!(rt; insert(&rt, &index, &mut one, 10, 3), Some(there));
+    let found = Record {
+        call: Call::Get { key: 10 },
+        reply: Reply::Found { value: 100 },
+        place: 1,
+    };
+    assert_eq!(rt; get(&rt, &index, &mut one, 10), found);
+    index.disconnect(one);
+    index.discard();
+}

@@ -1,0 +1,102 @@
+//! An index to test, and what its sessions may ask for.
+
+ghost use Rattle.std.specs.Prelude.{◌≡◌, ◌+◌, ◌*◌, ◌≤◌, ◌^◌, true};
+ghost use Rattle.ib_core.specs.Sessions.{idle};
+ghost use Rattle.ib_rule.specs.Pass.{IsOf};
+ghost use Rattle.ib_rule.specs.Views.{total};
+
+use ib_index::Index;
+use ib_layout::Geometry;
+use ib_map::{Chunks, Record};
+use ib_rule::Pass;
+use ib_scan::{More, scan};
+use std::alloc::Global;
+use std::process::Abort;
+use std::sync::Wait;
+
+// An index on 16 pages, with a log of so many words.
+pub(crate) fn open(rt: &impl Abort, alloc: Global, log_words: u32) -> Index {
+    let sizes = Geometry::new(16, log_words).expect(rt, "there are such sizes");
+    Index::open(alloc, sizes).expect(rt, "there is memory")
+}
+
+pub(crate) fn come(rt: &impl Abort, alloc: Global, index: &mut Index) -> Pass
+    ensures own { IsOf index.new result }
+    ensures idle { result.view.session ≡ idle }
+    ensures scratch { result.has_scratch ≡ true }
+    ensures table { index.new.table ≡ index.old.table }
+    ensures sizes { index.new.sizes ≡ index.old.sizes }
+{
+    index.connect(alloc).expect(rt, "a session")
+}
+
+// It may make a call: it has taken few grants.
+pub(crate) fn may_call(rt: &impl Abort, pass: &Pass)
+    ensures { total pass.now.view.grants + 16384 ≤ 2 ^ 52 }
+{
+    let taken = pass.grants();
+    assert!(rt; taken.s < 1 << 40);
+    assert!(rt; taken.sx < 1 << 40);
+    assert!(rt; taken.x < 1 << 40);
+}
+
+// It may scan, with this room for chunks.
+fn may_scan(rt: &impl Abort, pass: &Pass, out: &Chunks)
+    ensures { total pass.now.view.grants + 8192 * out.now.chunk_room + 8192 ≤ 2 ^ 52 }
+{
+    may_call(rt, pass);
+    let taken = pass.grants();
+    assert!(rt; taken.s < 1 << 40);
+    assert!(rt; taken.sx < 1 << 40);
+    assert!(rt; taken.x < 1 << 40);
+    assert!(rt; out.room().0 < 1 << 20);
+}
+
+pub(crate) fn insert<R: Abort + Wait>(
+    rt: &R,
+    index: &Index,
+    pass: &mut Pass,
+    key: u64,
+    value: u64,
+) -> Option<Record>
+    requires own { IsOf index.now pass.old }
+    requires idle { pass.old.view.session ≡ idle }
+    requires scratch { pass.old.has_scratch ≡ true }
+    ensures own { IsOf index.now pass.new }
+    ensures idle { pass.new.view.session ≡ idle }
+    ensures scratch { pass.new.has_scratch ≡ true }
+{
+    may_call(rt, pass);
+    index.optimistic_insert(rt, pass, key, value)
+}
+
+pub(crate) fn get<R: Abort + Wait>(rt: &R, index: &Index, pass: &mut Pass, key: u64) -> Record
+    requires own { IsOf index.now pass.old }
+    requires idle { pass.old.view.session ≡ idle }
+    requires scratch { pass.old.has_scratch ≡ true }
+    ensures own { IsOf index.now pass.new }
+    ensures idle { pass.new.view.session ≡ idle }
+    ensures scratch { pass.new.has_scratch ≡ true }
+{
+    may_call(rt, pass);
+    index.get(rt, pass, key)
+}
+
+pub(crate) fn scan_keys<R: Abort + Wait>(
+    rt: &R,
+    index: &Index,
+    pass: &mut Pass,
+    low: u64,
+    high: u64,
+    out: &mut Chunks,
+) -> Result<Record, More>
+    requires own { IsOf index.now pass.old }
+    requires idle { pass.old.view.session ≡ idle }
+    requires scratch { pass.old.has_scratch ≡ true }
+    ensures own { IsOf index.now pass.new }
+    ensures idle { pass.new.view.session ≡ idle }
+    ensures scratch { pass.new.has_scratch ≡ true }
+{
+    may_scan(rt, pass, out);
+    scan(rt, index.latches(), pass, low, high, out)
+}
