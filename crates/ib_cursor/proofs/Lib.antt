@@ -7,3 +7,11 @@ pub mod StepLaws
 pub mod DownLaws
 pub mod HinderLaws
 pub mod NextLaws
+pub mod LoneLaws
+pub mod ShapeLaws
+pub mod ClaimLaws
+pub mod PeekLaws
+pub mod ReadLaws
+pub mod TakeLaws
+pub mod OnceLaws
+pub mod EndLaws

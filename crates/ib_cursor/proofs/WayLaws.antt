@@ -19,7 +19,7 @@ use Rattle.ib_tree.specs.Logs.{HasRange}
 use Rattle.ib_tree.proofs.PatchLaws.{is_visit-own, is_visit-same, IsGoodAt-tree}
 use Rattle.ib_cursor.specs.Way.{IsOnWay}
 
-above-sum : (depth level : ℕ) → above depth level ≡ depth + level
+pub above-sum : (depth level : ℕ) → above depth level ≡ depth + level
 above-sum zero level = omega arith
 above-sum (suc depth) level = let r = above-sum depth level in omega arith
 
@@ -47,7 +47,7 @@ weight-below : (f : ℕ → Visit → ℕ) (m : PageMemory) (depth level : ℕ) 
 weight-below f m zero level vs = omega arith
 weight-below f m (suc depth) level vs = let r = weight-below f m depth level (children m vs) in omega arith
 
-weight-top : (f : ℕ → Visit → ℕ) (m : PageMemory) (height : ℕ) (vs : List Visit) → sum_of (f height) vs ≤ weight f m height vs
+pub weight-top : (f : ℕ → Visit → ℕ) (m : PageMemory) (height : ℕ) (vs : List Visit) → sum_of (f height) vs ≤ weight f m height vs
 weight-top f m zero vs = omega arith
 weight-top f m (suc height) vs = omega arith
 

@@ -8,3 +8,6 @@ pub mod Descent
 pub mod Hindrance
 pub mod Nexts
 pub mod Spaces
+pub mod Claims
+pub mod Shapes
+pub mod Takings

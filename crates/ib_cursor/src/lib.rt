@@ -2,6 +2,7 @@
 //! from a leaf to the next (btr0cur, btr0pcur; the order of latches is that of WL#6326).
 #![tactic(auto)]
 
+mod claim;
 mod descent;
 mod fault;
 mod held_page;
@@ -12,6 +13,7 @@ mod stands;
 #[cfg(test)]
 mod tests;
 
+pub use claim::descend_to_insert;
 pub use descent::{descend, descend_at};
 pub use fault::NowaitFault;
 pub use next::next_leaf;

@@ -1,6 +1,6 @@
 //! The descent in a new tree, whose root is its one leaf.
 
-ghost use Rattle.std.specs.Prelude.{◌≡◌, true};
+ghost use Rattle.std.specs.Prelude.{◌≡◌, true, []};
 ghost use Rattle.ib_core.specs.Sessions.{idle};
 ghost use Rattle.ib_rule.specs.Pass.{IsOf};
 ghost use Rattle.ib_rule.specs.Views.{no_grants};
@@ -25,6 +25,7 @@ fn come<S: Sleep>(rt: &impl Abort, alloc: Global, table: &mut Latches<TreeLaw, S
     ensures idle { result.view.session ≡ idle }
     ensures grants { result.view.grants ≡ no_grants }
     ensures scratch { result.has_scratch ≡ true }
+    ensures since { result.view.memory.since ≡ [] }
     ensures table { table.new.table ≡ table.old.table }
     ensures sizes { table.new.sizes ≡ table.old.sizes }
 {
@@ -55,6 +56,20 @@ fn who_changes_the_root_owns_it(rt: HostRuntime) {
     assert_eq!(rt; mtr.commit_read(), 0);
     let grants = one.grants();
     assert_eq!(rt; (grants.s, grants.sx, grants.x), (2, 0, 1));
+    table.disconnect(one);
+    table.discard();
+}
+
+#[test]
+fn who_may_split_the_root_claims_the_index(rt: HostRuntime) {
+    let mut table: Latches<TreeLaw> = smallest(&rt, rt.alloc());
+    let mut one = come(&rt, rt.alloc(), &mut table);
+    let mut mtr = Mtr::start(&table, &mut one);
+    let path = descend_to_insert(&rt, &mut mtr, 1, 5);
+    assert_eq!(rt; path.pages(), [1].as_slice());
+    assert_eq!(rt; mtr.commit_read(), 0);
+    let grants = one.grants();
+    assert_eq!(rt; (grants.s, grants.sx, grants.x), (1, 1, 1));
     table.disconnect(one);
     table.discard();
 }

@@ -1,0 +1,266 @@
+-- What is held at the end of a search for a change of the tree's structure.
+use Rattle.std.specs.List.{All, AllByRecursion}
+use Rattle.std.specs.Prelude.{◌==◌, ◌||◌, ◌&&◌, ◌↔◌, IsSome}
+use Rattle.std.proofs.Common.{◌≡◌, ◌≢◌, ◌⊎◌, inl, inr, ℕ, zero, suc, ◌<◌, ◌≤◌, Bool, true, false, cond, List, [], ◌∷◌, ◌++◌, Some, length, refl, sym, ap, subst, ◌∙◌, arith, ne_eqb, eq-eqb, length-append}
+use Rattle.std.proofs.lemmas.Bool.{cases_eq}
+use Rattle.ib_rule.proofs.Lists.{or_says, and_says}
+use Rattle.ib_map.specs.Keys.{MapKey, rank, end_rank}
+use Rattle.ib_layout.specs.Geometry.{Sizes}
+use Rattle.ib_logrec.specs.declared.entry.Entry.{Entry}
+use Rattle.ib_logrec.specs.Law.{PageRange}
+use Rattle.ib_logrec.specs.Log.{memory_after}
+use Rattle.ib_page.specs.Work.{WorkPage, changed_of}
+use Rattle.ib_rule.specs.declared.memory.Since.{Since}
+use Rattle.ib_rule.specs.Pass.{PassState}
+use Rattle.ib_rule.specs.Views.{is_watched, with_grant}
+use Rattle.ib_walk.specs.Pages.{PageMemory}
+use Rattle.ib_walk.specs.Walk.{Visit, is_page, is_visit}
+use Rattle.ib_walk.specs.Search.{child_for}
+use Rattle.ib_walk.specs.Trees.{height_of, weight_of, IsTreeOf}
+use Rattle.ib_walk.specs.Words.{bits_of}
+use Rattle.ib_walk.proofs.TreeLaws.{weight_of-le}
+use Rattle.ib_plans.specs.Agreement.{way_down, way_of}
+use Rattle.ib_tree.specs.Logs.{HasRange, pages_after}
+use Rattle.ib_tree.specs.PageLists.{is_among, AreOnce}
+use Rattle.ib_cursor.specs.Way.{IsOnWay}
+use Rattle.std.proofs.lemmas.List.Elements.{All-nil, All-cons, All-head, All-tail}
+use Rattle.ib_levels.specs.declared.level.Mode.TheVariants.{Sx}
+use Rattle.ib_rule.specs.declared.looks.Grants.{Grants}
+use Rattle.ib_cursor.specs.Grants.{HasGrants}
+use Rattle.ib_cursor.specs.Claims.{beside, claim_grant, IsAsRead, HasClaimed, IsWayWithLeaves}
+use Rattle.ib_cursor.specs.Going.{IsKnown, HasStood}
+use Rattle.ib_cursor.specs.Shapes.{ShapeLaws, KeepsClaim, is_claimed, HasIndex, HasReadWay}
+use Rattle.ib_cursor.specs.Takings.{is_loaded, IsHeldPage, WillTake, HasTakenMore, MayTakeLeaves}
+use Rattle.ib_cursor.proofs.WayLaws.{met_on-way, page_on-way, child_on-way, root_on-way}
+use Rattle.ib_cursor.proofs.NextLaws.{leaf-met}
+use Rattle.ib_cursor.proofs.LogLaws.{tree_of-log, bit_inside, way_image}
+use Rattle.ib_cursor.proofs.ShapeLaws.{HasLinks, single_links}
+use Rattle.ib_cursor.proofs.StandLaws.{went_both, looked_first}
+use Rattle.ib_cursor.proofs.GrantLaws.{grants_more}
+use Rattle.ib_cursor.proofs.ClaimLaws.{keeps_both}
+use Rattle.ib_cursor.proofs.PeekLaws.{keeps_way}
+use Rattle.ib_cursor.proofs.ReadLaws.{keeps_path}
+use Rattle.ib_cursor.proofs.TakeLaws.{will_rest, beside_few}
+use Rattle.ib_cursor.proofs.OnceLaws.{AreBeside, are_beside}
+
+-- a claimed index is watched
+pub claimed_watched : (ss : List Since) → is_claimed ss ≡ true → is_watched 1 ss ≡ true
+claimed_watched [] is = cc
+claimed_watched (s ∷ ss) is = elim (or_says (s.claims && (s.latch == 1)) (is_claimed ss) is) [
+  | inl here ↦ ap (λ t. t || is_watched 1 ss) (and_says s.claims (s.latch == 1) here).1
+  | inr there ↦ either (s.latch == 1) (claimed_watched ss there)
+]
+  where
+    either : (t : Bool) → is_watched 1 ss ≡ true → (t || is_watched 1 ss) ≡ true
+    either true e = refl
+    either false e = e
+
+-- a page is loaded exactly where its image is there
+pub loaded_some : (page : ℕ) (ws : List WorkPage) → IsSome (changed_of page ws) ↔ (is_loaded page ws ≡ true)
+loaded_some page [] = ((λ s. s), (λ e. e))
+loaded_some page (w ∷ ws) = by_test (w.page == page) (loaded_some page ws)
+  where
+    by_test : (t : Bool) → IsSome (changed_of page ws) ↔ (is_loaded page ws ≡ true) → IsSome (cond t (Some w.changed) (changed_of page ws)) ↔ ((t || is_loaded page ws) ≡ true)
+    by_test true r = ((λ s. refl), (λ e. refl))
+    by_test false r = r
+
+-- pages on lower levels are not this one
+none-lower : (m : PageMemory) (level page : ℕ) (ps : List ℕ) → (m page).level ≡ suc level → AllByRecursion (λ n. (m n).level ≤ level) ps → is_among ps page ≡ false
+none-lower m level page [] at low = refl
+none-lower m level page (p ∷ ps) at low =
+    let differ : (p == page) ≡ false = ne_eqb p page (λ e. let z = ap (λ n. (m n).level) e in let l = low.0 in omega arith) in
+    ap (λ t. t || is_among ps page) differ ∙ none-lower m level page ps at low.1
+
+wider : (m : PageMemory) (a b : ℕ) (ps : List ℕ) → a ≤ b → AllByRecursion (λ n. (m n).level ≤ a) ps → AllByRecursion (λ n. (m n).level ≤ b) ps
+wider m a b [] le low = tt
+wider m a b (p ∷ ps) le low = (let l = low.0 in omega arith, wider m a b ps le low.1)
+
+abbrev head-of : List ℕ → ℕ
+head-of [] = 0
+head-of (x ∷ xs) = x
+
+abbrev tail-of : List ℕ → List ℕ
+tail-of [] = []
+tail-of (x ∷ xs) = xs
+
+one-or_more : (m : PageMemory) (key : MapKey) (level page : ℕ) → 1 ≤ length (way_down m key level page)
+one-or_more m key zero page = omega arith
+one-or_more m key (suc level) page = omega arith
+
+all-read : (P Q : WorkPage → Type 0) (ws : List WorkPage) → ((w : WorkPage) → P w → Q w) → All P ws → All Q ws
+all-read P Q [] f a = All-nil Q
+all-read P Q (w ∷ ws) f a = All-cons Q w ws (f w (All-head P w ws a)) (all-read P Q ws f (All-tail P w ws a))
+
+module _ (sizes : Sizes) (roots : ℕ) (lawful : List Entry → Type 0) (opening : ℕ → ℕ) (shape : ShapeLaws sizes.pages roots lawful opening) (root : ℕ) (some : 0 < root) (le : root ≤ roots) (key : MapKey) (lt : rank key < end_rank) where
+  -- a leaf's links stay
+  pub keeps_links : (p q : PassState) → IsKnown sizes lawful q → KeepsClaim p q → (leaf : ℕ) → IsOnWay (pages_after opening p.view.memory.seen) root key leaf 0
+      → HasLinks (pages_after opening p.view.memory.seen) (pages_after opening q.view.memory.seen) leaf
+  keeps_links p q known k leaf o =
+      let m : PageMemory = pages_after opening p.view.memory.seen in
+      let legal = subst lawful k.seen known.legal in
+      let a = met_on-way m root (tree_of-log sizes.pages roots lawful opening shape.laws root some le p.view.memory.seen (shape.laws.begins p.view.memory.seen k.more legal)) key lt leaf 0 o in
+      let r : PageRange = record { root = root; low = a.visit.low; end = a.visit.high; level = 0 } in
+      let same : a.visit ≡ record { page = leaf; low = a.visit.low; high = a.visit.high } = ap (λ (n : ℕ). let w : Visit = record { page = n; low = a.visit.low; high = a.visit.high } in w) a.here in
+      let met : HasRange roots m leaf r = (some, le, subst (λ u. 0 < weight_of (is_visit 0 u) m root) same a.met) in
+      subst (λ l. HasLinks m (pages_after opening l) leaf) (sym k.seen) (single_links sizes.pages roots lawful opening shape p.view.memory.seen k.more leaf r legal k.single refl met)
+
+  module _ (log : List Entry) (legal : lawful log) where
+    abbrev m : PageMemory
+    m = pages_after opening log
+
+    tree : IsTreeOf m (height_of m root) root
+    tree = tree_of-log sizes.pages roots lawful opening shape.laws root some le log legal
+
+    level-is : (page level : ℕ) → IsOnWay m root key page level → (m page).level ≡ level
+    level-is page level o = (page_on-way m root key page level tree lt o).height
+
+    inside : (page level : ℕ) → IsOnWay m root key page level → page < sizes.pages
+    inside page level o = (way_image sizes.pages roots lawful opening shape.laws root some le key lt log page level legal o).there
+
+    inside-met : (page : ℕ) → 1 ≤ weight_of (is_page page) m root → page < sizes.pages
+    inside-met page one =
+        let all = weight_of-le (is_page page) m root roots some le in
+        let law = (shape.laws.memory log legal).law.met page in
+        bit_inside sizes.pages (memory_after opening log) page (let e : weight_of (is_page page) m root ≡ weight_of (is_page page) (pages_after opening log) root = refl in omega (arith, one, all, law))
+
+    beside-leaf : (leaf : ℕ) → IsOnWay m root key leaf 0 → AreBeside m root leaf
+    beside-leaf leaf o =
+        let a = met_on-way m root tree key lt leaf 0 o in
+        are_beside m (bits_of sizes.pages (memory_after opening log)) roots root (shape.laws.memory log legal).law some le leaf a.visit a.here (leaf-met m root a.visit a.met)
+
+    -- the pages of the leaf level
+    leaves-once : (leaf : ℕ) → IsOnWay m root key leaf 0 → AreOnce (beside (m leaf).prev ++ leaf ∷ beside (m leaf).next) sizes.pages × AllByRecursion (λ n. (m n).level ≤ 0) (beside (m leaf).prev ++ leaf ∷ beside (m leaf).next)
+    leaves-once leaf o = by_left (cases_eq (m leaf).prev 0)
+      where
+        right : AreOnce (leaf ∷ beside (m leaf).next) sizes.pages × AllByRecursion (λ n. (m n).level ≤ 0) (leaf ∷ beside (m leaf).next)
+        right = elim (cases_eq (m leaf).next 0) [
+          | inl z ↦
+              let e : beside (m leaf).next ≡ [] = ap (λ b. cond b [] ((m leaf).next ∷ [])) (eq-eqb (m leaf).next 0 z) in
+              subst (λ ps. AreOnce (leaf ∷ ps) sizes.pages × AllByRecursion (λ n. (m n).level ≤ 0) (leaf ∷ ps)) (sym e)
+              ((inside leaf 0 o, refl, tt), (let l = level-is leaf 0 o in omega arith, tt))
+          | inr ne ↦
+              let e : beside (m leaf).next ≡ (m leaf).next ∷ [] = ap (λ b. cond b [] ((m leaf).next ∷ [])) (ne_eqb (m leaf).next 0 ne) in
+              let b = (beside-leaf leaf o).right ne in
+              let differ : ((m leaf).next == leaf) ≡ false = ne_eqb (m leaf).next leaf b.1 in
+              subst (λ ps. AreOnce (leaf ∷ ps) sizes.pages × AllByRecursion (λ n. (m n).level ≤ 0) (leaf ∷ ps)) (sym e)
+              ((inside leaf 0 o, ap (λ t. t || false) differ, (inside-met (m leaf).next b.0, refl, tt)), (let l = level-is leaf 0 o in omega arith, (let l = b.2 in omega arith, tt)))
+        ]
+
+        none-right : (page : ℕ) → page ≢ leaf → (m leaf).next ≢ page → is_among (leaf ∷ beside (m leaf).next) page ≡ false
+        none-right page a b = elim (cases_eq (m leaf).next 0) [
+          | inl z ↦
+              let e : beside (m leaf).next ≡ [] = ap (λ b. cond b [] ((m leaf).next ∷ [])) (eq-eqb (m leaf).next 0 z) in
+              let d : (leaf == page) ≡ false = ne_eqb leaf page (λ q. a (sym q)) in
+              ap (λ ps. is_among (leaf ∷ ps) page) e ∙ ap (λ t. t || false) d
+          | inr ne ↦
+              let e : beside (m leaf).next ≡ (m leaf).next ∷ [] = ap (λ b. cond b [] ((m leaf).next ∷ [])) (ne_eqb (m leaf).next 0 ne) in
+              let d : (leaf == page) ≡ false = ne_eqb leaf page (λ q. a (sym q)) in
+              let f : ((m leaf).next == page) ≡ false = ne_eqb (m leaf).next page b in
+              ap (λ ps. is_among (leaf ∷ ps) page) e ∙ (ap (λ t. t || (((m leaf).next == page) || false)) d ∙ ap (λ t. t || false) f)
+        ]
+
+        by_left : ((m leaf).prev ≡ 0) ⊎ ((m leaf).prev ≢ 0) → AreOnce (beside (m leaf).prev ++ leaf ∷ beside (m leaf).next) sizes.pages × AllByRecursion (λ n. (m n).level ≤ 0) (beside (m leaf).prev ++ leaf ∷ beside (m leaf).next)
+        by_left (inl z) =
+            let e : beside (m leaf).prev ≡ [] = ap (λ b. cond b [] ((m leaf).prev ∷ [])) (eq-eqb (m leaf).prev 0 z) in
+            subst (λ ps. AreOnce (ps ++ leaf ∷ beside (m leaf).next) sizes.pages × AllByRecursion (λ n. (m n).level ≤ 0) (ps ++ leaf ∷ beside (m leaf).next)) (sym e) right
+        by_left (inr ne) =
+            let e : beside (m leaf).prev ≡ (m leaf).prev ∷ [] = ap (λ b. cond b [] ((m leaf).prev ∷ [])) (ne_eqb (m leaf).prev 0 ne) in
+            let b = (beside-leaf leaf o).left ne in
+            subst (λ ps. AreOnce (ps ++ leaf ∷ beside (m leaf).next) sizes.pages × AllByRecursion (λ n. (m n).level ≤ 0) (ps ++ leaf ∷ beside (m leaf).next)) (sym e)
+            ((inside-met (m leaf).prev b.0, none-right (m leaf).prev b.1 ((beside-leaf leaf o).apart ne), right.0), (let l = b.2 in omega arith, right.1))
+
+    -- .. behind the nodes of the way
+    nodes-once : (level page : ℕ) → IsOnWay m root key page level → (tail : List ℕ) → AreOnce tail sizes.pages → AllByRecursion (λ n. (m n).level ≤ 0) tail → (front : List ℕ) (leaf : ℕ) → way_down m key level page ≡ front ++ leaf ∷ []
+        → AreOnce (front ++ tail) sizes.pages × AllByRecursion (λ n. (m n).level ≤ level) (front ++ tail)
+    nodes-once zero page o tail once low [] leaf is = (once, low)
+    nodes-once zero page o tail once low (x ∷ xs) leaf is = absurd (let a = ap length is in let b = length-append xs (leaf ∷ []) in omega arith)
+    nodes-once (suc level) page o tail once low [] leaf is = absurd (let a = ap length is in let b = one-or_more m key level (child_for key 0 (m page).records) in omega arith)
+    nodes-once (suc level) page o tail once low (x ∷ xs) leaf is =
+        let first : page ≡ x = ap head-of is in
+        let r = nodes-once level (child_for key 0 (m page).records) (child_on-way m root key page level o) tail once low xs leaf (ap tail-of is) in
+        let at = level-is page (suc level) o in
+        subst (λ n. AreOnce (n ∷ xs ++ tail) sizes.pages × AllByRecursion (λ n. (m n).level ≤ suc level) (n ∷ xs ++ tail)) first
+        ((inside page (suc level) o, none-lower m level page (xs ++ tail) at r.1, r.0), (omega (arith, at), wider m level (suc level) (xs ++ tail) (omega arith) r.1))
+
+    -- the whole list that is to be held
+    pub all_once : (path front : List ℕ) (leaf : ℕ) → path ≡ way_of m key root → path ≡ front ++ leaf ∷ [] → IsOnWay m root key leaf 0 → AreOnce (front ++ (beside (m leaf).prev ++ leaf ∷ beside (m leaf).next)) sizes.pages
+    all_once path front leaf way ends o =
+        let l = leaves-once leaf o in
+        (nodes-once (height_of m root) root (root_on-way m root key) (beside (m leaf).prev ++ leaf ∷ beside (m leaf).next) l.0 l.1 front leaf (sym way ∙ ends)).0
+
+  -- the whole search, step by step
+  module _ (path : List ℕ) (leaf left : ℕ) (p q r s t : PassState) (idle : HasGrants [] p) (none : p.work ≡ []) (stood : HasStood sizes lawful claim_grant p q) (claimed : is_claimed q.view.memory.since ≡ true) where
+    pub start_index : HasIndex sizes lawful q
+    start_index = record { grants = grants_more [] claim_grant p q idle stood.memo stood.session; claimed = claimed; work = stood.work ∙ none; known = stood.seen.known }
+
+    module _ (way : HasReadWay sizes lawful opening root key path leaf left q r) where
+      pub will_nodes : WillTake sizes lawful opening [] (way.front ++ (beside left ++ leaf ∷ beside (pages_after opening r.view.memory.seen leaf).next)) r
+      will_nodes = record {
+        holds = record {
+          grants = way.index.grants;
+          claimed = way.index.claimed;
+          watched = tt;
+          loaded = λ page. ap (is_loaded page) way.index.work;
+          count = ap length way.index.work;
+          read = subst (All (IsHeldPage opening r)) (sym way.index.work) (All-nil (IsHeldPage opening r));
+          known = way.index.known;
+        };
+        once = subst (λ l. AreOnce (way.front ++ (beside l ++ leaf ∷ beside (pages_after opening r.view.memory.seen leaf).next)) sizes.pages) (sym way.left_of)
+            (all_once r.view.memory.seen way.index.known.legal path way.front leaf way.way way.ends way.lowest);
+        few = let a = way.short in let b = beside_few left in let c = beside_few (pages_after opening r.view.memory.seen leaf).next in
+            let d = length-append way.front (beside left ++ leaf ∷ beside (pages_after opening r.view.memory.seen leaf).next) in
+            let e = length-append (beside left) (leaf ∷ beside (pages_after opening r.view.memory.seen leaf).next) in omega arith;
+      }
+
+      module _ (nodes : HasTakenMore sizes lawful opening [] way.front r s) where
+        abbrev pub ready : MayTakeLeaves sizes lawful opening leaf left s
+        ready = record {
+          held = way.front;
+          right = (pages_after opening r.view.memory.seen leaf).next;
+          will = will_rest sizes lawful opening [] way.front (beside left ++ leaf ∷ beside (pages_after opening r.view.memory.seen leaf).next) r s will_nodes nodes;
+          names = λ u known keeps.
+              let k = keeps_both r s u nodes.keeps keeps in
+              let on = keeps_way sizes roots lawful opening shape root some le key lt r u known k leaf 0 way.lowest in (
+                (page_on-way (pages_after opening u.view.memory.seen) root key leaf 0 (tree_of-log sizes.pages roots lawful opening shape.laws root some le u.view.memory.seen known.legal) lt on).kind,
+                (keeps_links r u known k leaf way.lowest).next,
+              );
+        }
+
+        module _ (last : HasTakenMore sizes lawful opening way.front (beside left ++ leaf ∷ beside (pages_after opening r.view.memory.seen leaf).next) s t) where
+          abbrev pub all_held : List ℕ
+          all_held = way.front ++ (beside left ++ leaf ∷ beside (pages_after opening r.view.memory.seen leaf).next)
+
+          all : KeepsClaim r t
+          all = keeps_both r s t nodes.keeps last.keeps
+
+          pub has_claimed : HasClaimed sizes lawful opening root key path all_held p t
+          has_claimed =
+              let g1 : q.view.grants ≡ with_grant (Some Sx) p.view.grants = stood.grants in
+              let s1 = ap (λ (g : Grants). g.s) g1 in let sx1 = ap (λ (g : Grants). g.sx) g1 in let x1 = ap (λ (g : Grants). g.x) g1 in
+              let s2 = way.s in let sx2 = way.sx in let x2 = way.x in let s3 = nodes.s in let sx3 = nodes.sx in let x3 = nodes.x in let s4 = last.s in let sx4 = last.sx in let x4 = last.x in
+              let long = length-append way.front (beside left ++ leaf ∷ beside (pages_after opening r.view.memory.seen leaf).next) in
+              let later = went_both q r t way.went (went_both r s t nodes.went last.went) in
+              record {
+                way = way.way ∙ sym (keeps_path sizes roots lawful opening shape root some le key lt r t last.holds.known all);
+                grants = last.holds.grants;
+                claimed = claimed_watched t.view.memory.since last.holds.claimed;
+                watched = last.holds.watched;
+                there = λ page. ((λ i. sym (last.holds.loaded page) ∙ (loaded_some page t.work).0 i), (λ e. (loaded_some page t.work).1 (last.holds.loaded page ∙ e)));
+                read = all-read (IsHeldPage opening t) (IsAsRead opening t.view.memory.seen) t.work (λ w h. h.read) last.holds.read;
+                went = went_both p q t stood.seen.went later;
+                looked = looked_first p q t stood.seen.went later stood.seen.looked;
+                known = last.holds.known;
+                s = omega arith;
+                sx = omega arith;
+                x = omega arith;
+              }
+
+          pub with_leaves : IsWayWithLeaves (pages_after opening t.view.memory.seen) path all_held
+          with_leaves =
+              let l = keeps_links r t last.holds.known all leaf way.lowest in
+              record {
+                front = way.front;
+                leaf = leaf;
+                ends = way.ends;
+                are = ap (λ (x : ℕ × ℕ). way.front ++ (beside x.0 ++ leaf ∷ beside x.1)) (λ j. ((way.left_of ∙ sym l.prev) j, sym l.next j));
+              }

@@ -1,0 +1,39 @@
+-- The index is taken in SX, and then the log's end looked at.
+use Rattle.std.proofs.Common.{◌∷◌, ◌++◌, [], ◌∙◌, subst, ap, arith}
+use Rattle.ib_levels.specs.declared.level.Level.TheVariants.{IndexTree}
+use Rattle.ib_core.specs.declared.session.Session.{Session}
+use Rattle.ib_rule.specs.declared.memory.Memory.{Memory}
+use Rattle.ib_rule.specs.Pass.{PassState}
+use Rattle.ib_rule.specs.Views.{is_watched}
+use Rattle.ib_cursor.specs.Claims.{claim_grant}
+use Rattle.ib_cursor.specs.Grants.{hold_of}
+use Rattle.ib_cursor.specs.Shapes.{HasGlanced}
+use Rattle.ib_cursor.proofs.GrantLaws.{none_granted, can_wish, may_grow}
+use Rattle.ib_cursor.proofs.StandLaws.{stood_by}
+use Rattle.ib_cursor.proofs.claim.claim_index.Goals as goal
+
+pub take-requires-clause-grows : goal.take-requires-clause-grows
+take-requires-clause-grows g c =
+    let p : PassState = c.args.mtr.now.pass.now in
+    may_grow [] p (none_granted c.args.mtr.now.latches.now p c.requires.mtr c.requires.memo) c.requires.room (omega arith)
+
+pub take-requires-clause-may : goal.take-requires-clause-may
+take-requires-clause-may g c =
+    let p : PassState = c.args.mtr.now.pass.now in
+    can_wish [] p (none_granted c.args.mtr.now.latches.now p c.requires.mtr c.requires.memo) 1 IndexTree tt tt
+
+pub returns-clause-stood : goal.returns-clause-stood
+returns-clause-stood g c =
+    let key = c.args.mtr.now.latches.now.sizes in
+    let p = c.args.mtr.now.pass.now in let q = c.take.new.mtr.pass.now in let r = c.glance.new.mtr.pass.now in
+    let same = ap (λ m. m.now.sizes) c.take.ensures.latches in
+    let glanced = subst (λ k. HasGlanced k (g.L.Law.lawful k.pages) q r) same c.glance.ensures.glanced in
+    stood_by key (g.L.Law.lawful key.pages) claim_grant p q r c.take.ensures.taken glanced.seen
+    c.glance.ensures.memo c.glance.ensures.session c.glance.ensures.grants c.glance.ensures.work
+
+pub returns-clause-claimed : goal.returns-clause-claimed
+returns-clause-claimed g c =
+    let p : PassState = c.args.mtr.now.pass.now in
+    let idle = none_granted c.args.mtr.now.latches.now p c.requires.mtr c.requires.memo in
+    let held = ap (λ (a : Session). a.held) c.take.ensures.taken.taken.session ∙ ap (λ (a : Session). a.held ++ hold_of claim_grant ∷ []) idle.session in
+    c.glance.ensures.started (ap (λ (m : Memory). is_watched 1 m.since) c.take.ensures.taken.taken.memory ∙ c.requires.unwatched) held

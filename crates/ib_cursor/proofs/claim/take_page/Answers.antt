@@ -1,0 +1,44 @@
+-- The page is taken, and then loaded.
+use Rattle.std.proofs.Common.{◌∙◌, ◌∷◌, ap, sym, subst, arith}
+use Rattle.std.proofs.lemmas.List.{length-map}
+use Rattle.ib_layout.specs.Geometry.{Sizes}
+use Rattle.ib_levels.specs.declared.latch.Latch.{Latch}
+use Rattle.ib_levels.specs.declared.level.Level.TheVariants.{TreeNode}
+use Rattle.ib_levels.specs.declared.level.Mode.TheVariants.{X}
+use Rattle.ib_core.specs.Holders.{CanWish}
+use Rattle.ib_logrec.specs.Log.{by_place}
+use Rattle.ib_page.specs.Work.{changed_of}
+use Rattle.ib_rule.specs.Pass.{PassState}
+use Rattle.ib_cursor.specs.Claims.{claim_grant}
+use Rattle.ib_cursor.specs.Descent.{HasPage}
+use Rattle.ib_cursor.specs.Grants.{HasTaken, page_grant}
+use Rattle.ib_cursor.specs.Shapes.{HasGlanced}
+use Rattle.ib_cursor.specs.Takings.{page_grants}
+use Rattle.ib_cursor.proofs.GrantLaws.{may_grow}
+use Rattle.ib_cursor.proofs.TakeLaws.{page_may, page_absent, page_taken}
+use Rattle.ib_cursor.proofs.claim.take_page.Goals as goal
+
+pub take-requires-clause-grows : goal.take-requires-clause-grows
+take-requires-clause-grows g c =
+    let h = c.requires.holds.1 in
+    may_grow (claim_grant ∷ page_grants c.requires.holds.0) c.args.mtr.now.pass.now h.holds.grants c.requires.room (let f = h.few in let l = length-map c.requires.holds.0 (λ page. page_grant page X) in omega arith)
+
+pub take-requires-clause-may : goal.take-requires-clause-may
+take-requires-clause-may g c =
+    let key : Sizes = c.args.mtr.now.latches.now.sizes in
+    subst (λ (l : Latch). CanWish l.0 TreeNode c.args.mtr.now.pass.now.view.session) (sym c.page.ensures) (page_may key (g.L.Law.lawful key.pages) (by_place g.L.Law.opening key.pages) c.requires.holds.0 c.args.page c.args.mtr.now.pass.now c.requires.holds.1)
+
+pub load_claimed-requires-clause-absent : goal.load_claimed-requires-clause-absent
+load_claimed-requires-clause-absent g c =
+    let key : Sizes = c.args.mtr.now.latches.now.sizes in
+    ap (λ (r : PassState). changed_of c.args.page r.work) c.take.ensures.taken.pass ∙ page_absent key (g.L.Law.lawful key.pages) (by_place g.L.Law.opening key.pages) c.requires.holds.0 c.args.page c.args.mtr.now.pass.now c.requires.holds.1
+
+pub returns-clause-taken : goal.returns-clause-taken
+returns-clause-taken g c = λ held can.
+    let key : Sizes = c.args.mtr.now.latches.now.sizes in
+    let p = c.args.mtr.now.pass.now in let q = c.take.new.mtr.pass.now in let r = c.load_claimed.new.mtr.pass.now in
+    let taken = subst (λ (l : Latch). HasTaken (record { latch = l.0; mode = X; level = TreeNode }) p q) c.page.ensures c.take.ensures.taken in
+    let same = ap (λ m. m.now.sizes) c.take.ensures.latches in
+    let l = c.load_claimed.ensures in
+    page_taken key (g.L.Law.lawful key.pages) (by_place g.L.Law.opening key.pages) held c.args.page p can q r c.requires.mtr.held taken (subst (λ (k : Sizes). HasGlanced k (g.L.Law.lawful k.pages) q r) same l.glanced) l.memo l.session l.grants
+    (subst (λ (k : Sizes). HasPage (by_place g.L.Law.opening k.pages) c.args.page q r) same l.loaded) l.mtr.held

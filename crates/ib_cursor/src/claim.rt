@@ -1,0 +1,434 @@
+//! The index claimed, and the way of a key read under it.
+
+ghost use Rattle.std.specs.Prelude.{◌≡◌, ℕ, ◌<◌, ◌≤◌, ◌+◌, ◌^◌, ◌∷◌, ◌++◌, [], true, false, None, List, Some, length};
+ghost use Rattle.ib_map.specs.Keys.{rank, end_rank};
+ghost use Rattle.ib_map.specs.Space.{has_pages};
+ghost use Rattle.ib_levels.specs.declared.level.Level.TheVariants.{TreeNode};
+ghost use Rattle.ib_levels.specs.declared.level.Mode.TheVariants.{S};
+ghost use Rattle.ib_core.specs.Holders.{CanWish};
+ghost use Rattle.ib_core.specs.Sessions.{holdings};
+ghost use Rattle.ib_page.specs.Image.{IsFormed, next_of, prev_of};
+ghost use Rattle.ib_page.specs.Work.{changed_of};
+ghost use Rattle.ib_page.specs.declared.TheConstants.{MOST_LEVEL};
+ghost use Rattle.ib_page.specs.declared.work.TheConstants.{MOST_WORK_PAGES};
+ghost use Rattle.ib_logrec.specs.Log.{by_place};
+ghost use Rattle.ib_rule.specs.Conditions.{MayGrow};
+ghost use Rattle.ib_rule.specs.Views.{is_watched, total};
+ghost use Rattle.ib_tree.specs.Logs.{pages_after};
+ghost use Rattle.ib_mtr.specs.Mtr.{IsMtr};
+ghost use Rattle.ib_cursor.specs.Claims.{HasClaimed, IsWayWithLeaves, beside, claim_grant};
+ghost use Rattle.ib_cursor.specs.Descent.{HasPage, IsAt};
+ghost use Rattle.ib_cursor.specs.Going.{HasSeen, HasStood, WentOn};
+ghost use Rattle.ib_cursor.specs.Grants.{hold_of, page_grant};
+ghost use Rattle.ib_cursor.specs.Shapes.{HasGlanced, HasIndex, HasPeeked, HasReadWay, IsLinkedAt, KeepsClaim, ShapeLaws, is_claimed};
+ghost use Rattle.ib_cursor.specs.Takings.{CanTakePage, HasTakenMore, HasTakenPage, MayTakeLeaves, WillTake};
+ghost use Rattle.ib_cursor.specs.Way.{IsOnWay};
+
+use crate::held_page::{child_of, level_of};
+use crate::search::Sought;
+use crate::stands::take;
+use ib_latch::{Parkers, Sleep};
+use ib_levels::{Latch, Level, Mode};
+use ib_logrec::Law;
+use ib_map::Key;
+use ib_mtr::Mtr;
+use ib_page::Path;
+use ib_tree::Trees;
+use std::sync::Wait;
+
+// The laws of trees on the space of a mini-transaction.
+fn shape_of<L: Trees, S: Sleep>(mtr: &Mtr<'_, L, S>)
+    ensures shapes { ShapeLaws mtr.now.latches.now.sizes.pages L.ROOTS
+        (L.lawful mtr.now.latches.now.sizes.pages)
+        (by_place L.opening mtr.now.latches.now.sizes.pages) }
+    ensures empty { L.lawful mtr.now.latches.now.sizes.pages [] }
+    ensures pages { has_pages mtr.now.latches.now.sizes.pages ≡ true }
+{
+    L::trees_law();
+    let _ = mtr.geometry().pages();
+}
+
+// Looks at the log's end: while the index is claimed, no entry that is first seen is structural.
+fn glance<L: Law, S: Sleep>(mtr: &mut Mtr<'_, L, S>)
+    requires mtr { IsMtr mtr.old.latches.now mtr.old.pass.now }
+    ensures mtr { IsMtr mtr.new.latches.now mtr.new.pass.now }
+    ensures latches { mtr.new.latches ≡ mtr.old.latches }
+    ensures pass { mtr.new.pass.ghost_name ≡ mtr.old.pass.ghost_name }
+    ensures glanced { HasGlanced mtr.old.latches.now.sizes
+        (L.lawful mtr.old.latches.now.sizes.pages) mtr.old.pass.now mtr.new.pass.now }
+    ensures started { is_watched 1 mtr.old.pass.now.view.memory.since ≡ false
+        → mtr.old.pass.now.view.session.held ≡ hold_of claim_grant ∷ []
+        → is_claimed mtr.new.pass.now.view.memory.since ≡ true }
+    ensures memo { mtr.new.pass.now.memo ≡ mtr.old.pass.now.memo }
+    ensures session { mtr.new.pass.now.view.session ≡ mtr.old.pass.now.view.session }
+    ensures grants { mtr.new.pass.now.view.grants ≡ mtr.old.pass.now.view.grants }
+    ensures work { mtr.new.pass.now.work ≡ mtr.old.pass.now.work }
+{
+    // The session's entries are those of its number.
+    let _ = mtr.pass().number();
+    let _ = mtr.log_end();
+}
+
+// Claims the index: takes it in SX, and looks. Nothing is held before, and of what was known of the
+// index before nothing is left.
+fn claim_index<L: Law, R: Wait>(rt: &R, mtr: &mut Mtr<'_, L, Parkers>)
+    requires mtr { IsMtr mtr.old.latches.now mtr.old.pass.now }
+    requires memo { mtr.old.pass.now.memo ≡ [] }
+    requires room { total mtr.old.pass.now.view.grants < 2 ^ 52 }
+    requires unwatched { is_watched 1 mtr.old.pass.now.view.memory.since ≡ false }
+    ensures mtr { IsMtr mtr.new.latches.now mtr.new.pass.now }
+    ensures latches { mtr.new.latches ≡ mtr.old.latches }
+    ensures pass { mtr.new.pass.ghost_name ≡ mtr.old.pass.ghost_name }
+    ensures stood { HasStood mtr.old.latches.now.sizes
+        (L.lawful mtr.old.latches.now.sizes.pages) claim_grant
+        mtr.old.pass.now mtr.new.pass.now }
+    ensures claimed { is_claimed mtr.new.pass.now.view.memory.since ≡ true }
+{
+    take(rt, mtr, Latch::INDEX, Mode::Sx, Level::IndexTree);
+    glance(mtr);
+}
+
+// Takes the latch of a page of which the session holds nothing, and looks.
+fn stand_claimed<L: Law, R: Wait>(rt: &R, mtr: &mut Mtr<'_, L, Parkers>, page: u32)
+    requires mtr { IsMtr mtr.old.latches.now mtr.old.pass.now }
+    requires page { page < mtr.old.latches.now.sizes.pages }
+    requires grows { MayGrow mtr.old.pass.now.view }
+    requires may { CanWish (page + 2) TreeNode mtr.old.pass.now.view.session }
+    ensures mtr { IsMtr mtr.new.latches.now mtr.new.pass.now }
+    ensures latches { mtr.new.latches ≡ mtr.old.latches }
+    ensures pass { mtr.new.pass.ghost_name ≡ mtr.old.pass.ghost_name }
+    ensures stood { HasStood mtr.old.latches.now.sizes
+        (L.lawful mtr.old.latches.now.sizes.pages) (page_grant page S)
+        mtr.old.pass.now mtr.new.pass.now }
+    ensures keeps { is_claimed mtr.old.pass.now.view.memory.since ≡ true
+        → KeepsClaim mtr.old.pass.now mtr.new.pass.now }
+{
+    let _ = mtr.geometry().pages();
+    take(rt, mtr, Latch::page(page), Mode::S, Level::TreeNode);
+    glance(mtr);
+}
+
+// Loads a page of which the latch is held, and looks.
+fn load_claimed<L: Law, S: Sleep>(mtr: &mut Mtr<'_, L, S>, page: u32)
+    requires mtr { IsMtr mtr.old.latches.now mtr.old.pass.now }
+    requires page { page < mtr.old.latches.now.sizes.pages }
+    requires held { 0 < holdings (page + 2) mtr.old.pass.now.view.session }
+    requires absent { changed_of page mtr.old.pass.now.work ≡ None }
+    requires few { length mtr.old.pass.now.work < MOST_WORK_PAGES }
+    ensures mtr { IsMtr mtr.new.latches.now mtr.new.pass.now }
+    ensures latches { mtr.new.latches ≡ mtr.old.latches }
+    ensures pass { mtr.new.pass.ghost_name ≡ mtr.old.pass.ghost_name }
+    ensures glanced { HasGlanced mtr.old.latches.now.sizes
+        (L.lawful mtr.old.latches.now.sizes.pages) mtr.old.pass.now mtr.new.pass.now }
+    ensures memo { mtr.new.pass.now.memo ≡ mtr.old.pass.now.memo }
+    ensures session { mtr.new.pass.now.view.session ≡ mtr.old.pass.now.view.session }
+    ensures grants { mtr.new.pass.now.view.grants ≡ mtr.old.pass.now.view.grants }
+    ensures loaded { HasPage (by_place L.opening mtr.old.latches.now.sizes.pages) page
+        mtr.old.pass.now mtr.new.pass.now }
+{
+    // The session's entries are those of its number.
+    let _ = mtr.pass().number();
+    mtr.load(page);
+}
+
+// The leaf before one that is loaded, by its link, 0 for none.
+fn left_of<L: Law, S: Sleep>(mtr: &Mtr<'_, L, S>, leaf: u32) -> u32
+    requires mtr { IsMtr mtr.now.latches.now mtr.now.pass.now }
+    requires loaded { (image : List ℕ) × (changed_of leaf mtr.now.pass.now.work ≡ Some image)
+        × IsFormed image }
+    ensures { (image : List ℕ) → changed_of leaf mtr.now.pass.now.work ≡ Some image
+        → result ≡ prev_of image }
+{
+    let image = mtr.image(leaf).unwrap();
+    image.prev()
+}
+
+// The leaf before a leaf that is held behind the claimed index, 0 for none: the leaf is loaded for it,
+// and leaves the work set again.
+fn left_link<L: Trees>(mtr: &mut Mtr<'_, L, Parkers>, sought: Sought, leaf: u32) -> u32
+    requires mtr { IsMtr mtr.old.latches.now mtr.old.pass.now }
+    requires at { IsAt mtr.old.latches.now.sizes (L.lawful mtr.old.latches.now.sizes.pages)
+        (by_place L.opening mtr.old.latches.now.sizes.pages) sought.root sought.key
+        (claim_grant ∷ []) leaf 0 S mtr.old.pass.now }
+    requires claimed { is_claimed mtr.old.pass.now.view.memory.since ≡ true }
+    requires some { 0 < sought.root }
+    requires root { sought.root ≤ L.ROOTS }
+    requires key { rank sought.key < end_rank }
+    ensures mtr { IsMtr mtr.new.latches.now mtr.new.pass.now }
+    ensures latches { mtr.new.latches ≡ mtr.old.latches }
+    ensures pass { mtr.new.pass.ghost_name ≡ mtr.old.pass.ghost_name }
+    ensures linked { IsLinkedAt mtr.old.latches.now.sizes
+        (L.lawful mtr.old.latches.now.sizes.pages)
+        (by_place L.opening mtr.old.latches.now.sizes.pages) sought.root sought.key
+        leaf 0 result mtr.old.pass.now mtr.new.pass.now }
+{
+    shape_of(mtr);
+    load_claimed(mtr, leaf);
+    let left = left_of(mtr, leaf);
+    mtr.forget(leaf);
+    left
+}
+
+// What a page that is held behind the claimed index names: a node the child of the key, a leaf the
+// leaf before it.
+fn link_here<L: Trees>(mtr: &mut Mtr<'_, L, Parkers>, sought: Sought, page: u32, level: u32) -> u32
+    requires mtr { IsMtr mtr.old.latches.now mtr.old.pass.now }
+    requires at { IsAt mtr.old.latches.now.sizes (L.lawful mtr.old.latches.now.sizes.pages)
+        (by_place L.opening mtr.old.latches.now.sizes.pages) sought.root sought.key
+        (claim_grant ∷ []) page level S mtr.old.pass.now }
+    requires claimed { is_claimed mtr.old.pass.now.view.memory.since ≡ true }
+    requires some { 0 < sought.root }
+    requires root { sought.root ≤ L.ROOTS }
+    requires key { rank sought.key < end_rank }
+    ensures mtr { IsMtr mtr.new.latches.now mtr.new.pass.now }
+    ensures latches { mtr.new.latches ≡ mtr.old.latches }
+    ensures pass { mtr.new.pass.ghost_name ≡ mtr.old.pass.ghost_name }
+    ensures linked { IsLinkedAt mtr.old.latches.now.sizes
+        (L.lawful mtr.old.latches.now.sizes.pages)
+        (by_place L.opening mtr.old.latches.now.sizes.pages) sought.root sought.key
+        page level result mtr.old.pass.now mtr.new.pass.now }
+{
+    shape_of(mtr);
+    if level == 0 {
+        return left_link(mtr, sought, page);
+    }
+    child_of(mtr, page, sought.key)
+}
+
+// What is read of a page of the way: its level, and the page that it names.
+#[derive(Clone, Copy)]
+struct Named {
+    level: u32,
+    link: u32,
+}
+
+// Looks at a page of the key's way in S behind the claimed index, and gives it up again.
+fn peek<L: Trees, R: Wait>(
+    rt: &R,
+    mtr: &mut Mtr<'_, L, Parkers>,
+    sought: Sought,
+    page: u32,
+) -> Named
+    requires mtr { IsMtr mtr.old.latches.now mtr.old.pass.now }
+    requires index { HasIndex mtr.old.latches.now.sizes
+        (L.lawful mtr.old.latches.now.sizes.pages) mtr.old.pass.now }
+    requires way { (level : ℕ) × IsOnWay (pages_after
+        (by_place L.opening mtr.old.latches.now.sizes.pages)
+        mtr.old.pass.now.view.memory.seen) sought.root sought.key page level }
+    requires room { total mtr.old.pass.now.view.grants < 2 ^ 52 }
+    requires some { 0 < sought.root }
+    requires root { sought.root ≤ L.ROOTS }
+    requires key { rank sought.key < end_rank }
+    ensures mtr { IsMtr mtr.new.latches.now mtr.new.pass.now }
+    ensures latches { mtr.new.latches ≡ mtr.old.latches }
+    ensures pass { mtr.new.pass.ghost_name ≡ mtr.old.pass.ghost_name }
+    ensures peeked { HasPeeked mtr.old.latches.now.sizes
+        (L.lawful mtr.old.latches.now.sizes.pages)
+        (by_place L.opening mtr.old.latches.now.sizes.pages) sought.root sought.key
+        page result.level result.link mtr.old.pass.now mtr.new.pass.now }
+    ensures low { result.level ≤ MOST_LEVEL }
+{
+    shape_of(mtr);
+    stand_claimed(rt, mtr, page);
+    let level = level_of(mtr, page);
+    let link = link_here(mtr, sought, page, level);
+    mtr.release_at(1);
+    Named { level, link }
+}
+
+// The way of a key, from the root to the leaf, its leaf, and the leaf before that, 0 for none.
+#[derive(Drop)]
+struct Way {
+    path: Path,
+    leaf: u32,
+    left: u32,
+}
+
+// Reads the way page by page behind the claimed index, with no page held while the next is taken: the
+// claim keeps the way.
+fn read_way<L: Trees, R: Wait>(rt: &R, mtr: &mut Mtr<'_, L, Parkers>, sought: Sought) -> Way
+    requires mtr { IsMtr mtr.old.latches.now mtr.old.pass.now }
+    requires index { HasIndex mtr.old.latches.now.sizes
+        (L.lawful mtr.old.latches.now.sizes.pages) mtr.old.pass.now }
+    requires room { total mtr.old.pass.now.view.grants + 32 ≤ 2 ^ 52 }
+    requires some { 0 < sought.root }
+    requires root { sought.root ≤ L.ROOTS }
+    requires key { rank sought.key < end_rank }
+    ensures mtr { IsMtr mtr.new.latches.now mtr.new.pass.now }
+    ensures latches { mtr.new.latches ≡ mtr.old.latches }
+    ensures pass { mtr.new.pass.ghost_name ≡ mtr.old.pass.ghost_name }
+    ensures way { HasReadWay mtr.old.latches.now.sizes
+        (L.lawful mtr.old.latches.now.sizes.pages)
+        (by_place L.opening mtr.old.latches.now.sizes.pages) sought.root sought.key
+        result.path result.leaf result.left mtr.old.pass.now mtr.new.pass.now }
+{
+    shape_of(mtr);
+    let mut path = Path::new();
+    let mut page = sought.root;
+    let first = peek(rt, mtr, sought, page);
+    let mut level = first.level;
+    let mut link = first.link;
+    while level > 0 {
+        path.push(page);
+        page = link;
+        let below = peek(rt, mtr, sought, page);
+        level = below.level;
+        link = below.link;
+    }
+    path.push(page);
+    Way {
+        path,
+        leaf: page,
+        left: link,
+    }
+}
+
+// Takes a page in X behind the claimed index and the pages that are held already, and loads it.
+fn take_page<L: Law, R: Wait>(rt: &R, mtr: &mut Mtr<'_, L, Parkers>, page: u32)
+    requires mtr { IsMtr mtr.old.latches.now mtr.old.pass.now }
+    requires page { page < mtr.old.latches.now.sizes.pages }
+    requires room { total mtr.old.pass.now.view.grants < 2 ^ 52 }
+    requires holds { (held : List ℕ) × CanTakePage mtr.old.latches.now.sizes
+        (L.lawful mtr.old.latches.now.sizes.pages)
+        (by_place L.opening mtr.old.latches.now.sizes.pages) held page mtr.old.pass.now }
+    ensures mtr { IsMtr mtr.new.latches.now mtr.new.pass.now }
+    ensures latches { mtr.new.latches ≡ mtr.old.latches }
+    ensures pass { mtr.new.pass.ghost_name ≡ mtr.old.pass.ghost_name }
+    ensures taken { (held : List ℕ) → CanTakePage mtr.old.latches.now.sizes
+        (L.lawful mtr.old.latches.now.sizes.pages)
+        (by_place L.opening mtr.old.latches.now.sizes.pages) held page mtr.old.pass.now
+        → HasTakenPage mtr.old.latches.now.sizes (L.lawful mtr.old.latches.now.sizes.pages)
+        (by_place L.opening mtr.old.latches.now.sizes.pages) held page
+        mtr.old.pass.now mtr.new.pass.now }
+{
+    let _ = mtr.geometry().pages();
+    take(rt, mtr, Latch::page(page), Mode::X, Level::TreeNode);
+    load_claimed(mtr, page);
+}
+
+// Takes the page of a link, where there is one.
+fn take_beside<L: Law, R: Wait>(rt: &R, mtr: &mut Mtr<'_, L, Parkers>, page: u32)
+    requires mtr { IsMtr mtr.old.latches.now mtr.old.pass.now }
+    requires room { total mtr.old.pass.now.view.grants < 2 ^ 52 }
+    requires ready { (held : List ℕ) × (more : List ℕ) × WillTake mtr.old.latches.now.sizes
+        (L.lawful mtr.old.latches.now.sizes.pages)
+        (by_place L.opening mtr.old.latches.now.sizes.pages) held (beside page ++ more)
+        mtr.old.pass.now }
+    ensures mtr { IsMtr mtr.new.latches.now mtr.new.pass.now }
+    ensures latches { mtr.new.latches ≡ mtr.old.latches }
+    ensures pass { mtr.new.pass.ghost_name ≡ mtr.old.pass.ghost_name }
+    ensures taken { (held more : List ℕ) → WillTake mtr.old.latches.now.sizes
+        (L.lawful mtr.old.latches.now.sizes.pages)
+        (by_place L.opening mtr.old.latches.now.sizes.pages) held (beside page ++ more)
+        mtr.old.pass.now
+        → HasTakenMore mtr.old.latches.now.sizes (L.lawful mtr.old.latches.now.sizes.pages)
+        (by_place L.opening mtr.old.latches.now.sizes.pages) held (beside page)
+        mtr.old.pass.now mtr.new.pass.now }
+{
+    if page == 0 {
+        return;
+    }
+    take_page(rt, mtr, page);
+}
+
+// Takes the nodes of the way, from the root down.
+fn take_nodes<L: Law, R: Wait>(rt: &R, mtr: &mut Mtr<'_, L, Parkers>, path: &Path)
+    requires mtr { IsMtr mtr.old.latches.now mtr.old.pass.now }
+    requires room { total mtr.old.pass.now.view.grants + 32 ≤ 2 ^ 52 }
+    requires ready { (front : List ℕ) × (more : List ℕ) × (leaf : ℕ)
+        × (path.now ≡ front ++ leaf ∷ []) × WillTake mtr.old.latches.now.sizes
+        (L.lawful mtr.old.latches.now.sizes.pages)
+        (by_place L.opening mtr.old.latches.now.sizes.pages) [] (front ++ more)
+        mtr.old.pass.now }
+    ensures mtr { IsMtr mtr.new.latches.now mtr.new.pass.now }
+    ensures latches { mtr.new.latches ≡ mtr.old.latches }
+    ensures pass { mtr.new.pass.ghost_name ≡ mtr.old.pass.ghost_name }
+    ensures taken { (front more : List ℕ) (leaf : ℕ) → path.now ≡ front ++ leaf ∷ []
+        → WillTake mtr.old.latches.now.sizes (L.lawful mtr.old.latches.now.sizes.pages)
+        (by_place L.opening mtr.old.latches.now.sizes.pages) [] (front ++ more)
+        mtr.old.pass.now
+        → HasTakenMore mtr.old.latches.now.sizes (L.lawful mtr.old.latches.now.sizes.pages)
+        (by_place L.opening mtr.old.latches.now.sizes.pages) [] front
+        mtr.old.pass.now mtr.new.pass.now }
+{
+    let pages = path.pages();
+    let mut at = 0;
+    while at + 1 < pages.len() {
+        take_page(rt, mtr, pages[at]);
+        at += 1;
+    }
+}
+
+// The leaf behind one that is loaded, by its link, 0 for none.
+fn right_of<L: Law, S: Sleep>(mtr: &Mtr<'_, L, S>, leaf: u32) -> u32
+    requires mtr { IsMtr mtr.now.latches.now mtr.now.pass.now }
+    requires loaded { (image : List ℕ) × (changed_of leaf mtr.now.pass.now.work ≡ Some image)
+        × IsFormed image }
+    ensures { (image : List ℕ) → changed_of leaf mtr.now.pass.now.work ≡ Some image
+        → result ≡ next_of image }
+{
+    let image = mtr.image(leaf).unwrap();
+    image.next()
+}
+
+// Takes the pages of the leaf level, from left to right: the leaf before the key's, the key's leaf,
+// and the one that its link names then.
+fn take_leaves<L: Law, R: Wait>(rt: &R, mtr: &mut Mtr<'_, L, Parkers>, leaf: u32, left: u32)
+    requires mtr { IsMtr mtr.old.latches.now mtr.old.pass.now }
+    requires room { total mtr.old.pass.now.view.grants + 8 ≤ 2 ^ 52 }
+    requires ready { MayTakeLeaves mtr.old.latches.now.sizes
+        (L.lawful mtr.old.latches.now.sizes.pages)
+        (by_place L.opening mtr.old.latches.now.sizes.pages) leaf left mtr.old.pass.now }
+    ensures mtr { IsMtr mtr.new.latches.now mtr.new.pass.now }
+    ensures latches { mtr.new.latches ≡ mtr.old.latches }
+    ensures pass { mtr.new.pass.ghost_name ≡ mtr.old.pass.ghost_name }
+    ensures taken { (r : MayTakeLeaves mtr.old.latches.now.sizes
+        (L.lawful mtr.old.latches.now.sizes.pages)
+        (by_place L.opening mtr.old.latches.now.sizes.pages) leaf left mtr.old.pass.now)
+        → HasTakenMore mtr.old.latches.now.sizes (L.lawful mtr.old.latches.now.sizes.pages)
+        (by_place L.opening mtr.old.latches.now.sizes.pages) r.held
+        (beside left ++ leaf ∷ beside r.right) mtr.old.pass.now mtr.new.pass.now }
+{
+    take_beside(rt, mtr, left);
+    take_page(rt, mtr, leaf);
+    let right = right_of(mtr, leaf);
+    take_beside(rt, mtr, right);
+}
+
+/// Descends to the leaf of a key for an insert that may change the tree's structure
+/// (`btr_cur_search_to_nth_level` with `BTR_MODIFY_TREE`; the order of latches is WL#6326's): the index
+/// is claimed in SX, and the way read page by page in S, each given up again at once. Then the pages of
+/// the way are taken in X by level downward and loaded, and on the leaf level from left to right the
+/// leaf before the key's leaf, that leaf, and the leaf behind it. The session holds nothing before, and
+/// the index is not watched; the path is the key's way.
+pub fn descend_to_insert<L: Trees, R: Wait>(
+    rt: &R,
+    mtr: &mut Mtr<'_, L, Parkers>,
+    root: u32,
+    key: Key,
+) -> Path
+    requires mtr { IsMtr mtr.old.latches.now mtr.old.pass.now }
+    requires memo { mtr.old.pass.now.memo ≡ [] }
+    requires none { mtr.old.pass.now.work ≡ [] }
+    requires unwatched { is_watched 1 mtr.old.pass.now.view.memory.since ≡ false }
+    requires room { total mtr.old.pass.now.view.grants + 64 ≤ 2 ^ 52 }
+    requires some { 0 < root }
+    requires root { root ≤ L.ROOTS }
+    ensures mtr { IsMtr mtr.new.latches.now mtr.new.pass.now }
+    ensures latches { mtr.new.latches ≡ mtr.old.latches }
+    ensures pass { mtr.new.pass.ghost_name ≡ mtr.old.pass.ghost_name }
+    ensures claimed { (held : List ℕ) × HasClaimed mtr.old.latches.now.sizes
+        (L.lawful mtr.old.latches.now.sizes.pages)
+        (by_place L.opening mtr.old.latches.now.sizes.pages) root key result held
+        mtr.old.pass.now mtr.new.pass.now
+        × IsWayWithLeaves (pages_after (by_place L.opening mtr.old.latches.now.sizes.pages)
+        mtr.new.pass.now.view.memory.seen) result held }
+    ensures alone { is_claimed mtr.new.pass.now.view.memory.since ≡ true }
+{
+    shape_of(mtr);
+    claim_index(rt, mtr);
+    let way = read_way(rt, mtr, Sought { root, key });
+    take_nodes(rt, mtr, &way.path);
+    take_leaves(rt, mtr, way.leaf, way.left);
+    way.path
+}
