@@ -1,5 +1,4 @@
 -- A call that came to the key's leaf and ended there was answered.
-use Rattle.std.specs.List.{AllByRecursion}
 use Rattle.std.proofs.Common.{◌≡◌, ℕ, ◌+◌, ◌<◌, ◌≤◌, true, false, cond, List, [], ◌∷◌, ◌++◌, length, Option, Some, None, take, refl, sym, ap, subst, ◌∙◌, arith, length-append, append_assoc, inl, inr}
 use Rattle.std.specs.Prelude.{IfErr, IfOk, IsTrue, is_some, slice_get, Result, Ok, Err}
 use Rattle.std.proofs.Math.Seq.{take-length}
@@ -9,7 +8,6 @@ use Rattle.ib_map.specs.Pairs.{Pairs, value_at}
 use Rattle.ib_map.specs.Map.{answer_of, delete_answer, is_made}
 use Rattle.ib_map.specs.History.{map_after}
 use Rattle.ib_map.specs.Replies.{full_record, IsEntryOf}
-use Rattle.ib_map.specs.Runs.{reach_after}
 use Rattle.ib_map.specs.declared.call.Call.{Call}
 use Rattle.ib_map.specs.declared.call.Call.TheVariants.{Insert as InsertCall, Delete as DeleteCall}
 use Rattle.ib_map.specs.declared.call.Change.{Change}
@@ -36,8 +34,6 @@ use Rattle.ib_kept.proofs.LeafChangeLaws.{insert-room}
 use Rattle.ib_frames.specs.declared.appends.LogFull.{LogFull}
 use Rattle.ib_rule.specs.declared.looks.Grants.{Grants}
 use Rattle.ib_rule.specs.declared.memory.Memory.{Memory}
-use Rattle.ib_rule.specs.declared.view.Role.{Role}
-use Rattle.ib_rule.specs.declared.view.Role.TheVariants.{Session}
 use Rattle.ib_rule.specs.Memory.{entries_of}
 use Rattle.ib_rule.specs.Pass.{PassState, IsOf}
 use Rattle.ib_rule.specs.Roles.{number_in}
@@ -50,8 +46,9 @@ use Rattle.ib_cursor.specs.Going.{IsKnown, WentOn}
 use Rattle.ib_cursor.specs.Spaces.{space_of}
 use Rattle.ib_cursor.proofs.DownLaws.{raised_more}
 use Rattle.ib_cursor.proofs.StandLaws.{seen_longer}
-use Rattle.ib_index.specs.Calls.{HasCalled, MakesOwn}
+use Rattle.ib_index.specs.Calls.{HasCalled}
 use Rattle.ib_index.specs.Leaf.{HasCome, HasLeaf, IsSeated, NeededLeaf, NeedsTree, TakesFew, leaf_page, the_leaf}
+use Rattle.ib_index.proofs.CallLaws.{IsEnd, bounds-push, bounds-wider, called-from, read-end, push-end, read-known}
 use Rattle.ib_index.proofs.LeafStays.{leaf-stays, page-stays, value-stays}
 
 -- the way ends at the leaf
@@ -85,96 +82,6 @@ come-started sizes key leaf p q h = record {
   seated = h.seated;
   takes = record { sx = h.takes.sx; s = h.takes.s; x = h.takes.x };
 }
-
--- a mini-transaction ended: entries more are seen, and one end more of the log was found
-record IsEnd (q r : PassState) (place : ℕ) : Type 0 where
-  pub table : r.table ≡ q.table
-  pub sizes : r.sizes ≡ q.sizes
-  pub number : r.number ≡ q.number
-  pub more : List Entry
-  pub seen : r.view.memory.seen ≡ q.view.memory.seen ++ more
-  pub ends : r.view.memory.ends ≡ q.view.memory.ends ++ place ∷ []
-  pub low : length q.view.memory.seen ≤ place
-  pub high : place ≤ length r.view.memory.seen
-
-bounds-wider : (ns : List ℕ) (low high most : ℕ) → high ≤ most → AllByRecursion (λ n. (low ≤ n) × (n ≤ high)) ns → AllByRecursion (λ n. (low ≤ n) × (n ≤ most)) ns
-bounds-wider [] low high most le e = tt
-bounds-wider (n ∷ ns) low high most le e = ((e.0.0, let h = e.0.1 in omega arith), bounds-wider ns low high most le e.1)
-
-bounds-push : (ns : List ℕ) (low high place : ℕ) → AllByRecursion (λ n. (low ≤ n) × (n ≤ high)) ns → low ≤ place → place ≤ high → AllByRecursion (λ n. (low ≤ n) × (n ≤ high)) (ns ++ place ∷ [])
-bounds-push [] low high place e l h = ((l, h), tt)
-bounds-push (n ∷ ns) low high place e l h = (e.0, bounds-push ns low high place e.1 l h)
-
--- so a call that went there and ended is one that was answered
-called-from : (sizes : Sizes) (lawful : List Entry → Type 0) (opens : ℕ → ℕ) (call : Call) (reply : Reply) (place : ℕ) (p q r : PassState) (went : WentOn p q) → 0 < length went.added
-    → IsEnd q r place → IsKnown sizes lawful r → length r.view.memory.seen ≡ reach_after (full_record (record { call = call; reply = reply; place = place }) [])
-    → FitsLog (space_of sizes opens) r.view.memory.seen r.number (length p.view.memory.seen) (full_record (record { call = call; reply = reply; place = place }) [])
-    → MakesOwn (is_made reply) r.view.memory.seen q.view.memory.own r.view.memory.own
-    → HasCalled sizes lawful opens call (record { call = call; reply = reply; place = place }) p r
-called-from sizes lawful opens call reply place p q r went looked end known reach fits own =
-    go went.added went.ends went.bounds looked
-  where
-    go : (added : List ℕ) → q.view.memory.ends ≡ p.view.memory.ends ++ added → AllByRecursion (λ n. (length p.view.memory.seen ≤ n) × (n ≤ length q.view.memory.seen)) added → 0 < length added
-        → HasCalled sizes lawful opens call (record { call = call; reply = reply; place = place }) p r
-    go [] ends bounds some = absurd (omega arith)
-    go (n ∷ ns) ends bounds some =
-        let longer = seen_longer p q went in let low = end.low in let high = end.high in
-        record {
-          table = end.table ∙ went.table;
-          sizes_are = end.sizes ∙ went.sizes;
-          number = end.number ∙ went.number;
-          more = went.more ++ end.more;
-          seen = end.seen ∙ (ap (λ xs. xs ++ end.more) went.seen ∙ append_assoc p.view.memory.seen went.more end.more);
-          known = known;
-          first = n;
-          rest = ns ++ place ∷ [];
-          ends = end.ends ∙ (ap (λ xs. xs ++ place ∷ []) ends ∙ append_assoc p.view.memory.ends (n ∷ ns) (place ∷ []));
-          bounds = bounds-push (n ∷ ns) (length p.view.memory.seen) (length r.view.memory.seen) place
-              (bounds-wider (n ∷ ns) (length p.view.memory.seen) (length q.view.memory.seen) (length r.view.memory.seen) (omega arith) bounds) (omega arith) high;
-          call_is = refl;
-          from = omega arith;
-          looked = let b = bounds.0.1 in omega arith;
-          reach = reach;
-          fits = fits;
-          own = subst (λ o. MakesOwn (is_made reply) r.view.memory.seen o r.view.memory.own) went.own own;
-        }
-
--- a mini-transaction that ended after a look
-module _ (sizes : Sizes) (lawful : List Entry → Type 0) (q r : PassState) (log : List Entry) (place : ℕ) (taken : Grants) (looked : IsLook sizes lawful q.view log) (at : place ≡ length log) where
-  read-end : HasEnded q taken log q.view.memory.own (q.view.memory.ends ++ place ∷ []) r → IsEnd q r place
-  read-end ended = let seen : r.view.memory.seen ≡ log = ap (λ (m : Memory). m.seen) ended.memory in record {
-    table = ap (λ (s : PassState). s.table) ended.pass;
-    sizes = ap (λ (s : PassState). s.sizes) ended.pass;
-    number = ap (λ (s : PassState). s.number) ended.pass;
-    more = looked.others;
-    seen = seen ∙ sym looked.longer;
-    ends = ap (λ (m : Memory). m.ends) ended.memory;
-    low = let a = ap length looked.longer in let b = length-append q.view.memory.seen looked.others in omega arith;
-    high = let a = ap length seen in omega arith;
-  }
-
-  push-end : (e : Entry) (own : List Entry) → HasEnded q taken (log ++ e ∷ []) own (q.view.memory.ends ++ place ∷ []) r → IsEnd q r place
-  push-end e own ended = let seen : r.view.memory.seen ≡ log ++ e ∷ [] = ap (λ (m : Memory). m.seen) ended.memory in record {
-    table = ap (λ (s : PassState). s.table) ended.pass;
-    sizes = ap (λ (s : PassState). s.sizes) ended.pass;
-    number = ap (λ (s : PassState). s.number) ended.pass;
-    more = looked.others ++ e ∷ [];
-    seen = seen ∙ (ap (λ xs. xs ++ e ∷ []) (sym looked.longer) ∙ append_assoc q.view.memory.seen looked.others (e ∷ []));
-    ends = ap (λ (m : Memory). m.ends) ended.memory;
-    low = let a = ap length looked.longer in let b = length-append q.view.memory.seen looked.others in omega arith;
-    high = let a = ap length seen in let b = length-append log (e ∷ []) in omega arith;
-  }
-
-  read-known : q.view.role ≡ Session q.number → HasEnded q taken log q.view.memory.own (q.view.memory.ends ++ place ∷ []) r → IsKnown sizes lawful r
-  read-known role ended =
-      let seen : r.view.memory.seen ≡ log = ap (λ (m : Memory). m.seen) ended.memory in
-      let own : r.view.memory.own ≡ q.view.memory.own = ap (λ (m : Memory). m.own) ended.memory in
-      let number : r.number ≡ q.number = ap (λ (s : PassState). s.number) ended.pass in
-      record {
-        legal = subst lawful (sym seen) looked.legal;
-        room = subst (λ (es : List Entry). used es ≤ sizes.log_words) (sym seen) looked.room;
-        mine = ap (λ n. entries_of n r.view.memory.seen) number ∙ (ap (entries_of q.number) seen ∙ (ap (λ (s : Role). entries_of (number_in s) log) (sym role) ∙ (looked.mine ∙ sym own)));
-      }
 
 -- the grants of the way, and so many more of X
 takes-more : (sizes : Sizes) (p q r : PassState) (more : List Entry) (few : ℕ) → r.view.memory.seen ≡ q.view.memory.seen ++ more → r.view.grants.sx ≡ q.view.grants.sx → r.view.grants.s ≡ q.view.grants.s

@@ -1,3 +1,4 @@
+mod CallLaws
 mod LookupLaws
 mod LeafStays
 mod LeafCommits

@@ -1,6 +1,6 @@
 -- What a lookup reads off the key's leaf is what the map of the log has.
 use Rattle.std.specs.List.{AllByRecursion}
-use Rattle.std.proofs.Common.{◌≡◌, ℕ, ◌-◌, ◌<◌, ◌≤◌, false, List, [], ◌∷◌, ◌++◌, length, Option, Some, None, slice_get, refl, sym, ap, subst, ◌∙◌, arith, length-append}
+use Rattle.std.proofs.Common.{◌≡◌, ℕ, ◌<◌, ◌≤◌, false, List, [], ◌∷◌, ◌++◌, length, Option, Some, None, refl, sym, ap, subst, ◌∙◌, arith, length-append}
 use Rattle.ib_map.specs.Keys.{MapKey, rank, end_rank}
 use Rattle.ib_map.specs.Pairs.{value_at}
 use Rattle.ib_map.specs.Map.{lookup_answer, lookup_of, is_made}
@@ -10,17 +10,14 @@ use Rattle.ib_map.specs.Writes.{touches}
 use Rattle.ib_map.specs.declared.call.Call.TheVariants.{Get}
 use Rattle.ib_map.specs.declared.call.Record.{Record}
 use Rattle.ib_map.specs.declared.call.Reply.{Reply}
-use Rattle.ib_map.proofs.HistoryLaws.{slice_get-last}
 use Rattle.ib_page.specs.Image.{IsTreePage, records_of}
 use Rattle.ib_layout.specs.Geometry.{Sizes}
 use Rattle.ib_logrec.specs.declared.entry.Entry.{Entry}
-use Rattle.ib_logrec.specs.Log.{memory_after, history_of, map_of, used}
+use Rattle.ib_logrec.specs.Log.{memory_after, history_of, map_of}
 use Rattle.ib_logrec.proofs.LogLaws.{length-history_of}
 use Rattle.ib_rule.specs.declared.memory.Memory.{Memory}
-use Rattle.ib_rule.specs.declared.view.Role.{Role}
 use Rattle.ib_rule.specs.declared.view.Role.TheVariants.{Session as SessionRole}
 use Rattle.ib_rule.specs.declared.looks.Grants.{Grants}
-use Rattle.ib_rule.specs.Memory.{entries_of}
 use Rattle.ib_rule.specs.Pass.{PassState}
 use Rattle.ib_rule.specs.Roles.{number_in}
 use Rattle.ib_rule.proofs.Watching.{untouched}
@@ -33,59 +30,16 @@ use Rattle.ib_tree.specs.Logs.{pages_after}
 use Rattle.ib_mtr.specs.Commits.{HasRead}
 use Rattle.ib_mtr.specs.Mtr.{started, finished}
 use Rattle.ib_cursor.specs.Way.{IsOnWay}
-use Rattle.ib_cursor.specs.Going.{IsKnown, WentOn}
 use Rattle.ib_cursor.specs.Descent.{HasDescended}
 use Rattle.ib_cursor.specs.Hindrance.{IsHindered}
 use Rattle.ib_cursor.specs.declared.fault.NowaitFault.{NowaitFault}
-use Rattle.ib_cursor.proofs.StandLaws.{went_both, looked_first, seen_longer}
 use Rattle.ib_cursor.specs.Laws.{Laws}
 use Rattle.ib_cursor.proofs.LogLaws.{tree_of-log, way_stays, way_image}
 use Rattle.ib_cursor.proofs.StepLaws.{image_stays}
 use Rattle.ib_cursor.proofs.WayLaws.{leaf_on-way}
 use Rattle.ib_index.specs.Calls.{HasCalled}
+use Rattle.ib_index.proofs.CallLaws.{called-from, read-end, read-known}
 use Rattle.ib_index.specs.Lookups.{HasLookedUp}
-
--- the end of a mini-transaction that read, as a step of its session
-pub went_read : (sizes : Sizes) (lawful : List Entry → Type 0) (p : PassState) (place : ℕ) (q : PassState) → HasRead sizes lawful p place q → WentOn p q
-went_read sizes lawful p place q read =
-    let is = read.ended.memory in
-    let log : q.view.memory.seen ≡ read.log = ap (λ (m : Memory). m.seen) is in
-    record {
-      table = ap (λ (r : PassState). r.table) read.ended.pass;
-      sizes = ap (λ (r : PassState). r.sizes) read.ended.pass;
-      number = ap (λ (r : PassState). r.number) read.ended.pass;
-      own = ap (λ (m : Memory). m.own) is;
-      more = read.looked.others;
-      seen = log ∙ sym read.looked.longer;
-      added = place ∷ [];
-      ends = ap (λ (m : Memory). m.ends) is;
-      bounds = (
-        let e = ap length read.looked.longer in let l = length-append p.view.memory.seen read.looked.others in let s = ap length log in let at = read.place in (omega arith, omega arith),
-        tt,
-      );
-    }
-
-pub known_read : (sizes : Sizes) (lawful : List Entry → Type 0) (p : PassState) (place : ℕ) (q : PassState) → p.view.role ≡ SessionRole p.number → HasRead sizes lawful p place q → IsKnown sizes lawful q
-known_read sizes lawful p place q role read =
-    let is = read.ended.memory in
-    let log : q.view.memory.seen ≡ read.log = ap (λ (m : Memory). m.seen) is in
-    let own : q.view.memory.own ≡ p.view.memory.own = ap (λ (m : Memory). m.own) is in
-    let number : q.number ≡ p.number = ap (λ (r : PassState). r.number) read.ended.pass in
-    record {
-      legal = subst lawful (sym log) read.looked.legal;
-      room = subst (λ (log : List Entry). used log ≤ sizes.log_words) (sym log) read.looked.room;
-      mine = ap (λ n. entries_of n q.view.memory.seen) number ∙ (ap (entries_of p.number) log ∙ (ap (λ (r : Role). entries_of (number_in r) read.log) (sym role) ∙ (read.looked.mine ∙ sym own)));
-    }
-
--- ends of the log that were found, of which the first was
-pub record HasFirst (ns : List ℕ) : Type 0 where
-  pub first : ℕ
-  pub rest : List ℕ
-  pub is : ns ≡ first ∷ rest
-
-pub first_of : (ns : List ℕ) → 0 < length ns → HasFirst ns
-first_of [] some = absurd (omega arith)
-first_of (n ∷ ns) some = record { first = n; rest = ns; is = refl }
 
 lookup-made : (v : Option ℕ) → is_made (lookup_answer v) ≡ false
 lookup-made (Some value) = refl
@@ -138,13 +92,6 @@ module _ (sizes : Sizes) (roots : ℕ) (lawful : List Entry → Type 0) (opening
         not-made : is_made reply ≡ false
         not-made = ap is_made is ∙ lookup-made (value_at key (records_of down.image))
 
-        went : WentOn p r
-        went = went_both p q r down.went (went_read sizes lawful q place r read)
-
-        found : HasFirst went.added
-        unfolding went
-        found = first_of went.added (looked_first p q r down.went (went_read sizes lawful q place r read) down.looked)
-
         fits : Fits (history_of r.view.memory.seen) r.number (length p.view.memory.seen) (full_record (record { call = Get key; reply = reply; place = place }) [])
         fits =
             let long = length-history_of r.view.memory.seen in let end = at-end in
@@ -153,27 +100,11 @@ module _ (sizes : Sizes) (roots : ℕ) (lawful : List Entry → Type 0) (opening
             (omega arith, (said, refl))
 
         pub called : HasCalled sizes lawful opening (Get key) (record { call = Get key; reply = reply; place = place }) p r
-        called = record {
-          table = went.table;
-          sizes_are = went.sizes;
-          number = went.number;
-          more = went.more;
-          seen = went.seen;
-          known = known_read sizes lawful q place r role read;
-          first = found.first;
-          rest = found.rest;
-          ends = went.ends ∙ ap (λ ns. p.view.memory.ends ++ ns) found.is;
-          bounds = bounds;
-          call_is = refl;
-          from = let l = seen_longer p r went in let end = at-end in omega arith;
-          looked = let b = bounds.0.1 in let end = at-end in omega arith;
-          reach = sym at-end ∙ rw not-made refl;
-          fits = record { map = fits; tree = tt };
-          own = rw not-made went.own;
-        }
-          where
-            bounds : AllByRecursion (λ n. (length p.view.memory.seen ≤ n) × (n ≤ length r.view.memory.seen)) (found.first ∷ found.rest)
-            bounds = subst (AllByRecursion (λ n. (length p.view.memory.seen ≤ n) × (n ≤ length r.view.memory.seen))) found.is went.bounds
+        called =
+            called-from sizes lawful opening (Get key) reply place p q r down.went down.looked
+            (read-end sizes lawful q r read.log place q.view.grants read.looked read.place read.ended)
+            (read-known sizes lawful q r read.log place q.view.grants read.looked read.place role read.ended)
+            (sym at-end ∙ rw not-made refl) (record { map = fits; tree = tt }) (rw not-made (ap (λ (m : Memory). m.own) read.ended.memory))
 
         pub looked_up : HasLookedUp sizes lawful opening key (record { call = Get key; reply = reply; place = place }) p r
         looked_up =
@@ -181,14 +112,6 @@ module _ (sizes : Sizes) (roots : ℕ) (lawful : List Entry → Type 0) (opening
             let s = ap (λ (g : Grants). g.s) read.ended.grants in let x = ap (λ (g : Grants). g.x) read.ended.grants in let sx = ap (λ (g : Grants). g.sx) read.ended.grants in
             let l = ap length down.ends in let m = length-append down.front (down.leaf ∷ []) in let most = down.s in
             record { called = called; least = omega arith; most = omega arith; sx = sx ∙ down.sx; x = x ∙ f1 }
-
--- the last page of a path
-pub last_is : (path front : List ℕ) (leaf page : ℕ) → path ≡ front ++ leaf ∷ [] → slice_get path (length path - 1) ≡ Some page → page ≡ leaf
-last_is path front leaf page is at =
-    let long = ap length is in let l = length-append front (leaf ∷ []) in
-    let place : length path - 1 ≡ length front = omega arith in
-    let a : slice_get path (length front) ≡ Some page = sym (ap (slice_get path) place) ∙ at in
-    let b : slice_get path (length front) ≡ Some leaf = ap (λ xs. slice_get xs (length front)) is ∙ slice_get-last front leaf in cc
 
 -- a mini-transaction starts with what the session had seen and taken
 pub from_start : (sizes : Sizes) (lawful : List Entry → Type 0) (opening : ℕ → ℕ) (key : MapKey) (answer : Record) (p q : PassState) → HasLookedUp sizes lawful opening key answer (started p) q → HasLookedUp sizes lawful opening key answer p q

@@ -1,22 +1,13 @@
 -- The descent ends at the leaf, and the session fits its space.
-use Rattle.std.proofs.Common.{◌≡◌, ℕ, ◌-◌, ◌≤◌, ◌∙◌, true, List, [], ◌∷◌, ◌++◌, length, Option, Some, sym, ap, subst, arith, length-append}
-use Rattle.std.specs.Prelude.{IfSome, slice_get}
+use Rattle.std.proofs.Common.{◌≡◌, ℕ, ◌≤◌, ◌∙◌, true, length, ap, subst, arith}
 use Rattle.std.proofs.lemmas.Bool.Decides.{nat_tests}
 use Rattle.ib_map.specs.Space.{has_pages}
-use Rattle.ib_map.proofs.HistoryLaws.{slice_get-last}
 use Rattle.ib_layout.specs.Geometry.{Sizes, has_log}
 use Rattle.ib_rule.specs.declared.view.Role.TheVariants.{Session}
 use Rattle.ib_rule.specs.Pass.{PassState}
-use Rattle.ib_walk.proofs.ChoiceLaws.{Some-same}
+use Rattle.ib_index.proofs.CallLaws.{last_is}
 use Rattle.ib_index.proofs.LeafCalls.{come}
 use Rattle.ib_index.proofs.leaf.come_to_leaf.Goals as goal
-
-last-is : (o : Option ℕ) (r : ℕ) (path front : List ℕ) (leaf : ℕ) → path ≡ front ++ leaf ∷ [] → IfSome o (λ page. slice_get path (length path - 1) ≡ Some page) → o ≡ Some r → r ≡ leaf
-last-is o r path front leaf is last got =
-    let at : slice_get path (length path - 1) ≡ Some r = subst (λ (x : Option ℕ). IfSome x (λ page. slice_get path (length path - 1) ≡ Some page)) got last in
-    let end : length path - 1 ≡ length front = (let a = ap length is in let b = length-append front (leaf ∷ []) in omega arith) in
-    let there : slice_get path (length path - 1) ≡ Some leaf = ap (slice_get path) end ∙ (ap (λ (xs : List ℕ). slice_get xs (length front)) is ∙ slice_get-last front leaf) in
-    Some-same r leaf (sym at ∙ there)
 
 log-few : (n : ℕ) → has_log n ≡ true → n ≤ 16777216
 log-few n has = grind (arith, nat_tests, has)
@@ -38,7 +29,7 @@ returns-clause-come g c =
     let number : c.pass-pass.result.now.number ≡ q.number = ap (λ (r : PassState). r.number) here in
     let n = c.number.ensures in let m = c.made.ensures in let u = c.used.ensures in
     come sizes c.args.key c.descend-path.result c.unwrap.result c.args.mtr.now.pass.now q d
-    (last-is c.last.result c.unwrap.result c.descend-path.result d.front d.leaf d.ends c.last.ensures.last c.unwrap.ensures)
+    (last_is c.last.result c.unwrap.result c.descend-path.result d.front d.leaf d.ends c.last.ensures.last c.unwrap.ensures)
     (record {
       fits = subst (λ (s : Sizes). has_pages s.pages ≡ true) size (subst (λ n. has_pages n ≡ true) c.pages.ensures.pages c.pages.ensures.in_range);
       role = subst (λ (r : PassState). r.view.role ≡ Session r.number) here n.session;
