@@ -40,7 +40,7 @@ single-by e (s ∷ ss) is calm = elim (or_says (s.claims && (s.latch == 1)) (is_
   | inr there ↦ single-by e ss there calm.1
 ]
 
-singles : (n : ℕ) (ss : List Since) (others : List Entry) → is_claimed ss ≡ true → AllByRecursion (IsHarmless n ss) others → AreSingle others
+pub singles : (n : ℕ) (ss : List Since) (others : List Entry) → is_claimed ss ≡ true → AllByRecursion (IsHarmless n ss) others → AreSingle others
 singles n ss [] is harmless = tt
 singles n ss (e ∷ es) is harmless = (single-by e ss is harmless.0.1, singles n ss es is harmless.1)
 

@@ -123,7 +123,7 @@ module _ (sizes : Sizes) (roots : ℕ) (lawful : List Entry → Type 0) (opening
         let law = (shape.laws.memory log legal).law.met page in
         bit_inside sizes.pages (memory_after opening log) page (let e : weight_of (is_page page) m root ≡ weight_of (is_page page) (pages_after opening log) root = refl in omega (arith, one, all, law))
 
-    beside-leaf : (leaf : ℕ) → IsOnWay m root key leaf 0 → AreBeside m root leaf
+    pub beside-leaf : (leaf : ℕ) → IsOnWay m root key leaf 0 → AreBeside m root leaf
     beside-leaf leaf o =
         let a = met_on-way m root tree key lt leaf 0 o in
         are_beside m (bits_of sizes.pages (memory_after opening log)) roots root (shape.laws.memory log legal).law some le leaf a.visit a.here (leaf-met m root a.visit a.met)
@@ -246,6 +246,7 @@ module _ (sizes : Sizes) (roots : ℕ) (lawful : List Entry → Type 0) (opening
                 claimed = claimed_watched t.view.memory.since last.holds.claimed;
                 watched = last.holds.watched;
                 there = λ page. ((λ i. sym (last.holds.loaded page) ∙ (loaded_some page t.work).0 i), (λ e. (loaded_some page t.work).1 (last.holds.loaded page ∙ e)));
+                count = last.holds.count;
                 read = all-read (IsHeldPage opening t) (IsAsRead opening t.view.memory.seen) t.work (λ w h. h.read) last.holds.read;
                 went = went_both p q t stood.seen.went later;
                 looked = looked_first p q t stood.seen.went later stood.seen.looked;

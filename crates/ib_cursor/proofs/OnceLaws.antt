@@ -1,16 +1,20 @@
 -- The pages of a way and the leaves beside its leaf are each there once.
-use Rattle.std.specs.List.{AllByRecursion}
+use Rattle.std.specs.List.{AllByRecursion, list_any}
 use Rattle.std.specs.Prelude.{◌==◌, ◌||◌}
-use Rattle.std.proofs.Common.{◌≡◌, ◌≢◌, inl, inr, ℕ, zero, suc, ◌+◌, ◌<◌, ◌≤◌, Bool, true, false, cond, List, [], ◌∷◌, ◌++◌, refl, sym, ap, subst, ◌∙◌, arith, ne_eqb, eq-eqb}
+use Rattle.std.proofs.Common.{◌≡◌, ◌≢◌, ◌⊎◌, inl, inr, ℕ, zero, suc, ◌+◌, ◌<◌, ◌≤◌, Bool, true, false, cond, List, [], ◌∷◌, ◌++◌, length, refl, sym, ap, subst, ◌∙◌, arith, append_assoc, ne_eqb, eq-eqb}
 use Rattle.std.proofs.lemmas.Bool.{cases_eq}
-use Rattle.ib_walk.specs.Pages.{PageMemory}
-use Rattle.ib_walk.specs.Walk.{Visit, children, below, sum_of, weight, is_page, AreLinked, first_page, last_page, IsLeafAt}
-use Rattle.ib_walk.specs.Trees.{top_of, height_of, leaves_of, weight_of, IsLawful}
+use Rattle.ib_map.specs.Keys.{MapKey, rank, end_rank}
+use Rattle.ib_walk.specs.Pages.{PageMemory, Tree}
+use Rattle.ib_walk.specs.Walk.{Visit, children, below, sum_of, weight, is_page, is_visit, AreLinked, first_page, last_page, IsLeafAt}
+use Rattle.ib_walk.specs.Trees.{top_of, height_of, leaves_of, weight_of, times_met, IsTreeOf, IsLawful}
 use Rattle.ib_walk.proofs.MeetLaws.{is_page-own, lowest-le_weight}
 use Rattle.ib_walk.proofs.WalkLaws.{sum_of-append}
 use Rattle.ib_walk.proofs.TreeLaws.{weight_of-le, times_met-le}
 use Rattle.ib_tree.specs.PageLists.{is_among, AreOnce}
-use Rattle.ib_cursor.proofs.NextLaws.{IsLeaf}
+use Rattle.ib_cursor.specs.Way.{IsOnWay}
+use Rattle.ib_cursor.specs.Claims.{beside}
+use Rattle.ib_cursor.proofs.WayLaws.{IsMetOn, met_on-way}
+use Rattle.ib_cursor.proofs.NextLaws.{IsLeaf, leaf-met, leaf-counts}
 
 -- lists of pages, each once
 pub among_append : (xs ys : List ℕ) (page : ℕ) → is_among xs page ≡ false → is_among ys page ≡ false → is_among (xs ++ ys) page ≡ false
@@ -61,8 +65,8 @@ sum-first (v ∷ vs) next ne = let o = is_page-own v.page 0 v refl in omega arit
 
 -- what the links of a leaf name: other leaves, and not one twice
 pub record AreBeside (m : PageMemory) (root leaf : ℕ) : Type 0 where
-  pub left : (m leaf).prev ≢ 0 → (1 ≤ weight_of (is_page (m leaf).prev) m root) × ((m leaf).prev ≢ leaf) × ((m (m leaf).prev).level ≡ 0)
-  pub right : (m leaf).next ≢ 0 → (1 ≤ weight_of (is_page (m leaf).next) m root) × ((m leaf).next ≢ leaf) × ((m (m leaf).next).level ≡ 0)
+  pub left : (m leaf).prev ≢ 0 → (1 ≤ weight_of (is_page (m leaf).prev) m root) × ((m leaf).prev ≢ leaf) × ((m (m leaf).prev).level ≡ 0) × ((m (m leaf).prev).kind ≡ Tree)
+  pub right : (m leaf).next ≢ 0 → (1 ≤ weight_of (is_page (m leaf).next) m root) × ((m leaf).next ≢ leaf) × ((m (m leaf).next).level ≡ 0) × ((m (m leaf).next).kind ≡ Tree)
   pub apart : (m leaf).prev ≢ 0 → (m leaf).next ≢ (m leaf).prev
 
 -- a page that is counted among leaves is one
@@ -71,6 +75,13 @@ counted-leaf m n [] a some = absurd (omega arith)
 counted-leaf m n (v ∷ vs) a some = elim (cases_eq v.page n) [
   | inl e ↦ ap (λ k. (m k).level) (sym e) ∙ a.0.level
   | inr ne ↦ counted-leaf m n vs a.1 (let z : is_page n 0 v ≡ 0 = ap (λ b. cond {A = ℕ} b 1 0) (ne_eqb v.page n ne) in omega arith)
+]
+
+counted-tree : (m : PageMemory) (n : ℕ) (vs : List Visit) → AllByRecursion (IsLeafAt m) vs → 1 ≤ sum_of (is_page n 0) vs → (m n).kind ≡ Tree
+counted-tree m n [] a some = absurd (omega arith)
+counted-tree m n (v ∷ vs) a some = elim (cases_eq v.page n) [
+  | inl e ↦ ap (λ k. (m k).kind) (sym e) ∙ a.0.kind
+  | inr ne ↦ counted-tree m n vs a.1 (let z : is_page n 0 v ≡ 0 = ap (λ b. cond {A = ℕ} b 1 0) (ne_eqb v.page n ne) in omega arith)
 ]
 
 module _ (m : PageMemory) (bits : ℕ → ℕ) (roots root : ℕ) (law : IsLawful m bits roots) (some : 0 < root) (le : root ≤ roots) where
@@ -92,8 +103,8 @@ module _ (m : PageMemory) (bits : ℕ → ℕ) (roots root : ℕ) (law : IsLawfu
       let rights : (m leaf).next ≢ 0 → 1 ≤ sum_of (is_page (m leaf).next 0) l.behind = λ ne. subst (λ n. 1 ≤ sum_of (is_page n 0) l.behind) (sym next) (sum-first l.behind 0 (λ z. ne (next ∙ z))) in
       record {
         left = λ ne. let s = lefts ne in let a = all (m leaf).prev in let b = at-most (m leaf).prev in let w = lowest-le_weight (is_page (m leaf).prev) m (height_of m root) (top_of root) in
-            (omega arith, (λ e. let o = is_page-own (m leaf).prev 0 v (is ∙ sym e) in omega arith), counted-leaf m (m leaf).prev (leaves_of m root) t.tree.leaves (omega arith));
+            (omega arith, (λ e. let o = is_page-own (m leaf).prev 0 v (is ∙ sym e) in omega arith), counted-leaf m (m leaf).prev (leaves_of m root) t.tree.leaves (omega arith), counted-tree m (m leaf).prev (leaves_of m root) t.tree.leaves (omega arith));
         right = λ ne. let s = rights ne in let a = all (m leaf).next in let b = at-most (m leaf).next in let w = lowest-le_weight (is_page (m leaf).next) m (height_of m root) (top_of root) in
-            (omega arith, (λ e. let o = is_page-own (m leaf).next 0 v (is ∙ sym e) in omega arith), counted-leaf m (m leaf).next (leaves_of m root) t.tree.leaves (omega arith));
+            (omega arith, (λ e. let o = is_page-own (m leaf).next 0 v (is ∙ sym e) in omega arith), counted-leaf m (m leaf).next (leaves_of m root) t.tree.leaves (omega arith), counted-tree m (m leaf).next (leaves_of m root) t.tree.leaves (omega arith));
         apart = λ ne e. let s = lefts ne in let r = subst (λ n. 1 ≤ sum_of (is_page n 0) l.behind) e (rights (λ z. ne (sym e ∙ z))) in let a = all (m leaf).prev in let b = at-most (m leaf).prev in omega arith;
       }

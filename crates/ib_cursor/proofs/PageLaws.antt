@@ -35,7 +35,7 @@ pub record IsTreeImage (words : ℕ → ℕ) (page : ℕ) : Type 0 where
   pub next : (pages_of words page).next ≡ next_of (image_of words page)
   pub records : (pages_of words page).records ≡ records_of (image_of words page)
 
-tree-value : (v : PageValue) → (state_of v).kind ≡ Tree → HoldsTree v
+pub tree-value : (v : PageValue) → (state_of v).kind ≡ Tree → HoldsTree v
 tree-value (TreeValue p) e = tt
 tree-value (FreeValue clock) e = cc
 tree-value MalformedValue e = cc

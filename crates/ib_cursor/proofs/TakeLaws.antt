@@ -46,7 +46,7 @@ use Rattle.ib_cursor.proofs.GrantLaws.{hold-latch, can_wish, grants_more}
 use Rattle.ib_cursor.proofs.ClaimLaws.{keeps_after, keeps_both, keeps_beside}
 
 -- the pages of a work set
-loaded-more : (page : ℕ) (q : WorkPage) (ps : List WorkPage) → is_loaded page (with_page q ps) ≡ ((q.page == page) || is_loaded page ps)
+pub loaded-more : (page : ℕ) (q : WorkPage) (ps : List WorkPage) → is_loaded page (with_page q ps) ≡ ((q.page == page) || is_loaded page ps)
 loaded-more page q [] = refl
 loaded-more page q (p ∷ ps) = by_test (loaded-more page q ps) (nat_lt p.page q.page)
   where
@@ -60,7 +60,7 @@ loaded-more page q (p ∷ ps) = by_test (loaded-more page q ps) (nat_lt p.page q
     by_test r true = ap (λ t. (p.page == page) || t) r ∙ turned (p.page == page) (q.page == page) (is_loaded page ps)
     by_test r false = refl
 
-among-more : (held : List ℕ) (new page : ℕ) → is_among (held ++ new ∷ []) page ≡ ((new == page) || is_among held page)
+pub among-more : (held : List ℕ) (new page : ℕ) → is_among (held ++ new ∷ []) page ≡ ((new == page) || is_among held page)
 among-more [] new page = refl
 among-more (x ∷ xs) new page = ap (λ t. (x == page) || t) (among-more xs new page) ∙ turned (x == page) (new == page) (is_among xs page)
   where
@@ -69,7 +69,7 @@ among-more (x ∷ xs) new page = ap (λ t. (x == page) || t) (among-more xs new 
     turned true false c = refl
     turned false b c = refl
 
-long-more : (q : WorkPage) (ps : List WorkPage) → length (with_page q ps) ≡ length ps + 1
+pub long-more : (q : WorkPage) (ps : List WorkPage) → length (with_page q ps) ≡ length ps + 1
 long-more q [] = refl
 long-more q (p ∷ ps) = by_test (long-more q ps) (nat_lt p.page q.page)
   where
@@ -77,7 +77,7 @@ long-more q (p ∷ ps) = by_test (long-more q ps) (nat_lt p.page q.page)
     by_test r true = omega (arith, r)
     by_test r false = omega arith
 
-not-first : (a b : Bool) → (a || b) ≡ false → (a ≡ false) × (b ≡ false)
+pub not-first : (a b : Bool) → (a || b) ≡ false → (a ≡ false) × (b ≡ false)
 not-first true b e = cc
 not-first false b e = (refl, e)
 
@@ -108,7 +108,7 @@ each-page : (P : ℕ → Type 0) (held : List ℕ) → AllByRecursion (λ (g : G
 each-page P [] a = tt
 each-page P (x ∷ xs) a = (a.0, each-page P xs a.1)
 
-all-both : (P Q R : WorkPage → Type 0) (ws : List WorkPage) → ((w : WorkPage) → P w → Q w → R w) → All P ws → All Q ws → All R ws
+pub all-both : (P Q R : WorkPage → Type 0) (ws : List WorkPage) → ((w : WorkPage) → P w → Q w → R w) → All P ws → All Q ws → All R ws
 all-both P Q R [] f a b = All-nil R
 all-both P Q R (w ∷ ws) f a b = All-cons R w ws (f w (All-head P w ws a) (All-head Q w ws b)) (all-both P Q R ws f (All-tail P w ws a) (All-tail Q w ws b))
 

@@ -35,6 +35,7 @@ pub record HasClaimed (sizes : Sizes) (lawful : List Entry → Type 0) (opening 
   pub claimed : is_watched 1 q.view.memory.since ≡ true
   pub watched : AllByRecursion (λ page. is_watched (page + 2) q.view.memory.since ≡ true) held
   pub there : (page : ℕ) → IsSome (changed_of page q.work) ↔ (is_among held page ≡ true)
+  pub count : length q.work ≡ length held
   pub read : All (IsAsRead opening q.view.memory.seen) q.work
   pub went : WentOn p q
   pub looked : 0 < length went.added

@@ -3,3 +3,15 @@ mod LookupLaws
 mod LeafStays
 mod LeafCommits
 mod LeafCalls
+mod AgreeLaws
+mod WorkLaws
+mod PlanLaws
+mod GrowCommits
+mod GrowLaws
+mod BeginLaws
+mod GrowMay
+mod GrowCalls
+mod FreshLaws
+mod ReadyLaws
+mod GrowWhole
+mod SpaceTicks

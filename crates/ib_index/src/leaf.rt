@@ -144,7 +144,7 @@ fn take_out(mtr: &mut Work<'_>, leaf: u32, key: Key)
 }
 
 // The answer to a change that was committed, or found the log full, all of whose entries were seen then.
-fn changed(call: Call, made: Reply, committed: Result<u32, LogFull>, seen: u32) -> Record
+pub(crate) fn changed(call: Call, made: Reply, committed: Result<u32, LogFull>, seen: u32) -> Record
     ensures made { IfOk committed (λ place. result
         ≡ record { call = call; reply = made; place = place }) }
     ensures full { IfErr committed (λ full. result

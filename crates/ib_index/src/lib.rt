@@ -1,6 +1,7 @@
 //! The index: lookups and changes of one tree that sessions share.
 #![tactic(auto)]
 
+mod grow;
 mod index;
 mod leaf;
 #[cfg(test)]

@@ -1,0 +1,223 @@
+-- An insert that is planned for the memory behind a log may be appended to it.
+use Rattle.std.specs.List.{All, AllByRecursion}
+use Rattle.std.specs.Prelude.{IsSome, IfSome}
+use Rattle.std.proofs.Common.{◌≡◌, ◌≢◌, ◌⊎◌, inl, inr, ℕ, ◌+◌, ◌*◌, ◌^◌, ◌<◌, ◌≤◌, Bool, true, false, cond, List, [], ◌∷◌, ◌++◌, length, Option, Some, None, refl, sym, ap, subst, ◌∙◌, arith}
+use Rattle.std.proofs.lemmas.Bool.{cases_eq}
+use Rattle.ib_map.specs.Keys.{MapKey, IsKey}
+use Rattle.ib_map.specs.History.{changes_of}
+use Rattle.ib_map.specs.Map.{answer_of, effect_of, is_made, key_of}
+use Rattle.ib_map.specs.Pairs.{value_at}
+use Rattle.ib_map.specs.Space.{has_pages}
+use Rattle.ib_map.specs.Writes.{PlacesRise, spans_pages, touches}
+use Rattle.ib_map.specs.declared.TheConstants.{PAGE_WORDS}
+use Rattle.ib_map.specs.declared.write.Write.{Write}
+use Rattle.ib_map.specs.declared.call.Change.TheVariants.{Insert}
+use Rattle.ib_map.specs.declared.call.Change.{Change}
+use Rattle.ib_map.proofs.KeyLaws.{rank-lt_end}
+use Rattle.ib_page.specs.Form.{page_of}
+use Rattle.ib_page.specs.Page.{PageValue, HoldsPage}
+use Rattle.ib_page.specs.Page.PageValue.{Malformed as MalformedValue, Free as FreeValue, Tree as TreeValue}
+use Rattle.ib_page.specs.Space.{IsSpacePage, space_clock_of}
+use Rattle.ib_page.specs.Work.{WorkPage, IsWork, PagesAscend, changed_of}
+use Rattle.ib_page.specs.Writes.{writes_of}
+use Rattle.ib_page.specs.declared.TheConstants.{MOST_RECORDS}
+use Rattle.ib_page.proofs.FormLaws.{length-formed}
+use Rattle.ib_page.proofs.StoreLaws.{writes_rise}
+use Rattle.ib_logrec.specs.declared.entry.Entry.{Entry}
+use Rattle.ib_logrec.specs.declared.entry.TheConstants.{MOST_SESSIONS}
+use Rattle.ib_logrec.specs.Grammar.{IsInGrammar}
+use Rattle.ib_logrec.specs.Log.{memory_after, history_of, map_of, by_place}
+use Rattle.ib_walk.specs.Full.{chosen, free_of, is_too_high, need_of}
+use Rattle.ib_walk.specs.Pages.{Malformed, PageMemory}
+use Rattle.ib_walk.specs.Search.{leaf_for}
+use Rattle.ib_walk.specs.Trees.{content_of, height_of}
+use Rattle.ib_walk.specs.Words.{bits_of, image_of, pages_of, state_of}
+use Rattle.ib_walk.proofs.ImageLaws.{pages_of-image}
+use Rattle.ib_plans.specs.Agreement.{Agrees, HasBits, IsPlanned, IsThere, bits_in, memory_in, reads_of, space_ticks, state_or_free}
+use Rattle.ib_plans.specs.Insert.{Growth, planned_insert}
+use Rattle.ib_plans.specs.Leads.{LeadsTo}
+use Rattle.ib_plans.specs.Marks.{ticked}
+use Rattle.ib_tree.specs.Logs.{pages_after}
+use Rattle.ib_tree.specs.TreeLog.{opening}
+use Rattle.ib_tree.proofs.LogLaws.{pages_after-untouched}
+use Rattle.ib_kept.specs.Kept.{IsKeptLog, IsPlannedEntry, IsPlannedStep, MayPlan, planned}
+use Rattle.ib_kept.specs.LeafChange.{kept_pages}
+use Rattle.ib_kept.proofs.LeadLaws.{planned-leads}
+use Rattle.ib_kept.proofs.LeafPlanLaws.{leaf-page}
+use Rattle.ib_kept.proofs.PageChangeLaws.{bits_of-space}
+use Rattle.ib_kept.proofs.PushLaws.{IsKeptLog-push, content-before}
+use Rattle.ib_split.specs.Inserts.{HasFresh, IsPlannedInsert}
+use Rattle.ib_index.proofs.PlanLaws.{plan-bits, plan-on}
+use Rattle.ib_index.proofs.WorkLaws.{IsAsBefore, image-after, image-still, none-same, still-after, work-count, work-differ}
+
+-- the next entry of its session behind the log: it makes the change, and writes the words of the work set that differ
+pub record IsNextEntry (log : List Entry) (change : Change) (work : List WorkPage) (e : Entry) : Type 0 where
+  pub session : 1 ≤ e.session
+  pub most_session : e.session ≤ MOST_SESSIONS
+  pub number : e.number ≡ length (changes_of e.session (history_of log)) + 1
+  pub most_number : e.number < 2 ^ 32
+  pub change_is : e.change ≡ change
+  pub writes_are : e.writes ≡ writes_of work
+  pub structural : e.structural ≡ spans_pages e.writes
+
+-- the work set as it is changed: in order, within the space, with the images as read those of the words, and so were those that it had
+pub record IsReadFrom (pages : ℕ) (words : ℕ → ℕ) (old new : List WorkPage) : Type 0 where
+  pub work : IsWork new
+  pub within : All (λ w. w.page < pages) new
+  pub reads : reads_of new ≡ reads_of old
+  pub read : All (IsAsBefore words) new
+  pub was : IfSome (changed_of 0 old) (λ image. image_of words 0 ≡ image)
+
+formed : (v : PageValue) → ((state_of v).kind ≡ Malformed → ⊥) → HoldsPage v
+formed (TreeValue p) kind = tt
+formed (FreeValue clock) kind = tt
+formed MalformedValue kind = absurd (kind refl)
+
+some-of : (P : List ℕ → Type 0) (o : Option (List ℕ)) (image : List ℕ) → IfSome o P → o ≡ Some image → P image
+some-of P o image holds is = let Q : Option (List ℕ) → Type 0 = λ q. IfSome q P in subst Q is holds
+
+-- writes that touch a page are some
+some-writes : (page : ℕ) (ws : List Write) → (touches page ws ≡ false → ⊥) → 1 ≤ length ws
+some-writes page [] touched = absurd (touched refl)
+some-writes page (w ∷ ws) touched = omega arith
+
+module _ (pages : ℕ) (fits : has_pages pages ≡ true) (log : List Entry) (kept : IsKeptLog pages log) (key : MapKey) (value : ℕ) (path fresh : List ℕ) (old new : List WorkPage)
+    (agrees : Agrees pages 1 1 key path old (kept_pages pages log) (bits_of pages (memory_after (by_place opening pages) log)))
+    (has : HasFresh pages 1 1 key fresh (kept_pages pages log) (bits_of pages (memory_after (by_place opening pages) log)))
+    (may : MayPlan (kept_pages pages log) (bits_of pages (memory_after (by_place opening pages) log)) pages (Insert key value))
+    (made : is_made (answer_of (map_of log) (Insert key value)) ≡ true)
+    (plan : IsPlannedInsert fresh key value pages 1 (kept_pages pages log) (bits_of pages (memory_after (by_place opening pages) log)) old new)
+    (from : IsReadFrom pages (memory_after (by_place opening pages) log) old new) (e : Entry) (next : IsNextEntry log (Insert key value) new e) where
+  abbrev start : ℕ → ℕ
+  start = by_place opening pages
+
+  abbrev m : PageMemory
+  m = kept_pages pages log
+
+  abbrev bits : ℕ → ℕ
+  bits = bits_of pages (memory_after start log)
+
+  abbrev after : ℕ → ℕ
+  after = memory_after start (log ++ e ∷ [])
+
+  abbrev g : Growth
+  g = planned_insert m bits (chosen bits pages (need_of m key 1)) key value 1
+
+  abbrev then : PageMemory
+  then = ticked m g.touched g.memory
+
+  plan-now : IsPlanned pages m g.memory g.bits g.touched old new
+  plan-now = subst (λ f. IsPlannedInsert f key value pages 1 m bits old new) has.chosen_are plan
+
+  leads : LeadsTo m then g.bits 1 1 g.touched (effect_of (content_of m 1) (Insert key value))
+  leads = planned-leads m bits pages agrees.lawful agrees.few (Insert key value) agrees.is_key
+      (subst (λ xs. is_made (answer_of xs (Insert key value)) ≡ true) (sym (content-before pages fits log kept)) made) may
+
+  ascends : PagesAscend 0 new
+  ascends = let work = from.work in work.ascends
+
+  -- a page that is there is as it is planned
+  page-there : (n : ℕ) → n ≢ 0 → (image : List ℕ) → changed_of n new ≡ Some image → pages_of after n ≡ then n
+  page-there n ne image there =
+      let state : state_of (page_of image) ≡ then n =
+      sym (ap (λ (o : Option (List ℕ)). state_or_free o) there) ∙ plan-now.same n ne (subst IsSome (sym there) refl) in
+      let sound = leads.lawful.sound n ne in
+      let size = length-formed image (formed (page_of image) (λ k. sound.formed (sym (ap (λ s. s.kind) state) ∙ k))) in
+      pages_of-image after n ∙ (ap (λ (ws : List ℕ). state_of (page_of ws)) (image-after start log e new next.writes_are ascends from.read n image there size) ∙ state)
+
+  -- one that is not stays as it was
+  page-away : (n : ℕ) → n ≢ 0 → changed_of n new ≡ None → pages_of after n ≡ then n
+  page-away n ne none = go (g.touched n) refl
+    where
+      go : (b : Bool) → g.touched n ≡ b → pages_of after n ≡ then n
+      go true on = let there = plan-now.there n on in let bad = subst IsSome none there in cc
+      go false off = pages_after-untouched start log e n (still-after start log e new next.writes_are n none) ∙ sym (leads.same n off)
+
+  pages-are : (n : ℕ) → n ≢ 0 → pages_of after n ≡ then n
+  pages-are n ne = go (changed_of n new) refl
+    where
+      go : (o : Option (List ℕ)) → changed_of n new ≡ o → pages_of after n ≡ then n
+      go None none = page-away n ne none
+      go (Some image) there = page-there n ne image there
+
+  -- page 0
+  record HasSpace : Type 0 where
+    pub bits_are : (n : ℕ) → bits_of pages after n ≡ g.bits n
+    pub clock : space_clock_of (image_of after 0) ≡ space_clock_of (image_of (memory_after start log) 0) + space_ticks g.touched
+    pub space : IsSpacePage pages (image_of after 0)
+
+  bits-in : (words : ℕ → ℕ) (n : ℕ) → bits_of pages words n ≡ bits_in pages (image_of words 0) n
+  unfolding bits_of
+  bits-in words n = refl
+
+  space-there : (was image : List ℕ) → changed_of 0 old ≡ Some was → changed_of 0 new ≡ Some image → HasSpace
+  space-there was image before there =
+      let bits = some-of (HasBits pages g.bits) (changed_of 0 new) image plan-now.space there in
+      let clock = some-of (λ i. space_clock_of i ≡ space_clock_of was + space_ticks g.touched) (changed_of 0 new) image
+      (some-of (λ w. IfSome (changed_of 0 new) (λ i. space_clock_of i ≡ space_clock_of w + space_ticks g.touched)) (changed_of 0 old) was plan-now.clock before) there in
+      let now = image-after start log e new next.writes_are ascends from.read 0 image there bits.0.size in
+      let then = some-of (λ i. image_of (memory_after start log) 0 ≡ i) (changed_of 0 old) was from.was before in
+      record {
+        bits_are = λ n. bits-in after n ∙ (ap (λ (ws : List ℕ). bits_in pages ws n) now ∙ sym (bits.1 n));
+        clock = ap space_clock_of now ∙ (clock ∙ ap (λ (ws : List ℕ). space_clock_of ws + space_ticks g.touched) (sym then));
+        space = subst (IsSpacePage pages) (sym now) bits.0;
+      }
+
+  space-away : IsSpacePage pages (image_of (memory_after start log) 0) → changed_of 0 new ≡ None → HasSpace
+  space-away space none = go (g.touched 0) refl
+    where
+      go : (b : Bool) → g.touched 0 ≡ b → HasSpace
+      go true on = let there = plan-now.there 0 on in let bad = subst IsSome none there in cc
+      go false off =
+          let still = image-still start log e new next.writes_are 0 none in
+          record {
+            bits_are = λ n. bits_of-space pages (memory_after start log) after n still ∙ sym (plan-bits m bits (chosen bits pages (need_of m key 1)) key value n 1 off);
+            clock = let t : space_ticks g.touched ≡ 0 = ap (λ (b : Bool). cond {A = ℕ} b 1 0) off in let c = ap space_clock_of still in omega arith;
+            space = subst (IsSpacePage pages) (sym still) space;
+          }
+
+  module _ (space : IsSpacePage pages (image_of (memory_after start log) 0)) where
+    has-space : HasSpace
+    has-space = go (changed_of 0 old) (changed_of 0 new) refl refl
+      where
+        go : (a b : Option (List ℕ)) → changed_of 0 old ≡ a → changed_of 0 new ≡ b → HasSpace
+        go (Some was) (Some image) before there = space-there was image before there
+        go None b before there = space-away space (none-same 0 new old from.reads before)
+        go (Some was) None before there = space-away space there
+
+    leaf-written : touches (leaf_for m key 1) e.writes ≡ false → ⊥
+    leaf-written none =
+        let leaf = leaf-page m bits 1 agrees.lawful key (rank-lt_end key agrees.is_key) 1 (omega arith) (omega arith) in
+        let on = plan-on m bits (chosen bits pages (need_of m key 1)) key value (leaf_for m key 1) 1 refl in
+        let same = sym (pages-are (leaf_for m key 1) leaf.some) ∙ pages_after-untouched start log e (leaf_for m key 1) none in
+        let clock : (then (leaf_for m key 1)).clock ≡ (m (leaf_for m key 1)).clock + 1 = rw on refl in
+        let was = ap (λ s. s.clock) same in absurd (omega arith)
+
+    grammar : IsInGrammar pages e
+    grammar = record {
+      session = next.session;
+      most_session = next.most_session;
+      number = let n = next.number in omega arith;
+      most_number = next.most_number;
+      key = subst (λ k. IsKey (key_of k)) (sym next.change_is) agrees.is_key;
+      writes = some-writes (leaf_for m key 1) e.writes leaf-written;
+      most_writes = let a = ap length next.writes_are in let b = work-count (memory_after start log) new from.read in let work = from.work in let c = work.few in omega arith;
+      places = subst (λ ws. PlacesRise 0 ws (pages * PAGE_WORDS)) (sym next.writes_are) (writes_rise 0 pages new ascends from.within);
+      structural = next.structural;
+    }
+
+    pub entry-planned : IsPlannedEntry pages start log e
+    entry-planned =
+        let s = has-space in
+        let step : IsPlannedStep pages (memory_after start log) after m (kept_pages pages (log ++ e ∷ [])) (planned m bits pages (Insert key value)) =
+        record { pages_are = pages-are; bits_are = s.bits_are; clock = s.clock } in
+        record {
+          may = subst (MayPlan m bits pages) (sym next.change_is) may;
+          step = subst (λ k. IsPlannedStep pages (memory_after start log) after m (kept_pages pages (log ++ e ∷ [])) (planned m bits pages k)) (sym next.change_is) step;
+          differ = subst (AllByRecursion (λ (w : Write). memory_after start log w.place ≢ w.value)) (sym next.writes_are) (work-differ (memory_after start log) new from.read);
+        }
+
+    pub entry-kept : IsKeptLog pages (log ++ e ∷ [])
+    entry-kept =
+        let s = has-space in
+        IsKeptLog-push pages fits log kept e grammar (subst (λ k. is_made (answer_of (map_of log) k) ≡ true) (sym next.change_is) made) entry-planned next.number s.space

@@ -1,0 +1,188 @@
+-- A page more is taken by an insert that changes the tree's structure.
+use Rattle.std.specs.List.{All, AllByRecursion}
+use Rattle.std.specs.Prelude.{IsSome, IsSomeAnd, ◌==◌, ◌||◌, nat_lt}
+use Rattle.std.proofs.Common.{◌≡◌, ◌≢◌, ◌⊎◌, inl, inr, ℕ, suc, ◌+◌, ◌<◌, ◌≤◌, Bool, true, false, cond, List, [], ◌∷◌, ◌++◌, Option, Some, None, length, map, refl, sym, ap, subst, ◌∙◌, arith, eq-eqb, ne_eqb, length-append}
+use Rattle.std.proofs.lemmas.Bool.{cases_eq}
+use Rattle.std.proofs.lemmas.List.{map-append}
+use Rattle.ib_map.specs.Keys.{MapKey, IsKey}
+use Rattle.ib_map.specs.Space.{has_pages}
+use Rattle.ib_map.specs.Writes.{touches, word_place}
+use Rattle.ib_map.proofs.KeyLaws.{rank-lt_end}
+use Rattle.ib_levels.specs.declared.level.Level.{Level}
+use Rattle.ib_levels.specs.declared.level.Level.TheVariants.{Space}
+use Rattle.ib_levels.specs.declared.level.Mode.TheVariants.{X}
+use Rattle.ib_levels.specs.Level.{may_follow}
+use Rattle.ib_layout.specs.Geometry.{Sizes}
+use Rattle.ib_core.specs.Holders.{CanWish}
+use Rattle.ib_core.specs.Sessions.{holdings}
+use Rattle.ib_page.specs.Image.{IsTreePage}
+use Rattle.ib_page.specs.Work.{WorkPage, changed_of, with_page, with_read}
+use Rattle.ib_logrec.specs.declared.entry.Entry.{Entry}
+use Rattle.ib_logrec.specs.Log.{by_place}
+use Rattle.ib_walk.proofs.ImageLaws.{page_at-word}
+use Rattle.ib_plans.specs.Agreement.{HasTreePages, IsThere, last_of, memory_in, reads_of, state_or_free, way_of}
+use Rattle.ib_plans.proofs.EditLaws.{IsSome-and}
+use Rattle.ib_tree.specs.PageLists.{is_among}
+use Rattle.ib_tree.specs.TreeLog.{opening}
+use Rattle.ib_kept.specs.Kept.{IsKeptLog}
+use Rattle.ib_kept.specs.LeafChange.{kept_pages}
+use Rattle.ib_rule.specs.declared.memory.Memory.{Memory}
+use Rattle.ib_rule.specs.Pass.{PassState}
+use Rattle.ib_rule.specs.Views.{is_watched}
+use Rattle.ib_rule.proofs.Watching.{word_stays}
+use Rattle.ib_rule.specs.Space.{SpaceState}
+use Rattle.ib_frames.specs.Reads.{IsLoadedImage}
+use Rattle.ib_mtr.specs.Loads.{IsPageAfter}
+use Rattle.ib_mtr.specs.Mtr.{IsMtr, with_work}
+use Rattle.ib_mtr.proofs.Images.{All-with_page}
+use Rattle.ib_cursor.specs.Claims.{claim_grant, IsAsRead}
+use Rattle.ib_cursor.specs.Descent.{HasPage}
+use Rattle.ib_cursor.specs.Grants.{Grant, HasGrants, HasTaken, IsAway}
+use Rattle.ib_cursor.specs.Shapes.{HasGlanced, KeepsClaim}
+use Rattle.ib_cursor.specs.Takings.{IsHeldPage, is_loaded}
+use Rattle.ib_cursor.proofs.ClaimLaws.{keeps_after}
+use Rattle.ib_cursor.proofs.GrantLaws.{can_wish, grants_more}
+use Rattle.ib_cursor.proofs.ReadLaws.{keeps_path}
+use Rattle.ib_cursor.proofs.StandLaws.{beside_taken, went_beside, went_both}
+use Rattle.ib_cursor.proofs.TakeLaws.{absent_loaded, all-both, among-more, loaded-more, long-more, not-first}
+use Rattle.ib_index.specs.Grows.{HasGrown, IsGrowing, IsStanding, held_grant, pages_held, tree_pages}
+use Rattle.ib_index.proofs.AgreeLaws.{kept-shapes}
+use Rattle.ib_index.proofs.WorkLaws.{reads-each}
+
+-- the image of a page, with one more that was not there
+pub changed-more : (n page : ℕ) (image : List ℕ) (ps : List WorkPage) → changed_of page ps ≡ None → changed_of n (with_read page image ps) ≡ cond (page == n) (Some image) (changed_of n ps)
+changed-more n page image [] none = refl
+changed-more n page image (p ∷ ps) none = elim (cases_eq p.page page) [
+  | inl e ↦ let bad : Some p.changed ≡ None = sym (ap (λ b. cond b (Some p.changed) (changed_of page ps)) (eq-eqb p.page page e)) ∙ none in cc
+  | inr ne ↦
+      let rest = changed-more n page image ps (sym (ap (λ b. cond b (Some p.changed) (changed_of page ps)) (ne_eqb p.page page ne)) ∙ none) in
+      by_test rest (nat_lt p.page page) ne
+]
+  where
+    turned : (p.page ≢ page) → (cond (p.page == n) (Some p.changed) (cond (page == n) (Some image) (changed_of n ps))) ≡ cond (page == n) (Some image) (cond (p.page == n) (Some p.changed) (changed_of n ps))
+    turned ne = elim (cases_eq page n) [
+      | inl e ↦ let yes = eq-eqb page n e in let other = ne_eqb p.page n (λ q. ne (q ∙ sym e)) in rw (yes, other) refl
+      | inr away ↦ let other = ne_eqb page n away in rw other refl
+    ]
+
+    by_test : changed_of n (with_read page image ps) ≡ cond (page == n) (Some image) (changed_of n ps) → (b : Bool) → p.page ≢ page
+        → changed_of n (cond b (p ∷ with_read page image ps) (record { page = page; before = image; changed = image } ∷ p ∷ ps)) ≡ cond (page == n) (Some image) (changed_of n (p ∷ ps))
+    by_test r true ne = ap (λ o. cond (p.page == n) (Some p.changed) o) r ∙ turned ne
+    by_test r false ne = refl
+
+pub changed-kept : (n page : ℕ) (image : List ℕ) (ps : List WorkPage) → changed_of page ps ≡ None → IsThere ps n → changed_of n (with_read page image ps) ≡ changed_of n ps
+changed-kept n page image ps none there = elim (cases_eq page n) [
+  | inl e ↦ let bad : IsSome (changed_of page ps) = subst (IsThere ps) (sym e) there in let worse = subst IsSome none bad in cc
+  | inr ne ↦ changed-more n page image ps none ∙ ap (λ b. cond b (Some image) (changed_of n ps)) (ne_eqb page n ne)
+]
+
+-- no grant is on the latch of a page that is none of these
+away-held : (held : List (ℕ × Level)) (page : ℕ) → is_among (pages_held held) page ≡ false → IsAway (page + 2) (map held_grant held)
+away-held [] page none = tt
+away-held (h ∷ hs) page none =
+    let n = not-first (h.0 == page) (is_among (pages_held hs) page) none in
+    ((λ e. let y : (h.0 == page) ≡ true = eq-eqb h.0 page (omega (arith, e)) in let z : true ≡ false = sym y ∙ n.0 in cc), away-held hs page n.1)
+
+-- the pages of the tree, as they are held
+pub among-tree : (held : List ℕ) (n : ℕ) → is_among (pages_held (tree_pages held)) n ≡ is_among held n
+among-tree [] n = refl
+among-tree (x ∷ xs) n = ap (λ b. (x == n) || b) (among-tree xs n)
+
+pub length-tree : (held : List ℕ) → length (tree_pages held) ≡ length held
+length-tree [] = refl
+length-tree (x ∷ xs) = let r = length-tree xs in omega arith
+
+pub follow-space : (held : List ℕ) → AllByRecursion (λ (g : Grant). may_follow g.level Space ≡ true) (map held_grant (tree_pages held))
+follow-space [] = tt
+follow-space (x ∷ xs) = (refl, follow-space xs)
+
+trees-kept : (P : ℕ → Type 0) (Q : ℕ → Type 0) (ns : List ℕ) → ((n : ℕ) → P n → Q n) → All P ns → All Q ns
+trees-kept P Q ns f all = λ i d lt. f _ (all i d lt)
+
+module _ (sizes : Sizes) (key : MapKey) (path : List ℕ) (held : List (ℕ × Level)) (page : ℕ) (level : Level) (p : PassState)
+    (can : IsGrowing sizes key path held p) (other : is_among (pages_held held) page ≡ false) where
+  abbrev start : ℕ → ℕ
+  start = by_place opening sizes.pages
+
+  pub grow-may : AllByRecursion (λ (g : Grant). may_follow g.level level ≡ true) (claim_grant ∷ map held_grant held) → CanWish (page + 2) level p.view.session
+  grow-may follow = can_wish (claim_grant ∷ map held_grant held) p can.grants (page + 2) level ((λ e. absurd (omega arith)), away-held held page other) follow
+
+  pub grow-absent : changed_of page p.work ≡ None
+  grow-absent = absent_loaded page p.work (can.loaded page ∙ other)
+
+  module _ (fits : has_pages sizes.pages ≡ true) (is : IsKey key) (q r : PassState) (inside : page < sizes.pages) (was : All (λ w. 0 < holdings (w.page + 2) p.view.session) p.work) (taken : HasTaken (held_grant (page, level)) p q) (glanced : HasGlanced sizes (IsKeptLog sizes.pages) q r)
+      (memo : r.memo ≡ q.memo) (session : r.view.session ≡ q.view.session) (grants : r.view.grants ≡ q.view.grants) (load : HasPage start page q r) (now : All (λ w. 0 < holdings (w.page + 2) r.view.session) r.work) where
+    all-grants : HasGrants (claim_grant ∷ map held_grant (held ++ (page, level) ∷ [])) r
+    all-grants = subst (λ gs. HasGrants gs r) (ap (λ gs. claim_grant ∷ gs) (sym (map-append held_grant held ((page, level) ∷ []))))
+        (grants_more (claim_grant ∷ map held_grant held) (held_grant (page, level)) p r can.grants (memo ∙ ap (λ (u : PassState). u.memo) taken.pass) (session ∙ taken.taken.session))
+
+    work-is : r.work ≡ with_read page load.image p.work
+    work-is = load.work ∙ ap (λ (u : PassState). with_read page load.image u.work) taken.pass
+
+    still : (w : WorkPage) → IsHeldPage start p w → 0 < holdings (w.page + 2) p.view.session → IsAsRead start r.view.memory.seen w
+    still w h some =
+        let calm = glanced.seen.steady w.page (ap (λ (m : Memory). is_watched (w.page + 2) m.since) taken.taken.memory ∙ h.watched) in
+        let log : r.view.memory.seen ≡ p.view.memory.seen ++ glanced.seen.went.more = glanced.seen.went.seen ∙ ap (λ (m : Memory). m.seen ++ glanced.seen.went.more) taken.taken.memory in
+        record {
+          size = h.read.size;
+          is_page = subst (λ l. IsPageAfter start l w.page w.before) (sym log) (λ index lt. h.read.is_page index lt ∙ sym (word_stays start p.view.memory.seen glanced.seen.went.more (word_place w.page index)
+              (subst (λ (n : ℕ). AllByRecursion (λ (e : Entry). touches n e.writes ≡ false) glanced.seen.went.more) (sym (page_at-word w.page index lt)) calm)));
+          unchanged = h.read.unchanged;
+        }
+
+    images : All (IsAsRead start r.view.memory.seen) r.work
+    images = subst (All (IsAsRead start r.view.memory.seen)) (sym work-is) (All-with_page (IsAsRead start r.view.memory.seen) (record { page = page; before = load.image; changed = load.image }) p.work
+        (record { size = load.size; is_page = load.is_page; unchanged = refl })
+        (all-both (IsHeldPage start p) (λ w. 0 < holdings (w.page + 2) p.view.session) (IsAsRead start r.view.memory.seen) p.work still can.at.read was))
+
+    keeps : KeepsClaim p r
+    keeps = keeps_after p q r taken.taken.memory glanced.keeps can.at.claimed
+
+    kept-image : (n : ℕ) → IsThere p.work n → changed_of n r.work ≡ changed_of n p.work
+    kept-image n there = ap (changed_of n) work-is ∙ changed-kept n page load.image p.work grow-absent there
+
+    kept-there : (n : ℕ) → IsThere p.work n → IsThere r.work n
+    kept-there n there = subst IsSome (sym (kept-image n there)) there
+
+    same-page : (n : ℕ) → IsThere p.work n → memory_in r.work n ≡ memory_in p.work n
+    same-page n there = ap state_or_free (kept-image n there)
+
+    pub has-grown : HasGrown sizes key path held page level p r
+    has-grown = record {
+      growing = record {
+        at = record {
+          claimed = keeps.claimed;
+          read = all-both (IsAsRead start r.view.memory.seen) (λ w. 0 < holdings (w.page + 2) r.view.session) (IsHeldPage start r) r.work (λ w a b. record { read = a; watched = glanced.seen.watched (w.page + 2) b }) images now;
+          way = can.at.way ∙ sym (keeps_path sizes 1 (IsKeptLog sizes.pages) start (kept-shapes sizes.pages fits) 1 (omega arith) (omega arith) key (rank-lt_end key is) p r glanced.seen.known keeps);
+          known = glanced.seen.known;
+        };
+        grants = all-grants;
+        loaded = λ n. ap (is_loaded n) work-is ∙ (loaded-more n (record { page = page; before = load.image; changed = load.image }) p.work
+            ∙ (ap (λ t. (page == n) || t) (can.loaded n) ∙ sym (ap (λ ns. is_among ns n) (map-append (λ (h : ℕ × Level). h.0) held ((page, level) ∷ [])) ∙ among-more (pages_held held) page n)));
+        count = let a = ap length work-is in let b = long-more (record { page = page; before = load.image; changed = load.image }) p.work in let c = can.count in let d = length-append held ((page, level) ∷ []) in omega arith;
+        within = subst (All (λ w. w.page < sizes.pages)) (sym work-is) (All-with_page (λ w. w.page < sizes.pages) (record { page = page; before = load.image; changed = load.image }) p.work inside can.within);
+        trees = trees-kept (λ n. IsSomeAnd (changed_of n p.work) IsTreePage) (λ n. IsSomeAnd (changed_of n r.work) IsTreePage) path
+            (λ n h. subst (λ (o : Option (List ℕ)). IsSomeAnd o IsTreePage) (sym (kept-image n (IsSome-and IsTreePage (changed_of n p.work) h))) h) can.trees;
+        leaf = kept-there (last_of path) can.leaf;
+        next = λ ne.
+            let same = ap (λ s. s.next) (same-page (last_of path) can.leaf) in
+            subst (IsThere r.work) (sym same) (kept-there (memory_in p.work (last_of path)).next (can.next (λ z. ne (same ∙ z))));
+      };
+      went = went_both p q r (went_beside p q (beside_taken (held_grant (page, level)) p q taken)) glanced.seen.went;
+      grants = grants ∙ taken.taken.grants;
+      there = subst IsSome (sym (ap (changed_of page) work-is ∙ (changed-more page page load.image p.work grow-absent ∙ ap (λ b. cond b (Some load.image) (changed_of page p.work)) (eq-eqb page page refl)))) refl;
+      same = kept-image;
+    }
+
+-- a work set with the same images as read is one of the mini-transaction
+pub planned-mtr : (space : SpaceState) (p : PassState) (work : List WorkPage) → IsMtr space p → reads_of work ≡ reads_of p.work → IsMtr space (with_work work p)
+planned-mtr space p work mtr same = record {
+  own = record { table = mtr.own.table; sizes = mtr.own.sizes; closed = mtr.own.closed };
+  works = mtr.works;
+  free = mtr.free;
+  proper = mtr.proper;
+  exact = mtr.exact;
+  known = mtr.known;
+  held = reads-each (λ page before. 0 < holdings (page + 2) p.view.session) work p.work same mtr.held;
+  read = reads-each (λ page before. IsLoadedImage p.view.memory.loaded page before) work p.work same mtr.read;
+}

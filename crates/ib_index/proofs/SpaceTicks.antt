@@ -1,0 +1,93 @@
+-- The clock of page 0 may tick: as a page of the tree it is none, and as the space page it is not above the number of entries.
+use Rattle.std.specs.Prelude.{IfSome, nat_lt, ◌==◌}
+use Rattle.std.proofs.Common.{◌≡◌, ◌≢◌, ℕ, ◌+◌, ◌^◌, ◌<◌, ◌≤◌, Bool, true, false, cond, List, [], ◌++◌, length, Option, Some, None, inl, inr, refl, sym, ap, subst, ◌∙◌, arith, append-nil}
+use Rattle.std.proofs.lemmas.Bool.{cases_Bool, cases_eq}
+use Rattle.ib_map.specs.Keys.{MapKey, IsKey}
+use Rattle.ib_layout.specs.Geometry.{Sizes}
+use Rattle.ib_page.specs.Page.{PageValue, HoldsPage}
+use Rattle.ib_page.specs.Page.PageValue.{Malformed as MalformedValue, Free as FreeValue, Tree as TreeValue}
+use Rattle.ib_page.specs.Form.{page_of}
+use Rattle.ib_page.specs.Space.{is_taken, space_clock_of}
+use Rattle.ib_page.specs.Work.{changed_of}
+use Rattle.ib_page.proofs.FormLaws.{kind_read}
+use Rattle.ib_page.proofs.SpaceLaws.{bit_in_word}
+use Rattle.ib_walk.specs.Words.{state_of, image_of, bits_of}
+use Rattle.ib_logrec.specs.declared.entry.Entry.{Entry}
+use Rattle.ib_logrec.specs.Log.{by_place, memory_after}
+use Rattle.ib_tree.specs.TreeLog.{opening}
+use Rattle.ib_plans.specs.Agreement.{MayTick, bits_in, memory_in, state_or_free}
+use Rattle.ib_plans.proofs.MetLaws.{met-set, root-met}
+use Rattle.ib_kept.specs.Kept.{IsKeptLog}
+use Rattle.ib_kept.specs.LeafChange.{kept_pages}
+use Rattle.ib_kept.proofs.ClockLaws.{space_clock-le}
+use Rattle.ib_rule.specs.Pass.{PassState}
+use Rattle.ib_index.specs.Grows.{IsReady}
+use Rattle.ib_index.specs.Leaf.{IsSeated}
+use Rattle.ib_index.proofs.AgreeLaws.{agrees-now, still-in, images-now}
+use Rattle.ib_index.proofs.FreshLaws.{bits-same}
+use Rattle.ib_index.proofs.GrowWhole.{page-ticks}
+
+-- an image that is no page has no clock
+no-clock : (v : PageValue) → (HoldsPage v → ⊥) → (state_of v).clock ≡ 0
+no-clock (TreeValue p) none = absurd (none tt)
+no-clock (FreeValue clock) none = absurd (none tt)
+no-clock MalformedValue none = refl
+
+-- an image with bit 1 set is no page: the first word of a page is 0 or 1
+no-page : (image : List ℕ) → is_taken image 1 ≡ true → HoldsPage (page_of image) → ⊥
+no-page image taken holds =
+    let at = bit_in_word image 0 1 (omega arith) in
+    elim (kind_read image holds) [
+      | inl one ↦ let e : is_taken image 1 ≡ false = at ∙ rw one.1 refl in cc
+      | inr zero ↦ let e : is_taken image 1 ≡ false = at ∙ rw zero.1 refl in cc
+    ]
+
+bit-taken : (pages : ℕ) (image : List ℕ) → bits_in pages image 1 ≢ 0 → is_taken image 1 ≡ true
+bit-taken pages image some = elim (cases_Bool (is_taken image 1)) [
+  | inl set ↦ set
+  | inr none ↦ absurd (some (elim (cases_Bool (nat_lt 1 pages)) [
+    | inl in_space ↦ rw in_space (rw none refl)
+    | inr out ↦ rw out refl
+  ]))
+]
+
+module _ (sizes : Sizes) (key : MapKey) (is : IsKey key) (path fresh : List ℕ) (q t : PassState) (seated : IsSeated sizes t) (ready : IsReady sizes key path fresh q t) where
+  zero-ticks : (memory_in t.work 0).clock < 2 ^ 63
+  zero-ticks = go (changed_of 0 t.work) refl
+    where
+      go : (o : Option (List ℕ)) → changed_of 0 t.work ≡ o → (memory_in t.work 0).clock < 2 ^ 63
+      go None none = let z : (memory_in t.work 0).clock ≡ 0 = ap (λ o. (state_or_free o).clock) none in omega arith
+      go (Some image) there =
+          let a = agrees-now sizes seated.fits key is path t ready.growing.at in
+          let m = kept_pages sizes.pages t.view.memory.seen in
+          let bits = bits_of sizes.pages (memory_after (by_place opening sizes.pages) t.view.memory.seen) in
+          let set = met-set _ m bits 1 a.lawful 1 (omega arith) (omega arith) 1 (root-met m 1) in
+          let same = ap (λ (b : ℕ → ℕ). b 1) (bits-same sizes.pages key path t.work m bits image a there) in
+          let taken = bit-taken sizes.pages image (λ z. set (sym same ∙ z)) in
+          let none = no-clock (page_of image) (no-page image taken) in
+          let e : (memory_in t.work 0).clock ≡ (state_of (page_of image)).clock = ap (λ o. (state_or_free o).clock) there in omega arith
+
+  space-ticks : IfSome (changed_of 0 t.work) (λ image. space_clock_of image < 2 ^ 63)
+  space-ticks =
+      let log = t.view.memory.seen in
+      let kept = subst (IsKeptLog sizes.pages) (sym (append-nil log)) ready.growing.at.known.legal in
+      let all = images-now sizes seated.fits key is path t ready.growing.at t.number [] tt kept in
+      let here = still-in (memory_after (by_place opening sizes.pages) (log ++ [])) 0 t.work all in
+      let le = space_clock-le sizes.pages seated.fits (log ++ []) kept in
+      let long : length (log ++ []) ≡ length log = ap length (append-nil log) in
+      let few = seated.few in
+      go (changed_of 0 t.work) here (let l : space_clock_of (image_of (memory_after (by_place opening sizes.pages) (log ++ [])) 0) < 2 ^ 63 = omega arith in l)
+    where
+      go : (o : Option (List ℕ)) → IfSome o (λ image. image_of (memory_after (by_place opening sizes.pages) (t.view.memory.seen ++ [])) 0 ≡ image)
+          → space_clock_of (image_of (memory_after (by_place opening sizes.pages) (t.view.memory.seen ++ [])) 0) < 2 ^ 63 → IfSome o (λ image. space_clock_of image < 2 ^ 63)
+      go None here lt = tt
+      go (Some image) here lt = subst (λ (ws : List ℕ). space_clock_of ws < 2 ^ 63) here lt
+
+  pub may-tick : MayTick t.work
+  may-tick = (ticks, space-ticks)
+    where
+      ticks : (n : ℕ) → (memory_in t.work n).clock < 2 ^ 63
+      ticks n = elim (cases_eq n 0) [
+        | inl z ↦ subst (λ n. (memory_in t.work n).clock < 2 ^ 63) (sym z) zero-ticks
+        | inr ne ↦ page-ticks sizes key is path fresh q t seated ready n ne
+      ]

@@ -1,0 +1,23 @@
+-- The load tells what was seen, and the page.
+use Rattle.std.proofs.Common.{◌≡◌, subst, ap}
+use Rattle.ib_logrec.specs.Log.{by_place}
+use Rattle.ib_tree.specs.TreeLog.{opening}
+use Rattle.ib_kept.specs.Kept.{IsKeptLog}
+use Rattle.ib_rule.specs.declared.view.Role.TheVariants.{Session}
+use Rattle.ib_rule.specs.Pass.{PassState}
+use Rattle.ib_cursor.proofs.ClaimLaws.{glanced_loaded}
+use Rattle.ib_index.proofs.grow.load_page.Goals as goal
+
+pub returns-clause-glanced : goal.returns-clause-glanced
+returns-clause-glanced c =
+    let sizes = c.args.mtr.now.latches.now.sizes in
+    glanced_loaded sizes (IsKeptLog sizes.pages) (by_place opening sizes.pages) c.args.page c.args.mtr.now.pass.now c.load.new.self.pass.now
+    (subst (λ (r : PassState). r.view.role ≡ Session r.number) c.pass.ensures c.number.ensures.session) c.load.ensures.loaded
+
+pub returns-clause-loaded : goal.returns-clause-loaded
+returns-clause-loaded c = record {
+  image = c.load.ensures.loaded.image;
+  size = c.load.ensures.loaded.size;
+  is_page = c.load.ensures.loaded.is_page;
+  work = ap (λ (r : PassState). r.work) c.load.ensures.loaded.pass;
+}

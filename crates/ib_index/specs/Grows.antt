@@ -1,0 +1,131 @@
+-- An insert that changes the tree's structure.
+use Rattle.std.specs.Prelude.{◌≡◌, ◌≢◌, ℕ, ◌+◌, ◌<◌, ◌≤◌, true, false, List, [], ◌∷◌, ◌++◌, length, map, Some}
+use Rattle.std.specs.List.{All, AllByRecursion}
+use Rattle.ib_map.specs.Keys.{MapKey}
+use Rattle.ib_levels.specs.declared.level.Level.{Level}
+use Rattle.ib_levels.specs.declared.level.Level.TheVariants.{Log, PageNew, Space, TreeNode}
+use Rattle.ib_levels.specs.declared.level.Mode.TheVariants.{X}
+use Rattle.ib_layout.specs.Geometry.{Sizes}
+use Rattle.ib_logrec.specs.Log.{by_place}
+use Rattle.ib_page.specs.Work.{WorkPage, changed_of}
+use Rattle.ib_plans.specs.Agreement.{Agrees, HasTreePages, IsThere, last_of, memory_in, way_of}
+use Rattle.ib_levels.specs.Level.{may_follow}
+use Rattle.ib_walk.specs.Full.{free_of, is_too_high, need_of}
+use Rattle.ib_walk.specs.Pages.{PageMemory, Tree}
+use Rattle.ib_split.specs.Inserts.{HasFresh}
+use Rattle.ib_tree.specs.PageLists.{AreOnce, is_among}
+use Rattle.ib_tree.specs.TreeLog.{opening}
+use Rattle.ib_kept.specs.Kept.{IsKeptLog}
+use Rattle.ib_kept.specs.LeafChange.{kept_pages}
+use Rattle.ib_rule.specs.Pass.{PassState}
+use Rattle.ib_rule.specs.Views.{total, with_grant}
+use Rattle.ib_cursor.specs.Claims.{claim_grant}
+use Rattle.ib_cursor.specs.Going.{IsKnown, WentOn}
+use Rattle.ib_cursor.specs.Grants.{Grant, HasGrants}
+use Rattle.ib_cursor.specs.Shapes.{is_claimed}
+use Rattle.ib_cursor.specs.Takings.{IsHeldPage, is_loaded}
+
+-- the session stands on the key's way: the index is claimed, each page of the work set is watched and as it was read, and the path is the key's in the tree after all seen
+pub record IsStanding (sizes : Sizes) (key : MapKey) (path : List ℕ) (p : PassState) : Type 0 where
+  pub claimed : is_claimed p.view.memory.since ≡ true
+  pub read : All (IsHeldPage (by_place opening sizes.pages) p) p.work
+  pub way : path ≡ way_of (kept_pages sizes.pages p.view.memory.seen) key 1
+  pub known : IsKnown sizes (IsKeptLog sizes.pages) p
+
+-- a page that is held in X, taken at this level
+abbrev pub held_grant : ℕ × Level → Grant
+held_grant h = record { latch = h.0 + 2; mode = X; level = h.1 }
+
+abbrev pub pages_held : List (ℕ × Level) → List ℕ
+pages_held held = map (λ h. h.0) held
+
+-- .. and these pages are held in X, in this order: they alone are loaded, among them the pages of the path and the leaf behind the last one
+pub record IsGrowing (sizes : Sizes) (key : MapKey) (path : List ℕ) (held : List (ℕ × Level)) (p : PassState) : Type 0 where
+  pub at : IsStanding sizes key path p
+  pub grants : HasGrants (claim_grant ∷ map held_grant held) p
+  pub loaded : (page : ℕ) → is_loaded page p.work ≡ is_among (pages_held held) page
+  pub count : length p.work ≡ length held
+  pub within : All (λ w. w.page < sizes.pages) p.work
+  pub trees : HasTreePages path p.work
+  pub leaf : IsThere p.work (last_of path)
+  pub next : (memory_in p.work (last_of path)).next ≢ 0 → IsThere p.work (memory_in p.work (last_of path)).next
+
+-- one page more was taken so, and loaded
+pub record HasGrown (sizes : Sizes) (key : MapKey) (path : List ℕ) (held : List (ℕ × Level)) (page : ℕ) (level : Level) (p q : PassState) : Type 0 where
+  pub growing : IsGrowing sizes key path (held ++ (page, level) ∷ []) q
+  pub went : WentOn p q
+  pub grants : q.view.grants ≡ with_grant (Some X) p.view.grants
+  pub there : IsThere q.work page
+  pub same : (n : ℕ) → IsThere p.work n → changed_of n q.work ≡ changed_of n p.work
+
+-- pages of the tree, by level downward and from left to right
+abbrev pub tree_pages : List ℕ → List (ℕ × Level)
+tree_pages held = map (λ page. (page, TreeNode)) held
+
+-- the way, and the leaves beside its last page, are held
+pub record HasComeToWay (sizes : Sizes) (key : MapKey) (path : List ℕ) (p q : PassState) : Type 0 where
+  pub held : List ℕ
+  pub growing : IsGrowing sizes key path (tree_pages held) q
+  pub kinds : (n : ℕ) → IsThere q.work n → (memory_in q.work n).kind ≡ Tree
+  pub zero : is_among held 0 ≡ false
+  pub once : AreOnce held sizes.pages
+  pub few : length held ≤ 10
+  pub went : WentOn p q
+  pub looked : 0 < length went.added
+  pub grants : total q.view.grants ≤ total p.view.grants + 20
+
+-- .. and page 0 behind them, and fresh pages behind that
+abbrev pub space_pages : List ℕ → List (ℕ × Level)
+space_pages held = tree_pages held ++ (0, Space) ∷ []
+
+abbrev pub new_pages : List ℕ → List (ℕ × Level)
+new_pages fresh = map (λ page. (page, PageNew)) fresh
+
+-- these fresh pages were taken
+pub record HasTakenNew (sizes : Sizes) (key : MapKey) (path : List ℕ) (held : List (ℕ × Level)) (fresh : List ℕ) (p q : PassState) : Type 0 where
+  pub growing : IsGrowing sizes key path (held ++ new_pages fresh) q
+  pub went : WentOn p q
+  pub grants : total q.view.grants ≡ total p.view.grants + length fresh
+  pub there : All (IsThere q.work) fresh
+  pub same : (n : ℕ) → IsThere p.work n → changed_of n q.work ≡ changed_of n p.work
+
+-- so many pages are needed in every memory that agrees, and the tree need not grow too high
+abbrev pub NeedsPages : ℕ → MapKey → List ℕ → ℕ → List WorkPage → Type 0
+NeedsPages pages key path need work = (memory : PageMemory) (bits : ℕ → ℕ) → Agrees pages 1 1 key path work memory bits
+    → (is_too_high memory key 1 ≡ false) × (need ≡ need_of memory key 1)
+
+-- .. and too few are free
+abbrev pub LacksPages : ℕ → MapKey → List ℕ → ℕ → ℕ → List WorkPage → Type 0
+LacksPages pages key path free need work = (memory : PageMemory) (bits : ℕ → ℕ) → Agrees pages 1 1 key path work memory bits
+    → (is_too_high memory key 1 ≡ false) × (free ≡ free_of bits pages) × (need ≡ need_of memory key 1) × (free < need)
+
+-- the fresh pages are those that the insert takes, in every memory that agrees
+abbrev pub IsFreshForAll : ℕ → MapKey → List ℕ → List ℕ → List WorkPage → Type 0
+IsFreshForAll pages key path fresh work = (memory : PageMemory) (bits : ℕ → ℕ) → Agrees pages 1 1 key path work memory bits
+    → (is_too_high memory key 1 ≡ false) × HasFresh pages 1 1 key fresh memory bits
+
+-- all pages that the insert reads and writes are held
+pub record IsReady (sizes : Sizes) (key : MapKey) (path fresh : List ℕ) (p q : PassState) : Type 0 where
+  pub held : List (ℕ × Level)
+  pub growing : IsGrowing sizes key path held q
+  pub short : length held < 64
+  pub follow : AllByRecursion (λ (g : Grant). may_follow g.level Log ≡ true) (claim_grant ∷ map held_grant held)
+  pub went : WentOn p q
+  pub grants : total q.view.grants ≤ total p.view.grants + 20
+  pub fresh_are : IsFreshForAll sizes.pages key path fresh q.work
+  pub there : All (IsThere q.work) fresh
+  pub space : 0 < length fresh → IsThere q.work 0
+  pub same : (n : ℕ) → IsThere p.work n → changed_of n q.work ≡ changed_of n p.work
+
+-- too few pages are free: page 0 is held, and says so
+pub record IsShort (sizes : Sizes) (key : MapKey) (path : List ℕ) (free need : ℕ) (p q : PassState) : Type 0 where
+  pub held : List (ℕ × Level)
+  pub growing : IsGrowing sizes key path held q
+  pub went : WentOn p q
+  pub grants : total q.view.grants ≤ total p.view.grants + 20
+  pub lacks : LacksPages sizes.pages key path free need q.work
+  pub same : (n : ℕ) → IsThere p.work n → changed_of n q.work ≡ changed_of n p.work
+
+-- so many grants more at most
+pub record TakesAtMost (most : ℕ) (p q : PassState) : Type 0 where
+  pub all : total q.view.grants ≤ total p.view.grants + most

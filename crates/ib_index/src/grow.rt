@@ -1,0 +1,330 @@
+//! The insert that changes the tree's structure.
+
+ghost use Rattle.std.specs.Prelude.{◌≡◌, ◌≢◌, ℕ, ◌+◌, ◌<◌, ◌≤◌, ◌^◌, List, [], ◌∷◌, ◌++◌, Some, None, length, true, false, IfOk, IfErr, IsTrue, MatchResult, Result};
+ghost use Rattle.ib_map.specs.Keys.{MapKey, IsKey};
+ghost use Rattle.ib_map.specs.Pairs.{value_at};
+ghost use Rattle.ib_core.specs.Holders.{CanWish};
+ghost use Rattle.ib_core.specs.Sessions.{holdings, idle};
+ghost use Rattle.ib_levels.specs.declared.level.Level.{Level as LevelValue};
+ghost use Rattle.ib_levels.specs.declared.level.Level.TheVariants.{Space};
+ghost use Rattle.ib_page.specs.Work.{WorkPage, IsWork, changed_of};
+ghost use Rattle.ib_page.specs.declared.path.TheConstants.{MOST_PATH};
+ghost use Rattle.ib_page.specs.declared.work.TheConstants.{MOST_WORK_PAGES};
+ghost use Rattle.ib_logrec.specs.Log.{by_place};
+ghost use Rattle.ib_walk.specs.Full.{chosen, free_of, is_too_high, need_of};
+ghost use Rattle.ib_walk.specs.Pages.{PageMemory};
+ghost use Rattle.ib_plans.specs.declared.fault.TreeFault.{TreeFault};
+ghost use Rattle.ib_plans.specs.Agreement.{Agrees, HasTreePages, IsThere, bits_in, last_of, memory_in, reads_of};
+ghost use Rattle.ib_split.specs.Inserts.{CanInsert, IsPlannedForAll};
+ghost use Rattle.ib_tree.specs.PageLists.{AreOnce, is_among};
+ghost use Rattle.ib_tree.specs.TreeLog.{opening};
+ghost use Rattle.ib_kept.specs.Kept.{IsKeptLog};
+ghost use Rattle.ib_rule.specs.Conditions.{MayGrow};
+ghost use Rattle.ib_rule.specs.Pass.{IsOf, PassState};
+ghost use Rattle.ib_rule.specs.Views.{total};
+ghost use Rattle.ib_mtr.specs.Mtr.{IsMtr, with_work};
+ghost use Rattle.ib_cursor.specs.Descent.{HasPage};
+ghost use Rattle.ib_cursor.specs.Shapes.{HasGlanced};
+ghost use Rattle.ib_map.specs.declared.call.Call.TheVariants.{Insert as InsertCall};
+ghost use Rattle.ib_index.specs.Calls.{HasCalled};
+ghost use Rattle.ib_index.specs.Leaf.{IsSeated};
+ghost use Rattle.ib_index.specs.Grows.{HasComeToWay, HasGrown, HasTakenNew, IsGrowing, IsReady, IsShort, NeedsPages, TakesAtMost, pages_held, space_pages, tree_pages};
+
+use crate::leaf::changed;
+use ib_cursor::{descend_to_insert, take};
+use ib_kept::KeptLaw;
+use ib_latch::{Latches, Parkers};
+use ib_levels::{Latch, Level, Mode};
+use ib_map::{Call, Change, Key, Record, Reply};
+use ib_mtr::Mtr;
+use ib_page::Path;
+use ib_plans::TreeFault;
+use ib_rule::Pass;
+use ib_split::{choose_pages, pages_needed, plan_insert};
+use std::sync::Wait;
+
+// A mini-transaction on the pages of kept logs.
+type Work<'a> = Mtr<'a, KeptLaw, Parkers>;
+
+// The page of the first tree's root.
+const ROOT: u32 = 1;
+
+// What the session and its space are told to be by their own types.
+fn be_seated(mtr: &Work<'_>)
+    requires mtr { IsMtr mtr.now.latches.now mtr.now.pass.now }
+    ensures { IsSeated mtr.now.latches.now.sizes mtr.now.pass.now }
+{
+    let geometry = mtr.geometry();
+    let _ = (geometry.pages(), geometry.log_words());
+    let pass = mtr.pass();
+    let _ = (pass.number(), pass.made(), pass.used());
+}
+
+// Comes to the key's way: the index is claimed, and the pages of the way and the leaves beside the
+// key's leaf are held in X, and loaded.
+fn come_to_way<R: Wait>(rt: &R, mtr: &mut Work<'_>, key: Key) -> Path
+    requires mtr { IsMtr mtr.old.latches.now mtr.old.pass.now }
+    requires memo { mtr.old.pass.now.memo ≡ [] }
+    requires none { mtr.old.pass.now.work ≡ [] }
+    requires unwatched { mtr.old.pass.now.view.memory.since ≡ [] }
+    requires room { total mtr.old.pass.now.view.grants + 64 ≤ 2 ^ 52 }
+    ensures mtr { IsMtr mtr.new.latches.now mtr.new.pass.now }
+    ensures latches { mtr.new.latches ≡ mtr.old.latches }
+    ensures pass { mtr.new.pass.ghost_name ≡ mtr.old.pass.ghost_name }
+    ensures come { HasComeToWay mtr.old.latches.now.sizes key result mtr.old.pass.now mtr.new.pass.now }
+{
+    let _ = mtr.geometry().pages();
+    descend_to_insert(rt, mtr, ROOT, key)
+}
+
+// Loads a page of which the latch is held, and looks.
+fn load_page(mtr: &mut Work<'_>, page: u32)
+    requires mtr { IsMtr mtr.old.latches.now mtr.old.pass.now }
+    requires page { page < mtr.old.latches.now.sizes.pages }
+    requires held { 0 < holdings (page + 2) mtr.old.pass.now.view.session }
+    requires absent { changed_of page mtr.old.pass.now.work ≡ None }
+    requires few { length mtr.old.pass.now.work < MOST_WORK_PAGES }
+    ensures mtr { IsMtr mtr.new.latches.now mtr.new.pass.now }
+    ensures latches { mtr.new.latches ≡ mtr.old.latches }
+    ensures pass { mtr.new.pass.ghost_name ≡ mtr.old.pass.ghost_name }
+    ensures glanced { HasGlanced mtr.old.latches.now.sizes (IsKeptLog mtr.old.latches.now.sizes.pages)
+        mtr.old.pass.now mtr.new.pass.now }
+    ensures memo { mtr.new.pass.now.memo ≡ mtr.old.pass.now.memo }
+    ensures session { mtr.new.pass.now.view.session ≡ mtr.old.pass.now.view.session }
+    ensures grants { mtr.new.pass.now.view.grants ≡ mtr.old.pass.now.view.grants }
+    ensures loaded { HasPage (by_place opening mtr.old.latches.now.sizes.pages) page
+        mtr.old.pass.now mtr.new.pass.now }
+{
+    // The session's entries are those of its number.
+    let _ = mtr.pass().number();
+    mtr.load(page);
+}
+
+// Takes a page in X at a level, and loads it.
+fn take_at<R: Wait>(rt: &R, mtr: &mut Work<'_>, page: u32, level: Level)
+    requires mtr { IsMtr mtr.old.latches.now mtr.old.pass.now }
+    requires page { page < mtr.old.latches.now.sizes.pages }
+    requires grows { MayGrow mtr.old.pass.now.view }
+    requires may { CanWish (page + 2) level mtr.old.pass.now.view.session }
+    requires absent { changed_of page mtr.old.pass.now.work ≡ None }
+    requires few { length mtr.old.pass.now.work < MOST_WORK_PAGES }
+    ensures mtr { IsMtr mtr.new.latches.now mtr.new.pass.now }
+    ensures latches { mtr.new.latches ≡ mtr.old.latches }
+    ensures pass { mtr.new.pass.ghost_name ≡ mtr.old.pass.ghost_name }
+    ensures grown { (key : MapKey) → IsKey key → (path : List ℕ) → (held : List (ℕ × LevelValue))
+        → IsGrowing mtr.old.latches.now.sizes key path held mtr.old.pass.now
+        → is_among (pages_held held) page ≡ false
+        → HasGrown mtr.old.latches.now.sizes key path held page level mtr.old.pass.now mtr.new.pass.now }
+{
+    let _ = mtr.geometry().pages();
+    take(rt, mtr, Latch::page(page), Mode::X, level);
+    load_page(mtr, page);
+}
+
+// The value of the key in the last page of its way.
+fn value_in(mtr: &Work<'_>, path: &Path, key: Key) -> Option<u64>
+    requires mtr { IsMtr mtr.now.latches.now mtr.now.pass.now }
+    requires some { path.now ≢ [] }
+    requires trees { HasTreePages path.now mtr.now.pass.now.work }
+    ensures { result ≡ value_at key (memory_in mtr.now.pass.now.work (last_of path.now)).records }
+{
+    let leaf = path.last().unwrap();
+    let image = mtr.image(leaf).unwrap();
+    image.get(key)
+}
+
+// How many pages the insert takes.
+fn needed(mtr: &mut Work<'_>, path: &Path) -> Result<u32, TreeFault>
+    requires mtr { IsMtr mtr.old.latches.now mtr.old.pass.now }
+    requires some { path.now ≢ [] }
+    requires trees { HasTreePages path.now mtr.old.pass.now.work }
+    ensures mtr { IsMtr mtr.new.latches.now mtr.new.pass.now }
+    ensures latches { mtr.new.latches ≡ mtr.old.latches }
+    ensures pass { mtr.new.pass ≡ mtr.old.pass }
+    ensures needed { (pages roots root : ℕ) → (key : MapKey) → (memory : PageMemory) → (bits : ℕ → ℕ)
+        → Agrees pages roots root key path.now mtr.old.pass.now.work memory bits
+        → MatchResult result (λ need. (is_too_high memory key root ≡ false) × (need ≡ need_of memory key root))
+        (λ fault. (is_too_high memory key root ≡ true) × (fault ≡ TreeFault.TooHigh)) }
+    ensures few { IfOk result (λ need. need ≤ MOST_PATH) }
+{
+    pages_needed(mtr.work(), path)
+}
+
+// Plans the insert on the images of the work set.
+fn plan_in(mtr: &mut Work<'_>, path: &Path, fresh: &Path, key: Key, value: u64)
+    requires mtr { IsMtr mtr.old.latches.now mtr.old.pass.now }
+    requires can { CanInsert path.now fresh.now key mtr.old.pass.now.work }
+    requires missing { value_at key (memory_in mtr.old.pass.now.work (last_of path.now)).records ≡ None }
+    ensures mtr { IsMtr mtr.new.latches.now mtr.new.pass.now }
+    ensures latches { mtr.new.latches ≡ mtr.old.latches }
+    ensures pass { mtr.new.pass.ghost_name ≡ mtr.old.pass.ghost_name }
+    ensures planned { (work : List WorkPage) × (mtr.new.pass.now ≡ with_work work mtr.old.pass.now)
+        × IsPlannedForAll path.now fresh.now key value mtr.old.pass.now.work work
+        × (reads_of work ≡ reads_of mtr.old.pass.now.work) × IsWork work }
+{
+    let work = mtr.work();
+    let _ = plan_insert(work, path, fresh, key, value);
+    let _ = work.len();
+}
+
+// Takes page 0 behind the pages of the tree.
+fn take_space<R: Wait>(rt: &R, mtr: &mut Work<'_>)
+    requires mtr { IsMtr mtr.old.latches.now mtr.old.pass.now }
+    requires room { total mtr.old.pass.now.view.grants < 2 ^ 52 }
+    requires ready { (key : MapKey) × (path : List ℕ) × (held : List ℕ)
+        × IsGrowing mtr.old.latches.now.sizes key path (tree_pages held) mtr.old.pass.now
+        × (is_among held 0 ≡ false) × (length held ≤ 10) }
+    ensures mtr { IsMtr mtr.new.latches.now mtr.new.pass.now }
+    ensures latches { mtr.new.latches ≡ mtr.old.latches }
+    ensures pass { mtr.new.pass.ghost_name ≡ mtr.old.pass.ghost_name }
+    ensures grown { (key : MapKey) → IsKey key → (path : List ℕ) → (held : List ℕ)
+        → IsGrowing mtr.old.latches.now.sizes key path (tree_pages held) mtr.old.pass.now → is_among held 0 ≡ false
+        → HasGrown mtr.old.latches.now.sizes key path (tree_pages held) 0 Space mtr.old.pass.now mtr.new.pass.now }
+{
+    let _ = mtr.geometry().pages();
+    take_at(rt, mtr, 0, Level::Space);
+}
+
+// Chooses the fresh pages by page 0, which is loaded.
+fn choose(mtr: &mut Work<'_>, need: u32) -> Result<Path, TreeFault>
+    requires mtr { IsMtr mtr.old.latches.now mtr.old.pass.now }
+    requires space { IsThere mtr.old.pass.now.work 0 }
+    requires few { need ≤ MOST_PATH }
+    ensures mtr { IsMtr mtr.new.latches.now mtr.new.pass.now }
+    ensures latches { mtr.new.latches ≡ mtr.old.latches }
+    ensures pass { mtr.new.pass ≡ mtr.old.pass }
+    ensures chosen { IfOk result (λ path. (image : List ℕ) → changed_of 0 mtr.old.pass.now.work ≡ Some image
+        → (path ≡ chosen (bits_in mtr.old.latches.now.sizes.pages image) mtr.old.latches.now.sizes.pages need)
+        × (need ≤ free_of (bits_in mtr.old.latches.now.sizes.pages image) mtr.old.latches.now.sizes.pages)) }
+    ensures short { IfErr result (λ fault. (image : List ℕ) → changed_of 0 mtr.old.pass.now.work ≡ Some image
+        → (fault ≡ TreeFault.NeedPages (free_of (bits_in mtr.old.latches.now.sizes.pages image) mtr.old.latches.now.sizes.pages) need)
+        × (free_of (bits_in mtr.old.latches.now.sizes.pages image) mtr.old.latches.now.sizes.pages < need)) }
+{
+    let pages = mtr.geometry().pages();
+    choose_pages(mtr.work(), pages, need)
+}
+
+// Takes the fresh pages behind page 0.
+fn take_new<R: Wait>(rt: &R, mtr: &mut Work<'_>, fresh: &Path)
+    requires mtr { IsMtr mtr.old.latches.now mtr.old.pass.now }
+    requires room { total mtr.old.pass.now.view.grants + 16 ≤ 2 ^ 52 }
+    requires ready { (key : MapKey) × (path : List ℕ) × (held : List ℕ)
+        × IsGrowing mtr.old.latches.now.sizes key path (space_pages held) mtr.old.pass.now
+        × AreOnce (held ++ 0 ∷ fresh.now) mtr.old.latches.now.sizes.pages × (length held ≤ 10) × IsKey key }
+    ensures mtr { IsMtr mtr.new.latches.now mtr.new.pass.now }
+    ensures latches { mtr.new.latches ≡ mtr.old.latches }
+    ensures pass { mtr.new.pass.ghost_name ≡ mtr.old.pass.ghost_name }
+    ensures taken { (key : MapKey) → IsKey key → (path held : List ℕ)
+        → IsGrowing mtr.old.latches.now.sizes key path (space_pages held) mtr.old.pass.now
+        → AreOnce (held ++ 0 ∷ fresh.now) mtr.old.latches.now.sizes.pages
+        → HasTakenNew mtr.old.latches.now.sizes key path (space_pages held) fresh.now mtr.old.pass.now mtr.new.pass.now }
+{
+    let pages = fresh.pages();
+    let mut at = 0;
+    while at < pages.len() {
+        take_at(rt, mtr, pages[at], Level::PageNew);
+        at += 1;
+    }
+}
+
+// How many pages are free where too few are.
+fn free_pages(fault: TreeFault) -> u32
+    ensures { (free need : ℕ) → fault ≡ TreeFault.NeedPages free need → result ≡ free }
+{
+    match fault {
+        TreeFault::NeedPages { free, .. } => free,
+        _ => 0,
+    }
+}
+
+// Takes the fresh pages that the insert needs, with page 0 before them, or says how many are free where
+// these are too few.
+fn take_fresh<R: Wait>(rt: &R, mtr: &mut Work<'_>, path: &Path, need: u32) -> Result<Path, u32>
+    requires mtr { IsMtr mtr.old.latches.now mtr.old.pass.now }
+    requires ready { (key : MapKey) × IsKey key × (p : PassState)
+        × HasComeToWay mtr.old.latches.now.sizes key path.now p mtr.old.pass.now }
+    requires few { need ≤ MOST_PATH }
+    requires room { total mtr.old.pass.now.view.grants + 64 ≤ 2 ^ 52 }
+    ensures mtr { IsMtr mtr.new.latches.now mtr.new.pass.now }
+    ensures latches { mtr.new.latches ≡ mtr.old.latches }
+    ensures pass { mtr.new.pass.ghost_name ≡ mtr.old.pass.ghost_name }
+    ensures taken { IfOk result (λ fresh. (key : MapKey) → IsKey key → (p : PassState)
+        → HasComeToWay mtr.old.latches.now.sizes key path.now p mtr.old.pass.now
+        → NeedsPages mtr.old.latches.now.sizes.pages key path.now need mtr.old.pass.now.work
+        → IsReady mtr.old.latches.now.sizes key path.now fresh mtr.old.pass.now mtr.new.pass.now) }
+    ensures short { IfErr result (λ free. (key : MapKey) → IsKey key → (p : PassState)
+        → HasComeToWay mtr.old.latches.now.sizes key path.now p mtr.old.pass.now
+        → NeedsPages mtr.old.latches.now.sizes.pages key path.now need mtr.old.pass.now.work
+        → IsShort mtr.old.latches.now.sizes key path.now free need mtr.old.pass.now mtr.new.pass.now) }
+{
+    if need == 0 {
+        return Ok(Path::new());
+    }
+    let _ = mtr.geometry().pages();
+    take_space(rt, mtr);
+    match choose(mtr, need) {
+        Ok(fresh) => {
+            take_new(rt, mtr, &fresh);
+            Ok(fresh)
+        }
+        Err(fault) => Err(free_pages(fault)),
+    }
+}
+
+/// The insert that may change the tree's structure (btr0cur, `btr_cur_pessimistic_insert`).
+pub(crate) fn pessimistic_insert<R: Wait>(
+    rt: &R,
+    latches: &Latches<KeptLaw, Parkers>,
+    pass: &mut Pass,
+    key: Key,
+    value: u64,
+) -> Record
+    requires own { IsOf latches.now pass.old }
+    requires idle { pass.old.view.session ≡ idle }
+    requires scratch { IsTrue pass.old.has_scratch }
+    requires unwatched { pass.old.view.memory.since ≡ [] }
+    requires room { total pass.old.view.grants + 8192 ≤ 2 ^ 52 }
+    ensures own { IsOf latches.now pass.new }
+    ensures idle { pass.new.view.session ≡ idle }
+    ensures scratch { IsTrue pass.new.has_scratch }
+    ensures called { HasCalled latches.now.sizes (IsKeptLog latches.now.sizes.pages)
+        (by_place opening latches.now.sizes.pages) (InsertCall key value) result pass.old pass.new }
+    ensures grants { TakesAtMost 64 pass.old pass.new }
+{
+    let call = Call::Insert { key, value };
+    let mut mtr = Mtr::start(latches, pass);
+    let path = come_to_way(rt, &mut mtr, key);
+    be_seated(&mtr);
+    if value_in(&mtr, &path, key).is_some() {
+        let place = mtr.commit_read();
+        return Record {
+            call,
+            reply: Reply::Duplicate,
+            place,
+        };
+    }
+    let Ok(need) = needed(&mut mtr, &path) else {
+        let place = mtr.commit_read();
+        return Record {
+            call,
+            reply: Reply::TooHigh,
+            place,
+        };
+    };
+    let fresh = match take_fresh(rt, &mut mtr, &path, need) {
+        Ok(fresh) => fresh,
+        Err(free) => {
+            be_seated(&mtr);
+            let place = mtr.commit_read();
+            return Record {
+                call,
+                reply: Reply::SpaceFull { free, need },
+                place,
+            };
+        }
+    };
+    be_seated(&mtr);
+    plan_in(&mut mtr, &path, &fresh, key, value);
+    let committed = mtr.commit(rt, Change::Insert { key, value });
+    changed(call, Reply::Inserted, committed, pass.place())
+}
