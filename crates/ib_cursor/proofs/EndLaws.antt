@@ -1,7 +1,7 @@
 -- What is held at the end of a search for a change of the tree's structure.
 use Rattle.std.specs.List.{All, AllByRecursion}
-use Rattle.std.specs.Prelude.{◌==◌, ◌||◌, ◌&&◌, ◌↔◌, IsSome}
-use Rattle.std.proofs.Common.{◌≡◌, ◌≢◌, ◌⊎◌, inl, inr, ℕ, zero, suc, ◌<◌, ◌≤◌, Bool, true, false, cond, List, [], ◌∷◌, ◌++◌, Some, length, refl, sym, ap, subst, ◌∙◌, arith, ne_eqb, eq-eqb, length-append}
+use Rattle.std.specs.Prelude.{◌==◌, ◌||◌, ◌&&◌, ◌↔◌, ◌-◌, IsSome}
+use Rattle.std.proofs.Common.{◌≡◌, ◌≢◌, ◌⊎◌, inl, inr, ℕ, zero, suc, ◌+◌, ◌<◌, ◌≤◌, Bool, true, false, cond, List, [], ◌∷◌, ◌++◌, Some, length, refl, sym, ap, subst, ◌∙◌, arith, ne_eqb, eq-eqb, length-append}
 use Rattle.std.proofs.lemmas.Bool.{cases_eq}
 use Rattle.ib_rule.proofs.Lists.{or_says, and_says}
 use Rattle.ib_map.specs.Keys.{MapKey, rank, end_rank}
@@ -30,7 +30,7 @@ use Rattle.ib_cursor.specs.Grants.{HasGrants}
 use Rattle.ib_cursor.specs.Claims.{beside, claim_grant, IsAsRead, HasClaimed, IsWayWithLeaves}
 use Rattle.ib_cursor.specs.Going.{IsKnown, HasStood}
 use Rattle.ib_cursor.specs.Shapes.{ShapeLaws, KeepsClaim, is_claimed, HasIndex, HasReadWay}
-use Rattle.ib_cursor.specs.Takings.{is_loaded, IsHeldPage, WillTake, HasTakenMore, MayTakeLeaves}
+use Rattle.ib_cursor.specs.Takings.{is_loaded, IsHeldPage, HoldsClaimed, WillTake, HasTakenMore, MayTakeLeaves}
 use Rattle.ib_cursor.proofs.WayLaws.{met_on-way, page_on-way, child_on-way, root_on-way}
 use Rattle.ib_cursor.proofs.NextLaws.{leaf-met}
 use Rattle.ib_cursor.proofs.LogLaws.{tree_of-log, bit_inside, way_image}
@@ -40,8 +40,9 @@ use Rattle.ib_cursor.proofs.GrantLaws.{grants_more}
 use Rattle.ib_cursor.proofs.ClaimLaws.{keeps_both}
 use Rattle.ib_cursor.proofs.PeekLaws.{keeps_way}
 use Rattle.ib_cursor.proofs.ReadLaws.{keeps_path}
-use Rattle.ib_cursor.proofs.TakeLaws.{will_rest, beside_few}
+use Rattle.ib_cursor.proofs.TakeLaws.{more_both, will_rest, beside_few}
 use Rattle.ib_cursor.proofs.OnceLaws.{AreBeside, are_beside}
+use Rattle.ib_cursor.proofs.LevelLaws.{first-of, others-of}
 
 -- a claimed index is watched
 pub claimed_watched : (ss : List Since) → is_claimed ss ≡ true → is_watched 1 ss ≡ true
@@ -75,14 +76,6 @@ wider : (m : PageMemory) (a b : ℕ) (ps : List ℕ) → a ≤ b → AllByRecurs
 wider m a b [] le low = tt
 wider m a b (p ∷ ps) le low = (let l = low.0 in omega arith, wider m a b ps le low.1)
 
-abbrev head-of : List ℕ → ℕ
-head-of [] = 0
-head-of (x ∷ xs) = x
-
-abbrev tail-of : List ℕ → List ℕ
-tail-of [] = []
-tail-of (x ∷ xs) = xs
-
 one-or_more : (m : PageMemory) (key : MapKey) (level page : ℕ) → 1 ≤ length (way_down m key level page)
 one-or_more m key zero page = omega arith
 one-or_more m key (suc level) page = omega arith
@@ -90,6 +83,18 @@ one-or_more m key (suc level) page = omega arith
 all-read : (P Q : WorkPage → Type 0) (ws : List WorkPage) → ((w : WorkPage) → P w → Q w) → All P ws → All Q ws
 all-read P Q [] f a = All-nil Q
 all-read P Q (w ∷ ws) f a = All-cons Q w ws (f w (All-head P w ws a)) (all-read P Q ws f (All-tail P w ws a))
+
+-- where the index alone is held, no page is
+pub holds_none : (sizes : Sizes) (lawful : List Entry → Type 0) (opening : ℕ → ℕ) (p : PassState) → HasIndex sizes lawful p → HoldsClaimed sizes lawful opening [] p
+holds_none sizes lawful opening p index = record {
+  grants = index.grants;
+  claimed = index.claimed;
+  watched = tt;
+  loaded = λ page. ap (is_loaded page) index.work;
+  count = ap length index.work;
+  read = subst (All (IsHeldPage opening p)) (sym index.work) (All-nil (IsHeldPage opening p));
+  known = index.known;
+}
 
 module _ (sizes : Sizes) (roots : ℕ) (lawful : List Entry → Type 0) (opening : ℕ → ℕ) (shape : ShapeLaws sizes.pages roots lawful opening) (root : ℕ) (some : 0 < root) (le : root ≤ roots) (key : MapKey) (lt : rank key < end_rank) where
   -- a leaf's links stay
@@ -117,7 +122,7 @@ module _ (sizes : Sizes) (roots : ℕ) (lawful : List Entry → Type 0) (opening
     inside : (page level : ℕ) → IsOnWay m root key page level → page < sizes.pages
     inside page level o = (way_image sizes.pages roots lawful opening shape.laws root some le key lt log page level legal o).there
 
-    inside-met : (page : ℕ) → 1 ≤ weight_of (is_page page) m root → page < sizes.pages
+    pub inside-met : (page : ℕ) → 1 ≤ weight_of (is_page page) m root → page < sizes.pages
     inside-met page one =
         let all = weight_of-le (is_page page) m root roots some le in
         let law = (shape.laws.memory log legal).law.met page in
@@ -176,8 +181,8 @@ module _ (sizes : Sizes) (roots : ℕ) (lawful : List Entry → Type 0) (opening
     nodes-once zero page o tail once low (x ∷ xs) leaf is = absurd (let a = ap length is in let b = length-append xs (leaf ∷ []) in omega arith)
     nodes-once (suc level) page o tail once low [] leaf is = absurd (let a = ap length is in let b = one-or_more m key level (child_for key 0 (m page).records) in omega arith)
     nodes-once (suc level) page o tail once low (x ∷ xs) leaf is =
-        let first : page ≡ x = ap head-of is in
-        let r = nodes-once level (child_for key 0 (m page).records) (child_on-way m root key page level o) tail once low xs leaf (ap tail-of is) in
+        let first : page ≡ x = ap first-of is in
+        let r = nodes-once level (child_for key 0 (m page).records) (child_on-way m root key page level o) tail once low xs leaf (ap others-of is) in
         let at = level-is page (suc level) o in
         subst (λ n. AreOnce (n ∷ xs ++ tail) sizes.pages × AllByRecursion (λ n. (m n).level ≤ suc level) (n ∷ xs ++ tail)) first
         ((inside page (suc level) o, none-lower m level page (xs ++ tail) at r.1, r.0), (omega (arith, at), wider m level (suc level) (xs ++ tail) (omega arith) r.1))
@@ -188,6 +193,10 @@ module _ (sizes : Sizes) (roots : ℕ) (lawful : List Entry → Type 0) (opening
         let l = leaves-once leaf o in
         (nodes-once (height_of m root) root (root_on-way m root key) (beside (m leaf).prev ++ leaf ∷ beside (m leaf).next) l.0 l.1 front leaf (sym way ∙ ends)).0
 
+  -- how long a way is that was read
+  pub way_long : (path : List ℕ) (leaf left : ℕ) (p q : PassState) → HasReadWay sizes lawful opening root key path leaf left p q → (length path ≤ 8) × (length path - 1 + 1 ≡ length path)
+  way_long path leaf left p q way = let a = way.short in let b = ap length way.ends in let d = length-append way.front (leaf ∷ []) in (omega arith, omega arith)
+
   -- the whole search, step by step
   module _ (path : List ℕ) (leaf left : ℕ) (p q r s t : PassState) (idle : HasGrants [] p) (none : p.work ≡ []) (stood : HasStood sizes lawful claim_grant p q) (claimed : is_claimed q.view.memory.since ≡ true) where
     pub start_index : HasIndex sizes lawful q
@@ -196,21 +205,36 @@ module _ (sizes : Sizes) (roots : ℕ) (lawful : List Entry → Type 0) (opening
     module _ (way : HasReadWay sizes lawful opening root key path leaf left q r) where
       pub will_nodes : WillTake sizes lawful opening [] (way.front ++ (beside left ++ leaf ∷ beside (pages_after opening r.view.memory.seen leaf).next)) r
       will_nodes = record {
-        holds = record {
-          grants = way.index.grants;
-          claimed = way.index.claimed;
-          watched = tt;
-          loaded = λ page. ap (is_loaded page) way.index.work;
-          count = ap length way.index.work;
-          read = subst (All (IsHeldPage opening r)) (sym way.index.work) (All-nil (IsHeldPage opening r));
-          known = way.index.known;
-        };
+        holds = holds_none sizes lawful opening r way.index;
         once = subst (λ l. AreOnce (way.front ++ (beside l ++ leaf ∷ beside (pages_after opening r.view.memory.seen leaf).next)) sizes.pages) (sym way.left_of)
             (all_once r.view.memory.seen way.index.known.legal path way.front leaf way.way way.ends way.lowest);
         few = let a = way.short in let b = beside_few left in let c = beside_few (pages_after opening r.view.memory.seen leaf).next in
             let d = length-append way.front (beside left ++ leaf ∷ beside (pages_after opening r.view.memory.seen leaf).next) in
             let e = length-append (beside left) (leaf ∷ beside (pages_after opening r.view.memory.seen leaf).next) in omega arith;
       }
+
+      -- these pages are held behind the claimed index
+      pub claimed_with : (held : List ℕ) (u : PassState) → HasTakenMore sizes lawful opening [] held r u → HasClaimed sizes lawful opening root key path held p u
+      claimed_with held u more =
+          let g1 : q.view.grants ≡ with_grant (Some Sx) p.view.grants = stood.grants in
+          let s1 = ap (λ (g : Grants). g.s) g1 in let sx1 = ap (λ (g : Grants). g.sx) g1 in let x1 = ap (λ (g : Grants). g.x) g1 in
+          let s2 = way.s in let sx2 = way.sx in let x2 = way.x in let s3 = more.s in let sx3 = more.sx in let x3 = more.x in
+          let later = went_both q r u way.went more.went in
+          record {
+            way = way.way ∙ sym (keeps_path sizes roots lawful opening shape root some le key lt r u more.holds.known more.keeps);
+            grants = more.holds.grants;
+            claimed = claimed_watched u.view.memory.since more.holds.claimed;
+            watched = more.holds.watched;
+            there = λ page. ((λ i. sym (more.holds.loaded page) ∙ (loaded_some page u.work).0 i), (λ e. (loaded_some page u.work).1 (more.holds.loaded page ∙ e)));
+            count = more.holds.count;
+            read = all-read (IsHeldPage opening u) (IsAsRead opening u.view.memory.seen) u.work (λ w h. h.read) more.holds.read;
+            went = went_both p q u stood.seen.went later;
+            looked = looked_first p q u stood.seen.went later stood.seen.looked;
+            known = more.holds.known;
+            s = omega arith;
+            sx = omega arith;
+            x = omega arith;
+          }
 
       module _ (nodes : HasTakenMore sizes lawful opening [] way.front r s) where
         abbrev pub ready : MayTakeLeaves sizes lawful opening leaf left s
@@ -234,27 +258,7 @@ module _ (sizes : Sizes) (roots : ℕ) (lawful : List Entry → Type 0) (opening
           all = keeps_both r s t nodes.keeps last.keeps
 
           pub has_claimed : HasClaimed sizes lawful opening root key path all_held p t
-          has_claimed =
-              let g1 : q.view.grants ≡ with_grant (Some Sx) p.view.grants = stood.grants in
-              let s1 = ap (λ (g : Grants). g.s) g1 in let sx1 = ap (λ (g : Grants). g.sx) g1 in let x1 = ap (λ (g : Grants). g.x) g1 in
-              let s2 = way.s in let sx2 = way.sx in let x2 = way.x in let s3 = nodes.s in let sx3 = nodes.sx in let x3 = nodes.x in let s4 = last.s in let sx4 = last.sx in let x4 = last.x in
-              let long = length-append way.front (beside left ++ leaf ∷ beside (pages_after opening r.view.memory.seen leaf).next) in
-              let later = went_both q r t way.went (went_both r s t nodes.went last.went) in
-              record {
-                way = way.way ∙ sym (keeps_path sizes roots lawful opening shape root some le key lt r t last.holds.known all);
-                grants = last.holds.grants;
-                claimed = claimed_watched t.view.memory.since last.holds.claimed;
-                watched = last.holds.watched;
-                there = λ page. ((λ i. sym (last.holds.loaded page) ∙ (loaded_some page t.work).0 i), (λ e. (loaded_some page t.work).1 (last.holds.loaded page ∙ e)));
-                count = last.holds.count;
-                read = all-read (IsHeldPage opening t) (IsAsRead opening t.view.memory.seen) t.work (λ w h. h.read) last.holds.read;
-                went = went_both p q t stood.seen.went later;
-                looked = looked_first p q t stood.seen.went later stood.seen.looked;
-                known = last.holds.known;
-                s = omega arith;
-                sx = omega arith;
-                x = omega arith;
-              }
+          has_claimed = claimed_with all_held t (more_both sizes lawful opening [] way.front (beside left ++ leaf ∷ beside (pages_after opening r.view.memory.seen leaf).next) r s t nodes last)
 
           pub with_leaves : IsWayWithLeaves (pages_after opening t.view.memory.seen) path all_held
           with_leaves =

@@ -15,3 +15,7 @@ pub mod ReadLaws
 pub mod TakeLaws
 pub mod OnceLaws
 pub mod EndLaws
+pub mod RowLaws
+pub mod LevelLaws
+pub mod TakenLaws
+pub mod ChildLaws

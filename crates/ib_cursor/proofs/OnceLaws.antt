@@ -1,20 +1,16 @@
 -- The pages of a way and the leaves beside its leaf are each there once.
-use Rattle.std.specs.List.{AllByRecursion, list_any}
+use Rattle.std.specs.List.{AllByRecursion}
 use Rattle.std.specs.Prelude.{◌==◌, ◌||◌}
-use Rattle.std.proofs.Common.{◌≡◌, ◌≢◌, ◌⊎◌, inl, inr, ℕ, zero, suc, ◌+◌, ◌<◌, ◌≤◌, Bool, true, false, cond, List, [], ◌∷◌, ◌++◌, length, refl, sym, ap, subst, ◌∙◌, arith, append_assoc, ne_eqb, eq-eqb}
+use Rattle.std.proofs.Common.{◌≡◌, ◌≢◌, inl, inr, ℕ, ◌+◌, ◌<◌, ◌≤◌, Bool, true, false, cond, List, [], ◌∷◌, ◌++◌, refl, sym, ap, subst, ◌∙◌, arith, ne_eqb, eq-eqb}
 use Rattle.std.proofs.lemmas.Bool.{cases_eq}
-use Rattle.ib_map.specs.Keys.{MapKey, rank, end_rank}
 use Rattle.ib_walk.specs.Pages.{PageMemory, Tree}
-use Rattle.ib_walk.specs.Walk.{Visit, children, below, sum_of, weight, is_page, is_visit, AreLinked, first_page, last_page, IsLeafAt}
-use Rattle.ib_walk.specs.Trees.{top_of, height_of, leaves_of, weight_of, times_met, IsTreeOf, IsLawful}
+use Rattle.ib_walk.specs.Walk.{Visit, sum_of, is_page, AreLinked, first_page, last_page, IsLeafAt}
+use Rattle.ib_walk.specs.Trees.{top_of, height_of, leaves_of, weight_of, IsLawful}
 use Rattle.ib_walk.proofs.MeetLaws.{is_page-own, lowest-le_weight}
 use Rattle.ib_walk.proofs.WalkLaws.{sum_of-append}
 use Rattle.ib_walk.proofs.TreeLaws.{weight_of-le, times_met-le}
 use Rattle.ib_tree.specs.PageLists.{is_among, AreOnce}
-use Rattle.ib_cursor.specs.Way.{IsOnWay}
-use Rattle.ib_cursor.specs.Claims.{beside}
-use Rattle.ib_cursor.proofs.WayLaws.{IsMetOn, met_on-way}
-use Rattle.ib_cursor.proofs.NextLaws.{IsLeaf, leaf-met, leaf-counts}
+use Rattle.ib_cursor.proofs.NextLaws.{IsLeaf}
 
 -- lists of pages, each once
 pub among_append : (xs ys : List ℕ) (page : ℕ) → is_among xs page ≡ false → is_among ys page ≡ false → is_among (xs ++ ys) page ≡ false

@@ -31,7 +31,7 @@ use Rattle.ib_walk.specs.Pages.{Tree}
 use Rattle.ib_walk.specs.Words.{image_of}
 use Rattle.ib_tree.specs.Logs.{pages_after}
 use Rattle.ib_cursor.proofs.PageLaws.{tree_image}
-use Rattle.ib_walk.proofs.ImageLaws.{page_at-word, image_of-list}
+use Rattle.ib_walk.proofs.ImageLaws.{page_at-word, image_of-list, pages_of-same}
 use Rattle.ib_tree.specs.PageLists.{is_among, AreOnce}
 use Rattle.ib_mtr.specs.Loads.{IsPageAfter}
 use Rattle.ib_mtr.proofs.Images.{All-with_page}
@@ -39,7 +39,7 @@ use Rattle.ib_cursor.specs.Claims.{claim_grant, IsAsRead, beside}
 use Rattle.ib_cursor.specs.Descent.{HasPage}
 use Rattle.ib_cursor.specs.Grants.{Grant, hold_of, page_grant, HasGrants, IsAway, HasTaken}
 use Rattle.ib_cursor.specs.Shapes.{KeepsClaim, HasGlanced}
-use Rattle.ib_cursor.specs.Takings.{is_loaded, page_grants, IsHeldPage, HoldsClaimed, CanTakePage, HasTakenPage, HasTakenMore, WillTake}
+use Rattle.ib_cursor.specs.Takings.{is_loaded, page_grants, AreSteady, IsHeldPage, HoldsClaimed, CanTakePage, HasTakenPage, HasTakenMore, WillTake}
 use Rattle.ib_cursor.proofs.OnceLaws.{once_here}
 use Rattle.ib_cursor.proofs.StandLaws.{went_none, went_both, went_beside, beside_taken}
 use Rattle.ib_cursor.proofs.GrantLaws.{hold-latch, can_wish, grants_more}
@@ -150,6 +150,18 @@ module _ (sizes : Sizes) (lawful : List Entry → Type 0) (opening : ℕ → ℕ
     keeps : KeepsClaim p r
     keeps = keeps_after p q r taken.taken.memory glanced.keeps can.holds.claimed
 
+    page-steady : (n : ℕ) → is_watched (n + 2) p.view.memory.since ≡ true → pages_after opening r.view.memory.seen n ≡ pages_after opening p.view.memory.seen n
+    page-steady n watched =
+        let calm = glanced.seen.steady n (ap (λ (m : Memory). is_watched (n + 2) m.since) taken.taken.memory ∙ watched) in
+        let log : r.view.memory.seen ≡ p.view.memory.seen ++ glanced.seen.went.more = glanced.seen.went.seen ∙ ap (λ (m : Memory). m.seen ++ glanced.seen.went.more) taken.taken.memory in
+        subst (λ l. pages_after opening l n ≡ pages_after opening p.view.memory.seen n) (sym log)
+        (pages_of-same (memory_after opening p.view.memory.seen) (memory_after opening (p.view.memory.seen ++ glanced.seen.went.more)) n (λ index lt. word_stays opening p.view.memory.seen glanced.seen.went.more (word_place n index)
+        (subst (λ (k : ℕ). AllByRecursion (λ (e : Entry). touches k e.writes ≡ false) glanced.seen.went.more) (sym (page_at-word n index lt)) calm)))
+
+    pages-steady : (ps : List ℕ) → AllByRecursion (λ n. is_watched (n + 2) p.view.memory.since ≡ true) ps → AreSteady opening ps p r
+    pages-steady [] watched = tt
+    pages-steady (n ∷ ns) watched = (page-steady n watched.0, pages-steady ns watched.1)
+
     pub page_taken : HasTakenPage sizes lawful opening held page p r
     page_taken = record {
       holds = record {
@@ -163,15 +175,33 @@ module _ (sizes : Sizes) (lawful : List Entry → Type 0) (opening : ℕ → ℕ
         known = glanced.seen.known;
       };
       keeps = keeps;
+      steady = pages-steady held can.holds.watched;
       went = went_both p q r (went_beside p q (beside_taken (page_grant page X) p q taken)) glanced.seen.went;
       grants = grants ∙ taken.taken.grants;
     }
+
+-- pages that are as they were
+steady-none : (opening : ℕ → ℕ) (held : List ℕ) (p : PassState) → AreSteady opening held p p
+steady-none opening [] p = tt
+steady-none opening (n ∷ ns) p = (refl, steady-none opening ns p)
+
+pub steady_both : (opening : ℕ → ℕ) (held more : List ℕ) (p q r : PassState) → AreSteady opening held p q → AreSteady opening (held ++ more) q r → AreSteady opening held p r
+steady_both opening [] more p q r a b = tt
+steady_both opening (n ∷ ns) more p q r a b = (b.0 ∙ a.0, steady_both opening ns more p q r a.1 b.1)
+
+pub steady_at : (opening : ℕ → ℕ) (held : List ℕ) (p q : PassState) → AreSteady opening held p q → (page : ℕ) → is_among held page ≡ true → pages_after opening q.view.memory.seen page ≡ pages_after opening p.view.memory.seen page
+steady_at opening [] p q steady page is = cc
+steady_at opening (n ∷ ns) p q steady page is = elim (cases_eq n page) [
+  | inl e ↦ subst (λ k. pages_after opening q.view.memory.seen k ≡ pages_after opening p.view.memory.seen k) e steady.0
+  | inr ne ↦ steady_at opening ns p q steady.1 page (ap (λ b. b || is_among ns page) (sym (ne_eqb n page ne)) ∙ is)
+]
 
 -- one page after the other
 pub more_none : (sizes : Sizes) (lawful : List Entry → Type 0) (opening : ℕ → ℕ) (held : List ℕ) (p : PassState) → HoldsClaimed sizes lawful opening held p → HasTakenMore sizes lawful opening held [] p p
 more_none sizes lawful opening held p h = record {
   holds = subst (λ ps. HoldsClaimed sizes lawful opening ps p) (sym (append-nil held)) h;
   keeps = keeps_beside p p refl h.claimed;
+  steady = steady-none opening held p;
   went = went_none p;
   s = refl;
   sx = refl;
@@ -182,6 +212,7 @@ pub more_one : (sizes : Sizes) (lawful : List Entry → Type 0) (opening : ℕ �
 more_one sizes lawful opening held page p q t = record {
   holds = t.holds;
   keeps = t.keeps;
+  steady = t.steady;
   went = t.went;
   s = ap (λ (g : Grants). g.s) t.grants;
   sx = ap (λ (g : Grants). g.sx) t.grants;
@@ -195,6 +226,7 @@ more_both sizes lawful opening held one two p q r a b =
     record {
       holds = subst (λ ps. HoldsClaimed sizes lawful opening ps r) (append_assoc held one two) b.holds;
       keeps = keeps_both p q r a.keeps b.keeps;
+      steady = steady_both opening held one p q r a.steady b.steady;
       went = went_both p q r a.went b.went;
       s = b.s ∙ a.s;
       sx = b.sx ∙ a.sx;
@@ -239,7 +271,7 @@ module _ (sizes : Sizes) (lawful : List Entry → Type 0) (opening : ℕ → ℕ
   pub node_can : CanTakePage sizes lawful opening (take at front) (get_or items at 0) q × (get_or items at 0 < sizes.pages)
   node_can = can_first sizes lawful opening (take at front) (get_or items at 0) (drop (at + 1) front ++ more) q rest
 
-  pub node_room : total q.view.grants ≤ total p.view.grants + 16
+  pub node_room : total q.view.grants ≤ total p.view.grants + 24
   node_room = let f = rest.few in let l = length-append (take at front) (get_or items at 0 ∷ drop (at + 1) front ++ more) in let a = taken.s in let b = taken.sx in let c = taken.x in omega arith
 
   pub node_step : (r : PassState) → HasTakenPage sizes lawful opening (take at front) (get_or items at 0) q r → HasTakenMore sizes lawful opening [] (take (at + 1) front) p r
@@ -259,7 +291,7 @@ pub record IsFound (opening : ℕ → ℕ) (p : PassState) (page : ℕ) (ws : Li
   pub size : length image ≡ PAGE_WORDS
   pub is_page : IsPageAfter opening p.view.memory.seen page image
 
-found : (opening : ℕ → ℕ) (p : PassState) (page : ℕ) (ws : List WorkPage) → All (IsHeldPage opening p) ws → is_loaded page ws ≡ true → IsFound opening p page ws
+pub found : (opening : ℕ → ℕ) (p : PassState) (page : ℕ) (ws : List WorkPage) → All (IsHeldPage opening p) ws → is_loaded page ws ≡ true → IsFound opening p page ws
 found opening p page [] all is = cc
 found opening p page (w ∷ ws) all is = elim (cases_eq w.page page) [
   | inl e ↦ let h = All-head (IsHeldPage opening p) w ws all in record {

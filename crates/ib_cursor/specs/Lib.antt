@@ -9,5 +9,7 @@ pub mod Hindrance
 pub mod Nexts
 pub mod Spaces
 pub mod Claims
+pub mod Siblings
 pub mod Shapes
 pub mod Takings
+pub mod Rows

@@ -42,19 +42,25 @@ pub record HoldsClaimed (sizes : Sizes) (lawful : List Entry → Type 0) (openin
 pub record CanTakePage (sizes : Sizes) (lawful : List Entry → Type 0) (opening : ℕ → ℕ) (held : List ℕ) (page : ℕ) (p : PassState) : Type 0 where
   pub holds : HoldsClaimed sizes lawful opening held p
   pub other : is_among held page ≡ false
-  pub few : length held < 16
+  pub few : length held < 24
 
--- .. and was
+-- each of these pages is as it was
+abbrev pub AreSteady : (ℕ → ℕ) → List ℕ → PassState → PassState → Type 0
+AreSteady opening held p q = AllByRecursion (λ page. pages_after opening q.view.memory.seen page ≡ pages_after opening p.view.memory.seen page) held
+
+-- .. and was, and the others are as they were
 pub record HasTakenPage (sizes : Sizes) (lawful : List Entry → Type 0) (opening : ℕ → ℕ) (held : List ℕ) (page : ℕ) (p q : PassState) : Type 0 where
   pub holds : HoldsClaimed sizes lawful opening (held ++ page ∷ []) q
   pub keeps : KeepsClaim p q
+  pub steady : AreSteady opening held p q
   pub went : WentOn p q
   pub grants : q.view.grants ≡ with_grant (Some X) p.view.grants
 
--- these pages more are taken
+-- these pages more are taken, and the others are as they were
 pub record HasTakenMore (sizes : Sizes) (lawful : List Entry → Type 0) (opening : ℕ → ℕ) (held more : List ℕ) (p q : PassState) : Type 0 where
   pub holds : HoldsClaimed sizes lawful opening (held ++ more) q
   pub keeps : KeepsClaim p q
+  pub steady : AreSteady opening held p q
   pub went : WentOn p q
   pub s : q.view.grants.s ≡ p.view.grants.s
   pub sx : q.view.grants.sx ≡ p.view.grants.sx
@@ -64,7 +70,7 @@ pub record HasTakenMore (sizes : Sizes) (lawful : List Entry → Type 0) (openin
 pub record WillTake (sizes : Sizes) (lawful : List Entry → Type 0) (opening : ℕ → ℕ) (held more : List ℕ) (p : PassState) : Type 0 where
   pub holds : HoldsClaimed sizes lawful opening held p
   pub once : AreOnce (held ++ more) sizes.pages
-  pub few : length (held ++ more) ≤ 16
+  pub few : length (held ++ more) ≤ 24
 
 -- the leaf level may be taken: the leaf's link to the right stays as it is, as long as the index is claimed
 pub record MayTakeLeaves (sizes : Sizes) (lawful : List Entry → Type 0) (opening : ℕ → ℕ) (leaf left : ℕ) (p : PassState) : Type 0 where

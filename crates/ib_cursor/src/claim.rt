@@ -37,7 +37,7 @@ use ib_tree::Trees;
 use std::sync::Wait;
 
 // The laws of trees on the space of a mini-transaction.
-fn shape_of<L: Trees, S: Sleep>(mtr: &Mtr<'_, L, S>)
+pub(crate) fn shape_of<L: Trees, S: Sleep>(mtr: &Mtr<'_, L, S>)
     ensures shapes { ShapeLaws mtr.now.latches.now.sizes.pages L.ROOTS
         (L.lawful mtr.now.latches.now.sizes.pages)
         (by_place L.opening mtr.now.latches.now.sizes.pages) }
@@ -71,7 +71,7 @@ fn glance<L: Law, S: Sleep>(mtr: &mut Mtr<'_, L, S>)
 
 // Claims the index: takes it in SX, and looks. Nothing is held before, and of what was known of the
 // index before nothing is left.
-fn claim_index<L: Law, R: Wait>(rt: &R, mtr: &mut Mtr<'_, L, Parkers>)
+pub(crate) fn claim_index<L: Law, R: Wait>(rt: &R, mtr: &mut Mtr<'_, L, Parkers>)
     requires mtr { IsMtr mtr.old.latches.now mtr.old.pass.now }
     requires memo { mtr.old.pass.now.memo ≡ [] }
     requires room { total mtr.old.pass.now.view.grants < 2 ^ 52 }
@@ -238,15 +238,19 @@ fn peek<L: Trees, R: Wait>(
 
 // The way of a key, from the root to the leaf, its leaf, and the leaf before that, 0 for none.
 #[derive(Drop)]
-struct Way {
-    path: Path,
+pub(crate) struct Way {
+    pub(crate) path: Path,
     leaf: u32,
     left: u32,
 }
 
 // Reads the way page by page behind the claimed index, with no page held while the next is taken: the
 // claim keeps the way.
-fn read_way<L: Trees, R: Wait>(rt: &R, mtr: &mut Mtr<'_, L, Parkers>, sought: Sought) -> Way
+pub(crate) fn read_way<L: Trees, R: Wait>(
+    rt: &R,
+    mtr: &mut Mtr<'_, L, Parkers>,
+    sought: Sought,
+) -> Way
     requires mtr { IsMtr mtr.old.latches.now mtr.old.pass.now }
     requires index { HasIndex mtr.old.latches.now.sizes
         (L.lawful mtr.old.latches.now.sizes.pages) mtr.old.pass.now }
@@ -284,7 +288,7 @@ fn read_way<L: Trees, R: Wait>(rt: &R, mtr: &mut Mtr<'_, L, Parkers>, sought: So
 }
 
 // Takes a page in X behind the claimed index and the pages that are held already, and loads it.
-fn take_page<L: Law, R: Wait>(rt: &R, mtr: &mut Mtr<'_, L, Parkers>, page: u32)
+pub(crate) fn take_page<L: Law, R: Wait>(rt: &R, mtr: &mut Mtr<'_, L, Parkers>, page: u32)
     requires mtr { IsMtr mtr.old.latches.now mtr.old.pass.now }
     requires page { page < mtr.old.latches.now.sizes.pages }
     requires room { total mtr.old.pass.now.view.grants < 2 ^ 52 }
@@ -307,7 +311,7 @@ fn take_page<L: Law, R: Wait>(rt: &R, mtr: &mut Mtr<'_, L, Parkers>, page: u32)
 }
 
 // Takes the page of a link, where there is one.
-fn take_beside<L: Law, R: Wait>(rt: &R, mtr: &mut Mtr<'_, L, Parkers>, page: u32)
+pub(crate) fn take_beside<L: Law, R: Wait>(rt: &R, mtr: &mut Mtr<'_, L, Parkers>, page: u32)
     requires mtr { IsMtr mtr.old.latches.now mtr.old.pass.now }
     requires room { total mtr.old.pass.now.view.grants < 2 ^ 52 }
     requires ready { (held : List ℕ) × (more : List ℕ) × WillTake mtr.old.latches.now.sizes
@@ -360,7 +364,7 @@ fn take_nodes<L: Law, R: Wait>(rt: &R, mtr: &mut Mtr<'_, L, Parkers>, path: &Pat
 }
 
 // The leaf behind one that is loaded, by its link, 0 for none.
-fn right_of<L: Law, S: Sleep>(mtr: &Mtr<'_, L, S>, leaf: u32) -> u32
+pub(crate) fn right_of<L: Law, S: Sleep>(mtr: &Mtr<'_, L, S>, leaf: u32) -> u32
     requires mtr { IsMtr mtr.now.latches.now mtr.now.pass.now }
     requires loaded { (image : List ℕ) × (changed_of leaf mtr.now.pass.now.work ≡ Some image)
         × IsFormed image }

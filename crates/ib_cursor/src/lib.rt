@@ -9,6 +9,7 @@ mod held_page;
 mod next;
 mod nowait;
 mod search;
+mod siblings;
 mod stands;
 #[cfg(test)]
 mod tests;
@@ -19,4 +20,5 @@ pub use fault::NowaitFault;
 pub use next::next_leaf;
 pub use nowait::descend_nowait;
 pub use search::Search;
+pub use siblings::descend_to_delete;
 pub use stands::{read, take};

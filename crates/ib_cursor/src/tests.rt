@@ -75,6 +75,20 @@ fn who_may_split_the_root_claims_the_index(rt: HostRuntime) {
 }
 
 #[test]
+fn who_may_merge_pages_claims_the_index(rt: HostRuntime) {
+    let mut table: Latches<TreeLaw> = smallest(&rt, rt.alloc());
+    let mut one = come(&rt, rt.alloc(), &mut table);
+    let mut mtr = Mtr::start(&table, &mut one);
+    let path = descend_to_delete(&rt, &mut mtr, 1, 5);
+    assert_eq!(rt; path.pages(), [1].as_slice());
+    assert_eq!(rt; mtr.commit_read(), 0);
+    let grants = one.grants();
+    assert_eq!(rt; (grants.s, grants.sx, grants.x), (1, 1, 1));
+    table.disconnect(one);
+    table.discard();
+}
+
+#[test]
 fn nobody_is_in_the_way(rt: HostRuntime) {
     let mut table: Latches<TreeLaw, NoSleep> = smallest(&rt, rt.alloc());
     let mut one = come(&rt, rt.alloc(), &mut table);

@@ -1,15 +1,13 @@
 -- While the index is claimed and each page of the work set watched, the work set agrees with the memory behind whatever harmless entries of others.
 use Rattle.std.specs.List.{All, AllByRecursion}
 use Rattle.std.specs.Prelude.{IsSome, IfSome}
-use Rattle.std.proofs.Common.{◌≡◌, ◌≢◌, inl, inr, ℕ, ◌<◌, ◌≤◌, Bool, true, false, cond, List, [], ◌∷◌, ◌++◌, length, Option, Some, None, refl, sym, ap, subst, ◌∙◌, arith, append-nil}
+use Rattle.std.proofs.Common.{◌≡◌, inl, inr, ℕ, true, cond, List, [], ◌∷◌, ◌++◌, Option, Some, None, refl, sym, ap, subst, ◌∙◌, arith, append-nil}
 use Rattle.std.proofs.lemmas.Bool.{cases_eq, eq-eqb, ne_eqb}
 use Rattle.std.proofs.lemmas.Bool.Decides.{nat_tests}
 use Rattle.std.proofs.lemmas.List.Elements.{All-nil, All-cons, All-head, All-tail}
 use Rattle.ib_map.specs.Keys.{MapKey, IsKey}
 use Rattle.ib_map.specs.Space.{has_pages}
-use Rattle.ib_map.specs.Writes.{touches, spans_pages}
 use Rattle.ib_map.proofs.KeyLaws.{rank-lt_end}
-use Rattle.ib_page.specs.declared.space.TheConstants.{MAPPED_PAGES}
 use Rattle.ib_page.specs.Form.{page_of}
 use Rattle.ib_page.specs.Space.{IsSpacePage}
 use Rattle.ib_page.specs.Work.{WorkPage, changed_of}
@@ -18,11 +16,10 @@ use Rattle.ib_logrec.specs.declared.entry.Entry.{Entry}
 use Rattle.ib_logrec.specs.Grammar.{IsInGrammar}
 use Rattle.ib_logrec.specs.Log.{memory_after, by_place}
 use Rattle.ib_walk.specs.Pages.{PageMemory}
-use Rattle.ib_walk.specs.Trees.{height_of}
 use Rattle.ib_walk.specs.Words.{image_of, bits_of, pages_of, state_of}
 use Rattle.ib_walk.proofs.ImageLaws.{image_of-list, pages_of-image}
 use Rattle.ib_walk.proofs.WalkLaws.{AllByRecursion-right}
-use Rattle.ib_plans.specs.Agreement.{Agrees, HasBits, IsThere, bits_in, memory_in, state_or_free, way_of}
+use Rattle.ib_plans.specs.Agreement.{Agrees, HasBits, bits_in, state_or_free, way_of}
 use Rattle.ib_tree.specs.TreeLog.{opening}
 use Rattle.ib_kept.specs.Kept.{IsKeptLog}
 use Rattle.ib_kept.specs.KeptLog.{IsKeptLog-stays}

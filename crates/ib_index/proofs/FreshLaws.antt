@@ -1,14 +1,14 @@
 -- Fresh pages are taken one after the other, behind page 0.
 use Rattle.std.specs.List.{All, AllByRecursion}
 use Rattle.std.specs.Prelude.{IsSome, IfSome, ◌==◌, ◌||◌, take, drop, get_or}
-use Rattle.std.proofs.Common.{◌≡◌, ◌≢◌, inl, inr, ℕ, zero, suc, ◌+◌, ◌<◌, ◌≤◌, Bool, true, false, cond, List, [], ◌∷◌, ◌++◌, Option, Some, None, length, map, refl, sym, ap, subst, ◌∙◌, arith, eq-eqb, ne_eqb, append_assoc, append-nil, length-append}
+use Rattle.std.proofs.Common.{◌≡◌, ◌≢◌, inl, inr, ℕ, zero, suc, ◌+◌, ◌<◌, ◌≤◌, Bool, true, false, List, [], ◌∷◌, ◌++◌, Option, Some, None, length, map, refl, sym, ap, subst, ◌∙◌, arith, eq-eqb, ne_eqb, append_assoc, append-nil, length-append}
 use Rattle.std.proofs.lemmas.Bool.{cases_eq}
-use Rattle.std.proofs.lemmas.List.{length-map, map-append, take-append-drop, take_at}
+use Rattle.std.proofs.lemmas.List.{map-append, take-append-drop, take_at}
 use Rattle.std.proofs.lemmas.List.Elements.{All-nil, All-cons, All-head, All-tail}
 use Rattle.std.proofs.lemmas.Grind.{take_at_read}
 use Rattle.ib_map.specs.Keys.{MapKey}
 use Rattle.ib_levels.specs.declared.level.Level.{Level}
-use Rattle.ib_levels.specs.declared.level.Level.TheVariants.{Log, PageNew, Space}
+use Rattle.ib_levels.specs.declared.level.Level.TheVariants.{Log, PageNew}
 use Rattle.ib_levels.specs.Level.{may_follow}
 use Rattle.ib_layout.specs.Geometry.{Sizes}
 use Rattle.ib_page.specs.Work.{WorkPage, changed_of}
@@ -20,7 +20,6 @@ use Rattle.ib_plans.proofs.MetLaws.{clear-some}
 use Rattle.ib_tree.specs.PageLists.{AreOnce, is_among}
 use Rattle.ib_rule.specs.declared.looks.Grants.{Grants}
 use Rattle.ib_rule.specs.Pass.{PassState}
-use Rattle.ib_rule.specs.Views.{total}
 use Rattle.ib_cursor.specs.Grants.{Grant}
 use Rattle.ib_cursor.proofs.OnceLaws.{among_append, once_here}
 use Rattle.ib_cursor.proofs.StandLaws.{went_both, went_none}
@@ -98,7 +97,7 @@ once-join : (xs ys : List ℕ) (pages : ℕ) → AreOnce xs pages → AreOnce ys
 once-join [] ys pages a b c = b
 once-join (x ∷ xs) ys pages a b c = (a.0, among_append xs ys x a.1 c.0, once-join xs ys pages a.2 b c.1)
 
-each-of : (P : ℕ → Type 0) (xs : List ℕ) → ((n : ℕ) → is_among xs n ≡ true → P n) → AllByRecursion P xs
+pub each-of : (P : ℕ → Type 0) (xs : List ℕ) → ((n : ℕ) → is_among xs n ≡ true → P n) → AllByRecursion P xs
 each-of P [] f = tt
 each-of P (x ∷ xs) f = (f x (ap (λ b. b || is_among xs x) (eq-eqb x x refl)), each-of P xs (λ n among. f n (later (x == n) (is_among xs n) among)))
   where

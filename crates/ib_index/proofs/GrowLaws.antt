@@ -1,7 +1,7 @@
 -- A page more is taken by an insert that changes the tree's structure.
 use Rattle.std.specs.List.{All, AllByRecursion}
 use Rattle.std.specs.Prelude.{IsSome, IsSomeAnd, ◌==◌, ◌||◌, nat_lt}
-use Rattle.std.proofs.Common.{◌≡◌, ◌≢◌, ◌⊎◌, inl, inr, ℕ, suc, ◌+◌, ◌<◌, ◌≤◌, Bool, true, false, cond, List, [], ◌∷◌, ◌++◌, Option, Some, None, length, map, refl, sym, ap, subst, ◌∙◌, arith, eq-eqb, ne_eqb, length-append}
+use Rattle.std.proofs.Common.{◌≡◌, ◌≢◌, inl, inr, ℕ, ◌+◌, ◌<◌, Bool, true, false, cond, List, [], ◌∷◌, ◌++◌, Option, Some, None, length, map, refl, sym, ap, subst, ◌∙◌, arith, eq-eqb, ne_eqb, length-append}
 use Rattle.std.proofs.lemmas.Bool.{cases_eq}
 use Rattle.std.proofs.lemmas.List.{map-append}
 use Rattle.ib_map.specs.Keys.{MapKey, IsKey}
@@ -10,22 +10,20 @@ use Rattle.ib_map.specs.Writes.{touches, word_place}
 use Rattle.ib_map.proofs.KeyLaws.{rank-lt_end}
 use Rattle.ib_levels.specs.declared.level.Level.{Level}
 use Rattle.ib_levels.specs.declared.level.Level.TheVariants.{Space}
-use Rattle.ib_levels.specs.declared.level.Mode.TheVariants.{X}
 use Rattle.ib_levels.specs.Level.{may_follow}
 use Rattle.ib_layout.specs.Geometry.{Sizes}
 use Rattle.ib_core.specs.Holders.{CanWish}
 use Rattle.ib_core.specs.Sessions.{holdings}
 use Rattle.ib_page.specs.Image.{IsTreePage}
-use Rattle.ib_page.specs.Work.{WorkPage, changed_of, with_page, with_read}
+use Rattle.ib_page.specs.Work.{WorkPage, changed_of, with_read}
 use Rattle.ib_logrec.specs.declared.entry.Entry.{Entry}
 use Rattle.ib_logrec.specs.Log.{by_place}
 use Rattle.ib_walk.proofs.ImageLaws.{page_at-word}
-use Rattle.ib_plans.specs.Agreement.{HasTreePages, IsThere, last_of, memory_in, reads_of, state_or_free, way_of}
+use Rattle.ib_plans.specs.Agreement.{IsThere, last_of, memory_in, reads_of, state_or_free}
 use Rattle.ib_plans.proofs.EditLaws.{IsSome-and}
 use Rattle.ib_tree.specs.PageLists.{is_among}
 use Rattle.ib_tree.specs.TreeLog.{opening}
 use Rattle.ib_kept.specs.Kept.{IsKeptLog}
-use Rattle.ib_kept.specs.LeafChange.{kept_pages}
 use Rattle.ib_rule.specs.declared.memory.Memory.{Memory}
 use Rattle.ib_rule.specs.Pass.{PassState}
 use Rattle.ib_rule.specs.Views.{is_watched}
@@ -45,7 +43,7 @@ use Rattle.ib_cursor.proofs.GrantLaws.{can_wish, grants_more}
 use Rattle.ib_cursor.proofs.ReadLaws.{keeps_path}
 use Rattle.ib_cursor.proofs.StandLaws.{beside_taken, went_beside, went_both}
 use Rattle.ib_cursor.proofs.TakeLaws.{absent_loaded, all-both, among-more, loaded-more, long-more, not-first}
-use Rattle.ib_index.specs.Grows.{HasGrown, IsGrowing, IsStanding, held_grant, pages_held, tree_pages}
+use Rattle.ib_index.specs.Grows.{HasGrown, IsGrowing, held_grant, pages_held, tree_pages}
 use Rattle.ib_index.proofs.AgreeLaws.{kept-shapes}
 use Rattle.ib_index.proofs.WorkLaws.{reads-each}
 
@@ -164,9 +162,6 @@ module _ (sizes : Sizes) (key : MapKey) (path : List ℕ) (held : List (ℕ × L
         trees = trees-kept (λ n. IsSomeAnd (changed_of n p.work) IsTreePage) (λ n. IsSomeAnd (changed_of n r.work) IsTreePage) path
             (λ n h. subst (λ (o : Option (List ℕ)). IsSomeAnd o IsTreePage) (sym (kept-image n (IsSome-and IsTreePage (changed_of n p.work) h))) h) can.trees;
         leaf = kept-there (last_of path) can.leaf;
-        next = λ ne.
-            let same = ap (λ s. s.next) (same-page (last_of path) can.leaf) in
-            subst (IsThere r.work) (sym same) (kept-there (memory_in p.work (last_of path)).next (can.next (λ z. ne (same ∙ z))));
       };
       went = went_both p q r (went_beside p q (beside_taken (held_grant (page, level)) p q taken)) glanced.seen.went;
       grants = grants ∙ taken.taken.grants;

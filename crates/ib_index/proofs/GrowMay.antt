@@ -1,159 +1,50 @@
 -- An insert that is planned on the images of what is held may be committed.
-use Rattle.std.specs.List.{All, AllByRecursion}
-use Rattle.std.specs.Prelude.{IsSome, IfSome, ◌==◌, ◌||◌, is_some}
-use Rattle.std.proofs.Common.{◌≡◌, ◌≢◌, inl, inr, ℕ, ◌+◌, ◌<◌, ◌≤◌, ◌^◌, Bool, true, false, cond, List, [], ◌∷◌, ◌++◌, Option, Some, None, length, map, refl, sym, ap, subst, ◌∙◌, arith, eq-eqb, ne_eqb}
-use Rattle.std.proofs.lemmas.Bool.{cases_eq}
-use Rattle.std.proofs.lemmas.List.{length-map}
+use Rattle.std.specs.List.{AllByRecursion}
+use Rattle.std.specs.Prelude.{is_some}
+use Rattle.std.proofs.Common.{◌≡◌, ℕ, ◌<◌, ◌^◌, false, true, cond, List, ◌∷◌, Option, None, length, map, refl, ap, subst, ◌∙◌}
 use Rattle.ib_map.specs.Keys.{MapKey, IsKey}
-use Rattle.ib_map.specs.Map.{answer_of, is_made}
+use Rattle.ib_map.specs.Map.{is_made}
 use Rattle.ib_map.specs.Pairs.{value_at}
-use Rattle.ib_map.specs.Writes.{spans_pages, touches}
 use Rattle.ib_map.specs.declared.call.Change.TheVariants.{Insert}
 use Rattle.ib_map.specs.declared.call.Reply.TheVariants.{Duplicate, Inserted}
-use Rattle.ib_levels.specs.declared.holding.Holding.{Holding}
 use Rattle.ib_levels.specs.declared.level.Level.{Level}
 use Rattle.ib_levels.specs.declared.level.Level.TheVariants.{Log}
-use Rattle.ib_levels.specs.Holding.{on}
 use Rattle.ib_levels.specs.Level.{may_follow}
-use Rattle.ib_levels.proofs.Counts.{on-cons, part-here}
 use Rattle.ib_layout.specs.Geometry.{Sizes}
-use Rattle.ib_core.specs.declared.session.Session.{Session}
-use Rattle.ib_core.specs.Sessions.{sx_grants, x_grants}
-use Rattle.ib_page.specs.Work.{WorkPage, IsWork, changed_of}
-use Rattle.ib_page.specs.Writes.{writes_of}
-use Rattle.ib_page.proofs.StoreLaws.{untouched}
-use Rattle.ib_logrec.specs.declared.entry.Entry.{Entry}
-use Rattle.ib_logrec.specs.Log.{memory_after, map_of, by_place}
-use Rattle.ib_walk.specs.Full.{is_too_high}
+use Rattle.ib_page.specs.Work.{WorkPage, IsWork}
+use Rattle.ib_walk.specs.Full.{chosen, is_too_high, need_of}
 use Rattle.ib_walk.specs.Pages.{PageMemory}
-use Rattle.ib_walk.specs.Trees.{height_of}
-use Rattle.ib_walk.specs.Words.{bits_of}
-use Rattle.ib_plans.specs.Agreement.{Agrees, last_of, memory_in, reads_of}
-use Rattle.ib_split.specs.Inserts.{HasFresh, IsPlannedForAll}
-use Rattle.ib_split.proofs.WayLaws.{path-last, path-page}
-use Rattle.ib_walk.proofs.SearchLaws.{above, above-zero}
-use Rattle.ib_tree.specs.PageLists.{is_among}
-use Rattle.ib_tree.specs.TreeLog.{opening}
+use Rattle.ib_walk.specs.Search.{leaf_for}
+use Rattle.ib_plans.specs.Agreement.{last_of, memory_in, reads_of}
+use Rattle.ib_split.specs.Inserts.{HasFresh, IsPlannedForAll, IsPlannedInsert}
 use Rattle.ib_kept.specs.Kept.{IsKeptLog}
-use Rattle.ib_kept.specs.LeafChange.{kept_pages, leaf_after}
-use Rattle.ib_kept.proofs.LeafChangeLaws.{in-leaf}
-use Rattle.ib_kept.proofs.PushLaws.{lawful-before}
 use Rattle.ib_rule.specs.Pass.{PassState}
-use Rattle.ib_rule.specs.Stores.{IsHarmless}
 use Rattle.ib_rule.specs.Views.{total}
-use Rattle.ib_mtr.specs.Commits.{MayCommit, commit_entry}
+use Rattle.ib_mtr.specs.Commits.{MayCommit}
 use Rattle.ib_mtr.specs.Mtr.{with_work}
 use Rattle.ib_cursor.specs.Claims.{claim_grant}
-use Rattle.ib_cursor.specs.Grants.{Grant, IsAway, hold_of}
-use Rattle.ib_cursor.proofs.EndLaws.{loaded_some}
-use Rattle.ib_cursor.proofs.GrantLaws.{away-none, can_wish, hold-latch, may_grow}
+use Rattle.ib_cursor.specs.Grants.{Grant}
+use Rattle.ib_index.specs.Grows.{IsFreshForAll, IsGrowing, held_grant}
 use Rattle.ib_index.specs.Leaf.{IsSeated}
-use Rattle.ib_index.specs.Grows.{IsFreshForAll, IsGrowing, held_grant, pages_held}
-use Rattle.ib_index.proofs.AgreeLaws.{agrees, images-before, images-now, still-in}
-use Rattle.ib_index.proofs.GrowCommits.{IsNextEntry, IsReadFrom, entry-kept}
-use Rattle.ib_index.proofs.LeafCommits.{own-behind}
-use Rattle.ib_index.proofs.WorkLaws.{none-same, pages-same, reads-same}
+use Rattle.ib_index.proofs.PlanCommits.{IsPlannedChange}
+use Rattle.ib_index.proofs.PlanLaws.{plan-bits, plan-on}
+use Rattle.ib_index.proofs.WayMay.{may-commit}
 
--- X is held on each of the pages
-held-x : (held : List (ℕ × Level)) (page : ℕ) → is_among (pages_held held) page ≡ true → 0 < on (page + 2) (λ h. h.x) (map hold_of (map held_grant held))
-held-x [] page is = cc
-held-x (h ∷ hs) page is =
-    let c = on-cons (page + 2) (λ h. h.x) (hold_of (held_grant h)) (map hold_of (map held_grant hs)) in
-    elim (cases_eq h.0 page) [
-      | inl e ↦ let p = part-here (page + 2) (λ h. h.x) (hold_of (held_grant h)) (hold-latch (held_grant h) ∙ ap (λ n. n + 2) e) in omega arith
-      | inr ne ↦ let r = held-x hs page (sym (ap (λ b. b || is_among (pages_held hs) page) (ne_eqb h.0 page ne)) ∙ is) in omega arith
-    ]
+-- the insert as a change that is planned
+insert-planned : (pages : ℕ) (key : MapKey) (value : ℕ) (fresh : List ℕ) (m : PageMemory) (bits : ℕ → ℕ) (old new : List WorkPage) → is_too_high m key 1 ≡ false → HasFresh pages 1 1 key fresh m bits
+    → IsPlannedInsert fresh key value pages 1 m bits old new → IsPlannedChange pages (Insert key value) m bits old new
+insert-planned pages key value fresh m bits old new low has plan = record {
+  may = (low, has.enough);
+  plan = subst (λ f. IsPlannedInsert f key value pages 1 m bits old new) has.chosen_are plan;
+  leaf_on = plan-on m bits (chosen bits pages (need_of m key 1)) key value (leaf_for m key 1) 1 refl;
+  bits_stay = λ off n. plan-bits m bits (chosen bits pages (need_of m key 1)) key value n 1 off;
+}
 
-away-low : (l : ℕ) (held : List (ℕ × Level)) → l < 2 → IsAway l (map held_grant held)
-away-low l [] low = tt
-away-low l (h ∷ hs) low = ((λ e. absurd (omega arith)), away-low l hs low)
-
-module _ (sizes : Sizes) (key : MapKey) (is : IsKey key) (path : List ℕ) (held : List (ℕ × Level)) (p : PassState) (can : IsGrowing sizes key path held p) (seated : IsSeated sizes p) where
-  abbrev start : ℕ → ℕ
-  start = by_place opening sizes.pages
-
-  abbrev seen : List Entry
-  seen = p.view.memory.seen
-
-  module _ (others : List Entry) (n : ℕ) (harmless : AllByRecursion (IsHarmless n p.view.memory.since) others) (legal : IsKeptLog sizes.pages (seen ++ others)) where
-    abbrev m : PageMemory
-    m = kept_pages sizes.pages (seen ++ others)
-
-    pub agrees-then : Agrees sizes.pages 1 1 key path p.work m (bits_of sizes.pages (memory_after start (seen ++ others)))
-    agrees-then = agrees sizes seated.fits key is path p can.at n others harmless legal
-
-    -- what the last page of the path has of the key is what the map has
-    pub value-then : value_at key (map_of (seen ++ others)) ≡ value_at key (memory_in p.work (last_of path)).records
-    value-then =
-        let last = path-last sizes.pages 1 1 key path p.work m (bits_of sizes.pages (memory_after start (seen ++ others))) agrees-then in
-        let leaf = path-page sizes.pages 1 1 key path p.work m (bits_of sizes.pages (memory_after start (seen ++ others))) agrees-then (height_of m 1) 0 (sym (above-zero (height_of m 1))) in
-        in-leaf sizes.pages seated.fits (seen ++ others) legal key is
-        ∙ ap (λ s. value_at key s.records) (ap m (sym last) ∙ sym (agrees-then.same (last_of path) (λ z. leaf.some (sym last ∙ z)) can.leaf))
-
-  module _ (few : total p.view.grants < 2 ^ 52) (short : length held < 64) (follow : AllByRecursion (λ (g : Grant). may_follow g.level Log ≡ true) (claim_grant ∷ map held_grant held))
-      (value : ℕ) (fresh : List ℕ) (fresh-are : IsFreshForAll sizes.pages key path fresh p.work) (missing : value_at key (memory_in p.work (last_of path)).records ≡ None)
-      (work : List WorkPage) (planned : IsPlannedForAll path fresh key value p.work work) (reads : reads_of work ≡ reads_of p.work) (is-work : IsWork work) where
-    abbrev gs : List Grant
-    gs = claim_grant ∷ map held_grant held
-
-    exclusive : (page : ℕ) → touches page (writes_of work) ≡ true → 0 < x_grants (page + 2) p.view.session
-    exclusive page touched = go (changed_of page p.work) refl
-      where
-        go : (o : Option (List ℕ)) → changed_of page p.work ≡ o → 0 < x_grants (page + 2) p.view.session
-        go None none = absurd (let away = untouched work page (none-same page work p.work reads none) in let z : true ≡ false = sym touched ∙ away in cc)
-        go (Some image) there =
-            let loaded = (loaded_some page p.work).0 (subst IsSome (sym there) refl) in
-            let x = held-x held page (sym (can.loaded page) ∙ loaded) in
-            let c = on-cons (page + 2) (λ h. h.x) (hold_of claim_grant) (map hold_of (map held_grant held)) in
-            subst (λ (a : Session). 0 < x_grants (page + 2) a) (sym can.grants.session) (omega arith)
-
-    index-held : (0 < sx_grants 1 p.view.session) × (x_grants 1 p.view.session ≡ 0)
-    index-held = (
-      subst (λ (a : Session). 0 < sx_grants 1 a) (sym can.grants.session)
-          (let c = on-cons 1 (λ h. h.sx) (hold_of claim_grant) (map hold_of (map held_grant held)) in let d = part-here 1 (λ h. h.sx) (hold_of claim_grant) (hold-latch claim_grant) in omega arith),
-      subst (λ (a : Session). x_grants 1 a ≡ 0) (sym can.grants.session)
-          (let c = on-cons 1 (λ h. h.x) (hold_of claim_grant) (map hold_of (map held_grant held)) in let d = part-here 1 (λ h. h.x) (hold_of claim_grant) (hold-latch claim_grant) in
-          let e = away-none 1 (λ h. h.x) (map held_grant held) (away-low 1 held (omega arith)) in omega arith),
-    )
-
-    legal-then : (others : List Entry) → AllByRecursion (IsHarmless p.number p.view.memory.since) others → IsKeptLog sizes.pages (seen ++ others)
-        → IsKeptLog sizes.pages ((seen ++ others) ++ commit_entry (with_work work p) (Insert key value) ∷ [])
-    legal-then others harmless legal =
-        let log = seen ++ others in
-        let agreed = agrees-then others p.number harmless legal in
-        let f = fresh-are (kept_pages sizes.pages log) (bits_of sizes.pages (memory_after start log)) agreed in
-        let memory = lawful-before sizes.pages seated.fits log legal in
-        let none = value-then others p.number harmless legal ∙ missing in
-        let made : is_made (answer_of (map_of log) (Insert key value)) ≡ true = ap (λ (o : Option ℕ). is_made (cond (is_some o) Duplicate Inserted)) none in
-        let behind = own-behind p.number p.view.memory.since seen others harmless in
-        let mine = ap length can.at.known.mine in
-        let made-few = seated.made in let seen-few = seated.few in
-        entry-kept sizes.pages seated.fits log legal key value path fresh p.work work agreed f.1 (f.0, f.1.enough) made
-        (planned sizes.pages 1 1 (kept_pages sizes.pages log) (bits_of sizes.pages (memory_after start log)) agreed f.1)
-        (record {
-          work = is-work;
-          within = pages-same (λ n. n < sizes.pages) work p.work reads can.within;
-          reads = reads;
-          read = reads-same (memory_after start log) work p.work reads (images-before sizes seated.fits key is path p can.at p.number others harmless legal);
-          was = still-in (memory_after start log) 0 p.work (images-now sizes seated.fits key is path p can.at p.number others harmless legal);
-        })
-        (commit_entry (with_work work p) (Insert key value))
-        (record {
-          session = seated.number.0;
-          most_session = seated.number.1;
-          number = omega arith;
-          most_number = omega arith;
-          change_is = refl;
-          writes_are = refl;
-          structural = refl;
-        })
-        memory.space
-
-    pub may-grow : MayCommit (IsKeptLog sizes.pages) (with_work work p) (Insert key value)
-    may-grow = record {
-      grows = may_grow gs p can.grants few (let l = length-map held held_grant in omega arith);
-      log = can_wish gs p can.grants 0 Log ((λ e. absurd (omega arith)), away-low 0 held (omega arith)) follow;
-      pages_x = exclusive;
-      index = λ spans. index-held;
-      legal = legal-then;
-    }
+module _ (sizes : Sizes) (key : MapKey) (is : IsKey key) (path : List ℕ) (held : List (ℕ × Level)) (p : PassState) (can : IsGrowing sizes key path held p) (seated : IsSeated sizes p)
+    (few : total p.view.grants < 2 ^ 52) (short : length held < 64) (follow : AllByRecursion (λ (g : Grant). may_follow g.level Log ≡ true) (claim_grant ∷ map held_grant held))
+    (value : ℕ) (fresh : List ℕ) (fresh-are : IsFreshForAll sizes.pages key path fresh p.work) (missing : value_at key (memory_in p.work (last_of path)).records ≡ None)
+    (work : List WorkPage) (planned : IsPlannedForAll path fresh key value p.work work) (reads : reads_of work ≡ reads_of p.work) (is-work : IsWork work) where
+  pub may-grow : MayCommit (IsKeptLog sizes.pages) (with_work work p) (Insert key value)
+  may-grow = may-commit sizes key is path held p can seated few short follow (Insert key value) is
+      (λ log same. ap (λ (o : Option ℕ). is_made (cond (is_some o) Duplicate Inserted)) (same ∙ missing)) work
+      (λ memory bits a. let f = fresh-are memory bits a in insert-planned sizes.pages key value fresh memory bits p.work work f.0 f.1 (planned sizes.pages 1 1 memory bits a f.1)) reads is-work

@@ -1,6 +1,6 @@
 -- The parts of a whole insert that changes the tree's structure.
 use Rattle.std.specs.Prelude.{IsSome, is_some, Result, Ok, Err, IfOk, IfErr}
-use Rattle.std.proofs.Common.{◌≡◌, ◌≢◌, ℕ, ◌+◌, ◌^◌, ◌<◌, ◌≤◌, true, false, List, [], ◌∷◌, length, Option, Some, None, refl, sym, ap, subst, ◌∙◌, arith}
+use Rattle.std.proofs.Common.{◌≡◌, ℕ, ◌+◌, ◌≤◌, true, false, List, Option, Some, None, refl, sym, ap, subst, ◌∙◌, arith}
 use Rattle.ib_map.specs.Keys.{MapKey, IsKey}
 use Rattle.ib_map.specs.Pairs.{value_at}
 use Rattle.ib_layout.specs.Geometry.{Sizes}
@@ -13,10 +13,9 @@ use Rattle.ib_frames.specs.declared.appends.LogFull.{LogFull}
 use Rattle.ib_rule.specs.declared.looks.Grants.{Grants}
 use Rattle.ib_rule.specs.Views.{total}
 use Rattle.ib_kept.specs.Kept.{IsKeptLog}
-use Rattle.ib_kept.proofs.ClockLaws.{clock-le}
 use Rattle.ib_tree.specs.TreeLog.{opening}
 use Rattle.ib_logrec.specs.Log.{by_place, memory_after}
-use Rattle.ib_map.specs.declared.call.Change.TheVariants.{Insert}
+use Rattle.ib_map.specs.declared.call.Change.{Change}
 use Rattle.ib_index.specs.Grows.{HasComeToWay, IsReady}
 use Rattle.ib_index.specs.Leaf.{IsSeated}
 use Rattle.ib_index.proofs.AgreeLaws.{agrees-now}
@@ -29,6 +28,7 @@ pub way-started : (sizes : Sizes) (key : MapKey) (path : List ℕ) (p q : PassSt
 way-started sizes key path p q h = record {
   held = h.held;
   growing = h.growing;
+  next = h.next;
   kinds = h.kinds;
   zero = h.zero;
   once = h.once;
@@ -51,16 +51,19 @@ pub value-kept : (key : MapKey) (n : ℕ) (old new : List WorkPage) → changed_
 value-kept key n old new same = ap (λ o. value_at key (state_or_free o).records) same
 
 -- the grants of a commit
-pub ended-grants : (sizes : Sizes) (t : PassState) (work : List WorkPage) (value : ℕ) (key : MapKey) (o : Result ℕ LogFull) (r : PassState)
-    → IfOk o (λ place. HasCommitted sizes (IsKeptLog sizes.pages) (by_place opening sizes.pages) (Insert key value) (with_work work t) place r)
+pub ended-grants : (sizes : Sizes) (t : PassState) (work : List WorkPage) (change : Change) (o : Result ℕ LogFull) (r : PassState)
+    → IfOk o (λ place. HasCommitted sizes (IsKeptLog sizes.pages) (by_place opening sizes.pages) change (with_work work t) place r)
     → IfErr o (λ full. IsFull sizes (IsKeptLog sizes.pages) (with_work work t) full r) → total r.view.grants ≤ total t.view.grants + 1
-ended-grants sizes t work value key (Ok place) r committed refused = let a = ap (λ (v : Grants). v.x) committed.ended.grants in let b = ap (λ (v : Grants). v.s) committed.ended.grants in let d = ap (λ (v : Grants). v.sx) committed.ended.grants in omega arith
-ended-grants sizes t work value key (Err full) r committed refused = let a = ap (λ (v : Grants). v.x) refused.ended.grants in let b = ap (λ (v : Grants). v.s) refused.ended.grants in let d = ap (λ (v : Grants). v.sx) refused.ended.grants in omega arith
+ended-grants sizes t work change (Ok place) r committed refused = let a = ap (λ (v : Grants). v.x) committed.ended.grants in let b = ap (λ (v : Grants). v.s) committed.ended.grants in let d = ap (λ (v : Grants). v.sx) committed.ended.grants in omega arith
+ended-grants sizes t work change (Err full) r committed refused = let a = ap (λ (v : Grants). v.x) refused.ended.grants in let b = ap (λ (v : Grants). v.s) refused.ended.grants in let d = ap (λ (v : Grants). v.sx) refused.ended.grants in omega arith
 
 -- what is held suffices for the plan, where the clocks may tick
-pub can-insert : (sizes : Sizes) (key : MapKey) (is : IsKey key) (path fresh : List ℕ) (q t : PassState) → IsSeated sizes t → IsReady sizes key path fresh q t → MayTick t.work → CanInsert path fresh key t.work
-can-insert sizes key is path fresh q t seated ready clocks =
+pub can-insert : (sizes : Sizes) (key : MapKey) (is : IsKey key) (path fresh : List ℕ) (p q t : PassState) → IsSeated sizes t → HasComeToWay sizes key path p q → IsReady sizes key path fresh q t → MayTick t.work
+    → CanInsert path fresh key t.work
+can-insert sizes key is path fresh p q t seated come ready clocks =
     let a = agrees-now sizes seated.fits key is path t ready.growing.at in
+    let last : memory_in t.work (last_of path) ≡ memory_in q.work (last_of path) = ap state_or_free (ready.same (last_of path) come.growing.leaf) in
+    let next = ap (λ s. s.next) last in
     record {
       pages = sizes.pages;
       roots = 1;
@@ -69,18 +72,13 @@ can-insert sizes key is path fresh q t seated ready clocks =
       bits = bits_of sizes.pages (memory_after (by_place opening sizes.pages) t.view.memory.seen);
       agrees = a;
       fits = (ready.fresh_are (kept_pages sizes.pages t.view.memory.seen) (bits_of sizes.pages (memory_after (by_place opening sizes.pages) t.view.memory.seen)) a).1;
-      images = record { path_there = ready.growing.trees; fresh_there = ready.there; next_there = λ full ne. ready.growing.next ne; space_there = ready.space };
+      images = record {
+        path_there = ready.growing.trees;
+        fresh_there = ready.there;
+        next_there = λ full ne.
+            let there = come.next (λ z. ne (next ∙ z)) in
+            subst (IsThere t.work) (sym next) (subst IsSome (sym (ready.same (memory_in q.work (last_of path)).next there)) there);
+        space_there = ready.space;
+      };
       clocks = clocks;
     }
-
--- a page that is not page 0 has a clock that may tick
-pub page-ticks : (sizes : Sizes) (key : MapKey) (is : IsKey key) (path fresh : List ℕ) (q t : PassState) → IsSeated sizes t → IsReady sizes key path fresh q t → (n : ℕ) → n ≢ 0 → (memory_in t.work n).clock < 2 ^ 63
-page-ticks sizes key is path fresh q t seated ready n ne = go (changed_of n t.work) refl
-  where
-    go : (o : Option (List ℕ)) → changed_of n t.work ≡ o → (memory_in t.work n).clock < 2 ^ 63
-    go None none = let z : (memory_in t.work n).clock ≡ 0 = ap (λ o. (state_or_free o).clock) none in omega arith
-    go (Some image) there =
-        let a = agrees-now sizes seated.fits key is path t ready.growing.at in
-        let e = ap (λ s. s.clock) (a.same n ne (subst IsSome (sym there) refl)) in
-        let le = clock-le sizes.pages seated.fits t.view.memory.seen n ne ready.growing.at.known.legal in
-        let few = seated.few in omega arith

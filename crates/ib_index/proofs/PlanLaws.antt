@@ -8,10 +8,10 @@ use Rattle.ib_walk.specs.Search.{child_for, leaf_for, page_below}
 use Rattle.ib_walk.specs.Trees.{height_of}
 use Rattle.ib_walk.proofs.ChoiceLaws.{cond-eq}
 use Rattle.ib_plans.specs.Insert.{Growth, first_of, insert_below, planned_insert, raised, rest_of, split}
-use Rattle.ib_plans.specs.Marks.{mark, untouched}
+use Rattle.ib_plans.specs.Marks.{mark}
 use Rattle.ib_plans.specs.Split.{next_or}
 
-mark-on : (page : ℕ) (touched : ℕ → Bool) (n : ℕ) → touched n ≡ true → mark page touched n ≡ true
+pub mark-on : (page : ℕ) (touched : ℕ → Bool) (n : ℕ) → touched n ≡ true → mark page touched n ≡ true
 mark-on page touched n on = by_test (n == page)
   where
     by_test : (b : Bool) → cond b true (touched n) ≡ true

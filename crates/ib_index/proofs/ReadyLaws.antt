@@ -1,7 +1,6 @@
 -- All pages are held that the insert reads and writes, or too few are free.
-use Rattle.std.specs.List.{All, AllByRecursion}
-use Rattle.std.specs.Prelude.{IsSome, IfErr, IfOk}
-use Rattle.std.proofs.Common.{◌≡◌, ◌≢◌, ℕ, ◌+◌, ◌<◌, ◌≤◌, true, false, List, [], ◌∷◌, ◌++◌, Option, Some, None, length, map, refl, sym, ap, subst, ◌∙◌, arith}
+use Rattle.std.specs.Prelude.{IsSome}
+use Rattle.std.proofs.Common.{◌≡◌, ℕ, ◌<◌, ◌≤◌, true, false, List, [], ◌∷◌, ◌++◌, Option, Some, None, length, refl, sym, ap, subst, ◌∙◌, arith}
 use Rattle.std.proofs.lemmas.Bool.Decides.{nat_tests}
 use Rattle.std.proofs.lemmas.List.Elements.{All-nil}
 use Rattle.ib_map.specs.Keys.{MapKey, IsKey}
@@ -10,9 +9,9 @@ use Rattle.ib_levels.specs.declared.level.Level.TheVariants.{Space}
 use Rattle.ib_layout.specs.Geometry.{Sizes}
 use Rattle.ib_page.specs.Work.{WorkPage, changed_of}
 use Rattle.ib_walk.specs.Full.{chosen, free_of, is_root_full, is_too_high, need_of}
-use Rattle.ib_walk.specs.Pages.{PageMemory, Tree}
+use Rattle.ib_walk.specs.Pages.{PageMemory}
 use Rattle.ib_walk.specs.Trees.{height_of}
-use Rattle.ib_plans.specs.Agreement.{Agrees, IsThere, bits_in, memory_in, state_or_free}
+use Rattle.ib_plans.specs.Agreement.{Agrees, IsThere, bits_in, state_or_free}
 use Rattle.ib_split.specs.Inserts.{HasFresh}
 use Rattle.ib_tree.specs.PageLists.{AreOnce, is_among}
 use Rattle.ib_kept.proofs.LeadLaws.{low-enough}

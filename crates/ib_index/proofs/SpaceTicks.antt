@@ -1,6 +1,6 @@
--- The clock of page 0 may tick: as a page of the tree it is none, and as the space page it is not above the number of entries.
-use Rattle.std.specs.Prelude.{IfSome, nat_lt, ◌==◌}
-use Rattle.std.proofs.Common.{◌≡◌, ◌≢◌, ℕ, ◌+◌, ◌^◌, ◌<◌, ◌≤◌, Bool, true, false, cond, List, [], ◌++◌, length, Option, Some, None, inl, inr, refl, sym, ap, subst, ◌∙◌, arith, append-nil}
+-- The clocks of what is held may tick: each is not above the number of entries; and as a page of the tree page 0 has none.
+use Rattle.std.specs.Prelude.{IfSome, IsSome, nat_lt}
+use Rattle.std.proofs.Common.{◌≡◌, ◌≢◌, ℕ, ◌^◌, ◌<◌, true, false, List, [], ◌++◌, length, Option, Some, None, inl, inr, refl, sym, ap, subst, ◌∙◌, arith, append-nil}
 use Rattle.std.proofs.lemmas.Bool.{cases_Bool, cases_eq}
 use Rattle.ib_map.specs.Keys.{MapKey, IsKey}
 use Rattle.ib_layout.specs.Geometry.{Sizes}
@@ -12,20 +12,18 @@ use Rattle.ib_page.specs.Work.{changed_of}
 use Rattle.ib_page.proofs.FormLaws.{kind_read}
 use Rattle.ib_page.proofs.SpaceLaws.{bit_in_word}
 use Rattle.ib_walk.specs.Words.{state_of, image_of, bits_of}
-use Rattle.ib_logrec.specs.declared.entry.Entry.{Entry}
 use Rattle.ib_logrec.specs.Log.{by_place, memory_after}
 use Rattle.ib_tree.specs.TreeLog.{opening}
 use Rattle.ib_plans.specs.Agreement.{MayTick, bits_in, memory_in, state_or_free}
 use Rattle.ib_plans.proofs.MetLaws.{met-set, root-met}
 use Rattle.ib_kept.specs.Kept.{IsKeptLog}
 use Rattle.ib_kept.specs.LeafChange.{kept_pages}
-use Rattle.ib_kept.proofs.ClockLaws.{space_clock-le}
+use Rattle.ib_kept.proofs.ClockLaws.{clock-le, space_clock-le}
 use Rattle.ib_rule.specs.Pass.{PassState}
-use Rattle.ib_index.specs.Grows.{IsReady}
+use Rattle.ib_index.specs.Grows.{IsStanding}
 use Rattle.ib_index.specs.Leaf.{IsSeated}
 use Rattle.ib_index.proofs.AgreeLaws.{agrees-now, still-in, images-now}
 use Rattle.ib_index.proofs.FreshLaws.{bits-same}
-use Rattle.ib_index.proofs.GrowWhole.{page-ticks}
 
 -- an image that is no page has no clock
 no-clock : (v : PageValue) → (HoldsPage v → ⊥) → (state_of v).clock ≡ 0
@@ -51,14 +49,26 @@ bit-taken pages image some = elim (cases_Bool (is_taken image 1)) [
   ]))
 ]
 
-module _ (sizes : Sizes) (key : MapKey) (is : IsKey key) (path fresh : List ℕ) (q t : PassState) (seated : IsSeated sizes t) (ready : IsReady sizes key path fresh q t) where
+module _ (sizes : Sizes) (key : MapKey) (is : IsKey key) (path : List ℕ) (t : PassState) (seated : IsSeated sizes t) (at : IsStanding sizes key path t) where
+  -- of another page than page 0
+  page-ticks : (n : ℕ) → n ≢ 0 → (memory_in t.work n).clock < 2 ^ 63
+  page-ticks n ne = go (changed_of n t.work) refl
+    where
+      go : (o : Option (List ℕ)) → changed_of n t.work ≡ o → (memory_in t.work n).clock < 2 ^ 63
+      go None none = let z : (memory_in t.work n).clock ≡ 0 = ap (λ o. (state_or_free o).clock) none in omega arith
+      go (Some image) there =
+          let a = agrees-now sizes seated.fits key is path t at in
+          let e = ap (λ s. s.clock) (a.same n ne (subst IsSome (sym there) refl)) in
+          let le = clock-le sizes.pages seated.fits t.view.memory.seen n ne at.known.legal in
+          let few = seated.few in omega arith
+
   zero-ticks : (memory_in t.work 0).clock < 2 ^ 63
   zero-ticks = go (changed_of 0 t.work) refl
     where
       go : (o : Option (List ℕ)) → changed_of 0 t.work ≡ o → (memory_in t.work 0).clock < 2 ^ 63
       go None none = let z : (memory_in t.work 0).clock ≡ 0 = ap (λ o. (state_or_free o).clock) none in omega arith
       go (Some image) there =
-          let a = agrees-now sizes seated.fits key is path t ready.growing.at in
+          let a = agrees-now sizes seated.fits key is path t at in
           let m = kept_pages sizes.pages t.view.memory.seen in
           let bits = bits_of sizes.pages (memory_after (by_place opening sizes.pages) t.view.memory.seen) in
           let set = met-set _ m bits 1 a.lawful 1 (omega arith) (omega arith) 1 (root-met m 1) in
@@ -70,8 +80,8 @@ module _ (sizes : Sizes) (key : MapKey) (is : IsKey key) (path fresh : List ℕ)
   space-ticks : IfSome (changed_of 0 t.work) (λ image. space_clock_of image < 2 ^ 63)
   space-ticks =
       let log = t.view.memory.seen in
-      let kept = subst (IsKeptLog sizes.pages) (sym (append-nil log)) ready.growing.at.known.legal in
-      let all = images-now sizes seated.fits key is path t ready.growing.at t.number [] tt kept in
+      let kept = subst (IsKeptLog sizes.pages) (sym (append-nil log)) at.known.legal in
+      let all = images-now sizes seated.fits key is path t at t.number [] tt kept in
       let here = still-in (memory_after (by_place opening sizes.pages) (log ++ [])) 0 t.work all in
       let le = space_clock-le sizes.pages seated.fits (log ++ []) kept in
       let long : length (log ++ []) ≡ length log = ap length (append-nil log) in
@@ -89,5 +99,5 @@ module _ (sizes : Sizes) (key : MapKey) (is : IsKey key) (path fresh : List ℕ)
       ticks : (n : ℕ) → (memory_in t.work n).clock < 2 ^ 63
       ticks n = elim (cases_eq n 0) [
         | inl z ↦ subst (λ n. (memory_in t.work n).clock < 2 ^ 63) (sym z) zero-ticks
-        | inr ne ↦ page-ticks sizes key is path fresh q t seated ready n ne
+        | inr ne ↦ page-ticks n ne
       ]

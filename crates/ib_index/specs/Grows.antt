@@ -1,5 +1,5 @@
 -- An insert that changes the tree's structure.
-use Rattle.std.specs.Prelude.{◌≡◌, ◌≢◌, ℕ, ◌+◌, ◌<◌, ◌≤◌, true, false, List, [], ◌∷◌, ◌++◌, length, map, Some}
+use Rattle.std.specs.Prelude.{◌≡◌, ℕ, ◌+◌, ◌<◌, ◌≤◌, true, false, List, [], ◌∷◌, ◌++◌, length, map, Some}
 use Rattle.std.specs.List.{All, AllByRecursion}
 use Rattle.ib_map.specs.Keys.{MapKey}
 use Rattle.ib_levels.specs.declared.level.Level.{Level}
@@ -13,6 +13,7 @@ use Rattle.ib_levels.specs.Level.{may_follow}
 use Rattle.ib_walk.specs.Full.{free_of, is_too_high, need_of}
 use Rattle.ib_walk.specs.Pages.{PageMemory, Tree}
 use Rattle.ib_split.specs.Inserts.{HasFresh}
+use Rattle.ib_merge.specs.Deletes.{HasNext}
 use Rattle.ib_tree.specs.PageLists.{AreOnce, is_among}
 use Rattle.ib_tree.specs.TreeLog.{opening}
 use Rattle.ib_kept.specs.Kept.{IsKeptLog}
@@ -39,7 +40,7 @@ held_grant h = record { latch = h.0 + 2; mode = X; level = h.1 }
 abbrev pub pages_held : List (ℕ × Level) → List ℕ
 pages_held held = map (λ h. h.0) held
 
--- .. and these pages are held in X, in this order: they alone are loaded, among them the pages of the path and the leaf behind the last one
+-- .. and these pages are held in X, in this order: they alone are loaded, among them the pages of the path
 pub record IsGrowing (sizes : Sizes) (key : MapKey) (path : List ℕ) (held : List (ℕ × Level)) (p : PassState) : Type 0 where
   pub at : IsStanding sizes key path p
   pub grants : HasGrants (claim_grant ∷ map held_grant held) p
@@ -48,7 +49,6 @@ pub record IsGrowing (sizes : Sizes) (key : MapKey) (path : List ℕ) (held : Li
   pub within : All (λ w. w.page < sizes.pages) p.work
   pub trees : HasTreePages path p.work
   pub leaf : IsThere p.work (last_of path)
-  pub next : (memory_in p.work (last_of path)).next ≢ 0 → IsThere p.work (memory_in p.work (last_of path)).next
 
 -- one page more was taken so, and loaded
 pub record HasGrown (sizes : Sizes) (key : MapKey) (path : List ℕ) (held : List (ℕ × Level)) (page : ℕ) (level : Level) (p q : PassState) : Type 0 where
@@ -66,6 +66,7 @@ tree_pages held = map (λ page. (page, TreeNode)) held
 pub record HasComeToWay (sizes : Sizes) (key : MapKey) (path : List ℕ) (p q : PassState) : Type 0 where
   pub held : List ℕ
   pub growing : IsGrowing sizes key path (tree_pages held) q
+  pub next : HasNext q.work (last_of path)
   pub kinds : (n : ℕ) → IsThere q.work n → (memory_in q.work n).kind ≡ Tree
   pub zero : is_among held 0 ≡ false
   pub once : AreOnce held sizes.pages

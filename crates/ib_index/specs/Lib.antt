@@ -2,3 +2,5 @@ pub mod Calls
 pub mod Lookups
 pub mod Leaf
 pub mod Grows
+pub mod Shrinks
+pub mod Changes

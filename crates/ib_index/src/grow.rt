@@ -44,13 +44,13 @@ use ib_split::{choose_pages, pages_needed, plan_insert};
 use std::sync::Wait;
 
 // A mini-transaction on the pages of kept logs.
-type Work<'a> = Mtr<'a, KeptLaw, Parkers>;
+pub(crate) type Work<'a> = Mtr<'a, KeptLaw, Parkers>;
 
 // The page of the first tree's root.
-const ROOT: u32 = 1;
+pub(crate) const ROOT: u32 = 1;
 
 // What the session and its space are told to be by their own types.
-fn be_seated(mtr: &Work<'_>)
+pub(crate) fn be_seated(mtr: &Work<'_>)
     requires mtr { IsMtr mtr.now.latches.now mtr.now.pass.now }
     ensures { IsSeated mtr.now.latches.now.sizes mtr.now.pass.now }
 {
@@ -122,7 +122,7 @@ fn take_at<R: Wait>(rt: &R, mtr: &mut Work<'_>, page: u32, level: Level)
 }
 
 // The value of the key in the last page of its way.
-fn value_in(mtr: &Work<'_>, path: &Path, key: Key) -> Option<u64>
+pub(crate) fn value_in(mtr: &Work<'_>, path: &Path, key: Key) -> Option<u64>
     requires mtr { IsMtr mtr.now.latches.now mtr.now.pass.now }
     requires some { path.now ≢ [] }
     requires trees { HasTreePages path.now mtr.now.pass.now.work }
@@ -168,12 +168,12 @@ fn plan_in(mtr: &mut Work<'_>, path: &Path, fresh: &Path, key: Key, value: u64)
 }
 
 // Takes page 0 behind the pages of the tree.
-fn take_space<R: Wait>(rt: &R, mtr: &mut Work<'_>)
+pub(crate) fn take_space<R: Wait>(rt: &R, mtr: &mut Work<'_>)
     requires mtr { IsMtr mtr.old.latches.now mtr.old.pass.now }
     requires room { total mtr.old.pass.now.view.grants < 2 ^ 52 }
     requires ready { (key : MapKey) × (path : List ℕ) × (held : List ℕ)
         × IsGrowing mtr.old.latches.now.sizes key path (tree_pages held) mtr.old.pass.now
-        × (is_among held 0 ≡ false) × (length held ≤ 10) }
+        × (is_among held 0 ≡ false) × (length held ≤ 23) }
     ensures mtr { IsMtr mtr.new.latches.now mtr.new.pass.now }
     ensures latches { mtr.new.latches ≡ mtr.old.latches }
     ensures pass { mtr.new.pass.ghost_name ≡ mtr.old.pass.ghost_name }

@@ -1,6 +1,6 @@
 //! One tree that sessions share: how it is opened and closed, and how sessions come, look keys up and go.
 
-ghost use Rattle.std.specs.Prelude.{◌≡◌, ◌↔◌, ◌+◌, ◌-◌, ◌≤◌, ◌^◌, true, [], ◌∷◌, length, Err, IsTrue, IfOk, IfErr, IfSome, MatchOption};
+ghost use Rattle.std.specs.Prelude.{◌≡◌, ◌↔◌, ◌+◌, ◌-◌, ◌≤◌, ◌^◌, true, [], ◌∷◌, length, Err, IsTrue, IfOk, IfErr};
 ghost use mathlib.Core.List.{IsPrefix};
 ghost use Rattle.ib_core.specs.Sessions.{idle};
 ghost use Rattle.ib_logrec.specs.Log.{by_place};
@@ -13,10 +13,11 @@ ghost use Rattle.ib_tree.specs.TreeLog.{opening};
 ghost use Rattle.ib_cursor.specs.Hindrance.{IsHindered};
 ghost use Rattle.ib_map.specs.declared.call.Call.TheVariants.{Delete, Insert};
 ghost use Rattle.ib_index.specs.Calls.{HasCalled};
-ghost use Rattle.ib_index.specs.Leaf.{IsFullFor, IsShortFor, NeededLeaf, NeedsTree, TakesFew};
+ghost use Rattle.ib_index.specs.Changes.{TakesFewUnless};
+ghost use Rattle.ib_index.specs.Leaf.{IsFullFor, IsShortFor};
 ghost use Rattle.ib_index.specs.Lookups.{HasLookedUp};
 
-use crate::{leaf, lookup, nowait};
+use crate::{change, lookup, nowait};
 use ib_cursor::NowaitFault;
 use ib_kept::KeptLaw;
 use ib_latch::{CloseRefused as LatchesRefused, Latches, Parkers, Sleep};
@@ -183,18 +184,14 @@ impl Index<Parkers> {
         lookup::get(rt, &self.latches, pass, key)
     }
 
-    /// Puts a pair in where that changes the key's leaf alone (`btr_cur_optimistic_insert`): the leaf is
-    /// taken in X, the index and the pages above it in S. `Duplicate` where the key is there; else
-    /// `Inserted`, at the place of its entry, or `LogFull` where the log has no room, at the place after all
-    /// entries seen. None exactly where the key is not there and its leaf is full: then nothing is changed,
-    /// and the insert needs a split. The session holds nothing before and after.
-    pub fn optimistic_insert<R: Wait>(
-        &self,
-        rt: &R,
-        pass: &mut Pass,
-        key: Key,
-        value: u64,
-    ) -> Option<Record>
+    /// Puts a pair in (`row_ins_clust_index_entry`): `Inserted`, at the place of its entry; `Duplicate`
+    /// where the key is there; `TooHigh` where the tree would get a ninth level; `SpaceFull` where fewer
+    /// pages are free than it needs; `LogFull` where the log has no room. Each refusal is true at its place,
+    /// and changes nothing. First the key's leaf is taken in X, the index and the pages above it in S
+    /// (`btr_cur_optimistic_insert`). Where that leaf is full, all is given up and done again with the index in
+    /// SX and the pages that may change in X (`btr_cur_pessimistic_insert`). The session holds nothing
+    /// before and after.
+    pub fn insert<R: Wait>(&self, rt: &R, pass: &mut Pass, key: Key, value: u64) -> Record
         requires own { IsOf self.now pass.old }
         requires idle { pass.old.view.session ≡ idle }
         requires scratch { IsTrue pass.old.has_scratch }
@@ -202,23 +199,20 @@ impl Index<Parkers> {
         ensures own { IsOf self.now pass.new }
         ensures idle { pass.new.view.session ≡ idle }
         ensures scratch { IsTrue pass.new.has_scratch }
-        ensures called { MatchOption result (NeedsTree self.now.sizes (IsFullFor key) key
-            pass.old pass.new) (λ answer. HasCalled self.now.sizes (IsKeptLog self.now.sizes.pages)
-            (by_place opening self.now.sizes.pages) (Insert key value) answer pass.old pass.new) }
-        ensures alone { IfSome result (λ answer. NeededLeaf self.now.sizes (IsFullFor key) key
-            answer.place pass.new) }
-        ensures grants { TakesFew self.now.sizes 2 pass.old pass.new }
+        ensures called { HasCalled self.now.sizes (IsKeptLog self.now.sizes.pages)
+            (by_place opening self.now.sizes.pages) (Insert key value) result pass.old pass.new }
+        ensures grants { TakesFewUnless self.now.sizes (IsFullFor key) key pass.old pass.new }
     {
-        leaf::optimistic_insert(rt, &self.latches, pass, key, value)
+        change::insert(rt, &self.latches, pass, key, value)
     }
 
-    /// Takes a key out where that changes its leaf alone (`btr_cur_optimistic_delete`): the leaf is taken in
-    /// X, the index and the pages above it in S. `Missing` where the key is not there; else `Deleted` with
-    /// its value, at the place of its entry, or `LogFull` where the log has no room, at the place after all
-    /// entries seen. None exactly where the key is there, its leaf is not the root, and has 17 records or
-    /// fewer: then nothing is changed, and the delete may need a merge. The session holds nothing before and
-    /// after.
-    pub fn optimistic_delete<R: Wait>(&self, rt: &R, pass: &mut Pass, key: Key) -> Option<Record>
+    /// Takes a key out (`row_upd_clust_step` with the record's delete mark, and the purge after it, at once):
+    /// `Deleted` with its value, at the place of its entry; `Missing` where the key is not there; `LogFull`
+    /// where the log has no room. Each refusal is true at its place, and changes nothing. First the key's leaf
+    /// is taken in X, the index and the pages above it in S (`btr_cur_optimistic_delete`). Where that leaf is not
+    /// the root and has 17 records or fewer, all is given up and done again with the index in SX and the
+    /// pages that may change in X (`btr_cur_pessimistic_delete`). The session holds nothing before and after.
+    pub fn delete<R: Wait>(&self, rt: &R, pass: &mut Pass, key: Key) -> Record
         requires own { IsOf self.now pass.old }
         requires idle { pass.old.view.session ≡ idle }
         requires scratch { IsTrue pass.old.has_scratch }
@@ -226,13 +220,10 @@ impl Index<Parkers> {
         ensures own { IsOf self.now pass.new }
         ensures idle { pass.new.view.session ≡ idle }
         ensures scratch { IsTrue pass.new.has_scratch }
-        ensures called { MatchOption result (NeedsTree self.now.sizes (IsShortFor key) key
-            pass.old pass.new) (λ answer. HasCalled self.now.sizes (IsKeptLog self.now.sizes.pages)
-            (by_place opening self.now.sizes.pages) (Delete key) answer pass.old pass.new) }
-        ensures alone { IfSome result (λ answer. NeededLeaf self.now.sizes (IsShortFor key) key
-            answer.place pass.new) }
-        ensures grants { TakesFew self.now.sizes 2 pass.old pass.new }
+        ensures called { HasCalled self.now.sizes (IsKeptLog self.now.sizes.pages)
+            (by_place opening self.now.sizes.pages) (Delete key) result pass.old pass.new }
+        ensures grants { TakesFewUnless self.now.sizes (IsShortFor key) key pass.old pass.new }
     {
-        leaf::optimistic_delete(rt, &self.latches, pass, key)
+        change::delete(rt, &self.latches, pass, key)
     }
 }

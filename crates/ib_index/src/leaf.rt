@@ -187,6 +187,7 @@ pub(crate) fn optimistic_insert<R: Wait>(
         (by_place opening latches.now.sizes.pages) (InsertCall key value) answer pass.old pass.new) }
     ensures alone { IfSome result (λ answer. NeededLeaf latches.now.sizes (IsFullFor key) key answer.place pass.new) }
     ensures grants { TakesFew latches.now.sizes 2 pass.old pass.new }
+    ensures forgotten { pass.new.view.memory.since ≡ [] }
 {
     let call = Call::Insert { key, value };
     let mut mtr = Mtr::start(latches, pass);
@@ -228,6 +229,7 @@ pub(crate) fn optimistic_delete<R: Wait>(
         (by_place opening latches.now.sizes.pages) (DeleteCall key) answer pass.old pass.new) }
     ensures alone { IfSome result (λ answer. NeededLeaf latches.now.sizes (IsShortFor key) key answer.place pass.new) }
     ensures grants { TakesFew latches.now.sizes 2 pass.old pass.new }
+    ensures forgotten { pass.new.view.memory.since ≡ [] }
 {
     let call = Call::Delete { key };
     let mut mtr = Mtr::start(latches, pass);

@@ -1,6 +1,7 @@
 //! The index: lookups and changes of one tree that sessions share.
 #![tactic(auto)]
 
+mod change;
 mod grow;
 mod index;
 mod leaf;
@@ -8,6 +9,7 @@ mod leaf;
 mod leaf_tests;
 mod lookup;
 mod nowait;
+mod shrink;
 #[cfg(test)]
 mod tests;
 

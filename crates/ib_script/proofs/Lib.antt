@@ -1,3 +1,4 @@
 pub mod Building
 pub mod ListsGrow
 pub mod Readings
+mod GeneratedLaws

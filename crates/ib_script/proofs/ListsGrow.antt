@@ -35,14 +35,15 @@ get_or-padded [] m k = get_or-empty m k
 get_or-padded (x ∷ lists) m zero = refl
 get_or-padded (x ∷ lists) m (suc k) = get_or-padded lists m k
 
-sum-empty : (m : ℕ) → sum_by length (replicate {A = List Call} m []) ≡ 0
-sum-empty zero = refl
-sum-empty (suc m) =
-    let e : sum_by length (replicate {A = List Call} (suc m) []) ≡ 0 + sum_by length (replicate {A = List Call} m []) = sum_by-cons (length {A = Call}) [] (replicate {A = List Call} m []) in
-    let none = sum-empty m in
+sum-empty : (weight : List Call → ℕ) → weight [] ≡ 0 → (m : ℕ) → sum_by weight (replicate {A = List Call} m []) ≡ 0
+sum-empty weight light zero = refl
+sum-empty weight light (suc m) =
+    let e : sum_by weight (replicate {A = List Call} (suc m) []) ≡ weight [] + sum_by weight (replicate {A = List Call} m []) = sum_by-cons weight [] (replicate {A = List Call} m []) in
+    let none = sum-empty weight light m in
     omega arith
 
-pub sum-padded : (lists : List (List Call)) (m : ℕ) → sum_by length (lists ++ replicate m []) ≡ sum_by length lists
-sum-padded lists m =
-    let e = sum_by-append length lists (replicate m []) in
-    omega (arith, sum-empty m)
+-- empty lists add nothing to what lists weigh
+pub sum-padded : (weight : List Call → ℕ) → weight [] ≡ 0 → (lists : List (List Call)) (m : ℕ) → sum_by weight (lists ++ replicate m []) ≡ sum_by weight lists
+sum-padded weight light lists m =
+    let e = sum_by-append weight lists (replicate m []) in
+    omega (arith, sum-empty weight light m)

@@ -9,7 +9,7 @@ use Rattle.std.proofs.lemmas.List.Elements.{filter-append}
 use Rattle.std.proofs.lemmas.List.Folds.{list_all-append}
 use Rattle.std.proofs.lemmas.List.Sums.{fold_push, sum_by_push, sum_by-set}
 use Rattle.ib_map.specs.declared.call.Call.{Call}
-use Rattle.ib_script.specs.Script.{Reading, commands_from, session_count, sizes_of, says_nothing, is_command}
+use Rattle.ib_script.specs.Script.{Reading, commands_from, session_count, sizes_of, says_nothing, asks_scan, is_command, is_scan, scan_count}
 use Rattle.ib_script.specs.Building.{session_then, session_after, HoldCommands}
 use Rattle.ib_script.specs.Lists.{with_command, with_sessions}
 use Rattle.ib_script.specs.declared.script_line.ScriptLine.TheVariants.{Skipped, Space, Session, Command}
@@ -29,6 +29,19 @@ pub no-command : (before : List Reading) (reading : Reading) → commands_from (
     → commands_from 1 (before ++ reading ∷ []) ≡ commands_from 1 before
 no-command before reading none = commands-push 1 before reading ∙ ap (λ commands. commands_from 1 before ++ commands) none ∙ append-nil _
 
+pub count-other : (p : Reading → Bool) (before : List Reading) (reading : Reading) → p reading ≡ false → count_by p before ≡ count_by p (before ++ reading ∷ [])
+count-other p before reading other =
+    let e : count_by p (before ++ reading ∷ []) ≡ count_by p before + cond {A = ℕ} (p reading) 1 0 = sum_by_push (λ r. cond (p r) 1 0) before reading in
+    let none : cond {A = ℕ} (p reading) 1 0 ≡ 0 = ap (λ b. cond {A = ℕ} b 1 0) other in
+    omega arith
+
+no-scan : (reading : Reading) → is_command reading ≡ false → is_scan reading ≡ false
+no-scan (Ok Skipped) h = refl
+no-scan (Ok (Space sizes)) h = refl
+no-scan (Ok (Session number)) h = refl
+no-scan (Ok (Command call)) h = absurd (let z : true ≡ false = h in cc)
+no-scan (Err kind) h = refl
+
 -- the commands of lists stay where a line is no command
 pub same-lists : {before : List Reading} {lists : List (List Call)} (reading : Reading) → HoldCommands before lists
     → commands_from (session_after before) (reading ∷ []) ≡ [] → is_command reading ≡ false → HoldCommands (before ++ reading ∷ []) lists
@@ -37,14 +50,9 @@ same-lists {before} {lists} reading hold none other =
     record {
       sessions = hold.sessions ∙ ap (λ commands. fold (λ most (command : ℕ × Call). max most command.0) 0 commands) (sym same);
       commands = λ n. hold.commands n ∙ ap (λ commands. map (λ (command : ℕ × Call). command.1) (filter (λ (command : ℕ × Call). command.0 == n + 1) commands)) (sym same);
-      count = hold.count ∙ sym (sum_by_push _ before reading ∙ ap (λ b. count_by is_command before + cond {A = ℕ} b 1 0) other ∙ (omega arith));
+      count = hold.count ∙ count-other is_command before reading other;
+      scans = hold.scans ∙ count-other is_scan before reading (no-scan reading other);
     }
-
-pub count-other : (p : Reading → Bool) (before : List Reading) (reading : Reading) → p reading ≡ false → count_by p before ≡ count_by p (before ++ reading ∷ [])
-count-other p before reading other =
-    let e : count_by p (before ++ reading ∷ []) ≡ count_by p before + cond {A = ℕ} (p reading) 1 0 = sum_by_push (λ r. cond (p r) 1 0) before reading in
-    let none : cond {A = ℕ} (p reading) 1 0 ≡ 0 = ap (λ b. cond {A = ℕ} b 1 0) other in
-    omega arith
 
 pub count-one : (p : Reading → Bool) (before : List Reading) (reading : Reading) → p reading ≡ true → count_by p before + 1 ≡ count_by p (before ++ reading ∷ [])
 count-one p before reading one =
@@ -132,10 +140,17 @@ lists-push {before} {lists} session call least e hold =
       ];
       count =
           let at = sum_by-set length all (session - 1) new [] lt in
-          let padded = sum-padded lists (session - length lists) in
+          let padded = sum-padded length refl lists (session - length lists) in
           let more = length-append (get_or all (session - 1) []) (call ∷ []) in
           let one = count-one is_command before (Ok (Command call)) refl in
           let was = hold.count in
+          omega arith;
+      scans =
+          let at = sum_by-set scan_count all (session - 1) new [] lt in
+          let padded = sum-padded scan_count refl lists (session - length lists) in
+          let more : scan_count new ≡ scan_count (get_or all (session - 1) []) + cond {A = ℕ} (asks_scan call) 1 0 = sum_by_push (λ c. cond (asks_scan c) 1 0) (get_or all (session - 1) []) call in
+          let one : count_by is_scan (before ++ Ok (Command call) ∷ []) ≡ count_by is_scan before + cond {A = ℕ} (asks_scan call) 1 0 = sum_by_push (λ r. cond (is_scan r) 1 0) before (Ok (Command call)) in
+          let was = hold.scans in
           omega arith;
     }
 

@@ -4,7 +4,7 @@ use Rattle.std.specs.List.{list_all}
 use Rattle.ib_map.specs.declared.call.Call.{Call}
 use Rattle.ib_edge.specs.BadLines.{IsFault}
 use Rattle.ib_script.specs.Lists.{lists_of}
-use Rattle.ib_script.specs.Script.{Reading, says_nothing, is_command, is_scan, fault_behind, commands_of, session_count, sizes_of}
+use Rattle.ib_script.specs.Script.{Reading, says_nothing, is_command, is_scan, scan_count, fault_behind, commands_of, session_count, sizes_of}
 use Rattle.ib_script.specs.declared.script_line.ScriptLine.TheVariants.{Session}
 use Rattle.ib_script.specs.declared.builder.Builder.{Builder}
 use Rattle.ib_edge.specs.declared.bad_line.LineFault.{LineFault}
@@ -23,6 +23,7 @@ pub record HoldCommands (before : List Reading) (lists : List (List Call)) : Typ
   pub sessions : length lists ≡ session_count before
   pub commands : (n : ℕ) → slice_index_or lists n [] ≡ commands_of (n + 1) before
   pub count : sum_by length lists ≡ count_by is_command before
+  pub scans : sum_by scan_count lists ≡ count_by is_scan before
 
 pub record IsBuilt (before : List Reading) (builder : Builder) : Type 0 where
   pub started : builder.started ≡ not (list_all says_nothing before)

@@ -1,3 +1,5 @@
 pub mod Lists
 pub mod Script
 pub mod Building
+pub mod Loads
+pub mod Generated

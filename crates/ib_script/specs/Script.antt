@@ -54,9 +54,17 @@ abbrev pub is_command : Reading → Bool
 is_command (Ok (Command call)) = true
 is_command _ = false
 
+abbrev pub asks_scan : Call → Bool
+asks_scan (Scan low high) = true
+asks_scan _ = false
+
 abbrev pub is_scan : Reading → Bool
-is_scan (Ok (Command (Scan low high))) = true
+is_scan (Ok (Command call)) = asks_scan call
 is_scan _ = false
+
+-- how many of the calls are scans
+abbrev pub scan_count : List Call → ℕ
+scan_count calls = count_by asks_scan calls
 
 -- not as many commands before, nor as many scans, as a script may have
 abbrev pub has_room : List Reading → Bool → Bool
@@ -111,7 +119,8 @@ pub record IsScript (readings : List Reading) (script : ScriptValue) : Type 0 wh
   pub sessions : length script.commands ≡ session_count readings
   pub commands : (n : ℕ) → slice_index_or script.commands n [] ≡ commands_of (n + 1) readings
 
--- it has few sessions, and few commands in all
+-- it has few sessions, and few commands in all, of which few are scans
 pub record IsSmall (script : ScriptValue) : Type 0 where
   pub sessions : length script.commands ≤ MOST_SCRIPT_SESSIONS
   pub commands : sum_by length script.commands ≤ MOST_COMMANDS
+  pub scans : sum_by scan_count script.commands ≤ MOST_SCANS

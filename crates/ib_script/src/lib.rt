@@ -2,13 +2,17 @@
 #![tactic(auto)]
 
 mod builder;
+mod generated;
 mod lists;
+mod load;
 mod reader;
 mod script;
 mod script_line;
 #[cfg(test)]
 mod tests;
 
+pub use generated::generate;
+pub use load::{Load, MOST_GENERATED};
 pub use reader::{LineReader, PlainLines};
 pub use script::{Script, read_script};
 pub use script_line::{MOST_COMMANDS, MOST_SCANS, ScriptLine, reading_of};

@@ -7,7 +7,7 @@ ghost use Rattle.ib_edge.specs.Fields.{number_in, one_field, session_in, two_fie
 ghost use Rattle.ib_edge.specs.declared.line_kind.TheConstants.{MOST_SCRIPT_SESSIONS};
 ghost use Rattle.ib_edge.specs.Lines.{fields_behind};
 ghost use Rattle.ib_text.specs.Keys.{key_in};
-ghost use Rattle.ib_script.specs.Script.{IsInRange, is_scan, reading_of, reading_of_fields, space_line};
+ghost use Rattle.ib_script.specs.Script.{IsInRange, asks_scan, reading_of, reading_of_fields, space_line};
 ghost use Rattle.ib_script.specs.declared.script_line.ScriptLine.TheVariants.{Command};
 
 use ib_edge::{LineKind, first_field, is_skipped, number_in, session_in};
@@ -181,7 +181,7 @@ pub fn reading_of(line: &[u8]) -> Result<ScriptLine, LineKind>
 }
 
 pub fn is_scan(call: Call) -> bool
-    ensures { result ≡ is_scan (Ok (Command call)) }
+    ensures { result ≡ asks_scan call }
 {
     matches!(call, Call::Scan { .. })
 }

@@ -1,9 +1,9 @@
 //! Scripts read, and the first bad line of each kind.
 
-use crate::{PlainLines, read_script};
+use crate::{Load, PlainLines, generate, read_script};
 use ib_edge::{LineKind, ScriptFault};
 use ib_map::Call;
-use std::alloc::Global;
+use std::alloc::{AllocError, Global};
 
 #[test]
 fn reads_the_commands_of_each_session(rt: HostRuntime) -> Result<(), ScriptFault> {
@@ -76,4 +76,43 @@ fn tells_the_first_bad_line(rt: HostRuntime) {
             "{kind:?} at {line}"
         );
     }
+}
+
+#[test]
+fn generates_the_commands_of_each_session(rt: HostRuntime) -> Result<(), AllocError> {
+    let load = Load::new(7, 1, 2).expect(&rt, "there is such a load");
+    let script = generate(rt.alloc(), load)?;
+    let first = [
+        Call::Insert { key: 64, value: 0 },
+        Call::Insert {
+            key: 2_592_256,
+            value: 1,
+        },
+        Call::Delete { key: 64 },
+        Call::Delete { key: 2_592_256 },
+    ];
+    assert_eq!(rt; script.commands(1), first.as_slice());
+    let second = [
+        Call::Insert { key: 65, value: 0 },
+        Call::Delete { key: 65 },
+        Call::Delete { key: 2_592_257 },
+    ];
+    assert_eq!(rt; script.commands(2), second.as_slice());
+    assert_eq!(rt; script.sessions(), 2);
+    assert_eq!(rt; script.geometry().pages(), 4096);
+    Ok(())
+}
+
+#[test]
+fn generates_from_some_commands_for_some_sessions(rt: HostRuntime) {
+    for (commands, seed, sessions) in [
+        (0, 0, 1),
+        (30_001, 0, 1),
+        (1, 0, 0),
+        (1, 0, 65),
+        (1, 1 << 32, 1),
+    ] {
+        assert_eq!(rt; Load::new(commands, seed, sessions), None);
+    }
+    assert!(rt; Load::new(30_000, u32::MAX as u64, 64).is_some());
 }

@@ -1,6 +1,10 @@
-//! Sessions on one shared tree, as tests: lookups, inserts into leaves with room, and scans.
+//! Sessions on one shared tree, as tests: lookups, inserts, deletes, and scans.
 #![tactic(auto)]
 
+#[cfg(test)]
+mod grown;
+#[cfg(test)]
+mod pages;
 #[cfg(test)]
 mod rows;
 #[cfg(test)]

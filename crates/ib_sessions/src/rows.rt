@@ -13,7 +13,7 @@ use std::process::Abort;
 use std::sync::Wait;
 
 // Inserts the keys 1 to `count`, each with a value equal to it.
-fn insert_up_to<R: Abort + Wait>(rt: &R, index: &Index, pass: &mut Pass, count: u32)
+pub(crate) fn insert_up_to<R: Abort + Wait>(rt: &R, index: &Index, pass: &mut Pass, count: u32)
     requires own { IsOf index.now pass.old }
     requires idle { pass.old.view.session ≡ idle }
     requires scratch { pass.old.has_scratch ≡ true }
@@ -25,12 +25,12 @@ fn insert_up_to<R: Abort + Wait>(rt: &R, index: &Index, pass: &mut Pass, count: 
         let key = place as u64 + 1;
         assert_eq!(rt;
             insert(rt, index, pass, key, key),
-            Some(inserted(key, key, place))
+            inserted(key, key, place)
         );
     }
 }
 
-fn inserted(key: u64, value: u64, place: u32) -> Record {
+pub(crate) fn inserted(key: u64, value: u64, place: u32) -> Record {
     Record {
         call: Call::Insert { key, value },
         reply: Reply::Inserted,
@@ -85,7 +85,7 @@ fn a_log_has_room_for_one_entry(rt: HostRuntime) {
     let mut one = come(&rt, rt.alloc(), &mut index);
     assert_eq!(rt;
         insert(&rt, &index, &mut one, 10, 100),
-        Some(inserted(10, 100, 0))
+        inserted(10, 100, 0)
     );
     let full = Record {
         call: Call::Insert { key: 11, value: 1 },
@@ -95,13 +95,13 @@ fn a_log_has_room_for_one_entry(rt: HostRuntime) {
         },
         place: 1,
     };
-    assert_eq!(rt; insert(&rt, &index, &mut one, 11, 1), Some(full));
+    assert_eq!(rt; insert(&rt, &index, &mut one, 11, 1), full);
     let there = Record {
         call: Call::Insert { key: 10, value: 3 },
         reply: Reply::Duplicate,
         place: 1,
     };
-    assert_eq!(rt; insert(&rt, &index, &mut one, 10, 3), Some(there));
+    assert_eq!(rt; insert(&rt, &index, &mut one, 10, 3), there);
     let found = Record {
         call: Call::Get { key: 10 },
         reply: Reply::Found { value: 100 },

@@ -15,7 +15,9 @@ use std::process::Abort;
 use std::sync::Wait;
 
 // An index on 16 pages, with a log of so many words.
-pub(crate) fn open(rt: &impl Abort, alloc: Global, log_words: u32) -> Index {
+pub(crate) fn open(rt: &impl Abort, alloc: Global, log_words: u32) -> Index
+    ensures { result.sizes.pages ≡ 16 }
+{
     let sizes = Geometry::new(16, log_words).expect(rt, "there are such sizes");
     Index::open(alloc, sizes).expect(rt, "there is memory")
 }
@@ -58,7 +60,7 @@ pub(crate) fn insert<R: Abort + Wait>(
     pass: &mut Pass,
     key: u64,
     value: u64,
-) -> Option<Record>
+) -> Record
     requires own { IsOf index.now pass.old }
     requires idle { pass.old.view.session ≡ idle }
     requires scratch { pass.old.has_scratch ≡ true }
@@ -67,7 +69,19 @@ pub(crate) fn insert<R: Abort + Wait>(
     ensures scratch { pass.new.has_scratch ≡ true }
 {
     may_call(rt, pass);
-    index.optimistic_insert(rt, pass, key, value)
+    index.insert(rt, pass, key, value)
+}
+
+pub(crate) fn delete<R: Abort + Wait>(rt: &R, index: &Index, pass: &mut Pass, key: u64) -> Record
+    requires own { IsOf index.now pass.old }
+    requires idle { pass.old.view.session ≡ idle }
+    requires scratch { pass.old.has_scratch ≡ true }
+    ensures own { IsOf index.now pass.new }
+    ensures idle { pass.new.view.session ≡ idle }
+    ensures scratch { pass.new.has_scratch ≡ true }
+{
+    may_call(rt, pass);
+    index.delete(rt, pass, key)
 }
 
 pub(crate) fn get<R: Abort + Wait>(rt: &R, index: &Index, pass: &mut Pass, key: u64) -> Record

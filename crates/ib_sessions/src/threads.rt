@@ -30,8 +30,7 @@ fn work<R: Abort + Wait>(rt: &R, index: &Index, pass: &mut Pass)
     let number = pass.number() as u64;
     for pair in 0..PAIRS {
         let put = insert(rt, index, pass, pair * 1024 + number, pair);
-        let made = put.is_some_and(|record| record.reply == Reply::Inserted);
-        assert!(rt; made);
+        assert_eq!(rt; put.reply, Reply::Inserted);
     }
     for round in 0..ROUNDS {
         let pair = round % PAIRS;

@@ -1,5 +1,5 @@
 -- Page 0 has a bit for each page of the space.
-use Rattle.std.proofs.Common.{◌≡◌, ◌≤◌, ℕ, true, subst, arith}
+use Rattle.std.proofs.Common.{◌≡◌, ◌≤◌, ℕ, true, arith}
 use Rattle.std.proofs.lemmas.Bool.Decides.{nat_tests}
 use Rattle.ib_map.specs.Space.{has_pages}
 use Rattle.ib_page.specs.declared.space.TheConstants.{MAPPED_PAGES}

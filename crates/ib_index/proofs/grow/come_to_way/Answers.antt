@@ -1,9 +1,8 @@
 -- The descent comes to the way.
-use Rattle.std.proofs.Common.{◌≡◌, ◌∙◌, true, ap, subst, sym}
+use Rattle.std.proofs.Common.{◌≡◌, true, ap, subst}
 use Rattle.ib_map.specs.Space.{has_pages}
 use Rattle.ib_layout.specs.Geometry.{Sizes}
 use Rattle.ib_rule.specs.Views.{is_watched}
-use Rattle.ib_rule.specs.Pass.{PassState}
 use Rattle.ib_index.proofs.BeginLaws.{has-come}
 use Rattle.ib_index.proofs.grow.come_to_way.Goals as goal
 

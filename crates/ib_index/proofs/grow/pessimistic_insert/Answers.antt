@@ -1,5 +1,5 @@
 -- The call was answered.
-use Rattle.std.proofs.Common.{rules, ◌≡◌, ◌∙◌, ◌<◌, ◌≤◌, ◌+◌, ℕ, List, [], Some, None, length, refl, ap, sym, subst, arith}
+use Rattle.std.proofs.Common.{rules, ◌≡◌, ◌∙◌, ◌<◌, ◌≤◌, ◌+◌, ℕ, List, length, ap, sym, subst, arith}
 use Rattle.ib_map.specs.Keys.{MapKey, IsKey}
 use Rattle.ib_map.specs.Pairs.{value_at}
 use Rattle.ib_map.specs.declared.call.Call.TheVariants.{Insert as InsertCall}
@@ -220,7 +220,7 @@ returns-clause-grants g c =
     let refused : IfErr c.commit-committed.result (λ full. IsFull sizes (IsKeptLog sizes.pages) (with_work planned.0 t) full r) =
     subst (λ (s : PassState). IfErr c.commit-committed.result (λ full. IsFull sizes (IsKeptLog sizes.pages) s full r)) planned.1
     (subst (λ (k : Sizes). IfErr c.commit-committed.result (λ full. IsFull k (IsKeptLog k.pages) c.plan_in.new.mtr.pass.now full r)) last c.commit-committed.ensures.full) in
-    let most : total r.view.grants ≤ total t.view.grants + 1 = ended-grants sizes t planned.0 c.args.value key c.commit-committed.result r committed refused in
+    let most : total r.view.grants ≤ total t.view.grants + 1 = ended-grants sizes t planned.0 (Insert key c.args.value) c.commit-committed.result r committed refused in
     let all : total r.view.grants ≤ total p.view.grants + 64 = (let a = ready.grants in let b = come.grants in omega arith) in
     let wrapped : TakesAtMost 64 p r = record { all = all } in wrapped)
 
@@ -265,4 +265,4 @@ plan_in-requires-clause-can g c =
     key c.ranges.key.fits p come needs in
     let seated : IsSeated sizes t = subst (λ (s : Sizes). IsSeated s t) taken-by c.be_seated-2.ensures in
     let missing = value-kept key (last_of path) q.work t.work (ready.same (last_of path) come.growing.leaf) ∙ absent in
-    can-insert sizes key c.ranges.key.fits path fresh q t seated ready (may-tick sizes key c.ranges.key.fits path fresh q t seated ready)
+    can-insert sizes key c.ranges.key.fits path fresh p q t seated come ready (may-tick sizes key c.ranges.key.fits path t seated ready.growing.at)

@@ -1,10 +1,6 @@
 -- The plan changes images of pages that are held, and leaves them as they were read.
-use Rattle.std.proofs.Common.{◌≡◌, ◌∙◌, ℕ, ◌+◌, ◌<◌, List}
-use Rattle.ib_core.specs.Sessions.{holdings}
-use Rattle.ib_frames.specs.Reads.{IsLoadedImage}
-use Rattle.ib_page.specs.Work.{WorkPage}
+use Rattle.std.proofs.Common.{◌∙◌}
 use Rattle.ib_plans.specs.Agreement.{reads_of}
-use Rattle.ib_rule.specs.Pass.{PassState}
 use Rattle.ib_index.proofs.GrowLaws.{planned-mtr}
 use Rattle.ib_index.proofs.grow.plan_in.Goals as goal
 use Rattle.std.proofs.Common.{ap}

@@ -1,5 +1,5 @@
 -- The page is taken, and then loaded.
-use Rattle.std.proofs.Common.{◌≡◌, ◌∙◌, ◌<◌, None, true, ap, sym, subst, arith}
+use Rattle.std.proofs.Common.{◌≡◌, ◌∙◌, true, ap, sym, subst}
 use Rattle.ib_map.specs.Space.{has_pages}
 use Rattle.ib_layout.specs.Geometry.{Sizes}
 use Rattle.ib_levels.specs.declared.latch.Latch.{Latch}

@@ -1,19 +1,17 @@
 -- Page 0 and the pages that it says are free.
-use Rattle.std.proofs.Common.{◌≡◌, ◌∙◌, ◌∷◌, ◌++◌, ◌<◌, ◌≤◌, ◌+◌, List, [], Some, true, ℕ, ap, sym, subst, refl, arith, length}
+use Rattle.std.proofs.Common.{◌≡◌, ◌∙◌, ◌∷◌, ◌++◌, ◌<◌, ◌≤◌, List, Some, true, ℕ, ap, sym, subst, arith, length}
 use Rattle.ib_map.specs.Keys.{MapKey, IsKey}
 use Rattle.ib_map.specs.Space.{has_pages}
-use Rattle.ib_levels.specs.declared.level.Level.TheVariants.{Space}
 use Rattle.ib_layout.specs.Geometry.{Sizes}
 use Rattle.ib_page.specs.Work.{changed_of}
 use Rattle.ib_plans.specs.Agreement.{bits_in}
-use Rattle.ib_plans.specs.declared.fault.TreeFault.{TreeFault}
 use Rattle.ib_plans.specs.declared.fault.TreeFault.TheVariants.{NeedPages}
 use Rattle.ib_plans.proofs.ChosenLaws.{chosen-length}
 use Rattle.ib_walk.specs.Full.{chosen, free_of}
 use Rattle.ib_tree.specs.PageLists.{AreOnce}
 use Rattle.ib_rule.specs.declared.looks.Grants.{Grants}
 use Rattle.ib_rule.specs.Pass.{PassState}
-use Rattle.ib_index.specs.Grows.{HasGrown, HasTakenNew, IsGrowing, IsReady, IsShort, space_pages, tree_pages}
+use Rattle.ib_index.specs.Grows.{HasTakenNew, IsGrowing, IsReady, IsShort, space_pages}
 use Rattle.ib_index.proofs.ReadyLaws.{image, image-there, ready-none, ready-some, short-some, space-once}
 use Rattle.ib_index.proofs.grow.take_fresh.Goals as goal
 

@@ -1,7 +1,6 @@
 -- One fresh page after the other.
-use Rattle.std.specs.List.{AllByRecursion}
 use Rattle.std.specs.Prelude.{take, get_or}
-use Rattle.std.proofs.Common.{◌≡◌, ◌∙◌, ◌∷◌, ◌++◌, ◌<◌, ◌≤◌, ◌+◌, List, [], None, false, ℕ, ap, sym, subst, refl, arith, length, map}
+use Rattle.std.proofs.Common.{◌≡◌, ◌∙◌, ◌∷◌, ◌++◌, ◌<◌, List, false, ℕ, ap, sym, subst, refl, arith, length, map}
 use Rattle.std.proofs.lemmas.List.{length-map}
 use Rattle.ib_cursor.proofs.TakeLaws.{take_whole}
 use Rattle.ib_map.specs.Keys.{MapKey, IsKey}

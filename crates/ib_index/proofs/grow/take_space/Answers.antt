@@ -1,13 +1,10 @@
 -- Page 0 may be taken: it is none of the tree's, and its level is below theirs.
-use Rattle.std.specs.List.{AllByRecursion}
-use Rattle.std.proofs.Common.{◌≡◌, ◌∙◌, ◌<◌, ◌≤◌, ℕ, [], ◌∷◌, List, true, false, length, map, refl, ap, sym, subst, arith}
+use Rattle.std.proofs.Common.{◌≡◌, ◌∙◌, ◌<◌, ℕ, ◌∷◌, true, map, refl, subst, arith}
 use Rattle.std.proofs.lemmas.Bool.Decides.{nat_tests}
 use Rattle.std.proofs.lemmas.List.{length-map}
 use Rattle.ib_map.specs.Space.{has_pages}
 use Rattle.ib_layout.specs.Geometry.{Sizes}
-use Rattle.ib_levels.specs.declared.level.Level.{Level}
 use Rattle.ib_levels.specs.declared.level.Level.TheVariants.{Space}
-use Rattle.ib_rule.specs.Pass.{PassState}
 use Rattle.ib_cursor.specs.Claims.{claim_grant}
 use Rattle.ib_cursor.proofs.GrantLaws.{may_grow}
 use Rattle.ib_index.specs.Grows.{held_grant, tree_pages}

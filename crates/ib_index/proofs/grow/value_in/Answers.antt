@@ -1,5 +1,5 @@
 -- The image of the last page is looked at.
-use Rattle.std.proofs.Common.{◌≡◌, ◌∙◌, ℕ, ◌-◌, List, Some, None, length, ap, sym, subst, slice_get}
+use Rattle.std.proofs.Common.{◌≡◌, ◌∙◌, ℕ, ◌-◌, Some, None, length, ap, sym, subst, slice_get}
 use Rattle.std.specs.Prelude.{IfSome, MatchOption}
 use Rattle.ib_map.specs.Pairs.{value_at}
 use Rattle.ib_page.specs.Form.{page_of}
@@ -7,7 +7,7 @@ use Rattle.ib_page.specs.Work.{changed_of}
 use Rattle.ib_plans.specs.Agreement.{memory_in, state_or_free}
 use Rattle.ib_plans.proofs.EditLaws.{state-records}
 use Rattle.ib_rule.specs.Pass.{PassState}
-use Rattle.ib_index.proofs.BeginLaws.{last-got}
+use Rattle.ib_index.proofs.ClaimedLaws.{last-got}
 use Rattle.ib_index.proofs.grow.value_in.Goals as goal
 
 pub returns : goal.returns

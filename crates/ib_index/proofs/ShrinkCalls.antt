@@ -1,0 +1,83 @@
+-- A delete that came to the key's way and ended there was answered.
+use Rattle.std.specs.Prelude.{Result, Ok, Err, IfOk, IfErr}
+use Rattle.std.proofs.Common.{◌≡◌, ℕ, ◌<◌, List, Option, Some, None, length, refl, sym, ap, subst, ◌∙◌}
+use Rattle.ib_map.specs.Keys.{MapKey, IsKey}
+use Rattle.ib_map.specs.Map.{delete_answer, is_made}
+use Rattle.ib_map.specs.declared.call.Call.TheVariants.{Delete as DeleteCall}
+use Rattle.ib_map.specs.declared.call.Change.TheVariants.{Delete}
+use Rattle.ib_map.specs.declared.call.Record.{Record}
+use Rattle.ib_map.specs.declared.call.Reply.TheVariants.{Deleted, Missing, LogFull as LogFullReply}
+use Rattle.ib_levels.specs.declared.level.Level.{Level}
+use Rattle.ib_page.specs.Work.{WorkPage}
+use Rattle.ib_layout.specs.Geometry.{Sizes}
+use Rattle.ib_logrec.specs.Log.{by_place}
+use Rattle.ib_tree.specs.TreeLog.{opening}
+use Rattle.ib_kept.specs.Kept.{IsKeptLog}
+use Rattle.ib_frames.specs.declared.appends.LogFull.{LogFull}
+use Rattle.ib_rule.specs.Pass.{PassState}
+use Rattle.ib_mtr.specs.Commits.{HasCommitted, HasRead, IsFull}
+use Rattle.ib_mtr.specs.Mtr.{with_work}
+use Rattle.ib_cursor.specs.Going.{WentOn}
+use Rattle.ib_index.specs.Calls.{HasCalled}
+use Rattle.ib_index.specs.Leaf.{IsSeated}
+use Rattle.ib_index.specs.Grows.{IsGrowing}
+use Rattle.ib_index.proofs.WayCalls.{called-committed, called-full, called-read, entry-c, log-full, value-c, value-f, value-r, value_there, within-c, within-f, within-r}
+
+module _ (sizes : Sizes) (key : MapKey) (is : IsKey key) (path : List ℕ) (held : List (ℕ × Level)) (p q : PassState) (went : WentOn p q) (looked : 0 < length went.added) (can : IsGrowing sizes key path held q) (seated : IsSeated sizes q) where
+  abbrev start : ℕ → ℕ
+  start = by_place opening sizes.pages
+
+  abbrev there : Option ℕ
+  there = value_there sizes key is path held p q went looked can seated
+
+  -- the key was not there
+  pub called-missing : (place : ℕ) (r : PassState) → HasRead sizes (IsKeptLog sizes.pages) q place r → there ≡ None
+      → HasCalled sizes (IsKeptLog sizes.pages) start (DeleteCall key) (record { call = DeleteCall key; reply = Missing; place = place }) p r
+  called-missing place r read none =
+      called-read sizes key is path held p q went looked can seated place r read (DeleteCall key) Missing refl (record {
+        map = (within-r sizes key is path held p q went looked can seated place r read, (ap delete_answer (value-r sizes key is path held p q went looked can seated place r read ∙ none), refl));
+        tree = tt;
+      })
+
+  module _ (value : ℕ) (some : there ≡ Some value) (work : List WorkPage) where
+    -- the log had no room for the change
+    called-full-delete : (full : LogFull) (r : PassState) → IsFull sizes (IsKeptLog sizes.pages) (with_work work q) full r
+        → HasCalled sizes (IsKeptLog sizes.pages) start (DeleteCall key) (record { call = DeleteCall key; reply = LogFullReply full.used full.cap; place = length r.view.memory.seen }) p r
+    called-full-delete full r f =
+        called-full sizes key is path held p q went looked can seated work full r f (DeleteCall key) (record {
+          map = (
+            within-f sizes key is path held p q went looked can seated work full r f,
+            (ap (λ (o : Option ℕ). is_made (delete_answer o)) (value-f sizes key is path held p q went looked can seated work full r f ∙ some), refl),
+          );
+          tree = log-full sizes key is path held p q went looked can seated work full r f;
+        })
+
+    -- the change was committed
+    called-deleted : (place : ℕ) (r : PassState) → HasCommitted sizes (IsKeptLog sizes.pages) start (Delete key) (with_work work q) place r
+        → HasCalled sizes (IsKeptLog sizes.pages) start (DeleteCall key) (record { call = DeleteCall key; reply = Deleted value; place = place }) p r
+    called-deleted place r c =
+        called-committed sizes key is path held p q went looked can seated (Delete key) work place r c (DeleteCall key) (Deleted value) refl (record {
+          map = (
+            within-c sizes key is path held p q went looked can seated (Delete key) work place r c,
+            (
+              (
+                ap delete_answer (value-c sizes key is path held p q went looked can seated (Delete key) work place r c ∙ some),
+                entry-c sizes key is path held p q went looked can seated (Delete key) work place r c,
+              ),
+              refl,
+            ),
+          );
+          tree = tt;
+        })
+
+    -- what a commit of the delete was answered
+    pub called-shrunk : (o : Result ℕ LogFull) (answer : Record) (r : PassState)
+        → IfOk o (λ place. answer ≡ record { call = DeleteCall key; reply = Deleted value; place = place })
+        → IfErr o (λ full. answer ≡ record { call = DeleteCall key; reply = LogFullReply full.used full.cap; place = length r.view.memory.seen })
+        → IfOk o (λ place. HasCommitted sizes (IsKeptLog sizes.pages) start (Delete key) (with_work work q) place r)
+        → IfErr o (λ full. IsFull sizes (IsKeptLog sizes.pages) (with_work work q) full r)
+        → HasCalled sizes (IsKeptLog sizes.pages) start (DeleteCall key) answer p r
+    called-shrunk (Ok place) answer r made full committed refused =
+        subst (λ a. HasCalled sizes (IsKeptLog sizes.pages) start (DeleteCall key) a p r) (sym made) (called-deleted place r committed)
+    called-shrunk (Err fault) answer r made full committed refused =
+        subst (λ a. HasCalled sizes (IsKeptLog sizes.pages) start (DeleteCall key) a p r) (sym full) (called-full-delete fault r refused)

@@ -1,0 +1,187 @@
+-- A call that came to the key's way and ended there was answered.
+use Rattle.std.specs.Prelude.{slice_get}
+use Rattle.std.proofs.Common.{◌≡◌, ℕ, ◌+◌, ◌<◌, ◌≤◌, true, false, List, [], ◌∷◌, ◌++◌, length, Option, Some, take, refl, sym, ap, subst, ◌∙◌, arith, length-append}
+use Rattle.std.proofs.Math.Seq.{take-length}
+use Rattle.ib_map.specs.Keys.{MapKey, IsKey}
+use Rattle.ib_map.specs.Pairs.{value_at}
+use Rattle.ib_map.specs.Map.{is_made}
+use Rattle.ib_map.specs.History.{map_after}
+use Rattle.ib_map.specs.Replies.{IsEntryOf, full_record}
+use Rattle.ib_map.specs.declared.call.Call.{Call}
+use Rattle.ib_map.specs.declared.call.Change.{Change}
+use Rattle.ib_map.specs.declared.call.LoggedChange.{LoggedChange}
+use Rattle.ib_map.specs.declared.call.Reply.{Reply}
+use Rattle.ib_map.specs.declared.call.Reply.TheVariants.{LogFull as LogFullReply}
+use Rattle.ib_map.proofs.HistoryLaws.{map_after-append, slice_get-last}
+use Rattle.ib_levels.specs.declared.level.Level.{Level}
+use Rattle.ib_page.specs.Work.{WorkPage}
+use Rattle.ib_layout.specs.Geometry.{Sizes}
+use Rattle.ib_logrec.specs.declared.entry.Entry.{Entry}
+use Rattle.ib_logrec.specs.Log.{history_of, logged, map_of, memory_after, used, by_place}
+use Rattle.ib_logrec.proofs.LogLaws.{history_of-push, length-history_of}
+use Rattle.ib_walk.specs.Words.{bits_of}
+use Rattle.ib_plans.specs.Agreement.{Agrees, last_of, memory_in}
+use Rattle.ib_tree.specs.Fits.{FitsLog, IsLogFull}
+use Rattle.ib_tree.specs.TreeLog.{opening}
+use Rattle.ib_kept.specs.Kept.{IsKeptLog}
+use Rattle.ib_kept.specs.LeafChange.{kept_pages}
+use Rattle.ib_frames.specs.declared.appends.LogFull.{LogFull}
+use Rattle.ib_rule.specs.declared.memory.Memory.{Memory}
+use Rattle.ib_rule.specs.Memory.{entries_of}
+use Rattle.ib_rule.specs.Pass.{PassState}
+use Rattle.ib_rule.specs.Roles.{number_in}
+use Rattle.ib_rule.specs.Stores.{IsLook}
+use Rattle.ib_mtr.specs.Commits.{HasCommitted, HasEnded, HasRead, IsFull, commit_entry, commit_grants}
+use Rattle.ib_mtr.specs.Mtr.{with_work}
+use Rattle.ib_cursor.specs.Going.{IsKnown, WentOn}
+use Rattle.ib_cursor.specs.Spaces.{space_of}
+use Rattle.ib_index.specs.Calls.{HasCalled}
+use Rattle.ib_index.specs.Leaf.{IsSeated}
+use Rattle.ib_index.specs.Grows.{IsGrowing}
+use Rattle.ib_index.proofs.CallLaws.{IsEnd, called-from, push-end, read-end, read-known}
+use Rattle.ib_index.proofs.WayMay.{agrees-then, value-then}
+
+module _ (sizes : Sizes) (key : MapKey) (is : IsKey key) (path : List ℕ) (held : List (ℕ × Level)) (p q : PassState) (went : WentOn p q) (looked : 0 < length went.added) (can : IsGrowing sizes key path held q) (seated : IsSeated sizes q) where
+  abbrev start : ℕ → ℕ
+  start = by_place opening sizes.pages
+
+  -- what the last page of the path has of the key
+  abbrev pub value_there : Option ℕ
+  value_there = value_at key (memory_in q.work (last_of path)).records
+
+  -- after a look
+  module _ (log : List Entry) (look : IsLook sizes (IsKeptLog sizes.pages) q.view log) where
+    legal-l : IsKeptLog sizes.pages (q.view.memory.seen ++ look.others)
+    legal-l = subst (IsKeptLog sizes.pages) (sym look.longer) look.legal
+
+    pub value-l : value_at key (map_of log) ≡ value_there
+    value-l =
+        ap (λ (log : List Entry). value_at key (map_of log)) (sym look.longer)
+        ∙ value-then sizes key is path held q can seated look.others (number_in q.view.role) look.harmless legal-l
+
+    pub agrees-l : Agrees sizes.pages 1 1 key path q.work (kept_pages sizes.pages log) (bits_of sizes.pages (memory_after start log))
+    agrees-l = subst (λ (log : List Entry). Agrees sizes.pages 1 1 key path q.work (kept_pages sizes.pages log) (bits_of sizes.pages (memory_after start log))) look.longer
+        (agrees-then sizes key is path held q can seated look.others (number_in q.view.role) look.harmless legal-l)
+
+  -- the call ended without a change
+  module _ (place : ℕ) (r : PassState) (read : HasRead sizes (IsKeptLog sizes.pages) q place r) where
+    seen-r : r.view.memory.seen ≡ read.log
+    seen-r = ap (λ (m : Memory). m.seen) read.ended.memory
+
+    at-r : place ≡ length r.view.memory.seen
+    at-r = read.place ∙ ap length (sym seen-r)
+
+    pub whole-r : take place r.view.memory.seen ≡ read.log
+    whole-r = ap (λ n. take n r.view.memory.seen) at-r ∙ (take-length r.view.memory.seen ∙ seen-r)
+
+    pub within-r : place ≤ length (history_of r.view.memory.seen)
+    within-r = let long = length-history_of r.view.memory.seen in let at = at-r in omega arith
+
+    -- what the map has of the key at its place
+    pub value-r : value_at key (map_after (history_of r.view.memory.seen) place) ≡ value_there
+    value-r = ap (λ n. value_at key (map_after (history_of r.view.memory.seen) n)) at-r ∙ (ap (λ (log : List Entry). value_at key (map_of log)) seen-r ∙ value-l read.log read.looked)
+
+    pub called-read : (call : Call) (reply : Reply) → is_made reply ≡ false
+        → FitsLog (space_of sizes start) r.view.memory.seen r.number (length p.view.memory.seen) (full_record (record { call = call; reply = reply; place = place }) [])
+        → HasCalled sizes (IsKeptLog sizes.pages) start call (record { call = call; reply = reply; place = place }) p r
+    called-read call reply not_made fits =
+        called-from sizes (IsKeptLog sizes.pages) start call reply place p q r went looked
+        (read-end sizes (IsKeptLog sizes.pages) q r read.log place q.view.grants read.looked read.place read.ended)
+        (read-known sizes (IsKeptLog sizes.pages) q r read.log place q.view.grants read.looked read.place seated.role read.ended)
+        (sym at-r ∙ rw not_made refl) fits (rw not_made (ap (λ (m : Memory). m.own) read.ended.memory))
+
+  -- the log had no room for the change
+  module _ (work : List WorkPage) (full : LogFull) (r : PassState) (f : IsFull sizes (IsKeptLog sizes.pages) (with_work work q) full r) where
+    ended-f : HasEnded q (commit_grants q) f.log q.view.memory.own (q.view.memory.ends ++ length f.log ∷ []) r
+    ended-f = record { pass = f.ended.pass; role = f.ended.role; session = f.ended.session; grants = f.ended.grants; written = f.ended.written; looks = f.ended.looks; memory = f.ended.memory }
+
+    pub looked-f : IsLook sizes (IsKeptLog sizes.pages) q.view f.log
+    looked-f = f.looked
+
+    seen-f : r.view.memory.seen ≡ f.log
+    seen-f = ap (λ (m : Memory). m.seen) f.ended.memory
+
+    pub whole-f : take (length r.view.memory.seen) r.view.memory.seen ≡ f.log
+    whole-f = take-length r.view.memory.seen ∙ seen-f
+
+    pub within-f : length r.view.memory.seen ≤ length (history_of r.view.memory.seen)
+    within-f = let long = length-history_of r.view.memory.seen in omega arith
+
+    pub value-f : value_at key (map_of r.view.memory.seen) ≡ value_there
+    value-f = ap (λ (log : List Entry). value_at key (map_of log)) seen-f ∙ value-l f.log looked-f
+
+    pub log-full : IsLogFull (space_of sizes start) r.view.memory.seen (length r.view.memory.seen) full.used full.cap
+    log-full = record {
+      words_are = f.words ∙ ap used (sym whole-f);
+      cap_is = f.cap;
+      short = let a = f.short in let b = f.words in omega arith;
+    }
+
+    pub called-full : (call : Call)
+        → FitsLog (space_of sizes start) r.view.memory.seen r.number (length p.view.memory.seen) (full_record (record { call = call; reply = LogFullReply full.used full.cap; place = length r.view.memory.seen }) [])
+        → HasCalled sizes (IsKeptLog sizes.pages) start call (record { call = call; reply = LogFullReply full.used full.cap; place = length r.view.memory.seen }) p r
+    called-full call fits =
+        let end = subst (IsEnd q r) (ap length (sym seen-f)) (read-end sizes (IsKeptLog sizes.pages) q r f.log (length f.log) (commit_grants q) looked-f refl ended-f) in
+        called-from sizes (IsKeptLog sizes.pages) start call (LogFullReply full.used full.cap) (length r.view.memory.seen) p q r went looked end
+        (read-known sizes (IsKeptLog sizes.pages) q r f.log (length f.log) (commit_grants q) looked-f refl seated.role ended-f) refl fits
+        (ap (λ (m : Memory). m.own) f.ended.memory)
+
+  -- the change was committed
+  module _ (change : Change) (work : List WorkPage) (place : ℕ) (r : PassState) (c : HasCommitted sizes (IsKeptLog sizes.pages) start change (with_work work q) place r) where
+    abbrev e : Entry
+    e = commit_entry (with_work work q) change
+
+    ended-c : HasEnded q (commit_grants q) (c.log ++ e ∷ []) (q.view.memory.own ++ e ∷ []) (q.view.memory.ends ++ place ∷ []) r
+    ended-c = record { pass = c.ended.pass; role = c.ended.role; session = c.ended.session; grants = c.ended.grants; written = c.ended.written; looks = c.ended.looks; memory = c.ended.memory }
+
+    looked-c : IsLook sizes (IsKeptLog sizes.pages) q.view c.log
+    looked-c = c.looked
+
+    seen-c : r.view.memory.seen ≡ c.log ++ e ∷ []
+    seen-c = ap (λ (m : Memory). m.seen) c.ended.memory
+
+    end-c : IsEnd q r place
+    end-c = push-end sizes (IsKeptLog sizes.pages) q r c.log place (commit_grants q) looked-c c.place e (q.view.memory.own ++ e ∷ []) ended-c
+
+    number-c : r.number ≡ q.number
+    number-c = ap (λ (s : PassState). s.number) c.ended.pass
+
+    known-c : IsKnown sizes (IsKeptLog sizes.pages) r
+    known-c =
+        let own : r.view.memory.own ≡ q.view.memory.own ++ e ∷ [] = ap (λ (m : Memory). m.own) c.ended.memory in
+        record {
+          legal = subst (IsKeptLog sizes.pages) (sym seen-c) c.legal;
+          room = subst (λ (es : List Entry). used es ≤ sizes.log_words) (sym seen-c) c.room;
+          mine = ap (λ n. entries_of n r.view.memory.seen) number-c ∙ (ap (entries_of q.number) seen-c ∙ (c.mine ∙ sym own));
+        }
+
+    history-c : history_of r.view.memory.seen ≡ history_of c.log ++ logged e ∷ []
+    history-c = ap history_of seen-c ∙ history_of-push c.log e
+
+    map-c : map_after (history_of r.view.memory.seen) place ≡ map_of c.log
+    map-c =
+        let long = length-history_of c.log in let at = c.place in
+        ap (λ n. map_after (history_of r.view.memory.seen) n) at
+        ∙ (ap (λ (hs : List LoggedChange). map_after hs (length c.log)) history-c ∙ map_after-append (history_of c.log) (logged e ∷ []) (length c.log) (omega arith))
+
+    -- the entry stands at its place
+    pub entry-c : IsEntryOf (history_of r.view.memory.seen) place r.number change
+    entry-c =
+        let at : place ≡ length (history_of c.log) = c.place ∙ sym (length-history_of c.log) in
+        let stands = subst (λ n. slice_get (history_of c.log ++ logged e ∷ []) n ≡ Some (logged e)) (sym at) (slice_get-last (history_of c.log) (logged e)) in
+        (logged e, subst (λ (hs : List LoggedChange). slice_get hs place ≡ Some (logged e)) (sym history-c) stands, sym number-c, refl)
+
+    -- what the map has of the key before it
+    pub value-c : value_at key (map_after (history_of r.view.memory.seen) place) ≡ value_there
+    value-c = ap (value_at key) map-c ∙ value-l c.log looked-c
+
+    pub within-c : place ≤ length (history_of r.view.memory.seen)
+    within-c = let long = length-history_of r.view.memory.seen in let high = end-c.high in omega arith
+
+    pub called-committed : (call : Call) (reply : Reply) → is_made reply ≡ true
+        → FitsLog (space_of sizes start) r.view.memory.seen r.number (length p.view.memory.seen) (full_record (record { call = call; reply = reply; place = place }) [])
+        → HasCalled sizes (IsKeptLog sizes.pages) start call (record { call = call; reply = reply; place = place }) p r
+    called-committed call reply made fits =
+        let reach : length r.view.memory.seen ≡ place + 1 = (let a = ap length seen-c in let b = length-append c.log (e ∷ []) in let at = c.place in omega arith) in
+        called-from sizes (IsKeptLog sizes.pages) start call reply place p q r went looked end-c known-c (reach ∙ rw made refl) fits
+        (rw made (c.log, e, seen-c, ap (λ (m : Memory). m.own) c.ended.memory))

@@ -1,0 +1,20 @@
+-- The grants of a change of the index.
+use Rattle.std.specs.Prelude.{◌⊎◌, ℕ, ◌+◌, ◌≤◌, length, take}
+use Rattle.ib_map.specs.Keys.{MapKey}
+use Rattle.ib_layout.specs.Geometry.{Sizes}
+use Rattle.ib_walk.specs.Pages.{PageState}
+use Rattle.ib_rule.specs.Pass.{PassState}
+use Rattle.ib_rule.specs.Views.{total}
+use Rattle.ib_index.specs.Leaf.{HasLeaf, TakesFew}
+
+-- after a place of the call the key's leaf was one of this kind
+pub record WasLeaf (sizes : Sizes) (why : ℕ → PageState → Type 0) (key : MapKey) (p q : PassState) : Type 0 where
+  pub place : ℕ
+  pub from : length p.view.memory.seen ≤ place
+  pub to : place ≤ length q.view.memory.seen
+  pub was : HasLeaf sizes why key (take place q.view.memory.seen)
+
+-- a change takes few grants, none of SX and two of X, unless the key's leaf was one that needs more; and never more than so many
+pub record TakesFewUnless (sizes : Sizes) (why : ℕ → PageState → Type 0) (key : MapKey) (p q : PassState) : Type 0 where
+  pub few : TakesFew sizes 2 p q ⊎ WasLeaf sizes why key p q
+  pub all : total q.view.grants ≤ total p.view.grants + 128

@@ -1,0 +1,479 @@
+-- A session's calls, one after another: what each adds to what the session was answered.
+use Rattle.std.specs.List.{AllByRecursion, filter_map}
+use Rattle.std.proofs.Common.{◌≡◌, inl, inr, ℕ, ◌+◌, ◌-◌, ◌*◌, ◌^◌, ◌<◌, ◌≤◌, Bool, true, false, List, [], ◌∷◌, ◌++◌, Option, Some, None, cond, map, length, refl, sym, ap, subst, ◌∙◌, arith, append_assoc, append-nil, length-append, length-drop, drop, take, take-append-drop, slice_get}
+use Rattle.std.specs.Prelude.{slice_index_or, sum_by}
+use Rattle.std.proofs.lemmas.List.{map-append, length-map, length-take-le, take_more}
+use Rattle.std.proofs.lemmas.List.Elements.{filter_map-append}
+use Rattle.std.proofs.lemmas.List.Sums.{sum_by-append, sum_by-cons}
+use Rattle.ib_map.specs.Keys.{MapKey, IsKey, rank}
+use Rattle.ib_map.specs.Pairs.{Pairs, value_at}
+use Rattle.ib_map.specs.Map.{is_made, lookup_answer}
+use Rattle.ib_map.specs.Chunks.{HeldChunks, spans_of, span_of, pairs_of, AreAdjacent}
+use Rattle.ib_map.specs.FullRecords.{chunk_count, full_records, total_chunks}
+use Rattle.ib_map.specs.History.{History, map_after}
+use Rattle.ib_map.specs.Replies.{Span, FullRecord, full_record, change_of, IsEntryOf, FitsChange, FitsCall, pair_count}
+use Rattle.ib_map.specs.Runs.{first_span_place, AreAnswers, change_made}
+use Rattle.ib_map.specs.declared.call.Call.{Call}
+use Rattle.ib_map.specs.declared.call.Call.TheVariants.{Insert, Delete, Get, Scan}
+use Rattle.ib_map.specs.declared.call.Change.{Change}
+use Rattle.ib_map.specs.declared.call.Change.TheVariants.{Insert as InsertChange, Delete as DeleteChange}
+use Rattle.ib_map.specs.declared.call.LoggedChange.{LoggedChange}
+use Rattle.ib_map.specs.declared.call.Record.{Record}
+use Rattle.ib_map.specs.declared.call.Reply.{Reply}
+use Rattle.ib_map.specs.declared.call.Reply.TheVariants.{Inserted, Duplicate, Deleted, Missing, Found, NotFound, LogFull, SpaceFull, TooHigh, Scanned}
+use Rattle.ib_map.specs.declared.chunks.Chunk.{Chunk}
+use Rattle.ib_map.proofs.ChunkLaws.{AreAdjacent-le}
+use Rattle.ib_map.proofs.FullRecordLaws.{full_records-push, total_chunks-push}
+use Rattle.ib_map.proofs.HistoryLaws.{slice_get-last}
+use Rattle.ib_map.proofs.RunLaws.{reach_of-push, AreAnswers-push}
+use Rattle.ib_layout.specs.Geometry.{Sizes}
+use Rattle.ib_logrec.specs.declared.entry.Entry.{Entry}
+use Rattle.ib_logrec.specs.Log.{by_place, history_of, logged, used}
+use Rattle.ib_logrec.proofs.LogLaws.{history_of-push, length-history_of}
+use Rattle.ib_tree.specs.Fits.{FitsLog}
+use Rattle.ib_tree.specs.Scans.{AreFront, AreWhole}
+use Rattle.ib_tree.specs.TreeLog.{opening}
+use Rattle.ib_tree.proofs.FitLaws.{answers_longer, FitsLog-whole}
+use Rattle.ib_kept.specs.Kept.{IsKeptLog}
+use Rattle.ib_kept.specs.KeptLog.{IsKeptLog-none}
+use Rattle.ib_rule.specs.Memory.{entries_of}
+use Rattle.ib_script.specs.Script.{asks_scan, scan_count}
+use Rattle.ib_rule.specs.Pass.{PassState}
+use Rattle.ib_rule.specs.Views.{total}
+use Rattle.ib_cursor.specs.Going.{IsKnown}
+use Rattle.ib_index.specs.Calls.{HasCalled, MakesOwn}
+use Rattle.ib_runs.specs.Answers.{KeptAnswers, answers_of}
+use Rattle.ib_runs.specs.Sessions.{AreBehind, AreFew, HasAnswered, IsBehind, IsEmptyScan, changes_in, index_space, places_in}
+use Rattle.ib_runs.specs.Steps.{HasFound, HasOneMore, HasReadAll, HasReadKeys, IsAnswered, KeptLaws, most_grants, most_scan_grants}
+use Rattle.ib_runs.proofs.ReadLaws.{content_at}
+
+-- the change that a record made stands in the history at its place
+made-entry : (h : History) (session : ℕ) (change : Change) (reply : Reply) (place : ℕ) → is_made reply ≡ true → FitsChange h session change reply place → IsEntryOf h place session change
+made-entry h session change Inserted place made fits = fits.1
+made-entry h session change (Deleted value) place made fits = fits.1
+made-entry h session change Duplicate place made fits = cc
+made-entry h session change Missing place made fits = cc
+made-entry h session change (LogFull used cap) place made fits = cc
+made-entry h session change (SpaceFull free need) place made fits = cc
+made-entry h session change TooHigh place made fits = cc
+made-entry h session change (Found value) place made fits = cc
+made-entry h session change NotFound place made fits = cc
+made-entry h session change (Scanned chunks pairs) place made fits = cc
+
+lookup-unmade : (o : Option ℕ) → is_made (lookup_answer o) ≡ false
+lookup-unmade (Some value) = refl
+lookup-unmade None = refl
+
+record HasMade (h : History) (session : ℕ) (call : Call) (place : ℕ) : Type 0 where
+  pub change : Change
+  pub is : change_of call ≡ Some change
+  pub entry : IsEntryOf h place session change
+
+call-made : (h : History) (session reach : ℕ) (call : Call) (reply : Reply) (place : ℕ) (spans : List Span) → is_made reply ≡ true → FitsCall h session reach call reply place spans → HasMade h session call place
+call-made h session reach (Insert key value) reply place spans made fits = record { change = InsertChange key value; is = refl; entry = made-entry h session (InsertChange key value) reply place made fits.0 }
+call-made h session reach (Delete key) reply place spans made fits = record { change = DeleteChange key; is = refl; entry = made-entry h session (DeleteChange key) reply place made fits.0 }
+call-made h session reach (Get key) reply place spans made fits = let none = ap is_made fits.0 ∙ lookup-unmade (value_at key (map_after h place)) in let bad = sym made ∙ none in cc
+call-made h session reach (Scan low high) reply place spans made fits = let bad = sym made ∙ ap is_made fits.0 in cc
+
+-- what a record made, as a list
+made-none : (r : FullRecord) → is_made r.reply ≡ false → filter_map change_made (r ∷ []) ≡ []
+made-none r none = rw none refl
+
+made-one : (r : FullRecord) (change : Change) → is_made r.reply ≡ true → change_of r.call ≡ Some change → filter_map change_made (r ∷ []) ≡ change ∷ []
+made-one r change made is = rw (made, is) refl
+
+some-same : {A : Type 0} (a b : A) → Some a ≡ Some b → a ≡ b
+some-same a b e = cc
+
+-- the last entry of a log has the change that stands at its place
+last-change : (front : List Entry) (e : Entry) (session place : ℕ) (change : Change) → place ≡ length front → IsEntryOf (history_of (front ++ e ∷ [])) place session change → change ≡ e.change
+last-change front e session place change at entry =
+    let l : slice_get (history_of (front ++ e ∷ [])) place ≡ Some (logged e) =
+    ap (λ h. slice_get h place) (history_of-push front e) ∙ (ap (slice_get (history_of front ++ logged e ∷ [])) (at ∙ sym (length-history_of front)) ∙ slice_get-last (history_of front) (logged e)) in
+    let same : entry.0 ≡ logged e = some-same entry.0 (logged e) (sym entry.1 ∙ l) in
+    sym entry.3 ∙ ap (λ (x : LoggedChange). x.change) same
+
+module _ (sizes : Sizes) (call : Call) (answer : Record) (p q : PassState) (h : HasCalled sizes (IsKeptLog sizes.pages) (by_place opening sizes.pages) call answer p q) where
+  abbrev the_record : FullRecord
+  the_record = full_record answer []
+
+  own-more : (b : Bool) → is_made answer.reply ≡ b → MakesOwn b q.view.memory.seen p.view.memory.own q.view.memory.own
+      → changes_in q.view.memory.own ≡ changes_in p.view.memory.own ++ filter_map change_made (the_record ∷ [])
+  own-more false made own = ap changes_in own ∙ sym (ap (λ cs. changes_in p.view.memory.own ++ cs) (made-none the_record made) ∙ append-nil (changes_in p.view.memory.own))
+  own-more true made own =
+      let front = own.0 in let e = own.1 in
+      let m = call-made (history_of q.view.memory.seen) q.number (length p.view.memory.seen) answer.call answer.reply answer.place [] made h.fits.map.1 in
+      let reach : length q.view.memory.seen ≡ answer.place + 1 = h.reach ∙ ap (λ b. cond {A = ℕ} b (answer.place + 1) answer.place) made in
+      let seen : q.view.memory.seen ≡ front ++ e ∷ [] = own.2 in
+      let len = ap length seen ∙ length-append front (e ∷ []) in
+      let entry = subst (λ log. IsEntryOf (history_of log) answer.place q.number m.change) seen m.entry in
+      let is : m.change ≡ e.change = last-change front e q.number answer.place m.change (omega arith) entry in
+      ap changes_in own.3 ∙ (map-append (λ (x : Entry). x.change) p.view.memory.own (e ∷ [])
+      ∙ sym (ap (λ cs. changes_in p.view.memory.own ++ cs) (made-one the_record e.change made (m.is ∙ ap Some is))))
+
+  -- a call of the index answered one command
+  pub call_answered : IsAnswered sizes call the_record p q
+  unfolding own-more
+  call_answered = record {
+    number = h.number;
+    more = h.more;
+    seen = h.seen;
+    known = h.known;
+    call_is = h.call_is;
+    fits = h.fits;
+    from = h.from;
+    first = h.from;
+    reach = h.reach;
+    made = own-more (is_made answer.reply) refl h.own;
+    looks = inr (record { first = h.first; rest = h.rest; ends = h.ends; bounds = h.bounds; at = (h.looked, tt) });
+  }
+
+abbrev pub IsNoScan : Call → Type 0
+IsNoScan (Scan low high) = ⊥
+IsNoScan _ = Unit {0}
+
+-- a change counts no chunk
+change-counts : (h : History) (session : ℕ) (change : Change) (reply : Reply) (place : ℕ) → FitsChange h session change reply place → chunk_count reply ≡ 0
+change-counts h session change Inserted place fits = refl
+change-counts h session change Duplicate place fits = refl
+change-counts h session change (Deleted value) place fits = refl
+change-counts h session change Missing place fits = refl
+change-counts h session change (Found value) place fits = refl
+change-counts h session change NotFound place fits = refl
+change-counts h session change (LogFull used cap) place fits = refl
+change-counts h session change (SpaceFull free need) place fits = refl
+change-counts h session change TooHigh place fits = refl
+change-counts h session change (Scanned chunks pairs) place fits = absurd fits
+
+lookup-counts : (o : Option ℕ) → chunk_count (lookup_answer o) ≡ 0
+lookup-counts None = refl
+lookup-counts (Some value) = refl
+
+call-counts : (h : History) (session reach : ℕ) (call : Call) (reply : Reply) (place : ℕ) → IsNoScan call → FitsCall h session reach call reply place [] → chunk_count reply ≡ 0
+call-counts h session reach (Insert key value) reply place plain fits = change-counts h session (InsertChange key value) reply place fits.0
+call-counts h session reach (Delete key) reply place plain fits = change-counts h session (DeleteChange key) reply place fits.0
+call-counts h session reach (Get key) reply place plain fits = ap chunk_count fits.0 ∙ lookup-counts (value_at key (map_after h place))
+call-counts h session reach (Scan low high) reply place plain fits = absurd plain
+
+length-spans : (c : HeldChunks) → length (spans_of c.list c.pairs) ≡ length c.list
+length-spans c = length-map c.list (span_of c.pairs)
+
+-- one record more, of a call that is no scan
+pub call_more : (sizes : Sizes) (call : Call) (answer : Record) (old new : KeptAnswers) (p q : PassState) → IsNoScan call → total_chunks old.records ≡ length old.chunks.list
+    → new.records ≡ old.records ++ answer ∷ [] → new.chunks ≡ old.chunks → HasCalled sizes (IsKeptLog sizes.pages) (by_place opening sizes.pages) call answer p q
+    → total q.view.grants ≤ total p.view.grants + most_grants call → HasOneMore sizes call old new p q
+call_more sizes call answer old new p q plain whole records chunks h grants =
+    let none : chunk_count answer.reply ≡ 0 = call-counts (history_of q.view.memory.seen) q.number (length p.view.memory.seen) answer.call answer.reply answer.place (subst IsNoScan (sym h.call_is) plain) h.fits.map.1 in
+    let spans = spans_of old.chunks.list old.chunks.pairs in
+    let long = length-spans old.chunks in
+    record {
+      r = full_record answer [];
+      answered = call_answered sizes call answer p q h;
+      answers = ap (λ (c : HeldChunks). full_records new.records (spans_of c.list c.pairs)) chunks ∙ (ap (λ rs. full_records rs spans) records
+          ∙ (ap (full_records (old.records ++ answer ∷ [])) (sym (append-nil spans)) ∙ full_records-push old.records spans [] answer (omega arith) none));
+      whole = ap total_chunks records ∙ (total_chunks-push old.records answer ∙ (let e : length new.chunks.list ≡ length old.chunks.list = ap (λ (c : HeldChunks). length c.list) chunks in omega arith));
+      grants = grants;
+    }
+
+-- the pairs of adjacent chunks are all those between their ends
+adjacent-count : (start : ℕ) (list : List Chunk) (end : ℕ) (pairs : Pairs) → AreAdjacent start list end → end ≤ length pairs → start + pair_count (spans_of list pairs) ≡ end
+adjacent-count start [] end pairs are le = omega (arith, are)
+adjacent-count start (chunk ∷ list) end pairs are le =
+    let rest = adjacent-count (start + chunk.len) list end pairs are.1 le in
+    let within = AreAdjacent-le (start + chunk.len) list end are.1 in
+    let at = are.0 in
+    let long = length-drop chunk.start pairs in
+    let one : length (pairs_of chunk pairs) ≡ chunk.len = length-take-le chunk.len (drop chunk.start pairs) (omega arith) in
+    let all = sum_by-cons (λ (s : Span). length s.pairs) (span_of pairs chunk) (spans_of list pairs) in
+    omega arith
+
+pub chunks_counted : (c : HeldChunks) → AreAdjacent 0 c.list (length c.pairs) → pair_count (spans_of c.list c.pairs) ≡ length c.pairs
+chunks_counted c are = let e = adjacent-count 0 c.list (length c.pairs) c.pairs are (omega arith) in omega arith
+
+-- no chunk of a scan stands before the first end that it found
+front-places : (start : ℕ → ℕ) (log : List Entry) (low high : MapKey) (floor least : ℕ) (spans : List Span) (next : MapKey) (last : ℕ) → least ≤ floor → AreFront start log 1 low high floor spans next last
+    → AllByRecursion (λ n. least ≤ n) (map (λ (s : Span). s.place) spans) × (least ≤ last)
+front-places start log low high floor least [] next last le are = (tt, (let e = are.1 in omega arith))
+front-places start log low high floor least (span ∷ spans) next last le are =
+    let here : least ≤ span.place = (let a = are.0.placed in omega arith) in
+    let rest = front-places start log are.2.0 high span.place least spans next last here are.2.2 in
+    ((here, rest.0), rest.1)
+
+all-join : (P : ℕ → Type 0) (xs ys : List ℕ) → AllByRecursion P xs → AllByRecursion P ys → AllByRecursion P (xs ++ ys)
+all-join P [] ys a b = b
+all-join P (x ∷ xs) ys a b = (a.0, all-join P xs ys a.1 b)
+
+whole-places : (start : ℕ → ℕ) (log : List Entry) (low high : MapKey) (floor : ℕ) (spans : List Span) (end : ℕ) → AreWhole start log 1 low high floor spans end → AllByRecursion (λ n. floor ≤ n) (map (λ (s : Span). s.place) spans)
+whole-places start log low high floor spans end w =
+    let f = front-places start log low high floor floor w.front w.next w.before_place (omega arith) w.before in
+    let last : floor ≤ w.last.place = (let a = f.1 in let b = w.read.placed in omega arith) in
+    subst (λ xs. AllByRecursion (λ n. floor ≤ n) (map (λ (s : Span). s.place) xs)) (sym w.are)
+    (subst (AllByRecursion (λ n. floor ≤ n)) (sym (map-append (λ (s : Span). s.place) w.front (w.last ∷ []))) (all-join (λ n. floor ≤ n) (map (λ (s : Span). s.place) w.front) (w.last.place ∷ []) f.0 (last, tt)))
+
+first-least : (least floor : ℕ) (spans : List Span) (place : ℕ) → least ≤ floor → least ≤ place → AllByRecursion (λ n. floor ≤ n) (map (λ (s : Span). s.place) spans) → least ≤ first_span_place spans place
+first-least least floor [] place le at all = at
+first-least least floor (span ∷ spans) place le at all = let a = all.0 in omega arith
+
+-- a scan's record
+abbrev pub scan_record : MapKey → MapKey → List Span → ℕ → FullRecord
+scan_record low high spans place = record { call = Scan low high; reply = Scanned (length spans) (pair_count spans); place = place; spans = spans }
+
+module _ (sizes : Sizes) (low high : MapKey) (old new : KeptAnswers) (p q : PassState) (whole : total_chunks old.records ≡ length old.chunks.list) where
+  -- the record of a scan stands behind the others, with its chunks
+  scan-more : (spans : List Span) (answer : Record) → IsAnswered sizes (Scan low high) (scan_record low high spans answer.place) p q → new.records ≡ old.records ++ answer ∷ []
+      → spans_of new.chunks.list new.chunks.pairs ≡ spans_of old.chunks.list old.chunks.pairs ++ spans
+      → answer ≡ record { call = Scan low high; reply = Scanned (length spans) (pair_count spans); place = answer.place }
+      → total q.view.grants ≤ total p.view.grants + most_grants (Scan low high) → HasOneMore sizes (Scan low high) old new p q
+  scan-more spans answer h records more is grants =
+      let count : chunk_count answer.reply ≡ length spans = ap (λ (a : Record). chunk_count a.reply) is in
+      let long = length-spans old.chunks in
+      let longer = length-spans new.chunks in
+      let all = ap length more ∙ length-append (spans_of old.chunks.list old.chunks.pairs) spans in
+      record {
+        r = scan_record low high spans answer.place;
+        answered = h;
+        answers = ap (λ rs. full_records rs (spans_of new.chunks.list new.chunks.pairs)) records ∙ (ap (full_records (old.records ++ answer ∷ [])) more
+            ∙ (full_records-push old.records (spans_of old.chunks.list old.chunks.pairs) spans answer (omega arith) count
+            ∙ ap (λ (a : Record). answers_of old ++ full_record a spans ∷ []) is));
+        whole = ap total_chunks records ∙ (total_chunks-push old.records answer ∙ (omega arith));
+        grants = grants;
+      }
+
+  -- a scan with low above high looked at nothing
+  none-scanned : (answer : Record) → rank high < rank low → IsKnown sizes (IsKeptLog sizes.pages) p → q ≡ p → new.records ≡ old.records ++ answer ∷ [] → new.chunks ≡ old.chunks
+      → answer ≡ record { call = Scan low high; reply = Scanned 0 0; place = length p.view.memory.seen } → HasOneMore sizes (Scan low high) old new p q
+  none-scanned answer lt known same records chunks is =
+      let place : answer.place ≡ length p.view.memory.seen = ap (λ (a : Record). a.place) is in
+      let none : IsAnswered sizes (Scan low high) (scan_record low high [] (length p.view.memory.seen)) p p = record {
+        number = refl;
+        more = [];
+        seen = sym (append-nil p.view.memory.seen);
+        known = known;
+        call_is = refl;
+        fits = record { map = (let l = length-history_of p.view.memory.seen in omega arith, (refl, (lt, refl))); tree = tt };
+        from = omega arith;
+        first = omega arith;
+        reach = refl;
+        made = sym (append-nil (changes_in p.view.memory.own));
+        looks = inl (refl, lt);
+      } in
+      scan-more [] answer
+      (subst (λ n. IsAnswered sizes (Scan low high) (scan_record low high [] n) p q) (sym place) (subst (λ (s : PassState). IsAnswered sizes (Scan low high) (scan_record low high [] (length p.view.memory.seen)) p s) (sym same) none))
+      records
+      (ap (λ (c : HeldChunks). spans_of c.list c.pairs) chunks ∙ sym (append-nil (spans_of old.chunks.list old.chunks.pairs)))
+      (is ∙ ap (λ n. record { call = Scan low high; reply = Scanned 0 0; place = n }) (sym place))
+      (let e = ap (λ (s : PassState). total s.view.grants) same in omega arith)
+
+  -- a scan read all its chunks
+  all-scanned : (answer : Record) (now : HeldChunks) → KeptLaws sizes → IsKey high → (h : HasReadAll sizes low high old.chunks now p q) → new.records ≡ old.records ++ answer ∷ [] → new.chunks ≡ now
+      → AreAdjacent 0 old.chunks.list (length old.chunks.pairs) → AreAdjacent 0 now.list (length now.pairs)
+      → answer ≡ record { call = Scan low high; reply = Scanned (length now.list - length old.chunks.list) (length now.pairs - length old.chunks.pairs); place = length q.view.memory.seen }
+      → HasOneMore sizes (Scan low high) old new p q
+  all-scanned answer now laws is_key h records chunks before after is =
+      let spans = h.read.spans in
+      let first = h.read.first in
+      let log = q.view.memory.seen in
+      let place : answer.place ≡ length log = ap (λ (a : Record). a.place) is in
+      let long = length-spans old.chunks in
+      let longer = length-spans now in
+      let all = ap length h.read.more ∙ length-append (spans_of old.chunks.list old.chunks.pairs) spans in
+      let count : length now.list - length old.chunks.list ≡ length spans = omega arith in
+      let a = chunks_counted old.chunks before in
+      let b = chunks_counted now after in
+      let sums = ap pair_count h.read.more ∙ sum_by-append (λ (s : Span). length s.pairs) (spans_of old.chunks.list old.chunks.pairs) spans in
+      let pairs : length now.pairs - length old.chunks.pairs ≡ pair_count spans = omega arith in
+      let fits = FitsLog-whole (index_space sizes) log (content_at sizes laws log h.read.known.legal) high is_key q.number (length p.view.memory.seen) low first spans (length log) h.ascends h.chunks in
+      let look : AllByRecursion (λ n. (length p.view.memory.seen ≤ n) × (n ≤ length log)) (first ∷ h.read.rest) = subst (AllByRecursion (λ n. (length p.view.memory.seen ≤ n) × (n ≤ length log))) h.read.looks h.read.went.bounds in
+      let places = whole-places (by_place opening sizes.pages) log low high first spans (length log) h.chunks in
+      let answered : IsAnswered sizes (Scan low high) (scan_record low high spans (length log)) p q = record {
+        number = h.read.went.number;
+        more = h.read.went.more;
+        seen = h.read.went.seen;
+        known = h.read.known;
+        call_is = refl;
+        fits = fits;
+        from = (let x = look.0.0 in let y = look.0.1 in omega arith);
+        first = (let x = look.0.0 in let y = look.0.1 in first-least (length p.view.memory.seen) first spans (length log) (omega arith) (omega arith) places);
+        reach = refl;
+        made = ap changes_in h.read.went.own ∙ sym (append-nil (changes_in p.view.memory.own));
+        looks = inr (record { first = first; rest = h.read.rest; ends = h.read.went.ends ∙ ap (λ ns. p.view.memory.ends ++ ns) h.read.looks; bounds = look; at = (look.0.1, places) });
+      } in
+      scan-more spans answer (subst (λ n. IsAnswered sizes (Scan low high) (scan_record low high spans n) p q) (sym place) answered) records
+      (ap (λ (c : HeldChunks). spans_of c.list c.pairs) chunks ∙ h.read.more)
+      (is ∙ (ap (λ n. record { call = Scan low high; reply = Scanned n (length now.pairs - length old.chunks.pairs); place = length log }) count
+      ∙ (ap (λ n. record { call = Scan low high; reply = Scanned (length spans) n; place = length log }) pairs
+      ∙ ap (λ n. record { call = Scan low high; reply = Scanned (length spans) (pair_count spans); place = n }) (sym place))))
+      h.grants
+
+  -- a scan read its keys
+  pub scan_more : (answer : Record) (now : HeldChunks) → KeptLaws sizes → IsKey high → IsKnown sizes (IsKeptLog sizes.pages) p → HasReadKeys sizes low high old.chunks now p q → new.records ≡ old.records ++ answer ∷ [] → new.chunks ≡ now
+      → AreAdjacent 0 old.chunks.list (length old.chunks.pairs) → AreAdjacent 0 now.list (length now.pairs)
+      → answer ≡ record { call = Scan low high; reply = Scanned (length now.list - length old.chunks.list) (length now.pairs - length old.chunks.pairs); place = length q.view.memory.seen }
+      → HasOneMore sizes (Scan low high) old new p q
+  unfolding none-scanned all-scanned
+  scan_more answer now laws is_key known (inl h) records chunks before after is =
+      let a : length now.list - length old.chunks.list ≡ 0 = (let e = ap (λ (c : HeldChunks). length c.list) h.chunks in omega arith) in
+      let b : length now.pairs - length old.chunks.pairs ≡ 0 = (let e = ap (λ (c : HeldChunks). length c.pairs) h.chunks in omega arith) in
+      none-scanned answer h.below known h.same records (chunks ∙ h.chunks)
+      (is ∙ (ap (λ n. record { call = Scan low high; reply = Scanned n (length now.pairs - length old.chunks.pairs); place = length q.view.memory.seen }) a
+      ∙ (ap (λ n. record { call = Scan low high; reply = Scanned 0 n; place = length q.view.memory.seen }) b
+      ∙ ap (λ (s : PassState). record { call = Scan low high; reply = Scanned 0 0; place = length s.view.memory.seen }) h.same)))
+  scan_more answer now laws is_key known (inr h) records chunks before after is = all-scanned answer now laws is_key h records chunks before after is
+
+-- a scan leaves no fewer pairs
+pub pairs_more : (sizes : Sizes) (low high : MapKey) (old now : HeldChunks) (p q : PassState) → HasReadKeys sizes low high old now p q → AreAdjacent 0 old.list (length old.pairs) → AreAdjacent 0 now.list (length now.pairs) → length old.pairs ≤ length now.pairs
+pairs_more sizes low high old now p q (inl h) before after = let e = ap (λ (c : HeldChunks). length c.pairs) h.chunks in omega arith
+pairs_more sizes low high old now p q (inr h) before after =
+    let a = chunks_counted old before in
+    let b = chunks_counted now after in
+    let sums = ap pair_count h.read.more ∙ sum_by-append (λ (s : Span). length s.pairs) (spans_of old.list old.pairs) h.read.spans in omega arith
+
+-- .. and no fewer chunks
+pub chunks_more : (sizes : Sizes) (low high : MapKey) (old now : HeldChunks) (p q : PassState) → HasReadKeys sizes low high old now p q → length old.list ≤ length now.list
+chunks_more sizes low high old now p q (inl h) = let e = ap (λ (c : HeldChunks). length c.list) h.chunks in omega arith
+chunks_more sizes low high old now p q (inr h) =
+    let a = length-spans old in
+    let b = length-spans now in
+    let sums = ap length h.read.more ∙ length-append (spans_of old.list old.pairs) h.read.spans in omega arith
+
+-- the same, of a call and an answer that are these
+pub call_more_as : (sizes : Sizes) (call asked : Call) (answer given : Record) (old new : KeptAnswers) (p q r : PassState) → call ≡ asked → answer ≡ given → q ≡ r → IsNoScan asked → total_chunks old.records ≡ length old.chunks.list
+    → new.records ≡ old.records ++ answer ∷ [] → new.chunks ≡ old.chunks → HasCalled sizes (IsKeptLog sizes.pages) (by_place opening sizes.pages) asked given p r
+    → total r.view.grants ≤ total p.view.grants + most_grants asked → HasOneMore sizes call old new p q
+call_more_as sizes call asked answer given old new p q r call_is answer_is pass_is plain whole records chunks h grants =
+    subst (λ k. HasOneMore sizes k old new p q) (sym call_is) (subst (HasOneMore sizes asked old new p) (sym pass_is)
+    (call_more sizes asked given old new p r plain whole (records ∙ ap (λ (a : Record). old.records ++ a ∷ []) answer_is) chunks h grants))
+
+-- what the calls of a session may take
+most-grants : (calls : List Call) → sum_by most_grants calls ≤ 16384 * length calls + most_scan_grants * scan_count calls
+most-grants [] = omega arith
+most-grants (call ∷ calls) =
+    let rest = most-grants calls in
+    let all = sum_by-cons most_grants call calls in
+    let scans : scan_count (call ∷ calls) ≡ cond {A = ℕ} (asks_scan call) 1 0 + scan_count calls = sum_by-cons (λ k. cond (asks_scan k) 1 0) call calls in
+    one call all scans rest
+  where
+    one : (k : Call) → sum_by most_grants (call ∷ calls) ≡ most_grants call + sum_by most_grants calls → scan_count (call ∷ calls) ≡ cond {A = ℕ} (asks_scan call) 1 0 + scan_count calls
+        → sum_by most_grants calls ≤ 16384 * length calls + most_scan_grants * scan_count calls → sum_by most_grants (call ∷ calls) ≤ 16384 * length (call ∷ calls) + most_scan_grants * scan_count (call ∷ calls)
+    one k all scans rest = let w = one-call call in omega arith
+      where
+        one-call : (k : Call) → most_grants k ≤ 16384 + most_scan_grants * cond {A = ℕ} (asks_scan k) 1 0
+        one-call (Insert key value) = omega arith
+        one-call (Delete key) = omega arith
+        one-call (Get key) = omega arith
+        one-call (Scan low high) = omega arith
+
+-- .. so each of them may take its grants
+pub grants_fit : (calls : List Call) (i : ℕ) (d : Call) (taken : ℕ) → AreFew calls → i < length calls → taken ≤ sum_by most_grants (take i calls) → taken + most_grants (slice_index_or calls i d) ≤ 2 ^ 52
+grants_fit calls i d taken few lt le =
+    let next = ap (sum_by most_grants) (take_more calls i d lt) ∙ sum_by-append most_grants (take i calls) (slice_index_or calls i d ∷ []) in
+    let one = sum_by-cons most_grants (slice_index_or calls i d) [] in
+    let all = ap (sum_by most_grants) (sym (take-append-drop (i + 1) calls)) ∙ sum_by-append most_grants (take (i + 1) calls) (drop (i + 1) calls) in
+    let most = most-grants calls in
+    let a = few.commands in
+    let b = few.scans in omega arith
+
+pub grants_more : (calls : List Call) (i : ℕ) (d : Call) (taken more : ℕ) → i < length calls → taken ≤ sum_by most_grants (take i calls) → more ≤ taken + most_grants (slice_index_or calls i d) → more ≤ sum_by most_grants (take (i + 1) calls)
+grants_more calls i d taken more lt le up =
+    let next = ap (sum_by most_grants) (take_more calls i d lt) ∙ sum_by-append most_grants (take i calls) (slice_index_or calls i d ∷ []) in
+    let one = sum_by-cons most_grants (slice_index_or calls i d) [] in omega arith
+
+-- a session that has seen nothing knows that
+pub known_none : (sizes : Sizes) (p : PassState) → p.view.memory.seen ≡ [] → p.view.memory.own ≡ [] → IsKnown sizes (IsKeptLog sizes.pages) p
+known_none sizes p seen own = record {
+  legal = subst (IsKeptLog sizes.pages) (sym seen) (IsKeptLog-none sizes.pages);
+  room = (let e = ap used seen in omega arith);
+  mine = ap (entries_of p.number) seen ∙ sym own;
+}
+
+-- each of the ends found is no further than what is seen
+abbrev up_to : ℕ → List ℕ → Type 0
+up_to most ns = AllByRecursion (λ n. n ≤ most) ns
+
+up_to-wider : (a b : ℕ) (ns : List ℕ) → a ≤ b → up_to a ns → up_to b ns
+up_to-wider a b [] le all = tt
+up_to-wider a b (n ∷ ns) le all = ((let x = all.0 in omega arith), up_to-wider a b ns le all.1)
+
+bounds-up : (a b : ℕ) (ns : List ℕ) → AllByRecursion (λ n. (a ≤ n) × (n ≤ b)) ns → up_to b ns
+bounds-up a b [] all = tt
+bounds-up a b (n ∷ ns) all = (all.0.1, bounds-up a b ns all.1)
+
+least-wider : (a b : ℕ) (ns : List ℕ) → a ≤ b → AllByRecursion (λ n. b ≤ n) ns → AllByRecursion (λ n. a ≤ n) ns
+least-wider a b [] le all = tt
+least-wider a b (n ∷ ns) le all = ((let x = all.0 in omega arith), least-wider a b ns le all.1)
+
+behind-join : (added : List ℕ) (rs : List FullRecord) (r : FullRecord) → AllByRecursion (IsBehind added) rs → IsBehind added r → AllByRecursion (IsBehind added) (rs ++ r ∷ [])
+behind-join added [] r all one = (one, tt)
+behind-join added (x ∷ rs) r all one = (all.0, behind-join added rs r all.1 one)
+
+-- records that found no end are scans with low above high
+behind-first : (n : ℕ) (ns : List ℕ) (rs : List FullRecord) → AllByRecursion (IsBehind []) rs → AllByRecursion (IsBehind (n ∷ ns)) rs
+behind-first n ns [] all = tt
+behind-first n ns (r ∷ rs) all = (inl all.0, behind-first n ns rs all.1)
+
+behind-more : (n : ℕ) (ns ms : List ℕ) (rs : List FullRecord) → AllByRecursion (IsBehind (n ∷ ns)) rs → AllByRecursion (IsBehind (n ∷ ms)) rs
+behind-more n ns ms [] all = tt
+behind-more n ns ms (r ∷ rs) all = (all.0, behind-more n ns ms rs all.1)
+
+empty-behind : (added : List ℕ) (r : FullRecord) → IsEmptyScan r.call → IsBehind added r
+empty-behind [] r empty = empty
+empty-behind (n ∷ ns) r empty = inl empty
+
+module _ (sizes : Sizes) (call : Call) (r : FullRecord) (p q u : PassState) (a : IsAnswered sizes call r q u) where
+  longer : length q.view.memory.seen ≤ length u.view.memory.seen
+  longer = let e = ap length a.seen in let l = length-append q.view.memory.seen a.more in omega arith
+
+  found-more : (rs : List FullRecord) (added : List ℕ) → q.view.memory.ends ≡ p.view.memory.ends ++ added → up_to (length q.view.memory.seen) added → AllByRecursion (IsBehind added) rs → HasFound (places_in r) q u → AreBehind (rs ++ r ∷ []) p u
+  found-more rs [] ends within behind f = record {
+    added = f.first ∷ f.rest;
+    ends = f.ends ∙ ap (λ ns. ns ++ f.first ∷ f.rest) (ends ∙ append-nil p.view.memory.ends);
+    within = bounds-up (length q.view.memory.seen) (length u.view.memory.seen) (f.first ∷ f.rest) f.bounds;
+    behind = behind-join (f.first ∷ f.rest) rs r (behind-first f.first f.rest rs behind) (inr f.at);
+  }
+  found-more rs (n ∷ ns) ends within behind f =
+      let up : up_to (length u.view.memory.seen) (f.first ∷ f.rest) = bounds-up (length q.view.memory.seen) (length u.view.memory.seen) (f.first ∷ f.rest) f.bounds in
+      let down : up_to (length u.view.memory.seen) (n ∷ ns) = up_to-wider (length q.view.memory.seen) (length u.view.memory.seen) (n ∷ ns) longer within in
+      record {
+        added = n ∷ (ns ++ f.first ∷ f.rest);
+        ends = f.ends ∙ (ap (λ ms. ms ++ f.first ∷ f.rest) ends ∙ append_assoc p.view.memory.ends (n ∷ ns) (f.first ∷ f.rest));
+        within = all-join (λ k. k ≤ length u.view.memory.seen) (n ∷ ns) (f.first ∷ f.rest) down up;
+        behind = behind-join (n ∷ (ns ++ f.first ∷ f.rest)) rs r (behind-more n ns (ns ++ f.first ∷ f.rest) rs behind)
+            (inr (least-wider n f.first (places_in r) (let x = within.0 in let y = f.bounds.0.0 in omega arith) f.at));
+      }
+
+  behind-push : (rs : List FullRecord) → AreBehind rs p q → AreBehind (rs ++ r ∷ []) p u
+  behind-push rs b = elim a.looks [
+    | inl none ↦ record {
+      added = b.added;
+      ends = none.0 ∙ b.ends;
+      within = up_to-wider (length q.view.memory.seen) (length u.view.memory.seen) b.added longer b.within;
+      behind = behind-join b.added rs r b.behind (empty-behind b.added r none.1);
+    }
+    | inr f ↦ found-more rs b.added b.ends b.within b.behind f
+  ]
+
+  -- one record more
+  pub answered_more : (calls : List Call) (rs : List FullRecord) → HasAnswered sizes calls rs p q → HasAnswered sizes (calls ++ call ∷ []) (rs ++ r ∷ []) p u
+  answered_more calls rs h =
+      let fits = subst (λ n. FitsLog (index_space sizes) u.view.memory.seen u.number n r) (sym h.reach) a.fits in
+      let old = subst (λ log. AreAnswers (FitsLog (index_space sizes) log u.number) 0 rs) (sym a.seen)
+      (answers_longer (index_space sizes) q.view.memory.seen a.more u.number 0 rs (subst (λ n. AreAnswers (FitsLog (index_space sizes) q.view.memory.seen n) 0 rs) (sym a.number) h.answers)) in
+      record {
+        known = a.known;
+        same_calls = map-append (λ (x : FullRecord). x.call) rs (r ∷ []) ∙ (ap (λ cs. cs ++ r.call ∷ []) h.same_calls ∙ ap (λ c. calls ++ c ∷ []) a.call_is);
+        answers = AreAnswers-push (FitsLog (index_space sizes) u.view.memory.seen u.number) 0 rs r old fits (let x = h.reach in let y = a.from in omega arith) (let x = h.reach in let y = a.first in omega arith);
+        reach = reach_of-push 0 rs r ∙ sym a.reach;
+        made = a.made ∙ (ap (λ cs. cs ++ filter_map change_made (r ∷ [])) h.made ∙ sym (filter_map-append change_made rs (r ∷ [])));
+        behind = behind-push rs h.behind;
+      }
+
+-- nothing was answered yet
+pub answered_none : (sizes : Sizes) (p : PassState) → IsKnown sizes (IsKeptLog sizes.pages) p → p.view.memory.seen ≡ [] → p.view.memory.own ≡ [] → HasAnswered sizes [] [] p p
+answered_none sizes p known seen own = record {
+  known = known;
+  same_calls = refl;
+  answers = tt;
+  reach = sym (ap length seen);
+  made = ap changes_in own;
+  behind = record { added = []; ends = sym (append-nil p.view.memory.ends); within = tt; behind = tt };
+}

@@ -1,0 +1,7 @@
+mod AnswerLaws
+mod ChunkLaws
+mod EndLaws
+mod OutcomeLaws
+mod ReadLaws
+mod ReadOffLaws
+mod TurnLaws

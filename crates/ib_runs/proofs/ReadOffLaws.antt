@@ -1,0 +1,149 @@
+-- What is read off the words of a closed space.
+use Rattle.std.proofs.Common.{◌≡◌, ℕ, ◌+◌, ◌*◌, ◌<◌, ◌≤◌, true, List, [], ◌∷◌, ◌++◌, drop, length, refl, sym, ap, subst, ◌∙◌, arith, append_assoc, append-nil, length-append}
+use Rattle.std.specs.Prelude.{Result, Ok, slice_index, slice_index_or}
+use Rattle.std.proofs.lemmas.Bool.Decides.{nat_tests}
+use Rattle.std.proofs.lemmas.List.{drop_at}
+use Rattle.ib_map.specs.declared.call.LoggedChange.{LoggedChange}
+use Rattle.ib_map.specs.Space.{has_pages}
+use Rattle.ib_map.specs.Writes.{page_at, index_at, word_place}
+use Rattle.ib_map.specs.declared.TheConstants.{PAGE_WORDS}
+use Rattle.ib_page.specs.Memory.{word_at}
+use Rattle.ib_layout.specs.Geometry.{Sizes}
+use Rattle.ib_layout.specs.Places.{page_place}
+use Rattle.ib_logrec.specs.declared.entry.Entry.{Entry}
+use Rattle.ib_logrec.specs.declared.fault.LogFault.{LogFault}
+use Rattle.ib_logrec.specs.declared.head.Head.{Head}
+use Rattle.ib_logrec.specs.Grammar.{IsInGrammar}
+use Rattle.ib_logrec.specs.Heads.{head_of, logged_head}
+use Rattle.ib_logrec.specs.Law.{AreInGrammar}
+use Rattle.ib_logrec.specs.Log.{by_place, history_of, log_words, memory_after, used}
+use Rattle.ib_logrec.specs.Words.{words_of_entry}
+use Rattle.ib_logrec.proofs.LogLaws.{history_of-push, log_words-append, log_words-push, used-append, used-least}
+use Rattle.ib_walk.specs.Opening.{opening_word}
+use Rattle.ib_walk.specs.Trees.{content_of, IsLawful}
+use Rattle.ib_walk.specs.Words.{IsLawfulMemory, bits_of, memory_of, pages_of}
+use Rattle.ib_page.specs.Space.{IsSpacePage}
+use Rattle.ib_tree.specs.Logs.{pages_after}
+use Rattle.ib_tree.specs.Roots.{HasRoot}
+use Rattle.ib_tree.specs.TreeLog.{opening}
+use Rattle.ib_tree.proofs.MemoryLaws.{bits_of-after, image_of-after, memory_of-after}
+use Rattle.ib_tree.proofs.OpeningLaws.{by_place-opening}
+use Rattle.ib_runs.specs.Outcomes.{HasLog}
+
+-- the history of the entries of a log before a place of its words
+pub record IsReadTo (log : List Entry) (place : ℕ) (history : List LoggedChange) : Type 0 where
+  pub front : List Entry
+  pub back : List Entry
+  pub are : log ≡ front ++ back
+  pub at : place ≡ used front
+  pub history_is : history ≡ history_of front
+
+pub read_none : (log : List Entry) → IsReadTo log 0 []
+read_none log = record { front = []; back = log; are = refl; at = refl; history_is = refl }
+
+ok-same : {A B : Type 0} (a b : A) (r : Result A B) → r ≡ Ok a → r ≡ Ok b → a ≡ b
+ok-same a b r one two = let same = sym one ∙ two in cc
+
+module _ (pages : ℕ) (words : List ℕ) (place : ℕ) (history : List LoggedChange) (log : List Entry) (grammar : AreInGrammar pages log) (spelled : words ≡ log_words log) where
+  -- the entry that stands at a place before the end
+  pub record StandsNext : Type 0 where
+    pub front : List Entry
+    pub e : Entry
+    pub back : List Entry
+    pub are : log ≡ front ++ e ∷ back
+    pub at : place ≡ used front
+    pub history_is : history ≡ history_of front
+    pub grammar_is : IsInGrammar pages e
+    pub words_are : drop place words ≡ words_of_entry e ++ log_words back
+
+  grammar-at : (front back : List Entry) (e : Entry) → AreInGrammar pages (front ++ e ∷ back) → IsInGrammar pages e
+  grammar-at [] back e are = are.0
+  grammar-at (x ∷ front) back e are = grammar-at front back e are.1
+
+  next-of : (front back : List Entry) → log ≡ front ++ back → place ≡ used front → history ≡ history_of front → place < length words → StandsNext
+  next-of front [] are at is lt = absurd (let a = ap length spelled in let b = ap used (are ∙ append-nil front) in omega arith)
+  next-of front (e ∷ back) are at is lt = record {
+    front = front;
+    e = e;
+    back = back;
+    are = are;
+    at = at;
+    history_is = is;
+    grammar_is = grammar-at front back e (subst (AreInGrammar pages) are grammar);
+    words_are = ap (drop place) (spelled ∙ (ap log_words are ∙ log_words-append front (e ∷ back))) ∙ drop_at (log_words front) (log_words (e ∷ back)) place (sym at);
+  }
+
+  pub stands_next : IsReadTo log place history → place < length words → StandsNext
+  stands_next r lt = next-of r.front r.back r.are r.at r.history_is lt
+
+  -- the entry was read
+  pub read_more : (r : IsReadTo log place history) (lt : place < length words) (found : Result (Head × ℕ) LogFault) (head : Head) (next : ℕ)
+      → ((e : Entry) (rest : List ℕ) → IsInGrammar pages e → drop place words ≡ words_of_entry e ++ rest → found ≡ Ok (record { 0 = head_of e; 1 = place + length (words_of_entry e) }))
+      → found ≡ Ok (record { 0 = head; 1 = next }) → (more : List LoggedChange) → more ≡ history ++ logged_head head ∷ [] → IsReadTo log next more
+  read_more r lt found head next only is more more_is =
+      let s = stands_next r lt in
+      let pair : record { 0 = head; 1 = next } ≡ record { 0 = head_of s.e; 1 = place + length (words_of_entry s.e) } =
+      ok-same (record { 0 = head; 1 = next }) (record { 0 = head_of s.e; 1 = place + length (words_of_entry s.e) }) found is (only s.e (log_words s.back) s.grammar_is s.words_are) in
+      let one : head ≡ head_of s.e = ap (λ (x : Head × ℕ). x.0) pair in
+      let two : next ≡ place + length (words_of_entry s.e) = ap (λ (x : Head × ℕ). x.1) pair in
+      record {
+        front = s.front ++ s.e ∷ [];
+        back = s.back;
+        are = s.are ∙ sym (append_assoc s.front (s.e ∷ []) s.back);
+        at = let a = s.at in let b = ap length (log_words-push s.front s.e) in let c = length-append (log_words s.front) (words_of_entry s.e) in omega arith;
+        history_is = more_is ∙ (ap (λ hs. hs ++ logged_head head ∷ []) s.history_is ∙ (ap (λ h. history_of s.front ++ logged_head h ∷ []) one ∙ sym (history_of-push s.front s.e)));
+      }
+
+  read-end : (front back : List Entry) → log ≡ front ++ back → place ≡ used front → length words ≤ place → log ≡ front
+  read-end front [] are at le = are ∙ append-nil front
+  read-end front (e ∷ back) are at le =
+      absurd (let a = ap length spelled in let b = ap used are in let c = used-append front (e ∷ back) in let d = used-least (e ∷ back) in omega arith)
+
+  -- all of the log was read
+  pub read_all : IsReadTo log place history → length words ≤ place → history ≡ history_of log
+  read_all r le = r.history_is ∙ ap history_of (sym (read-end r.front r.back r.are r.at le))
+
+module _ (sizes : Sizes) (words : List ℕ) (log : List Entry) (fits : has_pages sizes.pages ≡ true) (h : HasLog sizes words log) (images : List (List ℕ)) (size : length images ≡ sizes.pages)
+    (same : (page index : ℕ) → page < sizes.pages → index < PAGE_WORDS → slice_index (slice_index_or images page []) index ≡ slice_index words (page_place sizes page index)) where
+  grammar : AreInGrammar sizes.pages log
+  grammar = let k = h.kept in let l = k.lawful in l.grammar
+
+  start : by_place opening sizes.pages ≡ opening_word
+  start = by_place-opening sizes.pages
+
+  -- the images have the words after the log
+  words-after : (place : ℕ) → place < sizes.pages * PAGE_WORDS → word_at images place ≡ memory_after opening_word log place
+  words-after place lt =
+      let page = page_at place in
+      let index = index_at place in
+      let whole : word_place page index ≡ place = omega arith in
+      let few : page < sizes.pages = omega arith in
+      let in-page : index < PAGE_WORDS = omega arith in
+      same page index few in-page ∙ (h.paged page index few in-page ∙ (ap (memory_after (by_place opening sizes.pages) log) whole ∙ ap (λ (words : ℕ → ℕ). memory_after words log place) start))
+
+  pages-are : memory_of images ≡ pages_after (by_place opening sizes.pages) log
+  pages-are = memory_of-after sizes.pages log fits grammar images size words-after ∙ ap (λ (words : ℕ → ℕ). pages_after words log) (sym start)
+
+  -- the walk of the images finds what the pages after the log have
+  pub walked_is : content_of (memory_of images) 1 ≡ content_of (pages_after (by_place opening sizes.pages) log) 1
+  walked_is = ap (λ m. content_of m 1) pages-are
+
+  -- page 1 is the root of the images' tree
+  pub has_root : IsLawfulMemory sizes.pages 1 (memory_after (by_place opening sizes.pages) log) → HasRoot images 1
+  has_root lawful =
+      let opened : IsLawfulMemory sizes.pages 1 (memory_after opening_word log) = subst (λ (words : ℕ → ℕ). IsLawfulMemory sizes.pages 1 (memory_after words log)) start lawful in
+      let bits : bits_of sizes.pages (word_at images) ≡ bits_of sizes.pages (memory_after opening_word log) = λ i page. bits_of-after sizes.pages log fits grammar images size words-after page i in
+      let memory : pages_of (word_at images) ≡ pages_after opening_word log = memory_of-after sizes.pages log fits grammar images size words-after in
+      let here : IsLawfulMemory sizes.pages 1 (word_at images) = record {
+        space = subst (IsSpacePage sizes.pages) (sym (image_of-after sizes.pages log fits grammar images size words-after)) opened.space;
+        law = subst (λ m. IsLawful m (bits_of sizes.pages (word_at images)) 1) (sym memory) (subst (λ b. IsLawful (pages_after opening_word log) b 1) (sym bits) opened.law);
+      } in
+      record {
+        roots = 1;
+        few = omega arith;
+        some = omega arith;
+        within = omega arith;
+        least = grind (arith, nat_tests, fits, size);
+        most = grind (arith, nat_tests, fits, size);
+        lawful = subst (λ n. IsLawfulMemory n 1 (word_at images)) (sym size) here;
+      }

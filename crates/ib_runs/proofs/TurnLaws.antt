@@ -1,0 +1,72 @@
+-- The turns of all sessions, by their places.
+use Rattle.std.proofs.Common.{◌≡◌, ℕ, ◌+◌, ◌-◌, ◌<◌, suc, List, [], ◌∷◌, ◌++◌, Option, Some, None, All, map, length, refl, sym, ap, subst, ◌∙◌, arith, append_assoc, length-append}
+use Rattle.std.proofs.lemmas.List.{map-append}
+use Rattle.std.proofs.Math.ListN.{get_or-append}
+use Rattle.std.specs.Prelude.{IfSome, slice_index_or}
+use Rattle.ib_map.specs.declared.call.Call.{Call}
+use Rattle.ib_rule.specs.Pass.{PassState}
+use Rattle.ib_rule.specs.Space.{SpaceState}
+use Rattle.ib_rule.specs.Views.{ended_as}
+use Rattle.ib_runs.specs.declared.turns.Turn.{Turn}
+use Rattle.ib_runs.specs.Answers.{KeptAnswers, IsWhole, answers_of}
+use Rattle.ib_runs.specs.Sessions.{HasAnswered}
+use Rattle.ib_runs.specs.Turns.{AreDone, AreNumbered, HasTurned, IsDone}
+
+pub numbered_push : (n : ℕ) (ps : List PassState) (p : PassState) → AreNumbered n ps → p.number ≡ n + length ps → AreNumbered n (ps ++ p ∷ [])
+numbered_push n [] p are is = (omega (arith, is), tt)
+numbered_push n (x ∷ ps) p are is = (are.0, numbered_push (n + 1) ps p are.1 (omega (arith, is)))
+
+-- each turn was over, with answers: all sessions are done
+pub done_of : (space : SpaceState) (commands : List (List Call)) (n : ℕ) (old new : List Turn) (outs : List KeptAnswers) → length new ≡ length old → AreNumbered n (map (λ (t : Turn). t.pass) old)
+    → ((i : ℕ) (d : Turn) → i < length old → HasTurned space commands (slice_index_or old i d) (slice_index_or new i d)) → map (λ (t : Turn). t.answers) new ≡ map Some outs
+    → AreDone space.sizes (λ k. slice_index_or commands (k - 1) []) n (map (λ (t : Turn). t.pass) new) outs
+done_of space commands n [] [] [] len num turned are = tt
+done_of space commands n [] [] (out ∷ outs) len num turned are = cc
+done_of space commands n [] (y ∷ new) outs len num turned are = absurd (omega arith)
+done_of space commands n (x ∷ old) [] outs len num turned are = absurd (omega arith)
+done_of space commands n (x ∷ old) (y ∷ new) [] len num turned are = cc
+done_of space commands n (x ∷ old) (y ∷ new) (out ∷ outs) len num turned are =
+    let first : HasTurned space commands x y = turned 0 x (omega arith) in
+    let some : y.answers ≡ Some out = cc in
+    let there : IfSome (Some out) (λ (o : KeptAnswers). IsWhole o × HasAnswered space.sizes (slice_index_or commands (x.pass.number - 1) []) (answers_of o) x.pass y.pass) =
+    subst (λ (o : Option KeptAnswers). IfSome o (λ (o : KeptAnswers). IsWhole o × HasAnswered space.sizes (slice_index_or commands (x.pass.number - 1) []) (answers_of o) x.pass y.pass)) some first.answered in
+    let one : IsDone space.sizes (slice_index_or commands (n - 1) []) n out y.pass = record {
+      number = first.number ∙ num.0;
+      role = first.role;
+      whole = there.0;
+      start = x.pass;
+      answered = subst (λ k. HasAnswered space.sizes (slice_index_or commands (k - 1) []) (answers_of out) x.pass y.pass) num.0 there.1;
+    } in
+    (one, done_of space commands (n + 1) old new outs (omega arith) num.1 (λ i d lt. turned (suc i) d (omega arith)) cc)
+
+pub if_some : {A : Type 0} (o : Option A) (P Q : A → Type 0) → ((a : A) → o ≡ Some a → P a → Q a) → IfSome o P → IfSome o Q
+if_some None P Q f h = tt
+if_some (Some a) P Q f h = f a refl h
+
+-- what holds of all holds of the front
+pub all_left : (P : Turn → Type 0) (all front back : List Turn) → all ≡ front ++ back → All P all → All P front
+all_left P all front back is h = λ k d lt.
+    let long = ap length is in
+    let longer = length-append front back in
+    subst P (ap (λ (ts : List Turn). slice_index_or ts k d) is ∙ get_or-append front back d k lt) (h k d (omega arith))
+
+-- one session more has ended
+pub space_left : (space : SpaceState) (all front : List Turn) (t : Turn) (after : SpaceState) → all ≡ front ++ t ∷ [] → after ≡ record space { ended = ended_as t.pass.view ∷ space.ended }
+    → record after { ended = map (λ (u : Turn). ended_as u.pass.view) front ++ after.ended } ≡ record space { ended = map (λ (u : Turn). ended_as u.pass.view) all ++ space.ended }
+space_left space all front t after is ends =
+    let list : map (λ (u : Turn). ended_as u.pass.view) front ++ ended_as t.pass.view ∷ space.ended ≡ map (λ (u : Turn). ended_as u.pass.view) all ++ space.ended =
+    sym (ap (λ es. es ++ space.ended) (ap (map (λ (u : Turn). ended_as u.pass.view)) is ∙ map-append (λ (u : Turn). ended_as u.pass.view) front (t ∷ []))
+    ∙ append_assoc (map (λ (u : Turn). ended_as u.pass.view) front) (ended_as t.pass.view ∷ []) space.ended) in
+    ap (λ (s : SpaceState). record s { ended = map (λ (u : Turn). ended_as u.pass.view) front ++ s.ended }) ends ∙ ap (λ es. record space { ended = es }) list
+
+-- its answers stand in front of the others
+pub outs_left : (all front : List Turn) (t : Turn) (outs more : List KeptAnswers) (first : List (Option KeptAnswers)) → all ≡ front ++ t ∷ [] → map Some more ≡ t.answers ∷ map Some outs
+    → map (λ (u : Turn). u.answers) all ++ map Some outs ≡ first → map (λ (u : Turn). u.answers) front ++ map Some more ≡ first
+outs_left all front t outs more first is put are =
+    ap (λ os. map (λ (u : Turn). u.answers) front ++ os) put
+    ∙ (sym (ap (λ os. os ++ map Some outs) (ap (map (λ (u : Turn). u.answers)) is ∙ map-append (λ (u : Turn). u.answers) front (t ∷ []))
+    ∙ append_assoc (map (λ (u : Turn). u.answers) front) (t.answers ∷ []) (map Some outs)) ∙ are)
+
+pub ended_passes : (ts : List Turn) → map (λ (u : Turn). ended_as u.pass.view) ts ≡ map (λ (p : PassState). ended_as p.view) (map (λ (u : Turn). u.pass) ts)
+ended_passes [] = refl
+ended_passes (t ∷ ts) = ap (λ es. ended_as t.pass.view ∷ es) (ended_passes ts)

@@ -1,0 +1,33 @@
+use Rattle.std.proofs.Common.{arith, refl, subst, sym}
+use Rattle.ib_map.specs.declared.call.Call.TheVariants.{Insert, Delete, Get}
+use Rattle.ib_layout.specs.Geometry.{Sizes}
+use Rattle.ib_runs.specs.Answers.{KeptAnswers, IsWhole}
+use Rattle.ib_runs.specs.Steps.{HasOneMore}
+use Rattle.ib_runs.proofs.AnswerLaws.{call_more_as}
+use Rattle.ib_runs.proofs.session.answer.Goals as goal
+use Rattle.ib_runs.proofs.session.answer.Goals.{in-Get, in-Insert, in-Delete}
+
+pub returns-clause-more : goal.returns-clause-more
+returns-clause-more g c =
+    let sizes : Sizes = c.args.index.now.sizes in
+    let old : KeptAnswers = record { records = c.out.inside.records.items; chunks = c.out.inside.chunks } in
+    let new : KeptAnswers = record { records = c.push.new.self.items; chunks = c.out.inside.chunks } in
+    let whole = subst IsWhole (sym c.out.view_is) c.requires.whole in
+    subst (λ (o : KeptAnswers). HasOneMore sizes c.args.call o new c.args.pass.now c.match-call.pass) c.out.view_is
+    (elim c.match-call.branch [
+      | in-Get w ↦
+          let h = w.get-record.ensures.looked_up in
+          let s = h.most in let sx = h.sx in let x = h.x in
+          call_more_as sizes c.args.call (Get w.in-Get.key) c.match-call.record w.get-record.result old new c.args.pass.now c.match-call.pass w.get-record.new.pass w.in-Get.is w.record-is w.pass-is tt whole
+          c.in_ok-push.ensures.items refl h.called (omega arith)
+      | in-Insert w ↦
+          let h = w.insert-record.ensures in
+          let few = h.grants.all in
+          call_more_as sizes c.args.call (Insert w.in-Insert.key w.in-Insert.value) c.match-call.record w.insert-record.result old new c.args.pass.now c.match-call.pass w.insert-record.new.pass w.in-Insert.is w.record-is w.pass-is tt whole
+          c.in_ok-push.ensures.items refl h.called (omega arith)
+      | in-Delete w ↦
+          let h = w.delete-record.ensures in
+          let few = h.grants.all in
+          call_more_as sizes c.args.call (Delete w.in-Delete.key) c.match-call.record w.delete-record.result old new c.args.pass.now c.match-call.pass w.delete-record.new.pass w.in-Delete.is w.record-is w.pass-is tt whole
+          c.in_ok-push.ensures.items refl h.called (omega arith)
+    ])

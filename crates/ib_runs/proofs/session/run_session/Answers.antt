@@ -1,0 +1,52 @@
+use Rattle.std.proofs.Common.{◌≡◌, ◌+◌, ◌∙◌, List, [], ◌∷◌, ◌++◌, take, get_or, length, ap, sym, subst, arith, refl}
+use Rattle.std.proofs.lemmas.List.{take_more}
+use Rattle.ib_map.specs.FullRecords.{total_chunks}
+use Rattle.ib_map.specs.Replies.{FullRecord}
+use Rattle.ib_map.specs.declared.call.Call.{Call}
+use Rattle.ib_map.specs.declared.call.Call.TheVariants.{Insert}
+use Rattle.ib_layout.specs.Geometry.{Sizes}
+use Rattle.ib_rule.specs.Views.{total}
+use Rattle.ib_runs.specs.Answers.{KeptAnswers, answers_of}
+use Rattle.ib_runs.specs.Sessions.{HasAnswered}
+use Rattle.ib_runs.specs.Steps.{HasOneMore}
+use Rattle.ib_runs.proofs.AnswerLaws.{answered_more, answered_none, grants_fit, grants_more, known_none}
+use Rattle.ib_runs.proofs.session.run_session.Goals as goal
+
+pub loop-call-init : goal.loop-call-init
+loop-call-init g c =
+    let sizes : Sizes = c.args.index.now.sizes in
+    let known = known_none sizes c.args.pass.now c.requires.nothing_seen c.requires.nothing_made in
+    record {
+      rest = record { own = c.requires.own; idle = c.requires.idle; scratch = c.requires.scratch };
+      same = refl;
+      answered = subst (λ (o : KeptAnswers). HasAnswered sizes [] (answers_of o) c.args.pass.now c.args.pass.now) (sym c.requires.empty) (answered_none sizes c.args.pass.now known c.requires.nothing_seen c.requires.nothing_made);
+      whole = subst (λ (o : KeptAnswers). total_chunks o.records ≡ length o.chunks.list) (sym c.requires.empty) refl;
+      room = let e = ap (λ (o : KeptAnswers). o.chunks.chunk_room) c.requires.empty in omega arith;
+      grants = let e = ap total c.requires.no_grants in omega arith;
+      number = refl;
+    }
+
+pub answer-requires-clause-few : goal.answer-requires-clause-few
+answer-requires-clause-few g c =
+    grants_fit c.args.commands.now c.loop-call.call-index (Insert 0 0) (total c.loop-call.pass.view.grants) c.requires.few c.loop-call-test.true c.loop-call.invariant.grants
+
+pub loop-call-preserved : goal.loop-call-preserved
+loop-call-preserved g c =
+    let sizes : Sizes = c.args.index.now.sizes in
+    let i = c.loop-call.invariant in
+    let calls : List Call = c.args.commands.now in
+    let at = c.loop-call.call-index in
+    let call : Call = get_or calls at (Insert 0 0) in
+    let a : HasOneMore sizes call c.loop-call.out c.answer.new.out c.loop-call.pass c.answer.new.pass = c.in_ok-answer.ensures.more in
+    let more = answered_more sizes call a.r c.args.pass.now c.loop-call.pass c.answer.new.pass a.answered (take at calls) (answers_of c.loop-call.out) i.answered in
+    let next : take at calls ++ call ∷ [] ≡ take (at + 1) calls = sym (take_more calls at (Insert 0 0) c.loop-call-test.true) in
+    record {
+      rest = c.answer.ensures.rest;
+      same = c.answer.ensures.number ∙ i.same;
+      answered = subst (λ (rs : List FullRecord). HasAnswered sizes (take (at + 1) calls) rs c.args.pass.now c.answer.new.pass) (sym a.answers)
+          (subst (λ (ks : List Call). HasAnswered sizes ks (answers_of c.loop-call.out ++ a.r ∷ []) c.args.pass.now c.answer.new.pass) next more);
+      whole = a.whole;
+      room = c.answer.ensures.room;
+      grants = grants_more calls at (Insert 0 0) (total c.loop-call.pass.view.grants) (total c.answer.new.pass.view.grants) c.loop-call-test.true i.grants a.grants;
+      number = let n = i.number in omega arith;
+    }

@@ -1,0 +1,18 @@
+use Rattle.std.proofs.Common.{◌≡◌, ◌++◌, map, All, true, Some}
+use Rattle.std.specs.Prelude.{vec_len}
+use Rattle.ib_rule.specs.Views.{ended_as}
+use Rattle.ib_runs.specs.Sessions.{IsAtRest}
+use Rattle.ib_runs.proofs.turns.leave_all.Given as goal
+
+abbrev pub invariant-loop-turn : goal.invariant-loop-turn
+invariant-loop-turn l = record {
+  table : l.index.table ≡ l.initial.index.table;
+  sizes : l.index.sizes ≡ l.initial.index.sizes;
+  space : record l.index { ended = map (λ t. ended_as t.pass.view) l.turns.items ++ l.index.ended }
+      ≡ record l.initial.index { ended = map (λ t. ended_as t.pass.view) l.initial.turns.items ++ l.initial.index.ended };
+  rest : All (λ t. IsAtRest l.initial.index t.pass) l.turns.items;
+  outs : l.whole ≡ true → map (λ t. t.answers) l.turns.items ++ map Some l.outs.items ≡ map (λ t. t.answers) l.initial.turns.items;
+}
+
+abbrev pub decreases-loop-turn : goal.decreases-loop-turn
+decreases-loop-turn l = vec_len l.turns

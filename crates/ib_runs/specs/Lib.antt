@@ -1,0 +1,5 @@
+pub mod Answers
+pub mod Outcomes
+pub mod Sessions
+pub mod Steps
+pub mod Turns

@@ -1,0 +1,73 @@
+-- What a session's run leaves.
+use Rattle.std.specs.Prelude.{◌≡◌, ◌⊎◌, ℕ, ◌<◌, ◌≤◌, true, List, [], ◌∷◌, ◌++◌, length, map}
+use Rattle.std.specs.List.{AllByRecursion, filter_map}
+use Rattle.ib_map.specs.Keys.{rank}
+use Rattle.ib_map.specs.Replies.{FullRecord}
+use Rattle.ib_map.specs.Runs.{reach_of, AreAnswers, change_made}
+use Rattle.ib_map.specs.declared.call.Call.{Call}
+use Rattle.ib_map.specs.declared.call.Call.TheVariants.{Scan}
+use Rattle.ib_map.specs.declared.call.Change.{Change}
+use Rattle.ib_layout.specs.Geometry.{Sizes}
+use Rattle.ib_logrec.specs.declared.entry.Entry.{Entry}
+use Rattle.ib_logrec.specs.Log.{by_place}
+use Rattle.ib_tree.specs.Fits.{TreeSpace, FitsLog}
+use Rattle.ib_tree.specs.TreeLog.{opening}
+use Rattle.ib_kept.specs.Kept.{IsKeptLog}
+use Rattle.ib_core.specs.Sessions.{idle}
+use Rattle.ib_rule.specs.Pass.{PassState, IsOf}
+use Rattle.ib_rule.specs.Space.{SpaceState}
+use Rattle.ib_cursor.specs.Going.{IsKnown}
+use Rattle.ib_cursor.specs.Spaces.{space_of}
+use Rattle.ib_script.specs.Script.{scan_count}
+use Rattle.ib_script.specs.declared.script_line.TheConstants.{MOST_COMMANDS, MOST_SCANS}
+use Rattle.ib_runs.specs.Answers.{calls_in}
+
+-- the space of an index: its pages are those of a new space at the start
+abbrev pub index_space : Sizes → TreeSpace
+index_space sizes = space_of sizes (by_place opening sizes.pages)
+
+-- the pass of a session of the index that holds nothing, its scratch in it
+pub record IsAtRest (space : SpaceState) (p : PassState) : Type 0 where
+  pub own : IsOf space p
+  pub idle : p.view.session ≡ idle
+  pub scratch : p.has_scratch ≡ true
+
+-- the changes of entries
+abbrev pub changes_in : List Entry → List Change
+changes_in es = map (λ e. e.change) es
+
+-- a session has no more commands than a script may have, and no more scans
+pub record AreFew (calls : List Call) : Type 0 where
+  pub commands : length calls ≤ MOST_COMMANDS
+  pub scans : scan_count calls ≤ MOST_SCANS
+
+-- a scan with its low key above its high one
+abbrev pub IsEmptyScan : Call → Type 0
+IsEmptyScan (Scan low high) = rank high < rank low
+IsEmptyScan _ = ⊥
+
+-- a record's place, and those of its chunks
+abbrev pub places_in : FullRecord → List ℕ
+places_in r = r.place ∷ map (λ span. span.place) r.spans
+
+-- no place of a record is before the first of these ends of the log, but for a scan with its low key above its high one
+abbrev pub IsBehind : List ℕ → FullRecord → Type 0
+IsBehind [] r = IsEmptyScan r.call
+IsBehind (first ∷ rest) r = IsEmptyScan r.call ⊎ AllByRecursion (λ n. first ≤ n) (places_in r)
+
+-- the ends of the log that were found from one state to another: none lies beyond what is seen, and no record's place is before the first
+pub record AreBehind (rs : List FullRecord) (p q : PassState) : Type 0 where
+  pub added : List ℕ
+  pub ends : q.view.memory.ends ≡ p.view.memory.ends ++ added
+  pub within : AllByRecursion (λ n. n ≤ length q.view.memory.seen) added
+  pub behind : AllByRecursion (IsBehind added) rs
+
+-- A session that had seen nothing was answered: the records are of these calls, in order; each fits what is seen now, which is a kept
+-- log within its words, and ends where the records do; and what the session made is what they say was made, in order.
+pub record HasAnswered (sizes : Sizes) (calls : List Call) (rs : List FullRecord) (p q : PassState) : Type 0 where
+  pub known : IsKnown sizes (IsKeptLog sizes.pages) q
+  pub same_calls : calls_in rs ≡ calls
+  pub answers : AreAnswers (FitsLog (index_space sizes) q.view.memory.seen q.number) 0 rs
+  pub reach : reach_of 0 rs ≡ length q.view.memory.seen
+  pub made : changes_in q.view.memory.own ≡ filter_map change_made rs
+  pub behind : AreBehind rs p q

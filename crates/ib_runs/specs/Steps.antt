@@ -1,0 +1,118 @@
+-- The steps of a session's run.
+use Rattle.std.specs.Prelude.{◌≡◌, ◌⊎◌, ℕ, ◌+◌, ◌*◌, ◌<◌, ◌≤◌, List, [], ◌∷◌, ◌++◌, length}
+use Rattle.std.specs.List.{AllByRecursion, filter_map}
+use Rattle.ib_map.specs.Keys.{MapKey, rank}
+use Rattle.ib_map.specs.Chunks.{HeldChunks, spans_of}
+use Rattle.ib_map.specs.Replies.{Span, FullRecord}
+use Rattle.ib_map.specs.Runs.{reach_after, first_place, change_made}
+use Rattle.ib_map.specs.declared.call.Call.{Call}
+use Rattle.ib_map.specs.declared.call.Call.TheVariants.{Scan}
+use Rattle.ib_layout.specs.Geometry.{Sizes}
+use Rattle.ib_layout.specs.declared.geometry.TheConstants.{MOST_LOG_WORDS}
+use Rattle.ib_logrec.specs.declared.entry.Entry.{Entry}
+use Rattle.ib_logrec.specs.Log.{by_place, map_of, memory_after}
+use Rattle.ib_walk.specs.Trees.{content_of}
+use Rattle.ib_walk.specs.Words.{IsLawfulMemory}
+use Rattle.ib_tree.specs.Fits.{FitsLog}
+use Rattle.ib_tree.specs.Logs.{pages_after}
+use Rattle.ib_tree.specs.Scans.{AreFront, AreWhole}
+use Rattle.ib_tree.specs.TreeLog.{opening}
+use Rattle.ib_kept.specs.Kept.{IsKeptLog}
+use Rattle.ib_rule.specs.Pass.{PassState}
+use Rattle.ib_rule.specs.Views.{total}
+use Rattle.ib_cursor.specs.Going.{IsKnown, WentOn}
+use Rattle.ib_runs.specs.Answers.{KeptAnswers, IsWhole, answers_of}
+use Rattle.ib_runs.specs.Sessions.{index_space, changes_in, places_in, IsEmptyScan}
+
+-- a scan takes fewer grants than these: 8,320 for each chunk, of which there are no more than a log can have entries, and those of one call more
+abbrev pub most_scan_grants : ℕ
+most_scan_grants = 35000000000
+
+-- the most grants that a call may take
+abbrev pub most_grants : Call → ℕ
+most_grants (Scan low high) = most_scan_grants
+most_grants _ = 16384
+
+-- what kept logs say of the tree, in a space of these sizes
+pub record KeptLaws (sizes : Sizes) : Type 0 where
+  pub memory : (log : List Entry) → IsKeptLog sizes.pages log → IsLawfulMemory sizes.pages 1 (memory_after (by_place opening sizes.pages) log)
+  pub content : (log : List Entry) → IsKeptLog sizes.pages log → content_of (pages_after (by_place opening sizes.pages) log) 1 ≡ map_of log
+  pub few : sizes.log_words ≤ MOST_LOG_WORDS
+
+-- these chunks stand behind those that were there
+abbrev pub HasMore : HeldChunks → HeldChunks → List Span → Type 0
+HasMore old new spans = spans_of new.list new.pairs ≡ spans_of old.list old.pairs ++ spans
+
+-- how a scan went so far, by one call or several
+pub record HasRead (sizes : Sizes) (old new : HeldChunks) (p q : PassState) : Type 0 where
+  pub spans : List Span
+  pub more : HasMore old new spans
+  pub went : WentOn p q
+  pub known : IsKnown sizes (IsKeptLog sizes.pages) q
+  pub first : ℕ
+  pub rest : List ℕ
+  pub looks : went.added ≡ first ∷ rest
+
+-- .. up to what is before `next`: it took 8,320 grants at most for each chunk
+pub record HasReadTo (sizes : Sizes) (low high next : MapKey) (old new : HeldChunks) (p q : PassState) : Type 0 where
+  pub read : HasRead sizes old new p q
+  pub last : ℕ
+  pub chunks : AreFront (by_place opening sizes.pages) q.view.memory.seen 1 low high read.first read.spans next last
+  pub within : last ≤ length q.view.memory.seen
+  pub grants : total q.view.grants ≤ total p.view.grants + 8320 * length read.spans
+
+-- .. or nothing was read yet
+pub record IsAtStart (low next : MapKey) (old new : HeldChunks) (p q : PassState) : Type 0 where
+  pub same : q ≡ p
+  pub at : next ≡ low
+  pub none : spans_of new.list new.pairs ≡ spans_of old.list old.pairs
+
+abbrev pub IsSoFar : Sizes → MapKey → MapKey → MapKey → HeldChunks → HeldChunks → PassState → PassState → Type 0
+IsSoFar sizes low high next old new p q = IsAtStart low next old new p q ⊎ HasReadTo sizes low high next old new p q
+
+-- .. or all was
+pub record HasReadAll (sizes : Sizes) (low high : MapKey) (old new : HeldChunks) (p q : PassState) : Type 0 where
+  pub read : HasRead sizes old new p q
+  pub ascends : rank low ≤ rank high
+  pub chunks : AreWhole (by_place opening sizes.pages) q.view.memory.seen 1 low high read.first read.spans (length q.view.memory.seen)
+  pub grants : total q.view.grants ≤ total p.view.grants + most_scan_grants
+
+-- .. or there was nothing to read, from a key to a lower one
+pub record HasReadNone (low high : MapKey) (old new : HeldChunks) (p q : PassState) : Type 0 where
+  pub below : rank high < rank low
+  pub same : q ≡ p
+  pub chunks : new ≡ old
+
+abbrev pub HasReadKeys : Sizes → MapKey → MapKey → HeldChunks → HeldChunks → PassState → PassState → Type 0
+HasReadKeys sizes low high old new p q = HasReadNone low high old new p q ⊎ HasReadAll sizes low high old new p q
+
+-- ends of the log were found, each from what was seen before on and up to what is seen now, and the first is not behind these places
+pub record HasFound (places : List ℕ) (p q : PassState) : Type 0 where
+  pub first : ℕ
+  pub rest : List ℕ
+  pub ends : q.view.memory.ends ≡ p.view.memory.ends ++ first ∷ rest
+  pub bounds : AllByRecursion (λ n. (length p.view.memory.seen ≤ n) × (n ≤ length q.view.memory.seen)) (first ∷ rest)
+  pub at : AllByRecursion (λ n. first ≤ n) places
+
+-- A call was answered by a record. What had been seen is the front of what is seen now, which the record fits, at no place before that;
+-- what is seen now ends with it; and the session made what it says
+pub record IsAnswered (sizes : Sizes) (call : Call) (r : FullRecord) (p q : PassState) : Type 0 where
+  pub number : q.number ≡ p.number
+  pub more : List Entry
+  pub seen : q.view.memory.seen ≡ p.view.memory.seen ++ more
+  pub known : IsKnown sizes (IsKeptLog sizes.pages) q
+  pub call_is : r.call ≡ call
+  pub fits : FitsLog (index_space sizes) q.view.memory.seen q.number (length p.view.memory.seen) r
+  pub from : length p.view.memory.seen ≤ r.place
+  pub first : length p.view.memory.seen ≤ first_place r
+  pub reach : length q.view.memory.seen ≡ reach_after r
+  pub made : changes_in q.view.memory.own ≡ changes_in p.view.memory.own ++ filter_map change_made (r ∷ [])
+  pub looks : ((q.view.memory.ends ≡ p.view.memory.ends) × IsEmptyScan r.call) ⊎ HasFound (places_in r) p q
+
+-- .. and the record stands behind the others, with its chunks
+pub record HasOneMore (sizes : Sizes) (call : Call) (old new : KeptAnswers) (p q : PassState) : Type 0 where
+  pub r : FullRecord
+  pub answered : IsAnswered sizes call r p q
+  pub answers : answers_of new ≡ answers_of old ++ r ∷ []
+  pub whole : IsWhole new
+  pub grants : total q.view.grants ≤ total p.view.grants + most_grants call

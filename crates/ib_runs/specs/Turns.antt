@@ -1,0 +1,53 @@
+-- The turns of all sessions.
+use Rattle.std.specs.Prelude.{◌≡◌, ℕ, ◌+◌, ◌-◌, ◌≤◌, ⊤, List, [], ◌∷◌, length, map, IfSome, slice_index_or}
+use Rattle.ib_map.specs.declared.call.Call.{Call}
+use Rattle.ib_layout.specs.Geometry.{Sizes}
+use Rattle.ib_rule.specs.declared.view.Role.TheVariants.{Session}
+use Rattle.ib_rule.specs.Pass.{PassState}
+use Rattle.ib_rule.specs.Space.{SpaceState}
+use Rattle.ib_rule.specs.Views.{ended_as, seated}
+use Rattle.ib_runs.specs.declared.turns.Turn.{Turn}
+use Rattle.ib_runs.specs.Answers.{KeptAnswers, IsWhole, answers_of}
+use Rattle.ib_runs.specs.Sessions.{HasAnswered, IsAtRest}
+
+-- a session that has done nothing yet, one of so many
+pub record IsReady (space : SpaceState) (sessions : ℕ) (p : PassState) : Type 0 where
+  pub rest : IsAtRest space p
+  pub some : 1 ≤ p.number
+  pub most : p.number ≤ sessions
+  pub view : p.view ≡ seated (Session p.number)
+
+-- it is the same session, and holds nothing; with answers all its commands were answered
+pub record HasTurned (space : SpaceState) (commands : List (List Call)) (old new : Turn) : Type 0 where
+  pub rest : IsAtRest space new.pass
+  pub number : new.pass.number ≡ old.pass.number
+  pub role : new.pass.view.role ≡ Session new.pass.number
+  pub answered : IfSome new.answers (λ out. IsWhole out × HasAnswered space.sizes (slice_index_or commands (old.pass.number - 1) []) (answers_of out) old.pass new.pass)
+
+-- the numbers go up from n
+abbrev pub AreNumbered : ℕ → List PassState → Type 0
+AreNumbered n [] = ⊤
+AreNumbered n (p ∷ ps) = (p.number ≡ n) × AreNumbered (n + 1) ps
+
+-- the session of this number was answered, from the start
+pub record IsDone (sizes : Sizes) (commands : List Call) (n : ℕ) (out : KeptAnswers) (q : PassState) : Type 0 where
+  pub number : q.number ≡ n
+  pub role : q.view.role ≡ Session q.number
+  pub whole : IsWhole out
+  pub start : PassState
+  pub answered : HasAnswered sizes commands (answers_of out) start q
+
+-- the sessions from n on were
+abbrev pub AreDone : Sizes → (ℕ → List Call) → ℕ → List PassState → List KeptAnswers → Type 0
+AreDone sizes commands n [] [] = ⊤
+AreDone sizes commands n [] (out ∷ outs) = ⊥
+AreDone sizes commands n (q ∷ qs) [] = ⊥
+AreDone sizes commands n (q ∷ qs) (out ∷ outs) = IsDone sizes (commands n) n out q × AreDone sizes commands (n + 1) qs outs
+
+-- the sessions of a space, of which there are as many as lists of commands, have all had their turn, and have ended
+pub record AllDone (commands : List (List Call)) (outs : List KeptAnswers) (space : SpaceState) : Type 0 where
+  pub passes : List PassState
+  pub count : length passes ≡ length commands
+  pub done : AreDone space.sizes (λ n. slice_index_or commands (n - 1) []) 1 passes outs
+  pub drawn : space.drawn ≡ length passes
+  pub ended : space.ended ≡ map (λ p. ended_as p.view) passes

@@ -1,0 +1,19 @@
+//! What may hold a session back between its calls.
+
+use ib_rule::Pass;
+use std::sync::Wait;
+
+/// What is called before each call of a session, and once after the last one. It may hold the session back, and look at
+/// its pass. It has no meaning of its own.
+pub trait Gate {
+    /// Before the call of this number, counted from 1, of the session, or after the last one with the next number.
+    fn pause<R: Wait>(&self, rt: &R, pass: &Pass, session: u32, call: u32);
+}
+
+/// The gate that returns at once.
+#[derive(Clone, Copy, Debug)]
+pub struct OpenGate;
+
+impl Gate for OpenGate {
+    fn pause<R: Wait>(&self, _rt: &R, _pass: &Pass, _session: u32, _call: u32) {}
+}

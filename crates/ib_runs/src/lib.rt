@@ -1,0 +1,17 @@
+//! How the commands of a script's sessions are run: each session as work of its own, on one shared index.
+#![tactic(auto)]
+
+mod gate;
+mod ran;
+mod script_run;
+mod session;
+mod session_out;
+#[cfg(test)]
+mod tests;
+mod turns;
+
+pub use gate::{Gate, OpenGate};
+pub use ran::Ran;
+pub use script_run::run_script;
+pub use session::run_session;
+pub use session_out::SessionOut;

@@ -1,0 +1,85 @@
+//! What a script's sessions came to, read off the closed space.
+
+ghost use Rattle.std.specs.Prelude.{◌≡◌, ◌<◌, ◌^◌, ℕ, List, [], IfOk, true, length, slice_index, slice_index_or};
+ghost use Rattle.ib_map.specs.Space.{has_pages};
+ghost use Rattle.ib_map.specs.declared.TheConstants.{PAGE_WORDS};
+ghost use Rattle.ib_layout.specs.Places.{page_place};
+ghost use Rattle.ib_logrec.specs.declared.entry.Entry.{Entry};
+ghost use Rattle.ib_logrec.specs.Law.{AreInGrammar};
+ghost use Rattle.ib_logrec.specs.Log.{history_of, log_words};
+ghost use Rattle.ib_runs.specs.Outcomes.{HasLog, IsReadOff};
+
+use crate::session_out::SessionOut;
+use ib_kept::KeptLaw;
+use ib_layout::Geometry;
+use ib_logrec::head_at;
+use ib_map::{LoggedChange, OutOfMemory, PAGE_WORDS, PlainMap};
+use ib_page::Image;
+use ib_rule::Closed;
+use ib_tree::{Trees, content_of};
+use std::alloc::Global;
+
+/// What a script's sessions came to: what each was answered, that of session n at place n - 1, and what is read off the
+/// closed space, the changes of its log and the pairs of its tree. Its words are there too.
+#[derive(Drop)]
+pub struct Ran {
+    pub sessions: Vec<SessionOut>,
+    pub history: Vec<LoggedChange>,
+    pub map: PlainMap,
+    pub closed: Closed,
+}
+
+// The changes of a log's words, in a space of so many pages.
+fn history_in(alloc: Global, words: &[u64], pages: u32) -> Result<Vec<LoggedChange>, OutOfMemory>
+    requires few_words { length words.now < 2 ^ 32 }
+    requires pages { has_pages pages ≡ true }
+    requires spelled { (log : List Entry) × AreInGrammar pages log × (words.now ≡ log_words log) }
+    ensures { (log : List Entry) → AreInGrammar pages log → words.now ≡ log_words log
+        → IfOk result (λ history. history.items ≡ history_of log) }
+{
+    let mut history = Vec::new(alloc);
+    let mut place = 0;
+    while (place as usize) < words.len() {
+        let Ok((head, next)) = head_at(words, place, pages) else {
+            unreachable!()
+        };
+        history.push(head.logged())?;
+        place = next;
+    }
+    Ok(history)
+}
+
+// The images of the pages of a closed space.
+fn images_of(alloc: Global, closed: &Closed, pages: u32) -> Result<Vec<Image>, OutOfMemory>
+    requires { pages ≡ closed.now.sizes.pages }
+    ensures size { IfOk result (λ images. length images.items ≡ pages) }
+    ensures words { IfOk result (λ images. (page index : ℕ) → page < pages → index < PAGE_WORDS
+        → slice_index (slice_index_or images.items page []) index
+        ≡ slice_index closed.now.words (page_place closed.now.sizes page index)) }
+{
+    let mut images = Vec::new(alloc);
+    for page in 0..pages {
+        images.push(closed.page(page))?;
+    }
+    Ok(images)
+}
+
+// The changes of the log of a closed space, and the pairs of its tree, of which page 1 is the root.
+pub(crate) fn read_off(
+    alloc: Global,
+    closed: &Closed,
+    sizes: Geometry,
+) -> Result<(Vec<LoggedChange>, PlainMap), OutOfMemory>
+    requires sizes { closed.now.sizes ≡ sizes }
+    requires log { (log : List Entry) × HasLog sizes closed.now.words log }
+    ensures { (log : List Entry) → HasLog sizes closed.now.words log
+        → IfOk result (λ found. IsReadOff sizes log found.0.items found.1) }
+{
+    KeptLaw::trees_law();
+    let pages = sizes.pages();
+    let _ = sizes.log_words();
+    let history = history_in(alloc, closed.log(), pages)?;
+    let images = images_of(alloc, closed, pages)?;
+    let map = content_of(alloc, images.as_slice(), 1)?;
+    Ok((history, map))
+}

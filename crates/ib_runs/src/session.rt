@@ -1,0 +1,178 @@
+//! A session's commands, one after another.
+
+ghost use Rattle.std.specs.Prelude.{◌≡◌, ◌≤◌, ◌+◌, ◌^◌, [], true, length, OnOk};
+ghost use Rattle.ib_core.specs.Sessions.{idle};
+ghost use Rattle.ib_kept.specs.Kept.{IsKeptLog};
+ghost use Rattle.ib_rule.specs.Pass.{IsOf};
+ghost use Rattle.ib_rule.specs.Views.{no_grants, total};
+ghost use Rattle.ib_cursor.specs.Going.{IsKnown};
+ghost use Rattle.ib_runs.specs.Answers.{IsWhole, answers_of, no_answers};
+ghost use Rattle.ib_runs.specs.Sessions.{AreFew, HasAnswered, IsAtRest};
+ghost use Rattle.ib_runs.specs.Steps.{HasOneMore, HasReadKeys, KeptLaws, most_grants, most_scan_grants};
+
+use crate::gate::Gate;
+use crate::session_out::SessionOut;
+use ib_index::Index;
+use ib_kept::KeptLaw;
+use ib_map::{Call, Chunks, Key, OutOfMemory, Record, Reply, is_below};
+use ib_rule::Pass;
+use ib_scan::scan;
+use ib_tree::Trees;
+use std::sync::Wait;
+
+/// How many chunks each call of a scan has room for.
+pub const SCAN_CHUNKS: usize = 64;
+
+/// .. and how many pairs: more than so many leaves have, so that it is chunk places that a call lacks.
+pub const SCAN_PAIRS: usize = 4096;
+
+const _: () = prove!(SCAN_CHUNKS == 64 && SCAN_PAIRS == 4096);
+
+// What kept logs say of the tree of the index.
+fn laws_of(index: &Index)
+    ensures { KeptLaws index.now.sizes }
+{
+    KeptLaw::trees_law();
+    let sizes = index.latches().space().geometry();
+    let _ = sizes.pages();
+    let _ = sizes.log_words();
+}
+
+// Appends the chunks from `low` to `high`, by as many calls as it takes: each begins where the one before had no room.
+// From a key to a lower one there is none, and nothing is looked at.
+fn read_all<R: Wait>(
+    rt: &R,
+    index: &Index,
+    pass: &mut Pass,
+    low: Key,
+    high: Key,
+    chunks: &mut Chunks,
+) -> Result<(), OutOfMemory>
+    requires rest { IsAtRest index.now pass.old }
+    requires known { IsKnown index.now.sizes (IsKeptLog index.now.sizes.pages) pass.old }
+    requires few { total pass.old.view.grants + most_scan_grants ≤ 2 ^ 52 }
+    requires room { chunks.old.chunk_room ≤ SCAN_CHUNKS }
+    ensures rest { IsAtRest index.now pass.new }
+    ensures number { pass.new.number ≡ pass.old.number }
+    ensures room { chunks.new.chunk_room ≤ SCAN_CHUNKS }
+    ensures read { OnOk result (HasReadKeys index.now.sizes low high chunks.old chunks.new pass.old pass.new) }
+{
+    if is_below(high, low) {
+        return Ok(());
+    }
+    laws_of(index);
+    let mut next = low;
+    loop {
+        chunks.reserve(SCAN_CHUNKS, SCAN_PAIRS)?;
+        match scan(rt, index.latches(), pass, next, high, chunks) {
+            Ok(_) => return Ok(()),
+            Err(more) => next = more.next,
+        }
+    }
+}
+
+// A scan, by the chunks that it has appended.
+fn answer_scan<R: Wait>(
+    rt: &R,
+    index: &Index,
+    pass: &mut Pass,
+    low: Key,
+    high: Key,
+    out: &mut SessionOut,
+) -> Result<(), OutOfMemory>
+    requires rest { IsAtRest index.now pass.old }
+    requires known { IsKnown index.now.sizes (IsKeptLog index.now.sizes.pages) pass.old }
+    requires few { total pass.old.view.grants + most_scan_grants ≤ 2 ^ 52 }
+    requires room { out.old.chunks.chunk_room ≤ SCAN_CHUNKS }
+    requires whole { IsWhole out.old }
+    ensures rest { IsAtRest index.now pass.new }
+    ensures number { pass.new.number ≡ pass.old.number }
+    ensures room { out.new.chunks.chunk_room ≤ SCAN_CHUNKS }
+    ensures more { OnOk result (HasOneMore index.now.sizes (Call.Scan low high) out.old out.new pass.old pass.new) }
+{
+    laws_of(index);
+    let before = out.chunks.list().len();
+    let pairs_before = out.chunks.pairs().len();
+    read_all(rt, index, pass, low, high, &mut out.chunks)?;
+    // There are fewer than 2^32 of either.
+    let _ = out.chunks.room();
+    out.records.push(Record {
+        call: Call::Scan { low, high },
+        reply: Reply::Scanned {
+            chunks: (out.chunks.list().len() - before) as u32,
+            pairs: (out.chunks.pairs().len() - pairs_before) as u32,
+        },
+        place: pass.place(),
+    })?;
+    Ok(())
+}
+
+// One command.
+fn answer<R: Wait>(
+    rt: &R,
+    index: &Index,
+    pass: &mut Pass,
+    call: Call,
+    out: &mut SessionOut,
+) -> Result<(), OutOfMemory>
+    requires rest { IsAtRest index.now pass.old }
+    requires known { IsKnown index.now.sizes (IsKeptLog index.now.sizes.pages) pass.old }
+    requires few { total pass.old.view.grants + most_grants call ≤ 2 ^ 52 }
+    requires room { out.old.chunks.chunk_room ≤ SCAN_CHUNKS }
+    requires whole { IsWhole out.old }
+    ensures rest { IsAtRest index.now pass.new }
+    ensures number { pass.new.number ≡ pass.old.number }
+    ensures room { out.new.chunks.chunk_room ≤ SCAN_CHUNKS }
+    ensures more { OnOk result (HasOneMore index.now.sizes call out.old out.new pass.old pass.new) }
+{
+    let record = match call {
+        Call::Get { key } => index.get(rt, pass, key),
+        Call::Insert { key, value } => index.insert(rt, pass, key, value),
+        Call::Delete { key } => index.delete(rt, pass, key),
+        Call::Scan { low, high } => return answer_scan(rt, index, pass, low, high, out),
+    };
+    out.records.push(record)?;
+    Ok(())
+}
+
+/// Answers the commands of a session, one after another, with the gate before each and after the last. Each call is one
+/// on the shared index, and a scan takes as many as its chunks need, each with room for `SCAN_CHUNKS` chunks and
+/// `SCAN_PAIRS` pairs: it goes on where the last one had no room (row0sel, `row_search_mvcc`). No call is refused for the
+/// count of grants.
+///
+/// Refused for want of memory alone. Then too the session holds nothing, but nothing is said of `out`.
+pub fn run_session<G: Gate, R: Wait>(
+    rt: &R,
+    index: &Index,
+    pass: &mut Pass,
+    commands: &[Call],
+    gate: &G,
+    out: &mut SessionOut,
+) -> Result<(), OutOfMemory>
+    requires own { IsOf index.now pass.old }
+    requires idle { pass.old.view.session ≡ idle }
+    requires scratch { pass.old.has_scratch ≡ true }
+    requires nothing_seen { pass.old.view.memory.seen ≡ [] }
+    requires nothing_made { pass.old.view.memory.own ≡ [] }
+    requires no_grants { pass.old.view.grants ≡ no_grants }
+    requires few { AreFew commands.now }
+    requires empty { out.old ≡ no_answers }
+    ensures own { IsOf index.now pass.new }
+    ensures idle { pass.new.view.session ≡ idle }
+    ensures scratch { pass.new.has_scratch ≡ true }
+    ensures number { pass.new.number ≡ pass.old.number }
+    ensures answered { OnOk result (HasAnswered index.now.sizes commands.now (answers_of out.new) pass.old pass.new) }
+    ensures whole { OnOk result (IsWhole out.new) }
+{
+    // The pages of the index have their number.
+    laws_of(index);
+    let session = pass.number();
+    let mut number = 0;
+    for call in commands {
+        number += 1;
+        gate.pause(rt, pass, session, number);
+        answer(rt, index, pass, *call, out)?;
+    }
+    gate.pause(rt, pass, session, number + 1);
+    Ok(())
+}

@@ -1,0 +1,163 @@
+//! The turns of all sessions: each comes, has its commands answered beside all others, and goes.
+
+ghost use Rattle.std.specs.Prelude.{◌≡◌, ◌≤◌, ◌<◌, ◌+◌, ◌∷◌, ◌++◌, ℕ, [], All, IfSome, Some, true, length, map, slice_index_or};
+ghost use Rattle.ib_script.specs.Script.{IsSmall};
+ghost use Rattle.ib_rule.specs.Views.{ended_as};
+ghost use Rattle.ib_runs.specs.Sessions.{IsAtRest};
+ghost use Rattle.ib_runs.specs.Turns.{AllDone, AreNumbered, HasTurned, IsReady};
+
+use crate::gate::Gate;
+use crate::session::run_session;
+use crate::session_out::SessionOut;
+use ib_index::Index;
+use ib_rule::Pass;
+use ib_script::Script;
+use std::alloc::Global;
+use std::sync::Wait;
+use std::thread::{self, Threads};
+
+// A session's pass, and what it was answered, once its turn is over and there was memory.
+pub(crate) struct Turn {
+    pub pass: Pass,
+    pub answers: Option<SessionOut>,
+}
+
+fn take_turn<G: Gate, R: Wait>(
+    rt: &R,
+    alloc: Global,
+    index: &Index,
+    script: &Script,
+    gate: &G,
+    turn: &mut Turn,
+)
+    requires small { IsSmall script.now }
+    requires ready { IsReady index.now (length script.now.commands) turn.old.pass }
+    ensures { HasTurned index.now script.now.commands turn.old turn.new }
+{
+    let commands = script.commands(turn.pass.number());
+    let mut out = SessionOut::new(alloc);
+    turn.answers = match run_session(rt, index, &mut turn.pass, commands, gate, &mut out) {
+        Ok(()) => Some(out),
+        Err(_) => None,
+    };
+    // It is the session of its number still.
+    let _ = turn.pass.number();
+}
+
+fn take_turns<G: Gate + Sync, R: Threads + Wait + Sync>(
+    rt: &R,
+    alloc: Global,
+    index: &Index,
+    script: &Script,
+    gate: &G,
+    turns: &mut [Turn],
+)
+    requires small { IsSmall script.now }
+    requires ready { All (λ t. IsReady index.now (length script.now.commands) t.pass) turns.old }
+    ensures { (i : ℕ) (d : Turn) → i < length turns.old → HasTurned index.now script.now.commands (slice_index_or turns.old i d) (slice_index_or turns.new i d) }
+{
+    thread::for_each_mut(
+        rt,
+        turns,
+        64,
+        &|_: usize, turn: &mut Turn|
+            requires { IsSmall script.now × IsReady index.now (length script.now.commands) turn.old.pass }
+            ensures { HasTurned index.entry.now script.entry.now.commands turn.old turn.new }
+        { take_turn(rt, alloc, index, script, gate, turn) },
+    );
+}
+
+// The same over a list: what a slice writes back into a list is said here once.
+fn turn_all<G: Gate + Sync, R: Threads + Wait + Sync>(
+    rt: &R,
+    alloc: Global,
+    index: &Index,
+    script: &Script,
+    gate: &G,
+    turns: &mut Vec<Turn>,
+)
+    requires small { IsSmall script.now }
+    requires ready { All (λ t. IsReady index.now (length script.now.commands) t.pass) turns.old.items }
+    ensures len { length turns.new.items ≡ length turns.old.items }
+    ensures turned { (i : ℕ) (d : Turn) → i < length turns.old.items → HasTurned index.now script.now.commands (slice_index_or turns.old.items i d) (slice_index_or turns.new.items i d) }
+{
+    take_turns(rt, alloc, index, script, gate, turns.as_mut_slice());
+}
+
+// Turns for the sessions 1 to `count`, or for as many as there was memory for.
+fn come_all(alloc: Global, index: &mut Index, count: u32) -> Vec<Turn>
+    requires few { count ≤ 64 }
+    requires new { (index.old.drawn ≡ 0) × (index.old.ended ≡ []) }
+    ensures space { index.new ≡ record index.old { drawn = length result.items } }
+    ensures few { length result.items ≤ count }
+    ensures numbered { AreNumbered 1 (map (λ t. t.pass) result.items) }
+    ensures ready { All (λ t. IsReady index.old count t.pass) result.items }
+{
+    let mut turns = Vec::new(alloc);
+    for before in 0..count {
+        let _ = before;
+        if turns.reserve(1).is_err() {
+            break;
+        }
+        match index.connect(alloc) {
+            Ok(pass) => turns.push_reserved(Turn {
+                pass,
+                answers: None,
+            }),
+            Err(_) => break,
+        }
+    }
+    turns
+}
+
+// Puts a session's answers in front of the others. It says whether there were any, and memory for them.
+fn put_first(outs: &mut Vec<SessionOut>, answers: Option<SessionOut>) -> bool
+    ensures { result ≡ true → map Some outs.new.items ≡ answers ∷ map Some outs.old.items }
+{
+    match answers {
+        Some(answers) => outs.insert(0, answers).is_ok(),
+        None => false,
+    }
+}
+
+// All sessions end. The answers are those of all, in order, or none where one of them wants.
+fn leave_all(alloc: Global, index: &mut Index, mut turns: Vec<Turn>) -> Option<Vec<SessionOut>>
+    requires { All (λ t. IsAtRest index.old t.pass) turns.items }
+    ensures space { index.new ≡ record index.old {
+      ended = map (λ t. ended_as t.pass.view) turns.items ++ index.old.ended;
+    } }
+    ensures all { IfSome result (λ outs. map (λ t. t.answers) turns.items ≡ map Some outs.items) }
+{
+    let mut outs = Vec::new(alloc);
+    let mut whole = true;
+    while let Some(turn) = turns.pop() {
+        let Turn { pass, answers } = turn;
+        index.disconnect(pass);
+        whole &= put_first(&mut outs, answers);
+    }
+    turns.destroy_empty();
+    if whole { Some(outs) } else { None }
+}
+
+// All sessions of a script on a new index, up to its end. None where there was no memory for one of them.
+pub(crate) fn run_all<G: Gate + Sync, R: Threads + Wait + Sync>(
+    rt: &R,
+    alloc: Global,
+    index: &mut Index,
+    script: &Script,
+    gate: &G,
+) -> Option<Vec<SessionOut>>
+    requires small { IsSmall script.now }
+    requires new { (index.old.drawn ≡ 0) × (index.old.ended ≡ []) }
+    ensures sizes { index.new.sizes ≡ index.old.sizes }
+    ensures done { IfSome result (λ outs. AllDone script.now.commands outs.items index.new) }
+{
+    let count = script.sessions();
+    let mut turns = come_all(alloc, index, count);
+    if turns.len() < count as usize {
+        let _ = leave_all(alloc, index, turns);
+        return None;
+    }
+    turn_all(rt, alloc, index, script, gate, &mut turns);
+    leave_all(alloc, index, turns)
+}

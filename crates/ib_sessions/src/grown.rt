@@ -1,0 +1,111 @@
+//! One session on a tree that grows: leaves are split, the root is raised, and in the end no page is free.
+
+ghost use Rattle.std.specs.Prelude.{◌≡◌, true};
+ghost use Rattle.ib_core.specs.Sessions.{idle};
+ghost use Rattle.ib_rule.specs.Pass.{IsOf};
+
+use crate::pages::{check_page, close, free_pages, leaf, node};
+use crate::rows::{insert_up_to, inserted};
+use crate::space::{come, delete, insert, open, scan_keys};
+use ib_index::Index;
+use ib_map::{Call, Chunk, Chunks, Record, Reply};
+use ib_rule::Pass;
+use ib_scan::More;
+use std::process::Abort;
+use std::sync::Wait;
+
+// A scan of this part that finds one chunk, at this place.
+fn scanned(low: u64, high: u64, pairs: u32, place: u32) -> Record {
+    Record {
+        call: Call::Scan { low, high },
+        reply: Reply::Scanned { chunks: 1, pairs },
+        place,
+    }
+}
+
+#[test]
+fn a_full_root_becomes_a_node(rt: HostRuntime) {
+    let mut index = open(&rt, rt.alloc(), 16384);
+    let mut one = come(&rt, rt.alloc(), &mut index);
+    insert_up_to(&rt, &index, &mut one, 36);
+    let taken = one.grants();
+    assert_eq!(rt; taken.sx, 1);
+    index.disconnect(one);
+    let closed = close(&rt, rt.alloc(), index);
+    check_page(
+        &rt,
+        &closed,
+        1,
+        &node(&rt, 36, [(0, 2), (19, 3)].as_slice()),
+    );
+    check_page(&rt, &closed, 2, &leaf(&rt, 1, 0, 3, 1, 18));
+    check_page(&rt, &closed, 3, &leaf(&rt, 1, 2, 0, 19, 36));
+    assert_eq!(rt; free_pages(&closed), 12);
+}
+
+#[test]
+fn a_scan_goes_on_where_it_stopped(rt: HostRuntime) {
+    let mut index = open(&rt, rt.alloc(), 16384);
+    let mut one = come(&rt, rt.alloc(), &mut index);
+    insert_up_to(&rt, &index, &mut one, 36);
+    let mut out = Chunks::with_room(rt.alloc(), 1, 4).expect(&rt, "there is memory");
+    assert_eq!(rt;
+        scan_keys(&rt, &index, &mut one, 1, 36, &mut out),
+        Err(More { next: 1 })
+    );
+    assert!(rt; out.list().is_empty());
+    out.reserve(1, 18).expect(&rt, "there is memory");
+    assert_eq!(rt;
+        scan_keys(&rt, &index, &mut one, 1, 36, &mut out),
+        Err(More { next: 19 })
+    );
+    out.reserve(1, 18).expect(&rt, "there is memory");
+    assert_eq!(rt;
+        scan_keys(&rt, &index, &mut one, 19, 36, &mut out),
+        Ok(scanned(19, 36, 18, 36))
+    );
+    let first = Chunk {
+        low: 1,
+        high: 18,
+        place: 36,
+        start: 0,
+        len: 18,
+    };
+    let second = Chunk {
+        low: 19,
+        high: 36,
+        place: 36,
+        start: 18,
+        len: 18,
+    };
+    assert_eq!(rt; out.list(), [first, second].as_slice());
+    assert_eq!(rt; out.pairs().len(), 36);
+    assert_eq!(rt; out.pairs().last().copied(), Some((36, 36)));
+    index.disconnect(one);
+    index.discard();
+}
+
+#[test]
+fn a_space_gets_full(rt: HostRuntime) {
+    let mut index = open(&rt, rt.alloc(), 16_777_216);
+    let mut one = come(&rt, rt.alloc(), &mut index);
+    insert_up_to(&rt, &index, &mut one, 269);
+    let full = Record {
+        call: Call::Insert {
+            key: 270,
+            value: 270,
+        },
+        reply: Reply::SpaceFull { free: 0, need: 1 },
+        place: 269,
+    };
+    assert_eq!(rt; insert(&rt, &index, &mut one, 270, 270), full);
+    let deleted = Record {
+        call: Call::Delete { key: 1 },
+        reply: Reply::Deleted { value: 1 },
+        place: 269,
+    };
+    assert_eq!(rt; delete(&rt, &index, &mut one, 1), deleted);
+    assert_eq!(rt; insert(&rt, &index, &mut one, 1, 5), inserted(1, 5, 270));
+    index.disconnect(one);
+    index.discard();
+}
