@@ -1,0 +1,224 @@
+"""Judges what the program printed of a run: whether its log is one legal history of a sorted map, each reply what that map
+answers at its place, and each session's changes in the log once and in order.
+
+This stands apart from the definitions that the proofs speak of: it reads the script and the printed text alone, and replays the
+log on a dictionary and a sorted list of its keys.
+"""
+
+from bisect import bisect_left, bisect_right, insort
+from collections import defaultdict
+
+GREATEST = 2**64 - 1
+ENTRY_WORDS = 8_196
+
+
+class Wrong(Exception):
+    """What is wrong with the output."""
+
+
+def need(holds, what):
+    if not holds:
+        raise Wrong(what)
+
+
+def commands_of(script):
+    """The sizes, and the commands of each session, as the script's lines have them."""
+    sizes = (4096, 16_777_216)
+    session, commands = 1, defaultdict(list)
+    for line in script.split("\n"):
+        if not line or line[0] == "#":
+            continue
+        word, _, rest = line.partition(" ")
+        if word == "session":
+            session = int(rest)
+        elif word == "space":
+            pages, log_words = rest.split(" ")
+            sizes = (int(pages), int(log_words))
+        else:
+            commands[session].append(line)
+    return sizes, commands
+
+
+class Output:
+    """The lines of an output, taken one after another."""
+
+    def __init__(self, text):
+        need(text.endswith("\n"), "the last line does not end")
+        self.lines = text.split("\n")
+        self.lines.pop()
+        self.at = 0
+
+    def take(self):
+        need(self.at < len(self.lines), "the output ends too early")
+        self.at += 1
+        return self.lines[self.at - 1]
+
+    def starts(self, word):
+        return self.at < len(self.lines) and self.lines[self.at].startswith(word)
+
+    def part(self, word):
+        """The lines of a part that begins with a word and how many lines follow."""
+        head = self.take().split(" ")
+        need(len(head) == 2 and head[0] == word, f"no part `{word}`")
+        count = int(head[1])
+        lines = self.lines[self.at : self.at + count]
+        need(len(lines) == count, f"the part `{word}` is too short")
+        self.at += count
+        return lines
+
+
+class Run:
+    """What is kept while a run is judged: what must hold at each place of the log."""
+
+    def __init__(self, sizes):
+        self.pages, self.log_words = sizes
+        self.log = []
+        self.at = defaultdict(list)  # by place: what must hold of the map there
+        self.made = defaultdict(list)  # by session: its changes, each with its place
+        self.full = {}  # by place: the words of the log that a refusal told there
+
+    def ask(self, place, what):
+        need(0 <= place <= len(self.log), f"place {place} is behind the log")
+        self.at[place].append(what)
+
+    def log_full(self, place, used, cap):
+        need(cap == self.log_words, "another log's words")
+        need(used + ENTRY_WORDS > cap, "the log had room")
+        need(self.full.setdefault(place, used) == used, "two counts of words at one place")
+
+    def changed(self, session, command, place, reach):
+        """A record of an insert or a delete that made its change."""
+        need(place >= reach and place < len(self.log), f"no entry at {place}")
+        self.made[session].append((place, command))
+        return place + 1
+
+
+def scan_lines(run, output, session, command, count, reach):
+    """The chunks of a scan: from its low key to its high key, at places that never fall, none before what was seen."""
+    _, low, high = command.split(" ")
+    low, high = int(low), int(high)
+    start, place, pairs = low, reach, 0
+    while output.starts("from "):
+        _, first, _, last, _, at = output.take().split(" ")
+        first, last, at = int(first), int(last), int(at)
+        need(first == start and first <= last <= high, f"a chunk of `{command}` begins at {first}")
+        need(at >= place, f"a chunk of `{command}` stands before another")
+        found = []
+        while output.starts("pair "):
+            _, key, value = output.take().split(" ")
+            found.append((int(key), int(value)))
+        run.ask(at, ("cut", first, last, found))
+        start, place, pairs = last + 1, at, pairs + len(found)
+    need(start == high + 1 if low <= high else start == low, f"the chunks of `{command}` end at {start}")
+    need(pairs == count, f"`{command}` counts {count} of {pairs} pairs")
+    return place
+
+
+def reply_line(run, session, command, reply, place, reach):
+    """A record of any other call."""
+    need(place >= reach, f"`{command}` stands before what session {session} had seen")
+    words = command.split(" ")
+    key = int(words[1])
+    if words[0] == "get":
+        run.ask(place, ("value", key, None if reply == "none" else int(reply)))
+        return place
+    if words[0] == "insert":
+        if reply == "inserted":
+            return run.changed(session, command, place, reach)
+        if reply == "duplicate":
+            run.ask(place, ("there", key))
+            return place
+    else:
+        if reply.startswith("deleted "):
+            run.ask(place, ("value", key, int(reply[8:])))
+            return run.changed(session, command, place, reach)
+        if reply == "missing":
+            run.ask(place, ("value", key, None))
+            return place
+    told = reply.split(" ")
+    if told[:3] == ["log", "full", "used"]:
+        run.log_full(place, int(told[3]), int(told[5]))
+        run.ask(place, ("value", key, None) if words[0] == "insert" else ("there", key))
+        return place
+    need(words[0] == "insert", f"`{reply}` to `{command}`")
+    run.ask(place, ("value", key, None))
+    if told[:3] == ["space", "full", "free"]:
+        need(int(told[3]) < int(told[5]) <= 8, f"`{reply}`")
+        need(int(told[3]) <= run.pages - 2, f"`{reply}`")
+    else:
+        need(reply == "too high", f"`{reply}`")
+    return place
+
+
+def session_part(run, output, session, commands):
+    need(output.take() == f"session {session}", f"no part of session {session}")
+    reach = 0
+    for command in commands:
+        line = output.take()
+        need(line.startswith(command + " -> "), f"`{line}` does not answer `{command}`")
+        reply = line[len(command) + 4 :]
+        if command.startswith("scan "):
+            count, _, word = reply.partition(" ")
+            need(word == "pairs", f"`{line}`")
+            reach = scan_lines(run, output, session, command, int(count), reach)
+        else:
+            reply, _, place = reply.rpartition(" at ")
+            reach = reply_line(run, session, command, reply, int(place), reach)
+
+
+def holds(values, keys, what):
+    if what[0] == "value":
+        return values.get(what[1]) == what[2]
+    if what[0] == "there":
+        return what[1] in values
+    low, high, found = what[1:]
+    part = keys[bisect_left(keys, low) : bisect_right(keys, high)]
+    return found == [(key, values[key]) for key in part]
+
+
+def replay(run, scans):
+    """The log is a legal history, and what must hold at each place does."""
+    values, keys = {}, []
+    numbers, made = defaultdict(int), defaultdict(list)
+    for place in range(len(run.log) + 1):
+        for what in run.at.get(place, ()):
+            need(holds(values, keys, what), f"at {place}: {what}")
+        if place == len(run.log):
+            break
+        session, number, command = run.log[place].split(" ", 2)
+        session = int(session)
+        numbers[session] += 1
+        need(int(number) == numbers[session], f"entry {place} has the number {number}")
+        made[session].append((place, command))
+        words = command.split(" ")
+        key = int(words[1])
+        if words[0] == "insert":
+            need(key not in values, f"entry {place} puts {key} in again")
+            values[key] = int(words[2])
+            if scans:
+                insort(keys, key)
+        else:
+            need(words[0] == "delete" and values.pop(key, None) is not None, f"entry {place} takes {key} out of nothing")
+            if scans:
+                del keys[bisect_left(keys, key)]
+    need(made == run.made, "the log's entries are not the sessions' changes")
+    return values
+
+
+def judge(script, text):
+    """Raises Wrong where the text is no output of the script. Answers how many entries the log has, and how many replies refused."""
+    sizes, commands = commands_of(script)
+    output = Output(text)
+    run = Run(sizes)
+    log_at = max(i for i, line in enumerate(output.lines) if line.startswith("log "))
+    output.at, log_at = log_at, 0
+    run.log = output.part("log")
+    pairs = output.part("map")
+    need(output.at == len(output.lines), "lines behind the map")
+    output.at = 0
+    for session in sorted(commands):
+        session_part(run, output, session, commands[session])
+    need(output.starts("log "), "lines before the log")
+    values = replay(run, any(what[0] == "cut" for asked in run.at.values() for what in asked))
+    need(pairs == [f"{key} {values[key]}" for key in sorted(values)], "the map is not what the log makes")
+    return len(run.log)
