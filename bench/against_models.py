@@ -2,8 +2,10 @@
 """Compares the program with small models of its forms, on random inputs, good ones and bad ones.
 
 The models stand apart from the definitions: scripts on a dictionary, events on latches that keep who holds them, logs
-by their table, with a walk of the whole tree after each entry. The proofs say that the program answers as the definitions do; this tries whether they say what was
-meant. Words: how many inputs of each form (2,000 if none), and a seed (57). The first difference is printed, with the
+by their table, with a walk of the whole tree after each entry. What a script of several sessions prints is no function of the
+script: judge.py judges it, and what is refused for a full log or a full space too. What `raw` writes of it must replay, and what
+`gen` counts must be what the sessions' keys give. The proofs say that the program answers as the definitions do; this tries whether they
+say what was meant. Words: how many inputs of each form (2,000 if none), and a seed (57). The first difference is printed, with the
 input in a file, and the status is then 1.
 """
 
@@ -13,6 +15,7 @@ import subprocess
 import sys
 import tempfile
 
+from judge import Wrong, judge
 from tree_logs import FORM, WORDS, Tree, entry_words, file_of, new_space
 
 TOP = os.path.dirname(os.path.dirname(os.path.abspath(__file__)))
@@ -98,6 +101,7 @@ def log_and_map(log, pairs):
 
 
 def run(data):
+    """The status and the text; of a good script only what it prints where one session has commands and nothing gets full."""
     sessions, now, is_first = {}, 1, True
     for count, line in lines(data):
         try:
@@ -577,31 +581,114 @@ def some_log(dice):
     return bytes(data[: dice.randrange(len(data) + 1)] if not dice.randrange(10) else data)
 
 
+# The program beside them.
+
+
+def answer(words, data):
+    ran = subprocess.run([PROGRAM, *words], input=data, stdout=subprocess.PIPE, timeout=300)
+    return ran.returncode, ran.stdout
+
+
+def differ(form, data, why):
+    with tempfile.NamedTemporaryFile(prefix="input-", delete=False) as file:
+        file.write(data)
+    print(f"{form} < {file.name}: {why}")
+    sys.exit(1)
+
+
+def same(form, data, found, wanted):
+    """Ends where the program and the model answer otherwise."""
+    if found != wanted:
+        lines = zip(found[1].decode("latin-1").split("\n"), wanted[1].decode("latin-1").split("\n"))
+        first = next((f"; it prints {ours!r} for {theirs!r}" for ours, theirs in lines if ours != theirs), "")
+        differ(form, data, f"the program ends with {found[0]}, the model with {wanted[0]}{first}")
+
+
 def compare(form, model, make, dice, count):
     """How many inputs were answered and how many refused; ends at the first that the two answer otherwise."""
     refusals = 0
     for _ in range(count):
         data = make(dice)
         status, text = model(data)
-        ran = subprocess.run([PROGRAM, form], input=data, stdout=subprocess.PIPE)
-        if (ran.returncode, ran.stdout) != (status, text.encode()):
-            with tempfile.NamedTemporaryFile(prefix="input-", delete=False) as file:
-                file.write(data)
-            print(f"{form} < {file.name}: the program ends with {ran.returncode}, the model with {status}")
-            for ours, theirs in zip(ran.stdout.decode().split("\n"), text.split("\n")):
-                if ours != theirs:
-                    print(f"the program prints {ours!r}\nthe model prints {theirs!r}")
-                    break
-            sys.exit(1)
+        same(form, data, answer([form], data), (status, text.encode()))
         refusals += status != 0
     print(f"{form}: {count} inputs, {refusals} of them refused: the same")
+
+
+def is_told_full(text):
+    return any(b" -> log full " in line or b" -> space full " in line for line in text.split(b"\n"))
+
+
+def compare_scripts(dice, count):
+    """The form `run`, and what `raw` writes of the same scripts."""
+    refusals, alone, full = 0, 0, 0
+    for _ in range(count):
+        data = some_script(dice)
+        status, text = run(data)
+        found = answer(["run"], data)
+        if status != 0:
+            same("run", data, found, (status, text.encode()))
+            same("raw", data, answer(["raw"], data), (status, text.encode()))
+            refusals += 1
+            continue
+        try:
+            judge(data.decode("latin-1"), found[1].decode("latin-1"))
+        except Wrong as wrong:
+            differ("run", data, wrong)
+        full += is_told_full(found[1])
+        is_alone = text.count("session ") < 2 and not is_told_full(found[1])
+        alone += is_alone
+        if is_alone:
+            same("run", data, found, (0, text.encode()))
+        status, log = answer(["raw"], data)
+        if status != 0 or replay(log)[0] != 0:
+            differ("raw", data, "what is written is no log")
+        if is_alone:
+            same("raw, replayed", data, answer(["replay"], log), (0, text[text.rindex("log ") :].encode()))
+    print(f"run, raw: {count} inputs, {refusals} of them refused; {alone} of one session the same, {full} with a full log or space, no difference")
+
+
+def some_load(dice):
+    commands = dice.choice([1, 2, 7, dice.randrange(1, 400), dice.randrange(1, 3_000)])
+    return commands, dice.choice([0, 1, 7, 2**32 - 1, dice.randrange(2**32)]), dice.choice([1, 2, 64, dice.randrange(1, 65)])
+
+
+def counted(commands, seed, sessions):
+    """What `gen` prints: no key is another session's, so each session's replies are its own."""
+    counts = dict.fromkeys(("inserted", "duplicate", "deleted", "missing", "found", "none", "refused"), 0)
+    left = 0
+    for session in range(1, sessions + 1):
+        mine = commands // sessions + (session <= commands % sessions)
+        keys = [(turn * 40503 + seed) % 65536 * 64 + session - 1 for turn in range(mine)]
+        pairs = set()
+        for turn in range(mine // 2):
+            counts["duplicate" if keys[turn] in pairs else "inserted"] += 1
+            pairs.add(keys[turn])
+        for turn in range(mine - mine // 2):
+            key = keys[turn]
+            if turn % 4 == 3:
+                counts["found" if key in pairs else "none"] += 1
+            else:
+                counts["deleted" if key in pairs else "missing"] += 1
+                pairs.discard(key)
+        left += len(pairs)
+    return "".join(f"{name} {count}\n" for name, count in counts.items()) + f"map {left}\n"
+
+
+def compare_loads(dice, count):
+    for _ in range(count):
+        load = some_load(dice)
+        words = ["gen", *map(str, load)]
+        same(" ".join(words), b"", answer(words, b"not read"), (0, counted(*load).encode()))
+    print(f"gen: {count} loads: the same")
 
 
 def main():
     count = int(sys.argv[1]) if len(sys.argv) > 1 else 2000
     dice = random.Random(int(sys.argv[2]) if len(sys.argv) > 2 else 57)
     subprocess.run([WRAPPER, "run"], stdin=subprocess.DEVNULL, stdout=subprocess.DEVNULL, check=True)
-    compare("run", run, some_script, dice, count)
+    compare_scripts(dice, count)
+    compare_loads(dice, count // 10)
     compare("latch", latch, some_events, dice, count)
     compare("replay", replay, some_log, dice, count)
     return 0

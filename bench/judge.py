@@ -86,9 +86,9 @@ class Run:
         need(used + ENTRY_WORDS > cap, "the log had room")
         need(self.full.setdefault(place, used) == used, "two counts of words at one place")
 
-    def changed(self, session, command, place, reach):
-        """A record of an insert or a delete that made its change."""
-        need(place >= reach and place < len(self.log), f"no entry at {place}")
+    def changed(self, session, command, place):
+        """A record of an insert or a delete that made its change. Answers what the session has seen then."""
+        need(place < len(self.log), f"no entry at {place}")
         self.made[session].append((place, command))
         return place + 1
 
@@ -124,14 +124,14 @@ def reply_line(run, session, command, reply, place, reach):
         return place
     if words[0] == "insert":
         if reply == "inserted":
-            return run.changed(session, command, place, reach)
+            return run.changed(session, command, place)
         if reply == "duplicate":
             run.ask(place, ("there", key))
             return place
     else:
         if reply.startswith("deleted "):
             run.ask(place, ("value", key, int(reply[8:])))
-            return run.changed(session, command, place, reach)
+            return run.changed(session, command, place)
         if reply == "missing":
             run.ask(place, ("value", key, None))
             return place
@@ -206,12 +206,11 @@ def replay(run, scans):
 
 
 def judge(script, text):
-    """Raises Wrong where the text is no output of the script. Answers how many entries the log has, and how many replies refused."""
+    """Raises Wrong where the text is no output of the script. Answers how many entries the log has."""
     sizes, commands = commands_of(script)
     output = Output(text)
     run = Run(sizes)
-    log_at = max(i for i, line in enumerate(output.lines) if line.startswith("log "))
-    output.at, log_at = log_at, 0
+    output.at = max((i for i, line in enumerate(output.lines) if line.startswith("log ")), default=len(output.lines))
     run.log = output.part("log")
     pairs = output.part("map")
     need(output.at == len(output.lines), "lines behind the map")

@@ -1,8 +1,8 @@
 #!/usr/bin/env python3
 """Counts the processor instructions of a lookup in trees of one to four pages from the root to the leaf, by callgrind.
 
-The program is lookups_main.txt beside this. It opens a space on pages that are made for it, since no call of a shared table makes
-tall trees yet: under a law of which one clause, what it says of these pages, is taken for true. So it stands in no crate, but is
+The program is lookups_main.txt beside this. It opens a space on pages that are made for it, so that each page of the way is full, which
+no inserts make it: under a law of which one clause, what it says of these pages, is taken for true. So it stands in no crate, but is
 built over a copy of the crates as they stand, with `RT_ALLOW_C=1` for the one foreign function that takes it for true. A copy
 begins with what the checks here have kept.
 """

@@ -30,7 +30,7 @@ ghost use Rattle.ib_index.specs.Calls.{HasCalled};
 ghost use Rattle.ib_index.specs.Leaf.{IsSeated};
 ghost use Rattle.ib_index.specs.Grows.{HasComeToWay, HasGrown, HasTakenNew, IsGrowing, IsReady, IsShort, NeedsPages, TakesAtMost, pages_held, space_pages, tree_pages};
 
-use crate::leaf::changed;
+use crate::leaf::{ROOT, Work, changed};
 use ib_cursor::{descend_to_insert, take};
 use ib_kept::KeptLaw;
 use ib_latch::{Latches, Parkers};
@@ -42,12 +42,6 @@ use ib_plans::TreeFault;
 use ib_rule::Pass;
 use ib_split::{choose_pages, pages_needed, plan_insert};
 use std::sync::Wait;
-
-// A mini-transaction on the pages of kept logs.
-pub(crate) type Work<'a> = Mtr<'a, KeptLaw, Parkers>;
-
-// The page of the first tree's root.
-pub(crate) const ROOT: u32 = 1;
 
 // What the session and its space are told to be by their own types.
 pub(crate) fn be_seated(mtr: &Work<'_>)

@@ -35,10 +35,10 @@ use ib_rule::Pass;
 use std::sync::Wait;
 
 // A mini-transaction on the pages of kept logs.
-type Work<'a> = Mtr<'a, KeptLaw, Parkers>;
+pub(crate) type Work<'a> = Mtr<'a, KeptLaw, Parkers>;
 
 // The page of the first tree's root.
-const ROOT: u32 = 1;
+pub(crate) const ROOT: u32 = 1;
 
 // What a leaf has: the value of the key that is sought, and how many records.
 #[derive(Clone, Copy)]

@@ -17,8 +17,8 @@ ghost use Rattle.ib_index.specs.Calls.{HasCalled};
 ghost use Rattle.ib_index.specs.Grows.{TakesAtMost};
 ghost use Rattle.ib_index.specs.Shrinks.{HasComeToSiblings};
 
-use crate::grow::{ROOT, Work, be_seated, take_space, value_in};
-use crate::leaf::changed;
+use crate::grow::{be_seated, take_space, value_in};
+use crate::leaf::{ROOT, Work, changed};
 use ib_cursor::descend_to_delete;
 use ib_kept::KeptLaw;
 use ib_latch::{Latches, Parkers};

@@ -1,3 +1,8 @@
+mod AloneChunkLaws
+mod AloneLaws
+mod AlonePageLaws
+mod AlonePlaceLaws
+mod AloneReplyLaws
 mod AnswerLaws
 mod ChunkLaws
 mod EndLaws

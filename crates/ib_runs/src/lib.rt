@@ -2,6 +2,7 @@
 #![tactic(auto)]
 
 mod gate;
+mod laws;
 mod ran;
 mod script_run;
 mod session;
@@ -11,6 +12,7 @@ mod tests;
 mod turns;
 
 pub use gate::{Gate, OpenGate};
+pub use laws::alone_law;
 pub use ran::Ran;
 pub use script_run::run_script;
 pub use session::run_session;

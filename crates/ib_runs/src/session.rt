@@ -153,7 +153,6 @@ pub fn run_session<G: Gate, R: Wait>(
     requires idle { pass.old.view.session ≡ idle }
     requires scratch { pass.old.has_scratch ≡ true }
     requires nothing_seen { pass.old.view.memory.seen ≡ [] }
-    requires nothing_made { pass.old.view.memory.own ≡ [] }
     requires no_grants { pass.old.view.grants ≡ no_grants }
     requires few { AreFew commands.now }
     requires empty { out.old ≡ no_answers }
@@ -166,6 +165,8 @@ pub fn run_session<G: Gate, R: Wait>(
 {
     // The pages of the index have their number.
     laws_of(index);
+    // What has seen no entry has made none.
+    let _ = pass.made();
     let session = pass.number();
     let mut number = 0;
     for call in commands {

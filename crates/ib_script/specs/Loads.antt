@@ -1,10 +1,9 @@
 -- What a script may be generated from.
-use Rattle.std.specs.Prelude.{ℕ, ◌^◌, ◌<◌, ◌≤◌}
+use Rattle.std.specs.Prelude.{ℕ, ◌^◌, Bool, ◌&&◌, nat_le, nat_lt}
 use Rattle.ib_edge.specs.declared.line_kind.TheConstants.{MOST_SCRIPT_SESSIONS}
 use Rattle.ib_script.specs.declared.load.TheConstants.{MOST_GENERATED}
 
 -- so many commands in all, a seed, and so many sessions
-pub record IsLoad (commands seed sessions : ℕ) : Type 0 where
-  pub some : (1 ≤ commands) × (commands ≤ MOST_GENERATED)
-  pub seeded : seed < 2 ^ 32
-  pub many : (1 ≤ sessions) × (sessions ≤ MOST_SCRIPT_SESSIONS)
+abbrev pub is_load : ℕ → ℕ → ℕ → Bool
+is_load commands seed sessions =
+    (nat_le 1 commands && nat_le commands MOST_GENERATED) && nat_lt seed (2 ^ 32) && (nat_le 1 sessions && nat_le sessions MOST_SCRIPT_SESSIONS)

@@ -1,9 +1,9 @@
 //! Scripts that are generated.
 
-ghost use Rattle.std.specs.Prelude.{◌≡◌, ◌≤◌, ◌<◌, ◌+◌, ◌/◌, ℕ, IfOk, Some, length, slice_get};
+ghost use Rattle.std.specs.Prelude.{◌≡◌, ◌≤◌, ◌<◌, ◌+◌, ◌/◌, ℕ, IfOk, Some, true, length, slice_get};
 ghost use Rattle.ib_edge.specs.declared.line_kind.TheConstants.{MOST_SCRIPT_SESSIONS};
 ghost use Rattle.ib_script.specs.Generated.{IsGenerated, call_at, key_of, share_of};
-ghost use Rattle.ib_script.specs.Loads.{IsLoad};
+ghost use Rattle.ib_script.specs.Loads.{is_load};
 ghost use Rattle.ib_script.specs.Script.{IsSmall};
 ghost use Rattle.ib_script.specs.declared.load.TheConstants.{MOST_GENERATED};
 
@@ -16,7 +16,7 @@ use std::alloc::{AllocError, Global};
 
 // How many commands a session has.
 fn share_of(load: Load, session: u32) -> u32
-    requires { IsLoad load.commands load.seed load.sessions }
+    requires { is_load load.commands load.seed load.sessions ≡ true }
     ensures share { result ≡ share_of load session }
     ensures few { result ≤ load.commands / load.sessions + 1 }
 {
@@ -35,7 +35,7 @@ fn key_of(load: Load, session: u32, at: u32) -> Key
 
 // A session's command.
 fn call_at(load: Load, session: u32, at: u32) -> Call
-    requires load { IsLoad load.commands load.seed load.sessions }
+    requires load { is_load load.commands load.seed load.sessions ≡ true }
     requires session { 1 ≤ session }
     requires few { session ≤ MOST_SCRIPT_SESSIONS }
     requires at { at < MOST_GENERATED }
@@ -59,7 +59,7 @@ fn call_at(load: Load, session: u32, at: u32) -> Call
 
 // The commands of a session.
 fn generated_calls(alloc: Global, load: Load, session: u32) -> Result<Vec<Call>, AllocError>
-    requires load { IsLoad load.commands load.seed load.sessions }
+    requires load { is_load load.commands load.seed load.sessions ≡ true }
     requires session { 1 ≤ session }
     requires few { session ≤ MOST_SCRIPT_SESSIONS }
     ensures share { IfOk result (λ calls. length calls.items ≡ share_of load session) }
@@ -75,7 +75,7 @@ fn generated_calls(alloc: Global, load: Load, session: u32) -> Result<Vec<Call>,
 /// The script that is generated: each session puts keys of its own in, and comes back to them in the same order, to take three of
 /// four out again and look the fourth up.
 pub fn generate(alloc: Global, load: Load) -> Result<Script, AllocError>
-    requires { IsLoad load.commands load.seed load.sessions }
+    requires { is_load load.commands load.seed load.sessions ≡ true }
     ensures script { IfOk result (IsGenerated load) }
     ensures small { IfOk result IsSmall }
 {

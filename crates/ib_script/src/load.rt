@@ -1,7 +1,7 @@
 //! What a script is generated from.
 
-ghost use Rattle.std.specs.Prelude.{SomeIff};
-ghost use Rattle.ib_script.specs.Loads.{IsLoad};
+ghost use Rattle.std.specs.Prelude.{◌≡◌, SomeIff, true};
+ghost use Rattle.ib_script.specs.Loads.{is_load};
 
 use ib_edge::MOST_SCRIPT_SESSIONS;
 
@@ -22,7 +22,7 @@ pub struct Load {
 impl Load {
     /// None exactly where there are no commands or no sessions, or too many of them, or the seed does not fit its type.
     pub fn new(commands: u64, seed: u64, sessions: u64) -> Option<Load>
-        ensures { SomeIff result (IsLoad commands seed sessions) (record { commands = commands; seed = seed; sessions = sessions }) }
+        ensures { SomeIff result (is_load commands seed sessions ≡ true) (record { commands = commands; seed = seed; sessions = sessions }) }
     {
         let commands = u32::try_from(commands).ok()?;
         let seed = u32::try_from(seed).ok()?;

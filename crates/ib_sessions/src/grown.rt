@@ -1,4 +1,4 @@
-//! One session on a tree that grows: leaves are split, the root is raised, and in the end no page is free.
+//! One session on a tree that grows and shrinks: leaves are split and merged, the root is raised and lifted, and in the end no page is free.
 
 ghost use Rattle.std.specs.Prelude.{◌≡◌, true};
 ghost use Rattle.ib_core.specs.Sessions.{idle};
@@ -9,6 +9,7 @@ use crate::rows::{insert_up_to, inserted};
 use crate::space::{come, delete, insert, open, scan_keys};
 use ib_index::Index;
 use ib_map::{Call, Chunk, Chunks, Record, Reply};
+use ib_page::Image;
 use ib_rule::Pass;
 use ib_scan::More;
 use std::process::Abort;
@@ -19,6 +20,14 @@ fn scanned(low: u64, high: u64, pairs: u32, place: u32) -> Record {
     Record {
         call: Call::Scan { low, high },
         reply: Reply::Scanned { chunks: 1, pairs },
+        place,
+    }
+}
+
+fn deleted(key: u64, value: u64, place: u32) -> Record {
+    Record {
+        call: Call::Delete { key },
+        reply: Reply::Deleted { value },
         place,
     }
 }
@@ -41,6 +50,29 @@ fn a_full_root_becomes_a_node(rt: HostRuntime) {
     check_page(&rt, &closed, 2, &leaf(&rt, 1, 0, 3, 1, 18));
     check_page(&rt, &closed, 3, &leaf(&rt, 1, 2, 0, 19, 36));
     assert_eq!(rt; free_pages(&closed), 12);
+}
+
+#[test]
+fn two_leaves_are_merged_and_the_root_is_lifted(rt: HostRuntime) {
+    let mut index = open(&rt, rt.alloc(), 32768);
+    let mut one = come(&rt, rt.alloc(), &mut index);
+    insert_up_to(&rt, &index, &mut one, 36);
+    assert_eq!(rt; delete(&rt, &index, &mut one, 36), deleted(36, 36, 36));
+    assert_eq!(rt; delete(&rt, &index, &mut one, 35), deleted(35, 35, 37));
+    let missing = Record {
+        call: Call::Delete { key: 35 },
+        reply: Reply::Missing,
+        place: 38,
+    };
+    assert_eq!(rt; delete(&rt, &index, &mut one, 35), missing);
+    let taken = one.grants();
+    assert_eq!(rt; taken.sx, 2);
+    index.disconnect(one);
+    let closed = close(&rt, rt.alloc(), index);
+    check_page(&rt, &closed, 1, &leaf(&rt, 37, 0, 0, 1, 34));
+    check_page(&rt, &closed, 2, &Image::free(2));
+    check_page(&rt, &closed, 3, &Image::free(3));
+    assert_eq!(rt; free_pages(&closed), 14);
 }
 
 #[test]
@@ -99,12 +131,7 @@ fn a_space_gets_full(rt: HostRuntime) {
         place: 269,
     };
     assert_eq!(rt; insert(&rt, &index, &mut one, 270, 270), full);
-    let deleted = Record {
-        call: Call::Delete { key: 1 },
-        reply: Reply::Deleted { value: 1 },
-        place: 269,
-    };
-    assert_eq!(rt; delete(&rt, &index, &mut one, 1), deleted);
+    assert_eq!(rt; delete(&rt, &index, &mut one, 1), deleted(1, 1, 269));
     assert_eq!(rt; insert(&rt, &index, &mut one, 1, 5), inserted(1, 5, 270));
     index.disconnect(one);
     index.discard();

@@ -1,6 +1,5 @@
-pub mod Alone
-pub mod Outs
-pub mod Printing
-pub mod Sessions
-pub mod Steps
-pub mod Telling
+mod CountLaws
+mod Forms
+mod Printing
+mod Telling
+mod TextLaws

@@ -1,8 +1,9 @@
 -- One more session is printed behind the others.
-use Rattle.std.proofs.Common.{◌≡◌, ◌∙◌, ℕ, ◌+◌, ◌<◌, List, [], ◌∷◌, ◌++◌, length, take, get_or, ap, sym, append_assoc, arith, add-zero}
-use Rattle.std.proofs.lemmas.List.{append-nil, take_more, length-take-le}
+use Rattle.std.proofs.Common.{◌≡◌, ◌∙◌, ℕ, ◌+◌, ◌<◌, List, [], ◌∷◌, ◌++◌, length, take, get_or, map, ap, sym, append_assoc, arith, add-zero}
+use Rattle.std.proofs.lemmas.List.{append-nil, length-map, length-take-le, map_more}
 use Rattle.ib_map.specs.Replies.{FullRecord}
 use Rattle.ib_map.specs.Runs.{Runs}
+use Rattle.ib_runs.specs.Answers.{KeptAnswers, answers_of}
 use Rattle.ib_text.specs.Output.{session_text, sessions_from}
 
 sessions_from-push : (number : ℕ) (runs : Runs) (rs : List FullRecord) → sessions_from number (runs ++ rs ∷ []) ≡ sessions_from number runs ++ session_text (number + length runs) rs
@@ -14,9 +15,12 @@ sessions_from-push number (qs ∷ runs) rs =
     ∙ ap (λ n. session_text number qs ++ sessions_from (number + 1) runs ++ session_text n rs) next
 
 -- the text of the first sessions, and then of the next
-pub sessions_from-more : (number : ℕ) (runs : Runs) (i : ℕ) → i < length runs
-    → sessions_from number (take (i + 1) runs) ≡ sessions_from number (take i runs) ++ session_text (number + i) (get_or runs i [])
-sessions_from-more number runs i lt =
-    ap (sessions_from number) (take_more runs i [] lt)
-    ∙ sessions_from-push number (take i runs) (get_or runs i [])
-    ∙ ap (λ n. sessions_from number (take i runs) ++ session_text (number + n) (get_or runs i [])) (length-take-le i runs (omega arith))
+pub sessions_from-more : (number : ℕ) (outs : List KeptAnswers) (i : ℕ) (d : KeptAnswers) → i < length outs
+    → sessions_from number (map answers_of (take (i + 1) outs)) ≡ sessions_from number (map answers_of (take i outs)) ++ session_text (number + i) (answers_of (get_or outs i d))
+sessions_from-more number outs i d lt =
+    let front = map answers_of (take i outs) in
+    let next = answers_of (get_or outs i d) in
+    let count : length front ≡ i = length-map (take i outs) answers_of ∙ length-take-le i outs (omega arith) in
+    ap (sessions_from number) (map_more answers_of outs i d lt)
+    ∙ sessions_from-push number front next
+    ∙ ap (λ n. sessions_from number front ++ session_text (number + n) next) count

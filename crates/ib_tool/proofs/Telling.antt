@@ -1,34 +1,51 @@
 -- What is told of a part is told of the whole.
-use Rattle.std.proofs.Common.{◌≡◌, ◌⊎◌, ◌∙◌, ℕ, List, inl, inr, sym, ap, subst, arith, Some, None, Option}
+use Rattle.std.proofs.Common.{◌≡◌, ◌⊎◌, ◌∙◌, ℕ, List, [], inl, inr, sym, ap, subst, arith, true, false, Some, None, Option}
+use Rattle.std.specs.Io.KnownBytes.{Keeps}
 use Rattle.ib_edge.proofs.Reading.{ReadsAll-known, ConsumesMore-known}
 use Rattle.ib_edge.proofs.Telling.{complete, done_lines, told_as}
-use Rattle.ib_edge.specs.Input.{ConsumesAtMost, ReadsAll}
-use Rattle.ib_edge.specs.Told.{Ending, IsComplete, IsMemory, Told}
+use Rattle.ib_edge.specs.Input.{ReadsAll}
+use Rattle.ib_edge.specs.Told.{Ending, IsComplete, IsMemory, OwesLines, Told}
+use Rattle.ib_edge.specs.declared.line_kind.LineKind.{LineKind}
 use Rattle.ib_edge.specs.declared.read.TheConstants.{INPUT_BYTES}
 use Rattle.ib_edge.specs.declared.status.Status.{Status}
 use Rattle.ib_edge.specs.declared.status.Status.TheVariants.{Done, ReadFault, WriteFault, Memory}
 use Rattle.ib_logs.specs.Answers.{AnswersLog}
 use Rattle.ib_replay.proofs.OneFault.{raw_log-no_fault}
-use Rattle.ib_tool.specs.Answers.{AnswersInput, IsGood, IsOwedAt, IsServed, IsSilent, Owes}
-use Rattle.ib_tool.specs.Words.{form_of}
+use Rattle.ib_tool.specs.Answers.{AnswersInput, HasGood, IsCutOff, IsGood, IsOwedAt, IsServed, IsSilent, IsSilentAt, Owes, OwesInput}
+use Rattle.ib_tool.specs.Words.{form_of, reads}
 use Rattle.ib_tool.specs.declared.form.Form.{Form}
-use Rattle.ib_tool.specs.declared.form.Form.TheVariants.{Run, Latch, Replay}
-
--- reading failed, or memory ran out
-abbrev pub IsSilentAt : Option (List ℕ) → Option (List ℕ) → Status → Type 0
-IsSilentAt old new status = ((status ≡ ReadFault) × ConsumesAtMost old new INPUT_BYTES) ⊎ (status ≡ Memory)
+use Rattle.ib_tool.specs.declared.form.Form.TheVariants.{Run, Raw, Latch, Replay, Gen}
 
 -- what is told of an input that was read
 pub told_input : (form : Form) (old new : Option (List ℕ)) (input : List ℕ) → ReadsAll old new INPUT_BYTES input → (written now : Option (List ℕ)) (status : Status)
-    → Told (AnswersInput form input) IsMemory written now status → Told (IsOwedAt form old new) (IsSilentAt old new) written now status
+    → Told (AnswersInput form input) IsMemory written now status → Told (OwesInput form old new) (IsCutOff old new) written now status
 told_input form old new input reads written now status told =
-    told_as (AnswersInput form input) (IsOwedAt form old new) IsMemory (IsSilentAt old new) (λ e owed. inr (input, reads, owed)) (λ s calm. inr calm) written now status told
+    told_as (AnswersInput form input) (OwesInput form old new) IsMemory (IsCutOff old new) (λ e owed. inr (input, reads, owed)) (λ s calm. inr calm) written now status told
+
+-- .. and of a form that reads
+pub told_reading : (form : Form) (old new : Option (List ℕ)) → reads form ≡ true → (written now : Option (List ℕ)) (status : Status)
+    → Told (OwesInput form old new) (IsCutOff old new) written now status → Told (IsOwedAt form old new) (IsSilentAt form old new) written now status
+told_reading Run old new is written now status told = told
+told_reading Raw old new is written now status told = told
+told_reading Latch old new is written now status told = told
+told_reading Replay old new is written now status told = told
+told_reading (Gen load) old new is written now status told = absurd (cc)
+
+-- .. and of one that reads nothing
+pub told_alone : (form : Form) (old new : Option (List ℕ)) → reads form ≡ false → Keeps old new → (written now : Option (List ℕ)) (status : Status)
+    → Told (AnswersInput form []) IsMemory written now status → Told (IsOwedAt form old new) (IsSilentAt form old new) written now status
+told_alone (Gen load) old new is keeps written now status told =
+    told_as (AnswersInput (Gen load) []) (IsOwedAt (Gen load) old new) IsMemory (IsSilentAt (Gen load) old new) (λ e owed. (keeps, owed)) (λ s calm. calm) written now status told
+told_alone Run old new is keeps written now status told = absurd (cc)
+told_alone Raw old new is keeps written now status told = absurd (cc)
+told_alone Latch old new is keeps written now status told = absurd (cc)
+told_alone Replay old new is keeps written now status told = absurd (cc)
 
 -- what is told where the words are a form
 pub told_form : (words : List (List ℕ)) (form : Form) (old new : Option (List ℕ)) → form_of words ≡ Some form → (written now : Option (List ℕ)) (status : Status)
-    → Told (IsOwedAt form old new) (IsSilentAt old new) written now status → Told (Owes words old new) (IsSilent words old new) written now status
+    → Told (IsOwedAt form old new) (IsSilentAt form old new) written now status → Told (Owes words old new) (IsSilent words old new) written now status
 told_form words form old new is written now status told =
-    told_as (IsOwedAt form old new) (Owes words old new) (IsSilentAt old new) (IsSilent words old new) (λ e owed. inr (form, is, owed)) (λ s calm. (form, is, calm)) written now status told
+    told_as (IsOwedAt form old new) (Owes words old new) (IsSilentAt form old new) (IsSilent words old new) (λ e owed. inr (form, is, owed)) (λ s calm. (form, is, calm)) written now status told
 
 -- for a good input nothing but Done is owed
 done_log : (input : List ℕ) (e : Ending) → IsGood Replay input → AnswersLog input e → e.status ≡ Done
@@ -37,29 +54,65 @@ done_log input e good (inr owed) = absurd (raw_log-no_fault input good.0 good.1 
 
 done_input : (form : Form) (input : List ℕ) (e : Ending) → IsGood form input → AnswersInput form input e → e.status ≡ Done
 done_input Run input e good owed = done_lines _ _ e good owed
+done_input Raw input e good owed = done_lines _ _ e good owed
 done_input Latch input e good owed = done_lines _ _ e good owed
 done_input Replay input e good owed = done_log input e good owed
+done_input (Gen load) input e good owed = owed.0
 
-done_at : (form : Form) (input : List ℕ) (new : Option (List ℕ)) (e : Ending) → IsServed form (Some input) → IsOwedAt form (Some input) new e → e.status ≡ Done
-done_at form input new e served (inl owed) = let more = ConsumesMore-known input new INPUT_BYTES owed.0 in let less = served.0 in absurd (omega arith)
-done_at form input new e served (inr owed) =
+done_read : (form : Form) (left new : Option (List ℕ)) (e : Ending) → HasGood form left → OwesInput form left new e → e.status ≡ Done
+done_read form None new e good owed = absurd good
+done_read form (Some input) new e good (inl owed) = let more = ConsumesMore-known input new INPUT_BYTES owed.0 in let less = good.0 in absurd (omega arith)
+done_read form (Some input) new e good (inr owed) =
     let same = ReadsAll-known input new INPUT_BYTES owed.0 owed.1 in
-    done_input form input e served.1 (subst (λ (bytes : List ℕ). AnswersInput form bytes e) same owed.2)
+    done_input form input e good.1 (subst (λ (bytes : List ℕ). AnswersInput form bytes e) same owed.2)
 
-done_words : (words : List (List ℕ)) (input : List ℕ) (new : Option (List ℕ)) (form : Form) (e : Ending) → form_of words ≡ Some form → IsServed form (Some input) → Owes words (Some input) new e → e.status ≡ Done
-done_words words input new form e is served (inl owed) = let bad = sym is ∙ owed.0 in absurd (cc)
-done_words words input new form e is served (inr owed) =
+done_at : (form : Form) (left new : Option (List ℕ)) (e : Ending) → IsServed form left → IsOwedAt form left new e → e.status ≡ Done
+done_at Run left new e served owed = done_read Run left new e served owed
+done_at Raw left new e served owed = done_read Raw left new e served owed
+done_at Latch left new e served owed = done_read Latch left new e served owed
+done_at Replay left new e served owed = done_read Replay left new e served owed
+done_at (Gen load) left new e served owed = owed.1.0
+
+done_words : (words : List (List ℕ)) (left new : Option (List ℕ)) (form : Form) (e : Ending) → form_of words ≡ Some form → IsServed form left → Owes words left new e → e.status ≡ Done
+done_words words left new form e is served (inl owed) = let bad = sym is ∙ owed.0 in absurd (cc)
+done_words words left new form e is served (inr owed) =
     let same-form : owed.0 ≡ form = let both = sym owed.1 ∙ is in cc in
-    done_at form input new e served (subst (λ (f : Form). IsOwedAt f (Some input) new e) same-form owed.2)
+    done_at form left new e served (subst (λ (f : Form). IsOwedAt f left new e) same-form owed.2)
 
-silences : (words : List (List ℕ)) (old new : Option (List ℕ)) (s : Status) → IsSilent words old new s → (s ≡ ReadFault) ⊎ (s ≡ Memory)
-silences words old new s calm = elim calm.2 [ inl fault ↦ inl fault.0 | inr memory ↦ inr memory ]
+cut-off : (old new : Option (List ℕ)) (s : Status) → IsCutOff old new s → (s ≡ ReadFault) ⊎ (s ≡ Memory)
+cut-off old new s calm = elim calm [ inl fault ↦ inl fault.0 | inr memory ↦ inr memory ]
+
+silences-at : (form : Form) (old new : Option (List ℕ)) (s : Status) → IsSilentAt form old new s → (s ≡ ReadFault) ⊎ (s ≡ Memory)
+silences-at Run old new s calm = cut-off old new s calm
+silences-at Raw old new s calm = cut-off old new s calm
+silences-at Latch old new s calm = cut-off old new s calm
+silences-at Replay old new s calm = cut-off old new s calm
+silences-at (Gen load) old new s calm = inr calm
 
 -- a form that gets what it needs is answered
 pub completes : (words : List (List ℕ)) (left new written now : Option (List ℕ)) (status : Status) (R W : Type 0) → Told (Owes words left new) (IsSilent words left new) written now status
     → (status ≡ ReadFault → R) → (status ≡ WriteFault → W)
     → (form : Form) → form_of words ≡ Some form → IsServed form left → (R → ⊥) → (W → ⊥) → IsComplete (Owes words left new) written now status
-completes words None new written now status R W told read write form is served no_read no_write = absurd served
-completes words (Some input) new written now status R W told read write form is served no_read no_write =
-    complete (Owes words (Some input) new) (IsSilent words (Some input) new) written now status told (λ e owed. done_words words input new form e is served owed)
-    (silences words (Some input) new) (λ e. no_read (read e)) (λ e. no_write (write e))
+completes words left new written now status R W told read write form is served no_read no_write =
+    complete (Owes words left new) (IsSilent words left new) written now status told (λ e owed. done_words words left new form e is served owed)
+    (λ s calm. silences-at calm.0 left new s calm.2) (λ e. no_read (read e)) (λ e. no_write (write e))
+
+-- an input that was read owes no fault of reading
+no_fault-lines : (found : Option (ℕ × LineKind)) (output : List ℕ → Type 0) (e : Ending) → OwesLines found output e → e.status ≡ ReadFault → ⊥
+no_fault-lines None output e owed is = absurd (cc)
+no_fault-lines (Some bad) output e owed is = let told = ap (λ x. x.status) owed in absurd (cc)
+
+no_fault : (form : Form) (input : List ℕ) (e : Ending) → AnswersInput form input e → e.status ≡ ReadFault → ⊥
+no_fault Run input e owed is = no_fault-lines _ _ e owed is
+no_fault Raw input e owed is = no_fault-lines _ _ e owed is
+no_fault Latch input e owed is = no_fault-lines _ _ e owed is
+no_fault Replay input e (inl owed) is = let told = ap (λ x. x.status) owed.3 in absurd (cc)
+no_fault Replay input e (inr owed) is = let told = ap (λ x. x.status) owed.2 in absurd (cc)
+no_fault (Gen load) input e owed is = let told = owed.0 in absurd (cc)
+
+pub told-no_fault : (form : Form) (input : List ℕ) (written now : Option (List ℕ)) (status : Status) → Told (AnswersInput form input) IsMemory written now status → status ≡ ReadFault → ⊥
+told-no_fault form input written now status (inl told) is = elim told.2 [
+  | inl all ↦ no_fault form input told.0 told.1 (sym all.0 ∙ is)
+  | inr cut ↦ let failed = cut.0 in absurd (cc)
+]
+told-no_fault form input written now status (inr calm) is = let memory = calm.0 in absurd (cc)

@@ -1,4 +1,4 @@
 pub mod Words
-pub mod PlainRun
+pub mod Counts
+pub mod Texts
 pub mod Answers
-pub mod Alone

@@ -1,39 +1,91 @@
 //! What the program answers to an input that was read.
 
-ghost use Rattle.std.specs.Prelude.{◌≡◌, ◌≤◌, length};
+ghost use Rattle.std.specs.Prelude.{◌≡◌, ◌<◌, ◌≤◌, ◌^◌, IfOk, length, true};
 ghost use Rattle.ib_edge.specs.Faults.{Rose};
 ghost use Rattle.ib_edge.specs.Told.{IsMemory, Told};
+ghost use Rattle.ib_replay.specs.Files.{file_of};
+ghost use Rattle.ib_runs.specs.Outcomes.{HasRan};
+ghost use Rattle.ib_script.specs.Loads.{is_load};
 ghost use Rattle.ib_script.specs.Script.{IsSmall};
-ghost use Rattle.ib_tool.specs.Answers.{AnswersInput, IsOutcome};
+ghost use Rattle.ib_tool.specs.Answers.{AnswersInput, AnswersScript};
+ghost use Rattle.ib_tool.specs.Texts.{IsCountText, IsRawText, IsWrittenRun};
+ghost use Rattle.ib_tool.specs.Words.{IsLawful};
 
 use crate::form::Form;
-use crate::run_script::run_script;
+use crate::print::{Bytes, CountText, RunText};
+use crate::shape::Shape;
 use ib_edge::{BadLine, INPUT_BYTES, ScriptFault, Sink, Status, tell};
 use ib_events::answer_events;
 use ib_logs::answer_log;
-use ib_script::{PlainLines, Script, read_script};
-use std::alloc::Global;
+use ib_replay::write_log;
+use ib_runs::{Gate, Ran, run_script};
+use ib_script::{Load, PlainLines, Script, generate, read_script};
+use std::alloc::{AllocError, Global};
+use std::sync::Wait;
+use std::thread::Threads;
 
-// Runs a script, and writes all that is printed of the run.
-fn run<K: Sink>(alloc: Global, script: &Script, sink: &mut K) -> Status
-    requires { IsSmall script.now }
-    ensures told { Told (λ e. (e.status ≡ Status.Done) × IsOutcome script.now.commands e.text) IsMemory (K.written sink.old) (K.written sink.new) result }
+// The file of a log of so many pages and these words.
+fn file_of(alloc: Global, pages: u32, words: &[u64]) -> Result<Vec<u8>, AllocError>
+    requires { length words.now < 2 ^ 32 }
+    ensures { IfOk result (λ bytes. bytes.items ≡ file_of pages words.now) }
+{
+    let mut bytes = vec![in alloc; 0; 16 + 8 * words.len()]?;
+    write_log(pages, words, bytes.as_mut_slice());
+    Ok(bytes)
+}
+
+// Writes the file of the log of a run of a script.
+fn write_file<K: Sink>(alloc: Global, script: &Script, ran: &Ran, sink: &mut K) -> Status
+    requires { HasRan script.now.sizes script.now.commands ran.now }
+    ensures told { Told (λ e. (e.status ≡ Status.Done) × IsRawText script.now e.text) IsMemory (K.written sink.old) (K.written sink.new) result }
     ensures write { result ≡ Status.WriteFault → Rose (K.faults sink.old) (K.faults sink.new) }
 {
-    match run_script(alloc, script) {
-        Ok(run) => tell(sink, run, Status::Done),
+    let geometry = script.geometry();
+    // A log has fewer words than 2^32.
+    let _ = geometry.log_words();
+    match file_of(alloc, geometry.pages(), ran.closed.log()) {
+        Ok(bytes) => tell(sink, Bytes { bytes }, Status::Done),
         Err(_) => Status::Memory,
     }
 }
 
+// Runs a script, and writes what is asked of the run.
+fn run<K: Sink, G: Gate + Sync, R: Threads + Wait + Sync>(
+    rt: &R,
+    alloc: Global,
+    shape: Shape,
+    script: &Script,
+    sink: &mut K,
+    gate: &G,
+) -> Status
+    requires { IsSmall script.now }
+    ensures told { Told (λ e. (e.status ≡ Status.Done) × IsWrittenRun shape script.now e.text) IsMemory (K.written sink.old) (K.written sink.new) result }
+    ensures write { result ≡ Status.WriteFault → Rose (K.faults sink.old) (K.faults sink.new) }
+{
+    let Ok(ran) = run_script(rt, alloc, script, gate) else {
+        return Status::Memory;
+    };
+    match shape {
+        Shape::Text => tell(sink, RunText { ran }, Status::Done),
+        Shape::File => write_file(alloc, script, &ran, sink),
+    }
+}
+
 // Answers a script that was read: runs it, or tells where it is refused and why.
-fn answer_script<K: Sink>(alloc: Global, input: &[u8], sink: &mut K) -> Status
+fn answer_script<K: Sink, G: Gate + Sync, R: Threads + Wait + Sync>(
+    rt: &R,
+    alloc: Global,
+    shape: Shape,
+    input: &[u8],
+    sink: &mut K,
+    gate: &G,
+) -> Status
     requires { length input.now ≤ INPUT_BYTES }
-    ensures told { Told (AnswersInput Form.Run input.now) IsMemory (K.written sink.old) (K.written sink.new) result }
+    ensures told { Told (AnswersScript shape input.now) IsMemory (K.written sink.old) (K.written sink.new) result }
     ensures write { result ≡ Status.WriteFault → Rose (K.faults sink.old) (K.faults sink.new) }
 {
     match read_script::<PlainLines>(alloc, input) {
-        Ok(script) => run(alloc, &script, sink),
+        Ok(script) => run(rt, alloc, shape, &script, sink, gate),
         Err(ScriptFault::OutOfMemory) => Status::Memory,
         Err(ScriptFault::BadLine { line, kind }) => {
             tell(sink, BadLine { line, kind }, Status::Script)
@@ -41,15 +93,46 @@ fn answer_script<K: Sink>(alloc: Global, input: &[u8], sink: &mut K) -> Status
     }
 }
 
+// Runs a script that is generated, and writes how often each reply came.
+fn answer_load<K: Sink, G: Gate + Sync, R: Threads + Wait + Sync>(
+    rt: &R,
+    alloc: Global,
+    load: Load,
+    sink: &mut K,
+    gate: &G,
+) -> Status
+    requires { is_load load.commands load.seed load.sessions ≡ true }
+    ensures told { Told (λ e. (e.status ≡ Status.Done) × IsCountText load e.text) IsMemory (K.written sink.old) (K.written sink.new) result }
+    ensures write { result ≡ Status.WriteFault → Rose (K.faults sink.old) (K.faults sink.new) }
+{
+    let Ok(script) = generate(alloc, load) else {
+        return Status::Memory;
+    };
+    match run_script(rt, alloc, &script, gate) {
+        Ok(ran) => tell(sink, CountText { ran }, Status::Done),
+        Err(_) => Status::Memory,
+    }
+}
+
 /// Answers an input that was read, as the form says.
-pub fn answer<K: Sink>(alloc: Global, form: Form, input: &[u8], sink: &mut K) -> Status
-    requires { length input.now ≤ INPUT_BYTES }
+pub fn answer<K: Sink, G: Gate + Sync, R: Threads + Wait + Sync>(
+    rt: &R,
+    alloc: Global,
+    form: Form,
+    input: &[u8],
+    sink: &mut K,
+    gate: &G,
+) -> Status
+    requires few { length input.now ≤ INPUT_BYTES }
+    requires lawful { IsLawful form }
     ensures told { Told (AnswersInput form input.now) IsMemory (K.written sink.old) (K.written sink.new) result }
     ensures write { result ≡ Status.WriteFault → Rose (K.faults sink.old) (K.faults sink.new) }
 {
     match form {
-        Form::Run => answer_script(alloc, input, sink),
+        Form::Run => answer_script(rt, alloc, Shape::Text, input, sink, gate),
+        Form::Raw => answer_script(rt, alloc, Shape::File, input, sink, gate),
         Form::Latch => answer_events(alloc, input, sink),
         Form::Replay => answer_log(alloc, input, sink),
+        Form::Gen { load } => answer_load(rt, alloc, load, sink, gate),
     }
 }

@@ -3,9 +3,12 @@
 use super::*;
 use std::alloc::Global;
 use std::process::Abort;
+use std::sync::Wait;
 use std::test::Fail;
+use std::thread::Threads;
 
 mod events;
+mod gates;
 mod limits;
 mod lines;
 mod replays;
@@ -13,35 +16,52 @@ mod rows;
 mod sides;
 
 // Runs the words on an input that comes in pieces of 1,000 bytes, into a sink that takes 1,000 bytes a call.
-fn told(alloc: Global, words: &[&str], input: &[u8]) -> Result<(Status, MemSink), Fail> {
+fn told(
+    rt: &(impl Abort + Threads + Wait + Sync),
+    alloc: Global,
+    words: &[&str],
+    input: &[u8],
+) -> Result<(Status, MemSink), Fail> {
     let mut given = Vec::new(alloc);
     for word in words {
         given.push(String::from_str(alloc, word)?)?;
     }
     let mut source = MemSource::new(Vec::from_slice(alloc, input)?, 1000, Vec::new(alloc));
     let mut sink = MemSink::new(alloc, 1000, Vec::new(alloc));
-    let status = top(alloc, &given, &mut source, &mut sink, &OpenGate);
+    let status = top(rt, alloc, &given, &mut source, &mut sink, &OpenGate);
     Ok((status, sink))
 }
 
-// The status and the text that a form gives for this input.
+// The status and the text that words give for this input.
+fn check_words(
+    rt: &(impl Abort + Threads + Wait + Sync),
+    alloc: Global,
+    words: &[&str],
+    input: &[u8],
+    status: Status,
+    text: &[u8],
+) -> Result<(), Fail> {
+    let (found, sink) = told(rt, alloc, words, input)?;
+    assert_eq!(rt; found, status);
+    assert_eq!(rt; sink.bytes(), text);
+    Ok(())
+}
+
+// .. and those of a form of one word.
 fn check_form(
-    rt: &impl Abort,
+    rt: &(impl Abort + Threads + Wait + Sync),
     alloc: Global,
     form: &str,
     input: &[u8],
     status: Status,
     text: &[u8],
 ) -> Result<(), Fail> {
-    let (found, sink) = told(alloc, &[form], input)?;
-    assert_eq!(rt; found, status);
-    assert_eq!(rt; sink.bytes(), text);
-    Ok(())
+    check_words(rt, alloc, &[form], input, status, text)
 }
 
 // The status and the text that `run` gives for this script.
 fn check(
-    rt: &impl Abort,
+    rt: &(impl Abort + Threads + Wait + Sync),
     alloc: Global,
     script: &[u8],
     status: Status,
@@ -52,7 +72,7 @@ fn check(
 
 // The lines, each part as it is, are refused by a form at this line, for this reason.
 fn refused_lines(
-    rt: &impl Abort,
+    rt: &(impl Abort + Threads + Wait + Sync),
     alloc: Global,
     form: &str,
     parts: &[&[u8]],
@@ -69,7 +89,7 @@ fn refused_lines(
 
 // A bad line is told as the first, as a middle one, and as the last, with a final line feed and without.
 fn refused_among(
-    rt: &impl Abort,
+    rt: &(impl Abort + Threads + Wait + Sync),
     alloc: Global,
     form: &str,
     good: &[u8],

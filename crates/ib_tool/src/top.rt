@@ -1,46 +1,72 @@
 //! The public call `top`: the program, from the bytes that it reads to the bytes that it writes.
 
-ghost use Rattle.std.specs.Prelude.{◌≡◌, ◌⊎◌, Some, map, string_bytes};
+ghost use Rattle.std.specs.Prelude.{◌≡◌, Some, map, string_bytes};
 ghost use Rattle.ib_edge.specs.Faults.{Rose};
-ghost use Rattle.ib_edge.specs.Input.{ConsumesAtMost};
-ghost use Rattle.ib_tool.specs.Answers.{IsOwedAt, IsServed, IsSilent, Owes};
+ghost use Rattle.ib_tool.specs.Answers.{IsCutOff, IsOwedAt, IsServed, IsSilent, IsSilentAt, Owes, OwesInput};
 ghost use Rattle.ib_edge.specs.Told.{IsComplete, Told};
-ghost use Rattle.ib_tool.specs.Words.{form_of};
+ghost use Rattle.ib_tool.specs.Words.{IsLawful, form_of};
 ghost use Rattle.ib_tool.specs.declared.form.Form.{Form};
 
 use crate::answer::answer;
 use crate::form::{Form, form_of};
-use crate::gate::Gate;
 use crate::told_lines::{TooLargeLine, UsageLine};
 use ib_edge::{INPUT_BYTES, ReadError, Sink, Source, Status, read_all, tell};
+use ib_runs::Gate;
 use std::alloc::Global;
+use std::sync::Wait;
+use std::thread::Threads;
 
 // Reads the input, and answers it.
-fn read_and_answer<S: Source, K: Sink>(
+fn read_and_answer<S: Source, K: Sink, G: Gate + Sync, R: Threads + Wait + Sync>(
+    rt: &R,
     alloc: Global,
     form: Form,
     source: &mut S,
     sink: &mut K,
+    gate: &G,
 ) -> Status
-    ensures told { Told (IsOwedAt form (S.left source.old) (S.left source.new))
-        (λ s. ((s ≡ Status.ReadFault) × ConsumesAtMost (S.left source.old) (S.left source.new) INPUT_BYTES) ⊎ (s ≡ Status.Memory)) (K.written sink.old) (K.written sink.new) result }
+    requires { IsLawful form }
+    ensures told { Told (OwesInput form (S.left source.old) (S.left source.new)) (IsCutOff (S.left source.old) (S.left source.new)) (K.written sink.old) (K.written sink.new) result }
     ensures read { result ≡ Status.ReadFault → Rose (S.faults source.old) (S.faults source.new) }
     ensures write { result ≡ Status.WriteFault → Rose (K.faults sink.old) (K.faults sink.new) }
 {
     match read_all(alloc, source, INPUT_BYTES) {
-        Ok(input) => answer(alloc, form, &input, sink),
+        Ok(input) => answer(rt, alloc, form, &input, sink, gate),
         Err(ReadError::Memory) => Status::Memory,
         Err(ReadError::Fault) => Status::ReadFault,
         Err(ReadError::TooLarge) => tell(sink, TooLargeLine, Status::TooLarge),
     }
 }
 
+// Does what a form says.
+fn act<S: Source, K: Sink, G: Gate + Sync, R: Threads + Wait + Sync>(
+    rt: &R,
+    alloc: Global,
+    form: Form,
+    source: &mut S,
+    sink: &mut K,
+    gate: &G,
+) -> Status
+    requires { IsLawful form }
+    ensures told { Told (IsOwedAt form (S.left source.old) (S.left source.new)) (IsSilentAt form (S.left source.old) (S.left source.new)) (K.written sink.old) (K.written sink.new) result }
+    ensures read { result ≡ Status.ReadFault → Rose (S.faults source.old) (S.faults source.new) }
+    ensures write { result ≡ Status.WriteFault → Rose (K.faults sink.old) (K.faults sink.new) }
+{
+    if form.reads() {
+        read_and_answer(rt, alloc, form, source, sink, gate)
+    } else {
+        answer(rt, alloc, form, &[], sink, gate)
+    }
+}
+
 // Reads the words, and does what they say.
-fn dispatch<S: Source, K: Sink>(
+fn dispatch<S: Source, K: Sink, G: Gate + Sync, R: Threads + Wait + Sync>(
+    rt: &R,
     alloc: Global,
     words: &[String],
     source: &mut S,
     sink: &mut K,
+    gate: &G,
 ) -> Status
     ensures told { Told (Owes (map (λ w. string_bytes w) words.now) (S.left source.old) (S.left source.new))
         (IsSilent (map (λ w. string_bytes w) words.now) (S.left source.old) (S.left source.new)) (K.written sink.old) (K.written sink.new) result }
@@ -48,23 +74,28 @@ fn dispatch<S: Source, K: Sink>(
     ensures write { result ≡ Status.WriteFault → Rose (K.faults sink.old) (K.faults sink.new) }
 {
     match form_of(words) {
-        Some(form) => read_and_answer(alloc, form, source, sink),
+        Some(form) => act(rt, alloc, form, source, sink, gate),
         None => tell(sink, UsageLine, Status::Usage),
     }
 }
 
 /// The program, from the words of its command line and the bytes that it reads to the bytes that it writes.
 ///
-/// `run`, alone, reads a script, answers its sessions by number, and writes what each was answered, the log and the
-/// map in the end. `latch`, alone, reads events, makes them on the latch machine of one thread, and writes each with its
-/// answer and its latch's word afterwards. `replay`, alone, reads a raw log, and writes its log and its map. Any other
-/// words get the usage line. The gate is not called yet.
-pub fn top<S: Source, K: Sink, G: Gate + Sync>(
+/// `run`, alone, reads a script, runs its sessions beside each other on one shared index, and writes what each was answered,
+/// the log and the map in the end. `raw`, alone, does the same, and writes the file of the log. `latch`, alone, reads events,
+/// makes them on the latch machine of one thread, and writes each with its answer and its latch's word afterwards. `replay`,
+/// alone, reads a raw log, and writes its log and its map. `gen N SEED SESSIONS` reads nothing, runs the script that these
+/// numbers generate, and writes how often each reply came. Any other words get the usage line.
+///
+/// The gate is called before each command of a session, and once after its last. `run`, `raw` and `gen` wait for each other's
+/// sessions, so this may wait too.
+pub fn top<S: Source, K: Sink, G: Gate + Sync, R: Threads + Wait + Sync>(
+    rt: &R,
     alloc: Global,
     words: &[String],
     source: &mut S,
     sink: &mut K,
-    _gate: &G,
+    gate: &G,
 ) -> Status
     // Which status owes which text, and how much of it was written.
     ensures told { Told (Owes (map (λ w. string_bytes w) words.now) (S.left source.old) (S.left source.new))
@@ -79,5 +110,5 @@ pub fn top<S: Source, K: Sink, G: Gate + Sync>(
         (Rose (S.faults source.old) (S.faults source.new) → ⊥) → (Rose (K.faults sink.old) (K.faults sink.new) → ⊥) →
         IsComplete (Owes (map (λ w. string_bytes w) words.now) (S.left source.old) (S.left source.new)) (K.written sink.old) (K.written sink.new) result }
 {
-    dispatch(alloc, words, source, sink)
+    dispatch(rt, alloc, words, source, sink, gate)
 }

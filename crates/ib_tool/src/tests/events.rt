@@ -3,7 +3,11 @@
 use super::*;
 
 // `latch` answers each of these events, given with its answer and the latch's word afterwards.
-fn answered(rt: &impl Abort, alloc: Global, rows: &[(&[u8], &[u8])]) -> Result<(), Fail> {
+fn answered(
+    rt: &(impl Abort + Threads + Wait + Sync),
+    alloc: Global,
+    rows: &[(&[u8], &[u8])],
+) -> Result<(), Fail> {
     let mut events = Vec::new(alloc);
     let mut text = Vec::new(alloc);
     for &(event, answer) in rows {
@@ -160,11 +164,22 @@ fn waiting_given_up(rt: HostRuntime) -> Result<(), Fail> {
 }
 
 // The text is refused at this line, for this reason.
-fn refused(rt: &impl Abort, alloc: Global, text: &[u8], line: u32, kind: &str) -> Result<(), Fail> {
+fn refused(
+    rt: &(impl Abort + Threads + Wait + Sync),
+    alloc: Global,
+    text: &[u8],
+    line: u32,
+    kind: &str,
+) -> Result<(), Fail> {
     refused_lines(rt, alloc, "latch", &[text], line, kind)
 }
 
-fn refused_anywhere(rt: &impl Abort, alloc: Global, line: &[u8], kind: &str) -> Result<(), Fail> {
+fn refused_anywhere(
+    rt: &(impl Abort + Threads + Wait + Sync),
+    alloc: Global,
+    line: &[u8],
+    kind: &str,
+) -> Result<(), Fail> {
     refused_among(rt, alloc, "latch", b"1 look 0", line, kind)
 }
 

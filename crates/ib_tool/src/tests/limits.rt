@@ -11,13 +11,22 @@ fn lines(alloc: Global, line: &[u8], count: u32) -> Result<Vec<u8>, Fail> {
     Ok(script)
 }
 
-fn accepted_by(rt: &impl Abort, alloc: Global, form: &str, input: &[u8]) -> Result<(), Fail> {
-    let (status, _) = told(alloc, &[form], input)?;
+fn accepted_by(
+    rt: &(impl Abort + Threads + Wait + Sync),
+    alloc: Global,
+    form: &str,
+    input: &[u8],
+) -> Result<(), Fail> {
+    let (status, _) = told(rt, alloc, &[form], input)?;
     assert_eq!(rt; status, Status::Done);
     Ok(())
 }
 
-fn accepted(rt: &impl Abort, alloc: Global, script: &[u8]) -> Result<(), Fail> {
+fn accepted(
+    rt: &(impl Abort + Threads + Wait + Sync),
+    alloc: Global,
+    script: &[u8],
+) -> Result<(), Fail> {
     accepted_by(rt, alloc, "run", script)
 }
 

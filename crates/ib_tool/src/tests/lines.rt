@@ -3,11 +3,22 @@
 use super::*;
 
 // The text is refused at this line, for this reason.
-fn refused(rt: &impl Abort, alloc: Global, text: &[u8], line: u32, kind: &str) -> Result<(), Fail> {
+fn refused(
+    rt: &(impl Abort + Threads + Wait + Sync),
+    alloc: Global,
+    text: &[u8],
+    line: u32,
+    kind: &str,
+) -> Result<(), Fail> {
     refused_lines(rt, alloc, "run", &[text], line, kind)
 }
 
-fn refused_anywhere(rt: &impl Abort, alloc: Global, line: &[u8], kind: &str) -> Result<(), Fail> {
+fn refused_anywhere(
+    rt: &(impl Abort + Threads + Wait + Sync),
+    alloc: Global,
+    line: &[u8],
+    kind: &str,
+) -> Result<(), Fail> {
     refused_among(rt, alloc, "run", b"get 1", line, kind)
 }
 

@@ -56,18 +56,33 @@ fn file(alloc: Global, pages: u64, words: &[u64]) -> Result<Vec<u8>, Fail> {
     Ok(bytes)
 }
 
-fn replayed(rt: &impl Abort, alloc: Global, words: &[u64], text: &[u8]) -> Result<(), Fail> {
+fn replayed(
+    rt: &(impl Abort + Threads + Wait + Sync),
+    alloc: Global,
+    words: &[u64],
+    text: &[u8],
+) -> Result<(), Fail> {
     let bytes = file(alloc, 16, words)?;
     check_form(rt, alloc, "replay", &bytes, Status::Done, text)
 }
 
 // The bytes are refused with this fault.
-fn refused_bytes(rt: &impl Abort, alloc: Global, bytes: &[u8], fault: &str) -> Result<(), Fail> {
+fn refused_bytes(
+    rt: &(impl Abort + Threads + Wait + Sync),
+    alloc: Global,
+    bytes: &[u8],
+    fault: &str,
+) -> Result<(), Fail> {
     let text = format!(in alloc; "bad log: {fault}\n")?;
     check_form(rt, alloc, "replay", bytes, Status::BadLog, text.as_bytes())
 }
 
-fn refused(rt: &impl Abort, alloc: Global, words: &[u64], fault: &str) -> Result<(), Fail> {
+fn refused(
+    rt: &(impl Abort + Threads + Wait + Sync),
+    alloc: Global,
+    words: &[u64],
+    fault: &str,
+) -> Result<(), Fail> {
     refused_bytes(rt, alloc, &file(alloc, 16, words)?, fault)
 }
 

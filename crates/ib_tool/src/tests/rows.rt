@@ -34,21 +34,102 @@ fn scans_at_both_ends(rt: HostRuntime) -> Result<(), Fail> {
 }
 
 #[test]
-fn sessions_in_turn(rt: HostRuntime) -> Result<(), Fail> {
-    let alloc = rt.alloc();
+fn a_session_that_comes_back(rt: HostRuntime) -> Result<(), Fail> {
+    // The others have no commands, and are not printed.
     check(
         &rt,
-        alloc,
-        b"session 1\ninsert 7 1\nget 7\nsession 2\ndelete 7\n",
+        rt.alloc(),
+        b"# two, and one again\nspace 16 8196\nsession 3\ninsert 1 5\n\nsession 2\nsession 3\nscan 1 1",
         Status::Done,
-        b"session 1\ninsert 7 1 -> inserted at 0\nget 7 -> 1 at 1\nsession 2\ndelete 7 -> deleted 1 at 1\nlog 2\n1 1 insert 7 1\n2 1 delete 7\nmap 0\n",
-    )?;
-    // A session may come back, and one without commands is not printed.
-    check(
-        &rt,
-        alloc,
-        b"# three, and one again\nspace 16 8196\nsession 3\ninsert 1 5\n\nsession 2\nsession 1\ndelete 1\nsession 3\nscan 1 1",
-        Status::Done,
-        b"session 1\ndelete 1 -> missing at 0\nsession 3\ninsert 1 5 -> inserted at 0\nscan 1 1 -> 1 pairs\nfrom 1 to 1 at 1\npair 1 5\nlog 1\n3 1 insert 1 5\nmap 1\n1 5\n",
+        b"session 3\ninsert 1 5 -> inserted at 0\nscan 1 1 -> 1 pairs\nfrom 1 to 1 at 1\npair 1 5\nlog 1\n3 1 insert 1 5\nmap 1\n1 5\n",
     )
+}
+
+#[test]
+fn a_log_that_gets_full(rt: HostRuntime) -> Result<(), Fail> {
+    check(
+        &rt,
+        rt.alloc(),
+        b"space 16 8196\ninsert 10 100\ninsert 11 1\ninsert 10 3\nget 10\n",
+        Status::Done,
+        b"session 1\ninsert 10 100 -> inserted at 0\ninsert 11 1 -> log full used 12 cap 8196 at 1\ninsert 10 3 -> duplicate at 1\nget 10 -> 100 at 1\nlog 1\n1 1 insert 10 100\nmap 1\n10 100\n",
+    )
+}
+
+// Behind 269 inserts no page is free, and no leaf has room for a greater key.
+#[test]
+fn a_space_that_gets_full(rt: HostRuntime) -> Result<(), Fail> {
+    let alloc = rt.alloc();
+    let mut script = Vec::from_slice(alloc, b"space 16 16777216\n")?;
+    let mut text = Vec::from_slice(alloc, b"session 1\n")?;
+    let mut log = Vec::from_slice(alloc, b"log 271\n")?;
+    let mut map = Vec::from_slice(alloc, b"map 269\n1 5\n")?;
+    for place in 0..269u32 {
+        let key = place + 1;
+        let line = format!(in alloc; "insert {key} {key}")?;
+        script.extend_from_slice(format!(in alloc; "{line}\n")?.as_bytes())?;
+        text.extend_from_slice(format!(in alloc; "{line} -> inserted at {place}\n")?.as_bytes())?;
+        log.extend_from_slice(format!(in alloc; "1 {key} {line}\n")?.as_bytes())?;
+        if place > 0 {
+            map.extend_from_slice(format!(in alloc; "{key} {key}\n")?.as_bytes())?;
+        }
+    }
+    script.extend_from_slice(b"insert 270 270\ndelete 1\ninsert 1 5\n")?;
+    text.extend_from_slice(
+        b"insert 270 270 -> space full free 0 need 1 at 269\ndelete 1 -> deleted 1 at 269\ninsert 1 5 -> inserted at 270\n",
+    )?;
+    log.extend_from_slice(b"1 270 delete 1\n1 271 insert 1 5\n")?;
+    text.extend_from_slice(&log)?;
+    text.extend_from_slice(&map)?;
+    check(&rt, alloc, &script, Status::Done, &text)
+}
+
+// Session 1 inserts 10 with 100, on page 1 of a space of 16 pages.
+pub(super) const FILE: [u8; 112] = *b"IBLOG570\
+    \0\0\0\0\0\0\0\x10\
+    \0\0\0\x01\0\x01\0\x04\0\0\0\0\0\0\0\x01\
+    \0\0\0\0\0\0\0\x0a\0\0\0\0\0\0\0\x64\
+    \0\0\0\0\0\0\0\x82\0\0\0\0\0\0\0\x01\
+    \0\0\0\0\0\0\0\x85\0\0\0\0\0\0\0\x01\
+    \0\0\0\0\0\0\0\x88\0\0\0\0\0\0\0\x0a\
+    \0\0\0\0\0\0\0\x89\0\0\0\0\0\0\0\x64";
+
+#[test]
+fn the_file_of_a_log(rt: HostRuntime) -> Result<(), Fail> {
+    let alloc = rt.alloc();
+    let script = b"space 16 8196\ninsert 10 100\n";
+    check_form(&rt, alloc, "raw", script, Status::Done, &FILE)?;
+    check_form(
+        &rt,
+        alloc,
+        "raw",
+        b"space 16 8196\nget 10\n",
+        Status::Done,
+        &FILE[..16],
+    )?;
+    check_form(
+        &rt,
+        alloc,
+        "raw",
+        b"put 1 2\n",
+        Status::Script,
+        b"script: line 1: word\n",
+    )
+}
+
+#[test]
+fn generated_scripts(rt: HostRuntime) -> Result<(), Fail> {
+    let alloc = rt.alloc();
+    let counts =
+        b"inserted 3\nduplicate 0\ndeleted 3\nmissing 1\nfound 0\nnone 0\nrefused 0\nmap 0\n";
+    let words = ["gen", "7", "1", "2"];
+    check_words(&rt, alloc, &words, b"", Status::Done, counts)?;
+    let counts =
+        b"inserted 3\nduplicate 0\ndeleted 3\nmissing 0\nfound 0\nnone 1\nrefused 0\nmap 0\n";
+    let words = ["gen", "7", "0", "1"];
+    check_words(&rt, alloc, &words, b"not read", Status::Done, counts)?;
+    let counts =
+        b"inserted 10000\nduplicate 0\ndeleted 7500\nmissing 0\nfound 2500\nnone 0\nrefused 0\nmap 2500\n";
+    let words = ["gen", "20000", "7", "4"];
+    check_words(&rt, alloc, &words, b"", Status::Done, counts)
 }

@@ -2,6 +2,7 @@
 
 ghost use Rattle.std.specs.Prelude.{◌≡◌, ◌<◌};
 
+use super::rows::FILE;
 use super::*;
 use ib_edge::{BUFFER_BYTES, Writer};
 
@@ -20,7 +21,7 @@ fn words_that_are_no_form(rt: HostRuntime) -> Result<(), Fail> {
         &["gen", "0", "1", "1"],
     ];
     for words in forms {
-        let (status, sink) = told(alloc, words, b"insert 1 2\n")?;
+        let (status, sink) = told(&rt, alloc, words, b"insert 1 2\n")?;
         assert_eq!(rt; status, Status::Usage);
         assert_eq!(rt; sink.bytes(), usage.as_slice());
     }
@@ -43,6 +44,7 @@ fn sound(most: usize) -> Side
 
 // The status, and what was written.
 fn run_between(
+    rt: &(impl Abort + Threads + Wait + Sync),
     alloc: Global,
     form: &str,
     input: Vec<u8>,
@@ -55,20 +57,25 @@ fn run_between(
     let words = vec![in alloc; String::from_str(alloc, form)?]?;
     let mut given = MemSource::new(input, source.most, vec![in alloc; source.failing]?);
     let mut taken = MemSink::new(alloc, sink.most, vec![in alloc; sink.failing]?);
-    let status = top(alloc, &words, &mut given, &mut taken, &OpenGate);
+    let status = top(rt, alloc, &words, &mut given, &mut taken, &OpenGate);
     Ok((status, taken))
 }
 
-// A form with an input, the status that it comes to, and what is written then. No input's length is a multiple of 10, and
-// no text's of 8.
-const ROWS: [(&str, &[u8], Status, &[u8]); 5] = [
+// A form with an input, the status that it comes to, and what is written then. No input's length is a multiple of 10.
+const ROWS: [(&str, &[u8], Status, &[u8]); 6] = [
     (
         "run",
-        b"insert 10 100\ninsert 10 7\n",
+        b"space 16 16384\ninsert 10 100\ninsert 10 7\n",
         Status::Done,
         b"session 1\ninsert 10 100 -> inserted at 0\ninsert 10 7 -> duplicate at 1\nlog 1\n1 1 insert 10 100\nmap 1\n10 100\n",
     ),
     ("run", b"put 1 2", Status::Script, b"script: line 1: word\n"),
+    (
+        "raw",
+        b"space 16 8196\ninsert 10 100\n",
+        Status::Done,
+        &FILE,
+    ),
     (
         "latch",
         b"1 x 0 4\n1 ux 0\n",
@@ -97,6 +104,7 @@ fn each_read_failing(rt: HostRuntime) -> Result<(), Fail> {
         for call in 1..=input.len() as u64 / 10 + 2 {
             let given = Vec::from_slice(alloc, input)?;
             let (status, sink) = run_between(
+                &rt,
                 alloc,
                 form,
                 given,
@@ -117,9 +125,10 @@ fn each_read_failing(rt: HostRuntime) -> Result<(), Fail> {
 fn each_write_failing(rt: HostRuntime) -> Result<(), Fail> {
     let alloc = rt.alloc();
     for (form, input, status, text) in ROWS {
-        for before in 0..text.len() / 8 + 1 {
+        for before in 0..text.len().div_ceil(8) {
             let given = Vec::from_slice(alloc, input)?;
             let (found, sink) = run_between(
+                &rt,
                 alloc,
                 form,
                 given,
@@ -133,7 +142,7 @@ fn each_write_failing(rt: HostRuntime) -> Result<(), Fail> {
             assert_eq!(rt; sink.bytes(), &text[..8 * before]);
         }
         let given = Vec::from_slice(alloc, input)?;
-        let (found, sink) = run_between(alloc, form, given, sound(99), sound(8))?;
+        let (found, sink) = run_between(&rt, alloc, form, given, sound(99), sound(8))?;
         assert_eq!(rt; found, status);
         assert_eq!(rt; sink.bytes(), text);
     }
@@ -141,14 +150,37 @@ fn each_write_failing(rt: HostRuntime) -> Result<(), Fail> {
 }
 
 #[test]
+fn a_read_and_a_write_that_fail(rt: HostRuntime) -> Result<(), Fail> {
+    let alloc = rt.alloc();
+    let script = b"insert 10 100\ninsert 10 7\n";
+    let third = Side {
+        most: 10,
+        failing: 3,
+    };
+    let given = Vec::from_slice(alloc, script)?;
+    let (status, sink) = run_between(&rt, alloc, "run", given, third, sound(99))?;
+    assert_eq!(rt; status, Status::ReadFault);
+    assert_eq!(rt; sink.bytes(), b"".as_slice());
+    let second = Side {
+        most: 1,
+        failing: 2,
+    };
+    let given = Vec::from_slice(alloc, script)?;
+    let (status, sink) = run_between(&rt, alloc, "run", given, sound(99), second)?;
+    assert_eq!(rt; status, Status::WriteFault);
+    assert_eq!(rt; sink.bytes(), b"s".as_slice());
+    Ok(())
+}
+
+#[test]
 fn an_input_too_large(rt: HostRuntime) -> Result<(), Fail> {
     let alloc = rt.alloc();
     let script = vec![in alloc; b'\n'; INPUT_BYTES]?;
-    let (status, sink) = run_between(alloc, "run", script, sound(PIECE_BYTES), sound(99))?;
+    let (status, sink) = run_between(&rt, alloc, "run", script, sound(PIECE_BYTES), sound(99))?;
     assert_eq!(rt; status, Status::Done);
     assert_eq!(rt; sink.bytes(), b"log 0\nmap 0\n".as_slice());
     let script = vec![in alloc; b'\n'; INPUT_BYTES + 1]?;
-    let (status, sink) = run_between(alloc, "run", script, sound(PIECE_BYTES), sound(99))?;
+    let (status, sink) = run_between(&rt, alloc, "run", script, sound(PIECE_BYTES), sound(99))?;
     assert_eq!(rt; status, Status::TooLarge);
     assert_eq!(rt; sink.bytes(), b"too large\n".as_slice());
     Ok(())

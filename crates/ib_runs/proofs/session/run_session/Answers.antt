@@ -1,5 +1,5 @@
 use Rattle.std.proofs.Common.{◌≡◌, ◌+◌, ◌∙◌, List, [], ◌∷◌, ◌++◌, take, get_or, length, ap, sym, subst, arith, refl}
-use Rattle.std.proofs.lemmas.List.{take_more}
+use Rattle.std.proofs.lemmas.List.{nil_from_length, take_more}
 use Rattle.ib_map.specs.FullRecords.{total_chunks}
 use Rattle.ib_map.specs.Replies.{FullRecord}
 use Rattle.ib_map.specs.declared.call.Call.{Call}
@@ -15,11 +15,13 @@ use Rattle.ib_runs.proofs.session.run_session.Goals as goal
 pub loop-call-init : goal.loop-call-init
 loop-call-init g c =
     let sizes : Sizes = c.args.index.now.sizes in
-    let known = known_none sizes c.args.pass.now c.requires.nothing_seen c.requires.nothing_made in
+    let own = c.args.pass.now.view.memory.own in
+    let made : own ≡ [] = nil_from_length own (let e = ap length c.requires.nothing_seen in let n = c.made.ensures.made in let s = c.made.ensures.seen in omega arith) in
+    let known = known_none sizes c.args.pass.now c.requires.nothing_seen made in
     record {
       rest = record { own = c.requires.own; idle = c.requires.idle; scratch = c.requires.scratch };
       same = refl;
-      answered = subst (λ (o : KeptAnswers). HasAnswered sizes [] (answers_of o) c.args.pass.now c.args.pass.now) (sym c.requires.empty) (answered_none sizes c.args.pass.now known c.requires.nothing_seen c.requires.nothing_made);
+      answered = subst (λ (o : KeptAnswers). HasAnswered sizes [] (answers_of o) c.args.pass.now c.args.pass.now) (sym c.requires.empty) (answered_none sizes c.args.pass.now known c.requires.nothing_seen made);
       whole = subst (λ (o : KeptAnswers). total_chunks o.records ≡ length o.chunks.list) (sym c.requires.empty) refl;
       room = let e = ap (λ (o : KeptAnswers). o.chunks.chunk_room) c.requires.empty in omega arith;
       grants = let e = ap total c.requires.no_grants in omega arith;

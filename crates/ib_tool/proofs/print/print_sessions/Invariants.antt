@@ -1,10 +1,11 @@
-use Rattle.std.proofs.Common.{◌≡◌, ◌+◌, take}
+use Rattle.std.proofs.Common.{◌≡◌, ◌+◌, map, take}
+use Rattle.ib_runs.specs.Answers.{answers_of}
 use Rattle.ib_text.specs.Output.{sessions_from}
 use Rattle.ib_edge.specs.Writer.{Puts}
 use Rattle.ib_tool.proofs.print.print_sessions.Given as goal
 
 abbrev pub invariant-loop-out : goal.invariant-loop-out
 invariant-loop-out g l = record {
-  puts : Puts g.K.Sink.written g.K.Sink.faults l.fn.writer l.writer (sessions_from 1 (take l.out-index l.sessions));
+  puts : Puts g.K.Sink.written g.K.Sink.faults l.fn.writer l.writer (sessions_from 1 (map answers_of (take l.out-index l.sessions)));
   count : l.number ≡ 1 + l.out-index;
 }

@@ -1,0 +1,57 @@
+-- What a run of a script gives is one of its texts.
+use Rattle.std.proofs.Common.{◌≡◌, ◌∙◌, ◌<◌, ◌≤◌, ◌^◌, ℕ, List, ap, sym, refl, subst, length, map, true, arith}
+use Rattle.ib_layout.specs.Geometry.{has_log}
+use Rattle.ib_layout.specs.declared.geometry.TheConstants.{MOST_LOG_WORDS}
+use Rattle.ib_logrec.specs.Log.{history_of, log_words}
+use Rattle.ib_map.specs.History.{History}
+use Rattle.ib_map.specs.Pairs.{Pairs}
+use Rattle.ib_replay.specs.Files.{file_of}
+use Rattle.ib_rule.specs.Closed.{log_in}
+use Rattle.ib_runs.specs.Answers.{answers_of}
+use Rattle.ib_runs.specs.Outcomes.{HasRan}
+use Rattle.ib_runs.specs.declared.ran.Ran.{Ran}
+use Rattle.ib_script.specs.Generated.{IsGenerated}
+use Rattle.ib_script.specs.Script.{ScriptValue}
+use Rattle.ib_script.specs.declared.load.Load.{Load}
+use Rattle.ib_text.specs.Output.{output_of}
+use Rattle.ib_tool.specs.Counts.{counts_of}
+use Rattle.ib_tool.specs.Texts.{IsCountText, IsRawText, IsRunText, map_in}
+
+module _ (script : ScriptValue) (ran : Ran) (h : HasRan script.sizes script.commands ran) where
+  -- the text
+  pub run-text : IsRunText script (output_of (map answers_of ran.sessions.items) ran.history.items ran.map)
+  run-text = record {
+    runs = map answers_of ran.sessions.items;
+    log = h.log;
+    outcome = h.outcome;
+    printed = ap (λ (x : History). output_of (map answers_of ran.sessions.items) x ran.map) h.read_off.history_is
+        ∙ ap (λ (m : Pairs). output_of (map answers_of ran.sessions.items) (history_of h.log) m) h.read_off.walked;
+  }
+
+  -- the words of the log
+  pub log-words : (words : List ℕ) → words ≡ log_in ran.closed.sizes ran.closed.words → words ≡ log_words h.log
+  log-words words is = is ∙ (ap (λ sizes. log_in sizes ran.closed.words) h.sizes_are ∙ h.words.logged)
+
+  -- .. are few
+  pub few-words : (words : List ℕ) → words ≡ log_in ran.closed.sizes ran.closed.words → script.sizes.log_words ≤ MOST_LOG_WORDS → length words < 2 ^ 32
+  few-words words is most = let size = ap length (log-words words is) in let room = h.outcome.room in omega arith
+
+  -- the file of the log
+  pub raw-text : (words bytes : List ℕ) (pages : ℕ) → words ≡ log_in ran.closed.sizes ran.closed.words → pages ≡ script.sizes.pages → bytes ≡ file_of pages words → IsRawText script bytes
+  raw-text words bytes pages is same file = record {
+    runs = map answers_of ran.sessions.items;
+    log = h.log;
+    outcome = h.outcome;
+    printed = file ∙ ap (λ n. file_of n words) same ∙ ap (file_of script.sizes.pages) (log-words words is);
+  }
+
+  -- the counts, where the script was generated
+  pub count-text : (load : Load) → IsGenerated load script → IsCountText load (counts_of (map answers_of ran.sessions.items) ran.map)
+  count-text load generated = record {
+    script = script;
+    generated = generated;
+    runs = map answers_of ran.sessions.items;
+    log = h.log;
+    outcome = h.outcome;
+    printed = ap (λ (m : Pairs). counts_of (map answers_of ran.sessions.items) m) h.read_off.walked;
+  }
