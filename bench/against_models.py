@@ -15,6 +15,7 @@ import subprocess
 import sys
 import tempfile
 
+import heaps
 from judge import Wrong, judge
 from tree_logs import FORM, WORDS, Tree, entry_words, file_of, new_space
 
@@ -392,11 +393,10 @@ def must(holds, why):
 
 def records_of(words):
     """The records of a page of the tree, whose words must be in its form."""
-    kind, level, count, prev, behind = words[:5]
-    must(kind == 1 and level <= 7 and count <= 35 and words[6:8] == [0, 0], "head")
+    kind, level, _, prev, behind = words[:5]
+    must(kind == 1 and level <= 7, "head")
     must(prev < 2**32 and behind < 2**32 and (level == 0 or prev == behind == 0), "links")
-    must(not any(words[8 + 2 * count :]), "words behind the records")
-    records = list(zip(words[8 : 8 + 2 * count : 2], words[9 : 9 + 2 * count : 2]))
+    records = heaps.records(words)
     must(all(one[0] < two[0] for one, two in zip(records, records[1:])), "order of keys")
     return records
 
@@ -437,7 +437,7 @@ def is_tree_behind(met, pages, count, pairs, writes):
         must(0 not in now and content == sorted(pairs.items()), "content")
         must(all(met.get(page) == now.get(page) for page in {*met, *now} - written), "an unwritten page")
         return now
-    except NoTree:
+    except (NoTree, heaps.NoHeap):
         return None
 
 

@@ -13,10 +13,12 @@ import subprocess
 import sys
 import time
 
+import heaps
+
 TOP = os.path.dirname(os.path.dirname(os.path.abspath(__file__)))
 PROGRAM = os.path.join(TOP, "crates", "ib_tool", "out", "ib_tool")
 PAGES, WORDS, MOST = 4096, 128, 35
-FORM = 0x49424C4F47353730
+FORM = 0x49424C4F47353731
 INSERT, DELETE, STRUCTURAL = 1, 2, 4
 
 
@@ -26,7 +28,7 @@ def free_page(clock=0):
 
 def new_space():
     """The first two pages of a new space; all others are free."""
-    return {0: [3] + [0] * (WORDS - 1), 1: [1] + [0] * (WORDS - 1)}
+    return {0: [3] + [0] * (WORDS - 1), 1: heaps.empty_page(0, 0, 0, 0)}
 
 
 def entry_words(session, number, inserts, key, value, writes):
@@ -58,17 +60,13 @@ class Tree:
         return words
 
     def records(self, page):
-        words = self.pages[page]
-        return [(words[8 + 2 * i], words[9 + 2 * i]) for i in range(words[2])]
+        return heaps.records(self.pages[page])
 
     def put(self, page, level, prev, next_page, records):
+        """Fills a page anew, as each page is whose records move."""
         words = self.edit(page)
-        flat = [word for record in records for word in record]
-        words[:] = [1, level, len(records), prev, next_page, words[5], 0, 0] + flat + [0] * (WORDS - 8 - len(flat))
-
-    def with_records(self, page, records):
-        words = self.pages[page]
-        self.put(page, words[1], words[3], words[4], records)
+        words[1], words[3], words[4] = level, prev, next_page
+        heaps.fill(words, records)
 
     def take_page(self):
         page = self.next_free
@@ -88,7 +86,7 @@ class Tree:
         page = path.pop()
         records = sorted(self.records(page) + [record])
         if len(records) <= MOST:
-            self.with_records(page, records)
+            heaps.insert(self.edit(page), *record)
         elif page == 1:
             self.raise_root(records)
         else:
@@ -126,8 +124,7 @@ class Tree:
         self.commit(True, key, value)
 
     def delete(self, key):
-        page = self.path(key)[-1]
-        self.with_records(page, [record for record in self.records(page) if record[0] != key])
+        heaps.remove(self.edit(self.path(key)[-1]), key)
         self.commit(False, key, 0)
 
     def file(self):

@@ -16,7 +16,7 @@ use Rattle.ib_core.specs.Holders.{CanWish}
 use Rattle.ib_core.specs.Sessions.{holdings}
 use Rattle.ib_page.specs.Image.{IsTreePage, IsFormed, next_of}
 use Rattle.ib_page.specs.Work.{WorkPage, changed_of, with_read}
-use Rattle.ib_page.proofs.FormLaws.{formed-tree}
+use Rattle.ib_heap.proofs.FormLaws.{formed-tree}
 use Rattle.ib_logrec.specs.declared.entry.Entry.{Entry}
 use Rattle.ib_logrec.specs.Law.{PageRange}
 use Rattle.ib_logrec.specs.Log.{memory_after}

@@ -12,7 +12,7 @@ use Rattle.ib_page.specs.Page.{PageValue, HoldsTree, page_in}
 use Rattle.ib_page.specs.Page.PageValue.{Malformed as MalformedValue, Free as FreeValue, Tree as TreeValue}
 use Rattle.ib_page.specs.Form.{page_of}
 use Rattle.ib_page.specs.Image.{IsTreePage, level_of, next_of, records_of}
-use Rattle.ib_page.proofs.RouteLaws.{IsSomeAnd_get}
+use Rattle.ib_heap.proofs.RouteLaws.{IsSomeAnd_get}
 use Rattle.ib_walk.specs.Pages.{Tree}
 use Rattle.ib_walk.specs.Words.{words_at, image_of, pages_of, state_of}
 use Rattle.ib_walk.specs.Search.{child_for}

@@ -12,7 +12,7 @@ use Rattle.ib_page.specs.Page.PageValue.{Malformed as MalformedValue, Free as Fr
 use Rattle.ib_page.specs.Form.{page_of}
 use Rattle.ib_page.specs.Image.{IsTreePage, IsFormed, prev_of, records_of}
 use Rattle.ib_page.specs.Work.{changed_of, with_read, without_page}
-use Rattle.ib_page.proofs.FormLaws.{formed-tree}
+use Rattle.ib_heap.proofs.FormLaws.{formed-tree}
 use Rattle.ib_rule.specs.Pass.{PassState}
 use Rattle.ib_walk.specs.Search.{child_for}
 use Rattle.ib_walk.specs.Words.{image_of, pages_of, state_of}

@@ -25,7 +25,7 @@ use Rattle.ib_rule.specs.Views.{is_watched, total}
 use Rattle.ib_rule.proofs.Watching.{word_stays}
 use Rattle.ib_map.specs.declared.TheConstants.{PAGE_WORDS}
 use Rattle.ib_page.specs.Image.{IsTreePage, IsFormed, next_of}
-use Rattle.ib_page.proofs.FormLaws.{formed-tree}
+use Rattle.ib_heap.proofs.FormLaws.{formed-tree}
 use Rattle.ib_logrec.specs.Log.{memory_after}
 use Rattle.ib_walk.specs.Pages.{Tree}
 use Rattle.ib_walk.specs.Words.{image_of}

@@ -4,7 +4,7 @@ use Rattle.std.specs.List.{AllByRecursion}
 use Rattle.ib_map.specs.Keys.{MapKey}
 use Rattle.ib_map.specs.Writes.{touches, spans_pages}
 use Rattle.ib_levels.specs.declared.level.Mode.TheVariants.{S}
-use Rattle.ib_page.specs.declared.TheConstants.{MOST_LEVEL}
+use Rattle.ib_heap.specs.declared.TheConstants.{MOST_LEVEL}
 use Rattle.ib_layout.specs.Geometry.{Sizes}
 use Rattle.ib_logrec.specs.declared.entry.Entry.{Entry}
 use Rattle.ib_logrec.specs.Law.{PageRange}

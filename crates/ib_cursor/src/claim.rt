@@ -9,7 +9,7 @@ ghost use Rattle.ib_core.specs.Holders.{CanWish};
 ghost use Rattle.ib_core.specs.Sessions.{holdings};
 ghost use Rattle.ib_page.specs.Image.{IsFormed, next_of, prev_of};
 ghost use Rattle.ib_page.specs.Work.{changed_of};
-ghost use Rattle.ib_page.specs.declared.TheConstants.{MOST_LEVEL};
+ghost use Rattle.ib_heap.specs.declared.TheConstants.{MOST_LEVEL};
 ghost use Rattle.ib_page.specs.declared.work.TheConstants.{MOST_WORK_PAGES};
 ghost use Rattle.ib_logrec.specs.Log.{by_place};
 ghost use Rattle.ib_rule.specs.Conditions.{MayGrow};

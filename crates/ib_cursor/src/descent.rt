@@ -5,7 +5,7 @@ ghost use Rattle.ib_map.specs.Keys.{rank, end_rank};
 ghost use Rattle.ib_logrec.specs.Log.{by_place, memory_after};
 ghost use Rattle.ib_page.specs.Image.{level_of as level_in_words};
 ghost use Rattle.ib_page.specs.declared.path.TheConstants.{MOST_PATH};
-ghost use Rattle.ib_page.specs.declared.TheConstants.{MOST_LEVEL};
+ghost use Rattle.ib_heap.specs.declared.TheConstants.{MOST_LEVEL};
 ghost use Rattle.ib_rule.specs.Views.{total, with_grant};
 ghost use Rattle.ib_walk.specs.Trees.{height_of};
 ghost use Rattle.ib_tree.specs.Logs.{pages_after};

@@ -5,7 +5,7 @@ ghost use Rattle.std.proofs.Common.{◌∙◌};
 ghost use Rattle.ib_map.specs.Keys.{rank};
 ghost use Rattle.ib_logrec.specs.Log.{by_place, memory_after};
 ghost use Rattle.ib_page.specs.Image.{IsTreePage, level_of, records_of};
-ghost use Rattle.ib_page.specs.declared.TheConstants.{MOST_LEVEL};
+ghost use Rattle.ib_heap.specs.declared.TheConstants.{MOST_LEVEL};
 ghost use Rattle.ib_walk.specs.Search.{child_for};
 ghost use Rattle.ib_walk.specs.Words.{image_of};
 ghost use Rattle.ib_mtr.specs.Mtr.{IsMtr};

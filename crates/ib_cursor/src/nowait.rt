@@ -5,7 +5,7 @@ ghost use Rattle.ib_map.specs.Keys.{rank, end_rank};
 ghost use Rattle.ib_levels.specs.declared.level.Mode.TheVariants.{S as ModeS};
 ghost use Rattle.ib_levels.specs.declared.level.Level.TheVariants.{TreeNode};
 ghost use Rattle.ib_layout.specs.Places.{latches_of};
-ghost use Rattle.ib_page.specs.declared.TheConstants.{MOST_LEVEL};
+ghost use Rattle.ib_heap.specs.declared.TheConstants.{MOST_LEVEL};
 ghost use Rattle.ib_core.specs.Holders.{CanWish};
 ghost use Rattle.ib_logrec.specs.Log.{by_place};
 ghost use Rattle.ib_rule.specs.Conditions.{MayGrow};

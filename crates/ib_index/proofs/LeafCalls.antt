@@ -18,7 +18,7 @@ use Rattle.ib_map.specs.declared.call.Reply.{Reply}
 use Rattle.ib_map.specs.declared.call.Reply.TheVariants.{Inserted, Duplicate, Deleted, Missing, LogFull as LogFullReply}
 use Rattle.ib_map.proofs.HistoryLaws.{map_after-append, slice_get-last}
 use Rattle.ib_core.specs.Sessions.{idle}
-use Rattle.ib_page.specs.declared.TheConstants.{MOST_RECORDS}
+use Rattle.ib_heap.specs.declared.TheConstants.{MOST_RECORDS}
 use Rattle.ib_page.specs.Work.{WorkPage}
 use Rattle.ib_layout.specs.Geometry.{Sizes}
 use Rattle.ib_logrec.specs.declared.entry.Entry.{Entry}

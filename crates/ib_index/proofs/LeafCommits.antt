@@ -17,7 +17,7 @@ use Rattle.ib_levels.specs.declared.level.Level.TheVariants.{Log}
 use Rattle.ib_levels.specs.declared.level.Mode.TheVariants.{X}
 use Rattle.ib_core.specs.declared.session.Session.{Session}
 use Rattle.ib_core.specs.Sessions.{x_grants}
-use Rattle.ib_page.specs.declared.TheConstants.{MOST_RECORDS}
+use Rattle.ib_heap.specs.declared.TheConstants.{MOST_RECORDS}
 use Rattle.ib_page.specs.Form.{page_of}
 use Rattle.ib_page.specs.Work.{WorkPage, with_changed}
 use Rattle.ib_page.specs.Writes.{writes_of, writes_below}

@@ -19,7 +19,7 @@ use Rattle.ib_page.specs.Space.{IsSpacePage, space_clock_of}
 use Rattle.ib_page.specs.Work.{WorkPage, IsWork, PagesAscend, changed_of}
 use Rattle.ib_page.specs.Writes.{writes_of}
 use Rattle.ib_page.specs.declared.space.TheConstants.{MAPPED_PAGES}
-use Rattle.ib_page.proofs.FormLaws.{length-formed}
+use Rattle.ib_heap.proofs.FormLaws.{length-formed}
 use Rattle.ib_page.proofs.StoreLaws.{writes_rise}
 use Rattle.ib_logrec.specs.declared.entry.Entry.{Entry}
 use Rattle.ib_logrec.specs.declared.entry.TheConstants.{MOST_SESSIONS}

@@ -2,7 +2,7 @@
 use Rattle.std.proofs.Common.{◌≡◌, ℕ, zero, suc, Bool, true, false, cond, List, length, refl, sym}
 use Rattle.std.specs.Prelude.{nat_lt, ◌==◌}
 use Rattle.ib_map.specs.Keys.{MapKey}
-use Rattle.ib_page.specs.declared.TheConstants.{MOST_RECORDS}
+use Rattle.ib_heap.specs.declared.TheConstants.{MOST_RECORDS}
 use Rattle.ib_walk.specs.Pages.{PageMemory}
 use Rattle.ib_walk.specs.Search.{child_for, leaf_for, page_below}
 use Rattle.ib_walk.specs.Trees.{height_of}

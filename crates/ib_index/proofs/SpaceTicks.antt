@@ -9,7 +9,7 @@ use Rattle.ib_page.specs.Page.PageValue.{Malformed as MalformedValue, Free as Fr
 use Rattle.ib_page.specs.Form.{page_of}
 use Rattle.ib_page.specs.Space.{is_taken, space_clock_of}
 use Rattle.ib_page.specs.Work.{changed_of}
-use Rattle.ib_page.proofs.FormLaws.{kind_read}
+use Rattle.ib_heap.proofs.FormLaws.{kind_read}
 use Rattle.ib_page.proofs.SpaceLaws.{bit_in_word}
 use Rattle.ib_walk.specs.Words.{state_of, image_of, bits_of}
 use Rattle.ib_logrec.specs.Log.{by_place, memory_after}

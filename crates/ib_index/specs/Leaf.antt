@@ -5,7 +5,7 @@ use Rattle.ib_map.specs.Pairs.{value_at}
 use Rattle.ib_map.specs.Space.{has_pages}
 use Rattle.ib_map.specs.declared.TheConstants.{PAGE_WORDS}
 use Rattle.ib_levels.specs.declared.level.Mode.TheVariants.{X}
-use Rattle.ib_page.specs.declared.TheConstants.{MOST_RECORDS}
+use Rattle.ib_heap.specs.declared.TheConstants.{MOST_RECORDS}
 use Rattle.ib_layout.specs.Geometry.{Sizes}
 use Rattle.ib_logrec.specs.declared.entry.Entry.{Entry}
 use Rattle.ib_logrec.specs.declared.entry.TheConstants.{MOST_SESSIONS}

@@ -6,7 +6,7 @@ ghost use Rattle.ib_map.specs.Pairs.{value_at};
 ghost use Rattle.ib_map.specs.declared.call.Call.TheVariants.{Insert as InsertCall, Delete as DeleteCall};
 ghost use Rattle.ib_map.specs.declared.call.Change.TheVariants.{Insert, Delete};
 ghost use Rattle.ib_map.specs.declared.call.Reply.TheVariants.{LogFull as LogFullReply};
-ghost use Rattle.ib_page.specs.declared.TheConstants.{MOST_RECORDS};
+ghost use Rattle.ib_heap.specs.declared.TheConstants.{MOST_RECORDS};
 ghost use Rattle.ib_page.specs.Form.{page_of};
 ghost use Rattle.ib_page.specs.Image.{IsTreePage, clock_of, records_of};
 ghost use Rattle.ib_page.specs.Work.{WorkPage, changed_of};

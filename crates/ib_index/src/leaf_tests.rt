@@ -140,7 +140,7 @@ fn a_full_log_takes_no_change(rt: HostRuntime) {
     let mut one = come(&rt, rt.alloc(), &mut table);
     assert_eq!(rt; insert(&rt, &table, &mut one, 5), inserted(5, 0));
     let full = Reply::LogFull {
-        used: 12,
+        used: 20,
         cap: 8196,
     };
     assert_eq!(rt; delete(&rt, &table, &mut one, 5), answered(5, full, 1));

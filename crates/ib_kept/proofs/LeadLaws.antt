@@ -9,7 +9,7 @@ use Rattle.ib_map.specs.declared.call.Change.{Change}
 use Rattle.ib_map.specs.declared.call.Change.TheVariants.{Insert, Delete}
 use Rattle.ib_map.specs.declared.call.Reply.TheVariants.{Duplicate, Inserted}
 use Rattle.ib_map.proofs.KeyLaws.{rank-lt_end}
-use Rattle.ib_page.specs.declared.TheConstants.{MOST_LEVEL}
+use Rattle.ib_heap.specs.declared.TheConstants.{MOST_LEVEL}
 use Rattle.ib_page.specs.declared.space.TheConstants.{MAPPED_PAGES}
 use Rattle.ib_walk.specs.Pages.{PageMemory}
 use Rattle.ib_walk.specs.Trees.{IsLawful, content_of, height_of}

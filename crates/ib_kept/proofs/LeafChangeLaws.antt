@@ -10,7 +10,7 @@ use Rattle.ib_map.specs.Space.{has_pages}
 use Rattle.ib_map.specs.declared.call.Change.TheVariants.{Insert, Delete}
 use Rattle.ib_map.specs.declared.call.Reply.TheVariants.{Duplicate, Inserted}
 use Rattle.ib_map.proofs.KeyLaws.{rank-lt_end}
-use Rattle.ib_page.specs.declared.TheConstants.{MOST_RECORDS}
+use Rattle.ib_heap.specs.declared.TheConstants.{MOST_RECORDS}
 use Rattle.ib_page.specs.declared.space.TheConstants.{MAPPED_PAGES}
 use Rattle.ib_page.specs.Space.{IsSpacePage}
 use Rattle.ib_logrec.specs.declared.entry.Entry.{Entry}

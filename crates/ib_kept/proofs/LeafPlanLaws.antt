@@ -5,7 +5,7 @@ use Rattle.std.proofs.lemmas.Bool.{le-ltb, ne_eqb}
 use Rattle.ib_map.specs.Keys.{MapKey, rank, end_rank}
 use Rattle.ib_map.specs.Pairs.{value_at, put, without}
 use Rattle.ib_map.proofs.PairLaws.{length-put, length-without}
-use Rattle.ib_page.specs.declared.TheConstants.{MOST_RECORDS}
+use Rattle.ib_heap.specs.declared.TheConstants.{MOST_RECORDS}
 use Rattle.ib_walk.specs.Pages.{PageMemory, PageState}
 use Rattle.ib_walk.specs.Full.{full_run, is_root_full, is_too_high, need_of, run_of}
 use Rattle.ib_walk.specs.Search.{child_for, leaf_for, page_below}

@@ -13,7 +13,7 @@ use Rattle.ib_page.specs.Form.{page_of}
 use Rattle.ib_page.specs.Page.{PageValue, HoldsPage}
 use Rattle.ib_page.specs.Page.PageValue.{Malformed as MalformedValue, Free as FreeValue, Tree as TreeValue}
 use Rattle.ib_page.specs.Space.{IsSpacePage, space_clock_of}
-use Rattle.ib_page.proofs.FormLaws.{length-formed}
+use Rattle.ib_heap.proofs.FormLaws.{length-formed}
 use Rattle.ib_logrec.specs.declared.entry.Entry.{Entry}
 use Rattle.ib_logrec.specs.Grammar.{IsInGrammar}
 use Rattle.ib_logrec.specs.Log.{memory_after, by_place}

@@ -8,7 +8,7 @@ use Rattle.ib_map.specs.History.{IsLegalHistory, changes_of, map_after}
 use Rattle.ib_map.specs.Space.{has_pages}
 use Rattle.ib_map.specs.Writes.{touches}
 use Rattle.ib_map.proofs.HistoryLaws.{IsLegalHistory-push}
-use Rattle.ib_page.specs.declared.TheConstants.{MOST_RECORDS}
+use Rattle.ib_heap.specs.declared.TheConstants.{MOST_RECORDS}
 use Rattle.ib_page.specs.declared.space.TheConstants.{MAPPED_PAGES}
 use Rattle.ib_page.specs.Space.{IsSpacePage}
 use Rattle.ib_logrec.specs.declared.entry.Entry.{Entry}

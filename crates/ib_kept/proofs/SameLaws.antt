@@ -1,6 +1,6 @@
 -- Lawful trees stay lawful where page 0 alone, which no walk meets, is another.
 use Rattle.std.proofs.Common.{◌≡◌, ◌≢◌, ℕ, ◌<◌, ◌≤◌, ap, sym, subst, ◌∙◌, arith}
-use Rattle.ib_page.specs.declared.TheConstants.{MOST_RECORDS}
+use Rattle.ib_heap.specs.declared.TheConstants.{MOST_RECORDS}
 use Rattle.ib_walk.specs.Pages.{PageMemory, PageState, IsSound}
 use Rattle.ib_walk.specs.Walk.{Visit, is_page, weight, records_in, below, AreLinked}
 use Rattle.ib_walk.specs.Trees.{IsLawful, IsTreeOf, content_of, height_of, leaves_of, top_of, weight_of}

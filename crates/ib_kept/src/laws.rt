@@ -7,7 +7,7 @@ ghost use Rattle.ib_map.specs.Map.{answer_of, is_made};
 ghost use Rattle.ib_map.specs.History.{changes_of};
 ghost use Rattle.ib_map.specs.Space.{has_pages};
 ghost use Rattle.ib_map.specs.declared.call.Change.TheVariants.{Insert, Delete};
-ghost use Rattle.ib_page.specs.declared.TheConstants.{MOST_RECORDS};
+ghost use Rattle.ib_heap.specs.declared.TheConstants.{MOST_RECORDS};
 ghost use Rattle.ib_page.specs.Space.{space_clock_of, IsSpacePage};
 ghost use Rattle.ib_logrec.specs.declared.entry.Entry.{Entry};
 ghost use Rattle.ib_logrec.specs.Grammar.{IsInGrammar};

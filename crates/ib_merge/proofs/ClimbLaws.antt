@@ -4,7 +4,7 @@ use Rattle.std.specs.Prelude.{IsSomeAnd, MatchOption, ◌&&◌}
 use Rattle.std.proofs.lemmas.List.Elements.{All-get_or}
 use Rattle.ib_map.specs.Keys.{MapKey, end_rank, rank}
 use Rattle.ib_map.proofs.KeyLaws.{rank-lt_end}
-use Rattle.ib_page.specs.declared.TheConstants.{MOST_RECORDS}
+use Rattle.ib_heap.specs.declared.TheConstants.{MOST_RECORDS}
 use Rattle.ib_page.specs.Image.{IsTreePage}
 use Rattle.ib_page.specs.Work.{WorkPage, changed_of}
 use Rattle.ib_walk.specs.Pages.{PageMemory}

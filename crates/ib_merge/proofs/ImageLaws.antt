@@ -4,15 +4,15 @@ use Rattle.std.specs.Prelude.{Result, Ok, Err, OnOk, OnErr, IfErr, IsNone, â—Œâ†
 use Rattle.ib_map.specs.Keys.{MapKey}
 use Rattle.ib_map.specs.Pairs.{Pairs, value_at, without}
 use Rattle.ib_map.proofs.PairLaws.{without-none}
-use Rattle.ib_page.specs.declared.TheConstants.{MOST_RECORDS}
-use Rattle.ib_page.specs.declared.fault.PageFault.{PageFault}
-use Rattle.ib_page.specs.declared.fault.PageFault.TheVariants.{Missing}
+use Rattle.ib_heap.specs.declared.TheConstants.{MOST_RECORDS}
+use Rattle.ib_heap.specs.declared.fault.PageFault.{PageFault}
+use Rattle.ib_heap.specs.declared.fault.PageFault.TheVariants.{Missing}
 use Rattle.ib_page.specs.Form.{page_of}
 use Rattle.ib_page.specs.Page.{PageValue, HoldsTree, HoldsPage, page_in}
 use Rattle.ib_page.specs.Page.PageValue.{Malformed as NoValue, Free as FreeValue, Tree as TreeValue}
 use Rattle.ib_page.specs.Image.{with_records, with_clock, IsTreePage, IsFormed, clock_of, next_of}
 use Rattle.ib_page.specs.Work.{WorkPage, changed_of, with_changed}
-use Rattle.ib_page.proofs.FormLaws.{tree_fits}
+use Rattle.ib_heap.proofs.FormLaws.{tree_fits}
 use Rattle.ib_walk.specs.Pages.{Tree}
 use Rattle.ib_walk.specs.Words.{state_of}
 use Rattle.ib_plans.specs.Agreement.{state_or_free, memory_in, Sets, tick}

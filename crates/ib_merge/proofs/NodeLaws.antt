@@ -5,11 +5,11 @@ use Rattle.std.proofs.lemmas.Bool.{cases_lt}
 use Rattle.ib_map.specs.Keys.{MapKey, end_rank, rank}
 use Rattle.ib_map.specs.Pairs.{Pairs, Rises}
 use Rattle.ib_map.proofs.KeyLaws.{rank-lt_end}
-use Rattle.ib_page.specs.declared.TheConstants.{MOST_RECORDS}
+use Rattle.ib_heap.specs.declared.TheConstants.{MOST_RECORDS}
 use Rattle.ib_page.specs.declared.space.TheConstants.{MAPPED_PAGES}
 use Rattle.ib_page.specs.Image.{IsTreePage}
 use Rattle.ib_page.specs.Work.{WorkPage, changed_of}
-use Rattle.ib_page.proofs.RouteLaws.{IfSome_from}
+use Rattle.ib_heap.proofs.RouteLaws.{IfSome_from}
 use Rattle.ib_walk.specs.Pages.{Tree, PageState, PageMemory}
 use Rattle.ib_walk.specs.Search.{child_for, page_below}
 use Rattle.ib_walk.specs.Trees.{height_of}

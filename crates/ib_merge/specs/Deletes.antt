@@ -4,7 +4,7 @@ use Rattle.std.specs.List.{All}
 use Rattle.ib_map.specs.Keys.{MapKey, rank, end_rank}
 use Rattle.ib_map.specs.Pairs.{Rises, without}
 use Rattle.ib_merge.specs.declared.edits.Merger.{Merger}
-use Rattle.ib_page.specs.declared.TheConstants.{MOST_RECORDS}
+use Rattle.ib_heap.specs.declared.TheConstants.{MOST_RECORDS}
 use Rattle.ib_page.specs.declared.space.TheConstants.{MAPPED_PAGES}
 use Rattle.ib_page.specs.Image.{IsTreePage}
 use Rattle.ib_page.specs.Space.{space_clock_of}

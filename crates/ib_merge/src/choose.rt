@@ -2,7 +2,7 @@
 
 ghost use Rattle.std.specs.Prelude.{◌≡◌, ◌<◌, ◌≤◌, ◌+◌, ◌-◌, ◌^◌, None, slice_get, IsSomeAnd, IfSome, nat_le, length};
 ghost use Rattle.ib_map.specs.Keys.{rank};
-ghost use Rattle.ib_page.specs.declared.TheConstants.{MOST_RECORDS};
+ghost use Rattle.ib_heap.specs.declared.TheConstants.{MOST_RECORDS};
 ghost use Rattle.ib_page.specs.Image.{IsTreePage, records_of};
 ghost use Rattle.ib_page.specs.Work.{changed_of};
 ghost use Rattle.ib_plans.specs.Merge.{siblings_of, fit_one};

@@ -3,7 +3,7 @@
 ghost use Rattle.std.specs.Prelude.{◌≡◌, ◌≢◌, ◌<◌, ◌≤◌, ◌^◌, ◌+◌, ◌++◌, [], ℕ, length, slice_index, Some, IsSomeAnd};
 ghost use Rattle.ib_map.specs.Keys.{end_rank};
 ghost use Rattle.ib_map.specs.Pairs.{Rises};
-ghost use Rattle.ib_page.specs.declared.TheConstants.{MOST_RECORDS};
+ghost use Rattle.ib_heap.specs.declared.TheConstants.{MOST_RECORDS};
 ghost use Rattle.ib_page.specs.declared.space.TheConstants.{MAPPED_PAGES};
 ghost use Rattle.ib_page.specs.Image.{IsTreePage, IsFormed};
 ghost use Rattle.ib_page.specs.Work.{changed_of};

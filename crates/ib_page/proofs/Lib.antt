@@ -1,14 +1,6 @@
-pub mod FormLaws
-pub mod MoveLaws
-pub mod WordLaws
-pub mod ChangeLaws
-pub mod ReadLaws
-pub mod RouteLaws
-pub mod SearchLaws
 pub mod SpaceLaws
 pub mod WriteLaws
 pub mod RoomLaws
 pub mod BufferLaws
 pub mod StoreLaws
 pub mod OpeningLaws
-pub mod CopyLaws

@@ -1,8 +1,8 @@
 -- The pages of a new space, by their numbers.
 use Rattle.std.proofs.Common.{◌≡◌, ◌≢◌, ℕ, refl, arith}
 use Rattle.std.proofs.lemmas.Bool.{eq-eqb, ne_eqb}
-use Rattle.ib_page.specs.Words.{free_page_words}
-use Rattle.ib_page.specs.Form.{empty_leaf_words}
+use Rattle.ib_heap.specs.Words.{free_page_words}
+use Rattle.ib_heap.specs.Form.{empty_leaf_words}
 use Rattle.ib_page.specs.Opening.{opening_space_words, opening_words}
 
 pub opening_space : (page : ℕ) → page ≡ 0 → opening_words page ≡ opening_space_words

@@ -16,9 +16,9 @@ use Rattle.std.proofs.lemmas.Nat.Bits.{bit_at-lt, bit_at_ones, bit_at-trailing_o
 use Rattle.ib_map.specs.declared.TheConstants.{PAGE_WORDS}
 use Rattle.ib_page.specs.declared.space.TheConstants.{MAPPED_PAGES}
 use Rattle.std.specs.List.{All}
-use Rattle.ib_page.specs.Words.{zeros}
+use Rattle.ib_heap.specs.Words.{zeros}
 use Rattle.ib_page.specs.Opening.{opening_space_words}
-use Rattle.ib_page.proofs.FormLaws.{zeros-at}
+use Rattle.ib_heap.proofs.FreeLaws.{zeros-at}
 use Rattle.ib_page.specs.Space.{is_taken, free_below, zeros_below, SetsBit, IsSpacePage}
 
 -- the free pages of one word

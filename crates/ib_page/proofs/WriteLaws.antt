@@ -6,7 +6,12 @@ use Rattle.std.proofs.lemmas.Grind.{flat_map-append}
 use Rattle.ib_map.specs.declared.write.Write.{Write}
 use Rattle.ib_map.specs.Writes.{word_place, write_words}
 use Rattle.ib_page.specs.Writes.{word_write, writes_below}
-use Rattle.ib_page.proofs.MoveLaws.{drop-behind}
+
+-- what stands behind other words
+drop-behind : (xs ys : List ℕ) (n i : ℕ) → length xs ≡ n → drop (n + i) (xs ++ ys) ≡ drop i ys
+drop-behind [] ys n i long = ap (λ k. drop k ys) (let e : n + i ≡ i = omega arith in e)
+drop-behind (x ∷ xs) ys zero i long = absurd (omega arith)
+drop-behind (x ∷ xs) ys (suc n) i long = ap (λ k. drop k (x ∷ (xs ++ ys))) (let e : suc n + i ≡ suc (n + i) = omega arith in e) ∙ drop-behind xs ys n i (omega arith)
 
 -- one word more
 pub writes_none : (page : ℕ) (before changed : List ℕ) → writes_below page before changed 0 ≡ []

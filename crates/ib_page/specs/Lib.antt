@@ -1,7 +1,7 @@
-pub mod Page
-pub mod Words
-pub mod Form
-pub mod Image
+pub use Rattle.ib_heap.specs.Page
+pub use Rattle.ib_heap.specs.Words
+pub use Rattle.ib_heap.specs.Form
+pub use Rattle.ib_heap.specs.Image
 pub mod Kind
 pub mod Space
 pub mod Opening

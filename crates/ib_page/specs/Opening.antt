@@ -1,8 +1,8 @@
 -- The pages of a new space, word for word.
 use Rattle.std.specs.Prelude.{ℕ, ◌-◌, ◌==◌, List, ◌∷◌, if◌then◌else◌}
 use Rattle.ib_map.specs.declared.TheConstants.{PAGE_WORDS}
-use Rattle.ib_page.specs.Words.{zeros, free_page_words}
-use Rattle.ib_page.specs.Form.{empty_leaf_words}
+use Rattle.ib_heap.specs.Words.{zeros, free_page_words}
+use Rattle.ib_heap.specs.Form.{empty_leaf_words}
 
 -- page 0: the bits of pages 0 and 1, and zeros
 unfoldable pub opening_space_words : List ℕ

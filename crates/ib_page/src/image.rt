@@ -6,15 +6,14 @@ ghost use Rattle.std.specs.List.Sorted.{IsSearchInRange};
 ghost use Rattle.ib_map.specs.Keys.{rank, end_rank};
 ghost use Rattle.ib_map.specs.Pairs.{Rises, put, without, cut, value_at, place_of, place_after};
 ghost use Rattle.ib_map.specs.Writes.{write_words};
-ghost use Rattle.ib_page.specs.Page.PageValue.{Tree, Free};
-ghost use Rattle.ib_page.specs.Words.{free_page_words};
-ghost use Rattle.ib_page.specs.Form.{page_of, empty_leaf_words};
-ghost use Rattle.ib_page.specs.Image.{IsTreePage, IsFormed, level_of, prev_of, next_of, clock_of, records_of, with_records, with_links, with_level, with_clock};
+ghost use Rattle.ib_heap.specs.Page.PageValue.{Tree, Free};
+ghost use Rattle.ib_heap.specs.Words.{free_page_words};
+ghost use Rattle.ib_heap.specs.Form.{page_of, empty_leaf_words};
+ghost use Rattle.ib_heap.specs.Image.{IsTreePage, IsFormed, level_of, prev_of, next_of, clock_of, records_of, with_records, with_links, with_level, with_clock};
 ghost use Rattle.ib_page.specs.Kind.{kind_of};
 ghost use Rattle.ib_page.specs.Writes.{writes_below};
 
-use crate::fault::PageFault;
-use crate::{MOST_LEVEL, MOST_RECORDS, form, page};
+use ib_heap::{MOST_LEVEL, MOST_RECORDS, PageFault};
 use ib_map::{Key, PAGE_WORDS};
 use std::marker::Model;
 
@@ -50,7 +49,7 @@ impl Image {
         ensures words { result ≡ empty_leaf_words clock }
     {
         Image {
-            words: form::empty_page(0, clock),
+            words: ib_heap::empty_page(0, clock),
         }
     }
 
@@ -61,7 +60,7 @@ impl Image {
         ensures { page_of result ≡ Tree (record { level = level; prev = 0; next = 0; clock = clock; records = [] }) }
     {
         Image {
-            words: form::empty_page(level, clock),
+            words: ib_heap::empty_page(level, clock),
         }
     }
 
@@ -71,7 +70,7 @@ impl Image {
         ensures words { result ≡ free_page_words clock }
     {
         Image {
-            words: page::free_page(clock),
+            words: ib_heap::free_page(clock),
         }
     }
 
@@ -79,7 +78,7 @@ impl Image {
     pub fn is_formed(&self) -> bool
         ensures { IsTrue result ↔ IsFormed self.now }
     {
-        form::is_formed(&self.words)
+        ib_heap::is_formed(&self.words)
     }
 
     /// Whether the page is free, a leaf or a node.
@@ -87,9 +86,9 @@ impl Image {
         requires { IsFormed self.now }
         ensures { result ≡ kind_of (page_of self.now) }
     {
-        if !form::is_tree(&self.words) {
+        if !ib_heap::is_tree(&self.words) {
             Kind::Free
-        } else if form::level(&self.words) == 0 {
+        } else if ib_heap::level(&self.words) == 0 {
             Kind::Leaf
         } else {
             Kind::Node
@@ -102,7 +101,7 @@ impl Image {
         ensures level { result ≡ level_of self.now }
         ensures low { result ≤ MOST_LEVEL }
     {
-        form::level(&self.words)
+        ib_heap::level(&self.words)
     }
 
     /// How many records the page has, at most `MOST_RECORDS`.
@@ -111,7 +110,7 @@ impl Image {
         ensures count { result ≡ length (records_of self.now) }
         ensures few { result ≤ MOST_RECORDS }
     {
-        form::count(&self.words)
+        ib_heap::count(&self.words)
     }
 
     /// Whether the page has no record.
@@ -127,7 +126,7 @@ impl Image {
         requires { IsFormed self.now }
         ensures { result ≡ prev_of self.now }
     {
-        form::prev(&self.words)
+        ib_heap::prev(&self.words)
     }
 
     /// The leaf behind this one, 0 for none.
@@ -135,7 +134,7 @@ impl Image {
         requires { IsFormed self.now }
         ensures { result ≡ next_of self.now }
     {
-        form::next(&self.words)
+        ib_heap::next(&self.words)
     }
 
     /// The modify clock.
@@ -143,7 +142,7 @@ impl Image {
         requires { IsFormed self.now }
         ensures { result ≡ clock_of self.now }
     {
-        form::clock(&self.words)
+        ib_heap::clock(&self.words)
     }
 
     /// A word of the image.
@@ -226,7 +225,7 @@ impl Image {
         requires in_range { i < length (records_of self.now) }
         ensures { slice_get (records_of self.now) i ≡ Some result }
     {
-        form::record_at(&self.words, i)
+        ib_heap::record_at(&self.words, i)
     }
 
     /// The place of a key, or the place at which it would stand. By binary search.
@@ -238,7 +237,7 @@ impl Image {
         ensures value { IfOk result (λ i. IsSomeAnd (slice_get (records_of self.now) i) (λ r. value_at key (records_of self.now) ≡ Some r.1)) }
         ensures absent { IfErr result (λ i. value_at key (records_of self.now) ≡ None) }
     {
-        form::find(&self.words, key)
+        ib_heap::find(&self.words, key)
     }
 
     /// The value of a key. None exactly where the key is not there.
@@ -246,7 +245,7 @@ impl Image {
         requires { IsTreePage self.now }
         ensures { result ≡ value_at key (records_of self.now) }
     {
-        form::get(&self.words, key)
+        ib_heap::get(&self.words, key)
     }
 
     /// Where the last record stands whose key is not above this one: in a node, the one of the child to which
@@ -259,7 +258,7 @@ impl Image {
         ensures not_above { IsSomeAnd (slice_get (records_of self.now) result) (λ r. rank r.0 ≤ rank key) }
         ensures next_above { IfSome (slice_get (records_of self.now) (result + 1)) (λ r. rank key < rank r.0) }
     {
-        form::route(&self.words, key)
+        ib_heap::route(&self.words, key)
     }
 
     /// The last record whose key is not above this one: in a node, that of the child to which the key belongs.
@@ -270,7 +269,7 @@ impl Image {
         ensures record { slice_get (records_of self.now) (place_after key (records_of self.now) - 1) ≡ Some result }
         ensures not_above { rank result.0 ≤ rank key }
     {
-        form::route_to(&self.words, key)
+        ib_heap::route_to(&self.words, key)
     }
 
     /// Copies the records whose keys are neither below `low` nor above `high` to the front of `out`, in order of
@@ -281,7 +280,7 @@ impl Image {
         ensures records { let records = cut (records_of self.now) low high in out.new ≡ records ++ drop (length records) out.old }
         ensures count { result ≡ length (cut (records_of self.now) low high) }
     {
-        form::copy_between(&self.words, low, high, out)
+        ib_heap::copy_between(&self.words, low, high, out)
     }
 
     /// Puts a record in. Refused as `Duplicate` exactly where the key is there, and then as `PageFull`
@@ -295,7 +294,7 @@ impl Image {
         ensures never_missing { result ≢ Err PageFault.Missing }
         ensures unchanged { OnErr result (self.new ≡ self.old) }
     {
-        form::put(&mut self.words, key, value)
+        ib_heap::put(&mut self.words, key, value)
     }
 
     /// Takes a record out, and gives its value. Refused as `Missing` exactly where the key is not there,
@@ -309,7 +308,7 @@ impl Image {
         ensures only_missing { IfErr result (λ fault. fault ≡ PageFault.Missing) }
         ensures unchanged { OnErr result (self.new ≡ self.old) }
     {
-        form::take(&mut self.words, key)
+        ib_heap::take(&mut self.words, key)
     }
 
     /// Moves the records from `at` on to `right`, which has none; both pages keep all else.
@@ -321,7 +320,7 @@ impl Image {
         ensures left { page_of self.new ≡ with_records (take at (records_of self.old)) (page_of self.old) }
         ensures right { page_of right.new ≡ with_records (drop at (records_of self.old)) (page_of right.old) }
     {
-        form::move_tail(&mut self.words, at, &mut right.words);
+        ib_heap::move_tail(&mut self.words, at, &mut right.words);
     }
 
     /// Appends the records of `right`, whose keys stand above all of this page; both pages keep all else.
@@ -332,7 +331,16 @@ impl Image {
         requires ascends { Rises 0 (records_of self.old ++ records_of right.now) end_rank }
         ensures { page_of self.new ≡ with_records (records_of self.old ++ records_of right.now) (page_of self.old) }
     {
-        form::append(&mut self.words, &right.words);
+        ib_heap::append(&mut self.words, &right.words);
+    }
+
+    /// Puts the records in anew, one behind the other, as they stand in a page that was just filled
+    /// (`btr_page_reorganize`). What the page holds stays.
+    pub fn reorganize(&mut self)
+        requires { IsTreePage self.old }
+        ensures { page_of self.new ≡ page_of self.old }
+    {
+        ib_heap::reorganize(&mut self.words);
     }
 
     /// Sets both links. A node's are 0.
@@ -342,7 +350,7 @@ impl Image {
         requires next { 0 < level_of self.old → next ≡ 0 }
         ensures { page_of self.new ≡ with_links prev next (page_of self.old) }
     {
-        form::set_links(&mut self.words, prev, next);
+        ib_heap::set_links(&mut self.words, prev, next);
     }
 
     /// Sets the level, 0 to `MOST_LEVEL`. Only a page with no links becomes a node.
@@ -353,7 +361,7 @@ impl Image {
         requires next { 0 < level → next_of self.old ≡ 0 }
         ensures { page_of self.new ≡ with_level level (page_of self.old) }
     {
-        form::set_level(&mut self.words, level);
+        ib_heap::set_level(&mut self.words, level);
     }
 
     /// Adds 1 to the modify clock, which is below 2^63.
@@ -362,8 +370,8 @@ impl Image {
         requires room { clock_of self.old < 2 ^ 63 }
         ensures { page_of self.new ≡ with_clock (clock_of self.old + 1) (page_of self.old) }
     {
-        let clock = form::clock(&self.words);
-        form::set_clock(&mut self.words, clock + 1);
+        let clock = ib_heap::clock(&self.words);
+        ib_heap::set_clock(&mut self.words, clock + 1);
     }
 }
 

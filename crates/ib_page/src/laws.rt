@@ -3,11 +3,11 @@
 ghost use Rattle.std.specs.Prelude.{◌≡◌, ◌≢◌, ◌↔◌, ℕ, ◌+◌, ◌*◌, ◌<◌, ◌≤◌, List, [], length, All, false, nat_lt, Some, None, slice_index};
 ghost use Rattle.std.specs.List.{Any, Contains};
 ghost use Rattle.ib_map.specs.Writes.{PlacesRise, stored, touches, word_place};
-ghost use Rattle.ib_page.specs.Page.{Page, IsPage};
-ghost use Rattle.ib_page.specs.Page.PageValue.{Tree, Free};
-ghost use Rattle.ib_page.specs.Words.{free_page_words};
-ghost use Rattle.ib_page.specs.Form.{page_of, empty_leaf_words};
-ghost use Rattle.ib_page.specs.Image.{IsTreePage, IsFormed};
+ghost use Rattle.ib_heap.specs.Page.{Page, IsPage};
+ghost use Rattle.ib_heap.specs.Page.PageValue.{Tree, Free};
+ghost use Rattle.ib_heap.specs.Words.{free_page_words};
+ghost use Rattle.ib_heap.specs.Form.{page_of, empty_leaf_words};
+ghost use Rattle.ib_heap.specs.Image.{IsTreePage, IsFormed};
 ghost use Rattle.ib_page.specs.Space.{IsSpacePage, is_taken};
 ghost use Rattle.ib_page.specs.Opening.{opening_words};
 ghost use Rattle.ib_page.specs.Work.{WorkPage, PagesAscend, changed_of, before_of};

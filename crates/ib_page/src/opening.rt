@@ -4,7 +4,7 @@ ghost use Rattle.std.specs.Prelude.{◌≡◌, ◌<◌, slice_index};
 ghost use Rattle.ib_page.specs.Opening.{opening_words};
 
 use crate::image::Image;
-use crate::{form, space};
+use crate::space;
 use ib_map::PAGE_WORDS;
 
 /// A page of a new space: page 0 is the space page, page 1 an empty leaf, and every other page is free.
@@ -25,7 +25,7 @@ pub fn opening_word(page: u32, index: usize) -> u64
 {
     match page {
         0 => space::opening_word(index),
-        1 => form::empty_leaf_word(0, index),
+        1 => ib_heap::empty_leaf_word(0, index),
         _ => 0,
     }
 }

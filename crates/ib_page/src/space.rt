@@ -5,7 +5,7 @@ ghost use Rattle.ib_page.specs.Opening.{opening_space_words};
 ghost use Rattle.ib_page.specs.Space.{is_taken, space_clock_of, with_space_clock, free_below, zeros_below, SetsBit, IsSpacePage};
 
 use crate::image::Image;
-use crate::page::are_zeros;
+use ib_heap::are_zeros;
 use ib_map::PAGE_WORDS;
 use std::marker::Model;
 

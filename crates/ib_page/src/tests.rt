@@ -1,7 +1,7 @@
 //! What a work set counts, and pages and page 0 as a change uses them.
 
 ghost use Rattle.std.specs.Prelude.{◌≡◌};
-ghost use Rattle.ib_page.specs.Image.{IsTreePage};
+ghost use Rattle.ib_heap.specs.Image.{IsTreePage};
 
 use super::*;
 use ib_map::{Key, is_below};
@@ -14,7 +14,7 @@ fn counts_the_words_that_differ(rt: HostRuntime) -> Result<(), Fail> {
     work.add(3, &Image::leaf(0));
     assert_eq!(rt; work.changed(), 0);
     work.edit(3).insert(10, 100)?;
-    assert_eq!(rt; work.changed(), 3);
+    assert_eq!(rt; work.changed(), 7);
     assert!(rt; work.image(4).is_none());
     Ok(())
 }
@@ -26,7 +26,7 @@ fn counts_the_clock(rt: HostRuntime) -> Result<(), Fail> {
     let image = work.edit(3);
     image.insert(10, 100)?;
     image.touch();
-    assert_eq!(rt; work.changed(), 4);
+    assert_eq!(rt; work.changed(), 8);
     Ok(())
 }
 

@@ -1,41 +1,10 @@
-//! A source of the words of a page, wherever the page lies.
+//! An image as a source of its words.
 
-ghost use Rattle.std.specs.Prelude.{◌≡◌, ◌<◌, slice_index, refl};
+ghost use Rattle.std.specs.Prelude.{◌≡◌, refl};
 ghost use Rattle.std.proofs.Common.{◌∙◌};
-ghost use Rattle.ib_map.specs.declared.TheConstants.{PAGE_WORDS};
 
 use crate::Image;
-use ib_map::PAGE_WORDS;
-
-/// A page whose words are read one by one, where they lie: in an image, or in a table that is shared,
-/// under the page's latch. A search in it loads the words that it asks for, and no others.
-pub trait PageWords {
-    ghost use Rattle.std.specs.Prelude.{ℕ, List};
-
-    // the words of the page
-    ghost words: { Self → List ℕ };
-
-    // a word may be read
-    ghost can_read: { Self → Type 0 };
-
-    // what has become of the source by reads
-    ghost has_read: { Self → Self → Type 0 };
-
-    /// A word of the page.
-    fn word(&mut self, index: usize) -> u64
-        requires can { can_read self.old }
-        requires index { index < PAGE_WORDS }
-        ensures word { result ≡ slice_index (words self.old) index }
-        ensures same { words self.new ≡ words self.old }
-        ensures can { can_read self.new }
-        ensures read { has_read self.old self.new };
-
-    // no read leaves it as it is, and further reads leave what reads leave
-    ghost read_none: { (page : Self) → has_read page page };
-
-    ghost read_more: { (first second third : Self) → has_read first second
-        → has_read second third → has_read first third };
-}
+use ib_heap::PageWords;
 
 impl PageWords for Image {
     ghost words = { λ image. image };

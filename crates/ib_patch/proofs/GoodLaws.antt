@@ -5,7 +5,7 @@ use Rattle.std.proofs.Math.Dec.{eqb-suc-zero}
 use Rattle.ib_map.specs.Keys.{rank}
 use Rattle.ib_map.specs.Pairs.{Pairs, first_rank}
 use Rattle.ib_page.specs.Page.{rises}
-use Rattle.ib_page.proofs.FormLaws.{rises-Decides}
+use Rattle.ib_heap.proofs.PageLaws.{rises-Decides}
 use Rattle.ib_walk.specs.Pages.{PageKind, Malformed, Free, Tree, PageMemory}
 use Rattle.ib_walk.specs.Walk.{Visit}
 use Rattle.ib_patch.specs.Patch.{IsGoodAt}

@@ -4,13 +4,13 @@ use Rattle.std.proofs.lemmas.Bool.{cases_lt, cases_Bool, cond-true, cond-false, 
 use Rattle.ib_map.specs.Keys.{MapKey, end_rank}
 use Rattle.ib_map.specs.Pairs.{Pairs}
 use Rattle.ib_map.specs.declared.TheConstants.{PAGE_WORDS}
-use Rattle.ib_page.specs.declared.TheConstants.{MOST_LEVEL}
+use Rattle.ib_heap.specs.declared.TheConstants.{MOST_LEVEL}
 use Rattle.ib_page.specs.Page.{Page, IsPage, PageValue}
 use Rattle.ib_page.specs.Page.PageValue.{Malformed as MalformedValue, Free as FreeValue, Tree as TreeValue}
 use Rattle.ib_page.specs.Form.{page_of}
 use Rattle.ib_page.specs.Memory.{image_at, word_at}
 use Rattle.ib_page.specs.Space.{is_taken, IsSpacePage}
-use Rattle.ib_page.proofs.FormLaws.{tree_fits}
+use Rattle.ib_heap.proofs.FormLaws.{tree_fits}
 use Rattle.ib_walk.specs.Words.{state_of, image_of, pages_of, bits_of, memory_of}
 use Rattle.ib_patch.specs.PatchTest.{Positions, visited, all_back}
 use Rattle.ib_patch.specs.PageTests.{PassesAt, bit_of}

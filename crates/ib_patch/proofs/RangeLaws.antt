@@ -7,7 +7,8 @@ use Rattle.ib_map.specs.Pairs.{Pairs, Rises}
 use Rattle.ib_page.specs.Page.{PageValue, rises}
 use Rattle.ib_page.specs.Form.{page_of}
 use Rattle.ib_page.specs.Image.{IsTreePage}
-use Rattle.ib_page.proofs.FormLaws.{tree_in, rises-Decides}
+use Rattle.ib_heap.proofs.FormLaws.{tree_in}
+use Rattle.ib_heap.proofs.PageLaws.{rises-Decides}
 use Rattle.ib_walk.specs.Words.{state_of}
 
 same_bool : (b c : Bool) → (b ≡ true → c ≡ true) → (c ≡ true → b ≡ true) → b ≡ c

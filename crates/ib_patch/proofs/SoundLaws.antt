@@ -1,11 +1,11 @@
 -- What can be read is sound, and what is sound can be read.
 use Rattle.std.proofs.Common.{◌≡◌, ℕ, List, refl, arith}
-use Rattle.ib_page.specs.declared.TheConstants.{MOST_RECORDS}
+use Rattle.ib_heap.specs.declared.TheConstants.{MOST_RECORDS}
 use Rattle.ib_page.specs.Page.{Page, IsPage, PageValue, HoldsPage}
 use Rattle.ib_page.specs.Page.PageValue.{Malformed as MalformedValue, Free as FreeValue, Tree as TreeValue}
 use Rattle.ib_page.specs.Form.{page_of}
 use Rattle.ib_page.specs.Image.{IsFormed}
-use Rattle.ib_page.proofs.FormLaws.{tree_fits}
+use Rattle.ib_heap.proofs.FormLaws.{tree_fits}
 use Rattle.ib_walk.specs.Pages.{IsSound}
 use Rattle.ib_walk.specs.Words.{state_of}
 

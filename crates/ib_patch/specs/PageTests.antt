@@ -1,6 +1,6 @@
 -- What is asked of each written page by itself, once it is known where all are met.
 use Rattle.std.specs.Prelude.{Bool, ◌≡◌, ◌≢◌, ℕ, ◌+◌, ◌≤◌, ◌==◌, if◌then◌else◌, Some}
-use Rattle.ib_page.specs.declared.TheConstants.{MOST_RECORDS}
+use Rattle.ib_heap.specs.declared.TheConstants.{MOST_RECORDS}
 use Rattle.ib_walk.specs.Pages.{Free, PageMemory, IsSound}
 use Rattle.ib_patch.specs.PatchTest.{Position, Positions, is_none, IsLinkedBy}
 

@@ -1,7 +1,7 @@
 -- The test of a patch as it is made: a table of where each page is met, height by height.
 use Rattle.ib_patch.specs.Patch.{LevelVisit, on_written}
 use Rattle.std.specs.Prelude.{◌≡◌, ◌≢◌, ℕ, zero, suc, ◌+◌, ◌<◌, ◌≤◌, ◌++◌, Bool, true, false, not, ◌&&◌, ◌||◌, List, [], ◌∷◌, ◌==◌, Option, Some, None, if◌then◌else◌}
-use Rattle.ib_page.specs.declared.TheConstants.{MOST_LEVEL, MOST_RECORDS}
+use Rattle.ib_heap.specs.declared.TheConstants.{MOST_LEVEL, MOST_RECORDS}
 use Rattle.ib_page.specs.declared.space.TheConstants.{MAPPED_PAGES}
 use Rattle.ib_walk.specs.Pages.{Free, PageMemory, IsSound}
 use Rattle.ib_walk.specs.Walk.{Visit, children_of}

@@ -19,22 +19,53 @@ fn word(page: u32, index: u32, value: u64) -> Write
 }
 
 // The root is raised over two leaves, 2 and 3, each with a key. `prev` is the link of leaf 3.
-fn raised_root(prev: u64) -> [Write; 14] {
+fn raised_root(prev: u64) -> [Write; 31] {
     [
         word(0, 0, 15),
         word(1, 1, 1),
         word(1, 2, 2),
-        word(1, 9, 2),
-        word(1, 10, 7),
-        word(1, 11, 3),
+        word(1, 7, 538),
+        word(1, 18, 276),
+        word(1, 19, 768),
+        word(1, 20, 23),
+        word(1, 22, 2),
+        word(1, 23, 19),
+        word(1, 24, 7),
+        word(1, 25, 3),
         word(2, 0, 1),
         word(2, 2, 1),
         word(2, 4, 3),
-        word(2, 8, 3),
+        word(2, 7, 535),
+        word(2, 8, 18),
+        word(2, 9, 19),
+        word(2, 18, 276),
+        word(2, 19, 512),
+        word(2, 20, 19),
+        word(2, 21, 3),
         word(3, 0, 1),
         word(3, 2, 1),
         word(3, 3, prev),
-        word(3, 8, 7),
+        word(3, 7, 535),
+        word(3, 8, 18),
+        word(3, 9, 19),
+        word(3, 18, 276),
+        word(3, 19, 512),
+        word(3, 20, 19),
+        word(3, 21, 7),
+    ]
+}
+
+// The first record of an empty leaf, 1, and its clock.
+fn first_record(clock: u64, key: u64, value: u64) -> [Write; 8] {
+    [
+        word(1, 2, 1),
+        word(1, 5, clock),
+        word(1, 7, 535),
+        word(1, 18, 276),
+        word(1, 19, 512),
+        word(1, 20, 19),
+        word(1, 21, key),
+        word(1, 22, value),
     ]
 }
 
@@ -61,7 +92,7 @@ fn an_insert_leaves_a_tree(rt: HostRuntime) -> Result<(), Fail> {
     let mut map = PlainMap::new(rt.alloc());
     assert!(rt; leaves_tree(&mut pages, &[word(1, 5, 1)], 7, &map));
     map.insert(7, 9)?;
-    let insert = [word(1, 2, 1), word(1, 5, 2), word(1, 8, 7), word(1, 9, 9)];
+    let insert = first_record(2, 7, 9);
     assert!(rt; leaves_tree(&mut pages, &insert, 7, &map));
     Ok(())
 }
@@ -71,7 +102,7 @@ fn another_value_leaves_none(rt: HostRuntime) -> Result<(), Fail> {
     let mut pages = TreePages::opening(rt.alloc(), 16)?;
     let mut map = PlainMap::new(rt.alloc());
     map.insert(7, 9)?;
-    let insert = [word(1, 2, 1), word(1, 5, 1), word(1, 8, 7), word(1, 9, 8)];
+    let insert = first_record(1, 7, 8);
     assert!(rt; !leaves_tree(&mut pages, &insert, 7, &map));
     Ok(())
 }
@@ -93,10 +124,26 @@ fn a_raised_root_leaves_a_tree(rt: HostRuntime) -> Result<(), Fail> {
     map.insert(7, 0)?;
     assert!(rt; leaves_tree(&mut pages, &raised_root(2), 7, &map));
     map.insert(4, 1)?;
-    let insert = [word(2, 2, 2), word(2, 10, 4), word(2, 11, 1)];
+    let insert = [
+        word(2, 2, 2),
+        word(2, 7, 538),
+        word(2, 19, 768),
+        word(2, 20, 23),
+        word(2, 23, 19),
+        word(2, 24, 4),
+        word(2, 25, 1),
+    ];
     assert!(rt; leaves_tree(&mut pages, &insert, 4, &map));
     map.insert(8, 1)?;
-    let elsewhere = [word(2, 2, 3), word(2, 12, 8), word(2, 13, 1)];
+    let elsewhere = [
+        word(2, 2, 3),
+        word(2, 7, 541),
+        word(2, 19, 1024),
+        word(2, 23, 26),
+        word(2, 26, 19),
+        word(2, 27, 8),
+        word(2, 28, 1),
+    ];
     assert!(rt; !leaves_tree(&mut pages, &elsewhere, 8, &map));
     Ok(())
 }

@@ -3,7 +3,7 @@ use Rattle.std.proofs.Common.{◌≡◌, ◌≢◌, ℕ, ◌+◌, ◌<◌, ◌�
 use Rattle.std.proofs.lemmas.Bool.{leb-true}
 use Rattle.ib_map.specs.Keys.{MapKey, end_rank, rank}
 use Rattle.ib_map.specs.Pairs.{Pairs, Rises, first_rank, without}
-use Rattle.ib_page.specs.declared.TheConstants.{MOST_RECORDS}
+use Rattle.ib_heap.specs.declared.TheConstants.{MOST_RECORDS}
 use Rattle.ib_walk.specs.Pages.{Free, IsSound, PageMemory, PageState, Tree}
 use Rattle.ib_walk.specs.Search.{IsPageFor, child_for, leaf_for, page_below}
 use Rattle.ib_walk.specs.Trees.{IsLawful, IsTreeOf, content_of, height_of, top_of, weight_of}

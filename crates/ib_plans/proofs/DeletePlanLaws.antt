@@ -4,7 +4,7 @@ use Rattle.std.specs.Prelude.{◌&&◌, ◌==◌, nat_lt}
 use Rattle.std.proofs.lemmas.Bool.Decides.{nat_tests}
 use Rattle.ib_map.specs.Keys.{MapKey, end_rank, rank}
 use Rattle.ib_map.specs.Pairs.{Pairs, without}
-use Rattle.ib_page.specs.declared.TheConstants.{MOST_RECORDS}
+use Rattle.ib_heap.specs.declared.TheConstants.{MOST_RECORDS}
 use Rattle.ib_walk.specs.Pages.{Free, IsSound, PageMemory, PageState, Tree}
 use Rattle.ib_walk.specs.Trees.{IsLawful, IsTreeOf, content_of, height_of, top_of, weight_of}
 use Rattle.ib_walk.specs.Walk.{IsTree, Visit, children}

@@ -6,7 +6,7 @@ use Rattle.std.proofs.lemmas.Bool.Decides.{nat_tests}
 use Rattle.ib_map.specs.Keys.{MapKey, end_rank, rank}
 use Rattle.ib_map.specs.Pairs.{put, value_at}
 use Rattle.ib_map.proofs.PairLaws.{length-put}
-use Rattle.ib_page.specs.declared.TheConstants.{MOST_RECORDS}
+use Rattle.ib_heap.specs.declared.TheConstants.{MOST_RECORDS}
 use Rattle.ib_page.specs.declared.space.TheConstants.{MAPPED_PAGES}
 use Rattle.ib_walk.specs.Pages.{PageMemory, PageState, Tree}
 use Rattle.ib_walk.specs.Search.{child_for, leaf_for, page_below}

@@ -2,7 +2,7 @@
 use Rattle.std.proofs.Common.{◌≡◌, ◌≢◌, ℕ, ◌<◌, ◌≤◌, ◌∙◌, Bool, false, ap, eqb}
 use Rattle.std.proofs.lemmas.Bool.{ne_eqb}
 use Rattle.ib_map.specs.Pairs.{Pairs}
-use Rattle.ib_page.specs.declared.TheConstants.{MOST_RECORDS}
+use Rattle.ib_heap.specs.declared.TheConstants.{MOST_RECORDS}
 use Rattle.ib_walk.specs.Pages.{PageMemory}
 use Rattle.ib_walk.specs.Trees.{IsLawful, content_of, weight_of}
 use Rattle.ib_walk.specs.Walk.{Visit, is_visit}

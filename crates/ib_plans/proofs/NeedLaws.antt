@@ -4,7 +4,7 @@ use Rattle.std.proofs.lemmas.Bool.{cases_lt, cases_eq, eq-eqb}
 use Rattle.ib_map.specs.Keys.{MapKey, end_rank, rank}
 use Rattle.ib_map.specs.Pairs.{put, value_at}
 use Rattle.ib_map.proofs.PairLaws.{length-put}
-use Rattle.ib_page.specs.declared.TheConstants.{MOST_RECORDS}
+use Rattle.ib_heap.specs.declared.TheConstants.{MOST_RECORDS}
 use Rattle.ib_walk.specs.Full.{full_run, is_root_full, need_of, run_of}
 use Rattle.ib_walk.specs.Pages.{PageMemory, PageState}
 use Rattle.ib_walk.specs.Search.{child_for, page_below}

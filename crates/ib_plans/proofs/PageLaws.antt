@@ -1,7 +1,7 @@
 -- Pages that a change touches, bits that it turns, and limits of records that it keeps.
 use Rattle.std.proofs.Common.{◌≡◌, ◌≢◌, ℕ, ◌≤◌, ◌⊎◌, inl, inr, Bool, true, false, cond, length, refl, sym, ◌∙◌, arith, eqb}
 use Rattle.std.proofs.lemmas.Bool.{cases_eq}
-use Rattle.ib_page.specs.declared.TheConstants.{MOST_RECORDS}
+use Rattle.ib_heap.specs.declared.TheConstants.{MOST_RECORDS}
 use Rattle.ib_walk.specs.Pages.{PageState, PageMemory, IsSound}
 use Rattle.ib_walk.specs.Walk.{Visit}
 use Rattle.ib_walk.specs.Trees.{IsLawfulUpTo}

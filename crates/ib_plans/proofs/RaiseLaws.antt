@@ -6,7 +6,7 @@ use Rattle.std.proofs.lemmas.Bool.Decides.{nat_tests}
 use Rattle.ib_map.specs.Keys.{MapKey, end_rank, rank}
 use Rattle.ib_map.specs.Pairs.{Rises, first_rank}
 use Rattle.ib_map.proofs.RiseLaws.{Rises-higher, Rises-le, Rises-left, Rises-lower, Rises-right}
-use Rattle.ib_page.specs.declared.TheConstants.{MOST_LEVEL}
+use Rattle.ib_heap.specs.declared.TheConstants.{MOST_LEVEL}
 use Rattle.ib_page.specs.declared.space.TheConstants.{MAPPED_PAGES}
 use Rattle.ib_walk.specs.Pages.{IsSound, PageMemory, PageState, Tree}
 use Rattle.ib_walk.specs.Trees.{IsLawfulUpTo, IsTreeOf, content_of, height_of, leaves_of, most_height, times_met, top_of, weight_of}

@@ -2,7 +2,7 @@
 use Rattle.std.specs.Prelude.{ℕ, ◌+◌, Bool, [], ◌∷◌, ◌++◌, length, ◌==◌, nat_lt, nat_le, Option, Some, None, if◌then◌else◌}
 use Rattle.ib_map.specs.Keys.{MapKey, rank, least}
 use Rattle.ib_map.specs.Pairs.{Pairs, without}
-use Rattle.ib_page.specs.declared.TheConstants.{MOST_RECORDS}
+use Rattle.ib_heap.specs.declared.TheConstants.{MOST_RECORDS}
 use Rattle.ib_walk.specs.Pages.{Free, Tree, PageState, PageMemory}
 use Rattle.ib_plans.specs.Split.{with_records, with_prev, next_or}
 

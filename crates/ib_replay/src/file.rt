@@ -11,8 +11,9 @@ use ib_map::{LEAST_PAGES, MOST_PAGES};
 use std::alloc::{AllocError, Global};
 use std::marker::Model;
 
-/// What a log file begins with: the text `IBLOG57` and the digit of its version, 0.
-pub const FILE_FORM: u64 = 0x4942_4c4f_4735_3730;
+/// What a log file begins with: the text `IBLOG57` and the digit of its version, 1. In files of version 0 pages were
+/// sorted records, and no heaps.
+pub const FILE_FORM: u64 = 0x4942_4c4f_4735_3731;
 
 /// A log as a file has it: the number of pages of its space, and its words.
 #[derive(Debug, Drop)]

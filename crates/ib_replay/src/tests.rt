@@ -8,8 +8,8 @@ use std::alloc::Global;
 use std::test::Fail;
 
 // Session 1 inserts 10 with 100 and then 11 with 110, on page 1.
-const LOG: [u64; 24] = [
-    0x1_0001_0004,
+const LOG: [u64; 40] = [
+    0x1_0001_0008,
     1,
     10,
     100,
@@ -17,11 +17,19 @@ const LOG: [u64; 24] = [
     1,
     133,
     1,
-    136,
+    135,
+    535,
+    146,
+    276,
+    147,
+    512,
+    148,
+    19,
+    149,
     10,
-    137,
+    150,
     100, //
-    0x1_0001_0004,
+    0x1_0001_0008,
     2,
     11,
     110,
@@ -29,15 +37,23 @@ const LOG: [u64; 24] = [
     2,
     133,
     2,
-    138,
+    135,
+    538,
+    147,
+    768,
+    148,
+    23,
+    151,
+    19,
+    152,
     11,
-    139,
+    153,
     110,
 ];
 
 // The log with another word at this place.
-fn changed(at: usize, word: u64) -> [u64; 24]
-    requires { at < 24 }
+fn changed(at: usize, word: u64) -> [u64; 40]
+    requires { at < 40 }
 {
     let mut words = LOG;
     words[at] = word;
@@ -52,29 +68,30 @@ fn fault(alloc: Global, words: &[u64]) -> Option<LogFault>
 
 #[test]
 fn a_log_is_written_and_read_again(rt: HostRuntime) -> Result<(), Fail> {
-    let mut file = [0; 112];
-    write_log(16, &LOG[..12], &mut file);
-    assert_eq!(rt; &file[..8], b"IBLOG570".as_slice());
+    let mut file = [0; 176];
+    write_log(16, &LOG[..20], &mut file);
+    assert_eq!(rt; &file[..8], b"IBLOG571".as_slice());
     assert_eq!(rt;
         &file[8..24],
-        [0, 0, 0, 0, 0, 0, 0, 16, 0, 0, 0, 1, 0, 1, 0, 4].as_slice()
+        [0, 0, 0, 0, 0, 0, 0, 16, 0, 0, 0, 1, 0, 1, 0, 8].as_slice()
     );
     let log = read_log(rt.alloc(), &file).map_err(|_| "the bytes are a log's")?;
     assert_eq!(rt; log.pages(), 16);
-    assert_eq!(rt; log.words(), &LOG[..12]);
+    assert_eq!(rt; log.words(), &LOG[..20]);
 
     let read = |bytes| read_log(rt.alloc(), bytes).err();
     assert_eq!(rt; read(&[]), Some(LogFault::Short { place: 0 }));
     assert_eq!(rt; read(&file[..15]), Some(LogFault::OddLength { bytes: 15 }));
     assert_eq!(rt; read(&file[..8]), Some(LogFault::Short { place: 0 }));
-    write_log(15, &LOG[..12], &mut file);
+    write_log(15, &LOG[..20], &mut file);
     assert_eq!(rt; read(&file), Some(LogFault::BadFile { at: 1, word: 15 }));
-    file[7] = b'1';
+    // The form whose pages were sorted records.
+    file[7] = b'0';
     assert_eq!(rt;
         read(&file),
         Some(LogFault::BadFile {
             at: 0,
-            word: FILE_FORM + 1
+            word: FILE_FORM - 1
         })
     );
     Ok(())
@@ -90,34 +107,34 @@ fn a_log_is_replayed(rt: HostRuntime) -> Result<(), Fail> {
     assert_eq!(rt; images.len(), 16);
     assert_eq!(rt; images[0].word(0), 3);
     assert_eq!(rt; images[1].word(2), 2);
-    assert_eq!(rt; images[1].word(8), 10);
     assert_eq!(rt; images[1].word(5), 2);
-    assert_eq!(rt; images[1].word(10), 11);
-    assert_eq!(rt; images[1].word(11), 110);
+    assert_eq!(rt; images[1].word(21), 10);
+    assert_eq!(rt; images[1].word(24), 11);
+    assert_eq!(rt; images[1].word(25), 110);
     Ok(())
 }
 
 #[test]
 fn faults_of_the_second_entry(rt: HostRuntime) {
     let alloc = rt.alloc();
-    let unlawful = |kind| Some(LogFault::Unlawful { place: 12, kind });
+    let unlawful = |kind| Some(LogFault::Unlawful { place: 20, kind });
     assert_eq!(rt;
-        fault(alloc, &changed(13, 1)),
+        fault(alloc, &changed(21, 1)),
         unlawful(UnlawfulKind::Number)
     );
     assert_eq!(rt;
-        fault(alloc, &changed(14, 10)),
+        fault(alloc, &changed(22, 10)),
         unlawful(UnlawfulKind::Change)
     );
     assert_eq!(rt;
-        fault(alloc, &changed(12, 0x2_0001_0004)),
+        fault(alloc, &changed(20, 0x2_0001_0008)),
         unlawful(UnlawfulKind::Number)
     );
     // The record is not counted.
-    assert_eq!(rt; fault(alloc, &changed(17, 1)), unlawful(UnlawfulKind::Tree));
+    assert_eq!(rt; fault(alloc, &changed(25, 1)), unlawful(UnlawfulKind::Tree));
     assert_eq!(rt;
-        fault(alloc, &LOG[..23]),
-        Some(LogFault::Short { place: 12 })
+        fault(alloc, &LOG[..39]),
+        Some(LogFault::Short { place: 20 })
     );
     assert_eq!(rt; fault(alloc, &LOG), None);
 }

@@ -35,21 +35,48 @@ const SPLIT: Step<'static> = Step {
         (0, 0, 15),
         (1, 1, 1),
         (1, 2, 2),
-        (1, 9, 2),
-        (1, 10, 20),
-        (1, 11, 3),
+        (1, 7, 538),
+        (1, 18, 276),
+        (1, 19, 768),
+        (1, 20, 23),
+        (1, 22, 2),
+        (1, 23, 19),
+        (1, 24, 20),
+        (1, 25, 3),
         (2, 0, 1),
         (2, 2, 1),
         (2, 4, 3),
-        (2, 8, 10),
-        (2, 9, 100),
+        (2, 7, 535),
+        (2, 8, 18),
+        (2, 9, 19),
+        (2, 18, 276),
+        (2, 19, 512),
+        (2, 20, 19),
+        (2, 21, 10),
+        (2, 22, 100),
         (3, 0, 1),
         (3, 3, 2),
+        (3, 7, 532),
+        (3, 8, 18),
+        (3, 9, 19),
+        (3, 18, 275),
+        (3, 19, 256),
     ],
 };
 
 // The word behind the split.
-const BEHIND: u32 = 30;
+const BEHIND: u32 = 62;
+
+// What puts 30 with 300 into leaf 3.
+const PUT_30: [PageWrite; 7] = [
+    (3, 2, 1),
+    (3, 7, 535),
+    (3, 18, 276),
+    (3, 19, 512),
+    (3, 20, 19),
+    (3, 21, 30),
+    (3, 22, 300),
+];
 
 // Inserts 30 with 300, by these writes.
 fn insert_30(writes: &[PageWrite]) -> Step<'_> {
@@ -99,33 +126,44 @@ fn fault_behind_split(alloc: Global, step: Step<'_>) -> Option<LogFault> {
 
 #[test]
 fn a_node_over_two_leaves(rt: HostRuntime) -> Result<(), Fail> {
-    let insert = insert_30(&[(3, 2, 1), (3, 8, 30), (3, 9, 300)]);
+    let insert = insert_30(&PUT_30);
     let replayed = replay_steps(rt.alloc(), &[SPLIT, insert]).map_err(|_| "the log is lawful")?;
     assert_eq!(rt; replayed.entries.len(), 2);
     assert_eq!(rt; replayed.map.get(30), Some(300));
     let images = replayed.memory.images();
     assert_eq!(rt; images.len(), 16);
     assert_eq!(rt; images[0].word(0), 15);
-    assert_eq!(rt; images[1].word(11), 3);
-    assert_eq!(rt; images[2].word(9), 100);
-    assert_eq!(rt; images[3].word(9), 300);
+    assert_eq!(rt; images[1].word(25), 3);
+    assert_eq!(rt; images[2].word(22), 100);
+    assert_eq!(rt; images[3].word(22), 300);
     Ok(())
 }
 
 // What takes 10 out, frees both leaves and makes page 1 a leaf without records, but for the bits of page 0.
-const LOWERED: [PageWrite; 12] = [
+const LOWERED: [PageWrite; 23] = [
     (1, 1, 0),
     (1, 2, 0),
-    (1, 9, 0),
-    (1, 10, 0),
-    (1, 11, 0),
+    (1, 7, 532),
+    (1, 18, 275),
+    (1, 19, 256),
     (2, 0, 0),
     (2, 2, 0),
     (2, 4, 0),
+    (2, 7, 0),
     (2, 8, 0),
     (2, 9, 0),
+    (2, 18, 0),
+    (2, 19, 0),
+    (2, 20, 0),
+    (2, 21, 0),
+    (2, 22, 0),
     (3, 0, 0),
     (3, 3, 0),
+    (3, 7, 0),
+    (3, 8, 0),
+    (3, 9, 0),
+    (3, 18, 0),
+    (3, 19, 0),
 ];
 
 // Takes 10 out, and leaves the root alone, with these bits on page 0.
@@ -158,65 +196,106 @@ fn leaves_that_are_freed(rt: HostRuntime) -> Result<(), Fail> {
     Ok(())
 }
 
+// What is wrong with the log of the split and of an insert of 30 into leaf 3 that writes these words as well.
+fn fault_with(alloc: Global, others: &[PageWrite]) -> Result<Option<LogFault>, AllocError> {
+    let mut writes = Vec::from_slice(alloc, others)?;
+    writes.extend_from_slice(&PUT_30)?;
+    writes.sort()?;
+    Ok(fault_behind_split(alloc, insert_30(&writes)))
+}
+
+const NO_TREE: Option<LogFault> = Some(LogFault::Unlawful {
+    place: BEHIND,
+    kind: UnlawfulKind::Tree,
+});
+
 #[test]
-fn last_entries_that_leave_no_tree(rt: HostRuntime) {
-    let rows: [&[PageWrite]; 18] = [
+fn last_entries_that_leave_no_tree(rt: HostRuntime) -> Result<(), Fail> {
+    let rows: [&[PageWrite]; 14] = [
         // The node is its own child, in place of the first one and of the last one.
-        &[(1, 9, 1), (3, 2, 1), (3, 8, 30), (3, 9, 300)],
-        &[(1, 11, 1), (3, 2, 1), (3, 8, 30), (3, 9, 300)],
+        &[(1, 22, 1)],
+        &[(1, 25, 1)],
         // Leaf 2 is met twice.
-        &[(1, 11, 2), (3, 2, 1), (3, 8, 30), (3, 9, 300)],
+        &[(1, 25, 2)],
         // The leaves are linked in a circle.
-        &[(2, 3, 3), (3, 2, 1), (3, 4, 2), (3, 8, 30), (3, 9, 300)],
+        &[(2, 3, 3), (3, 4, 2)],
         // They are linked one way alone: by leaf 2, and by leaf 3.
-        &[(3, 2, 1), (3, 3, 0), (3, 8, 30), (3, 9, 300)],
-        &[(2, 4, 0), (3, 2, 1), (3, 8, 30), (3, 9, 300)],
-        // The key stands in leaf 2, whose range ends at 20.
-        &[(2, 2, 2), (2, 10, 30), (2, 11, 300)],
+        &[(3, 3, 0)],
+        &[(2, 4, 0)],
         // The node's first key is not the lowest of its range.
-        &[(1, 8, 5), (3, 2, 1), (3, 8, 30), (3, 9, 300)],
+        &[(1, 21, 5)],
         // The node has level 2, over leaves.
-        &[(1, 1, 2), (3, 2, 1), (3, 8, 30), (3, 9, 300)],
+        &[(1, 1, 2)],
         // Page 4, which is free, is a further child.
         &[
             (1, 2, 3),
-            (1, 12, 40),
-            (1, 13, 4),
-            (3, 2, 1),
-            (3, 8, 30),
-            (3, 9, 300),
+            (1, 7, 541),
+            (1, 19, 1024),
+            (1, 23, 26),
+            (1, 26, 19),
+            (1, 27, 40),
+            (1, 28, 4),
         ],
         // Leaf 3 is met without its bit.
-        &[(0, 0, 7), (3, 2, 1), (3, 8, 30), (3, 9, 300)],
+        &[(0, 0, 7)],
         // Page 4 has its bit and is not met.
-        &[(0, 0, 31), (3, 2, 1), (3, 8, 30), (3, 9, 300)],
+        &[(0, 0, 31)],
         // The bit of a page that the space does not have.
-        &[(0, 0, 0x1_000f), (3, 2, 1), (3, 8, 30), (3, 9, 300)],
+        &[(0, 0, 0x1_000f)],
         // Leaf 2, which is not written, has a further range.
-        &[(1, 10, 25), (3, 2, 1), (3, 8, 30), (3, 9, 300)],
+        &[(1, 24, 25)],
         // Leaf 2, which is not written, is no child any more.
         &[
             (1, 2, 1),
-            (1, 9, 3),
-            (1, 10, 0),
-            (1, 11, 0),
-            (3, 2, 1),
-            (3, 8, 30),
-            (3, 9, 300),
+            (1, 6, 23),
+            (1, 19, 512),
+            (1, 20, 19),
+            (1, 22, 3),
+            (1, 23, 0),
         ],
+    ];
+    for others in rows {
+        assert_eq!(rt; fault_with(rt.alloc(), others)?, NO_TREE);
+    }
+    Ok(())
+}
+
+#[test]
+fn inserts_that_leave_another_map(rt: HostRuntime) {
+    let rows: [&[PageWrite]; 4] = [
         // Another value than the map has, another key, and no record.
-        &[(3, 2, 1), (3, 8, 30), (3, 9, 301)],
-        &[(3, 2, 1), (3, 8, 31), (3, 9, 300)],
+        &[
+            (3, 2, 1),
+            (3, 7, 535),
+            (3, 18, 276),
+            (3, 19, 512),
+            (3, 20, 19),
+            (3, 21, 30),
+            (3, 22, 301),
+        ],
+        &[
+            (3, 2, 1),
+            (3, 7, 535),
+            (3, 18, 276),
+            (3, 19, 512),
+            (3, 20, 19),
+            (3, 21, 31),
+            (3, 22, 300),
+        ],
         &[(3, 5, 1)],
+        // The key stands in leaf 2, whose range ends at 20.
+        &[
+            (2, 2, 2),
+            (2, 7, 538),
+            (2, 19, 768),
+            (2, 20, 23),
+            (2, 23, 19),
+            (2, 24, 30),
+            (2, 25, 300),
+        ],
     ];
     for writes in rows {
-        assert_eq!(rt;
-            fault_behind_split(rt.alloc(), insert_30(writes)),
-            Some(LogFault::Unlawful {
-                place: BEHIND,
-                kind: UnlawfulKind::Tree
-            })
-        );
+        assert_eq!(rt; fault_behind_split(rt.alloc(), insert_30(writes)), NO_TREE);
     }
 }
 

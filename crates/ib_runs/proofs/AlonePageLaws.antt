@@ -1,5 +1,7 @@
 -- Kept logs that say the same have the same pages after them.
 use Rattle.std.proofs.Common.{◌≡◌, ◌∙◌, ℕ, zero, suc, ◌+◌, ◌<◌, Bool, true, false, cond, ltb, List, [], ◌∷◌, ◌++◌, Some, length, take, slice_get, refl, sym, ap, subst, arith, inl, inr}
+use Rattle.std.specs.Prelude.{◌==◌}
+use Rattle.std.specs.Int.{bit_at}
 use Rattle.std.proofs.Math.Path.{fun_ext}
 use Rattle.std.proofs.lemmas.Bool.{cases_eq}
 use Rattle.std.proofs.lemmas.List.{take-map}
@@ -8,13 +10,13 @@ use Rattle.ib_map.specs.History.{History, changes_of, map_after, map_with}
 use Rattle.ib_map.specs.Replies.{IsEntryOf}
 use Rattle.ib_map.specs.declared.call.Change.{Change}
 use Rattle.ib_map.specs.declared.call.LoggedChange.{LoggedChange}
-use Rattle.ib_page.specs.declared.TheConstants.{MOST_RECORDS}
-use Rattle.ib_page.specs.Form.{page_of, words_of}
+use Rattle.ib_heap.specs.declared.TheConstants.{MOST_RECORDS}
+use Rattle.ib_page.specs.Form.{page_of}
 use Rattle.ib_page.specs.Page.PageValue.{Malformed}
 use Rattle.ib_page.specs.Space.{is_taken}
 use Rattle.ib_page.specs.Words.{free_page_words}
-use Rattle.ib_page.proofs.FormLaws.{Kinds, kinds_of}
-use Rattle.ib_page.proofs.FormLaws.Kinds.{tree, free, neither}
+use Rattle.ib_heap.proofs.FormLaws.{Kinds, kinds_of}
+use Rattle.ib_heap.proofs.FormLaws.Kinds.{tree, free, neither}
 use Rattle.ib_logrec.specs.declared.entry.Entry.{Entry}
 use Rattle.ib_logrec.specs.Log.{by_place, history_of, logged, memory_after}
 use Rattle.ib_logrec.proofs.LogLaws.{history_of-push, length-history_of}
@@ -36,8 +38,8 @@ pub record SaySame (pages : ℕ) (xs ys : List Entry) : Type 0 where
 
 -- words that say that page 1 is taken are no page of the tree, and no free page
 tree-untaken : (ws : List ℕ) → Kinds ws → is_taken ws 1 ≡ true → page_of ws ≡ Malformed
-unfolding words_of free_page_words
-tree-untaken ws (tree h) taken = let clear : is_taken ws 1 ≡ false = ap (λ (xs : List ℕ). is_taken xs 1) h.words in absurd (cc)
+unfolding free_page_words
+tree-untaken ws (tree h) taken = let clear : is_taken ws 1 ≡ false = ap (λ (word : ℕ). bit_at word 1 == 1) h.is.kind in absurd (cc)
 tree-untaken ws (free h) taken = let clear : is_taken ws 1 ≡ false = ap (λ (xs : List ℕ). is_taken xs 1) h.words in absurd (cc)
 tree-untaken ws (neither is) taken = is
 

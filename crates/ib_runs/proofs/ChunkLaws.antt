@@ -5,10 +5,10 @@ use Rattle.std.proofs.lemmas.Bool.{cases_eq, eq-eqb, ne_eqb}
 use Rattle.ib_map.specs.Keys.{MapKey, rank, end_rank}
 use Rattle.ib_map.specs.Pairs.{Pairs, cut, value_at}
 use Rattle.ib_map.proofs.CutLaws.{is_within, cut-append, cut-above}
-use Rattle.ib_page.specs.declared.TheConstants.{MOST_RECORDS}
+use Rattle.ib_heap.specs.declared.TheConstants.{MOST_RECORDS}
 use Rattle.ib_page.specs.Page.{PageValue}
-use Rattle.ib_page.proofs.FormLaws.{kinds_of, Kinds}
-use Rattle.ib_page.proofs.FormLaws.Kinds.{tree, free, neither}
+use Rattle.ib_heap.proofs.FormLaws.{kinds_of, Kinds}
+use Rattle.ib_heap.proofs.FormLaws.Kinds.{tree, free, neither}
 use Rattle.ib_walk.specs.Pages.{PageMemory}
 use Rattle.ib_walk.specs.Walk.{Visit, records_in, IsLeafAt, IsTiled}
 use Rattle.ib_walk.specs.Trees.{height_of, content_of, IsTreeOf}

@@ -9,7 +9,7 @@ use Rattle.ib_map.specs.History.{map_after}
 use Rattle.ib_map.specs.Replies.{Span, pair_count}
 use Rattle.ib_map.specs.declared.call.Record.{Record}
 use Rattle.ib_map.proofs.HistoryLaws.{map_after-append}
-use Rattle.ib_page.specs.declared.TheConstants.{MOST_RECORDS}
+use Rattle.ib_heap.specs.declared.TheConstants.{MOST_RECORDS}
 use Rattle.ib_layout.specs.Geometry.{Sizes}
 use Rattle.ib_logrec.specs.declared.entry.Entry.{Entry}
 use Rattle.ib_logrec.specs.Log.{by_place, history_of, memory_after}

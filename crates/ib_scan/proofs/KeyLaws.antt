@@ -6,7 +6,7 @@ use Rattle.ib_map.proofs.CutLaws.{is_within-below}
 use Rattle.ib_map.proofs.RiseLaws.{Rises-le}
 use Rattle.ib_page.specs.Image.{IsTreePage, records_of}
 use Rattle.ib_page.specs.Page.{page_in}
-use Rattle.ib_page.proofs.FormLaws.{tree_in}
+use Rattle.ib_heap.proofs.FormLaws.{tree_in}
 use Rattle.ib_walk.specs.Chunk.{AreBelow, IsLastKey}
 
 -- the last key stands at the last place

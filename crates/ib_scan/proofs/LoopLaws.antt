@@ -14,9 +14,9 @@ use Rattle.ib_levels.specs.declared.level.Mode.TheVariants.{S}
 use Rattle.ib_layout.specs.Geometry.{Sizes}
 use Rattle.ib_page.specs.Image.{IsTreePage, next_of, records_of}
 use Rattle.ib_page.specs.Work.{changed_of}
-use Rattle.ib_page.specs.declared.TheConstants.{MOST_RECORDS}
+use Rattle.ib_heap.specs.declared.TheConstants.{MOST_RECORDS}
 use Rattle.ib_page.specs.Page.{page_in}
-use Rattle.ib_page.proofs.FormLaws.{tree_in}
+use Rattle.ib_heap.proofs.FormLaws.{tree_in}
 use Rattle.ib_logrec.specs.declared.entry.Entry.{Entry}
 use Rattle.ib_rule.specs.declared.looks.Grants.{Grants}
 use Rattle.ib_rule.specs.Pass.{PassState}

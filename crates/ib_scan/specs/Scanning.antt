@@ -9,7 +9,7 @@ use Rattle.ib_map.specs.declared.call.Call.TheVariants.{Scan}
 use Rattle.ib_map.specs.declared.call.Record.{Record}
 use Rattle.ib_map.specs.declared.call.Reply.TheVariants.{Scanned}
 use Rattle.ib_map.specs.declared.chunks.Chunk.{Chunk}
-use Rattle.ib_page.specs.declared.TheConstants.{MOST_RECORDS}
+use Rattle.ib_heap.specs.declared.TheConstants.{MOST_RECORDS}
 use Rattle.ib_layout.specs.Geometry.{Sizes}
 use Rattle.ib_logrec.specs.declared.entry.Entry.{Entry}
 use Rattle.ib_walk.specs.Chunk.{IsChunk}

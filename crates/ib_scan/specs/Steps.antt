@@ -6,7 +6,7 @@ use Rattle.ib_map.specs.Chunks.{HeldChunks}
 use Rattle.ib_map.specs.Replies.{Span}
 use Rattle.ib_levels.specs.declared.level.Mode.TheVariants.{S}
 use Rattle.ib_layout.specs.Geometry.{Sizes}
-use Rattle.ib_page.specs.declared.TheConstants.{MOST_RECORDS}
+use Rattle.ib_heap.specs.declared.TheConstants.{MOST_RECORDS}
 use Rattle.ib_page.specs.Image.{next_of}
 use Rattle.ib_logrec.specs.declared.entry.Entry.{Entry}
 use Rattle.ib_tree.specs.Scans.{AreFront, AreWhole}

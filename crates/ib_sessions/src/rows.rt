@@ -90,7 +90,7 @@ fn a_log_has_room_for_one_entry(rt: HostRuntime) {
     let full = Record {
         call: Call::Insert { key: 11, value: 1 },
         reply: Reply::LogFull {
-            used: 12,
+            used: 20,
             cap: 8196,
         },
         place: 1,

@@ -5,9 +5,9 @@ use Rattle.std.proofs.lemmas.Bool.{cases_Bool}
 use Rattle.std.proofs.Common.{inl, inr}
 use Rattle.ib_map.specs.Keys.{MapKey, IsKey, rank, end_rank}
 use Rattle.ib_map.specs.Pairs.{Pairs, Rises, put, place_of, value_at}
-use Rattle.ib_page.specs.declared.TheConstants.{MOST_RECORDS}
-use Rattle.ib_page.specs.declared.fault.PageFault.{PageFault}
-use Rattle.ib_page.specs.declared.fault.PageFault.TheVariants.{Duplicate, PageFull, Missing}
+use Rattle.ib_heap.specs.declared.TheConstants.{MOST_RECORDS}
+use Rattle.ib_heap.specs.declared.fault.PageFault.{PageFault}
+use Rattle.ib_heap.specs.declared.fault.PageFault.TheVariants.{Duplicate, PageFull, Missing}
 use Rattle.ib_page.specs.Page.{PageValue, HoldsTree, page_in}
 use Rattle.ib_page.specs.Page.PageValue.{Malformed, Free, Tree}
 use Rattle.ib_page.specs.Image.{with_records, with_links, with_clock}

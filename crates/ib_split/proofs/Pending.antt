@@ -6,7 +6,7 @@ use Rattle.std.proofs.lemmas.Bool.{cases_eq, cases_lt, ne_eqb, lt-ltb, le-ltb}
 use Rattle.ib_map.specs.Keys.{MapKey, rank, end_rank}
 use Rattle.ib_map.specs.Pairs.{Pairs, Rises, put, value_at}
 use Rattle.ib_map.proofs.PairLaws.{length-put}
-use Rattle.ib_page.specs.declared.TheConstants.{MOST_RECORDS}
+use Rattle.ib_heap.specs.declared.TheConstants.{MOST_RECORDS}
 use Rattle.ib_page.specs.Work.{WorkPage, changed_of}
 use Rattle.ib_walk.specs.Pages.{Tree, PageState, PageMemory}
 use Rattle.ib_walk.specs.Search.{page_below}

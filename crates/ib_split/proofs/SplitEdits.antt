@@ -7,7 +7,7 @@ use Rattle.ib_map.specs.Pairs.{put}
 use Rattle.ib_page.specs.Form.{page_of}
 use Rattle.ib_page.specs.Image.{IsTreePage, clock_of, records_of}
 use Rattle.ib_page.specs.Work.{WorkPage, changed_of, with_changed}
-use Rattle.ib_page.proofs.FormLaws.{formed-tree}
+use Rattle.ib_heap.proofs.FormLaws.{formed-tree}
 use Rattle.ib_walk.specs.Pages.{PageState}
 use Rattle.ib_walk.specs.Words.{state_of}
 use Rattle.ib_plans.specs.Split.{with_prev, right_part, first_key}

@@ -3,7 +3,7 @@ use Rattle.std.specs.Prelude.{◌≡◌, ◌≢◌, ℕ, suc, ◌+◌, ◌<◌, 
 use Rattle.std.specs.List.{All}
 use Rattle.ib_map.specs.Keys.{MapKey, least}
 use Rattle.ib_map.specs.Pairs.{put, value_at}
-use Rattle.ib_page.specs.declared.TheConstants.{MOST_LEVEL, MOST_RECORDS}
+use Rattle.ib_heap.specs.declared.TheConstants.{MOST_LEVEL, MOST_RECORDS}
 use Rattle.ib_page.specs.declared.space.TheConstants.{MAPPED_PAGES}
 use Rattle.ib_page.specs.Image.{IsTreePage, IsFormed}
 use Rattle.ib_page.specs.Space.{space_clock_of}

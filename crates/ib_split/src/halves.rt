@@ -1,9 +1,9 @@
 //! A page that has one record too many, as two halves.
 
-ghost use Rattle.std.specs.Prelude.{◌≡◌, ◌<◌, ◌≤◌, ◌^◌, ◌+◌, ◌==◌, if◌then◌else◌, [], ◌∷◌, length, None};
+ghost use Rattle.std.specs.Prelude.{◌≡◌, ◌≢◌, ◌<◌, ◌≤◌, ◌^◌, ◌+◌, ◌==◌, ◌↔◌, if◌then◌else◌, [], ◌∷◌, length, None, IsNone, IsSome, OnOk};
 ghost use Rattle.ib_map.specs.Keys.{rank};
 ghost use Rattle.ib_map.specs.Pairs.{put, place_of, value_at};
-ghost use Rattle.ib_page.specs.declared.TheConstants.{MOST_LEVEL, MOST_RECORDS};
+ghost use Rattle.ib_heap.specs.declared.TheConstants.{MOST_LEVEL, MOST_RECORDS};
 ghost use Rattle.ib_page.specs.Form.{page_of};
 ghost use Rattle.ib_page.specs.Page.PageValue.{Tree};
 ghost use Rattle.ib_page.specs.Image.{IsTreePage, level_of, prev_of, next_of, clock_of, records_of, with_records, with_links};
@@ -13,7 +13,7 @@ ghost use Rattle.ib_plans.specs.Agreement.{tick};
 ghost use Rattle.ib_split.specs.Inserts.{lower_half, upper_half, raised_left, raised_right, raised_root, with_record};
 
 use ib_map::{Key, LEAST};
-use ib_page::Image;
+use ib_page::{Image, PageFault};
 use ib_plans::LEFT_RECORDS;
 
 // A full page to which a record belongs is split: the lower half stays, and the upper half goes to the page at its right,
@@ -126,11 +126,24 @@ pub(crate) fn halve(left: &mut Image, right: &mut Image, key: Key, value: u64)
 {
     if place_in(left, key) < LEFT_RECORDS {
         left.cut(LEFT_RECORDS - 1, right);
-        let _ = left.insert(key, value);
+        let _ = insert_anew(left, key, value);
     } else {
         left.cut(LEFT_RECORDS, right);
-        let _ = right.insert(key, value);
+        let _ = insert_anew(right, key, value);
     }
+}
+
+// Puts a record in, and all records anew: those of a page that was split stand one behind the other.
+fn insert_anew(image: &mut Image, key: Key, value: u64) -> Result<(), PageFault>
+    requires { IsTreePage image.old }
+    ensures inserted { OnOk result (page_of image.new ≡ with_records (put key value (records_of image.old)) (page_of image.old)) }
+    ensures duplicate { (result ≡ Err PageFault.Duplicate) ↔ IsSome (value_at key (records_of image.old)) }
+    ensures full { (result ≡ Err PageFault.PageFull) ↔ (IsNone (value_at key (records_of image.old)) × (length (records_of image.old) ≡ MOST_RECORDS)) }
+    ensures never_missing { result ≢ Err PageFault.Missing }
+{
+    let result = image.insert(key, value);
+    image.reorganize();
+    result
 }
 
 // How many records of a page stand before a key.

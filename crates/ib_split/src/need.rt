@@ -3,7 +3,7 @@
 ghost use Rattle.std.specs.Prelude.{◌≡◌, ◌≢◌, ◌≤◌, ◌==◌, ℕ, [], Some, true, false, length, reverse, IfOk, IsSomeAnd, MatchResult};
 ghost use Rattle.ib_map.specs.Keys.{MapKey};
 ghost use Rattle.ib_page.specs.declared.path.TheConstants.{MOST_PATH};
-ghost use Rattle.ib_page.specs.declared.TheConstants.{MOST_RECORDS};
+ghost use Rattle.ib_heap.specs.declared.TheConstants.{MOST_RECORDS};
 ghost use Rattle.ib_page.specs.Image.{IsTreePage};
 ghost use Rattle.ib_page.specs.Work.{changed_of};
 ghost use Rattle.ib_walk.specs.Pages.{PageMemory};

@@ -4,7 +4,7 @@ use Rattle.std.specs.Prelude.{◌&&◌, ◌||◌, not}
 use Rattle.std.proofs.lemmas.Bool.{cases_lt, cases_eq, eq-eqb, lt-ltb, le-ltb}
 use Rattle.std.proofs.lemmas.Bool.Decides.{nat_tests}
 use Rattle.ib_map.specs.Keys.{end_rank}
-use Rattle.ib_page.specs.declared.TheConstants.{MOST_RECORDS}
+use Rattle.ib_heap.specs.declared.TheConstants.{MOST_RECORDS}
 use Rattle.ib_walk.specs.Pages.{PageMemory}
 use Rattle.ib_walk.specs.Walk.{Visit, sum_of, is_page}
 use Rattle.ib_walk.specs.Trees.{height_of, top_of, weight_of, IsLawful}

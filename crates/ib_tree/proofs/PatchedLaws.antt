@@ -3,7 +3,7 @@ use Rattle.std.specs.List.{AllByRecursion}
 use Rattle.std.proofs.Common.{◌≡◌, ℕ, zero, suc, ◌+◌, ◌<◌, ◌≤◌, inl, inr, Bool, true, false, cond, List, [], ◌∷◌, refl, sym, ap, subst, ◌∙◌, arith, eqb, ◌≢◌}
 use Rattle.std.proofs.lemmas.Bool.{cases_eq, cases_lt}
 use Rattle.ib_map.specs.Keys.{end_rank}
-use Rattle.ib_page.specs.declared.TheConstants.{MOST_RECORDS}
+use Rattle.ib_heap.specs.declared.TheConstants.{MOST_RECORDS}
 use Rattle.ib_walk.specs.Pages.{Free, PageState, PageMemory, IsSound}
 use Rattle.ib_walk.specs.Walk.{Visit, sum_of, is_page, IsTree, AreLinked, IsTiled}
 use Rattle.ib_walk.specs.Trees.{height_of, top_of, leaves_of, weight_of, times_met, IsTreeOf, IsLawful, most_height}

@@ -38,6 +38,22 @@ fn page(words: &[(usize, u64)]) -> Image {
     image
 }
 
+// A leaf with one record.
+fn leaf(prev: u32, next: u32, key: u64, value: u64) -> Image {
+    let mut image = Image::leaf(0);
+    image.set_links(prev, next);
+    let _ = image.insert(key, value);
+    image
+}
+
+// A node over leaf 2, and over leaf 3 from this key on.
+fn node(key: u64) -> Image {
+    let mut image = Image::node(1, 0);
+    let _ = image.insert(LEAST, 2);
+    let _ = image.insert(key, 3);
+    image
+}
+
 // The 16 pages of a new space.
 fn new_space() -> [Image; 16] {
     let mut pages = [opening_image(2); 16];
@@ -47,12 +63,12 @@ fn new_space() -> [Image; 16] {
 }
 
 // A root over two leaves, 2 and 3, each with a key. `prev` is the link of leaf 3.
-fn raised_root(prev: u64) -> [Image; 16] {
+fn raised_root(prev: u32) -> [Image; 16] {
     let mut pages = new_space();
     pages[0] = page(&[(0, 15)]);
-    pages[1] = page(&[(0, 1), (1, 1), (2, 2), (9, 2), (10, 7), (11, 3)]);
-    pages[2] = page(&[(0, 1), (2, 1), (4, 3), (8, 3)]);
-    pages[3] = page(&[(0, 1), (2, 1), (3, prev), (8, 7), (9, 5)]);
+    pages[1] = node(7);
+    pages[2] = leaf(0, 3, 3, 0);
+    pages[3] = leaf(prev, 0, 7, 5);
     pages
 }
 
@@ -92,7 +108,7 @@ fn a_link_that_does_not_lead_back_is_refused(rt: HostRuntime) -> Result<(), Fail
 fn a_second_root_is_another_tree(rt: HostRuntime) -> Result<(), Fail> {
     let mut pages = new_space();
     pages[0] = page(&[(0, 7)]);
-    pages[2] = page(&[(0, 1), (2, 1), (8, 4), (9, 6)]);
+    pages[2] = leaf(0, 0, 4, 6);
     assert!(rt; !check_tree(&pages, 1));
     match content(rt.alloc(), &pages, 2, 2)? {
         Some(map) => assert_eq!(rt; map.range(LEAST, GREATEST), [(4, 6)].as_slice()),

@@ -1,7 +1,7 @@
 //! Two leaves below a raised root, and their merge; a path that is full to the highest root, and a space with one free page.
 
 ghost use Rattle.std.specs.Prelude.{◌+◌, ◌<◌, ◌≤◌, ◌^◌};
-ghost use Rattle.ib_page.specs.declared.TheConstants.{MOST_LEVEL};
+ghost use Rattle.ib_heap.specs.declared.TheConstants.{MOST_LEVEL};
 ghost use Rattle.ib_page.specs.Image.{IsTreePage};
 
 use crate::changes::check_path;

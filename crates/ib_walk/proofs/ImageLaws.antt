@@ -7,7 +7,8 @@ use Rattle.ib_page.specs.Form.{page_of}
 use Rattle.ib_page.specs.Memory.{image_at, word_at}
 use Rattle.ib_page.specs.Page.{HoldsPage}
 use Rattle.ib_page.specs.Words.{free_page_words}
-use Rattle.ib_page.proofs.FormLaws.{length-formed, page_of-free_page_words, free_word}
+use Rattle.ib_heap.proofs.FormLaws.{length-formed, page_of-free_page_words}
+use Rattle.ib_heap.proofs.FreeLaws.{free_word}
 use Rattle.ib_walk.specs.Trees.{free_page}
 use Rattle.ib_walk.specs.Words.{state_of, words_at, image_of, pages_of, memory_of}
 

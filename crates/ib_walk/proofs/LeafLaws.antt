@@ -4,7 +4,7 @@ use Rattle.std.proofs.Common.{◌≡◌, ℕ, ◌+◌, ◌<◌, ◌≤◌, inl, 
 use Rattle.std.proofs.lemmas.Bool.{cases_eq}
 use Rattle.ib_map.specs.Keys.{MapKey, rank, end_rank}
 use Rattle.ib_map.specs.Pairs.{Pairs, Rises, put, value_at}
-use Rattle.ib_page.specs.declared.TheConstants.{MOST_RECORDS}
+use Rattle.ib_heap.specs.declared.TheConstants.{MOST_RECORDS}
 use Rattle.ib_walk.specs.Pages.{Tree, PageState, PageMemory, IsSound}
 use Rattle.ib_walk.specs.Walk.{Visit, below, records_in, sum_of, weight, is_page, IsLeafAt, AreNodes, AreLinked, IsTiled}
 use Rattle.ib_walk.specs.Search.{leaf_for, IsPageFor}

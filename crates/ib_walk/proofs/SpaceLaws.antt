@@ -9,11 +9,12 @@ use Rattle.ib_page.specs.Form.{page_of, empty_leaf_words}
 use Rattle.ib_page.specs.Opening.{opening_space_words, opening_words}
 use Rattle.ib_page.specs.Page.{HoldsPage}
 use Rattle.ib_page.specs.Space.{is_taken, IsSpacePage}
-use Rattle.ib_page.proofs.FormLaws.{length-formed, page_of-leaf, page_of-free_page_words}
+use Rattle.ib_heap.proofs.FormLaws.{length-formed, page_of-free_page_words}
+use Rattle.ib_heap.proofs.EmptyLaws.{page_of-leaf}
 use Rattle.ib_page.proofs.OpeningLaws.{opening_space, opening_leaf, opening_free}
 use Rattle.ib_page.proofs.SpaceLaws.{space_taken, space_formed}
 use Rattle.ib_walk.specs.Opening.{opening_word}
-use Rattle.ib_page.specs.declared.TheConstants.{MOST_RECORDS}
+use Rattle.ib_heap.specs.declared.TheConstants.{MOST_RECORDS}
 use Rattle.ib_page.specs.declared.space.TheConstants.{MAPPED_PAGES}
 use Rattle.ib_walk.specs.Pages.{PageState, PageMemory, IsSound}
 use Rattle.ib_walk.specs.Walk.{below, records_in}

@@ -1,7 +1,7 @@
 -- How many pages an insert takes, which they are, and when it can take none.
 use Rattle.std.specs.Prelude.{ℕ, zero, suc, ◌+◌, Bool, ◌==◌, ◌&&◌, nat_le, nat_lt, List, [], ◌∷◌, ◌++◌, length, map, filter, take, if◌then◌else◌}
 use Rattle.ib_map.specs.Keys.{MapKey, rank}
-use Rattle.ib_page.specs.declared.TheConstants.{MOST_LEVEL, MOST_RECORDS}
+use Rattle.ib_heap.specs.declared.TheConstants.{MOST_LEVEL, MOST_RECORDS}
 use Rattle.ib_walk.specs.Pages.{PageMemory}
 use Rattle.ib_walk.specs.Walk.{Visit, children}
 use Rattle.ib_walk.specs.Trees.{height_of, top_of}

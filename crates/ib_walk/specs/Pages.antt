@@ -2,7 +2,7 @@
 use Rattle.std.specs.Prelude.{◌≡◌, ℕ, ◌<◌, ◌≤◌, ◌^◌, length, ◌==◌, if◌then◌else◌}
 use Rattle.ib_map.specs.Keys.{end_rank}
 use Rattle.ib_map.specs.Pairs.{Pairs, Rises}
-use Rattle.ib_page.specs.declared.TheConstants.{MOST_LEVEL}
+use Rattle.ib_heap.specs.declared.TheConstants.{MOST_LEVEL}
 
 pub data PageKind : Type 0 where
   Malformed : PageKind

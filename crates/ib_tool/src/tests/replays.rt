@@ -5,8 +5,8 @@ ghost use Rattle.std.specs.Prelude.{◌<◌};
 use super::*;
 
 // Session 1 inserts 10 with 100 and then 11 with 110, on page 1.
-const LOG: [u64; 24] = [
-    0x1_0001_0004,
+const LOG: [u64; 40] = [
+    0x1_0001_0008,
     1,
     10,
     100,
@@ -14,11 +14,19 @@ const LOG: [u64; 24] = [
     1,
     133,
     1,
-    136,
+    135,
+    535,
+    146,
+    276,
+    147,
+    512,
+    148,
+    19,
+    149,
     10,
-    137,
+    150,
     100, //
-    0x1_0001_0004,
+    0x1_0001_0008,
     2,
     11,
     110,
@@ -26,9 +34,17 @@ const LOG: [u64; 24] = [
     2,
     133,
     2,
-    138,
+    135,
+    538,
+    147,
+    768,
+    148,
+    23,
+    151,
+    19,
+    152,
     11,
-    139,
+    153,
     110,
 ];
 
@@ -36,7 +52,7 @@ const LOG: [u64; 24] = [
 const TEXT: &[u8] = b"log 2\n1 1 insert 10 100\n1 2 insert 11 110\nmap 2\n10 100\n11 110\n";
 
 // The log with other words at these places.
-fn changed(changes: &[(usize, u64)]) -> [u64; 24] {
+fn changed(changes: &[(usize, u64)]) -> [u64; 40] {
     let mut words = LOG;
     for &(at, word) in changes {
         if at < words.len() {
@@ -48,7 +64,7 @@ fn changed(changes: &[(usize, u64)]) -> [u64; 24] {
 
 // The file of a log, the highest byte of each number first.
 fn file(alloc: Global, pages: u64, words: &[u64]) -> Result<Vec<u8>, Fail> {
-    let mut bytes = Vec::from_slice(alloc, b"IBLOG570")?;
+    let mut bytes = Vec::from_slice(alloc, b"IBLOG571")?;
     bytes.extend_from_slice(&pages.to_be_bytes())?;
     for word in words {
         bytes.extend_from_slice(&word.to_be_bytes())?;
@@ -89,7 +105,7 @@ fn refused(
 #[test]
 fn a_log_of_one_insert(rt: HostRuntime) -> Result<(), Fail> {
     let alloc = rt.alloc();
-    let words = &LOG[..12];
+    let words = &LOG[..20];
     replayed(
         &rt,
         alloc,
@@ -98,18 +114,18 @@ fn a_log_of_one_insert(rt: HostRuntime) -> Result<(), Fail> {
     )?;
     let mut bytes = file(alloc, 16, words)?;
     bytes.pop();
-    refused_bytes(&rt, alloc, &bytes, "odd length 111")?;
-    refused(&rt, alloc, &words[..11], "short at 0")?;
+    refused_bytes(&rt, alloc, &bytes, "odd length 175")?;
+    refused(&rt, alloc, &words[..19], "short at 0")?;
     refused(
         &rt,
         alloc,
-        &changed(&[(10, 2048)])[..12],
+        &changed(&[(18, 2048)])[..20],
         "outside at 0 word 2048",
     )?;
     refused(
         &rt,
         alloc,
-        &changed(&[(11, 101)])[..12],
+        &changed(&[(19, 101)])[..20],
         "unlawful at 0 tree",
     )
 }
@@ -121,8 +137,8 @@ fn logs_that_are_lawful(rt: HostRuntime) -> Result<(), Fail> {
     replayed(&rt, alloc, &LOG, TEXT)?;
     // Session 1,024 deletes 10, with writes on two pages. On page 15, which is free, it is the clock.
     let mut words = Vec::from_slice(alloc, &LOG)?;
-    words.extend_from_slice(&[0x400_0006_0007, 1, 10, 0, 130, 1, 133, 3])?;
-    words.extend_from_slice(&[136, 11, 137, 110, 138, 0, 139, 0, 1925, u64::MAX])?;
+    words.extend_from_slice(&[0x400_0006_0007, 1, 10, 0, 130, 1, 133, 3, 134, 20])?;
+    words.extend_from_slice(&[146, 279, 147, 512, 148, 0, 1925, u64::MAX])?;
     replayed(
         &rt,
         alloc,
@@ -135,18 +151,18 @@ fn logs_that_are_lawful(rt: HostRuntime) -> Result<(), Fail> {
 fn faults_of_a_file(rt: HostRuntime) -> Result<(), Fail> {
     let alloc = rt.alloc();
     refused_bytes(&rt, alloc, b"", "short at 0")?;
-    refused_bytes(&rt, alloc, b"IBLOG570", "short at 0")?;
+    refused_bytes(&rt, alloc, b"IBLOG571", "short at 0")?;
     refused_bytes(
         &rt,
         alloc,
-        b"IBLOG571\0\0\0\0\0\0\0\x0f\xff",
+        b"IBLOG570\0\0\0\0\0\0\0\x0f\xff",
         "odd length 17",
     )?;
     refused_bytes(
         &rt,
         alloc,
-        b"IBLOG571\0\0\0\0\0\0\0\x0f",
-        "file at 0 word 5278865616612439857",
+        b"IBLOG570\0\0\0\0\0\0\0\x0f",
+        "file at 0 word 5278865616612439856",
     )?;
     refused_bytes(&rt, alloc, &file(alloc, 15, &LOG)?, "file at 1 word 15")?;
     refused_bytes(&rt, alloc, &file(alloc, 4097, &[0])?, "file at 1 word 4097")?;
@@ -163,8 +179,8 @@ fn every_truncation(rt: HostRuntime) -> Result<(), Fail> {
         if cut % 8 != 0 {
             let fault = format!(in alloc; "odd length {cut}")?;
             refused_bytes(&rt, alloc, front, &fault)?;
-        } else if cut != 16 && cut != 112 {
-            let place = if cut < 112 { 0 } else { 12 };
+        } else if cut != 16 && cut != 176 {
+            let place = if cut < 176 { 0 } else { 20 };
             let fault = format!(in alloc; "short at {place}")?;
             refused_bytes(&rt, alloc, front, &fault)?;
         }
@@ -176,7 +192,7 @@ fn every_truncation(rt: HostRuntime) -> Result<(), Fail> {
 fn every_word_too_great(rt: HostRuntime) -> Result<(), Fail> {
     let alloc = rt.alloc();
     for at in 0..LOG.len() {
-        let entry = if at < 12 { 0 } else { 12 };
+        let entry = if at < 20 { 0 } else { 20 };
         let words = changed(&[(at, u64::MAX)]);
         let what = match at - entry {
             // A clock may be any number.
@@ -185,7 +201,9 @@ fn every_word_too_great(rt: HostRuntime) -> Result<(), Fail> {
                 continue;
             }
             0 | 1 => format!(in alloc; "head at {entry} word 18446744073709551615")?,
-            4 | 6 | 8 | 10 => format!(in alloc; "outside at {entry} word 18446744073709551615")?,
+            4 | 6 | 8 | 10 | 12 | 14 | 16 | 18 => format!(in alloc;
+                "outside at {entry} word 18446744073709551615"
+            )?,
             // With another key, value or written word the page does not have what the map has.
             _ => format!(in alloc; "unlawful at {entry} tree")?,
         };
@@ -197,68 +215,69 @@ fn every_word_too_great(rt: HostRuntime) -> Result<(), Fail> {
 #[test]
 fn faults_of_the_second_entry(rt: HostRuntime) -> Result<(), Fail> {
     let alloc = rt.alloc();
-    refused(&rt, alloc, &LOG[..15], "short at 12")?;
-    refused(&rt, alloc, &LOG[..23], "short at 12")?;
+    refused(&rt, alloc, &LOG[..23], "short at 20")?;
+    refused(&rt, alloc, &LOG[..39], "short at 20")?;
     let rows: [(&[(usize, u64)], &str); 22] = [
-        (&[(12, 3)], "head at 12 word 3"),
-        (&[(12, 0x401_0001_0004)], "head at 12 word 4402341543940"),
-        (&[(12, 0x1_0003_0004)], "head at 12 word 4295163908"),
-        (&[(12, 0x1_0001_0000)], "head at 12 word 4295032832"),
-        (&[(12, 0x1_0001_1001)], "head at 12 word 4295036929"),
-        (&[(13, 0)], "head at 12 word 0"),
-        (&[(13, 1 << 32)], "head at 12 word 4294967296"),
-        (&[(12, 0x1_0002_0004)], "head at 12 word 110"),
-        (&[(12, 0x1_0001_0005)], "short at 12"),
-        (&[(22, 2048)], "outside at 12 word 2048"),
-        (&[(20, 133)], "write at 12 word 133"),
-        (&[(20, 132)], "write at 12 word 132"),
-        (&[(22, 256)], "head at 12 word 4295032836"),
-        (&[(12, 0x1_0005_0004)], "head at 12 word 4295294980"),
-        (&[(13, 1)], "unlawful at 12 number"),
-        (&[(12, 0x2_0001_0004)], "unlawful at 12 number"),
-        (&[(14, 10)], "unlawful at 12 change"),
-        (&[(12, 0x1_0002_0004), (15, 0)], "unlawful at 12 change"),
-        (&[(14, 12)], "unlawful at 12 tree"),
-        (&[(17, 1)], "unlawful at 12 tree"),
-        (&[(21, 12)], "unlawful at 12 tree"),
+        (&[(20, 3)], "head at 20 word 3"),
+        (&[(20, 0x401_0001_0008)], "head at 20 word 4402341543944"),
+        (&[(20, 0x1_0003_0008)], "head at 20 word 4295163912"),
+        (&[(20, 0x1_0001_0000)], "head at 20 word 4295032832"),
+        (&[(20, 0x1_0001_1001)], "head at 20 word 4295036929"),
+        (&[(21, 0)], "head at 20 word 0"),
+        (&[(21, 1 << 32)], "head at 20 word 4294967296"),
+        (&[(20, 0x1_0002_0008)], "head at 20 word 110"),
+        (&[(20, 0x1_0001_0009)], "short at 20"),
+        (&[(38, 2048)], "outside at 20 word 2048"),
+        (&[(28, 133)], "write at 20 word 133"),
+        (&[(28, 132)], "write at 20 word 132"),
+        (&[(38, 256)], "head at 20 word 4295032840"),
+        (&[(20, 0x1_0005_0008)], "head at 20 word 4295294984"),
+        (&[(21, 1)], "unlawful at 20 number"),
+        (&[(20, 0x2_0001_0008)], "unlawful at 20 number"),
+        (&[(22, 10)], "unlawful at 20 change"),
+        (&[(20, 0x1_0002_0008), (23, 0)], "unlawful at 20 change"),
+        (&[(22, 12)], "unlawful at 20 tree"),
+        (&[(25, 1)], "unlawful at 20 tree"),
+        (&[(37, 12)], "unlawful at 20 tree"),
         (
-            &[(12, 0x1_0005_0004), (16, 0), (17, 7)],
-            "unlawful at 12 tree",
+            &[(20, 0x1_0005_0008), (24, 0), (25, 7)],
+            "unlawful at 20 tree",
         ),
     ];
     for (changes, fault) in rows {
         refused(&rt, alloc, &changed(changes), fault)?;
     }
     // The record is not counted.
-    let mut words = Vec::from_slice(alloc, &LOG[..12])?;
-    words.extend_from_slice(&[0x1_0001_0003, 2, 11, 110, 133, 2, 138, 11, 139, 110])?;
-    refused(&rt, alloc, &words, "unlawful at 12 tree")
+    let mut words = Vec::from_slice(alloc, &LOG[..20])?;
+    words.extend_from_slice(&[0x1_0001_0007, 2, 11, 110, 133, 2, 135, 538, 147, 768])?;
+    words.extend_from_slice(&[148, 23, 151, 19, 152, 11, 153, 110])?;
+    refused(&rt, alloc, &words, "unlawful at 20 tree")
 }
 
 #[test]
 fn the_first_fault_is_told(rt: HostRuntime) -> Result<(), Fail> {
     let alloc = rt.alloc();
     let rows: [(&[(usize, u64)], &str); 17] = [
-        (&[(12, 3), (13, 0)], "head at 12 word 3"),
-        (&[(12, 0x1_0002_0004), (13, 0)], "head at 12 word 0"),
-        (&[(12, 0x1_0002_0005)], "head at 12 word 110"),
-        (&[(12, 0x1_0001_0005), (16, 5000)], "short at 12"),
-        (&[(16, 2048), (18, 130)], "outside at 12 word 2048"),
-        (&[(20, 132), (22, 2048)], "write at 12 word 132"),
-        (&[(16, 140), (18, 2048)], "outside at 12 word 2048"),
-        (&[(12, 0x1_0005_0004), (20, 133)], "write at 12 word 133"),
+        (&[(20, 3), (21, 0)], "head at 20 word 3"),
+        (&[(20, 0x1_0002_0008), (21, 0)], "head at 20 word 0"),
+        (&[(20, 0x1_0002_0009)], "head at 20 word 110"),
+        (&[(20, 0x1_0001_0009), (24, 5000)], "short at 20"),
+        (&[(24, 2048), (26, 130)], "outside at 20 word 2048"),
+        (&[(28, 132), (30, 2048)], "write at 20 word 132"),
+        (&[(24, 140), (26, 2048)], "outside at 20 word 2048"),
+        (&[(20, 0x1_0005_0008), (28, 133)], "write at 20 word 133"),
         (
-            &[(12, 0x1_0005_0004), (13, 3)],
-            "head at 12 word 4295294980",
+            &[(20, 0x1_0005_0008), (21, 3)],
+            "head at 20 word 4295294984",
         ),
-        (&[(13, 3), (14, 10)], "unlawful at 12 number"),
-        (&[(0, 0), (12, 0)], "head at 0 word 0"),
-        (&[(1, 2), (12, 0)], "unlawful at 0 number"),
-        (&[(2, 11), (9, 11), (13, 3)], "unlawful at 12 number"),
-        (&[(2, 11), (9, 11)], "unlawful at 12 change"),
-        (&[(14, 10), (23, 7)], "unlawful at 12 change"),
-        (&[(13, 3), (17, 1)], "unlawful at 12 number"),
-        (&[(2, 11), (12, 0)], "unlawful at 0 tree"),
+        (&[(21, 3), (22, 10)], "unlawful at 20 number"),
+        (&[(0, 0), (20, 0)], "head at 0 word 0"),
+        (&[(1, 2), (20, 0)], "unlawful at 0 number"),
+        (&[(2, 11), (17, 11), (21, 3)], "unlawful at 20 number"),
+        (&[(2, 11), (17, 11)], "unlawful at 20 change"),
+        (&[(22, 10), (39, 7)], "unlawful at 20 change"),
+        (&[(21, 3), (25, 1)], "unlawful at 20 number"),
+        (&[(2, 11), (20, 0)], "unlawful at 0 tree"),
     ];
     for (changes, fault) in rows {
         refused(&rt, alloc, &changed(changes), fault)?;

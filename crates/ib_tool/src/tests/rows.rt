@@ -52,7 +52,7 @@ fn a_log_that_gets_full(rt: HostRuntime) -> Result<(), Fail> {
         rt.alloc(),
         b"space 16 8196\ninsert 10 100\ninsert 11 1\ninsert 10 3\nget 10\n",
         Status::Done,
-        b"session 1\ninsert 10 100 -> inserted at 0\ninsert 11 1 -> log full used 12 cap 8196 at 1\ninsert 10 3 -> duplicate at 1\nget 10 -> 100 at 1\nlog 1\n1 1 insert 10 100\nmap 1\n10 100\n",
+        b"session 1\ninsert 10 100 -> inserted at 0\ninsert 11 1 -> log full used 20 cap 8196 at 1\ninsert 10 3 -> duplicate at 1\nget 10 -> 100 at 1\nlog 1\n1 1 insert 10 100\nmap 1\n10 100\n",
     )
 }
 
@@ -85,14 +85,18 @@ fn a_space_that_gets_full(rt: HostRuntime) -> Result<(), Fail> {
 }
 
 // Session 1 inserts 10 with 100, on page 1 of a space of 16 pages.
-pub(super) const FILE: [u8; 112] = *b"IBLOG570\
+pub(super) const FILE: [u8; 176] = *b"IBLOG571\
     \0\0\0\0\0\0\0\x10\
-    \0\0\0\x01\0\x01\0\x04\0\0\0\0\0\0\0\x01\
+    \0\0\0\x01\0\x01\0\x08\0\0\0\0\0\0\0\x01\
     \0\0\0\0\0\0\0\x0a\0\0\0\0\0\0\0\x64\
     \0\0\0\0\0\0\0\x82\0\0\0\0\0\0\0\x01\
     \0\0\0\0\0\0\0\x85\0\0\0\0\0\0\0\x01\
-    \0\0\0\0\0\0\0\x88\0\0\0\0\0\0\0\x0a\
-    \0\0\0\0\0\0\0\x89\0\0\0\0\0\0\0\x64";
+    \0\0\0\0\0\0\0\x87\0\0\0\0\0\0\x02\x17\
+    \0\0\0\0\0\0\0\x92\0\0\0\0\0\0\x01\x14\
+    \0\0\0\0\0\0\0\x93\0\0\0\0\0\0\x02\0\
+    \0\0\0\0\0\0\0\x94\0\0\0\0\0\0\0\x13\
+    \0\0\0\0\0\0\0\x95\0\0\0\0\0\0\0\x0a\
+    \0\0\0\0\0\0\0\x96\0\0\0\0\0\0\0\x64";
 
 #[test]
 fn the_file_of_a_log(rt: HostRuntime) -> Result<(), Fail> {

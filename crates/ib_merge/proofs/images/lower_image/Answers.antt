@@ -4,7 +4,7 @@ use Rattle.ib_map.specs.Keys.{end_rank}
 use Rattle.ib_map.specs.Pairs.{Pairs, Rises}
 use Rattle.ib_page.specs.Page.{page_in}
 use Rattle.ib_page.specs.Image.{records_of}
-use Rattle.ib_page.proofs.RouteLaws.{records_ascend}
+use Rattle.ib_heap.proofs.SeekLaws.{records_ascend}
 use Rattle.ib_merge.proofs.ImageLaws.{records-few}
 use Rattle.ib_merge.proofs.images.lower_image.Goals as goal
 

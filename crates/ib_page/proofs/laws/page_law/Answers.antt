@@ -1,7 +1,8 @@
 -- The law of pages, clause by clause.
 use Rattle.std.proofs.Common.{◌∙◌, List, ℕ, refl, ap, sym, subst, arith}
 use Rattle.ib_page.specs.Space.{IsSpacePage, is_taken}
-use Rattle.ib_page.proofs.FormLaws.{tree_fits, length-formed, formed-tree, page_of-leaf, page_of-free_page_words}
+use Rattle.ib_heap.proofs.FormLaws.{tree_fits, length-formed, formed-tree, page_of-free_page_words}
+use Rattle.ib_heap.proofs.EmptyLaws.{page_of-leaf}
 use Rattle.ib_page.proofs.SpaceLaws.{space_taken, space_formed}
 use Rattle.ib_page.proofs.OpeningLaws.{opening_space, opening_leaf, opening_free}
 use Rattle.ib_page.proofs.laws.page_law.Goals as goal

@@ -1,6 +1,6 @@
 -- Each kind of page has its words.
 use Rattle.std.proofs.Common.{arith, ◌∙◌, ap, sym, get_or}
-use Rattle.ib_page.proofs.FormLaws.{free_word}
+use Rattle.ib_heap.proofs.FreeLaws.{free_word}
 use Rattle.ib_page.proofs.OpeningLaws.{opening_space, opening_leaf, opening_free}
 use Rattle.ib_page.proofs.opening.opening_word.Goals as goal
 

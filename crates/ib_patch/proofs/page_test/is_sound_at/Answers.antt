@@ -1,5 +1,5 @@
 use Rattle.std.proofs.Common.{subst, sym}
-use Rattle.ib_page.specs.declared.TheConstants.{MOST_RECORDS}
+use Rattle.ib_heap.specs.declared.TheConstants.{MOST_RECORDS}
 use Rattle.ib_walk.specs.Pages.{IsSound}
 use Rattle.ib_patch.proofs.MemoryLaws.{memory_of-read}
 use Rattle.ib_patch.proofs.page_test.is_sound_at.Goals as goal

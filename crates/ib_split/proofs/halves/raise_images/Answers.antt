@@ -6,7 +6,7 @@ use Rattle.ib_map.specs.declared.key.TheConstants.{LEAST}
 use Rattle.ib_page.specs.Form.{page_of}
 use Rattle.ib_page.specs.Page.{HoldsTree}
 use Rattle.ib_page.specs.Image.{records_of}
-use Rattle.ib_page.proofs.RouteLaws.{records_ascend}
+use Rattle.ib_heap.proofs.SeekLaws.{records_ascend}
 use Rattle.ib_plans.specs.Split.{right_part, first_key}
 use Rattle.ib_split.proofs.HalfLaws.{right_page-records, right_part-some, right_part-above}
 use Rattle.ib_split.proofs.halves.raise_images.Goals as goal

@@ -1,7 +1,7 @@
 -- Each step of the climb, for every memory whose pages these are.
 use Rattle.std.proofs.Common.{◌≡◌, ◌∙◌, ℕ, ◌-◌, false, List, length, get_or, take, ap, subst, sym, arith}
 use Rattle.std.specs.Prelude.{IsSomeAnd, ◌==◌}
-use Rattle.ib_page.specs.declared.TheConstants.{MOST_RECORDS}
+use Rattle.ib_heap.specs.declared.TheConstants.{MOST_RECORDS}
 use Rattle.ib_page.specs.Image.{IsTreePage}
 use Rattle.ib_map.specs.Keys.{MapKey}
 use Rattle.ib_page.specs.Work.{WorkPage, changed_of}

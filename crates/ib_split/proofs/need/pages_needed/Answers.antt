@@ -2,7 +2,7 @@
 use Rattle.std.proofs.Common.{◌≡◌, ◌∙◌, ◌<◌, ℕ, ◌+◌, suc, true, false, length, ap, arith, refl}
 use Rattle.std.specs.Prelude.{◌==◌, reverse}
 use Rattle.std.proofs.lemmas.Bool.{eq-eqb, ne_eqb}
-use Rattle.ib_page.specs.declared.TheConstants.{MOST_LEVEL}
+use Rattle.ib_heap.specs.declared.TheConstants.{MOST_LEVEL}
 use Rattle.ib_walk.specs.Full.{full_run, run_of, need_of, is_root_full, is_too_high}
 use Rattle.ib_walk.specs.Pages.{PageMemory}
 use Rattle.ib_walk.specs.Trees.{height_of}

@@ -1,6 +1,6 @@
 use Rattle.std.proofs.Common.{ℕ, ◌<◌, ◌∙◌, List, length, All, sym, ap, subst, arith}
 use Rattle.ib_map.specs.Keys.{end_rank}
-use Rattle.ib_page.specs.declared.TheConstants.{MOST_LEVEL}
+use Rattle.ib_heap.specs.declared.TheConstants.{MOST_LEVEL}
 use Rattle.ib_walk.specs.Words.{memory_of}
 use Rattle.ib_patch.specs.PatchTest.{set_roots, visit_levels}
 use Rattle.ib_patch.specs.Positions.{is_good_at, positions_of}

@@ -2,7 +2,7 @@
 use Rattle.ib_map.proofs.KeyLaws.{rank-lt_end}
 use Rattle.ib_walk.proofs.TreeLaws.{IsPageFor-leaf, value_at-content_of, IsTiled-leaves, Rises-content_of, times_met-le}
 use Rattle.ib_walk.proofs.SpaceLaws.{image_of-opening, IsLawfulMemory-opening, content_of-opening}
-use Rattle.ib_page.specs.declared.TheConstants.{MOST_RECORDS}
+use Rattle.ib_heap.specs.declared.TheConstants.{MOST_RECORDS}
 use Rattle.ib_walk.proofs.laws.walk_law.Goals as goal
 
 pub returns-clause-map : goal.returns-clause-map

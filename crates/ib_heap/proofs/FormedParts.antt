@@ -1,0 +1,168 @@
+-- The clauses of the form, from the test's parts and back.
+use Rattle.std.proofs.Common.{inl, inr, ◌≡◌, ℕ, zero, suc, ◌+◌, ◌-◌, ◌*◌, ◌/◌, ◌%◌, ◌<◌, ◌≤◌, true, false, ◌∙◌, List, [], ◌∷◌, ◌++◌, length, get_or, refl, ap, sym, arith, subst}
+use Rattle.std.proofs.lemmas.Bool.{cases_Bool, cases_eq, eq-eqb, ne_eqb}
+use Rattle.std.proofs.lemmas.List.{get_or-replicate}
+use Rattle.std.specs.Prelude.{replicate}
+use Rattle.ib_map.specs.Keys.{end_rank}
+use Rattle.ib_heap.specs.Page.{rises, HasLimits}
+use Rattle.ib_heap.specs.Heap.{Node, Heap, is_heap, read_heap, are_places, places_of, chain_from, free_from, is_directory, is_owned, owners, records_in, first_of, first_free, used, times, each_once}
+use Rattle.ib_heap.specs.Walks.{HasHead, HasSlots, HasChain, end_from, free_end}
+use Rattle.ib_heap.proofs.PageLaws.{rises-Decides}
+use Rattle.ib_heap.proofs.HeapLaws.{Chained, Freed, Directory, ArePlaces, EachOnce, IsHeap, IsHeap-Decides, Owned-Decides, Directory-Decides, ArePlaces-Decides, ArePlaces-left, ArePlaces-right, EachOnce-Decides}
+use Rattle.ib_heap.proofs.SeekLaws.{first-in, owner-last, directory-at, directory-few, owners-some, length-records}
+use Rattle.ib_heap.proofs.FormedLoops.{chained-from, freed-from, slots-number}
+
+pub length-chain : (ws : List ℕ) (n p : ℕ) → length (chain_from ws n p) ≡ n
+length-chain ws zero p = refl
+length-chain ws (suc n) p = ap suc (length-chain ws n (get_or ws p 0 % 256))
+
+pub length-free : (ws : List ℕ) (n p : ℕ) → length (free_from ws n p) ≡ n
+length-free ws zero p = refl
+length-free ws (suc n) p = ap suc (length-free ws n (get_or ws p 0))
+
+pub chained-end : (ws : List ℕ) (n p last : ℕ) → Chained ws (chain_from ws n p) last → p ≡ first_of (chain_from ws n p) → end_from ws n p ≡ 19
+chained-end ws zero p last h e = e
+chained-end ws (suc n) p last h e = let a = h.0 in chained-end ws n (get_or ws p 0 % 256) last h.1 (omega arith)
+
+pub freed-end : (ws : List ℕ) (n p : ℕ) → Freed ws (free_from ws n p) → p ≡ first_free (free_from ws n p) → free_end ws n p ≡ 0
+freed-end ws zero p h e = e
+freed-end ws (suc n) p h e = freed-end ws n (get_or ws p 0) h.1 h.0
+
+last-word : (ws : List ℕ) (xs : List Node) (last : ℕ) → Chained ws xs last → get_or ws 19 0 ≡ last * 256
+last-word ws [] last c = c
+last-word ws (x ∷ xs) last c = last-word ws xs last c.1
+
+pub refuse : (ws : List ℕ) → (IsHeap ws (read_heap ws) → ⊥) → false ≡ is_heap ws (read_heap ws)
+refuse ws bad = elim (cases_Bool (is_heap ws (read_heap ws))) [
+  | inl good ↦ absurd (bad ((IsHeap-Decides ws (read_heap ws)).0 good))
+  | inr f ↦ sym f
+]
+
+module _ (ws : List ℕ) (k : IsHeap ws (read_heap ws)) where
+  abbrev h : Heap
+  h = read_heap ws
+
+  low : first_of h.nodes < 256
+  low = elim (first-in (used h) h.nodes 0 k.few (ArePlaces-left _ _ _ k.places) (omega arith)) [ inl e ↦ (let f = e.0 in omega arith) | inr e ↦ (let f = e.1.0 in omega arith) ]
+
+  pub head-of : HasHead ws
+  head-of =
+      let t = k.top in let c = k.count in let f = k.few in let s = k.start in let l = low in let w = last-word ws h.nodes h.last k.chained in
+      (k.kind, (omega arith, (omega arith, (omega arith, (omega arith, (omega arith, (omega arith, (omega arith, (k.directory.0, (k.zero_125, (k.zero_126, k.zero_127)))))))))))
+
+  used-is : used h ≡ (get_or ws 7 0 % 256 - 20) / 3
+  used-is = let t = k.top in let f = k.few in omega arith
+
+  pub places-of : are_places ((get_or ws 7 0 % 256 - 20) / 3) (places_of h.nodes) ≡ true
+  places-of = (ArePlaces-Decides _ _).1 (subst (λ (n : ℕ). ArePlaces n (places_of h.nodes)) used-is (ArePlaces-left _ _ _ k.places))
+
+  pub free-of : are_places ((get_or ws 7 0 % 256 - 20) / 3) h.free ≡ true
+  free-of = (ArePlaces-Decides _ _).1 (subst (λ (n : ℕ). ArePlaces n h.free) used-is (ArePlaces-right _ _ _ k.places))
+
+  pub end-of : end_from ws (get_or ws 2 0) (get_or ws 18 0 % 256) ≡ 19
+  end-of = chained-end ws (get_or ws 2 0) (get_or ws 18 0 % 256) h.last k.chained (let s = k.start in let l = low in omega arith)
+
+  pub list-of : free_end ws ((get_or ws 7 0 % 256 - 20) / 3 - get_or ws 2 0) (get_or ws 6 0) ≡ 0
+  list-of = freed-end ws ((get_or ws 7 0 % 256 - 20) / 3 - get_or ws 2 0) (get_or ws 6 0) k.freed k.front
+
+  pub owned-of : is_owned 0 h.nodes h.last ≡ true
+  owned-of = (Owned-Decides 0 h.nodes h.last).1 k.owned
+
+  pub directory-of : is_directory ws 9 9 (owners h.nodes) ≡ true
+  directory-of = (Directory-Decides ws 9 9 (owners h.nodes)).1 k.directory.1
+
+  pub limits-of : HasLimits (get_or ws 1 0) (get_or ws 3 0) (get_or ws 4 0)
+  limits-of = let f = k.fits in (f.level, f.prev, f.next, elim (cases_eq (get_or ws 1 0) 0) [ inl e ↦ inl e | inr ne ↦ inr (f.no_prev (omega (arith, ne)), f.no_next (omega (arith, ne))) ])
+
+  pub slots-of : HasSlots ws
+  slots-of =
+      let t = k.top in let f = k.few in
+      let d = directory-few ws 10 8 (18 ∷ owners h.nodes) k.directory in
+      let s = owners-some h.nodes in
+      let e : get_or ws 7 0 / 256 ≡ 1 + length (owners h.nodes) = omega arith in
+      (omega arith, (omega arith, ap (λ i. get_or ws i 0) (let g : 7 + get_or ws 7 0 / 256 ≡ 8 + length (owners h.nodes) = omega arith in g) ∙ (directory-at ws 10 8 (18 ∷ owners h.nodes) (length (owners h.nodes)) k.directory (omega arith) ∙ owner-last 18 h.nodes)))
+
+  pub rises-of : rises 0 (records_in ws h.nodes) end_rank ≡ true
+  rises-of = (rises-Decides 0 (records_in ws h.nodes) end_rank).1 k.fits.ascends
+
+  pub chain-of : HasChain ws h.nodes (end_from ws (get_or ws 2 0) (get_or ws 18 0 % 256))
+  chain-of = (end-of, (owned-of, (directory-of, (slots-of, rises-of))))
+
+  pub once-of : each_once ((get_or ws 7 0 % 256 - 20) / 3) (places_of h.nodes ++ h.free) ≡ true
+  once-of = (EachOnce-Decides _ _).1 (subst (λ (n : ℕ). EachOnce n (places_of h.nodes ++ h.free)) used-is k.once)
+
+places-join : (n : ℕ) (ps qs : List ℕ) → ArePlaces n ps → ArePlaces n qs → ArePlaces n (ps ++ qs)
+places-join n [] qs a b = b
+places-join n (p ∷ ps) qs a b = (a.0, places-join n ps qs a.1 b)
+
+abbrev top_n : List ℕ → ℕ
+top_n ws = (get_or ws 7 0 % 256 - 20) / 3
+
+-- the numbers of places and records, by the head
+pub record TopFits (ws : List ℕ) : Type 0 where
+  pub low : 20 ≤ get_or ws 7 0 % 256
+  pub few : (get_or ws 7 0 % 256 - 20) / 3 ≤ 35
+  pub count : get_or ws 2 0 ≤ (get_or ws 7 0 % 256 - 20) / 3
+  pub records : get_or ws 2 0 ≤ 35
+
+pub top-fits : (ws : List ℕ) → HasHead ws → TopFits ws
+top-fits ws h =
+    let a = h.1.0 in let b = h.1.1.0 in let d = h.1.1.1.1.0 in
+    record { low = b; few = omega arith; count = h.1.1.1.1.1.0; records = a }
+
+pub formed-from : (ws : List ℕ) → length ws ≡ 128 → HasHead ws → HasLimits (get_or ws 1 0) (get_or ws 3 0) (get_or ws 4 0) → are_places (top_n ws) (places_of (read_heap ws).nodes) ≡ true
+    → HasChain ws (read_heap ws).nodes (end_from ws (get_or ws 2 0) (get_or ws 18 0 % 256)) → are_places (top_n ws) (read_heap ws).free ≡ true → free_end ws (top_n ws - get_or ws 2 0) (get_or ws 6 0) ≡ 0
+    → each_once (top_n ws) (places_of (read_heap ws).nodes ++ (read_heap ws).free) ≡ true → IsHeap ws (read_heap ws)
+formed-from ws size hd lm pl chain fp fe on =
+    let g : Heap = read_heap ws in
+    let en = chain.0 in let ow = chain.1.0 in let di = chain.1.1.0 in let sl = chain.1.1.1.0 in let ri = chain.1.1.1.1 in
+    let hd2 = hd.1.0 in let hd3 = hd.1.1.0 in let hd4 = hd.1.1.1.0 in let hd5 = hd.1.1.1.1.0 in let hd6 = hd.1.1.1.1.1.0 in let hd7 = hd.1.1.1.1.1.1.0 in let hd8 = hd.1.1.1.1.1.1.1.0 in let hd9 = hd.1.1.1.1.1.1.1.1 in
+    let ln = length-chain ws (get_or ws 2 0) (get_or ws 18 0 % 256) in
+    let lf = length-free ws (top_n ws - get_or ws 2 0) (get_or ws 6 0) in
+    let us : top_n ws ≡ used g = omega arith in
+    let pln : ArePlaces (top_n ws) (places_of g.nodes) = (ArePlaces-Decides (top_n ws) (places_of g.nodes)).0 pl in
+    let ch = chained-from ws (get_or ws 2 0) (get_or ws 18 0 % 256) g.last en (omega arith) in
+    let fr = freed-from ws (top_n ws - get_or ws 2 0) (get_or ws 6 0) fe in
+    let dir : Directory ws 10 8 (18 ∷ owners g.nodes) = (hd9.0, (Directory-Decides ws 9 9 (owners g.nodes)).0 di) in
+    let s0 = sl.0 in let s1 = sl.1.0 in
+    let some = owners-some g.nodes in
+    let at : get_or (18 ∷ owners g.nodes) (suc (get_or ws 7 0 / 256 - 2)) 0 ≡ 19 = sym (directory-at ws 10 8 (18 ∷ owners g.nodes) (suc (get_or ws 7 0 / 256 - 2)) dir (omega arith)) ∙ (ap (λ i. get_or ws i 0) (let e : 8 + suc (get_or ws 7 0 / 256 - 2) ≡ 7 + get_or ws 7 0 / 256 = omega arith in e) ∙ sl.1.1) in
+    let sn = slots-number (top_n ws) (get_or ws 7 0 / 256 - 2) g.nodes pln at in
+    let lr = length-records ws g.nodes in
+    let st = ch.1 in
+    record {
+      size = size;
+      kind = hd.0;
+      count = sym ln;
+      fits = record { level = lm.0; prev = lm.1; next = lm.2; no_prev = λ p. elim lm.3 [ inl z ↦ absurd (omega arith) | inr z ↦ z.0 ]; no_next = λ p. elim lm.3 [ inl z ↦ absurd (omega arith) | inr z ↦ z.1 ]; few = omega arith; ascends = (rises-Decides 0 (records_in ws g.nodes) end_rank).0 ri };
+      front = fr.1;
+      top = omega arith;
+      few = omega arith;
+      start = omega arith;
+      chained = ch.0;
+      freed = fr.0;
+      owned = (Owned-Decides 0 g.nodes g.last).0 ow;
+      directory = dir;
+      places = subst (λ (n : ℕ). ArePlaces n (places_of g.nodes ++ g.free)) us (places-join (top_n ws) (places_of g.nodes) g.free pln ((ArePlaces-Decides _ _).0 fp));
+      once = subst (λ (n : ℕ). EachOnce n (places_of g.nodes ++ g.free)) us ((EachOnce-Decides _ _).0 on);
+      zero_125 = hd9.1.0;
+      zero_126 = hd9.1.1.0;
+      zero_127 = hd9.1.1.1;
+    }
+
+pub times-few : (q : ℕ) (ps : List ℕ) → times q ps ≤ length ps
+times-few q [] = omega arith
+times-few q (p ∷ ps) = let r = times-few q ps in elim (cases_eq p q) [ inl e ↦ rw (eq-eqb p q e) (omega arith) | inr ne ↦ rw (ne_eqb p q ne) (omega arith) ]
+
+length-places : (xs : List Node) → length (places_of xs) ≡ length xs
+length-places [] = refl
+length-places (x ∷ xs) = ap suc (length-places xs)
+
+pub chain-few : (ws : List ℕ) (n p q : ℕ) → n ≤ 35 → times q (places_of (chain_from ws n p)) ≤ 35
+chain-few ws n p q le = let a = times-few q (places_of (chain_from ws n p)) in let b = length-places (chain_from ws n p) in let d = length-chain ws n p in omega arith
+
+abbrev pub no_seen : List ℕ
+no_seen = replicate 35 0
+
+pub no-marks : (r : ℕ) → r < 35 → get_or no_seen r 0 ≡ 0
+no-marks r lt = get_or-replicate 35 r 0 0 lt

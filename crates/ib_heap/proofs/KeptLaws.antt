@@ -1,0 +1,27 @@
+-- The words that are kept are no head of a record in use, and none of the words that count and order the records.
+use Rattle.std.proofs.Common.{◌≡◌, ◌≢◌, ℕ, ◌<◌, ◌≤◌, ◌⊎◌, arith, inl, inr}
+use Rattle.ib_heap.specs.Kept.{IsKept}
+use Rattle.ib_heap.proofs.HeapLaws.{IsPlace}
+
+pub kept-apart : (n i : ℕ) → IsKept n i → (i < 2) ⊎ (((2 < i) × (i < 6)) ⊎ (20 ≤ i))
+kept-apart n i kept = elim kept [ inl low ↦ inl low | inr f ↦ elim f [ inl head ↦ inr (inl head) | inr g ↦ inr (inr g.0) ] ]
+
+pub kept-far : (n i : ℕ) → IsKept n i → (i < 7) ⊎ (18 < i)
+kept-far n i kept = elim (kept-apart n i kept) [ inl low ↦ inl (omega arith) | inr f ↦ elim f [ inl head ↦ inl (let u = head.1 in omega arith) | inr high ↦ inr (omega arith) ] ]
+
+pub kept-fixed : (n i j : ℕ) → IsKept n i → (j ≡ 2) ⊎ ((6 ≤ j) × (j < 20)) → i ≢ j
+kept-fixed n i j kept fixed z = elim (kept-apart n i kept) [
+  | inl low ↦ elim fixed [ inl e ↦ omega arith | inr e ↦ (let u = e.0 in omega arith) ]
+  | inr f ↦ elim f [
+    | inl head ↦ (let a = head.0 in let b = head.1 in elim fixed [ inl e ↦ omega arith | inr e ↦ (let u = e.0 in omega arith) ])
+    | inr high ↦ elim fixed [ inl e ↦ omega arith | inr e ↦ (let u = e.1 in omega arith) ]
+  ]
+]
+
+pub kept-place : (n i q : ℕ) → IsKept n i → IsPlace n q → i ≢ q
+kept-place n i q kept place z =
+    let a = place.is in let b = place.below in
+    elim kept [
+      | inl low ↦ omega arith
+      | inr f ↦ elim f [ inl head ↦ (let u = head.1 in omega arith) | inr g ↦ elim g.1 [ inl other ↦ other (omega arith) | inr far ↦ omega arith ] ]
+    ]

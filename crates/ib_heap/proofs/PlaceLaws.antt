@@ -1,0 +1,43 @@
+-- The place that a new record takes.
+use Rattle.std.proofs.Common.{◌≡◌, ℕ, ◌+◌, ◌*◌, ◌%◌, ◌≤◌, [], ◌∷◌, ◌∙◌, List, length, get_or, refl, ap, sym, arith, inl, inr}
+use Rattle.ib_heap.specs.Heap.{Node, Heap, first_free, used, read_heap, nodes_of}
+use Rattle.ib_heap.specs.Put.{place_for, rest_of}
+use Rattle.ib_heap.proofs.HeapLaws.{Freed, ArePlaces, ArePlaces-right}
+use Rattle.ib_heap.proofs.SeekLaws.{Known}
+use Rattle.ib_heap.proofs.ShapeLaws.{Gives}
+
+abbrev heap : List Node → ℕ → List ℕ → Heap
+heap nodes last free = record { nodes = nodes; last = last; free = free }
+
+-- a free place, and what is free behind it
+pub record FreePlace (ws : List ℕ) (h : Heap) (p : ℕ) : Type 0 where
+  pub place : p ≡ place_for h
+  pub low : 20 ≤ p
+  pub high : p ≤ 122
+  pub next : get_or ws p 0 ≡ first_free (rest_of h.free)
+  pub same : length h.nodes + 1 + length (rest_of h.free) ≡ used h
+  pub gives : Gives h p (rest_of h.free)
+
+pub free-place : (ws : List ℕ) (nodes : List Node) (last : ℕ) (free : List ℕ) (p : ℕ) → Freed ws free → ArePlaces (length nodes + length free) free → length nodes + length free ≤ 35 → p ≡ first_free free → (p ≡ 0 → ⊥) → FreePlace ws (heap nodes last free) p
+free-place ws nodes last [] p freed places few at some = absurd (some at)
+free-place ws nodes last (q ∷ qs) p freed places few at some =
+    let a = places.0.is in let b = places.0.below in
+    record { place = at; low = omega arith; high = omega arith; next = ap (λ n. get_or ws n 0) at ∙ freed.0; same = omega arith; gives = inl (ap (λ n. n ∷ qs) (sym at)) }
+
+-- where none is free
+pub record TopPlace (h : Heap) (p : ℕ) : Type 0 where
+  pub place : p ≡ place_for h
+  pub front : 0 ≡ first_free (rest_of h.free)
+  pub more : length h.nodes + 1 + length (rest_of h.free) ≡ used h + 1
+  pub none : length h.free ≡ 0
+  pub gives : Gives h p (rest_of h.free)
+
+pub top-place : (n : ℕ) (nodes : List Node) (last : ℕ) (free : List ℕ) (p : ℕ) → ArePlaces n free → first_free free ≡ 0 → p ≡ 20 + 3 * (length nodes + length free) → TopPlace (heap nodes last free) p
+top-place n nodes last [] p places at is = record { place = is; front = refl; more = omega arith; none = refl; gives = inr (refl, (is, refl)) }
+top-place n nodes last (q ∷ qs) p places at is = absurd (let a = places.0.is in let b : q ≡ 0 = at in omega arith)
+
+pub known-free : (ws : List ℕ) → Known ws → (get_or ws 6 0 ≡ 0 → ⊥) → FreePlace ws (read_heap ws) (get_or ws 6 0)
+known-free ws k some = free-place ws (nodes_of ws) (read_heap ws).last (read_heap ws).free _ k.is.freed (ArePlaces-right _ _ _ k.is.places) k.few k.is.front some
+
+pub known-top : (ws : List ℕ) → Known ws → get_or ws 6 0 ≡ 0 → TopPlace (read_heap ws) (get_or ws 7 0 % 256)
+known-top ws k none = top-place _ (nodes_of ws) (read_heap ws).last (read_heap ws).free _ (ArePlaces-right _ _ _ k.is.places) (sym k.is.front ∙ none) (let t = k.is.top in let f = k.few in omega arith)

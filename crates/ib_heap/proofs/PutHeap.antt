@@ -1,0 +1,60 @@
+-- The heap that a put leaves.
+use Rattle.std.proofs.Common.{◌≡◌, ℕ, zero, suc, ◌+◌, ◌-◌, ◌<◌, ◌≤◌, ◌⊎◌, [], ◌∷◌, ◌∙◌, List, length, take, drop, refl, ap, sym, arith, inl, inr, subst}
+use Rattle.std.proofs.lemmas.Bool.{cases_eq, eq-eqb, ne_eqb, le-leb, lt-leb, cond-true, cond-false}
+use Rattle.ib_heap.specs.Heap.{Node, Heap, owners, upto}
+use Rattle.ib_heap.specs.Put.{put_node, put_last, mark, mark_last, place_for, rest_of, owned_by, put_in}
+use Rattle.ib_heap.proofs.SeekLaws.{owners-some}
+use Rattle.ib_heap.proofs.SplitLaws.{InSlot}
+
+-- a place's slot, by the slots before it
+pub slot-number : (j k : ℕ) (xs : List Node) → InSlot j k xs → k ≤ length xs → length (owners (take k xs)) ≡ j + 1
+slot-number zero zero xs within le = refl
+slot-number (suc j) zero [] within le = absurd (let b = within.1.1 in omega arith)
+slot-number (suc j) zero (x ∷ xs) within le = absurd (let b = within.0 in omega arith)
+slot-number j (suc k) [] within le = absurd (omega arith)
+slot-number zero (suc k) (x ∷ xs) within le = elim (cases_eq x.owned 0) [
+  | inl f ↦ (
+      let e = eq-eqb x.owned 0 f in
+      let high : (suc k < 1 + upto 1 xs) ⊎ (1 ≡ length (owners xs)) = rw e at within.1.0 in
+      let slots : 0 < length (owners xs) = rw e at within.1.1 in
+      rw e (slot-number 0 k xs (omega arith, (elim high [ inl b ↦ inl (omega arith) | inr b ↦ inr b ], slots)) (omega arith)))
+  | inr f ↦ absurd (
+      let e = ne_eqb x.owned 0 f in
+      let w : (suc k < 1 + upto 0 xs) ⊎ (1 ≡ length (x.place ∷ owners xs)) = rw e at within.1.0 in
+      let some = owners-some xs in
+      elim w [ inl b ↦ omega arith | inr b ↦ omega arith ])
+]
+slot-number (suc j) (suc k) (x ∷ xs) within le = elim (cases_eq x.owned 0) [
+  | inl f ↦ (
+      let e = eq-eqb x.owned 0 f in
+      let low : 1 + upto (suc j) xs ≤ suc k = rw e at within.0 in
+      let high : (suc k < 1 + upto (suc (suc j)) xs) ⊎ (suc (suc j) ≡ length (owners xs)) = rw e at within.1.0 in
+      let slots : suc j < length (owners xs) = rw e at within.1.1 in
+      rw e (slot-number (suc j) k xs (omega arith, (elim high [ inl b ↦ inl (omega arith) | inr b ↦ inr b ], slots)) (omega arith)))
+  | inr f ↦ (
+      let e = ne_eqb x.owned 0 f in
+      let low : 1 + upto j xs ≤ suc k = rw e at within.0 in
+      let high : (suc k < 1 + upto (suc j) xs) ⊎ (suc (suc j) ≡ length (x.place ∷ owners xs)) = rw e at within.1.0 in
+      let slots : suc j < length (x.place ∷ owners xs) = rw e at within.1.1 in
+      let r = slot-number j k xs (omega arith, (elim high [ inl b ↦ inl (omega arith) | inr b ↦ inr (omega arith) ], omega arith)) (omega arith) in
+      rw e (omega arith))
+]
+
+module _ (k p slot : ℕ) (h : Heap) (place : p ≡ place_for h) where
+  abbrev made : ℕ → Heap
+  made q = record { nodes = put_node k q h.nodes; last = put_last k h.nodes h.last; free = rest_of h.free }
+
+  abbrev split : ℕ → ℕ → Heap
+  split q j = record { nodes = mark (upto j (put_node k q h.nodes) + 3) (put_node k q h.nodes); last = mark_last (upto j (put_node k q h.nodes) + 3) (put_node k q h.nodes) (put_last k h.nodes h.last); free = rest_of h.free }
+
+  pub put-in-plain : owned_by (drop k (put_node k p h.nodes)) (put_last k h.nodes h.last) ≤ 8 → made p ≡ put_in k h
+  put-in-plain room =
+      let r = subst (λ (q : ℕ). owned_by (drop k (put_node k q h.nodes)) (put_last k h.nodes h.last) ≤ 8) place room in
+      ap made place ∙ sym (cond-true _ _ _ (le-leb (owned_by (drop k (put_node k (place_for h) h.nodes)) (put_last k h.nodes h.last)) 8 (omega arith)))
+
+  pub put-in-split : 8 < owned_by (drop k (put_node k p h.nodes)) (put_last k h.nodes h.last) → InSlot (slot - 1) k h.nodes → k ≤ length h.nodes → split p (slot - 1) ≡ put_in k h
+  put-in-split full within le =
+      let r = subst (λ (q : ℕ). 8 < owned_by (drop k (put_node k q h.nodes)) (put_last k h.nodes h.last)) place full in
+      let n = slot-number (slot - 1) k h.nodes within le in
+      ap (λ q. split q (slot - 1)) place ∙ (ap (λ j. split (place_for h) j) (let f : slot - 1 ≡ length (owners (take k h.nodes)) - 1 = omega arith in f)
+      ∙ sym (cond-false _ _ _ (lt-leb (owned_by (drop k (put_node k (place_for h) h.nodes)) (put_last k h.nodes h.last)) 8 (omega arith))))

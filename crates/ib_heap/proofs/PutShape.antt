@@ -1,0 +1,278 @@
+-- The page after a put, by what was written.
+use Rattle.std.proofs.Common.{◌≡◌, ℕ, zero, suc, ◌+◌, ◌*◌, ◌<◌, ◌≤◌, ◌≢◌, ◌⊎◌, [], ◌∷◌, ◌++◌, ◌∙◌, List, length, take, drop, get_or, refl, ap, sym, arith, inl, inr, subst, None}
+use Rattle.std.specs.List.{insert}
+use Rattle.std.proofs.lemmas.Bool.{cases_eq, cases_lt}
+use Rattle.ib_map.specs.Keys.{rank, end_rank}
+use Rattle.ib_map.specs.Pairs.{Pairs, put, value_at, place_of}
+use Rattle.ib_map.proofs.PairLaws.{Rises-put, length-put as length-put-pairs}
+use Rattle.ib_map.proofs.PlaceLaws.{insert-place}
+use Rattle.ib_heap.specs.Page.{Page, IsPage}
+use Rattle.ib_heap.specs.Heap.{Node, Heap, first_of, owners, times, places_of, records_in, used, page_with, last_from}
+use Rattle.ib_heap.specs.Put.{owner_from, put_node, put_last}
+use Rattle.ib_heap.proofs.HeapLaws.{Chained, Freed, Directory, IsPlace, ArePlaces, EachOnce, IsHeap}
+use Rattle.ib_heap.proofs.SeekLaws.{length-records}
+use Rattle.ib_heap.proofs.PutLaws.{one, one-same, one-other, owners-put, length-put, times-put, times-append, first-put, owner-in, times-drop, last-member, SameAt, chain-put}
+use Rattle.ib_heap.proofs.ShapeLaws.{Shaped, Places, places-known, places-from, once-from, freed-same, directory-same, records-put, Gives, Written, put_heap}
+
+-- what is known of the place that a record takes
+pub record NewPlace (h : Heap) (p : ℕ) (free : List ℕ) : Type 0 where
+  pub more : used h ≤ length h.nodes + 1 + length free
+  pub few : length h.nodes < 35 → length h.nodes + 1 + length free ≤ 35
+  pub not_node : times p (places_of h.nodes) ≡ 0
+  pub not_free : times p free ≡ 0
+  pub was_free : (q : ℕ) → times q free ≤ times q h.free
+  pub place : (q : ℕ) → 0 < one p q + times q (places_of h.nodes) + times q free → IsPlace (length h.nodes + 1 + length free) q
+  pub each : (r : ℕ) → r < length h.nodes + 1 + length free → one p (20 + 3 * r) + times (20 + 3 * r) (places_of h.nodes) + times (20 + 3 * r) free ≡ 1
+
+wider : (n m q : ℕ) → IsPlace n q → n ≤ m → IsPlace m q
+wider n m q h le = let b = h.below in record { number = h.number; is = h.is; below = omega arith }
+
+pub new-place : (h : Heap) (p : ℕ) (free : List ℕ) → Places h → used h ≤ 35 → Gives h p free → NewPlace h p free
+new-place h p free known few (inl e) =
+    let times_is : (q : ℕ) → times q h.free ≡ one p q + times q free = λ q. ap (λ (ps : List ℕ). times q ps) e in
+    let long : length h.free ≡ 1 + length free = ap length e ∙ (let l : length (p ∷ free) ≡ 1 + length free = omega arith in l) in
+    let same : length h.nodes + 1 + length free ≡ used h = omega arith in
+    record {
+      more = omega arith;
+      few = λ lt. omega arith;
+      not_node = let o = known.once p in let t = times_is p in let s = one-same p in omega arith;
+      not_free = let o = known.once p in let t = times_is p in let s = one-same p in omega arith;
+      was_free = λ q. let t = times_is q in omega arith;
+      place = λ q lt. wider (used h) _ q (known.place q (let t = times_is q in omega arith)) (omega arith);
+      each = λ r lt. let o = known.each r (omega arith) in let t = times_is (20 + 3 * r) in omega arith;
+    }
+new-place h p free known few (inr e) =
+    let none : h.free ≡ [] = e.0 in
+    let at : p ≡ 20 + 3 * used h = e.1.0 in
+    let empty : free ≡ [] = e.1.1 in
+    let times_old : (q : ℕ) → times q h.free ≡ 0 = λ q. ap (λ (ps : List ℕ). times q ps) none in
+    let times_new : (q : ℕ) → times q free ≡ 0 = λ q. ap (λ (ps : List ℕ). times q ps) empty in
+    let long_old : length h.free ≡ 0 = ap length none in
+    let long_new : length free ≡ 0 = ap length empty in
+    let not_node : times p (places_of h.nodes) ≡ 0 = elim (cases_lt 0 (times p (places_of h.nodes))) [
+      | inl lt ↦ absurd (let pl = known.place p (omega arith) in let i = pl.is in let b = pl.below in omega arith)
+      | inr ge ↦ omega arith
+    ] in
+    record {
+      more = omega arith;
+      few = λ lt. omega arith;
+      not_node = not_node;
+      not_free = times_new p;
+      was_free = λ q. let t = times_new q in omega arith;
+      place = λ q lt. elim (cases_eq p q) [
+        | inl same ↦ record { number = used h; is = sym same ∙ at; below = omega arith }
+        | inr ne ↦ wider (used h) _ q (known.place q (let o = one-other p q ne in let t = times_new q in omega arith)) (omega arith)
+      ];
+      each = λ r lt. elim (cases_eq p (20 + 3 * r)) [
+        | inl same ↦ (let s = one-same p in let z : one p (20 + 3 * r) ≡ 1 = ap (λ n. one p n) (sym same) ∙ s in let m : times (20 + 3 * r) (places_of h.nodes) ≡ 0 = ap (λ n. times n (places_of h.nodes)) (sym same) ∙ not_node in let t = times_new (20 + 3 * r) in omega arith)
+        | inr ne ↦ (let z = one-other p (20 + 3 * r) ne in let o = known.each r (omega (arith, ne)) in let s = times_old (20 + 3 * r) in let t = times_new (20 + 3 * r) in omega arith)
+      ];
+    }
+
+-- where the neighbours stand
+pub before-in : (k : ℕ) (xs : List Node) → k ≤ length xs → ((k ≡ 0) × (last_from 18 (take k xs) ≡ 18)) ⊎ ((0 < k) × (0 < times (last_from 18 (take k xs)) (places_of xs)))
+before-in zero xs le = inl (refl, refl)
+before-in (suc k) xs le = inr (omega arith, last-member 18 k xs (omega arith))
+
+-- a place of the chain or of the supremum that is not one of the two neighbours
+abbrev pub IsBefore : Heap → ℕ → Type 0
+IsBefore h b = (b ≡ 18) ⊎ (0 < times b (places_of h.nodes))
+
+abbrev pub IsOwnerPlace : Heap → ℕ → Type 0
+IsOwnerPlace h o = (o ≡ 19) ⊎ (0 < times o (places_of h.nodes))
+
+-- a place of the heap is 20 and three times a number below 35
+pub record Low (p : ℕ) : Type 0 where
+  pub number : ℕ
+  pub is : p ≡ 20 + 3 * number
+  pub below : number < 35
+
+module _ (ws vs : List ℕ) (h : Heap) (k p key value : ℕ) (free : List ℕ) (is : IsHeap ws h) (gives : Gives h p free) (w : Written ws vs h k p key value free) (le : k ≤ length h.nodes) (lt : length h.nodes < 35) where
+  abbrev before : ℕ
+  before = last_from 18 (take k h.nodes)
+
+  abbrev owner : ℕ
+  owner = owner_from (drop k h.nodes)
+
+  known : Places h
+  known = places-known h is.places is.once
+
+  new : NewPlace h p free
+  new = new-place h p free known is.few gives
+
+  n_few : length h.nodes + 1 + length free ≤ 35
+  n_few = new.few lt
+
+  p_low : Low p
+  p_low = let pl = new.place p (let o = one-same p in omega arith) in let b = pl.below in let f = n_few in record { number = pl.number; is = pl.is; below = omega arith }
+
+  low : (q : ℕ) → 0 < times q (places_of h.nodes) + times q h.free → Low q
+  low q m = let pl = known.place q m in let b = pl.below in let f = is.few in record { number = pl.number; is = pl.is; below = omega arith }
+
+  b_in : ((k ≡ 0) × (before ≡ 18)) ⊎ ((0 < k) × (0 < times before (places_of h.nodes)))
+  b_in = before-in k h.nodes le
+
+  owner_is : IsOwnerPlace h owner
+  owner_is = elim (owner-in (drop k h.nodes)) [ inl e ↦ inl e | inr m ↦ inr (let t = times-drop k owner h.nodes in omega arith) ]
+
+  before_low : (before ≡ 18) ⊎ Low before
+  before_low = elim b_in [ inl e ↦ inl e.1 | inr m ↦ inr (low before (let t = m.1 in omega arith)) ]
+
+  owner_low : (owner ≡ 19) ⊎ Low owner
+  owner_low = elim owner_is [ inl e ↦ inl e | inr m ↦ inr (low owner (omega arith)) ]
+
+  -- a word that is the head of no record place
+  abbrev Off : ℕ → Type 0
+  Off i = (i < 20) ⊎ ((122 < i) ⊎ ((q : ℕ) → i ≢ 20 + 3 * q))
+
+  off-low : (i q : ℕ) → Off i → Low q → i ≢ q
+  off-low i q off l z = let a = l.is in let b = l.below in elim off [ inl f ↦ absurd (omega arith) | inr f ↦ elim f [ inl g ↦ absurd (omega arith) | inr g ↦ g l.number (z ∙ a) ] ]
+
+  not_before : (i : ℕ) → Off i → i ≢ 18 → i ≢ before
+  not_before i off ne = elim before_low [ inl e ↦ (λ z. ne (z ∙ e)) | inr l ↦ off-low i before off l ]
+
+  not_owner : (i : ℕ) → Off i → i ≢ 19 → i ≢ owner
+  not_owner i off ne = elim owner_low [ inl e ↦ (λ z. ne (z ∙ e)) | inr l ↦ off-low i owner off l ]
+
+  far_word : (i : ℕ) → i ≢ 2 → i ≢ 6 → i ≢ 7 → (i < 18) ⊎ (124 < i) → get_or vs i 0 ≡ get_or ws i 0
+  far_word i a b d far =
+      let l = p_low in let e = l.is in let f = l.below in
+      let off : Off i = elim far [ inl g ↦ inl (omega arith) | inr g ↦ inr (inl (omega arith)) ] in
+      w.other i a b d (λ z. elim far [ inl g ↦ absurd (omega arith) | inr g ↦ absurd (omega arith) ]) (λ z. elim far [ inl g ↦ absurd (omega arith) | inr g ↦ absurd (omega arith) ]) (λ z. elim far [ inl g ↦ absurd (omega arith) | inr g ↦ absurd (omega arith) ])
+      (not_before i off (λ z. elim far [ inl g ↦ absurd (omega arith) | inr g ↦ absurd (omega arith) ])) (not_owner i off (λ z. elim far [ inl g ↦ absurd (omega arith) | inr g ↦ absurd (omega arith) ]))
+
+  not_new : (q : ℕ) → 0 < times q (places_of h.nodes) → q ≢ p
+  not_new q m z = absurd (let t : times q (places_of h.nodes) ≡ 0 = subst (λ (n : ℕ). times n (places_of h.nodes) ≡ 0) (sym z) new.not_node in omega arith)
+
+  -- the word of a key or a value
+  kept_word : (q i : ℕ) → 0 < times q (places_of h.nodes) → (i ≡ q + 1) ⊎ (i ≡ q + 2) → get_or vs i 0 ≡ get_or ws i 0
+  kept_word q i m e =
+      let l = low q (omega arith) in let a = l.is in let b = l.below in
+      let pl = p_low in let pa = pl.is in
+      let ne = not_new q m in
+      let off : Off i = inr (inr (λ r z. elim e [ inl f ↦ absurd (omega arith) | inr f ↦ absurd (omega arith) ])) in
+      w.other i (λ z. elim e [ inl f ↦ absurd (omega arith) | inr f ↦ absurd (omega arith) ]) (λ z. elim e [ inl f ↦ absurd (omega arith) | inr f ↦ absurd (omega arith) ]) (λ z. elim e [ inl f ↦ absurd (omega arith) | inr f ↦ absurd (omega arith) ])
+      (λ z. elim e [ inl f ↦ absurd (omega arith) | inr f ↦ absurd (omega arith) ])
+      (λ z. elim e [ inl f ↦ ne (omega arith) | inr f ↦ absurd (omega arith) ])
+      (λ z. elim e [ inl f ↦ absurd (omega arith) | inr f ↦ ne (omega arith) ])
+      (not_before i off (λ z. elim e [ inl f ↦ absurd (omega arith) | inr f ↦ absurd (omega arith) ])) (not_owner i off (λ z. elim e [ inl f ↦ absurd (omega arith) | inr f ↦ absurd (omega arith) ]))
+
+  kept_words : (q : ℕ) → 0 < times q (places_of h.nodes) → (get_or vs (q + 1) 0 ≡ get_or ws (q + 1) 0) × (get_or vs (q + 2) 0 ≡ get_or ws (q + 2) 0)
+  kept_words q m = (kept_word q (q + 1) m (inl refl), kept_word q (q + 2) m (inr refl))
+
+  new_records : k ≡ place_of key (records_in ws h.nodes) → records_in vs (put_node k p h.nodes) ≡ put key value (records_in ws h.nodes)
+  new_records at = records-put ws vs k p h.nodes le kept_words ∙ (ap (λ (n : ℕ). insert (records_in ws h.nodes) k (n, get_or vs (p + 2) 0)) w.key_word ∙ (ap (λ (n : ℕ). insert (records_in ws h.nodes) k (key, n)) w.value_word ∙ insert-place key value (records_in ws h.nodes) k at))
+
+  same_head : (i : ℕ) → (i < 2) ⊎ ((2 < i) × (i < 6)) → get_or vs i 0 ≡ get_or ws i 0
+  same_head i m = far_word i (λ z. elim m [ inl f ↦ absurd (omega arith) | inr f ↦ absurd (omega arith) ]) (λ z. elim m [ inl f ↦ absurd (omega arith) | inr f ↦ absurd (omega arith) ]) (λ z. elim m [ inl f ↦ absurd (omega arith) | inr f ↦ absurd (omega arith) ])
+      (inl (elim m [ inl f ↦ omega arith | inr f ↦ omega arith ]))
+
+  abbrev mk : ℕ → ℕ → ℕ → ℕ → Pairs → Page
+  mk a b d e rs = record { level = a; prev = b; next = d; clock = e; records = rs }
+
+  new_page : (rs : Pairs) → page_with vs rs ≡ page_with ws rs
+  new_page rs =
+      ap (λ n. mk n (get_or vs 3 0) (get_or vs 4 0) (get_or vs 5 0) rs) (same_head 1 (inl (omega arith)))
+      ∙ (ap (λ n. mk (get_or ws 1 0) n (get_or vs 4 0) (get_or vs 5 0) rs) (same_head 3 (inr (omega arith, omega arith)))
+      ∙ (ap (λ n. mk (get_or ws 1 0) (get_or ws 3 0) n (get_or vs 5 0) rs) (same_head 4 (inr (omega arith, omega arith)))
+      ∙ ap (λ n. mk (get_or ws 1 0) (get_or ws 3 0) (get_or ws 4 0) n rs) (same_head 5 (inr (omega arith, omega arith)))))
+
+  pub put-page : k ≡ place_of key (records_in ws h.nodes) → page_with vs (records_in vs (put_node k p h.nodes)) ≡ page_with ws (put key value (records_in ws h.nodes))
+  put-page at = ap (λ (rs : Pairs). page_with vs rs) (new_records at) ∙ new_page (put key value (records_in ws h.nodes))
+
+  new_fits : value_at key (records_in ws h.nodes) ≡ None → rank key < end_rank → IsPage (page_with ws (put key value (records_in ws h.nodes)))
+  new_fits none in_range =
+      let f = is.fits in let long = length-records ws h.nodes in let longer = length-put-pairs key value (records_in ws h.nodes) in
+      record { level = f.level; prev = f.prev; next = f.next; no_prev = f.no_prev; no_next = f.no_next; few = omega arith; ascends = Rises-put key value 0 (records_in ws h.nodes) end_rank f.ascends (omega arith) in_range none }
+
+  times_new : (q : ℕ) → times q (places_of (put_node k p h.nodes) ++ free) ≡ one p q + times q (places_of h.nodes) + times q free
+  times_new q = let a = times-append q (places_of (put_node k p h.nodes)) free in let b = times-put k p q h.nodes le in omega arith
+
+  used_is : used (put_heap k p free h) ≡ length h.nodes + 1 + length free
+  used_is = let longer = length-put k p h.nodes le in omega arith
+
+  same_at : SameAt ws vs h.nodes before owner
+  same_at q m nb nw =
+      let pl = p_low in let pa = pl.is in
+      w.other q (λ z. elim m [ inl n ↦ absurd (let l = low q (omega arith) in let a = l.is in omega arith) | inr e ↦ absurd (omega arith) ]) (λ z. elim m [ inl n ↦ absurd (let l = low q (omega arith) in let a = l.is in omega arith) | inr e ↦ absurd (omega arith) ])
+      (λ z. elim m [ inl n ↦ absurd (let l = low q (omega arith) in let a = l.is in omega arith) | inr e ↦ absurd (omega arith) ])
+      (λ z. elim m [ inl n ↦ not_new q n z | inr e ↦ absurd (omega arith) ])
+      (λ z. elim m [ inl n ↦ absurd (let l = low q (omega arith) in let a = l.is in omega arith) | inr e ↦ absurd (omega arith) ])
+      (λ z. elim m [ inl n ↦ absurd (let l = low q (omega arith) in let a = l.is in omega arith) | inr e ↦ absurd (omega arith) ]) nb nw
+
+  new_chained : Chained vs (put_node k p h.nodes) (put_last k h.nodes h.last)
+  new_chained = chain-put ws vs 18 k p h.nodes h.last le is.chained known.apart (inl refl) w.place_word w.link w.raised same_at
+
+  old_freed : Freed ws free
+  old_freed = elim gives [ inl e ↦ (subst (λ (ps : List ℕ). Freed ws ps) e is.freed).1 | inr e ↦ subst (λ (ps : List ℕ). Freed ws ps) (sym e.1.1) tt ]
+
+  not_member : (q o : ℕ) → 0 < times q free → 0 < times o (places_of h.nodes) → q ≢ o
+  not_member q o m mo z = absurd (let t = subst (λ (x : ℕ). 0 < times x (places_of h.nodes)) (sym z) mo in let f = new.was_free q in let u = known.once q in omega arith)
+
+  free_word : (q : ℕ) → 0 < times q free → get_or vs q 0 ≡ get_or ws q 0
+  free_word q m =
+      let in_free = new.was_free q in
+      let l = low q (omega arith) in let a = l.is in
+      let pl = p_low in let pa = pl.is in
+      w.other q (λ z. absurd (omega arith)) (λ z. absurd (omega arith)) (λ z. absurd (omega arith))
+      (λ z. absurd (let t : times q free ≡ 0 = subst (λ (x : ℕ). times x free ≡ 0) (sym z) new.not_free in omega arith)) (λ z. absurd (omega arith)) (λ z. absurd (omega arith))
+      (elim b_in [ inl e ↦ (λ z. absurd (let f = e.1 in omega arith)) | inr e ↦ not_member q before m e.1 ])
+      (elim owner_is [ inl e ↦ (λ z. absurd (omega arith)) | inr e ↦ not_member q owner m e ])
+
+  new_start : get_or vs 18 0 ≡ 256 + first_of (put_node k p h.nodes)
+  new_start = go k refl
+    where
+      go : (j : ℕ) → k ≡ j → get_or vs 18 0 ≡ 256 + first_of (put_node k p h.nodes)
+      go zero e =
+          let s = is.start in
+          let l = subst (λ (j : ℕ). get_or vs (last_from 18 (take j h.nodes)) 0 + first_of (drop j h.nodes) ≡ get_or ws (last_from 18 (take j h.nodes)) 0 + p) e w.link in
+          let m : get_or vs 18 0 + first_of h.nodes ≡ get_or ws 18 0 + p = l in
+          let n : get_or vs 18 0 ≡ 256 + p = omega arith in
+          subst (λ (j : ℕ). get_or vs 18 0 ≡ 256 + first_of (put_node j p h.nodes)) (sym e) n
+      go (suc j) e =
+          let pl = p_low in let pa = pl.is in
+          let same : get_or vs 18 0 ≡ get_or ws 18 0 = w.other 18 (λ z. absurd (omega arith)) (λ z. absurd (omega arith)) (λ z. absurd (omega arith)) (λ z. absurd (omega arith)) (λ z. absurd (omega arith)) (λ z. absurd (omega arith))
+          (elim b_in [ inl f ↦ (λ z. absurd (let g = f.0 in omega arith)) | inr f ↦ (λ z. absurd (let g = low before (let t = f.1 in omega arith) in let y = g.is in omega arith)) ])
+          (not_owner 18 (inl (omega arith)) (λ z. absurd (omega arith))) in
+          subst (λ (i : ℕ). get_or vs 18 0 ≡ 256 + first_of (put_node i p h.nodes)) (sym e) (same ∙ (is.start ∙ ap (λ n. 256 + n) (sym (first-put j p h.nodes))))
+
+  new_count : get_or vs 2 0 ≡ length (put_node k p h.nodes)
+  new_count = let longer = length-put k p h.nodes le in let a = w.count in let b = is.count in omega arith
+
+  new_top : get_or vs 7 0 ≡ (1 + length (owners (put_node k p h.nodes))) * 256 + (20 + 3 * used (put_heap k p free h))
+  new_top =
+      let longer = used_is in let a = w.top in let b = is.top in let m = new.more in
+      let owners_long : length (owners (put_node k p h.nodes)) ≡ length (owners h.nodes) = ap length (owners-put k p h.nodes le) in omega arith
+
+  new_directory : Directory vs 10 8 (18 ∷ owners (put_node k p h.nodes))
+  new_directory = subst (λ (os : List ℕ). Directory vs 10 8 (18 ∷ os)) (sym (owners-put k p h.nodes le))
+      (directory-same ws vs 10 8 (18 ∷ owners h.nodes) is.directory (λ j a b. far_word j (λ z. absurd (omega arith)) (λ z. absurd (omega arith)) (λ z. absurd (omega arith)) (inl (omega arith))))
+
+  new_places : ArePlaces (used (put_heap k p free h)) (places_of (put_node k p h.nodes) ++ free)
+  new_places = places-from (used (put_heap k p free h)) (places_of (put_node k p h.nodes) ++ free) (λ q m. wider _ _ q (new.place q (let t = times_new q in omega arith)) (let u = used_is in omega arith))
+
+  new_once : EachOnce (used (put_heap k p free h)) (places_of (put_node k p h.nodes) ++ free)
+  new_once = once-from (used (put_heap k p free h)) (places_of (put_node k p h.nodes) ++ free) (λ r m. (let u = used_is in let t = times_new (20 + 3 * r) in let e = new.each r (omega arith) in omega arith))
+
+  zero_end : (i : ℕ) → 124 < i → get_or ws i 0 ≡ 0 → get_or vs i 0 ≡ 0
+  zero_end i far z = far_word i (λ e. absurd (omega arith)) (λ e. absurd (omega arith)) (λ e. absurd (omega arith)) (inr far) ∙ z
+
+  pub put-shaped : k ≡ place_of key (records_in ws h.nodes) → value_at key (records_in ws h.nodes) ≡ None → rank key < end_rank → Shaped vs (put_heap k p free h)
+  put-shaped at none in_range = record {
+    size = w.size;
+    kind = same_head 0 (inl (omega arith)) ∙ is.kind;
+    count = new_count;
+    fits = subst (λ (q : Page). IsPage q) (sym (put-page at)) (new_fits none in_range);
+    front = w.front;
+    top = new_top;
+    few = let u = used_is in let f = n_few in omega arith;
+    start = new_start;
+    chained = new_chained;
+    freed = freed-same ws vs free old_freed free_word;
+    directory = new_directory;
+    places = new_places;
+    once = new_once;
+    zero_125 = zero_end 125 (omega arith) is.zero_125;
+    zero_126 = zero_end 126 (omega arith) is.zero_126;
+    zero_127 = zero_end 127 (omega arith) is.zero_127;
+  }

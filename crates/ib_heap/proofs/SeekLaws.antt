@@ -1,0 +1,308 @@
+-- Slots, places and records along the chain.
+use Rattle.std.proofs.Common.{◌≡◌, ℕ, zero, suc, ◌+◌, ◌-◌, ◌%◌, ◌<◌, ◌≤◌, ◌⊎◌, [], ◌∷◌, ◌∙◌, List, length, take, drop, get_or, refl, ap, sym, arith, inl, inr, subst, Some, slice_get}
+use Rattle.std.proofs.lemmas.Bool.{cases_eq, eq-eqb, ne_eqb, cases_lt}
+use Rattle.ib_map.specs.Keys.{rank, end_rank}
+use Rattle.ib_map.specs.Pairs.{Pairs, Rises, place_of}
+use Rattle.ib_map.specs.declared.TheConstants.{PAGE_WORDS}
+use Rattle.ib_heap.specs.Page.{HoldsTree, page_in}
+use Rattle.ib_heap.specs.Heap.{Node, first_of, owners, places_of, records_in, used, read_heap, last_from, upto, nodes_of}
+use Rattle.ib_heap.specs.Form.{page_of}
+use Rattle.ib_heap.specs.Image.{records_of}
+use Rattle.ib_map.proofs.PlaceLaws.{place_of-le}
+use Rattle.ib_heap.proofs.RouteLaws.{place_of-behind_lower, place_of-not_behind}
+use Rattle.ib_heap.proofs.HeapLaws.{Chained, Directory, ArePlaces, ArePlaces-left, IsHeap, heap_in}
+
+-- the word of a slot
+pub directory-at : (ws : List ℕ) (n i : ℕ) (slots : List ℕ) (j : ℕ) → Directory ws n i slots → j < n → get_or ws (i + j) 0 ≡ get_or slots j 0
+directory-at ws zero i slots j h lt = absurd (omega arith)
+directory-at ws (suc n) i [] zero h lt = ap (λ k. get_or ws k 0) (let e : i + 0 ≡ i = omega arith in e) ∙ h.0
+directory-at ws (suc n) i [] (suc j) h lt = ap (λ k. get_or ws k 0) (let e : i + suc j ≡ i + 1 + j = omega arith in e) ∙ directory-at ws n (i + 1) [] j h.1 (omega arith)
+directory-at ws (suc n) i (s ∷ slots) zero h lt = ap (λ k. get_or ws k 0) (let e : i + 0 ≡ i = omega arith in e) ∙ h.0
+directory-at ws (suc n) i (s ∷ slots) (suc j) h lt = ap (λ k. get_or ws k 0) (let e : i + suc j ≡ i + 1 + j = omega arith in e) ∙ directory-at ws n (i + 1) slots j h.1 (omega arith)
+
+pub directory-few : (ws : List ℕ) (n i : ℕ) (slots : List ℕ) → Directory ws n i slots → length slots ≤ n
+directory-few ws zero i slots h = omega (arith, h)
+directory-few ws (suc n) i [] h = omega arith
+directory-few ws (suc n) i (s ∷ slots) h = let rest = directory-few ws n (i + 1) slots h.1 in omega arith
+
+pub owners-some : (xs : List Node) → 0 < length (owners xs)
+owners-some [] = omega arith
+owners-some (x ∷ xs) = elim (cases_eq x.owned 0) [
+  | inl e ↦ rw (eq-eqb x.owned 0 e) (owners-some xs)
+  | inr ne ↦ rw (ne_eqb x.owned 0 ne) (omega arith)
+]
+
+-- the owner of a slot is the record up to which it counts
+pub owner-at : (p : ℕ) (xs : List Node) (j : ℕ) → j < length (owners xs) → get_or (p ∷ owners xs) j 0 ≡ last_from p (take (upto j xs) xs)
+owner-at p [] zero lt = refl
+owner-at p [] (suc j) lt = absurd (omega arith)
+owner-at p (x ∷ xs) zero lt = refl
+owner-at p (x ∷ xs) (suc j) lt = elim (cases_eq x.owned 0) [
+  | inl e ↦
+      let none = eq-eqb x.owned 0 e in
+      let within : suc j < length (owners xs) = rw none at lt in
+      let rest = owner-at x.place xs (suc j) within in
+      let count : 1 + upto (suc j) xs ≡ suc (upto (suc j) xs) = omega arith in
+      rw (none, count) (owner-head p x.place (owners xs) j ∙ rest)
+  | inr ne ↦
+      let one = ne_eqb x.owned 0 ne in
+      let within : suc j < length (x.place ∷ owners xs) = rw one at lt in
+      let rest = owner-at x.place xs j (omega arith) in
+      let count : 1 + upto j xs ≡ suc (upto j xs) = omega arith in
+      rw (one, count) rest
+]
+  where
+    owner-head : (q r : ℕ) (os : List ℕ) (i : ℕ) → get_or (q ∷ os) (suc i) 0 ≡ get_or (r ∷ os) (suc i) 0
+    owner-head q r os i = refl
+
+pub owner-last : (p : ℕ) (xs : List Node) → get_or (p ∷ owners xs) (length (owners xs)) 0 ≡ 19
+owner-last p [] = refl
+owner-last p (x ∷ xs) = elim (cases_eq x.owned 0) [
+  | inl e ↦ rw (eq-eqb x.owned 0 e) (owner-last p xs)
+  | inr ne ↦ rw (ne_eqb x.owned 0 ne) (owner-last x.place xs)
+]
+
+pub upto-le : (j : ℕ) (xs : List Node) → upto j xs ≤ length xs
+upto-le zero xs = omega arith
+upto-le (suc j) [] = omega arith
+upto-le (suc j) (x ∷ xs) = elim (cases_eq x.owned 0) [
+  | inl e ↦ rw (eq-eqb x.owned 0 e) (let r = upto-le (suc j) xs in omega arith)
+  | inr ne ↦ rw (ne_eqb x.owned 0 ne) (let r = upto-le j xs in omega arith)
+]
+
+-- the record up to which a slot counts
+pub upto-some : (j : ℕ) (xs : List Node) → 0 < j → j < length (owners xs) → 0 < upto j xs
+upto-some zero xs some lt = absurd (omega arith)
+upto-some (suc j) [] some lt = absurd (omega arith)
+upto-some (suc j) (x ∷ xs) some lt = omega arith
+
+-- the place behind the first k, by the word of the last of them
+pub link-at : (ws : List ℕ) (n p : ℕ) (xs : List Node) (last k : ℕ) → n ≤ 35 → ArePlaces n (places_of xs) → get_or ws p 0 % 256 ≡ first_of xs → Chained ws xs last → k ≤ length xs
+    → get_or ws (last_from p (take k xs)) 0 % 256 ≡ first_of (drop k xs)
+link-at ws n p [] last zero le places first h within = first
+link-at ws n p [] last (suc k) le places first h within = absurd (omega arith)
+link-at ws n p (x ∷ xs) last zero le places first h within = first
+link-at ws n p (x ∷ xs) last (suc k) le places first h within =
+    let head = h.0 in
+    let low = first_low n xs le places.1 in
+    link-at ws n x.place xs last k le places.1 (omega arith) h.1 (omega arith)
+  where
+    first_low : (m : ℕ) (ys : List Node) → m ≤ 35 → ArePlaces m (places_of ys) → first_of ys < 256
+    first_low m [] le h = omega arith
+    first_low m (y ∷ ys) le h = let a = h.0.is in let b = h.0.below in omega arith
+
+-- a record, by its place
+pub record-at : (ws : List ℕ) (xs : List Node) (k : ℕ) → k < length xs → slice_get (records_in ws xs) k ≡ Some (get_or ws (first_of (drop k xs) + 1) 0, get_or ws (first_of (drop k xs) + 2) 0)
+record-at ws [] k lt = absurd (omega arith)
+record-at ws (x ∷ xs) zero lt = refl
+record-at ws (x ∷ xs) (suc k) lt = record-at ws xs k (omega arith)
+
+-- where the chain goes on is the supremum exactly where it ends
+pub first-in : (n : ℕ) (xs : List Node) (k : ℕ) → n ≤ 35 → ArePlaces n (places_of xs) → k ≤ length xs → ((first_of (drop k xs) ≡ 19) × (k ≡ length xs)) ⊎ ((20 ≤ first_of (drop k xs)) × ((first_of (drop k xs) ≤ 122) × (k < length xs)))
+first-in n [] zero le h within = inl (refl, refl)
+first-in n [] (suc k) le h within = absurd (omega arith)
+first-in n (x ∷ xs) zero le h within = let a = h.0.is in let b = h.0.below in inr (omega arith, (omega arith, omega arith))
+first-in n (x ∷ xs) (suc k) le h within = elim (first-in n xs k le h.1 (omega arith)) [
+  | inl e ↦ inl (e.0, let f = e.1 in omega arith)
+  | inr e ↦ inr (e.0, (e.1.0, let f = e.1.1 in omega arith))
+]
+
+-- the last of the first k, and the place where the chain goes on before it
+pub last-first : (p : ℕ) (xs : List Node) (k : ℕ) → k < length xs → last_from p (take (suc k) xs) ≡ first_of (drop k xs)
+last-first p [] k lt = absurd (omega arith)
+last-first p (x ∷ xs) zero lt = refl
+last-first p (x ∷ xs) (suc k) lt = last-first x.place xs k (omega arith)
+
+pub length-records : (ws : List ℕ) (xs : List Node) → length (records_in ws xs) ≡ length xs
+length-records ws [] = refl
+length-records ws (x ∷ xs) = let r = length-records ws xs in omega arith
+
+-- what is known of an image of a page of the tree
+pub record Known (ws : List ℕ) : Type 0 where
+  pub is : IsHeap ws (read_heap ws)
+  pub records : records_of ws ≡ records_in ws (nodes_of ws)
+  pub places : ArePlaces (used (read_heap ws)) (places_of (nodes_of ws))
+  pub few : used (read_heap ws) ≤ 35
+  pub slots : 1 + length (owners (nodes_of ws)) ≤ 10
+  pub some : 0 < length (owners (nodes_of ws))
+  pub size : length ws ≡ 128
+  pub long : length (records_of ws) ≡ length (nodes_of ws)
+  pub rises : Rises 0 (records_of ws) end_rank
+
+pub known : (ws : List ℕ) → HoldsTree (page_of ws) → Known ws
+known ws holds =
+    let k = heap_in ws holds in
+    let same : records_of ws ≡ records_in ws (nodes_of ws) = ap (λ v. (page_in v).records) k.holds in
+    record {
+      is = k.is;
+      records = same;
+      places = ArePlaces-left _ _ _ k.is.places;
+      few = k.is.few;
+      slots = let few = directory-few ws 10 8 (18 ∷ owners (nodes_of ws)) k.is.directory in omega arith;
+      some = owners-some (nodes_of ws);
+      size = k.is.size;
+      long = ap length same ∙ length-records ws (nodes_of ws);
+      rises = subst (λ (rs : Pairs). Rises 0 rs end_rank) (sym same) k.is.fits.ascends;
+    }
+
+pub last-in : (n p : ℕ) (xs : List Node) (k : ℕ) → n ≤ 35 → ArePlaces n (places_of xs) → k ≤ length xs → ((k ≡ 0) × (last_from p (take k xs) ≡ p)) ⊎ ((20 ≤ last_from p (take k xs)) × (last_from p (take k xs) ≤ 122))
+last-in n p xs zero le h within = inl (refl, refl)
+last-in n p [] (suc k) le h within = absurd (omega arith)
+last-in n p (x ∷ xs) (suc k) le h within =
+    let a = h.0.is in let b = h.0.below in
+    elim (last-in n x.place xs k le h.1 (omega arith)) [
+      | inl e ↦ let f = e.1 in inr (omega arith, omega arith)
+      | inr e ↦ inr e
+    ]
+
+-- the owner of a slot, by its word
+pub record OwnerIs (ws : List ℕ) (slot place : ℕ) : Type 0 where
+  pub at : (slot < length (owners (nodes_of ws)) → place ≡ last_from 18 (take (upto slot (nodes_of ws)) (nodes_of ws)))
+  pub low : 18 ≤ place
+  pub high : place ≤ 122
+  pub is_record : 0 < slot → slot < length (owners (nodes_of ws)) → 20 ≤ place
+
+pub owner-is : (ws : List ℕ) (slot : ℕ) → Known ws → slot ≤ length (owners (nodes_of ws)) → OwnerIs ws slot (get_or ws (8 + slot) 0)
+owner-is ws slot k le =
+    let slots = k.slots in
+    let word : get_or ws (8 + slot) 0 ≡ get_or (18 ∷ owners (nodes_of ws)) slot 0 = directory-at ws 10 8 (18 ∷ owners (nodes_of ws)) slot k.is.directory (omega arith) in
+    elim (cases_lt slot (length (owners (nodes_of ws)))) [
+      | inl lt ↦
+          let place : get_or ws (8 + slot) 0 ≡ last_from 18 (take (upto slot (nodes_of ws)) (nodes_of ws)) = word ∙ owner-at 18 (nodes_of ws) slot lt in
+          elim (last-in (used (read_heap ws)) 18 (nodes_of ws) (upto slot (nodes_of ws)) k.few k.places (upto-le slot (nodes_of ws))) [
+            | inl e ↦ let f = e.1 in let z = e.0 in record { at = λ h. place; low = omega arith; high = omega arith; is_record = λ pos within. absurd (let s = upto-some slot (nodes_of ws) pos within in omega arith) }
+            | inr e ↦ let f = e.0 in let z = e.1 in record { at = λ h. place; low = omega arith; high = omega arith; is_record = λ pos within. omega arith }
+          ]
+      | inr ge ↦
+          let e : slot ≡ length (owners (nodes_of ws)) = omega arith in
+          let is : get_or ws (8 + slot) 0 ≡ 19 = word ∙ (ap (λ i. get_or (18 ∷ owners (nodes_of ws)) i 0) e ∙ owner-last 18 (nodes_of ws)) in
+          record { at = λ h. absurd (omega arith); low = omega arith; high = omega arith; is_record = λ pos within. absurd (omega arith) }
+    ]
+
+-- where the chain goes on behind its first k records
+pub next-is : (ws : List ℕ) (k place : ℕ) → Known ws → k ≤ length (nodes_of ws) → place ≡ last_from 18 (take k (nodes_of ws)) → get_or ws place 0 % 256 ≡ first_of (drop k (nodes_of ws))
+next-is ws k place kn le at =
+    let start = kn.is.start in
+    let low : first_of (nodes_of ws) < 256 = elim (first-in (used (read_heap ws)) (nodes_of ws) 0 kn.few kn.places (omega arith)) [ inl e ↦ (let f = e.0 in omega arith) | inr e ↦ (let f = e.1.0 in omega arith) ] in
+    ap (λ i. get_or ws i 0 % 256) at ∙ link-at ws (used (read_heap ws)) 18 (nodes_of ws) (read_heap ws).last k kn.few kn.places (omega arith) kn.is.chained le
+
+-- the record at a place of the chain
+pub record-is : (ws : List ℕ) (k place : ℕ) → Known ws → k < length (nodes_of ws) → place ≡ first_of (drop k (nodes_of ws)) → slice_get (records_of ws) k ≡ Some (get_or ws (place + 1) 0, get_or ws (place + 2) 0)
+record-is ws k place kn lt at = ap (λ (rs : Pairs). slice_get rs k) kn.records ∙ (record-at ws (nodes_of ws) k lt ∙ ap (λ i. Some (get_or ws (i + 1) 0, get_or ws (i + 2) 0)) (sym at))
+
+-- a slot whose owner is below the key, and one whose owner is not
+pub slot-record : (ws : List ℕ) (slot place : ℕ) → Known ws → 0 < slot → slot < length (owners (nodes_of ws)) → place ≡ last_from 18 (take (upto slot (nodes_of ws)) (nodes_of ws))
+    → slice_get (records_of ws) (upto slot (nodes_of ws) - 1) ≡ Some (get_or ws (place + 1) 0, get_or ws (place + 2) 0)
+slot-record ws slot place kn pos lt at =
+    let some = upto-some slot (nodes_of ws) pos lt in
+    let within = upto-le slot (nodes_of ws) in
+    let e : upto slot (nodes_of ws) ≡ suc (upto slot (nodes_of ws) - 1) = omega arith in
+    let here : place ≡ first_of (drop (upto slot (nodes_of ws) - 1) (nodes_of ws)) = at ∙ (ap (λ n. last_from 18 (take n (nodes_of ws))) e ∙ last-first 18 (nodes_of ws) (upto slot (nodes_of ws) - 1) (omega arith)) in
+    record-is ws (upto slot (nodes_of ws) - 1) place kn (omega arith) here
+
+pub slot-below : (ws : List ℕ) (slot place key : ℕ) → Known ws → 0 < slot → slot < length (owners (nodes_of ws)) → place ≡ last_from 18 (take (upto slot (nodes_of ws)) (nodes_of ws))
+    → rank (get_or ws (place + 1) 0) < rank key → upto slot (nodes_of ws) ≤ place_of key (records_of ws)
+slot-below ws slot place key kn pos lt at below =
+    let some = upto-some slot (nodes_of ws) pos lt in
+    let r = place_of-behind_lower key 0 (records_of ws) end_rank (upto slot (nodes_of ws) - 1) _ kn.rises (slot-record ws slot place kn pos lt at) below in omega arith
+
+pub slot-above : (ws : List ℕ) (slot place key : ℕ) → Known ws → 0 < slot → slot < length (owners (nodes_of ws)) → place ≡ last_from 18 (take (upto slot (nodes_of ws)) (nodes_of ws))
+    → rank key ≤ rank (get_or ws (place + 1) 0) → place_of key (records_of ws) < upto slot (nodes_of ws)
+slot-above ws slot place key kn pos lt at above =
+    let some = upto-some slot (nodes_of ws) pos lt in
+    let r = place_of-not_behind key (records_of ws) (upto slot (nodes_of ws) - 1) _ (slot-record ws slot place kn pos lt at) above in omega arith
+
+-- a walk from behind the first records on, so many steps
+pub record Walk (ws : List ℕ) (key first before at step : ℕ) : Type 0 where
+  pub number : ℕ
+  pub number_is : number ≡ first + step
+  pub within : number ≤ length (nodes_of ws)
+  pub low : number ≤ place_of key (records_of ws)
+  pub before_is : before ≡ last_from 18 (take number (nodes_of ws))
+  pub at_is : at ≡ first_of (drop number (nodes_of ws))
+
+pub walk-place : (ws : List ℕ) (key first before at step : ℕ) → Known ws → Walk ws key first before at step → (at ≡ 19 → ⊥) → (20 ≤ at) × ((at ≤ 122) × (0 < 1))
+walk-place ws key first before at step kn w ne = elim (first-in (used (read_heap ws)) (nodes_of ws) w.number kn.few kn.places w.within) [
+  | inl e ↦ absurd (ne (w.at_is ∙ e.0))
+  | inr e ↦ let a = e.0 in let b = e.1.0 in let i = w.at_is in (omega arith, (omega arith, omega arith))
+]
+
+pub walk-on : (ws : List ℕ) (key first before at step next : ℕ) → Known ws → Walk ws key first before at step → (at ≡ 19 → ⊥) → rank (get_or ws (at + 1) 0) < rank key
+    → ((k : ℕ) → k ≤ length (nodes_of ws) → at ≡ last_from 18 (take k (nodes_of ws)) → next ≡ first_of (drop k (nodes_of ws))) → Walk ws key first at next (step + 1)
+walk-on ws key first before at step next kn w ne below reads = elim (first-in (used (read_heap ws)) (nodes_of ws) w.number kn.few kn.places w.within) [
+  | inl e ↦ absurd (ne (w.at_is ∙ e.0))
+  | inr e ↦
+      let lt = e.1.1 in
+      let last : at ≡ last_from 18 (take (suc w.number) (nodes_of ws)) = w.at_is ∙ sym (last-first 18 (nodes_of ws) w.number lt) in
+      let r = place_of-behind_lower key 0 (records_of ws) end_rank w.number _ kn.rises (record-is ws w.number at kn lt w.at_is) below in
+      let number = w.number_is in
+      record { number = suc w.number; number_is = omega arith; within = omega arith; low = omega arith; before_is = last; at_is = reads (suc w.number) (omega arith) last }
+]
+
+-- where the walk ends is the place of the key
+pub walk-end : (ws : List ℕ) (key first before at step : ℕ) → Known ws → (w : Walk ws key first before at step) → (at ≡ 19) ⊎ (rank key ≤ rank (get_or ws (at + 1) 0)) → w.number ≡ place_of key (records_of ws)
+walk-end ws key first before at step kn w ends =
+    let most = place_of-le key (records_of ws) in
+    let long = kn.long in
+    let low = w.low in
+    elim (first-in (used (read_heap ws)) (nodes_of ws) w.number kn.few kn.places w.within) [
+      | inl e ↦ let f = e.1 in omega arith
+      | inr e ↦ elim ends [
+        | inl is ↦ absurd (let a = w.at_is in let b = e.0 in omega arith)
+        | inr above ↦ let r = place_of-not_behind key (records_of ws) w.number _ (record-is ws w.number at kn e.1.1 w.at_is) above in omega arith
+      ]
+    ]
+
+pub walk-full : (ws : List ℕ) (key first before at step : ℕ) → Known ws → Walk ws key first before at step → 35 ≤ step → at ≡ 19
+walk-full ws key first before at step kn w full = elim (first-in (used (read_heap ws)) (nodes_of ws) w.number kn.few kn.places w.within) [
+  | inl e ↦ w.at_is ∙ e.0
+  | inr e ↦ absurd (let lt = e.1.1 in let number = w.number_is in let few = kn.few in omega arith)
+]
+
+pub walk-start : (ws : List ℕ) (key slot before at : ℕ) → Known ws → upto slot (nodes_of ws) ≤ place_of key (records_of ws) → before ≡ last_from 18 (take (upto slot (nodes_of ws)) (nodes_of ws))
+    → ((k : ℕ) → k ≤ length (nodes_of ws) → before ≡ last_from 18 (take k (nodes_of ws)) → at ≡ first_of (drop k (nodes_of ws))) → Walk ws key (upto slot (nodes_of ws)) before at 0
+walk-start ws key slot before at kn low is reads = record { number = upto slot (nodes_of ws); number_is = omega arith; within = upto-le slot (nodes_of ws); low = low; before_is = is; at_is = reads _ (upto-le slot (nodes_of ws)) is }
+
+pub walk-low : (ws : List ℕ) (key first before at step : ℕ) → Known ws → Walk ws key first before at step → at ≤ 122
+walk-low ws key first before at step kn w = elim (first-in (used (read_heap ws)) (nodes_of ws) w.number kn.few kn.places w.within) [
+  | inl e ↦ let a = e.0 in let i = w.at_is in omega arith
+  | inr e ↦ let a = e.1.0 in let i = w.at_is in omega arith
+]
+
+-- the two places where the key stands
+pub walk-before : (ws : List ℕ) (key first before at step : ℕ) → Known ws → Walk ws key first before at step → (at ≡ 19) ⊎ (rank key ≤ rank (get_or ws (at + 1) 0)) → before ≡ last_from 18 (take (place_of key (records_of ws)) (nodes_of ws))
+walk-before ws key first before at step kn w ends = w.before_is ∙ ap (λ n. last_from 18 (take n (nodes_of ws))) (walk-end ws key first before at step kn w ends)
+
+pub walk-at : (ws : List ℕ) (key first before at step : ℕ) → Known ws → Walk ws key first before at step → (at ≡ 19) ⊎ (rank key ≤ rank (get_or ws (at + 1) 0)) → at ≡ first_of (drop (place_of key (records_of ws)) (nodes_of ws))
+walk-at ws key first before at step kn w ends = w.at_is ∙ ap (λ n. first_of (drop n (nodes_of ws))) (walk-end ws key first before at step kn w ends)
+
+-- how many steps lead there
+pub walk-steps : (ws : List ℕ) (key first before at step : ℕ) → Known ws → Walk ws key first before at step → (at ≡ 19) ⊎ (rank key ≤ rank (get_or ws (at + 1) 0)) → first + step ≡ place_of key (records_of ws)
+walk-steps ws key first before at step kn w ends = sym w.number_is ∙ walk-end ws key first before at step kn w ends
+
+-- the records of a page ascend
+pub records_ascend : (ws : List ℕ) → HoldsTree (page_of ws) → Rises 0 (records_of ws) end_rank
+records_ascend ws holds = (known ws holds).rises
+
+pub size-of : (ws : List ℕ) → HoldsTree (page_of ws) → length ws ≡ PAGE_WORDS
+size-of ws holds = (known ws holds).size
+
+-- a walk along the chain from its start
+pub chain-start : (ws : List ℕ) → HoldsTree (page_of ws) → get_or ws 18 0 % 256 ≡ first_of (drop 0 (nodes_of ws))
+chain-start ws holds = next-is ws 0 18 (known ws holds) (omega arith) refl
+
+pub chain-on : (ws : List ℕ) (k at : ℕ) → HoldsTree (page_of ws) → k < length (nodes_of ws) → at ≡ first_of (drop k (nodes_of ws)) → get_or ws at 0 % 256 ≡ first_of (drop (k + 1) (nodes_of ws))
+chain-on ws k at holds lt is =
+    let e : suc k ≡ k + 1 = omega arith in
+    ap (λ i. get_or ws i 0 % 256) (is ∙ sym (last-first 18 (nodes_of ws) k lt)) ∙ (next-is ws (suc k) _ (known ws holds) (omega arith) refl ∙ ap (λ n. first_of (drop n (nodes_of ws))) e)
+
+pub chain-within : (ws : List ℕ) (k at : ℕ) → HoldsTree (page_of ws) → k < length (nodes_of ws) → at ≡ first_of (drop k (nodes_of ws)) → at ≤ 122
+chain-within ws k at holds lt is =
+    let kn = known ws holds in
+    elim (first-in (used (read_heap ws)) (nodes_of ws) k kn.few kn.places (omega arith)) [ inl e ↦ (let a = e.0 in omega arith) | inr e ↦ (let a = e.1.0 in omega arith) ]
+
+pub nodes-length : (ws : List ℕ) → HoldsTree (page_of ws) → length (records_of ws) ≡ length (nodes_of ws)
+nodes-length ws holds = (known ws holds).long
+
+pub chain-record : (ws : List ℕ) (k at : ℕ) → HoldsTree (page_of ws) → k < length (nodes_of ws) → at ≡ first_of (drop k (nodes_of ws)) → slice_get (records_of ws) k ≡ Some (get_or ws (at + 1) 0, get_or ws (at + 2) 0)
+chain-record ws k at holds lt is = record-is ws k at (known ws holds) lt is

@@ -1,0 +1,23 @@
+-- The owners up to the lower slot are below the key, and that of the upper slot is not.
+use Rattle.std.proofs.Common.{◌≡◌, ◌-◌, ◌<◌, ◌≤◌, ◌⊎◌, length}
+use Rattle.ib_map.specs.Pairs.{place_of}
+use Rattle.ib_heap.specs.Heap.{nodes_of, owners, upto}
+use Rattle.ib_heap.specs.Image.{records_of}
+use Rattle.ib_heap.proofs.directory.slot_of.Given as goal
+
+abbrev pub invariant-loop-high : goal.invariant-loop-high
+invariant-loop-high g l =
+    let words = g.W.PageWords.words in
+    let ws = words l.fn.page in
+    record {
+      same : words l.page ≡ ws;
+      can : g.W.PageWords.can_read l.page;
+      read : g.W.PageWords.has_read l.fn.page l.page;
+      between : l.low < l.high;
+      in_range : l.high ≤ length (owners (nodes_of ws));
+      low : upto l.low (nodes_of ws) ≤ place_of l.key (records_of ws);
+      high : (place_of l.key (records_of ws) < upto l.high (nodes_of ws)) ⊎ (l.high ≡ length (owners (nodes_of ws)));
+    }
+
+abbrev pub decreases-loop-high : goal.decreases-loop-high
+decreases-loop-high g l = l.high - l.low

@@ -1,0 +1,13 @@
+-- The records so far that lie between the keys stand at the front, and the walk stands at the next one.
+use Rattle.std.proofs.Common.{◌≡◌, ◌++◌, length, take, drop}
+use Rattle.ib_map.specs.Pairs.{cut}
+use Rattle.ib_heap.specs.Heap.{nodes_of, first_of}
+use Rattle.ib_heap.specs.Image.{records_of}
+use Rattle.ib_heap.proofs.walk.copy_between.Given as goal
+
+abbrev pub invariant-loop-place : goal.invariant-loop-place
+invariant-loop-place l = record {
+  at : l.at ≡ first_of (drop l.place (nodes_of l.words));
+  count : l.copied ≡ length (cut (take l.place (records_of l.words)) l.low l.high);
+  records : l.out ≡ cut (take l.place (records_of l.words)) l.low l.high ++ drop l.copied l.initial.out;
+}

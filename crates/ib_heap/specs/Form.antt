@@ -1,0 +1,17 @@
+-- The form of a page: which page a list of words holds.
+use Rattle.std.specs.Prelude.{ℕ, ◌-◌, List, ◌∷◌, if◌then◌else◌}
+use Rattle.std.specs.Str.{bytes_eq}
+use Rattle.ib_map.specs.declared.TheConstants.{PAGE_WORDS}
+use Rattle.ib_heap.specs.Words.{zeros, free_page_words, clock_in}
+use Rattle.ib_heap.specs.Page.{PageValue}
+use Rattle.ib_heap.specs.Page.PageValue.{Malformed, Free, Tree}
+use Rattle.ib_heap.specs.Heap.{records_in, page_with, is_heap, read_heap}
+
+-- What an image holds: a page of the tree where the heap that is read from its words is theirs, a free page, or nothing.
+unfoldable pub page_of : List ℕ → PageValue
+page_of ws = if is_heap ws (read_heap ws) then Tree (page_with ws (records_in ws (read_heap ws).nodes))
+    else (if bytes_eq ws (free_page_words (clock_in ws)) then Free (clock_in ws) else Malformed)
+
+-- the words of an empty leaf: its kind and its clock, 2 slots and the first place at word 20, these 2 slots, and infimum and supremum
+unfoldable pub empty_leaf_words : ℕ → List ℕ
+empty_leaf_words clock = 1 ∷ 0 ∷ 0 ∷ 0 ∷ 0 ∷ clock ∷ 0 ∷ 532 ∷ 18 ∷ 19 ∷ 0 ∷ 0 ∷ 0 ∷ 0 ∷ 0 ∷ 0 ∷ 0 ∷ 0 ∷ 275 ∷ 256 ∷ zeros (PAGE_WORDS - 20)

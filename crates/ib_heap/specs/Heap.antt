@@ -1,0 +1,140 @@
+-- The record heap of a page: which words have which heap.
+use Rattle.std.specs.Prelude.{ℕ, zero, suc, ◌+◌, ◌-◌, ◌*◌, ◌/◌, ◌%◌, Bool, true, nat_lt, nat_le, ◌==◌, ◌&&◌, List, [], ◌∷◌, ◌++◌, length, slice_index, if◌then◌else◌}
+use Rattle.ib_map.specs.Pairs.{Pairs}
+use Rattle.ib_map.specs.declared.TheConstants.{PAGE_WORDS}
+use Rattle.ib_heap.specs.declared.TheConstants.{MOST_RECORDS}
+use Rattle.ib_heap.specs.Page.{Page, is_page}
+
+-- a record of the chain: the word at which it stands, and how many records its slot owns, 0 where it has no slot
+pub record Node : Type 0 where
+  pub place : ℕ
+  pub owned : ℕ
+
+-- the chain in order, how many records the supremum's slot owns, and the free places in order
+pub record Heap : Type 0 where
+  pub nodes : List Node
+  pub last : ℕ
+  pub free : List ℕ
+
+-- where the chain goes on: the first of these records, or the supremum
+abbrev pub first_of : List Node → ℕ
+first_of [] = 19
+first_of (x ∷ xs) = x.place
+
+-- the first free place, 0 for none
+abbrev pub first_free : List ℕ → ℕ
+first_free [] = 0
+first_free (p ∷ ps) = p
+
+-- the heads of these records and of the supremum
+abbrev pub is_chained : List ℕ → List Node → ℕ → Bool
+is_chained ws [] last = slice_index ws 19 == last * 256
+is_chained ws (x ∷ xs) last = (slice_index ws x.place == x.owned * 256 + first_of xs) && is_chained ws xs last
+
+-- the heads of free places
+abbrev pub is_freed : List ℕ → List ℕ → Bool
+is_freed ws [] = true
+is_freed ws (p ∷ ps) = (slice_index ws p == first_free ps) && is_freed ws ps
+
+-- n records stand behind the last one that has a slot: each slot owns its own record and those before it
+abbrev pub is_owned : ℕ → List Node → ℕ → Bool
+is_owned n [] last = (last == n + 1) && nat_le last 8
+is_owned n (x ∷ xs) last = if x.owned == 0 then is_owned (n + 1) xs last else ((x.owned == n + 1) && (nat_le 4 x.owned && nat_le x.owned 8)) && is_owned 0 xs last
+
+-- the records that have slots, and the supremum
+abbrev pub owners : List Node → List ℕ
+owners [] = 19 ∷ []
+owners (x ∷ xs) = if x.owned == 0 then owners xs else x.place ∷ owners xs
+
+-- the first n words from word i on are these slots, and behind them 0
+abbrev pub is_directory : List ℕ → ℕ → ℕ → List ℕ → Bool
+is_directory ws zero i slots = length slots == 0
+is_directory ws (suc n) i [] = (slice_index ws i == 0) && is_directory ws n (i + 1) []
+is_directory ws (suc n) i (s ∷ slots) = (slice_index ws i == s) && is_directory ws n (i + 1) slots
+
+-- how often a place stands in a list
+abbrev pub times : ℕ → List ℕ → ℕ
+times p [] = 0
+times p (x ∷ xs) = (if x == p then 1 else 0) + times p xs
+
+-- whether a word is the head of one of the first n record places
+abbrev pub is_place : ℕ → ℕ → Bool
+is_place n p = nat_le 20 p && (((p - 20) % 3 == 0) && nat_lt p (20 + 3 * n))
+
+abbrev pub are_places : ℕ → List ℕ → Bool
+are_places n [] = true
+are_places n (p ∷ ps) = is_place n p && are_places n ps
+
+-- each of the first n record places stands once
+abbrev pub each_once : ℕ → List ℕ → Bool
+each_once zero ps = true
+each_once (suc n) ps = (times (20 + 3 * n) ps == 1) && each_once n ps
+
+abbrev pub places_of : List Node → List ℕ
+places_of [] = []
+places_of (x ∷ xs) = x.place ∷ places_of xs
+
+-- the keys and values of these records
+abbrev pub records_in : List ℕ → List Node → Pairs
+records_in ws [] = []
+records_in ws (x ∷ xs) = (slice_index ws (x.place + 1), slice_index ws (x.place + 2)) ∷ records_in ws xs
+
+-- how many record places have been used
+abbrev pub used : Heap → ℕ
+used h = length h.nodes + length h.free
+
+-- the page that these records make
+abbrev pub page_with : List ℕ → Pairs → Page
+page_with ws records = record { level = slice_index ws 1; prev = slice_index ws 3; next = slice_index ws 4; clock = slice_index ws 5; records = records }
+
+-- the words are a page with this heap
+abbrev pub is_heap : List ℕ → Heap → Bool
+is_heap ws h =
+    (length ws == PAGE_WORDS)
+    && ((slice_index ws 0 == 1)
+    && ((slice_index ws 2 == length h.nodes)
+    && (is_page (page_with ws (records_in ws h.nodes))
+    && ((slice_index ws 6 == first_free h.free)
+    && ((slice_index ws 7 == (1 + length (owners h.nodes)) * 256 + (20 + 3 * used h))
+    && (nat_le (used h) MOST_RECORDS
+    && ((slice_index ws 18 == 256 + first_of h.nodes)
+    && (is_chained ws h.nodes h.last
+    && (is_freed ws h.free
+    && (is_owned 0 h.nodes h.last
+    && (is_directory ws 10 8 (18 ∷ owners h.nodes)
+    && (are_places (used h) (places_of h.nodes ++ h.free)
+    && (each_once (used h) (places_of h.nodes ++ h.free)
+    && ((slice_index ws 125 == 0) && ((slice_index ws 126 == 0) && (slice_index ws 127 == 0))))))))))))))))
+
+-- the n records of the chain from a place on
+abbrev pub chain_from : List ℕ → ℕ → ℕ → List Node
+chain_from ws zero p = []
+chain_from ws (suc n) p = (let x : Node = record { place = p; owned = slice_index ws p / 256 } in x) ∷ chain_from ws n (slice_index ws p % 256)
+
+-- the n places of the free list from a place on
+abbrev pub free_from : List ℕ → ℕ → ℕ → List ℕ
+free_from ws zero p = []
+free_from ws (suc n) p = p ∷ free_from ws n (slice_index ws p)
+
+-- the heap that stands in these words, if one does
+abbrev pub read_heap : List ℕ → Heap
+read_heap ws = record {
+  nodes = chain_from ws (slice_index ws 2) (slice_index ws 18 % 256);
+  last = slice_index ws 19 / 256;
+  free = free_from ws ((slice_index ws 7 % 256 - 20) / 3 - slice_index ws 2) (slice_index ws 6);
+}
+
+-- the records of the chain
+abbrev pub nodes_of : List ℕ → List Node
+nodes_of ws = (read_heap ws).nodes
+
+-- where the chain stands behind these records: at the last of them, or where there is none at `p`
+abbrev pub last_from : ℕ → List Node → ℕ
+last_from p [] = p
+last_from p (x ∷ xs) = last_from x.place xs
+
+-- how many records stand up to the j-th one that has a slot
+abbrev pub upto : ℕ → List Node → ℕ
+upto zero xs = 0
+upto (suc j) [] = 0
+upto (suc j) (x ∷ xs) = 1 + (if x.owned == 0 then upto (suc j) xs else upto j xs)

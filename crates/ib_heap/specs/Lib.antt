@@ -1,0 +1,12 @@
+pub mod Words
+pub mod Page
+pub mod Heap
+pub mod Form
+pub mod Image
+pub mod Put
+pub mod Take
+pub mod Kept
+pub mod Steps
+pub mod Filled
+pub mod Shape
+pub mod Walks

@@ -1,0 +1,199 @@
+//! The head of a page: where its fields stand, and how they are read and set.
+
+ghost use Rattle.std.specs.Prelude.{◌≡◌, ◌≢◌, ℕ, ◌<◌, ◌≤◌, [], length, slice_index, IsTrue, ◌↔◌};
+ghost use Rattle.ib_heap.specs.Page.PageValue.{Tree};
+ghost use Rattle.ib_heap.specs.Heap.{read_heap};
+ghost use Rattle.ib_heap.specs.Form.{page_of, empty_leaf_words};
+ghost use Rattle.ib_heap.specs.Filled.{empty_heap};
+ghost use Rattle.ib_heap.specs.Image.{IsTreePage, IsFormed, level_of, prev_of, next_of, clock_of, records_of, with_links, with_level, with_clock};
+
+use crate::page::CLOCK;
+use crate::words::PageWords;
+use crate::{MOST_LEVEL, MOST_RECORDS};
+use ib_map::PAGE_WORDS;
+
+// The words of the head.
+pub(crate) const KIND: usize = 0;
+
+pub(crate) const LEVEL: usize = 1;
+
+pub(crate) const COUNT: usize = 2;
+
+pub(crate) const PREV: usize = 3;
+
+pub(crate) const NEXT: usize = 4;
+
+// What word `KIND` holds.
+pub(crate) const TREE: u64 = 1;
+
+// The first free record place, and how many slots there are with the first word that no record has used.
+pub(crate) const FREE: usize = 6;
+
+pub(crate) const TOP: usize = 7;
+
+// The directory.
+pub(crate) const DIRECTORY: usize = 8;
+
+pub(crate) const MOST_SLOTS: usize = 10;
+
+// The records at the two ends of the chain.
+pub(crate) const INFIMUM: usize = 18;
+
+pub(crate) const SUPREMUM: usize = 19;
+
+// Where the record places begin, and how many words each has.
+pub(crate) const FIRST_PLACE: usize = 20;
+
+pub(crate) const PLACE_WORDS: usize = 3;
+
+// The word behind the last record place.
+pub(crate) const PLACES_END: usize = FIRST_PLACE + PLACE_WORDS * MOST_RECORDS;
+
+// A record's head is how many records its slot owns, times this, and the place behind it in the chain. Word
+// `TOP` is how many slots there are, times this, and the first word that no record has used.
+pub(crate) const ONE: u64 = 256;
+
+// The most records that a slot owns, and the fewest that a slot owns between the infimum's and the supremum's.
+pub(crate) const MOST_OWNED: u64 = 8;
+
+pub(crate) const FEWEST_OWNED: u64 = 4;
+
+// What a removal may leave a slot that owned the fewest.
+pub(crate) const ONE_TOO_FEW: u64 = 3;
+
+/// A page with no records and no links.
+pub fn empty_page(level: u32, clock: u64) -> [u64; PAGE_WORDS]
+    requires { level ≤ MOST_LEVEL }
+    ensures page { page_of result ≡ Tree (record { level = level; prev = 0; next = 0; clock = clock; records = [] }) }
+    ensures leaf { level ≡ 0 → result ≡ empty_leaf_words clock }
+    ensures heap { read_heap result ≡ empty_heap }
+    ensures rest { (i : ℕ) → 20 ≤ i → slice_index result i ≡ 0 }
+{
+    let mut words = [0; PAGE_WORDS];
+    words[KIND] = TREE;
+    words[LEVEL] = level as u64;
+    words[CLOCK] = clock;
+    words[TOP] = 2 * ONE + FIRST_PLACE as u64;
+    words[DIRECTORY] = INFIMUM as u64;
+    words[DIRECTORY + 1] = SUPREMUM as u64;
+    words[INFIMUM] = ONE + SUPREMUM as u64;
+    words[SUPREMUM] = ONE;
+    words
+}
+
+/// A word of an empty leaf.
+pub fn empty_leaf_word(clock: u64, index: usize) -> u64
+    requires { index < PAGE_WORDS }
+    ensures { result ≡ slice_index (empty_leaf_words clock) index }
+{
+    match index {
+        KIND => TREE,
+        CLOCK => clock,
+        TOP => 532,
+        8 => 18,
+        9 => 19,
+        INFIMUM => 275,
+        SUPREMUM => 256,
+        _ => 0,
+    }
+}
+
+/// Whether a page is one of the tree, and not free.
+pub fn is_tree(words: &[u64]) -> bool
+    requires { IsFormed words.now }
+    ensures { IsTrue result ↔ IsTreePage words.now }
+{
+    words[KIND] == TREE
+}
+
+/// The level of a page.
+pub fn level(words: &[u64]) -> u32
+    requires { IsFormed words.now }
+    ensures level { result ≡ level_of words.now }
+    ensures low { result ≤ MOST_LEVEL }
+{
+    words[LEVEL] as u32
+}
+
+/// How many records a page has.
+pub fn count(words: &[u64]) -> usize
+    requires { IsFormed words.now }
+    ensures count { result ≡ length (records_of words.now) }
+    ensures few { result ≤ MOST_RECORDS }
+    ensures size { length words.now ≡ PAGE_WORDS }
+{
+    words[COUNT] as usize
+}
+
+/// The leaf before this one, 0 for none.
+pub fn prev(words: &[u64]) -> u32
+    requires { IsFormed words.now }
+    ensures { result ≡ prev_of words.now }
+{
+    words[PREV] as u32
+}
+
+/// The leaf behind this one, 0 for none.
+pub fn next(words: &[u64]) -> u32
+    requires { IsFormed words.now }
+    ensures { result ≡ next_of words.now }
+{
+    words[NEXT] as u32
+}
+
+/// The modify clock of a page.
+pub fn clock(words: &[u64]) -> u64
+    requires { IsFormed words.now }
+    ensures { result ≡ clock_of words.now }
+{
+    words[CLOCK]
+}
+
+/// The level of a page, by one word of it.
+pub fn level_in<W: PageWords>(page: &mut W) -> u32
+    requires can { W.can_read page.old }
+    requires tree { IsTreePage (W.words page.old) }
+    ensures level { result ≡ level_of (W.words page.old) }
+    ensures low { result ≤ MOST_LEVEL }
+    ensures same { W.words page.new ≡ W.words page.old }
+    ensures can { W.can_read page.new }
+    ensures read { W.has_read page.old page.new }
+{
+    page.word(LEVEL) as u32
+}
+
+/// Sets both links.
+pub fn set_links(words: &mut [u64], prev: u32, next: u32)
+    requires tree { IsTreePage words.old }
+    requires prev { 0 < level_of words.old → prev ≡ 0 }
+    requires next { 0 < level_of words.old → next ≡ 0 }
+    ensures page { page_of words.new ≡ with_links prev next (page_of words.old) }
+    ensures heap { read_heap words.new ≡ read_heap words.old }
+    ensures kept { (i : ℕ) → i ≢ 3 → i ≢ 4 → slice_index words.new i ≡ slice_index words.old i }
+{
+    words[PREV] = prev as u64;
+    words[NEXT] = next as u64;
+}
+
+/// Sets the level.
+pub fn set_level(words: &mut [u64], level: u32)
+    requires tree { IsTreePage words.old }
+    requires low { level ≤ MOST_LEVEL }
+    requires prev { 0 < level → prev_of words.old ≡ 0 }
+    requires next { 0 < level → next_of words.old ≡ 0 }
+    ensures page { page_of words.new ≡ with_level level (page_of words.old) }
+    ensures heap { read_heap words.new ≡ read_heap words.old }
+    ensures kept { (i : ℕ) → i ≢ 1 → slice_index words.new i ≡ slice_index words.old i }
+{
+    words[LEVEL] = level as u64;
+}
+
+/// Sets the clock.
+pub fn set_clock(words: &mut [u64], clock: u64)
+    requires { IsFormed words.old }
+    ensures page { page_of words.new ≡ with_clock clock (page_of words.old) }
+    ensures heap { read_heap words.new ≡ read_heap words.old }
+    ensures kept { (i : ℕ) → i ≢ 5 → slice_index words.new i ≡ slice_index words.old i }
+{
+    words[CLOCK] = clock;
+}

@@ -1,0 +1,162 @@
+//! A record put into a page: its place, its links in the chain, and its slot (`page_cur_insert_rec_low`).
+
+ghost use Rattle.std.specs.Prelude.{◌≡◌, ◌≢◌, ◌+◌, ◌<◌, ◌≤◌, ◌⊎◌, ℕ, length, slice_index, IsSome, IsNone, OnOk, OnErr, ◌↔◌, None};
+ghost use Rattle.ib_map.specs.Pairs.{put, value_at, place_of};
+ghost use Rattle.ib_heap.specs.Form.{page_of};
+ghost use Rattle.ib_heap.specs.Image.{IsTreePage, records_of, with_records};
+ghost use Rattle.ib_heap.specs.Heap.{nodes_of, read_heap, used};
+ghost use Rattle.ib_heap.specs.Put.{place_for, put_in};
+ghost use Rattle.ib_heap.specs.Kept.{IsKept};
+ghost use Rattle.ib_heap.specs.Steps.{Stands, Taken, CanLink, Linked, CanSplit, Split};
+ghost use Rattle.ib_heap.specs.Walks.{end_from};
+
+use crate::MOST_RECORDS;
+use crate::fault::PageFault;
+use crate::form::{COUNT, DIRECTORY, FREE, MOST_OWNED, ONE, PLACE_WORDS, TOP, count};
+use crate::search::{Cursor, find, seek};
+use crate::walk::{next_word, owned_word, slot_word};
+use ib_map::{Key, PAGE_WORDS};
+
+/// Puts a record in. Refused as `Duplicate` exactly where the key is there, and then as `PageFull` exactly where
+/// there are `MOST_RECORDS` records.
+pub fn put(words: &mut [u64], key: Key, value: u64) -> Result<(), PageFault>
+    requires { IsTreePage words.old }
+    ensures inserted { OnOk result (page_of words.new ≡ with_records (put key value (records_of words.old)) (page_of words.old)) }
+    ensures tree { IsTreePage words.new }
+    ensures duplicate { (result ≡ Err PageFault.Duplicate) ↔ IsSome (value_at key (records_of words.old)) }
+    ensures full { (result ≡ Err PageFault.PageFull) ↔ (IsNone (value_at key (records_of words.old)) × (length (records_of words.old) ≡ MOST_RECORDS)) }
+    ensures never_missing { result ≢ Err PageFault.Missing }
+    ensures unchanged { OnErr result (words.new ≡ words.old) }
+    ensures heap { OnOk result (read_heap words.new ≡ put_in (place_of key (records_of words.old)) (read_heap words.old)) }
+    ensures kept { OnOk result ((i : ℕ) → IsKept (used (read_heap words.new)) i → i ≢ place_for (read_heap words.old) + 1 → i ≢ place_for (read_heap words.old) + 2 → slice_index words.new i ≡ slice_index words.old i) }
+{
+    match find(words, key) {
+        Ok(_) => Err(PageFault::Duplicate),
+        Err(_) => {
+            if count(words) == MOST_RECORDS {
+                return Err(PageFault::PageFull);
+            }
+            put_new(words, key, value);
+            Ok(())
+        }
+    }
+}
+
+/// Puts a record in whose key is not there, where it stands by its key.
+#[tactic(none)]
+pub(crate) fn put_new(words: &mut [u64], key: Key, value: u64)
+    requires tree { IsTreePage words.old }
+    requires few { length (records_of words.old) < MOST_RECORDS }
+    requires absent { value_at key (records_of words.old) ≡ None }
+    ensures page { page_of words.new ≡ with_records (put key value (records_of words.old)) (page_of words.old) }
+    ensures heap { read_heap words.new ≡ put_in (place_of key (records_of words.old)) (read_heap words.old) }
+    ensures kept { (i : ℕ) → IsKept (used (read_heap words.new)) i → i ≢ place_for (read_heap words.old) + 1 → i ≢ place_for (read_heap words.old) + 2 → slice_index words.new i ≡ slice_index words.old i }
+{
+    let cursor = locate(words, key);
+    let first = slot_word(words, cursor.slot - 1);
+    let owner = slot_word(words, cursor.slot);
+    let place = take_place(words);
+    link(words, cursor, owner, place, key, value);
+    if owned_word(words, owner) > MOST_OWNED {
+        let middle = fourth_behind(words, first);
+        split(words, cursor.slot, middle, owner);
+    }
+}
+
+// The fourth place behind another in the chain.
+fn fourth_behind(words: &[u64], place: usize) -> usize
+    requires { (n : ℕ) → n < 4 → end_from words.now n place < length words.now }
+    ensures { result ≡ end_from words.now 4 place }
+{
+    let mut at = place;
+    for _step in 0..4usize {
+        at = next_word(words, at);
+    }
+    at
+}
+
+/// Finds a key.
+pub(crate) fn locate(words: &[u64], key: Key) -> Cursor
+    requires { IsTreePage words.now }
+    ensures { Stands words.now key result.slot result.before result.at }
+{
+    let mut page = words;
+    seek(&mut page, key)
+}
+
+// Writes a word.
+pub(crate) fn write(words: &mut [u64], i: usize, word: u64)
+    requires { i < length words.old }
+    ensures here { slice_index words.new i ≡ word }
+    ensures other { (j : ℕ) → j ≢ i → slice_index words.new j ≡ slice_index words.old j }
+    ensures size { length words.new ≡ length words.old }
+{
+    words[i] = word;
+}
+
+// The place for a new record, which is free no more.
+fn take_place(words: &mut [u64]) -> usize
+    requires tree { IsTreePage words.old }
+    requires few { length (nodes_of words.old) < MOST_RECORDS }
+    ensures { Taken words.old words.new result }
+{
+    let first = words[FREE];
+    if first != 0 {
+        let next = words[first as usize];
+        write(words, FREE, next);
+        return first as usize;
+    }
+    let top = words[TOP];
+    write(words, TOP, top + PLACE_WORDS as u64);
+    (top % ONE) as usize
+}
+
+// Writes a record, and its place into the chain between its neighbours, and counts it.
+fn link(words: &mut [u64], cursor: Cursor, owner: usize, place: usize, key: Key, value: u64)
+    requires { CanLink words.old cursor.before cursor.at owner place }
+    ensures { Linked words.old words.new cursor.before cursor.at owner place key value }
+{
+    let count = words[COUNT];
+    let head = words[cursor.before];
+    let owned = words[owner];
+    write(words, place, cursor.at as u64);
+    write(words, place + 1, key);
+    write(words, place + 2, value);
+    write(words, cursor.before, head - cursor.at as u64 + place as u64);
+    write(words, owner, owned + ONE);
+    write(words, COUNT, count + 1);
+}
+
+// Makes room in the directory before a slot's owner.
+fn shift(words: &mut [u64], slot: usize, last: usize)
+    requires size { length words.old ≡ PAGE_WORDS }
+    requires slot { slot ≤ last }
+    requires last { last ≤ 8 }
+    ensures before { (m : ℕ) → m ≤ slot → slice_index words.new (8 + m) ≡ slice_index words.old (8 + m) }
+    ensures behind { (m : ℕ) → slot ≤ m → m ≤ last → slice_index words.new (8 + (m + 1)) ≡ slice_index words.old (8 + m) }
+    ensures other { (i : ℕ) → (i < 8) ⊎ (9 + last < i) → slice_index words.new i ≡ slice_index words.old i }
+    ensures size { length words.new ≡ length words.old }
+{
+    for step in 0..last + 1 - slot {
+        let from = DIRECTORY + last - step;
+        let word = words[from];
+        write(words, from + 1, word);
+    }
+}
+
+// Splits a slot of nine: the fourth of its records owns the first four, and the old owner keeps the others
+// (`page_dir_split_slot`).
+fn split(words: &mut [u64], slot: usize, middle: usize, owner: usize)
+    requires { CanSplit words.old slot middle owner }
+    ensures { Split words.old words.new slot middle owner }
+{
+    let top = words[TOP];
+    let last = (top / ONE) as usize - 1;
+    let more = words[middle];
+    let fewer = words[owner];
+    shift(words, slot, last);
+    write(words, DIRECTORY + slot, middle as u64);
+    write(words, middle, more + 4 * ONE);
+    write(words, owner, fewer - 4 * ONE);
+    write(words, TOP, top + ONE);
+}

@@ -1,0 +1,117 @@
+//! Records moved between pages: each page that they leave or come to is filled anew (`page_copy_rec_list_end`,
+//! `btr_page_reorganize`).
+
+ghost use Rattle.std.specs.Prelude.{◌≡◌, ℕ, ◌+◌, ◌*◌, ◌-◌, ◌≤◌, ◌++◌, [], length, take, drop, slice_index};
+ghost use Rattle.ib_map.specs.Keys.{end_rank};
+ghost use Rattle.ib_map.specs.Pairs.{Rises};
+ghost use Rattle.ib_heap.specs.Form.{page_of};
+ghost use Rattle.ib_heap.specs.Image.{IsTreePage, records_of, with_records};
+ghost use Rattle.ib_heap.specs.Heap.{read_heap};
+ghost use Rattle.ib_heap.specs.Filled.{empty_heap, filled};
+
+use crate::MOST_RECORDS;
+use crate::form::{clock, empty_page, level, next, prev, set_links};
+use crate::insert::put_new;
+use crate::walk::copy_between;
+use ib_map::{GREATEST, Key, LEAST, PAGE_WORDS};
+
+/// Moves the records from a place on to a page that has none.
+pub fn move_tail(left: &mut [u64], place: usize, right: &mut [u64])
+    requires left { IsTreePage left.old }
+    requires right { IsTreePage right.old }
+    requires none { records_of right.old ≡ [] }
+    requires in_range { place ≤ length (records_of left.old) }
+    ensures left { page_of left.new ≡ with_records (take place (records_of left.old)) (page_of left.old) }
+    ensures right { page_of right.new ≡ with_records (drop place (records_of left.old)) (page_of right.old) }
+    ensures left_heap { read_heap left.new ≡ filled place }
+    ensures right_heap { read_heap right.new ≡ filled (length (records_of left.old) - place) }
+    ensures left_rest { (i : ℕ) → 20 + 3 * place ≤ i → slice_index left.new i ≡ 0 }
+    ensures right_rest { (i : ℕ) → 20 + 3 * (length (records_of left.old) - place) ≤ i → slice_index right.new i ≡ 0 }
+{
+    let mut records = [(LEAST, 0); MOST_RECORDS];
+    let len = copy_all(left, &mut records);
+    rebuild(left, &records[..place]);
+    rebuild(right, &records[place..len]);
+}
+
+/// Appends the records of a page to those of another.
+pub fn append(left: &mut [u64], right: &[u64])
+    requires left { IsTreePage left.old }
+    requires right { IsTreePage right.now }
+    requires few { length (records_of left.old) + length (records_of right.now) ≤ MOST_RECORDS }
+    requires ascends { Rises 0 (records_of left.old ++ records_of right.now) end_rank }
+    ensures page { page_of left.new ≡ with_records (records_of left.old ++ records_of right.now) (page_of left.old) }
+    ensures heap { read_heap left.new ≡ filled (length (records_of left.old) + length (records_of right.now)) }
+    ensures rest { (i : ℕ) → 20 + 3 * (length (records_of left.old) + length (records_of right.now)) ≤ i → slice_index left.new i ≡ 0 }
+{
+    let mut records = [(LEAST, 0); MOST_RECORDS];
+    let len = copy_all(left, &mut records);
+    let more = copy_all(right, &mut records[len..]);
+    rebuild(left, &records[..len + more]);
+}
+
+/// Puts the records of a page in anew, one behind the other. What the page holds stays.
+pub fn reorganize(words: &mut [u64])
+    requires { IsTreePage words.old }
+    ensures page { page_of words.new ≡ page_of words.old }
+    ensures heap { read_heap words.new ≡ filled (length (records_of words.old)) }
+    ensures rest { (i : ℕ) → 20 + 3 * length (records_of words.old) ≤ i → slice_index words.new i ≡ 0 }
+{
+    let mut records = [(LEAST, 0); MOST_RECORDS];
+    let len = copy_all(words, &mut records);
+    rebuild(words, &records[..len]);
+}
+
+// Copies all records to the front of `out`, and says how many they are.
+fn copy_all(words: &[u64], out: &mut [(Key, u64)]) -> usize
+    requires tree { IsTreePage words.now }
+    requires room { length (records_of words.now) ≤ length out.old }
+    ensures records { out.new ≡ records_of words.now ++ drop (length (records_of words.now)) out.old }
+    ensures count { result ≡ length (records_of words.now) }
+{
+    copy_between(words, LEAST, GREATEST, out)
+}
+
+// Fills a page anew with these records, which ascend.
+fn rebuild(words: &mut [u64], records: &[(Key, u64)])
+    requires tree { IsTreePage words.old }
+    requires few { length records.now ≤ MOST_RECORDS }
+    requires ascends { Rises 0 records.now end_rank }
+    ensures page { page_of words.new ≡ with_records records.now (page_of words.old) }
+    ensures heap { read_heap words.new ≡ filled (length records.now) }
+    ensures rest { (i : ℕ) → 20 + 3 * length records.now ≤ i → slice_index words.new i ≡ 0 }
+{
+    clear(words);
+    fill(words, records);
+}
+
+// Makes a page empty, and leaves its level, its links and its clock.
+fn clear(words: &mut [u64])
+    requires { IsTreePage words.old }
+    ensures page { page_of words.new ≡ with_records [] (page_of words.old) }
+    ensures heap { read_heap words.new ≡ empty_heap }
+    ensures rest { (i : ℕ) → 20 ≤ i → slice_index words.new i ≡ 0 }
+{
+    let before = prev(words);
+    let behind = next(words);
+    let empty = empty_page(level(words), clock(words));
+    words.copy_from_slice(&empty);
+    set_links(words, before, behind);
+}
+
+// Puts these records, which ascend, into an empty page.
+fn fill(words: &mut [u64], records: &[(Key, u64)])
+    requires tree { IsTreePage words.old }
+    requires none { records_of words.old ≡ [] }
+    requires heap { read_heap words.old ≡ empty_heap }
+    requires rest { (i : ℕ) → 20 ≤ i → slice_index words.old i ≡ 0 }
+    requires few { length records.now ≤ MOST_RECORDS }
+    requires ascends { Rises 0 records.now end_rank }
+    ensures page { page_of words.new ≡ with_records records.now (page_of words.old) }
+    ensures heap { read_heap words.new ≡ filled (length records.now) }
+    ensures rest { (i : ℕ) → 20 + 3 * length records.now ≤ i → slice_index words.new i ≡ 0 }
+{
+    for record in records {
+        put_new(words, record.0, record.1);
+    }
+}

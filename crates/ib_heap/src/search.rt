@@ -1,0 +1,223 @@
+//! The search for a key: by the directory to a slot, and along the chain from there (`page_cur_search_with_match`).
+
+ghost use Rattle.std.specs.Prelude.{◌≡◌, ◌≢◌, ◌+◌, ◌-◌, ◌<◌, ◌≤◌, ◌⊎◌, length, take, drop, slice_get, slice_index, IsTrue, false, IsSomeAnd, IfSome, IfOk, IfErr, MatchResult, Some, None};
+ghost use Rattle.std.specs.List.Sorted.{IsSearchInRange};
+ghost use Rattle.ib_map.specs.Keys.{rank};
+ghost use Rattle.ib_map.specs.Pairs.{value_at, place_of, place_after};
+ghost use Rattle.ib_heap.specs.Image.{IsTreePage, records_of};
+ghost use Rattle.ib_heap.specs.Heap.{nodes_of, owners, upto, last_from, first_of};
+
+use crate::MOST_RECORDS;
+use crate::directory::{index_behind, key_at, next_place, owner, slot_of, value_at};
+use crate::form::SUPREMUM;
+use crate::walk::record_of;
+use crate::words::PageWords;
+use ib_map::{Key, is_below, is_same};
+
+/// Where a key stands in the chain, or would stand: the slot, how many steps behind the owner of the slot
+/// before it, the place before the key, and the first place whose record is not below it.
+#[derive(Clone, Copy)]
+pub(crate) struct Cursor {
+    pub(crate) slot: usize,
+    pub(crate) steps: usize,
+    pub(crate) before: usize,
+    pub(crate) at: usize,
+}
+
+/// Finds a key.
+pub(crate) fn seek<W: PageWords>(page: &mut W, key: Key) -> Cursor
+    requires can { W.can_read page.old }
+    requires tree { IsTreePage (W.words page.old) }
+    ensures before { let nodes = nodes_of (W.words page.old) in result.before ≡ last_from 18 (take (place_of key (records_of (W.words page.old))) nodes) }
+    ensures at { let nodes = nodes_of (W.words page.old) in result.at ≡ first_of (drop (place_of key (records_of (W.words page.old))) nodes) }
+    ensures some { 0 < result.slot }
+    ensures in_range { result.slot ≤ length (owners (nodes_of (W.words page.old))) }
+    ensures steps { upto (result.slot - 1) (nodes_of (W.words page.old)) + result.steps ≡ place_of key (records_of (W.words page.old)) }
+    ensures low { upto (result.slot - 1) (nodes_of (W.words page.old)) ≤ place_of key (records_of (W.words page.old)) }
+    ensures high { (place_of key (records_of (W.words page.old)) < upto result.slot (nodes_of (W.words page.old))) ⊎ (result.slot ≡ length (owners (nodes_of (W.words page.old)))) }
+    ensures same { W.words page.new ≡ W.words page.old }
+    ensures can { W.can_read page.new }
+    ensures read { W.has_read page.old page.new }
+{
+    let slot = slot_of(page, key);
+    let mut before = owner(page, slot - 1);
+    let mut at = next_place(page, before);
+    for steps in 0..MOST_RECORDS {
+        if is_at(page, at, key) {
+            return Cursor {
+                slot,
+                steps,
+                before,
+                at,
+            };
+        }
+        before = at;
+        at = next_place(page, at);
+    }
+    Cursor {
+        slot,
+        steps: MOST_RECORDS,
+        before,
+        at,
+    }
+}
+
+// Whether a place is the supremum's, or that of a record that is not below the key.
+fn is_at<W: PageWords>(page: &mut W, place: usize, key: Key) -> bool
+    requires can { W.can_read page.old }
+    requires tree { IsTreePage (W.words page.old) }
+    requires in_page { place ≤ 122 }
+    ensures yes { IsTrue result → (place ≡ 19) ⊎ (rank key ≤ rank (slice_index (W.words page.old) (place + 1))) }
+    ensures end { result ≡ false → place ≢ 19 }
+    ensures below { result ≡ false → rank (slice_index (W.words page.old) (place + 1)) < rank key }
+    ensures same { W.words page.new ≡ W.words page.old }
+    ensures can { W.can_read page.new }
+    ensures read { W.has_read page.old page.new }
+{
+    if place == SUPREMUM {
+        return true;
+    }
+    !is_below(key_at(page, place), key)
+}
+
+// Whether a place is that of the key's record.
+fn has_key<W: PageWords>(page: &mut W, place: usize, key: Key) -> bool
+    requires can { W.can_read page.old }
+    requires tree { IsTreePage (W.words page.old) }
+    requires in_page { place ≤ 122 }
+    ensures yes { IsTrue result → (place ≢ 19) × (slice_index (W.words page.old) (place + 1) ≡ key) }
+    ensures no { result ≡ false → (place ≡ 19) ⊎ ((place ≢ 19) × (rank (slice_index (W.words page.old) (place + 1)) ≢ rank key)) }
+    ensures same { W.words page.new ≡ W.words page.old }
+    ensures can { W.can_read page.new }
+    ensures read { W.has_read page.old page.new }
+{
+    if place == SUPREMUM {
+        return false;
+    }
+    is_same(key_at(page, place), key)
+}
+
+/// Where a key stands, or where it would stand: behind what the slots before own, and the steps from there.
+pub fn find(words: &[u64], key: Key) -> Result<usize, usize>
+    requires { IsTreePage words.now }
+    ensures place { let place = place_of key (records_of words.now) in MatchResult result (λ i. i ≡ place) (λ i. i ≡ place) }
+    ensures in_range { IsSearchInRange result (length (records_of words.now)) }
+    ensures found { IfOk result (λ i. IsSomeAnd (slice_get (records_of words.now) i) (λ r. r.0 ≡ key)) }
+    ensures value { IfOk result (λ i. IsSomeAnd (slice_get (records_of words.now) i) (λ r. value_at key (records_of words.now) ≡ Some r.1)) }
+    ensures absent { IfErr result (λ i. value_at key (records_of words.now) ≡ None) }
+{
+    let mut page = words;
+    find_in(&mut page, key)
+}
+
+// The same over a source of the page's words.
+fn find_in<W: PageWords>(page: &mut W, key: Key) -> Result<usize, usize>
+    requires can { W.can_read page.old }
+    requires tree { IsTreePage (W.words page.old) }
+    ensures place { let place = place_of key (records_of (W.words page.old)) in MatchResult result (λ i. i ≡ place) (λ i. i ≡ place) }
+    ensures in_range { IsSearchInRange result (length (records_of (W.words page.old))) }
+    ensures found { IfOk result (λ i. IsSomeAnd (slice_get (records_of (W.words page.old)) i) (λ r. r.0 ≡ key)) }
+    ensures value { IfOk result (λ i. IsSomeAnd (slice_get (records_of (W.words page.old)) i) (λ r. value_at key (records_of (W.words page.old)) ≡ Some r.1)) }
+    ensures absent { IfErr result (λ i. value_at key (records_of (W.words page.old)) ≡ None) }
+    ensures same { W.words page.new ≡ W.words page.old }
+    ensures can { W.can_read page.new }
+    ensures read { W.has_read page.old page.new }
+{
+    let cursor = seek(page, key);
+    let index = index_behind(page, cursor.slot - 1) + cursor.steps;
+    if has_key(page, cursor.at, key) {
+        Ok(index)
+    } else {
+        Err(index)
+    }
+}
+
+/// The value of a key. None exactly where the key is not there.
+pub fn get(words: &[u64], key: Key) -> Option<u64>
+    requires { IsTreePage words.now }
+    ensures { result ≡ value_at key (records_of words.now) }
+{
+    let mut page = words;
+    get_in(&mut page, key)
+}
+
+/// The same over a source of the page's words: the search reads the directory, the heads and keys that it
+/// passes, and the value.
+pub fn get_in<W: PageWords>(page: &mut W, key: Key) -> Option<u64>
+    requires can { W.can_read page.old }
+    requires tree { IsTreePage (W.words page.old) }
+    ensures value { result ≡ value_at key (records_of (W.words page.old)) }
+    ensures same { W.words page.new ≡ W.words page.old }
+    ensures can { W.can_read page.new }
+    ensures read { W.has_read page.old page.new }
+{
+    let cursor = seek(page, key);
+    if has_key(page, cursor.at, key) {
+        return Some(value_at(page, cursor.at));
+    }
+    None
+}
+
+/// Where the last record stands whose key is not above this one. The first record must have such a key.
+pub fn route(words: &[u64], key: Key) -> usize
+    requires tree { IsTreePage words.now }
+    requires first { IsSomeAnd (slice_get (records_of words.now) 0) (λ r. rank r.0 ≤ rank key) }
+    ensures place { result + 1 ≡ place_after key (records_of words.now) }
+    ensures in_range { result < length (records_of words.now) }
+    ensures not_above { IsSomeAnd (slice_get (records_of words.now) result) (λ r. rank r.0 ≤ rank key) }
+    ensures next_above { IfSome (slice_get (records_of words.now) (result + 1)) (λ r. rank key < rank r.0) }
+{
+    match find(words, key) {
+        Ok(place) => place,
+        Err(place) => place - 1,
+    }
+}
+
+/// The last record whose key is not above this one. The first record must have such a key.
+pub fn route_to(words: &[u64], key: Key) -> (Key, u64)
+    requires tree { IsTreePage words.now }
+    requires first { IsSomeAnd (slice_get (records_of words.now) 0) (λ r. rank r.0 ≤ rank key) }
+    ensures record { slice_get (records_of words.now) (place_after key (records_of words.now) - 1) ≡ Some result }
+    ensures not_above { rank result.0 ≤ rank key }
+{
+    let mut page = words;
+    let place = route_place(&mut page, key);
+    record_of(words, place)
+}
+
+/// The value of the last record whose key is not above this one: in a node, the child whose keys it is
+/// among (`page_cur_search_with_match`, `btr_node_ptr_get_child_page_no`). The first record must have such a
+/// key. The search reads the directory, the heads and keys that it passes, and this value.
+pub fn child_in<W: PageWords>(page: &mut W, key: Key) -> u64
+    requires can { W.can_read page.old }
+    requires tree { IsTreePage (W.words page.old) }
+    requires first { IsSomeAnd (slice_get (records_of (W.words page.old)) 0) (λ r. rank r.0 ≤ rank key) }
+    ensures value { IsSomeAnd (slice_get (records_of (W.words page.old))
+        (place_after key (records_of (W.words page.old)) - 1)) (λ r. r.1 ≡ result) }
+    ensures same { W.words page.new ≡ W.words page.old }
+    ensures can { W.can_read page.new }
+    ensures read { W.has_read page.old page.new }
+{
+    let place = route_place(page, key);
+    value_at(page, place)
+}
+
+// The place of the last record whose key is not above this one.
+fn route_place<W: PageWords>(page: &mut W, key: Key) -> usize
+    requires can { W.can_read page.old }
+    requires tree { IsTreePage (W.words page.old) }
+    requires first { IsSomeAnd (slice_get (records_of (W.words page.old)) 0) (λ r. rank r.0 ≤ rank key) }
+    ensures record { slice_get (records_of (W.words page.old)) (place_after key (records_of (W.words page.old)) - 1)
+        ≡ Some (slice_index (W.words page.old) (result + 1), slice_index (W.words page.old) (result + 2)) }
+    ensures not_above { rank (slice_index (W.words page.old) (result + 1)) ≤ rank key }
+    ensures in_page { result ≤ 122 }
+    ensures same { W.words page.new ≡ W.words page.old }
+    ensures can { W.can_read page.new }
+    ensures read { W.has_read page.old page.new }
+{
+    let cursor = seek(page, key);
+    if has_key(page, cursor.at, key) {
+        return cursor.at;
+    }
+    cursor.before
+}

@@ -1,0 +1,83 @@
+//! The records of a page in the order of the chain.
+
+ghost use Rattle.std.specs.Prelude.{◌≡◌, ◌+◌, ◌/◌, ◌%◌, ◌<◌, ◌≤◌, ◌++◌, length, drop, slice_get, slice_index, IsTrue, Some, ◌↔◌};
+ghost use Rattle.ib_map.specs.Keys.{rank};
+ghost use Rattle.ib_map.specs.Pairs.{cut};
+ghost use Rattle.ib_heap.specs.Image.{IsTreePage, records_of};
+
+use crate::form::{DIRECTORY, INFIMUM, ONE, count};
+use ib_map::{Key, is_below};
+
+// The place behind another in the chain.
+pub(crate) fn next_word(words: &[u64], place: usize) -> usize
+    requires { place < length words.now }
+    ensures next { result ≡ slice_index words.now place % 256 }
+    ensures low { result < 256 }
+{
+    (words[place] % ONE) as usize
+}
+
+// How many records the slot of a place owns, 0 where it has none.
+pub(crate) fn owned_word(words: &[u64], place: usize) -> u64
+    requires { place < length words.now }
+    ensures { result ≡ slice_index words.now place / 256 }
+{
+    words[place] / ONE
+}
+
+// The place of the record that owns a slot.
+pub(crate) fn slot_word(words: &[u64], slot: usize) -> usize
+    requires { 8 + slot < length words.now }
+    ensures { result ≡ slice_index words.now (8 + slot) }
+{
+    words[DIRECTORY + slot] as usize
+}
+
+// The key and the value at a place.
+pub(crate) fn record_of(words: &[u64], place: usize) -> (Key, u64)
+    requires { place + 2 < length words.now }
+    ensures { result ≡ (slice_index words.now (place + 1), slice_index words.now (place + 2)) }
+{
+    (words[place + 1], words[place + 2])
+}
+
+/// A record, by its place in the order of keys.
+pub fn record_at(words: &[u64], place: usize) -> (Key, u64)
+    requires tree { IsTreePage words.now }
+    requires in_range { place < length (records_of words.now) }
+    ensures { slice_get (records_of words.now) place ≡ Some result }
+{
+    let mut at = next_word(words, INFIMUM);
+    for _step in 0..place {
+        at = next_word(words, at);
+    }
+    record_of(words, at)
+}
+
+/// Copies the records whose keys are neither below `low` nor above `high`, and says how many they are.
+pub fn copy_between(words: &[u64], low: Key, high: Key, out: &mut [(Key, u64)]) -> usize
+    requires tree { IsTreePage words.now }
+    requires room { length (records_of words.now) ≤ length out.old }
+    ensures records { let records = cut (records_of words.now) low high in out.new ≡ records ++ drop (length records) out.old }
+    ensures count { result ≡ length (cut (records_of words.now) low high) }
+{
+    let len = count(words);
+    let mut copied = 0;
+    let mut at = next_word(words, INFIMUM);
+    for place in 0..len {
+        let record = record_of(words, at);
+        if is_between(low, high, record.0) {
+            out[copied] = record;
+            copied += 1;
+        }
+        at = next_word(words, at);
+    }
+    copied
+}
+
+// Whether a key is neither below `low` nor above `high`.
+fn is_between(low: Key, high: Key, key: Key) -> bool
+    ensures { IsTrue result ↔ ((rank low ≤ rank key) × (rank key ≤ rank high)) }
+{
+    !is_below(key, low) && !is_below(high, key)
+}
