@@ -29,13 +29,6 @@ use Rattle.ib_rule.specs.Rule.{RuleHolds}
 use Rattle.ib_rule.specs.Closed.{used_in, IsClosed}
 use Rattle.ib_rule.proofs.Sessions.{whole_count}
 
--- lists with the same words
-pub same_words : (xs ys : List ℕ) → length xs ≡ length ys → ((k : ℕ) → k < length ys → get_or xs k 0 ≡ get_or ys k 0) → xs ≡ ys
-same_words [] [] size same = refl
-same_words [] (y ∷ ys) size same = absurd (omega arith)
-same_words (x ∷ xs) [] size same = absurd (omega arith)
-same_words (x ∷ xs) (y ∷ ys) size same = λ i. same 0 (omega arith) i ∷ same_words xs ys (omega arith) (λ k h. same (suc k) (omega arith)) i
-
 front : (words ys : List ℕ) → length ys ≤ length words → ((k : ℕ) → k < length ys → get_or words k 0 ≡ get_or ys k 0) → take (length ys) words ≡ ys
 front words [] room same = refl
 front [] (y ∷ ys) room same = absurd (omega arith)

@@ -1,10 +1,10 @@
 //! The end of a space: its words, once nobody shares them any more.
 
-ghost use Rattle.std.specs.Prelude.{◌≡◌, ◌<◌, ◌^◌, ◌%◌, ℕ, length, slice_index, IfOk, IfErr};
+ghost use Rattle.std.specs.Prelude.{◌≡◌, ◌<◌, ◌≤◌, ◌^◌, ◌%◌, ℕ, [], length, slice_index, vec_capacity, IfOk, IfErr};
 ghost use Rattle.std.specs.Slots.{IsFull, slots_items, slots_len};
 ghost use Rattle.ib_map.specs.declared.TheConstants.{PAGE_WORDS};
 ghost use Rattle.ib_layout.specs.Places.{page_place, words_of};
-ghost use Rattle.ib_rule.specs.Closed.{IsClosed, log_in};
+ghost use Rattle.ib_rule.specs.Closed.{IsClosed, IsSized, log_in};
 
 use crate::space::Space;
 use atomic_table::Closed as ClosedTable;
@@ -16,25 +16,46 @@ use std::alloc::Global;
 use std::marker::Model;
 
 /// The words of a space that nobody shares any more. Contracts see its sizes, how many sessions
-/// were drawn, and the words.
-#[derive(Drop)]
+/// were drawn, and the words. They stay where the sessions shared them; the used words of the log stand
+/// beside them as a list.
 pub struct Closed {
     geometry: Geometry,
-    words: Vec<u64>,
+    table: ClosedTable<(), Global>,
+    log: Vec<u64>,
     sessions: u32,
 }
 
 impl Model for Closed {
-    ghost use Rattle.ib_rule.specs.Closed.{ClosedState, IsSized};
+    ghost use Rattle.std.specs.Prelude.{◌≡◌};
+    ghost use Rattle.std.specs.Slots.{IsFull, slots_items, slots_len};
+    ghost use Rattle.ib_rule.specs.Closed.{ClosedState, IsSized, log_in};
 
     ghost Value = { ClosedState };
 
-    ghost view = { λ c. record { sizes = c.geometry; drawn = c.sessions; words = c.words.items } };
+    ghost view = { λ c. record { sizes = c.geometry; drawn = c.sessions; words = slots_items c.table.words } };
 
-    ghost invariant = { λ c. IsSized c.geometry c.words.items };
+    ghost invariant = { λ c. record {
+      sized : IsSized c.geometry (slots_items c.table.words);
+      full : IsFull c.table.words;
+      bare : slots_len c.table.slots ≡ 0;
+      log : c.log.items ≡ log_in c.geometry (slots_items c.table.words);
+    } };
 }
 
-/// There was no memory to copy the words. The space comes back as it was.
+impl Drop for Closed {
+    fn drop(self) {
+        let Closed {
+            geometry: _,
+            table,
+            log,
+            sessions: _,
+        } = self;
+        drop(log);
+        table.free();
+    }
+}
+
+/// There was no memory for the words of the log. The space comes back as it was.
 pub struct CloseRefused<L: Law> {
     pub space: Space<L>,
 }
@@ -49,10 +70,8 @@ impl<L: Law> Space<L> {
             × IsClosed L.lawful L.opening self.sizes c.words self.ended) }
         ensures err { IfErr result (λ e. e.space ≡ self) }
     {
-        // The words of the log are fewer than 2^32.
-        let _ = self.geometry.log_words();
-        let count = self.geometry.words();
-        let Ok(mut words) = vec![in alloc; 0; count] else {
+        // Room for the whole log, of which the used words alone are touched.
+        let Ok(mut log) = Vec::with_capacity(alloc, self.geometry.log_words() as usize) else {
             return Err(CloseRefused { space: self });
         };
         let Space {
@@ -64,11 +83,11 @@ impl<L: Law> Space<L> {
         } = self;
         let Some(rest) = rest else { unreachable!() };
         let closed = table.close_with(rest.into_seat());
-        copy_out(&closed, words.as_mut_slice());
-        closed.free();
+        copy_log(&closed, geometry, &mut log);
         Ok(Closed {
             geometry,
-            words,
+            table: closed,
+            log,
             sessions: drawn,
         })
     }
@@ -89,14 +108,19 @@ impl<L: Law> Space<L> {
     }
 }
 
-// The words of a closed table.
-fn copy_out(closed: &ClosedTable<(), Global>, words: &mut [u64])
+// Copies the used words of the log behind a list that has none and has room for them.
+fn copy_log(closed: &ClosedTable<(), Global>, geometry: Geometry, log: &mut Vec<u64>)
     requires full { IsFull closed.now.words }
-    requires size { length words.old ≡ slots_len closed.now.words }
-    ensures { words.new ≡ slots_items closed.now.words }
+    requires sized { IsSized geometry (slots_items closed.now.words) }
+    requires none { log.old.items ≡ [] }
+    requires room { geometry.log_words ≤ vec_capacity log.old }
+    ensures { log.new.items ≡ log_in geometry (slots_items closed.now.words) }
 {
-    for i in 0..words.len() {
-        words[i] = closed.word(i);
+    let used = (closed.word(END_PLACE) % (1 << 32)) as usize;
+    let first = geometry.log_place(0);
+    for i in 0..used {
+        // There is room, so the push takes no memory, and does not fail.
+        let _ = log.push(closed.word(first + i));
     }
 }
 
@@ -112,10 +136,7 @@ impl Closed {
     pub fn log(&self) -> &[u64]
         ensures { result.now ≡ log_in self.now.sizes self.now.words }
     {
-        let _ = self.geometry.log_words();
-        let used = (self.words[END_PLACE] % (1 << 32)) as usize;
-        let first = self.geometry.log_place(0);
-        &self.words[first..first + used]
+        self.log.as_slice()
     }
 
     /// The words of a page.
@@ -126,7 +147,7 @@ impl Closed {
     {
         let mut image = Image::free(0);
         for i in 0..PAGE_WORDS {
-            image.set_word(i, self.words[self.geometry.page_place(page, i as u32)]);
+            image.set_word(i, self.table.word(self.geometry.page_place(page, i as u32)));
         }
         image
     }

@@ -1,7 +1,6 @@
-use Rattle.std.proofs.Common.{◌≡◌, ℕ, ◌<◌, ◌^◌, List, ◌++◌, take, drop, length, sym, ap, ◌∙◌, subst, arith}
-use Rattle.std.proofs.Math.Seq.{take-append_seam}
+use Rattle.std.proofs.Common.{◌≡◌, ◌<◌, ◌^◌, List, sym, ap, ◌∙◌, subst, arith}
 use Rattle.std.proofs.lemmas.Bool.Decides.{nat_tests}
-use Rattle.std.specs.Slots.{slots_counts}
+use Rattle.std.specs.Slots.{slots_items}
 use mathlib.Core.Option.{some}
 use Rattle.atomic_table.specs.declared.shared.Seat.{Seat}
 use Rattle.atomic_table.specs.Table.{Me}
@@ -25,15 +24,9 @@ returns-clause-ok g c =
     let me_is : c.into_seat.result.me.0 ≡ space_at c.self.inside.drawn c.args.self.ended c.in-Some.rest.seat.me.0.grants =
     ap (λ (s : Seat (Unit {0}) View). s.me.0) c.into_seat.ensures ∙ (ap (λ (m : Me (Unit {0}) View). m.0) rests.1 ∙ ap (λ (es : List Ended). space_at c.self.inside.drawn es c.in-Some.rest.seat.me.0.grants) own) in
     let fin = c.close_with-closed.ensures.values.2 in
-    let n = slots_counts c.close_with-closed.result.words in
-    let out : take c.in-Ok.words.len (c.copy_out.new.words ++ drop (length c.copy_out.new.words) c.in-Ok.words.items) ≡ fin.0.words =
-    ap (λ (k : ℕ). take k (c.copy_out.new.words ++ drop (length c.copy_out.new.words) c.in-Ok.words.items))
-    (let a = c.close_with-closed.ensures.counts.0 in let b = c.self.invariant.words in let d = c.words-count.ensures.words in let e = c.in-Ok.ensures.len in let f = ap length c.copy_out.ensures in
-    let z : c.in-Ok.words.len ≡ length c.copy_out.new.words = omega (arith, n.0) in z)
-    ∙ (take-append_seam c.copy_out.new.words (drop (length c.copy_out.new.words) c.in-Ok.words.items) ∙ (c.copy_out.ensures ∙ sym fin.2)) in
     let small : key.log_words < 2 ^ 32 = let r = c.log_words.ensures.in_range in let w = c.log_words.ensures.words in let k = ap (λ (s : Sizes). s.log_words) c.self.invariant.key in grind (arith, nat_tests) in (
       sizes,
       drawn,
-      subst (λ k. IsClosed g.L.Law.lawful g.L.Law.opening k (take c.in-Ok.words.len (c.copy_out.new.words ++ drop (length c.copy_out.new.words) c.in-Ok.words.items)) c.args.self.ended) (c.self.invariant.key ∙ sizes)
-          (closes g.L.Law.lawful g.L.Law.opening key fin.0 fin.1.0 c.into_seat.result.id c.self.inside.drawn c.args.self.ended c.in-Some.rest.seat.me.0.grants (fin.1.1 ∙ ap some me_is) (c.requires.none ∙ sym drawn) _ out small),
+      subst (λ k. IsClosed g.L.Law.lawful g.L.Law.opening k (slots_items c.close_with-closed.result.words) c.args.self.ended) (c.self.invariant.key ∙ sizes)
+          (closes g.L.Law.lawful g.L.Law.opening key fin.0 fin.1.0 c.into_seat.result.id c.self.inside.drawn c.args.self.ended c.in-Some.rest.seat.me.0.grants (fin.1.1 ∙ ap some me_is) (c.requires.none ∙ sym drawn) _ (sym fin.2) small),
     )
