@@ -1,30 +1,33 @@
 -- How far a descent has come: at the root, one level lower, and at its end.
-use Rattle.std.specs.Prelude.{◌==◌, ◌&&◌, not}
-use Rattle.std.proofs.Common.{◌≡◌, ◌≢◌, inl, inr, ℕ, suc, ◌+◌, ◌<◌, ◌≤◌, Bool, true, false, List, [], ◌∷◌, ◌++◌, Some, length, refl, sym, ap, subst, ◌∙◌, arith, append_assoc, append-nil, length-append, eq-eqb, ne_eqb}
+use Rattle.std.specs.Prelude.{◌==◌, ◌&&◌, not, IfSome, slice_get}
+use Rattle.std.proofs.Common.{◌≡◌, ◌≢◌, inl, inr, ℕ, suc, ◌+◌, ◌-◌, ◌<◌, ◌≤◌, Bool, true, false, List, [], ◌∷◌, ◌++◌, Option, Some, length, refl, sym, ap, subst, ◌∙◌, arith, append_assoc, append-nil, length-append, eq-eqb, ne_eqb}
 use Rattle.std.proofs.lemmas.Bool.{cases_eq}
 use Rattle.ib_map.specs.Keys.{MapKey, rank, end_rank}
+use Rattle.ib_map.proofs.HistoryLaws.{slice_get-last}
 use Rattle.ib_heap.specs.declared.TheConstants.{MOST_LEVEL}
 use Rattle.ib_levels.specs.declared.level.Mode.TheVariants.{S, X}
 use Rattle.ib_page.specs.Work.{with_read}
 use Rattle.ib_layout.specs.Geometry.{Sizes}
 use Rattle.ib_core.specs.Sessions.{holdings}
 use Rattle.ib_logrec.specs.declared.entry.Entry.{Entry}
+use Rattle.ib_logrec.specs.Log.{memory_after}
 use Rattle.ib_rule.specs.declared.looks.Grants.{Grants}
 use Rattle.ib_rule.specs.Pass.{PassState}
-use Rattle.ib_rule.specs.Views.{is_watched, with_grant}
+use Rattle.ib_rule.specs.Views.{with_grant}
 use Rattle.ib_walk.specs.Trees.{height_of}
+use Rattle.ib_walk.proofs.ChoiceLaws.{Some-same}
 use Rattle.ib_tree.specs.Logs.{pages_after}
 use Rattle.ib_mtr.specs.Mtr.{IsReleasedAt}
 use Rattle.ib_cursor.specs.Way.{IsOnWay}
 use Rattle.ib_cursor.specs.Grants.{index_grant, page_grant, HasGrants, HasTaken}
 use Rattle.ib_cursor.specs.Going.{WentOn, HasSeen}
 use Rattle.ib_cursor.specs.Modes.{mode_by}
-use Rattle.ib_cursor.specs.Descent.{IsAt, IsDown, WasRaised, one_if, HasPage, HasDescended}
+use Rattle.ib_cursor.specs.Descent.{IsAt, IsDown, WasRaised, one_if, HasPage, HasCome, HasDescended}
 use Rattle.ib_cursor.proofs.WayLaws.{leaf_on-way}
-use Rattle.ib_cursor.proofs.StandLaws.{went_beside, went_both, beside_taken, looked_first, looked_then}
+use Rattle.ib_cursor.proofs.StandLaws.{went_beside, went_both, known_beside, beside_taken, looked_first, looked_then}
 use Rattle.ib_cursor.proofs.GrantLaws.{HasGiven, last_held, given, grants_left}
 use Rattle.ib_cursor.specs.Laws.{Laws}
-use Rattle.ib_cursor.proofs.LogLaws.{way_stays}
+use Rattle.ib_cursor.proofs.LogLaws.{IsWayImage, way_image, way_stays}
 
 -- a grant of S, or of X where the flag is set
 grant-s : (b : Bool) (g : Grants) → (with_grant (Some (mode_by b)) g).s ≡ g.s + one_if (not b)
@@ -179,9 +182,9 @@ down_again sizes lawful opening root key first level p q r s t leaf low taken se
       few = omega arith;
     }
 
--- the index is given up, and the leaf loaded
-module _ (sizes : Sizes) (roots : ℕ) (lawful : List Entry → Type 0) (opening : ℕ → ℕ) (laws : Laws sizes.pages roots lawful opening) (root : ℕ) (some : 0 < root) (le : root ≤ roots) (key : MapKey) (lt : rank key < end_rank)
-    (exclusive : Bool) (above leaf : ℕ) (p q r : PassState) (down : IsDown sizes lawful opening root key (index_grant ∷ []) exclusive above leaf 0 p q) (release : IsReleasedAt 0 q r) where
+-- the index is given up
+module _ (sizes : Sizes) (lawful : List Entry → Type 0) (opening : ℕ → ℕ) (root : ℕ) (key : MapKey) (exclusive : Bool) (above leaf : ℕ) (p q r : PassState)
+    (down : IsDown sizes lawful opening root key (index_grant ∷ []) exclusive above leaf 0 p q) (release : IsReleasedAt 0 q r) where
   mode-is : down.mode ≡ mode_by exclusive
   mode-is = by_flag exclusive refl
     where
@@ -192,55 +195,89 @@ module _ (sizes : Sizes) (roots : ℕ) (lawful : List Entry → Type 0) (opening
   gave : HasGiven index_grant q r
   gave = given [] index_grant (page_grant leaf down.mode ∷ []) q r down.here.grants tt ((λ e. absurd (omega arith)), tt) release
 
-  alone : HasGrants (page_grant leaf down.mode ∷ []) r
-  alone = grants_left [] index_grant (page_grant leaf down.mode ∷ []) q r down.here.grants tt ((λ e. absurd (omega arith)), tt) release
+  left : HasGrants (page_grant leaf down.mode ∷ []) r
+  left = grants_left [] index_grant (page_grant leaf down.mode ∷ []) q r down.here.grants tt ((λ e. absurd (omega arith)), tt) release
 
-  pub leaf_held : 0 < holdings (leaf + 2) r.view.session
-  leaf_held = last_held [] (page_grant leaf down.mode) r alone
+  pub come_work : r.work ≡ []
+  come_work = gave.work down.here.work
 
-  pub leaf_work : r.work ≡ []
-  leaf_work = gave.work down.here.work
-
-  watched : is_watched (leaf + 2) r.view.memory.since ≡ true
-  watched = gave.watched (leaf + 2) (λ e. absurd (omega arith)) ∙ down.here.watched
-
-  pub descended : (s : PassState) (front path : List ℕ) → above ≡ length front → path ≡ front ++ leaf ∷ [] → HasSeen sizes lawful r s → s.memo ≡ r.memo → s.view.session ≡ r.view.session → s.view.grants ≡ r.view.grants
-      → HasPage opening leaf r s → HasDescended sizes lawful opening root key exclusive path p s
-  descended s front path many is seen memo session grants loaded =
-      let legal = subst lawful seen.went.seen seen.known.legal in
+  pub come : (front path : List ℕ) → above ≡ length front → path ≡ front ++ leaf ∷ [] → HasCome sizes lawful opening root key exclusive path p r
+  come front path many is =
       let way = subst (λ l. IsOnWay (pages_after opening l) root key leaf 0) (sym gave.beside.seen) down.here.way in
-      let on = way_stays sizes.pages roots lawful opening laws root some le key lt r.view.memory.seen seen.went.more leaf 0 legal (seen.steady leaf watched) way in
-      let end = subst (λ l. IsOnWay (pages_after opening l) root key leaf 0) (sym seen.went.seen) on in
-      let held : HasGrants (page_grant leaf down.mode ∷ []) s = record { memo = memo ∙ alone.memo; session = session ∙ alone.session } in
-      let same : s.view.grants ≡ q.view.grants = grants ∙ gave.grants in
-      let gs : s.view.grants.s ≡ q.view.grants.s = ap (λ (g : Grants). g.s) same in
-      let gsx : s.view.grants.sx ≡ q.view.grants.sx = ap (λ (g : Grants). g.sx) same in
-      let gx : s.view.grants.x ≡ q.view.grants.x = ap (λ (g : Grants). g.x) same in
+      let gs : r.view.grants.s ≡ q.view.grants.s = ap (λ (g : Grants). g.s) gave.grants in
+      let gsx : r.view.grants.sx ≡ q.view.grants.sx = ap (λ (g : Grants). g.sx) gave.grants in
+      let gx : r.view.grants.x ≡ q.view.grants.x = ap (λ (g : Grants). g.x) gave.grants in
       let long : length path ≡ length front + 1 = ap length is ∙ length-append front (leaf ∷ []) in
-      let to_r = went_both p q r down.went (went_beside q r gave.beside) in
       record {
         leaf = leaf;
         front = front;
         ends = is;
-        is_leaf = leaf_on-way (pages_after opening s.view.memory.seen) root key leaf end;
-        grants = subst (λ m. HasGrants (page_grant leaf m ∷ []) s) mode-is held;
-        watched = seen.watched (leaf + 2) (last_held [] (page_grant leaf down.mode) s held);
-        image = loaded.image;
-        size = loaded.size;
-        is_page = loaded.is_page;
-        work = loaded.work ∙ ap (with_read leaf loaded.image) leaf_work;
-        went = went_both p r s to_r seen.went;
-        looked = looked_then p r s to_r seen.went seen.looked;
-        known = seen.known;
+        is_leaf = leaf_on-way (pages_after opening r.view.memory.seen) root key leaf way;
+        grants = subst (λ m. HasGrants (page_grant leaf m ∷ []) r) mode-is left;
+        watched = gave.watched (leaf + 2) (λ e. absurd (omega arith)) ∙ down.here.watched;
+        went = went_both p q r down.went (went_beside q r gave.beside);
+        looked = looked_first p q r down.went (went_beside q r gave.beside) down.looked;
+        known = known_beside sizes lawful q r gave.beside down.here.known;
         sx = gsx ∙ down.sx;
         finds = λ e. let f = down.finds e in let f0 = f.0 in let f1 = f.1 in (omega arith, omega arith);
         s = let t = down.s in let h = down.short in omega arith;
         x = λ e. elim (down.x e) [
           | inl y ↦ inl (let y1 : q.view.grants.x ≡ p.view.grants.x + 1 = y in omega arith)
-          | inr y ↦ inr (
-            let y1 : q.view.grants.x ≡ p.view.grants.x + 1 + 1 = y.0 in omega arith,
-            raised_more opening root p.view.memory.seen r.view.memory.seen seen.went.more s.view.memory.seen seen.went.seen
-                (subst (WasRaised opening root p.view.memory.seen) (sym gave.beside.seen) y.1),
-          )
+          | inr y ↦ inr (let y1 : q.view.grants.x ≡ p.view.grants.x + 1 + 1 = y.0 in omega arith, subst (WasRaised opening root p.view.memory.seen) (sym gave.beside.seen) y.1)
         ];
       }
+
+-- what is known of the leaf, and what its load or a search in it leaves
+module _ (sizes : Sizes) (roots : ℕ) (lawful : List Entry → Type 0) (opening : ℕ → ℕ) (laws : Laws sizes.pages roots lawful opening) (root : ℕ) (some : 0 < root) (le : root ≤ roots) (key : MapKey) (lt : rank key < end_rank)
+    (exclusive : Bool) (path : List ℕ) (p q : PassState) (come : HasCome sizes lawful opening root key exclusive path p q) where
+  pub leaf_held : 0 < holdings (come.leaf + 2) q.view.session
+  leaf_held = last_held [] (page_grant come.leaf (mode_by exclusive)) q come.grants
+
+  pub leaf_way : IsOnWay (pages_after opening q.view.memory.seen) root key come.leaf 0
+  leaf_way = record { depth = height_of (pages_after opening q.view.memory.seen) root; height = omega arith; below = sym come.is_leaf }
+
+  pub leaf_image : IsWayImage sizes.pages (memory_after opening q.view.memory.seen) key come.leaf 0
+  leaf_image = way_image sizes.pages roots lawful opening laws root some le key lt q.view.memory.seen come.leaf 0 come.known.legal leaf_way
+
+  pub descended : (s : PassState) → q.work ≡ [] → HasSeen sizes lawful q s → s.memo ≡ q.memo → s.view.session ≡ q.view.session → s.view.grants ≡ q.view.grants → HasPage opening come.leaf q s
+      → HasDescended sizes lawful opening root key exclusive path p s
+  descended s none seen memo session grants loaded =
+      let legal = subst lawful seen.went.seen seen.known.legal in
+      let on = way_stays sizes.pages roots lawful opening laws root some le key lt q.view.memory.seen seen.went.more come.leaf 0 legal (seen.steady come.leaf come.watched) leaf_way in
+      let end = subst (λ l. IsOnWay (pages_after opening l) root key come.leaf 0) (sym seen.went.seen) on in
+      let held : HasGrants (page_grant come.leaf (mode_by exclusive) ∷ []) s = record { memo = memo ∙ come.grants.memo; session = session ∙ come.grants.session } in
+      let gs : s.view.grants.s ≡ q.view.grants.s = ap (λ (g : Grants). g.s) grants in
+      let gsx : s.view.grants.sx ≡ q.view.grants.sx = ap (λ (g : Grants). g.sx) grants in
+      let gx : s.view.grants.x ≡ q.view.grants.x = ap (λ (g : Grants). g.x) grants in
+      record {
+        come = record {
+          leaf = come.leaf;
+          front = come.front;
+          ends = come.ends;
+          is_leaf = leaf_on-way (pages_after opening s.view.memory.seen) root key come.leaf end;
+          grants = held;
+          watched = seen.watched (come.leaf + 2) (last_held [] (page_grant come.leaf (mode_by exclusive)) s held);
+          went = went_both p q s come.went seen.went;
+          looked = looked_first p q s come.went seen.went come.looked;
+          known = seen.known;
+          sx = gsx ∙ come.sx;
+          finds = λ e. let f = come.finds e in let f0 = f.0 in let f1 = f.1 in (omega arith, omega arith);
+          s = let t = come.s in omega arith;
+          x = λ e. elim (come.x e) [
+            | inl y ↦ inl (let y1 : q.view.grants.x ≡ p.view.grants.x + 1 = y in omega arith)
+            | inr y ↦ inr (let y1 : q.view.grants.x ≡ p.view.grants.x + 2 = y.0 in omega arith, raised_more opening root p.view.memory.seen q.view.memory.seen seen.went.more s.view.memory.seen seen.went.seen y.1)
+          ];
+        };
+        image = loaded.image;
+        size = loaded.size;
+        is_page = loaded.is_page;
+        work = loaded.work ∙ ap (with_read come.leaf loaded.image) none;
+      }
+
+-- the last page of a path
+pub last_of_path : (o : Option ℕ) (r : ℕ) (path front : List ℕ) (leaf : ℕ) → path ≡ front ++ leaf ∷ [] → IfSome o (λ page. slice_get path (length path - 1) ≡ Some page) → o ≡ Some r → r ≡ leaf
+last_of_path o r path front leaf is last got =
+    let at : slice_get path (length path - 1) ≡ Some r = subst (λ (x : Option ℕ). IfSome x (λ page. slice_get path (length path - 1) ≡ Some page)) got last in
+    let end : length path - 1 ≡ length front = (let a = ap length is in let b = length-append front (leaf ∷ []) in omega arith) in
+    let there : slice_get path (length path - 1) ≡ Some leaf = ap (slice_get path) end ∙ (ap (λ (xs : List ℕ). slice_get xs (length front)) is ∙ slice_get-last front leaf) in
+    Some-same r leaf (sym at ∙ there)

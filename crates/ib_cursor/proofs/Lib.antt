@@ -5,6 +5,7 @@ pub mod GrantLaws
 pub mod LogLaws
 pub mod StepLaws
 pub mod DownLaws
+pub mod FindLaws
 pub mod HinderLaws
 pub mod NextLaws
 pub mod LoneLaws

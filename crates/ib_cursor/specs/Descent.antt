@@ -1,6 +1,7 @@
 -- What a descent keeps, and where it ends.
-use Rattle.std.specs.Prelude.{◌≡◌, ◌⊎◌, ℕ, ◌+◌, ◌<◌, ◌≤◌, Bool, true, false, ◌==◌, if◌then◌else◌, List, [], ◌∷◌, ◌++◌, length}
+use Rattle.std.specs.Prelude.{◌≡◌, ◌⊎◌, ℕ, ◌+◌, ◌<◌, ◌≤◌, Bool, true, false, ◌==◌, if◌then◌else◌, List, [], ◌∷◌, ◌++◌, length, Option}
 use Rattle.ib_map.specs.Keys.{MapKey}
+use Rattle.ib_map.specs.Pairs.{value_at}
 use Rattle.ib_map.specs.declared.TheConstants.{PAGE_WORDS}
 use Rattle.ib_levels.specs.declared.level.Mode.{Mode}
 use Rattle.ib_levels.specs.declared.level.Mode.TheVariants.{S, X}
@@ -70,18 +71,14 @@ pub record HasPage (opening : ℕ → ℕ) (page : ℕ) (p q : PassState) : Type
   pub is_page : IsPageAfter opening q.view.memory.seen page image
   pub work : q.work ≡ with_read page image p.work
 
--- the descent is over: the last page of the path is the key's leaf in the tree after all seen. It alone is held, in S or X, with a look at the log's end since, and it alone is loaded
-pub record HasDescended (sizes : Sizes) (lawful : List Entry → Type 0) (opening : ℕ → ℕ) (root : ℕ) (key : MapKey) (exclusive : Bool) (path : List ℕ) (p q : PassState) : Type 0 where
+-- a descent has come to the key's leaf: it is the last page of the path, in the tree after all seen. It alone is held, in S or X, with a look at the log's end since
+pub record HasCome (sizes : Sizes) (lawful : List Entry → Type 0) (opening : ℕ → ℕ) (root : ℕ) (key : MapKey) (exclusive : Bool) (path : List ℕ) (p q : PassState) : Type 0 where
   pub leaf : ℕ
   pub front : List ℕ
   pub ends : path ≡ front ++ leaf ∷ []
   pub is_leaf : leaf ≡ leaf_for (pages_after opening q.view.memory.seen) key root
   pub grants : HasGrants (page_grant leaf (mode_by exclusive) ∷ []) q
   pub watched : is_watched (leaf + 2) q.view.memory.since ≡ true
-  pub image : List ℕ
-  pub size : length image ≡ PAGE_WORDS
-  pub is_page : IsPageAfter opening q.view.memory.seen leaf image
-  pub work : q.work ≡ record { page = leaf; before = image; changed = image } ∷ []
   pub went : WentOn p q
   pub looked : 0 < length went.added
   pub known : IsKnown sizes lawful q
@@ -89,3 +86,18 @@ pub record HasDescended (sizes : Sizes) (lawful : List Entry → Type 0) (openin
   pub finds : exclusive ≡ false → (q.view.grants.s ≡ p.view.grants.s + 1 + length path) × (q.view.grants.x ≡ p.view.grants.x)
   pub s : q.view.grants.s ≤ p.view.grants.s + 9
   pub x : exclusive ≡ true → (q.view.grants.x ≡ p.view.grants.x + 1) ⊎ ((q.view.grants.x ≡ p.view.grants.x + 2) × WasRaised opening root p.view.memory.seen q.view.memory.seen)
+
+-- the descent is over: it has come to the leaf, and the leaf alone is loaded
+pub record HasDescended (sizes : Sizes) (lawful : List Entry → Type 0) (opening : ℕ → ℕ) (root : ℕ) (key : MapKey) (exclusive : Bool) (path : List ℕ) (p q : PassState) : Type 0 where
+  pub come : HasCome sizes lawful opening root key exclusive path p q
+  pub image : List ℕ
+  pub size : length image ≡ PAGE_WORDS
+  pub is_page : IsPageAfter opening q.view.memory.seen come.leaf image
+  pub work : q.work ≡ record { page = come.leaf; before = image; changed = image } ∷ []
+
+-- the key was looked up on its leaf, where it lies: the leaf alone is held, in S, and no page is loaded
+pub record HasFound (sizes : Sizes) (lawful : List Entry → Type 0) (opening : ℕ → ℕ) (root : ℕ) (key : MapKey) (value : Option ℕ) (p q : PassState) : Type 0 where
+  pub path : List ℕ
+  pub come : HasCome sizes lawful opening root key false path p q
+  pub work : q.work ≡ []
+  pub is_value : value ≡ value_at key (pages_after opening q.view.memory.seen come.leaf).records

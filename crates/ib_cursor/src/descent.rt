@@ -10,7 +10,7 @@ ghost use Rattle.ib_rule.specs.Views.{total, with_grant};
 ghost use Rattle.ib_walk.specs.Trees.{height_of};
 ghost use Rattle.ib_tree.specs.Logs.{pages_after};
 ghost use Rattle.ib_mtr.specs.Mtr.{IsMtr};
-ghost use Rattle.ib_cursor.specs.Descent.{HasDescended, IsAt, IsDown, IsStanding};
+ghost use Rattle.ib_cursor.specs.Descent.{HasCome, HasDescended, IsAt, IsDown, IsStanding};
 ghost use Rattle.ib_cursor.specs.Going.{HasSeen, WentOn};
 ghost use Rattle.ib_cursor.specs.Grants.{HasGrants, index_grant};
 ghost use Rattle.ib_cursor.specs.Modes.{is_exclusive};
@@ -135,6 +135,42 @@ fn come_in<L: Trees, R: Wait>(
     }
 }
 
+// Descends from a root to the leaf of a key, which is held at the end, and not loaded: it is the last page
+// of the path.
+pub(crate) fn come_to_leaf<L: Trees, R: Wait>(
+    rt: &R,
+    mtr: &mut Mtr<'_, L, Parkers>,
+    sought: Sought,
+    search: Search,
+) -> Path
+    requires mtr { IsMtr mtr.old.latches.now mtr.old.pass.now }
+    requires memo { mtr.old.pass.now.memo ≡ [] }
+    requires none { mtr.old.pass.now.work ≡ [] }
+    requires room { total mtr.old.pass.now.view.grants + 64 ≤ 2 ^ 52 }
+    requires some { 0 < sought.root }
+    requires root { sought.root ≤ L.ROOTS }
+    requires key { rank sought.key < end_rank }
+    ensures mtr { IsMtr mtr.new.latches.now mtr.new.pass.now }
+    ensures latches { mtr.new.latches ≡ mtr.old.latches }
+    ensures pass { mtr.new.pass.ghost_name ≡ mtr.old.pass.ghost_name }
+    ensures come { HasCome mtr.old.latches.now.sizes (L.lawful mtr.old.latches.now.sizes.pages)
+        (by_place L.opening mtr.old.latches.now.sizes.pages) sought.root sought.key
+        (is_exclusive search) result mtr.old.pass.now mtr.new.pass.now }
+    ensures none { mtr.new.pass.now.work ≡ [] }
+{
+    let mut path = Path::new();
+    let mut page = sought.root;
+    let mut level = come_in(rt, mtr, sought, search);
+    while level > 0 {
+        path.push(page);
+        level -= 1;
+        page = step_down(rt, mtr, sought, page, level + 1, search.mode_at(level));
+    }
+    mtr.release_at(0);
+    path.push(page);
+    path
+}
+
 /// Descends from a root to the leaf of a key (`btr_cur_search_to_nth_level`; the order of latches is
 /// WL#6326's): S on the index, S on the upper pages, and on the leaf S to read it, X to change it. A
 /// page's child is found where the page lies, taken, and looked at, and only then the page is given
@@ -163,18 +199,9 @@ pub fn descend_at<L: Trees, R: Wait>(
 {
     L::trees_law();
     let _ = mtr.geometry().pages();
-    let sought = Sought { root, key };
-    let mut path = Path::new();
-    let mut page = root;
-    let mut level = come_in(rt, mtr, sought, mode);
-    while level > 0 {
-        path.push(page);
-        level -= 1;
-        page = step_down(rt, mtr, sought, page, level + 1, mode.mode_at(level));
-    }
-    mtr.release_at(0);
-    read(mtr, page);
-    path.push(page);
+    let path = come_to_leaf(rt, mtr, Sought { root, key }, mode);
+    let leaf = path.last().unwrap();
+    read(mtr, leaf);
     path
 }
 

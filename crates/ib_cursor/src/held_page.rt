@@ -3,6 +3,7 @@
 ghost use Rattle.std.specs.Prelude.{◌≡◌, ◌<◌, ◌-◌, ◌≤◌, ◌^◌, refl, slice_get, IsSomeAnd};
 ghost use Rattle.std.proofs.Common.{◌∙◌};
 ghost use Rattle.ib_map.specs.Keys.{rank};
+ghost use Rattle.ib_map.specs.Pairs.{value_at};
 ghost use Rattle.ib_logrec.specs.Log.{by_place, memory_after};
 ghost use Rattle.ib_page.specs.Image.{IsTreePage, level_of, records_of};
 ghost use Rattle.ib_heap.specs.declared.TheConstants.{MOST_LEVEL};
@@ -15,7 +16,7 @@ use ib_latch::Sleep;
 use ib_logrec::Law;
 use ib_map::Key;
 use ib_mtr::Mtr;
-use ib_page::{PageWords, child_in, level_in};
+use ib_page::{PageWords, child_in, get_in, level_in};
 
 // A page of which the mini-transaction holds the latch, with a look at the log's end since. It is not
 // loaded: its words are read one by one, where they lie.
@@ -85,6 +86,24 @@ impl<'m, 'a, L: Law, S: Sleep> HeldPage<'m, 'a, L, S> {
     {
         child_in(self, key) as u32
     }
+
+    // The value of the key on the page, which is a leaf.
+    fn value(&mut self, key: Key) -> Option<u64>
+        requires can { CanRead self.old.mtr.now.latches.now self.old.page self.old.mtr.now.pass.now }
+        requires tree { IsTreePage (image_of (memory_after (by_place L.opening
+            self.old.mtr.now.latches.now.sizes.pages)
+            self.old.mtr.now.pass.now.view.memory.seen) self.old.page) }
+        ensures value { result ≡ value_at key (records_of (image_of (memory_after (by_place L.opening
+            self.old.mtr.now.latches.now.sizes.pages)
+            self.old.mtr.now.pass.now.view.memory.seen) self.old.page)) }
+        ensures same { self.new.mtr.ghost_name ≡ self.old.mtr.ghost_name }
+        ensures latches { self.new.mtr.now.latches ≡ self.old.mtr.now.latches }
+        ensures pass { self.new.mtr.now.pass.ghost_name ≡ self.old.mtr.now.pass.ghost_name }
+        ensures mtr { IsMtr self.new.mtr.now.latches.now self.new.mtr.now.pass.now }
+        ensures read { HasRead self.old.mtr.now.pass.now self.new.mtr.now.pass.now }
+    {
+        get_in(self, key)
+    }
 }
 
 // The level of a page that is held, and is one of the tree, by one word of it.
@@ -123,4 +142,25 @@ pub(crate) fn child_of<L: Law, S: Sleep>(mtr: &mut Mtr<'_, L, S>, page: u32, key
 {
     let mut held = HeldPage { mtr, page };
     held.child(key)
+}
+
+// The value of the key on a leaf that is held, None where the key is not there: the leaf is not loaded, but
+// searched where it lies.
+pub(crate) fn value_of<L: Law, S: Sleep>(
+    mtr: &mut Mtr<'_, L, S>,
+    page: u32,
+    key: Key,
+) -> Option<u64>
+    requires can { CanRead mtr.old.latches.now page mtr.old.pass.now }
+    requires tree { IsTreePage (image_of (memory_after (by_place L.opening
+        mtr.old.latches.now.sizes.pages) mtr.old.pass.now.view.memory.seen) page) }
+    ensures value { result ≡ value_at key (records_of (image_of (memory_after (by_place L.opening
+        mtr.old.latches.now.sizes.pages) mtr.old.pass.now.view.memory.seen) page)) }
+    ensures mtr { IsMtr mtr.new.latches.now mtr.new.pass.now }
+    ensures latches { mtr.new.latches ≡ mtr.old.latches }
+    ensures pass { mtr.new.pass.ghost_name ≡ mtr.old.pass.ghost_name }
+    ensures read { HasRead mtr.old.pass.now mtr.new.pass.now }
+{
+    let mut held = HeldPage { mtr, page };
+    held.value(key)
 }

@@ -11,7 +11,7 @@ ghost use Rattle.ib_logrec.specs.Log.{by_place};
 ghost use Rattle.ib_rule.specs.Conditions.{MayGrow};
 ghost use Rattle.ib_rule.specs.Views.{total, with_grant};
 ghost use Rattle.ib_mtr.specs.Mtr.{IsMtr};
-ghost use Rattle.ib_cursor.specs.Descent.{HasDescended, IsAt, IsDown, IsStanding};
+ghost use Rattle.ib_cursor.specs.Descent.{HasCome, IsAt, IsDown, IsStanding};
 ghost use Rattle.ib_cursor.specs.Going.{HasSeen, HasStood, WentOn};
 ghost use Rattle.ib_cursor.specs.Grants.{HasGrants, HasTaken, index_grant, page_grant};
 ghost use Rattle.ib_cursor.specs.Hindrance.{IsInVain, IsStopped, IsHindered};
@@ -19,11 +19,10 @@ ghost use Rattle.ib_cursor.specs.Hindrance.{IsInVain, IsStopped, IsHindered};
 use crate::fault::NowaitFault;
 use crate::held_page::{child_of, level_of};
 use crate::search::Sought;
-use crate::stands::{look, read};
+use crate::stands::look;
 use ib_latch::Sleep;
 use ib_levels::{Latch, Level};
 use ib_logrec::Law;
-use ib_map::Key;
 use ib_mtr::Mtr;
 use ib_page::Path;
 use ib_tree::Trees;
@@ -160,34 +159,33 @@ fn try_down<L: Trees, S: Sleep>(
     }
 }
 
-/// Descends to the leaf of a key as a reader, without waiting: each latch is tried
-/// (`rw_lock_s_lock_nowait`). Where one is refused, the log's end is looked at, and then the latches are
-/// given up: memo and work set are empty again. `Busy` and `Raced` tell the latch that was not had, the
-/// index or a page of the key's way, and the words of the try.
-pub fn descend_nowait<L: Trees, S: Sleep>(
+// Descends from a root to the leaf of a key as a reader, by tries. The leaf is held at the end, and not
+// loaded: it is the last page of the path. Where a latch is refused, the log's end is looked at, and then
+// the latches are given up.
+pub(crate) fn come_to_leaf_nowait<L: Trees, S: Sleep>(
     mtr: &mut Mtr<'_, L, S>,
-    key: Key,
+    sought: Sought,
 ) -> Result<Path, NowaitFault>
     requires mtr { IsMtr mtr.old.latches.now mtr.old.pass.now }
     requires memo { mtr.old.pass.now.memo ≡ [] }
     requires none { mtr.old.pass.now.work ≡ [] }
     requires room { total mtr.old.pass.now.view.grants + 64 ≤ 2 ^ 52 }
-    requires root { 1 ≤ L.ROOTS }
+    requires some { 0 < sought.root }
+    requires root { sought.root ≤ L.ROOTS }
+    requires key { rank sought.key < end_rank }
     ensures mtr { IsMtr mtr.new.latches.now mtr.new.pass.now }
     ensures latches { mtr.new.latches ≡ mtr.old.latches }
     ensures pass { mtr.new.pass.ghost_name ≡ mtr.old.pass.ghost_name }
-    ensures descended { IfOk result (λ path. HasDescended mtr.old.latches.now.sizes
+    ensures come { IfOk result (λ path. HasCome mtr.old.latches.now.sizes
         (L.lawful mtr.old.latches.now.sizes.pages)
-        (by_place L.opening mtr.old.latches.now.sizes.pages) 1 key false path
+        (by_place L.opening mtr.old.latches.now.sizes.pages) sought.root sought.key false path
         mtr.old.pass.now mtr.new.pass.now) }
+    ensures none { OnOk result (mtr.new.pass.now.work ≡ []) }
     ensures hindered { IfErr result (λ fault. IsHindered mtr.old.latches.now.sizes
         (L.lawful mtr.old.latches.now.sizes.pages)
-        (by_place L.opening mtr.old.latches.now.sizes.pages) 1 key fault
+        (by_place L.opening mtr.old.latches.now.sizes.pages) sought.root sought.key fault
         mtr.old.pass.now mtr.new.pass.now) }
 {
-    L::trees_law();
-    let _ = mtr.geometry().pages();
-    let sought = Sought { root: 1, key };
     match try_latch(mtr, Latch::INDEX, Level::IndexTree) {
         Ok(()) => {}
         Err(fault) => return Err(fault),
@@ -199,7 +197,7 @@ pub fn descend_nowait<L: Trees, S: Sleep>(
             return Err(fault);
         }
     };
-    let mut page = 1;
+    let mut page = sought.root;
     let mut path = Path::new();
     while level > 0 {
         match try_down(mtr, sought, page, level) {
@@ -216,7 +214,6 @@ pub fn descend_nowait<L: Trees, S: Sleep>(
         }
     }
     mtr.release_at(0);
-    read(mtr, page);
     path.push(page);
     Ok(path)
 }

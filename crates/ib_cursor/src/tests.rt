@@ -47,6 +47,19 @@ fn a_reader_comes_to_the_root(rt: HostRuntime) {
 }
 
 #[test]
+fn a_key_is_looked_up_on_the_root(rt: HostRuntime) {
+    let mut table: Latches<TreeLaw> = smallest(&rt, rt.alloc());
+    let mut one = come(&rt, rt.alloc(), &mut table);
+    let mut mtr = Mtr::start(&table, &mut one);
+    assert_eq!(rt; find(&rt, &mut mtr, 5), None);
+    assert_eq!(rt; mtr.commit_read(), 0);
+    let grants = one.grants();
+    assert_eq!(rt; (grants.s, grants.sx, grants.x), (2, 0, 0));
+    table.disconnect(one);
+    table.discard();
+}
+
+#[test]
 fn who_changes_the_root_owns_it(rt: HostRuntime) {
     let mut table: Latches<TreeLaw> = smallest(&rt, rt.alloc());
     let mut one = come(&rt, rt.alloc(), &mut table);
@@ -93,8 +106,8 @@ fn nobody_is_in_the_way(rt: HostRuntime) {
     let mut table: Latches<TreeLaw, NoSleep> = smallest(&rt, rt.alloc());
     let mut one = come(&rt, rt.alloc(), &mut table);
     let mut mtr = Mtr::start(&table, &mut one);
-    match descend_nowait(&mut mtr, 5) {
-        Ok(path) => assert_eq!(rt; path.pages(), [1].as_slice()),
+    match find_nowait(&mut mtr, 5) {
+        Ok(value) => assert_eq!(rt; value, None),
         Err(_) => assert!(rt; false),
     }
     assert_eq!(rt; mtr.commit_read(), 0);

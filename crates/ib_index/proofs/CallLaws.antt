@@ -1,17 +1,14 @@
 -- A mini-transaction that ended, as the end of a call of the index.
 use Rattle.std.specs.List.{AllByRecursion}
-use Rattle.std.proofs.Common.{◌≡◌, ℕ, ◌-◌, ◌<◌, ◌≤◌, List, [], ◌∷◌, ◌++◌, length, Option, Some, refl, sym, ap, subst, ◌∙◌, arith, length-append, append_assoc}
-use Rattle.std.specs.Prelude.{IfSome, slice_get}
+use Rattle.std.proofs.Common.{◌≡◌, ℕ, ◌<◌, ◌≤◌, List, [], ◌∷◌, ◌++◌, length, refl, sym, ap, subst, ◌∙◌, arith, length-append, append_assoc}
 use Rattle.ib_map.specs.Map.{is_made}
 use Rattle.ib_map.specs.Replies.{full_record}
 use Rattle.ib_map.specs.Runs.{reach_after}
 use Rattle.ib_map.specs.declared.call.Call.{Call}
 use Rattle.ib_map.specs.declared.call.Reply.{Reply}
-use Rattle.ib_map.proofs.HistoryLaws.{slice_get-last}
 use Rattle.ib_layout.specs.Geometry.{Sizes}
 use Rattle.ib_logrec.specs.declared.entry.Entry.{Entry}
 use Rattle.ib_logrec.specs.Log.{used}
-use Rattle.ib_walk.proofs.ChoiceLaws.{Some-same}
 use Rattle.ib_tree.specs.Fits.{FitsLog}
 use Rattle.ib_rule.specs.declared.looks.Grants.{Grants}
 use Rattle.ib_rule.specs.declared.memory.Memory.{Memory}
@@ -116,11 +113,3 @@ module _ (sizes : Sizes) (lawful : List Entry → Type 0) (q r : PassState) (log
         room = subst (λ (es : List Entry). used es ≤ sizes.log_words) (sym seen) looked.room;
         mine = ap (λ n. entries_of n r.view.memory.seen) number ∙ (ap (entries_of q.number) seen ∙ (ap (λ (s : Role). entries_of (number_in s) log) (sym role) ∙ (looked.mine ∙ sym own)));
       }
-
--- the last page of a path
-pub last_is : (o : Option ℕ) (r : ℕ) (path front : List ℕ) (leaf : ℕ) → path ≡ front ++ leaf ∷ [] → IfSome o (λ page. slice_get path (length path - 1) ≡ Some page) → o ≡ Some r → r ≡ leaf
-last_is o r path front leaf is last got =
-    let at : slice_get path (length path - 1) ≡ Some r = subst (λ (x : Option ℕ). IfSome x (λ page. slice_get path (length path - 1) ≡ Some page)) got last in
-    let end : length path - 1 ≡ length front = (let a = ap length is in let b = length-append front (leaf ∷ []) in omega arith) in
-    let there : slice_get path (length path - 1) ≡ Some leaf = ap (slice_get path) end ∙ (ap (λ (xs : List ℕ). slice_get xs (length front)) is ∙ slice_get-last front leaf) in
-    Some-same r leaf (sym at ∙ there)

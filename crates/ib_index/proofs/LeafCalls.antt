@@ -53,16 +53,16 @@ use Rattle.ib_index.proofs.LeafStays.{leaf-stays, page-stays, value-stays}
 
 -- the way ends at the leaf
 pub come : (sizes : Sizes) (key : MapKey) (path : List ℕ) (leaf : ℕ) (p q : PassState) → (d : HasDescended sizes (IsKeptLog sizes.pages) (by_place opening sizes.pages) 1 key true path p q)
-    → leaf ≡ d.leaf → IsSeated sizes q → HasCome sizes key leaf p q
+    → leaf ≡ d.come.leaf → IsSeated sizes q → HasCome sizes key leaf p q
 come sizes key path leaf p q d is seated = subst (λ n. HasCome sizes key n p q) (sym is) (record {
-  went = d.went;
-  looked = d.looked;
-  at = record { is_leaf = d.is_leaf; grants = d.grants; watched = d.watched; image = d.image; size = d.size; is_page = d.is_page; work = d.work; known = d.known };
+  went = d.come.went;
+  looked = d.come.looked;
+  at = record { is_leaf = d.come.is_leaf; grants = d.come.grants; watched = d.come.watched; image = d.image; size = d.size; is_page = d.is_page; work = d.work; known = d.come.known };
   seated = seated;
   takes = record {
-    sx = d.sx;
-    s = d.s;
-    x = elim (d.x refl) [
+    sx = d.come.sx;
+    s = d.come.s;
+    x = elim (d.come.x refl) [
       | inl one ↦ inl (let e : q.view.grants.x ≡ p.view.grants.x + 1 = one in omega arith)
       | inr two ↦ inr (let e : q.view.grants.x ≡ p.view.grants.x + 2 = two.0 in omega arith, two.1)
     ];

@@ -1,4 +1,4 @@
--- What a lookup reads off the key's leaf is what the map of the log has.
+-- What a lookup finds on the key's leaf is what the map of the log has.
 use Rattle.std.specs.List.{AllByRecursion}
 use Rattle.std.proofs.Common.{◌≡◌, ℕ, ◌<◌, ◌≤◌, false, List, [], ◌∷◌, ◌++◌, length, Option, Some, None, refl, sym, ap, subst, ◌∙◌, arith, length-append}
 use Rattle.ib_map.specs.Keys.{MapKey, rank, end_rank}
@@ -10,7 +10,7 @@ use Rattle.ib_map.specs.Writes.{touches}
 use Rattle.ib_map.specs.declared.call.Call.TheVariants.{Get}
 use Rattle.ib_map.specs.declared.call.Record.{Record}
 use Rattle.ib_map.specs.declared.call.Reply.{Reply}
-use Rattle.ib_page.specs.Image.{IsTreePage, records_of}
+use Rattle.ib_page.specs.Image.{records_of}
 use Rattle.ib_layout.specs.Geometry.{Sizes}
 use Rattle.ib_logrec.specs.declared.entry.Entry.{Entry}
 use Rattle.ib_logrec.specs.Log.{memory_after, history_of, map_of}
@@ -21,21 +21,21 @@ use Rattle.ib_rule.specs.declared.looks.Grants.{Grants}
 use Rattle.ib_rule.specs.Pass.{PassState}
 use Rattle.ib_rule.specs.Roles.{number_in}
 use Rattle.ib_rule.proofs.Watching.{untouched}
-use Rattle.ib_walk.specs.Trees.{height_of, content_of}
+use Rattle.ib_walk.specs.Trees.{content_of}
 use Rattle.ib_walk.specs.Search.{leaf_for}
 use Rattle.ib_walk.specs.Words.{image_of}
-use Rattle.ib_walk.proofs.ImageLaws.{image_of-list}
 use Rattle.ib_walk.proofs.TreeLaws.{value_at-content_of}
 use Rattle.ib_tree.specs.Logs.{pages_after}
 use Rattle.ib_mtr.specs.Commits.{HasRead}
 use Rattle.ib_mtr.specs.Mtr.{started, finished}
 use Rattle.ib_cursor.specs.Way.{IsOnWay}
-use Rattle.ib_cursor.specs.Descent.{HasDescended}
+use Rattle.ib_cursor.specs.Descent.{HasFound}
 use Rattle.ib_cursor.specs.Hindrance.{IsHindered}
 use Rattle.ib_cursor.specs.declared.fault.NowaitFault.{NowaitFault}
 use Rattle.ib_cursor.specs.Laws.{Laws}
 use Rattle.ib_cursor.proofs.LogLaws.{tree_of-log, way_stays, way_image}
 use Rattle.ib_cursor.proofs.StepLaws.{image_stays}
+use Rattle.ib_cursor.proofs.DownLaws.{leaf_way, leaf_image}
 use Rattle.ib_cursor.proofs.WayLaws.{leaf_on-way}
 use Rattle.ib_index.specs.Calls.{HasCalled}
 use Rattle.ib_index.proofs.CallLaws.{called-from, read-end, read-known}
@@ -56,41 +56,38 @@ module _ (sizes : Sizes) (roots : ℕ) (lawful : List Entry → Type 0) (opening
       let at : leaf ≡ leaf_for (pages_after opening log) key 1 = leaf_on-way (pages_after opening log) 1 key leaf on in
       sym (ap (value_at key) w.image.records) ∙ (ap (λ n. value_at key (pages_after opening log n).records) at ∙ (sym v ∙ ap (value_at key) (content log legal)))
 
-  module _ (path : List ℕ) (p q : PassState) (down : HasDescended sizes lawful opening 1 key false path p q) where
-    on_leaf : IsOnWay (pages_after opening q.view.memory.seen) 1 key down.leaf 0
-    on_leaf = record { depth = height_of (pages_after opening q.view.memory.seen) 1; height = omega arith; below = sym down.is_leaf }
+  module _ (value : Option ℕ) (p q : PassState) (found : HasFound sizes lawful opening 1 key value p q) where
+    on_leaf : IsOnWay (pages_after opening q.view.memory.seen) 1 key found.come.leaf 0
+    on_leaf = leaf_way sizes roots lawful opening laws 1 (omega arith) one key lt false found.path p q found.come
 
-    image-is : image_of (memory_after opening q.view.memory.seen) down.leaf ≡ down.image
-    image-is = image_of-list (memory_after opening q.view.memory.seen) down.leaf down.image down.size (λ index lt. sym (down.is_page index lt))
-
-    -- the leaf that was loaded is a page of a tree
-    pub leaf_tree : IsTreePage down.image
-    leaf_tree = subst IsTreePage image-is (way_image sizes.pages roots lawful opening laws 1 (omega arith) one key lt q.view.memory.seen down.leaf 0 down.known.legal on_leaf).image.tree
+    -- what was found is what the words of the leaf say
+    off-leaf : value ≡ value_at key (records_of (image_of (memory_after opening q.view.memory.seen) found.come.leaf))
+    off-leaf = found.is_value ∙ ap (value_at key) (leaf_image sizes roots lawful opening laws 1 (omega arith) one key lt false found.path p q found.come).image.records
 
     module _ (place : ℕ) (r : PassState) (role : q.view.role ≡ SessionRole q.number) (read : HasRead sizes lawful q place r) where
       log-is : r.view.memory.seen ≡ q.view.memory.seen ++ read.looked.others
       log-is = ap (λ (m : Memory). m.seen) read.ended.memory ∙ sym read.looked.longer
 
-      calm : AllByRecursion (λ e. touches down.leaf e.writes ≡ false) read.looked.others
-      calm = untouched (number_in q.view.role) down.leaf q.view.memory.since read.looked.others down.watched read.looked.harmless
+      calm : AllByRecursion (λ e. touches found.come.leaf e.writes ≡ false) read.looked.others
+      calm = untouched (number_in q.view.role) found.come.leaf q.view.memory.since read.looked.others found.come.watched read.looked.harmless
 
       legal : lawful (q.view.memory.seen ++ read.looked.others)
       legal = subst lawful (sym read.looked.longer) read.looked.legal
 
-      -- no entry first seen at the end writes the leaf: what was read off it is what the map of all that is seen has
-      value-is : value_at key (records_of down.image) ≡ value_at key (map_of r.view.memory.seen)
+      -- no entry first seen at the end writes the leaf: what was found there is what the map of all that is seen has
+      value-is : value ≡ value_at key (map_of r.view.memory.seen)
       value-is =
-          let on = way_stays sizes.pages roots lawful opening laws 1 (omega arith) one key lt q.view.memory.seen read.looked.others down.leaf 0 legal calm on_leaf in
-          let has = leaf_has (q.view.memory.seen ++ read.looked.others) down.leaf legal on in
-          let same = image_stays opening q.view.memory.seen read.looked.others down.leaf calm ∙ image-is in
-          ap (λ ws. value_at key (records_of ws)) (sym same) ∙ (has ∙ ap (λ log. value_at key (map_of log)) (sym log-is))
+          let on = way_stays sizes.pages roots lawful opening laws 1 (omega arith) one key lt q.view.memory.seen read.looked.others found.come.leaf 0 legal calm on_leaf in
+          let has = leaf_has (q.view.memory.seen ++ read.looked.others) found.come.leaf legal on in
+          let same = image_stays opening q.view.memory.seen read.looked.others found.come.leaf calm in
+          off-leaf ∙ (ap (λ ws. value_at key (records_of ws)) (sym same) ∙ (has ∙ ap (λ log. value_at key (map_of log)) (sym log-is)))
 
-      module _ (reply : Reply) (is : reply ≡ lookup_answer (value_at key (records_of down.image))) where
+      module _ (reply : Reply) (is : reply ≡ lookup_answer value) where
         at-end : place ≡ length r.view.memory.seen
         at-end = read.place ∙ ap length (sym (ap (λ (m : Memory). m.seen) read.ended.memory))
 
         not-made : is_made reply ≡ false
-        not-made = ap is_made is ∙ lookup-made (value_at key (records_of down.image))
+        not-made = ap is_made is ∙ lookup-made value
 
         fits : Fits (history_of r.view.memory.seen) r.number (length p.view.memory.seen) (full_record (record { call = Get key; reply = reply; place = place }) [])
         fits =
@@ -101,17 +98,17 @@ module _ (sizes : Sizes) (roots : ℕ) (lawful : List Entry → Type 0) (opening
 
         pub called : HasCalled sizes lawful opening (Get key) (record { call = Get key; reply = reply; place = place }) p r
         called =
-            called-from sizes lawful opening (Get key) reply place p q r down.went down.looked
+            called-from sizes lawful opening (Get key) reply place p q r found.come.went found.come.looked
             (read-end sizes lawful q r read.log place q.view.grants read.looked read.place read.ended)
             (read-known sizes lawful q r read.log place q.view.grants read.looked read.place role read.ended)
             (sym at-end ∙ rw not-made refl) (record { map = fits; tree = tt }) (rw not-made (ap (λ (m : Memory). m.own) read.ended.memory))
 
         pub looked_up : HasLookedUp sizes lawful opening key (record { call = Get key; reply = reply; place = place }) p r
         looked_up =
-            let f = down.finds refl in let f0 = f.0 in let f1 = f.1 in
+            let f = found.come.finds refl in let f0 = f.0 in let f1 = f.1 in
             let s = ap (λ (g : Grants). g.s) read.ended.grants in let x = ap (λ (g : Grants). g.x) read.ended.grants in let sx = ap (λ (g : Grants). g.sx) read.ended.grants in
-            let l = ap length down.ends in let m = length-append down.front (down.leaf ∷ []) in let most = down.s in
-            record { called = called; least = omega arith; most = omega arith; sx = sx ∙ down.sx; x = x ∙ f1 }
+            let l = ap length found.come.ends in let m = length-append found.come.front (found.come.leaf ∷ []) in let most = found.come.s in
+            record { called = called; least = omega arith; most = omega arith; sx = sx ∙ found.come.sx; x = x ∙ f1 }
 
 -- a mini-transaction starts with what the session had seen and taken
 pub from_start : (sizes : Sizes) (lawful : List Entry → Type 0) (opening : ℕ → ℕ) (key : MapKey) (answer : Record) (p q : PassState) → HasLookedUp sizes lawful opening key answer (started p) q → HasLookedUp sizes lawful opening key answer p q

@@ -9,7 +9,7 @@ ghost use Rattle.ib_cursor.specs.Hindrance.{IsHindered};
 ghost use Rattle.ib_index.specs.Lookups.{HasLookedUp};
 
 use crate::lookup::look_up;
-use ib_cursor::{NowaitFault, descend_nowait};
+use ib_cursor::{NowaitFault, find_nowait};
 use ib_latch::{Latches, Sleep};
 use ib_map::{Key, Record};
 use ib_mtr::Mtr;
@@ -38,8 +38,8 @@ pub(crate) fn get_nowait<L: Trees, S: Sleep>(
         pass.old pass.new) }
 {
     let mut mtr = Mtr::start(latches, pass);
-    match descend_nowait(&mut mtr, key) {
-        Ok(path) => Ok(look_up(mtr, &path, key)),
+    match find_nowait(&mut mtr, key) {
+        Ok(value) => Ok(look_up(mtr, value, key)),
         Err(fault) => {
             mtr.finish();
             Err(fault)

@@ -38,16 +38,16 @@ use Rattle.ib_scan.proofs.WalkedLaws.{walked_first}
 -- a scan begins where the descent ends
 pub begins : (sizes : Sizes) (roots : ℕ) (lawful : List Entry → Type 0) (opening : ℕ → ℕ) (laws : Laws sizes.pages roots lawful opening) (root : ℕ) → 0 < root → root ≤ roots → (low high : MapKey) → rank low < end_rank → rank low ≤ rank high
     → (out : HeldChunks) (path : List ℕ) (p q : PassState) (d : HasDescended sizes lawful opening root low false path p q) → total p.view.grants + 8192 * out.chunk_room + 8192 ≤ 2 ^ 52
-    → IsScannedTo sizes lawful opening roots root d.leaf low low high out out q q
+    → IsScannedTo sizes lawful opening roots root d.come.leaf low low high out out q q
 begins sizes roots lawful opening laws root some le low high lt up out path p q d room =
-    let sx = d.sx in let x = (d.finds refl).1 in let s = d.s in
+    let sx = d.come.sx in let x = (d.come.finds refl).1 in let s = d.come.s in
     record {
       up_to = record {
         spans = [];
         appends = appends_none out;
         short = tt;
         went = went_none q;
-        known = d.known;
+        known = d.come.known;
         s = omega arith;
         sx = refl;
         x = refl;
@@ -59,13 +59,13 @@ begins sizes roots lawful opening laws root some le low high lt up out path p q 
       };
       image = d.image;
       scans = record {
-        grants = d.grants;
+        grants = d.come.grants;
         watched = tt;
-        here = d.watched;
+        here = d.come.watched;
         work = d.work;
-        known = d.known;
-        walked = walked_first sizes.pages roots lawful opening laws root q.view.memory.seen d.known.legal low d.leaf d.image some le lt d.is_leaf
-            (sym (image_of-list (memory_after opening q.view.memory.seen) d.leaf d.image d.size (λ index lt. sym (d.is_page index lt))));
+        known = d.come.known;
+        walked = walked_first sizes.pages roots lawful opening laws root q.view.memory.seen d.come.known.legal low d.come.leaf d.image some le lt d.come.is_leaf
+            (sym (image_of-list (memory_after opening q.view.memory.seen) d.come.leaf d.image d.size (λ index lt. sym (d.is_page index lt))));
       };
       room = omega arith;
     }
@@ -84,8 +84,8 @@ first_look (n ∷ ns) least most some bounds = record { first = n; rest = ns; is
 -- from the start to the end: the pass as the caller sees it, as the descent left it, as the loop did, and once the last leaf was given up
 module _ (sizes : Sizes) (lawful : List Entry → Type 0) (opening : ℕ → ℕ) (root : ℕ) (low high : MapKey) (path : List ℕ) (out new : HeldChunks) (p q r s : PassState) (d : HasDescended sizes lawful opening root low false path (started p) q)
     (aside : IsAside r s) where
-  look : HasFirstLook d.went.added (length q.view.memory.seen)
-  look = first_look d.went.added (length p.view.memory.seen) (length q.view.memory.seen) d.looked d.went.bounds
+  look : HasFirstLook d.come.went.added (length q.view.memory.seen)
+  look = first_look d.come.went.added (length p.view.memory.seen) (length q.view.memory.seen) d.come.looked d.come.went.bounds
 
   abbrev end : PassState
   end = finished s
@@ -98,7 +98,7 @@ module _ (sizes : Sizes) (lawful : List Entry → Type 0) (opening : ℕ → ℕ
 
   abbrev went : WentOn q r → WentOn p end
   went w =
-      let on = went_both (started p) q end d.went (later w) in
+      let on = went_both (started p) q end d.come.went (later w) in
       record { table = on.table; sizes = on.sizes; number = on.number; own = on.own; more = on.more; seen = on.seen; added = on.added; ends = on.ends; bounds = on.bounds }
 
   gone : (spans : List Span) → HasRun sizes lawful out new spans q r → HasGone sizes lawful out new p end
@@ -106,7 +106,7 @@ module _ (sizes : Sizes) (lawful : List Entry → Type 0) (opening : ℕ → ℕ
       let gs = ap (λ (g : Grants). g.s) aside.grants in
       let gsx = ap (λ (g : Grants). g.sx) aside.grants in
       let gx = ap (λ (g : Grants). g.x) aside.grants in
-      let ds = d.s in let dsx = d.sx in let dx = (d.finds refl).1 in let hs = h.s in let hsx = h.sx in let hx = h.x in
+      let ds = d.come.s in let dsx = d.come.sx in let dx = (d.come.finds refl).1 in let hs = h.s in let hsx = h.sx in let hx = h.x in
       record {
         spans = spans;
         appends = h.appends;
@@ -114,7 +114,7 @@ module _ (sizes : Sizes) (lawful : List Entry → Type 0) (opening : ℕ → ℕ
         went = went h.went;
         first = look.first;
         rest = look.rest ++ (later h.went).added;
-        looks = added_both (started p) q end d.went (later h.went) ∙ ap (λ ns. ns ++ (later h.went).added) look.is;
+        looks = added_both (started p) q end d.come.went (later h.went) ∙ ap (λ ns. ns ++ (later h.went).added) look.is;
         known = known_beside sizes lawful r end beside h.known;
         s = omega arith;
         sx = omega arith;

@@ -5,7 +5,7 @@ use Rattle.ib_map.specs.Space.{has_pages}
 use Rattle.ib_layout.specs.Geometry.{Sizes, has_log}
 use Rattle.ib_rule.specs.declared.view.Role.TheVariants.{Session}
 use Rattle.ib_rule.specs.Pass.{PassState}
-use Rattle.ib_index.proofs.CallLaws.{last_is}
+use Rattle.ib_cursor.proofs.DownLaws.{last_of_path}
 use Rattle.ib_index.proofs.LeafCalls.{come}
 use Rattle.ib_index.proofs.leaf.come_to_leaf.Goals as goal
 
@@ -29,7 +29,7 @@ returns-clause-come g c =
     let number : c.pass-pass.result.now.number ≡ q.number = ap (λ (r : PassState). r.number) here in
     let n = c.number.ensures in let m = c.made.ensures in let u = c.used.ensures in
     come sizes c.args.key c.descend-path.result c.unwrap.result c.args.mtr.now.pass.now q d
-    (last_is c.last.result c.unwrap.result c.descend-path.result d.front d.leaf d.ends c.last.ensures.last c.unwrap.ensures)
+    (last_of_path c.last.result c.unwrap.result c.descend-path.result d.come.front d.come.leaf d.come.ends c.last.ensures.last c.unwrap.ensures)
     (record {
       fits = subst (λ (s : Sizes). has_pages s.pages ≡ true) size (subst (λ n. has_pages n ≡ true) c.pages.ensures.pages c.pages.ensures.in_range);
       role = subst (λ (r : PassState). r.view.role ≡ Session r.number) here n.session;

@@ -1,40 +1,21 @@
--- The leaf is read, and no entry first seen at the end writes it.
-use Rattle.std.proofs.Common.{◌≡◌, true, Some, ap, subst, ◌∙◌}
+-- No entry first seen at the end writes the leaf.
+use Rattle.std.proofs.Common.{◌≡◌, true, subst}
 use Rattle.ib_map.proofs.KeyLaws.{rank-lt_end}
 use Rattle.ib_map.specs.Space.{has_pages}
-use Rattle.ib_page.specs.Work.{changed_of}
 use Rattle.ib_layout.specs.Geometry.{Sizes}
 use Rattle.ib_logrec.specs.Log.{by_place}
 use Rattle.ib_rule.specs.Pass.{PassState}
 use Rattle.ib_rule.specs.declared.view.Role.TheVariants.{Session}
 use Rattle.ib_cursor.proofs.LogLaws.{laws_of}
-use Rattle.ib_cursor.proofs.NextLaws.{there_in}
-use Rattle.ib_index.proofs.CallLaws.{last_is}
-use Rattle.ib_index.proofs.LookupLaws.{leaf_tree, looked_up}
+use Rattle.ib_index.proofs.LookupLaws.{looked_up}
 use Rattle.ib_index.proofs.lookup.look_up.Goals as goal
 
-pub reply_in-reply-requires-clause-loaded : goal.reply_in-reply-requires-clause-loaded
-reply_in-reply-requires-clause-loaded g c =
-    let key : Sizes = c.args.mtr.latches.now.sizes in
-    let has : has_pages key.pages ≡ true = subst (λ (s : Sizes). has_pages s.pages ≡ true) c.geometry.ensures (subst (λ n. has_pages n ≡ true) c.pages.ensures.pages c.pages.ensures.in_range) in
-    let laws = laws_of key.pages g.L.Trees.ROOTS (g.L.Law.lawful key.pages) (by_place g.L.Law.opening key.pages) (g.L.Law.range key.pages) (λ xs ys. g.met.L.Law.begins key.pages xs ys has)
-    (λ log. c.trees_law.ensures.memory key.pages log has) (λ xs e page r. g.met.L.Law.stays key.pages xs e page r has) (λ log page r. c.trees_law.ensures.range key.pages log page r) in
-    let lt = rank-lt_end c.args.key c.ranges.key.fits in
-    let p = c.requires.descended.0 in let d = c.requires.descended.1 in
-    let at = last_is c.last.result c.unwrap-leaf.result c.args.path.now d.front d.leaf d.ends c.last.ensures.last c.unwrap-leaf.ensures in (
-      d.image,
-      ap (λ n. changed_of n c.args.mtr.pass.now.work) at ∙ (ap (changed_of d.leaf) d.work ∙ there_in d.leaf d.image),
-      leaf_tree key g.L.Trees.ROOTS (g.L.Law.lawful key.pages) (by_place g.L.Law.opening key.pages) laws c.requires.root (λ log. c.trees_law.ensures.content key.pages log has) c.args.key lt c.args.path.now p c.args.mtr.pass.now d,
-    )
-
 pub returns-clause-looked_up : goal.returns-clause-looked_up
-returns-clause-looked_up g c = λ p d.
+returns-clause-looked_up g c = λ p h.
     let key : Sizes = c.args.mtr.latches.now.sizes in
     let has : has_pages key.pages ≡ true = subst (λ (s : Sizes). has_pages s.pages ≡ true) c.geometry.ensures (subst (λ n. has_pages n ≡ true) c.pages.ensures.pages c.pages.ensures.in_range) in
     let laws = laws_of key.pages g.L.Trees.ROOTS (g.L.Law.lawful key.pages) (by_place g.L.Law.opening key.pages) (g.L.Law.range key.pages) (λ xs ys. g.met.L.Law.begins key.pages xs ys has)
     (λ log. c.trees_law.ensures.memory key.pages log has) (λ xs e page r. g.met.L.Law.stays key.pages xs e page r has) (λ log page r. c.trees_law.ensures.range key.pages log page r) in
     let lt = rank-lt_end c.args.key c.ranges.key.fits in
-    let at = last_is c.last.result c.unwrap-leaf.result c.args.path.now d.front d.leaf d.ends c.last.ensures.last c.unwrap-leaf.ensures in
-    let loaded : changed_of c.unwrap-leaf.result c.args.mtr.pass.now.work ≡ Some d.image = ap (λ n. changed_of n c.args.mtr.pass.now.work) at ∙ (ap (changed_of d.leaf) d.work ∙ there_in d.leaf d.image) in
-    looked_up key g.L.Trees.ROOTS (g.L.Law.lawful key.pages) (by_place g.L.Law.opening key.pages) laws c.requires.root (λ log. c.trees_law.ensures.content key.pages log has) c.args.key lt c.args.path.now p c.args.mtr.pass.now d
-    c.commit_read-place.result c.commit_read-place.new.self.1.0 (subst (λ (r : PassState). r.view.role ≡ Session r.number) c.pass.ensures c.number.ensures.session) c.commit_read-place.ensures c.reply_in-reply.result (c.reply_in-reply.ensures d.image loaded)
+    looked_up key g.L.Trees.ROOTS (g.L.Law.lawful key.pages) (by_place g.L.Law.opening key.pages) laws c.requires.root (λ log. c.trees_law.ensures.content key.pages log has) c.args.key lt c.args.value p c.args.mtr.pass.now h
+    c.commit_read-place.result c.commit_read-place.new.self.1.0 (subst (λ (r : PassState). r.view.role ≡ Session r.number) c.pass.ensures c.number.ensures.session) c.commit_read-place.ensures c.reply_of-reply.result c.reply_of-reply.ensures

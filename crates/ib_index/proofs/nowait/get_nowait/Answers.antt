@@ -1,9 +1,9 @@
 -- A lookup that does not wait starts with what the session had seen, and ends at the leaf or at a latch that it did not get.
-use Rattle.std.proofs.Common.{false, ap, subst, ◌∙◌, rules, sym}
+use Rattle.std.proofs.Common.{ap, subst, ◌∙◌, rules, sym}
 use Rattle.ib_layout.specs.Geometry.{Sizes}
 use Rattle.ib_logrec.specs.Log.{by_place}
 use Rattle.ib_rule.specs.Pass.{PassState}
-use Rattle.ib_cursor.specs.Descent.{HasDescended}
+use Rattle.ib_cursor.specs.Descent.{HasFound}
 use Rattle.ib_cursor.specs.Hindrance.{IsHindered}
 use Rattle.ib_index.specs.Lookups.{HasLookedUp}
 use Rattle.ib_index.proofs.LookupLaws.{from_start, hindered_start}
@@ -12,19 +12,19 @@ use Rattle.ib_index.proofs.nowait.get_nowait.Goals as goal
 pub returns-in-Ok-clause-looked_up : goal.returns-in-Ok-clause-looked_up
 returns-in-Ok-clause-looked_up g c =
     let key : Sizes = c.args.latches.now.sizes in
-    let p : PassState = c.args.pass.now in let q : PassState = c.descend_nowait.new.mtr.pass.now in let r : PassState = c.look_up.new.mtr.1.0 in
+    let p : PassState = c.args.pass.now in let q : PassState = c.find_nowait.new.mtr.pass.now in let r : PassState = c.look_up.new.mtr.1.0 in
     let first = ap (λ m. m.now.sizes) c.start-mtr.ensures.latches in
-    let down = subst (λ (k : Sizes). HasDescended k (g.L.Law.lawful k.pages) (by_place g.L.Law.opening k.pages) 1 c.args.key false c.in-Ok.path c.start-mtr.result.pass.now q) first c.in-Ok.ensures.descended in
-    let looked = subst (λ (k : Sizes). (p : PassState) → HasDescended k (g.L.Law.lawful k.pages) (by_place g.L.Law.opening k.pages) 1 c.args.key false c.in-Ok.path p q
-    → HasLookedUp k (g.L.Law.lawful k.pages) (by_place g.L.Law.opening k.pages) c.args.key c.look_up.result p r) (ap (λ m. m.now.sizes) c.descend_nowait.ensures.latches ∙ first) c.look_up.ensures.looked_up in
+    let found = subst (λ (k : Sizes). HasFound k (g.L.Law.lawful k.pages) (by_place g.L.Law.opening k.pages) 1 c.args.key c.in-Ok.value c.start-mtr.result.pass.now q) first c.in-Ok.ensures.found in
+    let looked = subst (λ (k : Sizes). (p : PassState) → HasFound k (g.L.Law.lawful k.pages) (by_place g.L.Law.opening k.pages) 1 c.args.key c.in-Ok.value p q
+    → HasLookedUp k (g.L.Law.lawful k.pages) (by_place g.L.Law.opening k.pages) c.args.key c.look_up.result p r) (ap (λ m. m.now.sizes) c.find_nowait.ensures.latches ∙ first) c.look_up.ensures.looked_up in
     subst (HasLookedUp key (g.L.Law.lawful key.pages) (by_place g.L.Law.opening key.pages) c.args.key c.look_up.result p) (search rules)
     (from_start key (g.L.Law.lawful key.pages) (by_place g.L.Law.opening key.pages) c.args.key c.look_up.result p r
-    (subst (λ (s : PassState). HasLookedUp key (g.L.Law.lawful key.pages) (by_place g.L.Law.opening key.pages) c.args.key c.look_up.result s r) c.start-mtr.ensures.started (looked c.start-mtr.result.pass.now down)))
+    (subst (λ (s : PassState). HasLookedUp key (g.L.Law.lawful key.pages) (by_place g.L.Law.opening key.pages) c.args.key c.look_up.result s r) c.start-mtr.ensures.started (looked c.start-mtr.result.pass.now found)))
 
 pub returns-in-Err-clause-hindered : goal.returns-in-Err-clause-hindered
 returns-in-Err-clause-hindered g c =
     let key : Sizes = c.args.latches.now.sizes in
-    let p : PassState = c.args.pass.now in let q : PassState = c.descend_nowait.new.mtr.pass.now in
+    let p : PassState = c.args.pass.now in let q : PassState = c.find_nowait.new.mtr.pass.now in
     let stopped = subst (λ (k : Sizes). IsHindered k (g.L.Law.lawful k.pages) (by_place g.L.Law.opening k.pages) 1 c.args.key c.in-Err.fault c.start-mtr.result.pass.now q) (ap (λ m. m.now.sizes) c.start-mtr.ensures.latches) c.in-Err.ensures.hindered in
     let ended = hindered_start key (g.L.Law.lawful key.pages) (by_place g.L.Law.opening key.pages) c.args.key c.in-Err.fault p q
     (subst (λ (s : PassState). IsHindered key (g.L.Law.lawful key.pages) (by_place g.L.Law.opening key.pages) 1 c.args.key c.in-Err.fault s q) c.start-mtr.ensures.started stopped) in

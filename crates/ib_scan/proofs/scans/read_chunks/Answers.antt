@@ -22,8 +22,8 @@ scan_from-stop-requires-clause-begins g c =
     let d = subst (λ (s : PassState). HasDescended key (g.L.Law.lawful key.pages) (by_place g.L.Law.opening key.pages) c.args.sought.root c.args.sought.low false c.descend_at-path.result s q) c.start-mtr.ensures.started on in
     let at = begins key g.L.Trees.ROOTS (g.L.Law.lawful key.pages) (by_place g.L.Law.opening key.pages) laws c.args.sought.root c.requires.some c.requires.root c.args.sought.low c.args.sought.high c.requires.key c.requires.ascends
     c.args.out.now c.descend_at-path.result (started p) q d c.requires.room in
-    let last = ap (λ ps. get_or ps (c.len.result - 1) 0) c.pages.ensures.pages ∙ path_last c.descend_at-path.result d.front d.leaf c.len.result d.ends c.len.ensures.count in
-    let there = subst (λ (k : Sizes). IsScannedTo k (g.L.Law.lawful k.pages) (by_place g.L.Law.opening k.pages) g.L.Trees.ROOTS c.args.sought.root d.leaf c.args.sought.low c.args.sought.low c.args.sought.high c.args.out.now c.args.out.now q q) (sym same) at in
+    let last = ap (λ ps. get_or ps (c.len.result - 1) 0) c.pages.ensures.pages ∙ path_last c.descend_at-path.result d.come.front d.come.leaf c.len.result d.come.ends c.len.ensures.count in
+    let there = subst (λ (k : Sizes). IsScannedTo k (g.L.Law.lawful k.pages) (by_place g.L.Law.opening k.pages) g.L.Trees.ROOTS c.args.sought.root d.come.leaf c.args.sought.low c.args.sought.low c.args.sought.high c.args.out.now c.args.out.now q q) (sym same) at in
     let now : Sizes = c.descend_at-path.new.mtr.latches.now.sizes in
     subst (λ (n : ℕ). IsScannedTo now (g.L.Law.lawful now.pages) (by_place g.L.Law.opening now.pages) g.L.Trees.ROOTS c.args.sought.root n c.args.sought.low c.args.sought.low c.args.sought.high c.args.out.now c.args.out.now q q) (sym last) there
 

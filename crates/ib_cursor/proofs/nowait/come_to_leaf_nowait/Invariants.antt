@@ -4,14 +4,14 @@ use Rattle.ib_logrec.specs.Log.{by_place}
 use Rattle.ib_mtr.specs.Mtr.{IsMtr}
 use Rattle.ib_cursor.specs.Descent.{IsDown}
 use Rattle.ib_cursor.specs.Grants.{index_grant}
-use Rattle.ib_cursor.proofs.nowait.descend_nowait.Given as goal
+use Rattle.ib_cursor.proofs.nowait.come_to_leaf_nowait.Given as goal
 
 abbrev pub invariant-loop-level : goal.invariant-loop-level
 invariant-loop-level g l = record {
   mtr : IsMtr l.mtr.latches.now l.mtr.pass.now;
   latches : l.mtr.latches ≡ l.fn.mtr.latches;
   pass : l.mtr.pass.ghost_name ≡ l.fn.mtr.pass.ghost_name;
-  down : IsDown l.fn.mtr.latches.now.sizes (g.L.Law.lawful l.fn.mtr.latches.now.sizes.pages) (by_place g.L.Law.opening l.fn.mtr.latches.now.sizes.pages) 1 l.key (index_grant ∷ []) false
+  down : IsDown l.fn.mtr.latches.now.sizes (g.L.Law.lawful l.fn.mtr.latches.now.sizes.pages) (by_place g.L.Law.opening l.fn.mtr.latches.now.sizes.pages) l.sought.root l.sought.key (index_grant ∷ []) false
       (length l.path) l.page l.level l.fn.mtr.pass.now l.mtr.pass.now;
   looks : l.fn.mtr.pass.now.view.looks.count ≤ l.mtr.pass.now.view.looks.count;
 }

@@ -5,14 +5,14 @@ use Rattle.ib_mtr.specs.Mtr.{IsMtr}
 use Rattle.ib_cursor.specs.Descent.{IsDown}
 use Rattle.ib_cursor.specs.Grants.{index_grant}
 use Rattle.ib_cursor.specs.Modes.{is_exclusive}
-use Rattle.ib_cursor.proofs.descent.descend_at.Given as goal
+use Rattle.ib_cursor.proofs.descent.come_to_leaf.Given as goal
 
 abbrev pub invariant-loop-level : goal.invariant-loop-level
 invariant-loop-level g l = record {
   mtr : IsMtr l.mtr.latches.now l.mtr.pass.now;
   latches : l.mtr.latches ≡ l.fn.mtr.latches;
   pass : l.mtr.pass.ghost_name ≡ l.fn.mtr.pass.ghost_name;
-  down : IsDown l.fn.mtr.latches.now.sizes (g.L.Law.lawful l.fn.mtr.latches.now.sizes.pages) (by_place g.L.Law.opening l.fn.mtr.latches.now.sizes.pages) l.root l.key (index_grant ∷ []) (is_exclusive l.mode)
+  down : IsDown l.fn.mtr.latches.now.sizes (g.L.Law.lawful l.fn.mtr.latches.now.sizes.pages) (by_place g.L.Law.opening l.fn.mtr.latches.now.sizes.pages) l.sought.root l.sought.key (index_grant ∷ []) (is_exclusive l.search)
       (length l.path) l.page l.level l.fn.mtr.pass.now l.mtr.pass.now;
 }
 
