@@ -28,6 +28,7 @@ use Rattle.ib_runs.specs.Sessions.{index_space}
 use Rattle.ib_runs.proofs.AlonePageLaws.{HasChange, SaySame, SaySame-next}
 use Rattle.ib_runs.proofs.AlonePlaceLaws.{all-own, at-reach, made}
 use Rattle.ib_runs.proofs.AloneReplyLaws.{HasMade, call-entry, reply-one}
+use Rattle.ib_runs.proofs.FullLogLaws.{room_at}
 
 record-is : Call → Reply → ℕ → List Span → FullRecord
 record-is call reply place spans = record { call = call; reply = reply; place = place; spans = spans }
@@ -115,11 +116,6 @@ no-calls : (rs : List FullRecord) → calls_in rs ≡ [] → rs ≡ []
 no-calls [] none = refl
 no-calls (r ∷ rs) none = absurd (cc)
 
-room-at : (runs : Runs) (n : ℕ) → AreNeverFull runs → AllByRecursion (λ r. IsNotFull r.reply) (get_or runs n [])
-room-at [] n all = tt
-room-at (rs ∷ runs) zero all = all.0
-room-at (rs ∷ runs) (suc n) all = room-at runs n all.1
-
 module _ (sizes : Sizes) (commands : List (List Call)) (place : ℕ) (alone : IsAlone place commands) where
   calls-of : (runs : Runs) (log : List Entry) → IsOutcome sizes commands runs log → (n : ℕ) → calls_in (get_or runs n []) ≡ get_or commands n []
   calls-of runs log is n = sym (get_or-map calls_in runs n []) ∙ ap (λ cs. get_or cs n []) is.same_calls
@@ -144,7 +140,7 @@ module _ (sizes : Sizes) (commands : List (List Call)) (place : ℕ) (alone : Is
   one-outcome runs others log other is also room roomy =
       let start : SaySame sizes.pages [] [] = record { history = refl; pages_are = refl; bits_are = refl } in
       let own = same-records sizes log other (suc place) is.kept also.kept 0 (get_or runs place []) (get_or others place []) start (calls-of runs log is place ∙ sym (calls-of others other also place))
-      (is.run (suc place)).answers (also.run (suc place)).answers (room-at runs place room) (room-at others place roomy) (fills runs log is) (fills others other also) in
+      (is.run (suc place)).answers (also.run (suc place)).answers (room_at runs place room) (room_at others place roomy) (fills runs log is) (fills others other also) in
       let wide : length runs ≡ length others = sym (length-map runs calls_in) ∙ (ap length (is.same_calls ∙ sym also.same_calls) ∙ length-map others calls_in) in (
         ext_get_or [] runs others wide (λ i lt. elim (cases_eq i place) [
           | inl same ↦ subst (λ (j : ℕ). get_or runs j [] ≡ get_or others j []) (sym same) own.0

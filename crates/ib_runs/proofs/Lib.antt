@@ -6,6 +6,7 @@ mod AloneReplyLaws
 mod AnswerLaws
 mod ChunkLaws
 mod EndLaws
+mod FullLogLaws
 mod OutcomeLaws
 mod ReadLaws
 mod ReadOffLaws

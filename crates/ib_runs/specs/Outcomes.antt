@@ -41,12 +41,12 @@ pub record IsReadOff (sizes : Sizes) (log : List Entry) (history : History) (pai
   pub walked : pairs ≡ content_of (pages_after (by_place opening sizes.pages) log) 1
   pub map_is : pairs ≡ map_of log
 
--- A script's sessions were run on a space of these sizes: the outcome has the log that the closed space has, and the history and the map are
--- read off its words
+-- A script's sessions were run on a space of as many pages, with a log that may be shorter: the outcome is one in the script's sizes, with the log
+-- that the closed space has, and the history and the map are read off its words
 pub record HasRan (sizes : Sizes) (commands : List (List Call)) (ran : Ran) : Type 0 where
   pub log : List Entry
   pub outcome : IsOutcome sizes commands (map answers_of ran.sessions.items) log
-  pub sizes_are : ran.closed.sizes ≡ sizes
-  pub words : HasLog sizes ran.closed.words log
+  pub pages_are : ran.closed.sizes.pages ≡ sizes.pages
+  pub words : HasLog ran.closed.sizes ran.closed.words log
   pub read_off : IsReadOff sizes log ran.history.items ran.map
   pub whole : AllByRecursion IsWhole ran.sessions.items

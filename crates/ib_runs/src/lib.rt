@@ -1,6 +1,7 @@
 //! How the commands of a script's sessions are run: each session as work of its own, on one shared index.
 #![tactic(auto)]
 
+mod first_log;
 mod gate;
 mod laws;
 mod ran;

@@ -5,11 +5,13 @@ ghost use Rattle.ib_script.specs.Script.{IsSmall};
 ghost use Rattle.ib_runs.specs.Outcomes.{HasRan};
 ghost use Rattle.ib_runs.specs.Turns.{AllDone};
 
+use crate::first_log::{first_sizes, is_settled};
 use crate::gate::Gate;
 use crate::ran::{Ran, read_off};
 use crate::session_out::SessionOut;
 use crate::turns::run_all;
 use ib_index::{Index, IndexRefused};
+use ib_layout::Geometry;
 use ib_map::OutOfMemory;
 use ib_script::Script;
 use std::alloc::{AllocError, Global};
@@ -21,11 +23,12 @@ fn finish(
     alloc: Global,
     index: Index,
     script: &Script,
+    sizes: Geometry,
     sessions: Vec<SessionOut>,
 ) -> Result<Ran, OutOfMemory>
-    requires sizes { index.sizes ≡ script.now.sizes }
+    requires sizes { index.sizes ≡ sizes }
     requires done { AllDone script.now.commands sessions.items index }
-    ensures { IfOk result (HasRan script.now.sizes script.now.commands) }
+    ensures { IfOk result (HasRan sizes script.now.commands) }
 {
     let closed = match index.close(alloc) {
         Ok(closed) => closed,
@@ -34,7 +37,7 @@ fn finish(
             return Err(AllocError);
         }
     };
-    let (history, map) = read_off(alloc, &closed, script.geometry())?;
+    let (history, map) = read_off(alloc, &closed, sizes)?;
     Ok(Ran {
         sessions,
         history,
@@ -43,9 +46,34 @@ fn finish(
     })
 }
 
-/// Runs the sessions 1 up to the greatest of a script on a new index of its sizes, each as work of its own, on up to 64
+// Runs the sessions on a new index of these sizes.
+fn run_in<G: Gate + Sync, R: Threads + Wait + Sync>(
+    rt: &R,
+    alloc: Global,
+    script: &Script,
+    sizes: Geometry,
+    gate: &G,
+) -> Result<Ran, OutOfMemory>
+    requires { IsSmall script.now }
+    ensures { IfOk result (HasRan sizes script.now.commands) }
+{
+    let mut index = Index::open(alloc, sizes)?;
+    match run_all(rt, alloc, &mut index, script, gate) {
+        Some(sessions) => finish(alloc, index, script, sizes, sessions),
+        None => {
+            index.discard();
+            Err(AllocError)
+        }
+    }
+}
+
+/// Runs the sessions 1 up to the greatest of a script on a new index of its pages, each as work of its own, on up to 64
 /// threads, with the gate before each command. When all have ended the index is closed, and what it holds is read off
 /// its words: the history off its log, and the map off the leaves of its tree.
+///
+/// The log is first as long as the script's changes mostly need, where the script's own is longer. If a reply tells that
+/// it got full, what came of that run is dropped, and all sessions run again, on a new index with the script's whole log;
+/// so the gate is called anew for each of their commands.
 ///
 /// Refused for want of memory alone, anywhere, and then all is given back.
 pub fn run_script<G: Gate + Sync, R: Threads + Wait + Sync>(
@@ -57,12 +85,13 @@ pub fn run_script<G: Gate + Sync, R: Threads + Wait + Sync>(
     requires { IsSmall script.now }
     ensures { IfOk result (HasRan script.now.sizes script.now.commands) }
 {
-    let mut index = Index::open(alloc, script.geometry())?;
-    match run_all(rt, alloc, &mut index, script, gate) {
-        Some(sessions) => finish(alloc, index, script, sessions),
-        None => {
-            index.discard();
-            Err(AllocError)
-        }
+    let sizes = script.geometry();
+    let first = first_sizes(script);
+    let ran = run_in(rt, alloc, script, first, gate)?;
+    if is_settled(&ran, first, sizes) {
+        return Ok(ran);
     }
+    // The words of the first index are given back before there is a second one.
+    drop(ran);
+    run_in(rt, alloc, script, sizes, gate)
 }

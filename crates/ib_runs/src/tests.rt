@@ -7,6 +7,7 @@ ghost use Rattle.ib_rule.specs.Views.{nothing_seen, no_grants};
 ghost use Rattle.ib_script.specs.Script.{IsSmall};
 
 use super::*;
+use crate::first_log::{first_sizes, met_full_log};
 use ib_index::Index;
 use ib_layout::Geometry;
 use ib_map::{Call, Record, Reply};
@@ -92,4 +93,35 @@ fn sessions_share_an_index(rt: HostRuntime) {
     let third = ran.sessions[2].chunks();
     assert_eq!(rt; third.pairs(), [(3, 30)].as_slice());
     assert!(rt; ran.sessions[1].records().is_empty());
+}
+
+// Inserts up to one more than a leaf has room for, and then deletes that merge the two leaves again and inserts that
+// split them again, in turn: half of these changes have entries of hundreds of words.
+fn splits_and_merges(rt: &impl Abort, alloc: Global, log_words: u32) -> Script
+    ensures { IsSmall result }
+{
+    let mut text = format!(in alloc; "space 16 {log_words}\n").expect(rt, "there is memory");
+    for key in 1..37 {
+        let line = format!(in alloc; "insert {key} {key}\n").expect(rt, "there is memory");
+        text.push_str(line.as_str()).expect(rt, "there is memory");
+    }
+    for _ in 0..4 {
+        text.push_str("delete 1\ndelete 2\ninsert 1 1\ninsert 2 2\n")
+            .expect(rt, "there is memory");
+    }
+    let bytes = text.as_bytes();
+    assert!(rt; bytes.len() < 10_000);
+    script(rt, alloc, bytes)
+}
+
+#[test]
+fn a_first_log_that_gets_full(rt: HostRuntime) {
+    // Both are run on a log of 11,524 words first, which gets full. The first script has a longer one.
+    for (log_words, is_full) in [(20_000, false), (11_524, true)] {
+        let script = splits_and_merges(&rt, rt.alloc(), log_words);
+        assert_eq!(rt; first_sizes(&script).log_words(), 8196 + 64 * 52);
+        let ran = run_script(&rt, rt.alloc(), &script, &OpenGate).expect(&rt, "there is memory");
+        assert_eq!(rt; met_full_log(&ran.sessions), is_full);
+        assert_eq!(rt; ran.history.len() == 52, !is_full);
+    }
 }

@@ -30,7 +30,7 @@ module _ (script : ScriptValue) (ran : Ran) (h : HasRan script.sizes script.comm
 
   -- the words of the log
   pub log-words : (words : List ℕ) → words ≡ log_in ran.closed.sizes ran.closed.words → words ≡ log_words h.log
-  log-words words is = is ∙ (ap (λ sizes. log_in sizes ran.closed.words) h.sizes_are ∙ h.words.logged)
+  log-words words is = is ∙ h.words.logged
 
   -- .. are few
   pub few-words : (words : List ℕ) → words ≡ log_in ran.closed.sizes ran.closed.words → script.sizes.log_words ≤ MOST_LOG_WORDS → length words < 2 ^ 32

@@ -84,6 +84,42 @@ fn a_space_that_gets_full(rt: HostRuntime) -> Result<(), Fail> {
     check(&rt, alloc, &script, Status::Done, &text)
 }
 
+// Up to one key more than a leaf has room for, and then two keys that go and come again, by which leaves are merged and
+// split in turn: a change, and what it is answered but for its place.
+fn change_at(alloc: Global, place: u32) -> Result<(String, String), Fail> {
+    let key = if place < 36 { place + 1 } else { place % 2 + 1 };
+    if place < 36 || place % 4 > 1 {
+        let line = format!(in alloc; "insert {key} {key}")?;
+        Ok((line, String::from_str(alloc, "inserted")?))
+    } else {
+        let line = format!(in alloc; "delete {key}")?;
+        Ok((line, format!(in alloc; "deleted {key}")?))
+    }
+}
+
+// These changes have entries of more than 64 words on average: they fill the log on which the script is run first.
+#[test]
+fn a_first_log_that_gets_full(rt: HostRuntime) -> Result<(), Fail> {
+    let alloc = rt.alloc();
+    let mut script = Vec::from_slice(alloc, b"space 16 20000\n")?;
+    let mut text = Vec::from_slice(alloc, b"session 1\n")?;
+    let mut log = Vec::from_slice(alloc, b"log 52\n")?;
+    let mut map = Vec::from_slice(alloc, b"map 36\n")?;
+    for place in 0..52u32 {
+        let (line, reply) = change_at(alloc, place)?;
+        let number = place + 1;
+        script.extend_from_slice(format!(in alloc; "{line}\n")?.as_bytes())?;
+        text.extend_from_slice(format!(in alloc; "{line} -> {reply} at {place}\n")?.as_bytes())?;
+        log.extend_from_slice(format!(in alloc; "1 {number} {line}\n")?.as_bytes())?;
+        if place < 36 {
+            map.extend_from_slice(format!(in alloc; "{number} {number}\n")?.as_bytes())?;
+        }
+    }
+    text.extend_from_slice(&log)?;
+    text.extend_from_slice(&map)?;
+    check(&rt, alloc, &script, Status::Done, &text)
+}
+
 // Session 1 inserts 10 with 100, on page 1 of a space of 16 pages.
 pub(super) const FILE: [u8; 176] = *b"IBLOG571\
     \0\0\0\0\0\0\0\x10\

@@ -1,0 +1,127 @@
+-- Runs in which no reply tells of a full log: how they are told apart, and that they could have come of a longer log.
+use Rattle.std.specs.List.{AllByRecursion, list_any}
+use Rattle.std.proofs.Common.{◌≡◌, ◌∙◌, ◌↔◌, ℕ, zero, suc, ◌≤◌, Bool, true, false, ◌||◌, List, [], ◌∷◌, map, drop, get_or, refl, subst, arith}
+use Rattle.ib_map.specs.FullRecords.{chunk_count, full_records}
+use Rattle.ib_map.specs.Keys.{MapKey}
+use Rattle.ib_map.specs.Replies.{FullRecord, Span}
+use Rattle.ib_map.specs.Runs.{AreAnswers, Runs, reach_after, run_of}
+use Rattle.ib_map.specs.declared.call.Call.{Call}
+use Rattle.ib_map.specs.declared.call.Call.TheVariants.{Insert, Delete, Get, Scan}
+use Rattle.ib_map.specs.declared.call.Record.{Record}
+use Rattle.ib_map.specs.declared.call.Reply.{Reply}
+use Rattle.ib_map.specs.declared.call.Reply.TheVariants.{LogFull}
+use Rattle.ib_layout.specs.Geometry.{Sizes}
+use Rattle.ib_logrec.specs.declared.entry.Entry.{Entry}
+use Rattle.ib_logrec.specs.Log.{by_place}
+use Rattle.ib_walk.specs.Trees.{content_of}
+use Rattle.ib_tree.specs.Fits.{FitsDelete, FitsInsert, FitsLog, FitsTree, TreeSpace}
+use Rattle.ib_tree.specs.Logs.{pages_after}
+use Rattle.ib_tree.specs.TreeLog.{opening}
+use Rattle.ib_kept.specs.Kept.{IsKeptLog}
+use Rattle.ib_runs.specs.Alone.{AreNeverFull, IsNotFull, tells_full}
+use Rattle.ib_runs.specs.Answers.{KeptAnswers, answers_of}
+use Rattle.ib_runs.specs.Outcomes.{HasRan, IsOutcome}
+use Rattle.ib_runs.specs.Sessions.{index_space}
+use Rattle.ib_runs.specs.declared.ran.Ran.{Ran}
+
+-- the test of one reply
+not-full : (reply : Reply) → tells_full reply ≡ false → IsNotFull reply
+not-full (LogFull words cap) never = absurd (cc)
+not-full reply never = tt
+
+tells-none : (reply : Reply) → IsNotFull reply → tells_full reply ≡ false
+tells-none (LogFull words cap) room = absurd room
+tells-none reply room = refl
+
+neither : (a b : Bool) → (a || b) ≡ false → (a ≡ false) × (b ≡ false)
+neither true b never = absurd (cc)
+neither false b never = (refl, never)
+
+-- .. of a session's records, whose chunks do not count
+records-not : (rs : List Record) (spans : List Span) → list_any (λ r. tells_full r.reply) rs ≡ false → AllByRecursion (λ r. IsNotFull r.reply) (full_records rs spans)
+records-not [] spans never = tt
+records-not (r ∷ rs) spans never =
+    let both = neither (tells_full r.reply) (list_any (λ (q : Record). tells_full q.reply) rs) never in
+    (not-full r.reply both.0, records-not rs (drop (chunk_count r.reply) spans) both.1)
+
+records-tell : (rs : List Record) (spans : List Span) → AllByRecursion (λ r. IsNotFull r.reply) (full_records rs spans) → list_any (λ r. tells_full r.reply) rs ≡ false
+records-tell [] spans room = refl
+records-tell (r ∷ rs) spans room = rw (tells-none r.reply room.0) (records-tell rs (drop (chunk_count r.reply) spans) room.1)
+
+-- .. of all sessions
+sessions-not : (outs : List KeptAnswers) → list_any (λ out. list_any (λ r. tells_full r.reply) out.records) outs ≡ false → AreNeverFull (map answers_of outs)
+sessions-not [] never = tt
+sessions-not (out ∷ outs) never =
+    let both = neither (list_any (λ (r : Record). tells_full r.reply) out.records) (list_any (λ (o : KeptAnswers). list_any (λ r. tells_full r.reply) o.records) outs) never in
+    (records-not out.records _ both.0, sessions-not outs both.1)
+
+sessions-tell : (outs : List KeptAnswers) → AreNeverFull (map answers_of outs) → list_any (λ out. list_any (λ r. tells_full r.reply) out.records) outs ≡ false
+sessions-tell [] room = refl
+sessions-tell (out ∷ outs) room = rw (records-tell out.records _ room.0) (sessions-tell outs room.1)
+
+pub never_full : (outs : List KeptAnswers) → (list_any (λ out. list_any (λ r. tells_full r.reply) out.records) outs ≡ false) ↔ AreNeverFull (map answers_of outs)
+never_full outs = (sessions-not outs, sessions-tell outs)
+
+-- of one session among all
+pub room_at : (runs : Runs) (n : ℕ) → AreNeverFull runs → AllByRecursion (λ r. IsNotFull r.reply) (get_or runs n [])
+room_at [] n all = tt
+room_at (rs ∷ runs) zero all = all.0
+room_at (rs ∷ runs) (suc n) all = room_at runs n all.1
+
+room-of : (runs : Runs) (session : ℕ) → AreNeverFull runs → AllByRecursion (λ r. IsNotFull r.reply) (run_of runs session)
+room-of runs zero all = tt
+room-of runs (suc n) all = room_at runs n all
+
+-- beside a log that gets full nothing of a reply depends on how long the log is
+module _ (space : TreeSpace) (words : ℕ) (log : List Entry) where
+  abbrev other : TreeSpace
+  other = record space { log_words = words }
+
+  insert-wider : (key : MapKey) (reply : Reply) (place : ℕ) → IsNotFull reply → FitsInsert space log key reply place → FitsInsert other log key reply place
+  insert-wider key (LogFull used cap) place room fits = absurd room
+  insert-wider key reply place room fits = fits
+
+  delete-wider : (reply : Reply) (place : ℕ) → IsNotFull reply → FitsDelete space log reply place → FitsDelete other log reply place
+  delete-wider (LogFull used cap) place room fits = absurd room
+  delete-wider reply place room fits = fits
+
+  tree-wider : (call : Call) (reply : Reply) (place : ℕ) (spans : List Span) → IsNotFull reply → FitsTree space log call reply place spans → FitsTree other log call reply place spans
+  tree-wider (Insert key value) reply place spans room fits = insert-wider key reply place room fits
+  tree-wider (Delete key) reply place spans room fits = delete-wider reply place room fits
+  tree-wider (Get key) reply place spans room fits = fits
+  tree-wider (Scan low high) reply place spans room fits = fits
+
+  answers-wider : (session reach : ℕ) (rs : List FullRecord) → AllByRecursion (λ r. IsNotFull r.reply) rs → AreAnswers (FitsLog space log session) reach rs → AreAnswers (FitsLog other log session) reach rs
+  answers-wider session reach [] room are = tt
+  answers-wider session reach (r ∷ rs) room are =
+      let one : FitsLog other log session reach r = record { map = are.0.map; tree = tree-wider r.call r.reply r.place r.spans room.0 are.0.tree } in
+      (one, are.1, are.2, answers-wider session (reach_after r) rs room.1 are.3)
+
+module _ (small big : Sizes) (same : small.pages ≡ big.pages) (longer : small.log_words ≤ big.log_words) (commands : List (List Call)) where
+  -- an outcome in which no log gets full is one beside a longer log
+  pub outcome_wider : (runs : Runs) (log : List Entry) → AreNeverFull runs → IsOutcome small commands runs log → IsOutcome big commands runs log
+  outcome_wider runs log room is = record {
+    same_calls = is.same_calls;
+    kept = subst (λ (n : ℕ). IsKeptLog n log) same is.kept;
+    room = let r = is.room in omega arith;
+    run = λ session. record {
+      answers = subst (λ (n : ℕ). AreAnswers (FitsLog (index_space (record { pages = n; log_words = big.log_words })) log session) 0 (run_of runs session)) same
+          (answers-wider (index_space small) big.log_words log session 0 (run_of runs session) (room-of runs session room) (is.run session).answers);
+      changes = (is.run session).changes;
+    };
+  }
+
+  -- so is what came of a script's run
+  pub ran_wider : (ran : Ran) → AreNeverFull (map answers_of ran.sessions.items) → HasRan small commands ran → HasRan big commands ran
+  ran_wider ran room h = record {
+    log = h.log;
+    outcome = outcome_wider (map answers_of ran.sessions.items) h.log room h.outcome;
+    pages_are = h.pages_are ∙ same;
+    words = h.words;
+    read_off = record {
+      history_is = h.read_off.history_is;
+      walked = subst (λ (n : ℕ). ran.map ≡ content_of (pages_after (by_place opening n) h.log) 1) same h.read_off.walked;
+      map_is = h.read_off.map_is;
+    };
+    whole = h.whole;
+  }
