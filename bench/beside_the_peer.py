@@ -23,21 +23,22 @@ SESSIONS = (1, 2, 4)
 
 
 def timed(words, script):
-    """Seconds, peak of resident memory in MB, and what it told on standard error."""
-    with open(script) as given, open(os.devnull, "w") as taken, tempfile.TemporaryFile("w+") as told:
+    """Seconds, and peak of resident memory in MB."""
+    with open(script) as given, open(os.devnull, "w") as taken:
         start = time.monotonic()
-        child = subprocess.Popen(words, stdin=given, stdout=taken, stderr=told)
+        child = subprocess.Popen(words, stdin=given, stdout=taken, stderr=taken)
         _, status, usage = os.wait4(child.pid, 0)
         seconds = time.monotonic() - start
-        told.seek(0)
         if status != 0:
             sys.exit(f"{words[0]} ends with {os.waitstatus_to_exitcode(status)}")
-        return seconds, usage.ru_maxrss / 1024, told.read()
+        return seconds, usage.ru_maxrss / 1024
 
 
-def run_of(told):
+def run_of(peer, script):
     """The seconds of the peer's run phase, as it tells them."""
-    return float(re.search(r"run[ =:]+([0-9.e-]+)", told).group(1))
+    with open(script) as given:
+        done = subprocess.run([peer, "--engine", "coupled-log", "--quiet"], stdin=given, capture_output=True, text=True, check=True)
+    return float(re.search(r" run ([0-9.]+)", done.stdout + done.stderr).group(1))
 
 
 def figure(times, sessions):
@@ -47,12 +48,12 @@ def figure(times, sessions):
 def measure(peer, script, bare, sessions, times):
     ours, theirs, opening, runs = [], [], [], []
     for _ in range(times):
-        seconds, our_peak, _ = timed([PROGRAM, "run"], script)
+        seconds, our_peak = timed([PROGRAM, "run"], script)
         ours.append(seconds)
         opening.append(timed([PROGRAM, "run"], bare)[0])
-        seconds, their_peak, _ = timed([peer, "--engine", "coupled-log"], script)
+        seconds, their_peak = timed([peer, "--engine", "coupled-log"], script)
         theirs.append(seconds)
-        runs.append(run_of(timed([peer, "--engine", "coupled-log", "--quiet"], script)[2]))
+        runs.append(run_of(peer, script))
     whole, other = figure(ours, sessions), figure(theirs, sessions)
     run, other_run = whole - figure(opening, sessions), figure(runs, sessions)
     return f"run {run * 1e3:8.1f} ms beside {other_run * 1e3:7.1f}: {other_run / run:5.2f}   whole {whole * 1e3:8.1f} ms beside {other * 1e3:7.1f}: {whole / other:5.2f}   peak {our_peak:4.0f} MB beside {their_peak:4.0f}"

@@ -37,7 +37,7 @@ def repository():
     write(os.path.join(index, "lib.rt"), text_of("crates/ib_index/src/lib.rt") + "\npub use lookup::get;\n")
     write(os.path.join(index, "lookup.rt"), text_of("crates/ib_index/src/lookup.rt").replace("pub(crate) fn get<", "pub fn get<"))
     names = [line.split(":")[0] for line in text_of("crates.txt").splitlines() if line.startswith("ib_")]
-    below = [name for name in names[: names.index("ib_index") + 1] if not re.search(r"split|merge|trials|replay|scan", name)]
+    below = [name for name in names[: names.index("ib_index") + 1] if not re.search(r"trials|replay|scan", name)]
     write(os.path.join(folder, "crates.txt"), text_of("crates.txt") + f"ib_lookups: {' '.join(below)}\n")
     write(os.path.join(folder, "crates", "ib_lookups", "c", "taken.c"), "void taken_for_true(void) {}\n")
     return os.path.join(folder, "crates", "ib_lookups")

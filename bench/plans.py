@@ -17,7 +17,7 @@ import tempfile
 
 TOP = os.path.dirname(os.path.dirname(os.path.abspath(__file__)))
 LINE = re.compile(r"changes \d+ raises \d+ lifts \d+ keys \d+")
-DEPS = "ib_map ib_page ib_walk ib_patch ib_tree ib_plans ib_split ib_merge"
+DEPS = "ib_map ib_heap ib_page ib_walk ib_patch ib_tree ib_plans ib_split ib_merge"
 TAKEN = ["src/beside.rt", "src/changes.rt", "src/pages.rt", "src/trial.rt", "specs/Lib.antt", "specs/Reads.antt"]
 LEFT_OUT = ("out", "ib_trials", "must-fail")
 

@@ -18,7 +18,7 @@ import time
 
 TOP = os.path.dirname(os.path.dirname(os.path.abspath(__file__)))
 LINE = re.compile(r"takings (\d+) sleeps (\d+) wakes (\d+) reserved (\d+) free (\w+)")
-DEPS = "ib_map ib_word ib_levels ib_core ib_layout ib_page ib_logrec ib_rule ib_wait ib_latch"
+DEPS = "ib_map ib_word ib_levels ib_core ib_layout ib_heap ib_page ib_logrec ib_rule ib_wait ib_latch"
 
 
 def repository(seconds):

@@ -1,0 +1,76 @@
+#!/usr/bin/env python3
+"""Where the instructions and the cache misses of an operation go, by callgrind, function by function.
+
+Each is the difference of two runs of the program, with the operations and without them, by their number: a lookup, an insert into a leaf
+that has room, an insert that splits its leaf, and a delete from a leaf that stays large enough, with reading the line and printing the
+reply (of a change its entry and its pair in the map, too). Misses are those of a simulated first-level data cache of 32 KB. Word: the
+number of leaves (500 if none); each has 18 records, or 35 before a split.
+"""
+
+import os
+import re
+import subprocess
+import sys
+import tempfile
+
+TOP = os.path.dirname(os.path.dirname(os.path.abspath(__file__)))
+PROGRAM = os.path.join(TOP, "crates", "ib_tool", "out", "ib_tool")
+SPACE = "space 4096 2000000"
+LEAF = 18_000
+
+
+def half_full(leaves):
+    """Ascending inserts leave 18 records in each leaf."""
+    return [f"insert {key * 1000} {key}" for key in range(18 * leaves + 18)]
+
+
+def full(leaves):
+    return half_full(leaves) + [f"insert {leaf * LEAF + more} {more}" for more in range(1, 18) for leaf in range(leaves)]
+
+
+def kinds(leaves):
+    """Of each operation, the script before it and its own lines: one for each leaf."""
+    inserts = [f"insert {leaf * LEAF + 500} 1" for leaf in range(leaves)]
+    yield "lookup", half_full(leaves), [f"get {leaf * LEAF + 5000}" for leaf in range(leaves)]
+    yield "insert with room", half_full(leaves), inserts
+    yield "delete", half_full(leaves), [f"delete {leaf * LEAF + 5000}" for leaf in range(leaves)]
+    yield "insert that splits", full(leaves), inserts
+
+
+def profile(lines):
+    """Instructions and first-level misses by function."""
+    with tempfile.NamedTemporaryFile() as given, tempfile.NamedTemporaryFile() as out:
+        given.write("".join(line + "\n" for line in [SPACE, *lines]).encode())
+        given.flush()
+        words = ["valgrind", "--tool=callgrind", "--cache-sim=yes", "--D1=32768,8,64", f"--callgrind-out-file={out.name}", PROGRAM, "run"]
+        with open(given.name) as source:
+            subprocess.run(words, stdin=source, stdout=subprocess.DEVNULL, stderr=subprocess.DEVNULL, check=True)
+        words = ["callgrind_annotate", "--threshold=100", "--show=Ir,D1mr,D1mw", "--show-percs=no", out.name]
+        told = subprocess.run(words, capture_output=True, text=True, check=True).stdout
+    found = {}
+    for line in told.splitlines():
+        row = re.match(r"\s*([\d,.]+)\s+([\d,.]+)\s+([\d,.]+)\s+\S+?:([^\s\[]+)", line)
+        if row:
+            count, reads, writes = (0 if text == "." else int(text.replace(",", "")) for text in row.groups()[:3])
+            name = re.sub(r"::<#\w+>", "", row.group(4))
+            before = found.get(name, (0, 0))
+            found[name] = (before[0] + count, before[1] + reads + writes)
+    return found
+
+
+def main():
+    leaves = int(sys.argv[1]) if len(sys.argv) > 1 else 500
+    for kind, base, lines in kinds(leaves):
+        bare, whole = profile(base), profile(base + lines)
+        rows = []
+        for name in set(bare) | set(whole):
+            one, two = bare.get(name, (0, 0)), whole.get(name, (0, 0))
+            rows.append(((two[0] - one[0]) / len(lines), (two[1] - one[1]) / len(lines), name))
+        rows.sort(reverse=True)
+        print(f"{kind}: {sum(row[0] for row in rows):.0f} instructions, {sum(row[1] for row in rows):.1f} misses", flush=True)
+        for count, misses, name in rows[:24]:
+            print(f"{count:8.0f} {misses:6.1f}  {name}", flush=True)
+
+
+if __name__ == "__main__":
+    main()
