@@ -92,8 +92,6 @@ pub fn find_nowait<L: Trees, S: Sleep>(
         (by_place L.opening mtr.old.latches.now.sizes.pages) 1 key fault
         mtr.old.pass.now mtr.new.pass.now) }
 {
-    match come_to_leaf_nowait(mtr, Sought { root: 1, key }) {
-        Ok(path) => Ok(value_at_end(mtr, &path, key)),
-        Err(fault) => Err(fault),
-    }
+    let path = come_to_leaf_nowait(mtr, Sought { root: 1, key })?;
+    Ok(value_at_end(mtr, &path, key))
 }

@@ -1,31 +1,18 @@
 //! From a leaf to the next.
 
-ghost use Rattle.std.specs.Prelude.{◌≡◌, ℕ, List, MatchOption, Some};
+ghost use Rattle.std.specs.Prelude.{◌≡◌, MatchOption};
 ghost use Rattle.ib_logrec.specs.Log.{by_place};
-ghost use Rattle.ib_page.specs.Image.{IsFormed, next_of};
-ghost use Rattle.ib_page.specs.Work.{changed_of};
+ghost use Rattle.ib_page.specs.Image.{next_of};
 ghost use Rattle.ib_mtr.specs.Mtr.{IsMtr};
 ghost use Rattle.ib_cursor.specs.Nexts.{HasNext, HeldLeaf};
 
+use crate::claim::right_of;
 use crate::stands::{read, take};
-use ib_latch::{Parkers, Sleep};
+use ib_latch::Parkers;
 use ib_levels::{Latch, Level, Mode};
-use ib_logrec::Law;
 use ib_mtr::Mtr;
 use ib_tree::Trees;
 use std::sync::Wait;
-
-// The leaf behind one that is loaded, by its link, 0 for none.
-fn link_of<L: Law, S: Sleep>(mtr: &Mtr<'_, L, S>, leaf: u32) -> u32
-    requires mtr { IsMtr mtr.now.latches.now mtr.now.pass.now }
-    requires loaded { (image : List ℕ) × (changed_of leaf mtr.now.pass.now.work ≡ Some image)
-        × IsFormed image }
-    ensures { (image : List ℕ) → changed_of leaf mtr.now.pass.now.work ≡ Some image
-        → result ≡ next_of image }
-{
-    let image = mtr.image(leaf).unwrap();
-    image.next()
-}
 
 /// Goes from a leaf to the next (`btr_pcur_move_to_next_page`): the next leaf's latch is taken in S and
 /// the leaf loaded, and only then the old leaf's is given up. The old leaf is after all entries seen then
@@ -48,7 +35,7 @@ pub fn next_leaf<L: Trees, R: Wait>(rt: &R, mtr: &mut Mtr<'_, L, Parkers>, leaf:
 {
     L::trees_law();
     let _ = mtr.geometry().pages();
-    let next = link_of(mtr, leaf);
+    let next = right_of(mtr, leaf);
     if next == 0 {
         return None;
     }

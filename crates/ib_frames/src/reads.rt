@@ -11,7 +11,6 @@ ghost use Rattle.ib_rule.specs.Views.{reaching};
 ghost use Rattle.ib_frames.specs.Reads.{AreRight, with_page_loaded};
 
 use ib_logrec::Law;
-use ib_map::PAGE_WORDS;
 use ib_page::Image;
 use ib_rule::{Pass, Space};
 
@@ -32,21 +31,8 @@ pub fn read_page<L: Law>(space: &Space<L>, pass: &mut Pass, page: u32, out: &mut
         pass.new.view.memory.seen }
     ensures right { AreRight (by_place L.opening space.now.sizes.pages) pass.new.view }
 {
-    load_words(space, pass, page, out);
+    space.load_page(pass, page, out);
     space.load_end(pass);
-}
-
-// Loads the words of a page, one load each.
-fn load_words<L: Law>(space: &Space<L>, pass: &mut Pass, page: u32, out: &mut Image)
-    requires own { IsOf space.now pass.old }
-    requires page { page < space.now.sizes.pages }
-    requires held { 0 < holdings (page + 2) pass.old.view.session }
-    ensures { pass.new ≡ with_view pass.old (with_page_loaded page out.new pass.old.view) }
-{
-    for index in 0..PAGE_WORDS {
-        let word = space.load_page_word(pass, page, index as u32);
-        out.set_word(index, word);
-    }
 }
 
 /// The log's end: how many entries the log has, and how many words they have.

@@ -1,15 +1,14 @@
 -- The clauses of the form, from the test's parts and back.
-use Rattle.std.proofs.Common.{inl, inr, ◌≡◌, ℕ, zero, suc, ◌+◌, ◌-◌, ◌*◌, ◌/◌, ◌%◌, ◌<◌, ◌≤◌, true, false, ◌∙◌, List, [], ◌∷◌, ◌++◌, length, get_or, refl, ap, sym, arith, subst}
-use Rattle.std.proofs.lemmas.Bool.{cases_Bool, cases_eq, eq-eqb, ne_eqb}
-use Rattle.std.proofs.lemmas.List.{get_or-replicate}
-use Rattle.std.specs.Prelude.{replicate}
+use Rattle.std.proofs.Common.{inl, inr, ◌≡◌, ℕ, zero, suc, ◌+◌, ◌-◌, ◌*◌, ◌/◌, ◌%◌, ◌<◌, ◌≤◌, true, false, ◌∙◌, List, [], ◌∷◌, ◌++◌, length, get_or, refl, ap, sym, arith, subst, length-append, ◌&&◌, eqb}
+use Rattle.std.proofs.lemmas.Bool.{cases_Bool, cases_eq, eq-eqb, eqb-true, and_from, and_parts}
 use Rattle.ib_map.specs.Keys.{end_rank}
 use Rattle.ib_heap.specs.Page.{rises, HasLimits}
-use Rattle.ib_heap.specs.Heap.{Node, Heap, is_heap, read_heap, are_places, places_of, chain_from, free_from, is_directory, is_owned, owners, records_in, first_of, first_free, used, times, each_once}
-use Rattle.ib_heap.specs.Walks.{HasHead, HasSlots, HasChain, end_from, free_end}
+use Rattle.ib_heap.specs.Heap.{Node, Heap, is_heap, read_heap, places_of, chain_from, free_from, is_directory, is_owned, owners, records_in, first_of, first_free, used}
+use Rattle.ib_heap.specs.Walks.{HasHead, HasSlots, IsUnmet, are_new, met_with, first_step, chain_holds, end_from, free_end}
 use Rattle.ib_heap.proofs.PageLaws.{rises-Decides}
-use Rattle.ib_heap.proofs.HeapLaws.{Chained, Freed, Directory, ArePlaces, EachOnce, IsHeap, IsHeap-Decides, Owned-Decides, Directory-Decides, ArePlaces-Decides, ArePlaces-left, ArePlaces-right, EachOnce-Decides}
+use Rattle.ib_heap.proofs.HeapLaws.{Chained, Freed, Directory, ArePlaces, EachOnce, IsHeap, IsHeap-Decides, Owned-Decides, Directory-Decides, ArePlaces-left}
 use Rattle.ib_heap.proofs.SeekLaws.{first-in, owner-last, directory-at, directory-few, owners-some, length-records}
+use Rattle.ib_heap.proofs.MetLaws.{new-append, new-places, new-few, few-new, few-once, once-few}
 use Rattle.ib_heap.proofs.FormedLoops.{chained-from, freed-from, slots-number}
 
 pub length-chain : (ws : List ℕ) (n p : ℕ) → length (chain_from ws n p) ≡ n
@@ -32,6 +31,10 @@ last-word : (ws : List ℕ) (xs : List Node) (last : ℕ) → Chained ws xs last
 last-word ws [] last c = c
 last-word ws (x ∷ xs) last c = last-word ws xs last c.1
 
+length-places : (xs : List Node) → length (places_of xs) ≡ length xs
+length-places [] = refl
+length-places (x ∷ xs) = ap suc (length-places xs)
+
 pub refuse : (ws : List ℕ) → (IsHeap ws (read_heap ws) → ⊥) → false ≡ is_heap ws (read_heap ws)
 refuse ws bad = elim (cases_Bool (is_heap ws (read_heap ws))) [
   | inl good ↦ absurd (bad ((IsHeap-Decides ws (read_heap ws)).0 good))
@@ -52,12 +55,6 @@ module _ (ws : List ℕ) (k : IsHeap ws (read_heap ws)) where
 
   used-is : used h ≡ (get_or ws 7 0 % 256 - 20) / 3
   used-is = let t = k.top in let f = k.few in omega arith
-
-  pub places-of : are_places ((get_or ws 7 0 % 256 - 20) / 3) (places_of h.nodes) ≡ true
-  places-of = (ArePlaces-Decides _ _).1 (subst (λ (n : ℕ). ArePlaces n (places_of h.nodes)) used-is (ArePlaces-left _ _ _ k.places))
-
-  pub free-of : are_places ((get_or ws 7 0 % 256 - 20) / 3) h.free ≡ true
-  free-of = (ArePlaces-Decides _ _).1 (subst (λ (n : ℕ). ArePlaces n h.free) used-is (ArePlaces-right _ _ _ k.places))
 
   pub end-of : end_from ws (get_or ws 2 0) (get_or ws 18 0 % 256) ≡ 19
   end-of = chained-end ws (get_or ws 2 0) (get_or ws 18 0 % 256) h.last k.chained (let s = k.start in let l = low in omega arith)
@@ -85,15 +82,25 @@ module _ (ws : List ℕ) (k : IsHeap ws (read_heap ws)) where
   pub rises-of : rises 0 (records_in ws h.nodes) end_rank ≡ true
   rises-of = (rises-Decides 0 (records_in ws h.nodes) end_rank).1 k.fits.ascends
 
-  pub chain-of : HasChain ws h.nodes (end_from ws (get_or ws 2 0) (get_or ws 18 0 % 256))
-  chain-of = (end-of, (owned-of, (directory-of, (slots-of, rises-of))))
+  holds-of : chain_holds ws (get_or ws 2 0) (first_step ws) ≡ true
+  holds-of = and_from _ _ (eq-eqb _ _ end-of) (and_from _ _ owned-of (and_from _ _ directory-of rises-of))
 
-  pub once-of : each_once ((get_or ws 7 0 % 256 - 20) / 3) (places_of h.nodes ++ h.free) ≡ true
-  once-of = (EachOnce-Decides _ _).1 (subst (λ (n : ℕ). EachOnce n (places_of h.nodes ++ h.free)) used-is k.once)
+  new-of : (met : List ℕ) → IsUnmet met → are_new ((get_or ws 7 0 % 256 - 20) / 3) met (places_of h.nodes ++ h.free) ≡ true
+  new-of met unmet =
+      let few : used h ≤ 35 = k.few in
+      subst (λ (n : ℕ). are_new n met (places_of h.nodes ++ h.free) ≡ true) used-is
+      (few-new (used h) met (places_of h.nodes ++ h.free) few unmet.size k.places
+      (λ r lt. let z = unmet.none r (omega arith) in let o = once-few (used h) (places_of h.nodes ++ h.free) k.once r lt in omega arith))
 
-places-join : (n : ℕ) (ps qs : List ℕ) → ArePlaces n ps → ArePlaces n qs → ArePlaces n (ps ++ qs)
-places-join n [] qs a b = b
-places-join n (p ∷ ps) qs a b = (a.0, places-join n ps qs a.1 b)
+  new-parts : (met : List ℕ) → IsUnmet met → (are_new ((get_or ws 7 0 % 256 - 20) / 3) met (places_of h.nodes) ≡ true) × (are_new ((get_or ws 7 0 % 256 - 20) / 3) (met_with met (places_of h.nodes)) h.free ≡ true)
+  new-parts met unmet = and_parts (are_new ((get_or ws 7 0 % 256 - 20) / 3) met (places_of h.nodes)) (are_new ((get_or ws 7 0 % 256 - 20) / 3) (met_with met (places_of h.nodes)) h.free)
+      (sym (new-append ((get_or ws 7 0 % 256 - 20) / 3) met (places_of h.nodes) h.free) ∙ new-of met unmet)
+
+  pub chain-of : (met : List ℕ) → IsUnmet met → (are_new ((get_or ws 7 0 % 256 - 20) / 3) met (places_of h.nodes) && chain_holds ws (get_or ws 2 0) (first_step ws)) ≡ true
+  chain-of met unmet = and_from _ _ (new-parts met unmet).0 holds-of
+
+  pub free-of : (met : List ℕ) → IsUnmet met → (are_new ((get_or ws 7 0 % 256 - 20) / 3) (met_with met (places_of h.nodes)) h.free && eqb (free_end ws ((get_or ws 7 0 % 256 - 20) / 3 - get_or ws 2 0) (get_or ws 6 0)) 0) ≡ true
+  free-of met unmet = and_from _ _ (new-parts met unmet).1 (eq-eqb _ _ list-of)
 
 abbrev top_n : List ℕ → ℕ
 top_n ws = (get_or ws 7 0 % 256 - 20) / 3
@@ -110,20 +117,29 @@ top-fits ws h =
     let a = h.1.0 in let b = h.1.1.0 in let d = h.1.1.1.1.0 in
     record { low = b; few = omega arith; count = h.1.1.1.1.1.0; records = a }
 
-pub formed-from : (ws : List ℕ) → length ws ≡ 128 → HasHead ws → HasLimits (get_or ws 1 0) (get_or ws 3 0) (get_or ws 4 0) → are_places (top_n ws) (places_of (read_heap ws).nodes) ≡ true
-    → HasChain ws (read_heap ws).nodes (end_from ws (get_or ws 2 0) (get_or ws 18 0 % 256)) → are_places (top_n ws) (read_heap ws).free ≡ true → free_end ws (top_n ws - get_or ws 2 0) (get_or ws 6 0) ≡ 0
-    → each_once (top_n ws) (places_of (read_heap ws).nodes ++ (read_heap ws).free) ≡ true → IsHeap ws (read_heap ws)
-formed-from ws size hd lm pl chain fp fe on =
+pub formed-from : (ws met : List ℕ) → IsUnmet met → length ws ≡ 128 → HasHead ws → HasLimits (get_or ws 1 0) (get_or ws 3 0) (get_or ws 4 0) → HasSlots ws → (are_new (top_n ws) met (places_of (read_heap ws).nodes) && chain_holds ws (get_or ws 2 0) (first_step ws)) ≡ true
+    → (are_new (top_n ws) (met_with met (places_of (read_heap ws).nodes)) (read_heap ws).free && eqb (free_end ws (top_n ws - get_or ws 2 0) (get_or ws 6 0)) 0) ≡ true → IsHeap ws (read_heap ws)
+formed-from ws met unmet size hd lm sl chain rest =
     let g : Heap = read_heap ws in
-    let en = chain.0 in let ow = chain.1.0 in let di = chain.1.1.0 in let sl = chain.1.1.1.0 in let ri = chain.1.1.1.1 in
+    let a0 = and_parts _ _ chain in let b0 = and_parts _ _ rest in
+    let new : are_new (top_n ws) met (places_of g.nodes ++ g.free) ≡ true = new-append (top_n ws) met (places_of g.nodes) g.free ∙ and_from _ _ a0.0 b0.0 in
+    let fe = eqb-true _ _ b0.1 in
+    let c0 = and_parts _ _ a0.1 in let c1 = and_parts _ _ c0.1 in let c2 = and_parts _ _ c1.1 in
+    let en = eqb-true _ _ c0.0 in
     let hd2 = hd.1.0 in let hd3 = hd.1.1.0 in let hd4 = hd.1.1.1.0 in let hd5 = hd.1.1.1.1.0 in let hd6 = hd.1.1.1.1.1.0 in let hd7 = hd.1.1.1.1.1.1.0 in let hd8 = hd.1.1.1.1.1.1.1.0 in let hd9 = hd.1.1.1.1.1.1.1.1 in
     let ln = length-chain ws (get_or ws 2 0) (get_or ws 18 0 % 256) in
     let lf = length-free ws (top_n ws - get_or ws 2 0) (get_or ws 6 0) in
     let us : top_n ws ≡ used g = omega arith in
-    let pln : ArePlaces (top_n ws) (places_of g.nodes) = (ArePlaces-Decides (top_n ws) (places_of g.nodes)).0 pl in
+    let few : top_n ws ≤ 35 = omega arith in
+    let pl : ArePlaces (top_n ws) (places_of g.nodes ++ g.free) = new-places (top_n ws) met (places_of g.nodes ++ g.free) new in
+    let lp : length (places_of g.nodes ++ g.free) ≡ top_n ws = (let a = length-append (places_of g.nodes) g.free in let b = length-places g.nodes in omega arith) in
+    let once : EachOnce (top_n ws) (places_of g.nodes ++ g.free) = few-once (top_n ws) (places_of g.nodes ++ g.free) pl lp (λ r lt.
+    let f = new-few (top_n ws) met (places_of g.nodes ++ g.free) few unmet.size (λ q below. let z = unmet.none q (omega arith) in omega arith) new r lt in
+    let z = unmet.none r (omega arith) in omega arith) in
+    let pln : ArePlaces (top_n ws) (places_of g.nodes) = ArePlaces-left _ _ _ pl in
     let ch = chained-from ws (get_or ws 2 0) (get_or ws 18 0 % 256) g.last en (omega arith) in
     let fr = freed-from ws (top_n ws - get_or ws 2 0) (get_or ws 6 0) fe in
-    let dir : Directory ws 10 8 (18 ∷ owners g.nodes) = (hd9.0, (Directory-Decides ws 9 9 (owners g.nodes)).0 di) in
+    let dir : Directory ws 10 8 (18 ∷ owners g.nodes) = (hd9.0, (Directory-Decides ws 9 9 (owners g.nodes)).0 c2.0) in
     let s0 = sl.0 in let s1 = sl.1.0 in
     let some = owners-some g.nodes in
     let at : get_or (18 ∷ owners g.nodes) (suc (get_or ws 7 0 / 256 - 2)) 0 ≡ 19 = sym (directory-at ws 10 8 (18 ∷ owners g.nodes) (suc (get_or ws 7 0 / 256 - 2)) dir (omega arith)) ∙ (ap (λ i. get_or ws i 0) (let e : 8 + suc (get_or ws 7 0 / 256 - 2) ≡ 7 + get_or ws 7 0 / 256 = omega arith in e) ∙ sl.1.1) in
@@ -134,35 +150,18 @@ formed-from ws size hd lm pl chain fp fe on =
       size = size;
       kind = hd.0;
       count = sym ln;
-      fits = record { level = lm.0; prev = lm.1; next = lm.2; no_prev = λ p. elim lm.3 [ inl z ↦ absurd (omega arith) | inr z ↦ z.0 ]; no_next = λ p. elim lm.3 [ inl z ↦ absurd (omega arith) | inr z ↦ z.1 ]; few = omega arith; ascends = (rises-Decides 0 (records_in ws g.nodes) end_rank).0 ri };
+      fits = record { level = lm.0; prev = lm.1; next = lm.2; no_prev = λ p. elim lm.3 [ inl z ↦ absurd (omega arith) | inr z ↦ z.0 ]; no_next = λ p. elim lm.3 [ inl z ↦ absurd (omega arith) | inr z ↦ z.1 ]; few = omega arith; ascends = (rises-Decides 0 (records_in ws g.nodes) end_rank).0 c2.1 };
       front = fr.1;
       top = omega arith;
       few = omega arith;
       start = omega arith;
       chained = ch.0;
       freed = fr.0;
-      owned = (Owned-Decides 0 g.nodes g.last).0 ow;
+      owned = (Owned-Decides 0 g.nodes g.last).0 c1.0;
       directory = dir;
-      places = subst (λ (n : ℕ). ArePlaces n (places_of g.nodes ++ g.free)) us (places-join (top_n ws) (places_of g.nodes) g.free pln ((ArePlaces-Decides _ _).0 fp));
-      once = subst (λ (n : ℕ). EachOnce n (places_of g.nodes ++ g.free)) us ((EachOnce-Decides _ _).0 on);
+      places = subst (λ (n : ℕ). ArePlaces n (places_of g.nodes ++ g.free)) us pl;
+      once = subst (λ (n : ℕ). EachOnce n (places_of g.nodes ++ g.free)) us once;
       zero_125 = hd9.1.0;
       zero_126 = hd9.1.1.0;
       zero_127 = hd9.1.1.1;
     }
-
-pub times-few : (q : ℕ) (ps : List ℕ) → times q ps ≤ length ps
-times-few q [] = omega arith
-times-few q (p ∷ ps) = let r = times-few q ps in elim (cases_eq p q) [ inl e ↦ rw (eq-eqb p q e) (omega arith) | inr ne ↦ rw (ne_eqb p q ne) (omega arith) ]
-
-length-places : (xs : List Node) → length (places_of xs) ≡ length xs
-length-places [] = refl
-length-places (x ∷ xs) = ap suc (length-places xs)
-
-pub chain-few : (ws : List ℕ) (n p q : ℕ) → n ≤ 35 → times q (places_of (chain_from ws n p)) ≤ 35
-chain-few ws n p q le = let a = times-few q (places_of (chain_from ws n p)) in let b = length-places (chain_from ws n p) in let d = length-chain ws n p in omega arith
-
-abbrev pub no_seen : List ℕ
-no_seen = replicate 35 0
-
-pub no-marks : (r : ℕ) → r < 35 → get_or no_seen r 0 ≡ 0
-no-marks r lt = get_or-replicate 35 r 0 0 lt

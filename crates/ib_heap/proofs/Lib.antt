@@ -34,6 +34,7 @@ pub mod KeptLaws
 pub mod CutSteps
 pub mod BalanceSteps
 pub mod RemovalLaws
+pub mod MetLaws
 pub mod FormedSteps
 pub mod FormedLoops
 pub mod FormedParts

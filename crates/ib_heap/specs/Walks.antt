@@ -1,8 +1,10 @@
--- What the test of a page looks at, one walk after another.
-use Rattle.std.specs.Prelude.{◌≡◌, ℕ, zero, suc, ◌+◌, ◌-◌, ◌/◌, ◌%◌, ◌≤◌, Bool, true, ◌==◌, ◌&&◌, List, slice_index}
-use Rattle.ib_map.specs.Keys.{end_rank}
+-- What the test of a page looks at, in one walk of the chain and one of the free list.
+use Rattle.std.specs.Prelude.{◌≡◌, ℕ, zero, suc, ◌+◌, ◌-◌, ◌/◌, ◌*◌, ◌%◌, ◌<◌, ◌≤◌, Bool, true, ◌==◌, ◌&&◌, List, [], ◌∷◌, Option, None, Some, length, slice_index, slice_set}
+use Rattle.ib_map.specs.declared.TheConstants.{PAGE_WORDS}
+use Rattle.ib_map.specs.Keys.{rank, end_rank}
+use Rattle.ib_heap.specs.declared.formed.ChainStep.{ChainStep}
 use Rattle.ib_heap.specs.Page.{rises}
-use Rattle.ib_heap.specs.Heap.{Node, owners, is_owned, is_directory, records_in}
+use Rattle.ib_heap.specs.Heap.{is_place, chain_from, owners, is_owned, is_directory, records_in}
 
 -- where the chain stands after n records from a place on
 abbrev pub end_from : List ℕ → ℕ → ℕ → ℕ
@@ -14,11 +16,6 @@ abbrev pub free_end : List ℕ → ℕ → ℕ → ℕ
 free_end ws zero p = p
 free_end ws (suc n) p = free_end ws n (slice_index ws p)
 
--- whether the first n of these numbers are 1
-abbrev pub each_one : List ℕ → ℕ → Bool
-each_one seen zero = true
-each_one seen (suc n) = (slice_index seen n == 1) && each_one seen n
-
 -- the words of the head that stand by themselves: kind, count, top, the start and the end of the chain, and the zeros behind the records
 abbrev pub HasHead : List ℕ → Type 0
 HasHead ws = (slice_index ws 0 ≡ 1) × ((slice_index ws 2 ≤ 35) × ((20 ≤ slice_index ws 7 % 256) × (((slice_index ws 7 % 256 - 20) % 3 ≡ 0) × ((slice_index ws 7 % 256 ≤ 125)
@@ -28,6 +25,47 @@ HasHead ws = (slice_index ws 0 ≡ 1) × ((slice_index ws 2 ≤ 35) × ((20 ≤ 
 abbrev pub HasSlots : List ℕ → Type 0
 HasSlots ws = (2 ≤ slice_index ws 7 / 256) × ((slice_index ws 7 / 256 ≤ 10) × (slice_index ws (7 + slice_index ws 7 / 256) ≡ 19))
 
--- these records, behind which the chain stands at `end`, are those of a page: it ends at the supremum, their keys ascend, and their slots are those of the directory
-abbrev pub HasChain : List ℕ → List Node → ℕ → Type 0
-HasChain ws nodes end = (end ≡ 19) × ((is_owned 0 nodes (slice_index ws 19 / 256) ≡ true) × ((is_directory ws 9 9 (owners nodes) ≡ true) × (HasSlots ws × (rises 0 (records_in ws nodes) end_rank ≡ true))))
+-- no word but the heads of record places is 0: only those may still be met
+abbrev pub HasOnlyPlaces : List ℕ → Type 0
+HasOnlyPlaces met = (p : ℕ) → p < 125 → slice_index met p ≡ 0 → is_place 35 p ≡ true
+
+-- no record place is met
+pub record IsUnmet (met : List ℕ) : Type 0 where
+  pub size : length met ≡ PAGE_WORDS
+  pub none : (r : ℕ) → r < 35 → slice_index met (20 + 3 * r) ≡ 0
+  pub places : HasOnlyPlaces met
+
+-- the word is the head of one of the first n record places, and was not met before
+abbrev pub is_new : ℕ → List ℕ → ℕ → Bool
+is_new n met p = is_place n p && (slice_index met p == 0)
+
+-- the same of each of these words, of which none stands twice
+abbrev pub are_new : ℕ → List ℕ → List ℕ → Bool
+are_new n met [] = true
+are_new n met (p ∷ ps) = is_new n met p && are_new n (slice_set met p 1) ps
+
+-- what was met, with these words
+abbrev pub met_with : List ℕ → List ℕ → List ℕ
+met_with met [] = met
+met_with met (p ∷ ps) = met_with (slice_set met p 1) ps
+
+-- the least rank of a key behind another, where there is one
+abbrev pub low_of : Option ℕ → ℕ
+low_of None = 0
+low_of (Some last) = rank last + 1
+
+-- the step in front of the first record
+abbrev pub first_step : List ℕ → ChainStep
+first_step ws = record { at = slice_index ws 18 % 256; owned = 0; slot = 1; last = None }
+
+-- the next n records are the rest of a page's chain: it ends at the supremum, their slots are those of the directory, and their keys ascend
+abbrev pub chain_holds : List ℕ → ℕ → ChainStep → Bool
+chain_holds ws n s = (end_from ws n s.at == 19) && (is_owned s.owned (chain_from ws n s.at) (slice_index ws 19 / 256)
+    && (is_directory ws (10 - s.slot) (8 + s.slot) (owners (chain_from ws n s.at)) && rises (low_of s.last) (records_in ws (chain_from ws n s.at)) end_rank))
+
+-- what the step behind a record leaves to be tested
+pub record LeavesStep (ws : List ℕ) (s next : ChainStep) : Type 0 where
+  pub at : next.at ≡ slice_index ws s.at % 256
+  pub holds : (m : ℕ) → chain_holds ws (suc m) s ≡ chain_holds ws m next
+  pub owned : next.owned ≤ s.owned + 1
+  pub last : low_of next.last ≤ end_rank

@@ -1,11 +1,10 @@
-//! The test whether words are a page, one walk after another (`page_validate`, `page_simple_validate_new`).
+//! The test whether words are a page, in one walk of the chain and one of the free list (`page_validate`, `page_simple_validate_new`).
 
-ghost use Rattle.std.specs.Prelude.{[], ◌∷◌, ℕ, ◌≡◌, true, ◌+◌, ◌-◌, ◌*◌, ◌/◌, ◌%◌, ◌<◌, ◌≤◌, ◌++◌, IsTrue, ◌↔◌, length, slice_index};
+ghost use Rattle.std.specs.Prelude.{[], ◌∷◌, ℕ, ◌≡◌, true, false, suc, ◌+◌, ◌-◌, ◌/◌, ◌%◌, ◌<◌, ◌≤◌, ◌==◌, ◌&&◌, IsTrue, ◌↔◌, MatchOption, length, slice_index, slice_set};
 ghost use Rattle.ib_map.specs.Keys.{rank, end_rank};
-ghost use Rattle.ib_heap.specs.Page.{rises};
 ghost use Rattle.ib_heap.specs.Image.{IsFormed};
-ghost use Rattle.ib_heap.specs.Heap.{is_place, are_places, places_of, chain_from, is_owned, free_from, owners, is_directory, records_in, times, each_once, is_heap, read_heap};
-ghost use Rattle.ib_heap.specs.Walks.{end_from, free_end, each_one, HasHead, HasSlots, HasChain};
+ghost use Rattle.ib_heap.specs.Heap.{places_of, chain_from, free_from, is_directory, is_heap, read_heap};
+ghost use Rattle.ib_heap.specs.Walks.{IsUnmet, HasOnlyPlaces, is_new, are_new, met_with, first_step, low_of, chain_holds, LeavesStep, free_end, HasHead, HasSlots};
 
 use crate::MOST_RECORDS;
 use crate::form::{
@@ -14,6 +13,14 @@ use crate::form::{
 };
 use crate::page::{has_limits, is_free};
 use ib_map::{Key, PAGE_WORDS, is_below};
+
+// What a walk has met before it begins: all words but the heads of record places.
+const NO_PLACES: [u8; PAGE_WORDS] = [
+    1, 1, 1, 1, 1, 1, 1, 1, 1, 1, 1, 1, 1, 1, 1, 1, 1, 1, 1, 1, 0, 1, 1, 0, 1, 1, 0, 1, 1, 0, 1, 1,
+    0, 1, 1, 0, 1, 1, 0, 1, 1, 0, 1, 1, 0, 1, 1, 0, 1, 1, 0, 1, 1, 0, 1, 1, 0, 1, 1, 0, 1, 1, 0, 1,
+    1, 0, 1, 1, 0, 1, 1, 0, 1, 1, 0, 1, 1, 0, 1, 1, 0, 1, 1, 0, 1, 1, 0, 1, 1, 0, 1, 1, 0, 1, 1, 0,
+    1, 1, 0, 1, 1, 0, 1, 1, 0, 1, 1, 0, 1, 1, 0, 1, 1, 0, 1, 1, 0, 1, 1, 0, 1, 1, 0, 1, 1, 1, 1, 1,
+];
 
 /// Whether the words are those of a free page or of a page of the tree.
 pub fn is_formed(words: &[u64]) -> bool
@@ -38,51 +45,16 @@ fn has_heap(words: &[u64]) -> bool
     if !has_limits(words[LEVEL], words[PREV], words[NEXT]) {
         return false;
     }
+    if !has_slots(words) {
+        return false;
+    }
     let count = words[COUNT] as usize;
     let n = ((words[TOP] % ONE) as usize - FIRST_PLACE) / PLACE_WORDS;
-    if !chain_places(words, count, n) {
+    let mut met = unmet();
+    if !has_chain(words, &mut met, count, n) {
         return false;
     }
-    if !free_places(words, n - count, n) {
-        return false;
-    }
-    if !has_chain(words, count, n) {
-        return false;
-    }
-    if list_end(words, n - count, n) != 0 {
-        return false;
-    }
-    has_each_once(words, count, n)
-}
-
-// Whether the chain of so many records ends at the supremum, with ascending keys and the slots of the directory.
-fn has_chain(words: &[u64], count: usize, n: usize) -> bool
-    requires size { length words.now ≡ PAGE_WORDS }
-    requires few { n ≤ 35 }
-    requires count { count ≤ 35 }
-    requires places { are_places n (places_of (chain_from words.now count (slice_index words.now 18 % 256))) ≡ true }
-    ensures { IsTrue result ↔ HasChain words.now (chain_from words.now count (slice_index words.now 18 % 256)) (end_from words.now count (slice_index words.now 18 % 256)) }
-{
-    chain_end(words, count, n) == SUPREMUM
-        && chain_owned(words, count, n)
-        && chain_directory(words, count, n)
-        && has_slots(words)
-        && keys_ascend(words, count, n)
-}
-
-// Whether each of the first n places stands once in the chain and the free list together.
-fn has_each_once(words: &[u64], count: usize, n: usize) -> bool
-    requires size { length words.now ≡ PAGE_WORDS }
-    requires few { n ≤ 35 }
-    requires count { count ≤ n }
-    requires places { are_places n (places_of (chain_from words.now count (slice_index words.now 18 % 256))) ≡ true }
-    requires free_places { are_places n (free_from words.now (n - count) (slice_index words.now 6)) ≡ true }
-    ensures { result ≡ each_once n (places_of (chain_from words.now count (slice_index words.now 18 % 256)) ++ free_from words.now (n - count) (slice_index words.now 6)) }
-{
-    let mut seen = [0; MOST_RECORDS];
-    mark_chain(words, &mut seen, count, n);
-    mark_free(words, &mut seen, n - count, n);
-    all_once(&seen, n)
+    has_free(words, &mut met, n - count, n)
 }
 
 // Whether the words of the head are right that stand by themselves.
@@ -114,68 +86,115 @@ fn has_slots(words: &[u64]) -> bool
     2 <= slots && slots <= MOST_SLOTS as u64 && words[TOP + slots as usize] as usize == SUPREMUM
 }
 
-// Whether a word is the head of one of the first n record places.
-fn has_place(at: usize, n: usize) -> bool
-    requires { n ≤ 35 }
-    ensures place { result ≡ is_place n at }
-    ensures low { result ≡ true → at ≤ 122 }
+// What a walk has met before it begins.
+fn unmet() -> [u8; PAGE_WORDS]
+    ensures { IsUnmet result }
 {
-    at >= FIRST_PLACE && (at - FIRST_PLACE) % PLACE_WORDS == 0 && at < FIRST_PLACE + PLACE_WORDS * n
+    NO_PLACES
 }
 
-// Whether so many records of the chain stand at record places.
-fn chain_places(words: &[u64], count: usize, n: usize) -> bool
-    requires size { length words.now ≡ PAGE_WORDS }
+// Whether a word is the head of one of the first n record places and was not met before. It is met now.
+fn meet(met: &mut [u8], at: usize, n: usize) -> bool
+    requires size { length met.old ≡ PAGE_WORDS }
     requires few { n ≤ 35 }
-    ensures { result ≡ are_places n (places_of (chain_from words.now count (slice_index words.now 18 % 256))) }
+    requires places { HasOnlyPlaces met.old }
+    ensures is_new { result ≡ is_new n met.old at }
+    ensures meets { result ≡ true → met.new ≡ slice_set met.old at 1 }
+    ensures places { HasOnlyPlaces met.new }
+    ensures low { result ≡ true → at ≤ 122 }
 {
-    let mut at = (words[INFIMUM] % ONE) as usize;
-    for i in 0..count {
-        if !has_place(at, n) {
-            return false;
-        }
-        at = (words[at] % ONE) as usize;
+    if at >= FIRST_PLACE + PLACE_WORDS * n {
+        return false;
     }
+    if met[at] != 0 {
+        return false;
+    }
+    met[at] = 1;
     true
 }
 
-// Where the chain stands after so many records.
-fn chain_end(words: &[u64], count: usize, n: usize) -> usize
-    requires size { length words.now ≡ PAGE_WORDS }
-    requires few { n ≤ 35 }
-    requires places { are_places n (places_of (chain_from words.now count (slice_index words.now 18 % 256))) ≡ true }
-    ensures { result ≡ end_from words.now count (slice_index words.now 18 % 256) }
-{
-    let mut at = (words[INFIMUM] % ONE) as usize;
-    for i in 0..count {
-        at = (words[at] % ONE) as usize;
-    }
-    at
+// Where a walk of the chain stands: the next record, how many stand behind the last one that has a slot,
+// the next slot of the directory, and the key of the last record.
+#[derive(Clone, Copy)]
+pub(crate) struct ChainStep {
+    at: usize,
+    owned: u64,
+    slot: usize,
+    last: Option<Key>,
 }
 
-// Whether each slot of so many records owns what it should.
-fn chain_owned(words: &[u64], count: usize, n: usize) -> bool
-    requires size { length words.now ≡ PAGE_WORDS }
-    requires few { n ≤ 35 }
-    requires count { count ≤ 35 }
-    requires places { are_places n (places_of (chain_from words.now count (slice_index words.now 18 % 256))) ≡ true }
-    ensures { result ≡ is_owned 0 (chain_from words.now count (slice_index words.now 18 % 256)) (slice_index words.now 19 / 256) }
-{
-    let mut at = (words[INFIMUM] % ONE) as usize;
-    let mut owned = 0u64;
-    for i in 0..count {
-        let head = words[at] / ONE;
-        if head == 0 {
-            owned += 1;
-        } else {
-            if !is_slot(head, owned) {
-                return false;
-            }
-            owned = 0;
+impl ChainStep {
+    // The step behind the record here. None where no chain of a page goes on so.
+    fn next(self, words: &[u64]) -> Option<ChainStep>
+        requires size { length words.now ≡ PAGE_WORDS }
+        requires low { self.at ≤ 122 }
+        requires few { self.owned ≤ 35 }
+        ensures { MatchOption result ((m : ℕ) → chain_holds words.now (suc m) self ≡ false) (LeavesStep words.now self) }
+    {
+        let key = words[self.at + 1];
+        if !is_above(key, self.last) {
+            return None;
         }
-        at = (words[at] % ONE) as usize;
+        let at = (words[self.at] % ONE) as usize;
+        let head = words[self.at] / ONE;
+        if head == 0 {
+            return Some(ChainStep {
+                at,
+                owned: self.owned + 1,
+                slot: self.slot,
+                last: Some(key),
+            });
+        }
+        if !is_slot(head, self.owned) {
+            return None;
+        }
+        if !has_owner(words, self.slot, self.at) {
+            return None;
+        }
+        Some(ChainStep {
+            at,
+            owned: 0,
+            slot: self.slot + 1,
+            last: Some(key),
+        })
     }
-    words[SUPREMUM] / ONE == owned + 1 && words[SUPREMUM] / ONE <= MOST_OWNED
+
+    // Whether a chain of a page ends here.
+    fn is_end(self, words: &[u64]) -> bool
+        requires size { length words.now ≡ PAGE_WORDS }
+        requires few { self.owned ≤ 35 }
+        requires last { low_of self.last ≤ end_rank }
+        ensures { result ≡ chain_holds words.now 0 self }
+    {
+        if self.at != SUPREMUM {
+            return false;
+        }
+        if !is_last_slot(words[SUPREMUM] / ONE, self.owned) {
+            return false;
+        }
+        if !has_owner(words, self.slot, SUPREMUM) {
+            return false;
+        }
+        no_more(words, self.slot + 1)
+    }
+}
+
+// Whether a key is above another, where there is one.
+fn is_above(key: Key, last: Option<Key>) -> bool
+    ensures { IsTrue result ↔ (low_of last ≤ rank key) }
+{
+    match last {
+        Some(last) => is_below(last, key),
+        None => true,
+    }
+}
+
+// Whether a slot of the directory is that of the record at a place.
+fn has_owner(words: &[u64], slot: usize, at: usize) -> bool
+    requires { length words.now ≡ PAGE_WORDS }
+    ensures { IsTrue result ↔ ((slot < 10) × (slice_index words.now (8 + slot) ≡ at)) }
+{
+    slot < MOST_SLOTS && words[DIRECTORY + slot] == at as u64
 }
 
 // Whether a slot with so many records before its owner owns them.
@@ -186,34 +205,12 @@ fn is_slot(head: u64, owned: u64) -> bool
     head == owned + 1 && FEWEST_OWNED <= head && head <= MOST_OWNED
 }
 
-// Whether the directory behind the infimum's slot is that of so many records.
-fn chain_directory(words: &[u64], count: usize, n: usize) -> bool
-    requires size { length words.now ≡ PAGE_WORDS }
-    requires few { n ≤ 35 }
-    requires places { are_places n (places_of (chain_from words.now count (slice_index words.now 18 % 256))) ≡ true }
-    ensures { result ≡ is_directory words.now 9 9 (owners (chain_from words.now count (slice_index words.now 18 % 256))) }
+// Whether the supremum's slot with so many records before it owns them.
+fn is_last_slot(head: u64, owned: u64) -> bool
+    requires { owned ≤ 35 }
+    ensures { IsTrue result ↔ ((head ≡ owned + 1) × (head ≤ 8)) }
 {
-    let mut at = (words[INFIMUM] % ONE) as usize;
-    let mut slot = 1;
-    for i in 0..count {
-        if words[at] / ONE != 0 {
-            if slot == MOST_SLOTS {
-                return false;
-            }
-            if words[DIRECTORY + slot] != at as u64 {
-                return false;
-            }
-            slot += 1;
-        }
-        at = (words[at] % ONE) as usize;
-    }
-    if slot == MOST_SLOTS {
-        return false;
-    }
-    if words[DIRECTORY + slot] != SUPREMUM as u64 {
-        return false;
-    }
-    no_more(words, slot + 1)
+    head == owned + 1 && head <= MOST_OWNED
 }
 
 // Whether the directory's words from a slot on are 0.
@@ -230,130 +227,49 @@ fn no_more(words: &[u64], from: usize) -> bool
     true
 }
 
-// Whether the keys of so many records ascend.
-fn keys_ascend(words: &[u64], count: usize, n: usize) -> bool
+// Whether so many records of the chain stand at new places, ascend, and have the slots of the directory, with the supremum behind them.
+fn has_chain(words: &[u64], met: &mut [u8], count: usize, n: usize) -> bool
     requires size { length words.now ≡ PAGE_WORDS }
-    requires few { n ≤ 35 }
-    requires places { are_places n (places_of (chain_from words.now count (slice_index words.now 18 % 256))) ≡ true }
-    ensures { result ≡ rises 0 (records_in words.now (chain_from words.now count (slice_index words.now 18 % 256))) end_rank }
-{
-    if count == 0 {
-        return true;
-    }
-    let at = (words[INFIMUM] % ONE) as usize;
-    let next = (words[at] % ONE) as usize;
-    chain_ascends(words, count - 1, n, next, words[at + 1])
-}
-
-// Whether the keys of so many records ascend from one that is below them.
-fn chain_ascends(words: &[u64], count: usize, n: usize, first: usize, below: Key) -> bool
-    requires size { length words.now ≡ PAGE_WORDS }
-    requires few { n ≤ 35 }
-    requires places { are_places n (places_of (chain_from words.now count first)) ≡ true }
-    ensures { result ≡ rises (rank below + 1) (records_in words.now (chain_from words.now count first)) end_rank }
-{
-    let mut at = first;
-    let mut last = below;
-    for i in 0..count {
-        let key = words[at + 1];
-        if !is_below(last, key) {
-            return false;
-        }
-        last = key;
-        at = (words[at] % ONE) as usize;
-    }
-    true
-}
-
-// Whether so many places of the free list are record places.
-fn free_places(words: &[u64], count: usize, n: usize) -> bool
-    requires size { length words.now ≡ PAGE_WORDS }
-    requires few { n ≤ 35 }
-    ensures { result ≡ are_places n (free_from words.now count (slice_index words.now 6)) }
-{
-    let mut at = words[FREE] as usize;
-    for i in 0..count {
-        if !has_place(at, n) {
-            return false;
-        }
-        at = words[at] as usize;
-    }
-    true
-}
-
-// Where the free list stands after so many places.
-fn list_end(words: &[u64], count: usize, n: usize) -> usize
-    requires size { length words.now ≡ PAGE_WORDS }
-    requires few { n ≤ 35 }
-    requires places { are_places n (free_from words.now count (slice_index words.now 6)) ≡ true }
-    ensures { result ≡ free_end words.now count (slice_index words.now 6) }
-{
-    let mut at = words[FREE] as usize;
-    for i in 0..count {
-        at = words[at] as usize;
-    }
-    at
-}
-
-// Counts a place.
-fn mark(seen: &mut [u64], at: usize, n: usize)
-    requires size { length seen.old ≡ 35 }
-    requires few { n ≤ 35 }
-    requires place { is_place n at ≡ true }
-    requires low { slice_index seen.old ((at - 20) / 3) ≤ 1000 }
-    ensures marks { (r : ℕ) → r < 35 → slice_index seen.new r ≡ slice_index seen.old r + times (20 + 3 * r) (at ∷ []) }
-    ensures size { length seen.new ≡ length seen.old }
-{
-    let r = (at - FIRST_PLACE) / PLACE_WORDS;
-    seen[r] += 1;
-}
-
-// Counts the places of the chain.
-fn mark_chain(words: &[u64], seen: &mut [u64], count: usize, n: usize)
-    requires size { length words.now ≡ PAGE_WORDS }
-    requires seen_size { length seen.old ≡ 35 }
+    requires met_size { length met.old ≡ PAGE_WORDS }
+    requires met_places { HasOnlyPlaces met.old }
     requires few { n ≤ 35 }
     requires count { count ≤ 35 }
-    requires low { (r : ℕ) → r < 35 → slice_index seen.old r ≤ 100 }
-    requires places { are_places n (places_of (chain_from words.now count (slice_index words.now 18 % 256))) ≡ true }
-    ensures marks { (r : ℕ) → r < 35 → slice_index seen.new r ≡ slice_index seen.old r + times (20 + 3 * r) (places_of (chain_from words.now count (slice_index words.now 18 % 256))) }
-    ensures size { length seen.new ≡ length seen.old }
+    ensures holds { result ≡ (are_new n met.old (places_of (chain_from words.now count (slice_index words.now 18 % 256))) && chain_holds words.now count (first_step words.now)) }
+    ensures met_places { HasOnlyPlaces met.new }
+    ensures meets { result ≡ true → met.new ≡ met_with met.old (places_of (chain_from words.now count (slice_index words.now 18 % 256))) }
 {
-    let mut at = (words[INFIMUM] % ONE) as usize;
+    let mut step = ChainStep {
+        at: (words[INFIMUM] % ONE) as usize,
+        owned: 0,
+        slot: 1,
+        last: None,
+    };
     for i in 0..count {
-        mark(seen, at, n);
-        at = (words[at] % ONE) as usize;
+        if !meet(met, step.at, n) {
+            return false;
+        }
+        match step.next(words) {
+            Some(next) => step = next,
+            None => return false,
+        }
     }
+    step.is_end(words)
 }
 
-// Counts the places of the free list.
-fn mark_free(words: &[u64], seen: &mut [u64], count: usize, n: usize)
+// Whether so many places of the free list are new, with nothing behind them.
+fn has_free(words: &[u64], met: &mut [u8], count: usize, n: usize) -> bool
     requires size { length words.now ≡ PAGE_WORDS }
-    requires seen_size { length seen.old ≡ 35 }
+    requires met_size { length met.old ≡ PAGE_WORDS }
+    requires met_places { HasOnlyPlaces met.old }
     requires few { n ≤ 35 }
-    requires count { count ≤ 35 }
-    requires low { (r : ℕ) → r < 35 → slice_index seen.old r ≤ 100 }
-    requires places { are_places n (free_from words.now count (slice_index words.now 6)) ≡ true }
-    ensures marks { (r : ℕ) → r < 35 → slice_index seen.new r ≡ slice_index seen.old r + times (20 + 3 * r) (free_from words.now count (slice_index words.now 6)) }
-    ensures size { length seen.new ≡ length seen.old }
+    ensures { result ≡ (are_new n met.old (free_from words.now count (slice_index words.now 6)) && free_end words.now count (slice_index words.now 6) == 0) }
 {
     let mut at = words[FREE] as usize;
     for i in 0..count {
-        mark(seen, at, n);
-        at = words[at] as usize;
-    }
-}
-
-// Whether each of the first n places was counted once.
-fn all_once(seen: &[u64], n: usize) -> bool
-    requires size { length seen.now ≡ 35 }
-    requires few { n ≤ 35 }
-    ensures { result ≡ each_one seen.now n }
-{
-    for i in 0..n {
-        if seen[n - 1 - i] != 1 {
+        if !meet(met, at, n) {
             return false;
         }
+        at = words[at] as usize;
     }
-    true
+    at == 0
 }

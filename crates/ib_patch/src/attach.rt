@@ -53,8 +53,9 @@ pub(crate) fn attach_children(
     ensures table { IsStep (attach (marks_of written.now) (positions_of old.now) at.tree (at.height - 1) (children_of (state_of (page_of node.now)).records (end_of at.high)) (positions_of table.old)) result (positions_of table.new) }
     ensures size { length node.now ≡ PAGE_WORDS }
 {
-    for place in 0..reading::count(node) {
-        let child = child_at(node, place, at.high);
+    let count = reading::count(node);
+    for place in 0..count {
+        let child = child_at(node, count, place, at.high);
         let page = child.page as usize;
         let position = PagePosition {
             tree: at.tree,

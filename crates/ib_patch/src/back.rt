@@ -30,8 +30,10 @@ fn are_children_back(
     ensures back { result ≡ are_back (marks_of written.now) (children_of (state_of (page_of node.now)).records (end_of high)) (positions_of table.now) }
     ensures size { length node.now ≡ PAGE_WORDS }
 {
-    for place in 0..reading::count(node) {
-        if !is_back(table, written, child_at(node, place, high).page as usize) {
+    let count = reading::count(node);
+    for place in 0..count {
+        let child = child_at(node, count, place, high);
+        if !is_back(table, written, child.page as usize) {
             return false;
         }
     }

@@ -21,9 +21,10 @@ pub(crate) struct Child {
     pub high: Option<Key>,
 }
 
-// A child of a node whose keys are below `high`, by its place.
-pub(crate) fn child_at(node: &Image, place: usize, high: Option<Key>) -> Child
+// A child of a node with `count` records whose keys are below `high`, by its place.
+pub(crate) fn child_at(node: &Image, count: usize, place: usize, high: Option<Key>) -> Child
     requires tree { IsTreePage node.now }
+    requires count { count ≡ length (state_of (page_of node.now)).records }
     requires in_range { place < length (state_of (page_of node.now)).records }
     ensures { slice_get (children_of (state_of (page_of node.now)).records (end_of high)) place ≡ Some (visit_of_child result) }
 {
@@ -31,17 +32,17 @@ pub(crate) fn child_at(node: &Image, place: usize, high: Option<Key>) -> Child
     Child {
         page,
         low,
-        high: end_of_child(node, place, high),
+        high: end_of_child(node, count, place, high),
     }
 }
 
 // Where the keys of a child end: at the next child's, or with the node's.
-fn end_of_child(node: &Image, place: usize, high: Option<Key>) -> Option<Key>
+fn end_of_child(node: &Image, count: usize, place: usize, high: Option<Key>) -> Option<Key>
     requires tree { IsTreePage node.now }
+    requires count { count ≡ length (state_of (page_of node.now)).records }
     requires in_range { place < length (state_of (page_of node.now)).records }
     ensures { end_of result ≡ first_rank (drop (place + 1) (state_of (page_of node.now)).records) (end_of high) }
 {
-    let count = reading::count(node);
     if place + 1 < count {
         Some(reading::record_at(node, place + 1).0)
     } else {

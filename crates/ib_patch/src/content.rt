@@ -5,6 +5,7 @@ ghost use Rattle.std.specs.List.{Any};
 ghost use Rattle.ib_map.specs.Keys.{rank};
 ghost use Rattle.ib_map.specs.Pairs.{Pairs};
 ghost use Rattle.ib_page.specs.Form.{page_of};
+ghost use Rattle.ib_page.specs.Image.{IsTreePage};
 ghost use Rattle.ib_walk.specs.Words.{state_of, memory_of};
 ghost use Rattle.ib_patch.specs.Contents.{HasItsContent, IsLeafOf, pairs_inside};
 ghost use Rattle.ib_patch.specs.Patch.{slice, IsSliced};
@@ -16,11 +17,13 @@ use crate::reading;
 use ib_map::{GREATEST, Key, PAGE_WORDS, PlainMap, is_below, is_same};
 use ib_page::Image;
 
-// Whether a pair is the record at a place of a page.
-fn is_record_at(image: &Image, place: usize, pair: (Key, u64)) -> bool
+// Whether a pair is the record at a place of a page, which has `count` records.
+fn is_record_at(image: &Image, count: usize, place: usize, pair: (Key, u64)) -> bool
+    requires count { count ≡ length (state_of (page_of image.now)).records }
+    requires tree { 0 < count → IsTreePage image.now }
     ensures { IsTrue result ↔ (slice_get (state_of (page_of image.now)).records place ≡ Some pair) }
 {
-    if place >= reading::count(image) {
+    if place >= count {
         return false;
     }
     let (key, value) = reading::record_at(image, place);
@@ -36,7 +39,7 @@ fn has_pairs(image: &Image, pairs: &[(Key, u64)], high: Option<Key>) -> bool
     let mut place = 0;
     for pair in pairs {
         if is_inside(pair.0, high) {
-            if !is_record_at(image, place, *pair) {
+            if !is_record_at(image, count, place, *pair) {
                 return false;
             }
             place += 1;

@@ -18,8 +18,9 @@ fn detach_children(table: &mut [Option<PagePosition>], node: &Image, high: Optio
     ensures table { positions_of table.new ≡ detach (children_of (state_of (page_of node.now)).records (end_of high)) (positions_of table.old) }
     ensures size { length node.now ≡ PAGE_WORDS }
 {
-    for place in 0..reading::count(node) {
-        let page = child_at(node, place, high).page as usize;
+    let count = reading::count(node);
+    for place in 0..count {
+        let page = child_at(node, count, place, high).page as usize;
         if page < table.len() {
             table[page] = None;
         }

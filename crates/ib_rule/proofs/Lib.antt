@@ -26,5 +26,6 @@ mod Storing
 mod Seeing
 mod Stored
 mod Looking
+mod Loading
 mod Spelling
 pub mod Watching

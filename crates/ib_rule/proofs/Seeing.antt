@@ -40,7 +40,7 @@ use Rattle.ib_rule.proofs.Lists.{each_append, nil_append}
 use Rattle.ib_rule.proofs.Moves.{proper_now, known_now, few_now, taken_now}
 use Rattle.ib_rule.proofs.Words.{set_same}
 
-page_latch : (page index : ℕ) → index < PAGE_WORDS → latch_at (word_place page index) ≡ page + 2
+pub page_latch : (page index : ℕ) → index < PAGE_WORDS → latch_at (word_place page index) ≡ page + 2
 page_latch page index small = ap (λ (n : ℕ). n + 2) (div-mul-add page PAGE_WORDS index small)
 
 module _ (lawful : ℕ → List Entry → Type 0) (opening : ℕ → ℕ → ℕ → ℕ) (key : Sizes) where

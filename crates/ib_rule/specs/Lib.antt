@@ -18,3 +18,4 @@ pub mod Closed
 pub mod Laws
 pub mod Lending
 pub mod Writing
+pub mod Loads

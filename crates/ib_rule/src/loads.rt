@@ -1,24 +1,38 @@
 //! The loads of page words, of words of the log, and of the log's end.
 
-ghost use Rattle.std.specs.Prelude.{◌≡◌, ◌+◌, ◌*◌, ◌^◌, ◌<◌, ◌≤◌, length, slice_index_or, true};
+ghost use Rattle.std.specs.Prelude.{◌≡◌, ◌+◌, ◌*◌, ◌^◌, ◌<◌, ◌≤◌, length, slice_index_or, true, None};
 ghost use Rattle.std.specs.List.{AllByRecursion};
 ghost use Rattle.ib_map.specs.declared.TheConstants.{PAGE_WORDS};
+ghost use Rattle.ib_map.specs.Space.{has_pages};
 ghost use Rattle.ib_map.specs.Writes.{word_place};
+ghost use Rattle.ib_layout.specs.Places.{page_place, words_of};
 ghost use Rattle.ib_core.specs.Sessions.{holdings};
 ghost use Rattle.ib_logrec.specs.Log.{by_place, log_words, memory_after, used};
+ghost use Rattle.ib_rule.specs.declared.view.Role.TheVariants.{Session};
+ghost use Rattle.ib_rule.specs.declared.loads.TheConstants.{LINE_WORDS};
+ghost use Rattle.ib_rule.specs.declared.view.View.{View};
+ghost use Rattle.ib_rule.specs.Loads.{AreSettled, HasLoaded, with_page_loaded};
 ghost use Rattle.ib_rule.specs.Memory.{LoadedFact};
 ghost use Rattle.ib_rule.specs.Pass.{IsFrom, IsOf, with_view};
+ghost use Rattle.ib_rule.specs.Roles.{number_in};
 ghost use Rattle.ib_rule.specs.Stores.{IsLook};
-ghost use Rattle.ib_rule.specs.Views.{is_watched, loading, reaching};
+ghost use Rattle.ib_rule.specs.Views.{KnowsHeld, is_watched, loading, reaching};
 
 use crate::kind::{Kind, Op};
 use crate::pass::Pass;
 use crate::space::Space;
-use crate::step::act;
+use crate::step::{Board, act};
+use crate::view::View;
+use atomic_table::Seat;
 use ib_layout::END_PLACE;
 use ib_logrec::Law;
 use ib_map::PAGE_WORDS;
+use ib_page::Image;
 use std::marker::Brand;
+
+// How many words a line of the processor's cache has: a page is loaded line by line, since a loop
+// over a page's words takes more steps to count than to load.
+const LINE_WORDS: usize = 8;
 
 impl<L: Law> Space<L> {
     /// Loads a word of a page that the session holds in some mode. While it holds the page, and until
@@ -46,6 +60,24 @@ impl<L: Law> Space<L> {
             Op::Load,
             Kind::LoadPage(page * PAGE_WORDS as u32 + index),
         )
+    }
+
+    /// Loads all words of a page that the session holds in some mode into `out`, one load each. What
+    /// `load_page_word` says of its word is so of each of them.
+    pub fn load_page(&self, pass: &mut Pass, page: u32, out: &mut Image)
+        requires own { IsOf self.now pass.old }
+        requires page { page < self.now.sizes.pages }
+        requires held { 0 < holdings (page + 2) pass.old.view.session }
+        ensures view { pass.new
+            ≡ with_view pass.old (with_page_loaded page out.new pass.old.view) }
+        ensures settled { AreSettled (by_place L.opening self.now.sizes.pages) page out.new
+            PAGE_WORDS pass.old.view }
+    {
+        let geometry = self.geometry;
+        // The places of page words fit 32 bits.
+        let _ = geometry.pages();
+        let first = geometry.page_place(page, 0);
+        load_words(&self.table.shared, &mut pass.seat, page, first, out);
     }
 
     /// Loads a word of the log, of those that the entries seen have.
@@ -90,5 +122,75 @@ impl<L: Law> Space<L> {
         pass.place = (end / (1 << 32)) as u32;
         pass.used = (end % (1 << 32)) as u32;
         end
+    }
+}
+
+// Loads the words of a page, which stand in the table from `first` on.
+fn load_words<L: Law>(
+    shared: &Board<L>,
+    seat: &mut Seat<(), View>,
+    page: u32,
+    first: usize,
+    out: &mut Image,
+)
+    requires table { seat.old.table_id ≡ shared.now.table_id }
+    requires words { shared.now.table_id.words ≡ words_of shared.now.key }
+    requires pages { has_pages shared.now.key.pages ≡ true }
+    requires page { page < shared.now.key.pages }
+    requires first { first ≡ page_place shared.now.key page 0 }
+    requires role { seat.old.me.0.role ≡ Session (number_in seat.old.me.0.role) }
+    requires closed { seat.old.me.0.memory.append ≡ None }
+    requires held { 0 < holdings (page + 2) seat.old.me.0.session }
+    requires known { KnowsHeld seat.old.me.0 }
+    ensures own { (seat.new.table_id ≡ seat.old.table_id) × (seat.new.id ≡ seat.old.id) }
+    ensures view { seat.new.me.0 ≡ with_page_loaded page out.new seat.old.me.0 }
+    ensures slots { seat.new.me.1 ≡ seat.old.me.1 }
+    ensures known { KnowsHeld seat.new.me.0 }
+    ensures settled { AreSettled (by_place L.opening shared.now.key.pages) page out.new
+        PAGE_WORDS seat.old.me.0 }
+{
+    for line in 0..PAGE_WORDS / LINE_WORDS {
+        load_line(shared, seat, page, first, line * LINE_WORDS, out);
+    }
+}
+
+// Loads the words of a page from an index on, as many as a line has.
+fn load_line<L: Law>(
+    shared: &Board<L>,
+    seat: &mut Seat<(), View>,
+    page: u32,
+    first: usize,
+    from: usize,
+    out: &mut Image,
+)
+    requires table { seat.old.table_id ≡ shared.now.table_id }
+    requires words { shared.now.table_id.words ≡ words_of shared.now.key }
+    requires pages { has_pages shared.now.key.pages ≡ true }
+    requires page { page < shared.now.key.pages }
+    requires first { first ≡ page_place shared.now.key page 0 }
+    requires from { from + LINE_WORDS ≤ PAGE_WORDS }
+    requires role { seat.old.me.0.role ≡ Session (number_in seat.old.me.0.role) }
+    requires closed { seat.old.me.0.memory.append ≡ None }
+    requires held { 0 < holdings (page + 2) seat.old.me.0.session }
+    requires known { KnowsHeld seat.old.me.0 }
+    ensures own { (seat.new.table_id ≡ seat.old.table_id) × (seat.new.id ≡ seat.old.id) }
+    ensures loaded { (start : View)
+        → HasLoaded (by_place L.opening shared.now.key.pages) page start out.old from
+        seat.old.me.0
+        → HasLoaded (by_place L.opening shared.now.key.pages) page start out.new
+        (from + LINE_WORDS) seat.new.me.0 }
+    ensures slots { seat.new.me.1 ≡ seat.old.me.1 }
+    ensures known { KnowsHeld seat.new.me.0 }
+{
+    for offset in 0..LINE_WORDS {
+        let index = from + offset;
+        let word = act::<L, Brand>(
+            shared,
+            seat,
+            first + index,
+            Op::Load,
+            Kind::LoadPage(page * PAGE_WORDS as u32 + index as u32),
+        );
+        out.set_word(index, word);
     }
 }

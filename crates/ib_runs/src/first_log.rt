@@ -15,8 +15,8 @@ use ib_rule::ENTRY_WORDS;
 use ib_script::Script;
 
 // How many log words a run begins with for each change of its script. An entry of a change of one leaf has 16 to 20
-// words, and splits and merges add about as many.
-const WORDS_A_CHANGE: usize = 64;
+// words, and splits and merges add up to as many: keys in order, which split most, come to 43 words a change.
+const WORDS_A_CHANGE: usize = 48;
 
 // How many changes the commands ask for.
 fn change_count(commands: &[Call]) -> usize {

@@ -116,10 +116,10 @@ fn splits_and_merges(rt: &impl Abort, alloc: Global, log_words: u32) -> Script
 
 #[test]
 fn a_first_log_that_gets_full(rt: HostRuntime) {
-    // Both are run on a log of 11,524 words first, which gets full. The first script has a longer one.
-    for (log_words, is_full) in [(20_000, false), (11_524, true)] {
+    // Both are run on a log of 10,692 words first, which gets full. The first script has a longer one.
+    for (log_words, is_full) in [(20_000, false), (10_692, true)] {
         let script = splits_and_merges(&rt, rt.alloc(), log_words);
-        assert_eq!(rt; first_sizes(&script).log_words(), 8196 + 64 * 52);
+        assert_eq!(rt; first_sizes(&script).log_words(), 8196 + 48 * 52);
         let ran = run_script(&rt, rt.alloc(), &script, &OpenGate).expect(&rt, "there is memory");
         assert_eq!(rt; met_full_log(&ran.sessions), is_full);
         assert_eq!(rt; ran.history.len() == 52, !is_full);

@@ -34,9 +34,12 @@ fn who_was_woken_does_not_sleep(rt: HostRuntime) {
     let mut sleepers = Sleepers::new(rt.alloc());
     assert!(rt; sleepers.is_empty());
     sleepers.add().expect(&rt, "there is memory");
+    sleepers.add().expect(&rt, "there is memory");
     sleepers.wake_all();
-    assert_eq!(rt; sleepers.len(), 1);
+    // Each sleeps on a parker of its own: on one alone the second sleep would not end.
+    assert_eq!(rt; sleepers.len(), 2);
     sleepers.sleep(&rt, 1);
+    sleepers.sleep(&rt, 2);
 }
 
 #[test]

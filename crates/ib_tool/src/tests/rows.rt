@@ -97,7 +97,7 @@ fn change_at(alloc: Global, place: u32) -> Result<(String, String), Fail> {
     }
 }
 
-// These changes have entries of more than 64 words on average: they fill the log on which the script is run first.
+// These changes have entries of more than 48 words on average: they fill the log on which the script is run first.
 #[test]
 fn a_first_log_that_gets_full(rt: HostRuntime) -> Result<(), Fail> {
     let alloc = rt.alloc();

@@ -13,14 +13,14 @@ pub returns-then-not-is_back-clause-back : goal.returns-then-not-is_back-clause-
 returns-then-not-is_back-clause-back c =
     let kids = children_of (state_of (page_of c.args.node.now)).records (end_of c.args.high) in
     let rest = are_back (marks_of c.args.written.now) (drop (c.loop-place.place + 1) kids) (positions_of c.args.table.now) in
-    let next = ap (λ ks. are_back (marks_of c.args.written.now) ks (positions_of c.args.table.now)) (drop-slice_get kids c.loop-place.place (visit_of_child c.child_at.result) c.child_at.ensures) in
+    let next = ap (λ ks. are_back (marks_of c.args.written.now) ks (positions_of c.args.table.now)) (drop-slice_get kids c.loop-place.place (visit_of_child c.child_at-child.result) c.child_at-child.ensures) in
     sym (sym c.loop-place.invariant ∙ (next ∙ ap (λ b. b && rest) (sym c.is_back.ensures ∙ c.if-not-is_back.true)))
 
 pub loop-place-preserved : goal.loop-place-preserved
 loop-place-preserved c =
     let kids = children_of (state_of (page_of c.args.node.now)).records (end_of c.args.high) in
     let rest = are_back (marks_of c.args.written.now) (drop (c.loop-place.place + 1) kids) (positions_of c.args.table.now) in
-    let next = ap (λ ks. are_back (marks_of c.args.written.now) ks (positions_of c.args.table.now)) (drop-slice_get kids c.loop-place.place (visit_of_child c.child_at.result) c.child_at.ensures) in
+    let next = ap (λ ks. are_back (marks_of c.args.written.now) ks (positions_of c.args.table.now)) (drop-slice_get kids c.loop-place.place (visit_of_child c.child_at-child.result) c.child_at-child.ensures) in
     sym (next ∙ ap (λ b. b && rest) (sym c.is_back.ensures ∙ c.if-not-is_back.false)) ∙ c.loop-place.invariant
 
 pub returns-clause-back : goal.returns-clause-back

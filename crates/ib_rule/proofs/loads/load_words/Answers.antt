@@ -1,0 +1,47 @@
+-- One line more is loaded.
+use Rattle.std.proofs.Common.{◌≡◌, ℕ, ◌+◌, ◌*◌, ◌<◌, refl, sym, ap, ◌∙◌, subst, arith}
+use Rattle.ib_core.specs.declared.session.Session.{Session}
+use Rattle.ib_core.specs.Sessions.{holdings}
+use Rattle.ib_logrec.specs.Log.{by_place}
+use Rattle.ib_rule.specs.declared.loads.TheConstants.{LINE_WORDS}
+use Rattle.ib_rule.specs.declared.view.Role.{Role}
+use Rattle.ib_rule.specs.declared.view.Role.TheVariants.{Session as Seated}
+use Rattle.ib_rule.specs.declared.view.View.{View}
+use Rattle.ib_rule.specs.Loads.{HasLoaded}
+use Rattle.ib_rule.specs.Roles.{number_in}
+use Rattle.ib_rule.proofs.Loading.{has_none}
+use Rattle.ib_rule.proofs.loads.load_words.Goals as goal
+
+pub loop-line-init : goal.loop-line-init
+loop-line-init g c = record {
+  table = refl;
+  id = refl;
+  slots = refl;
+  known = c.requires.known;
+  loaded = has_none (by_place g.L.Law.opening c.args.shared.now.key.pages) c.args.page c.args.seat.now.me.0 c.args.out.now;
+}
+
+pub load_line-requires-clause-role : goal.load_line-requires-clause-role
+load_line-requires-clause-role g c =
+    subst (λ (r : Role). r ≡ Seated (number_in r)) (sym (ap (λ (v : View). v.role) c.loop-line.invariant.loaded.view)) c.requires.role
+
+pub load_line-requires-clause-closed : goal.load_line-requires-clause-closed
+load_line-requires-clause-closed g c = ap (λ (v : View). v.memory.append) c.loop-line.invariant.loaded.view ∙ c.requires.closed
+
+pub load_line-requires-clause-held : goal.load_line-requires-clause-held
+load_line-requires-clause-held g c =
+    subst (λ (a : Session). 0 < holdings (c.args.page + 2) a) (sym (ap (λ (v : View). v.session) c.loop-line.invariant.loaded.view)) c.requires.held
+
+pub loop-line-preserved : goal.loop-line-preserved
+loop-line-preserved g c =
+    let before = c.loop-line.invariant in
+    let told = c.load_line.ensures in
+    let n : ℕ = c.loop-line.line in
+    let more : n * LINE_WORDS + LINE_WORDS ≡ (n + 1) * LINE_WORDS = omega arith in
+    record {
+      table = told.own.0 ∙ before.table;
+      id = told.own.1 ∙ before.id;
+      slots = told.slots ∙ before.slots;
+      known = told.known;
+      loaded = subst (λ (k : ℕ). HasLoaded (by_place g.L.Law.opening c.args.shared.now.key.pages) c.args.page c.args.seat.now.me.0 c.load_line.new.out k c.load_line.new.seat.me.0) more (told.loaded c.args.seat.now.me.0 before.loaded);
+    }

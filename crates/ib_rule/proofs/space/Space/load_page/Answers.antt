@@ -1,0 +1,17 @@
+-- The pass knows more of the page, and nothing else of it is changed.
+use Rattle.std.proofs.Common.{◌++◌, refl}
+use Rattle.ib_map.specs.declared.TheConstants.{PAGE_WORDS}
+use Rattle.ib_rule.specs.declared.memory.Memory.{Memory}
+use Rattle.ib_rule.specs.Loads.{loads_below}
+use Rattle.ib_rule.proofs.Passing.{pass_knows}
+use Rattle.ib_rule.proofs.space.Space.load_page.Goals as goal
+
+pub invariant_of-pass : goal.invariant_of-pass
+invariant_of-pass g c =
+    let before : Memory = c.pass.inside.seat.me.0.memory in
+    let told = c.load_words.ensures in
+    let front = c.pass.invariant.front in
+    pass_knows c.pass.inside _ (record before { loaded = loads_below c.args.page c.load_words.new.out PAGE_WORDS ++ before.loaded }) c.pass.invariant
+    (λ j. (told.view j, told.slots j)) told.known c.pass.invariant.place c.pass.invariant.used c.pass.invariant.made
+    record { mine = front.mine; short = front.short; room = front.room }
+    refl refl refl refl refl refl
