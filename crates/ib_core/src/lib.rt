@@ -16,8 +16,6 @@ mod session;
 mod table;
 mod taking_laws;
 mod takings;
-#[cfg(test)]
-mod tests;
 mod turn_laws;
 mod waits;
 

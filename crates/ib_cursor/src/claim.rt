@@ -1,32 +1,27 @@
 //! The index claimed, and the way of a key read under it.
 
-ghost use Rattle.std.specs.Prelude.{◌≡◌, ℕ, ◌<◌, ◌≤◌, ◌+◌, ◌^◌, ◌∷◌, ◌++◌, [], true, false, None, List, Some, length};
+ghost use Rattle.std.specs.Prelude.{◌≡◌, ℕ, ◌<◌, ◌≤◌, ◌+◌, ◌^◌, ◌∷◌, ◌++◌, [], true, false, List, Some};
 ghost use Rattle.ib_map.specs.Keys.{rank, end_rank};
 ghost use Rattle.ib_map.specs.Space.{has_pages};
 ghost use Rattle.ib_levels.specs.declared.level.Level.TheVariants.{TreeNode};
 ghost use Rattle.ib_levels.specs.declared.level.Mode.TheVariants.{S};
-ghost use Rattle.ib_core.specs.Holders.{CanWish};
-ghost use Rattle.ib_core.specs.Sessions.{holdings};
 ghost use Rattle.ib_page.specs.Image.{IsFormed, next_of, prev_of};
 ghost use Rattle.ib_page.specs.Work.{changed_of};
 ghost use Rattle.ib_heap.specs.declared.TheConstants.{MOST_LEVEL};
-ghost use Rattle.ib_page.specs.declared.work.TheConstants.{MOST_WORK_PAGES};
 ghost use Rattle.ib_logrec.specs.Log.{by_place};
-ghost use Rattle.ib_rule.specs.Conditions.{MayGrow};
 ghost use Rattle.ib_rule.specs.Views.{is_watched, total};
 ghost use Rattle.ib_tree.specs.Logs.{pages_after};
 ghost use Rattle.ib_mtr.specs.Mtr.{IsMtr};
 ghost use Rattle.ib_cursor.specs.Claims.{HasClaimed, IsWayWithLeaves, beside, claim_grant};
-ghost use Rattle.ib_cursor.specs.Descent.{HasPage, IsAt};
-ghost use Rattle.ib_cursor.specs.Going.{HasSeen, HasStood, WentOn};
-ghost use Rattle.ib_cursor.specs.Grants.{hold_of, page_grant};
-ghost use Rattle.ib_cursor.specs.Shapes.{HasGlanced, HasIndex, HasPeeked, HasReadWay, IsLinkedAt, KeepsClaim, ShapeLaws, is_claimed};
+ghost use Rattle.ib_cursor.specs.Descent.{IsAt};
+ghost use Rattle.ib_cursor.specs.Going.{HasStood};
+ghost use Rattle.ib_cursor.specs.Shapes.{HasIndex, HasPeeked, HasReadWay, IsLinkedAt, ShapeLaws, is_claimed};
 ghost use Rattle.ib_cursor.specs.Takings.{CanTakePage, HasTakenMore, HasTakenPage, MayTakeLeaves, WillTake};
 ghost use Rattle.ib_cursor.specs.Way.{IsOnWay};
 
 use crate::held_page::{child_of, level_of};
 use crate::search::Sought;
-use crate::stands::take;
+use crate::stands::{look, read, stand, take};
 use ib_latch::{Parkers, Sleep};
 use ib_levels::{Latch, Level, Mode};
 use ib_logrec::Law;
@@ -48,27 +43,6 @@ pub(crate) fn shape_of<L: Trees, S: Sleep>(mtr: &Mtr<'_, L, S>)
     let _ = mtr.geometry().pages();
 }
 
-// Looks at the log's end: while the index is claimed, no entry that is first seen is structural.
-fn glance<L: Law, S: Sleep>(mtr: &mut Mtr<'_, L, S>)
-    requires mtr { IsMtr mtr.old.latches.now mtr.old.pass.now }
-    ensures mtr { IsMtr mtr.new.latches.now mtr.new.pass.now }
-    ensures latches { mtr.new.latches ≡ mtr.old.latches }
-    ensures pass { mtr.new.pass.ghost_name ≡ mtr.old.pass.ghost_name }
-    ensures glanced { HasGlanced mtr.old.latches.now.sizes
-        (L.lawful mtr.old.latches.now.sizes.pages) mtr.old.pass.now mtr.new.pass.now }
-    ensures started { is_watched 1 mtr.old.pass.now.view.memory.since ≡ false
-        → mtr.old.pass.now.view.session.held ≡ hold_of claim_grant ∷ []
-        → is_claimed mtr.new.pass.now.view.memory.since ≡ true }
-    ensures memo { mtr.new.pass.now.memo ≡ mtr.old.pass.now.memo }
-    ensures session { mtr.new.pass.now.view.session ≡ mtr.old.pass.now.view.session }
-    ensures grants { mtr.new.pass.now.view.grants ≡ mtr.old.pass.now.view.grants }
-    ensures work { mtr.new.pass.now.work ≡ mtr.old.pass.now.work }
-{
-    // The session's entries are those of its number.
-    let _ = mtr.pass().number();
-    let _ = mtr.log_end();
-}
-
 // Claims the index: takes it in SX, and looks. Nothing is held before, and of what was known of the
 // index before nothing is left.
 pub(crate) fn claim_index<L: Law, R: Wait>(rt: &R, mtr: &mut Mtr<'_, L, Parkers>)
@@ -85,50 +59,7 @@ pub(crate) fn claim_index<L: Law, R: Wait>(rt: &R, mtr: &mut Mtr<'_, L, Parkers>
     ensures claimed { is_claimed mtr.new.pass.now.view.memory.since ≡ true }
 {
     take(rt, mtr, Latch::INDEX, Mode::Sx, Level::IndexTree);
-    glance(mtr);
-}
-
-// Takes the latch of a page of which the session holds nothing, and looks.
-fn stand_claimed<L: Law, R: Wait>(rt: &R, mtr: &mut Mtr<'_, L, Parkers>, page: u32)
-    requires mtr { IsMtr mtr.old.latches.now mtr.old.pass.now }
-    requires page { page < mtr.old.latches.now.sizes.pages }
-    requires grows { MayGrow mtr.old.pass.now.view }
-    requires may { CanWish (page + 2) TreeNode mtr.old.pass.now.view.session }
-    ensures mtr { IsMtr mtr.new.latches.now mtr.new.pass.now }
-    ensures latches { mtr.new.latches ≡ mtr.old.latches }
-    ensures pass { mtr.new.pass.ghost_name ≡ mtr.old.pass.ghost_name }
-    ensures stood { HasStood mtr.old.latches.now.sizes
-        (L.lawful mtr.old.latches.now.sizes.pages) (page_grant page S)
-        mtr.old.pass.now mtr.new.pass.now }
-    ensures keeps { is_claimed mtr.old.pass.now.view.memory.since ≡ true
-        → KeepsClaim mtr.old.pass.now mtr.new.pass.now }
-{
-    let _ = mtr.geometry().pages();
-    take(rt, mtr, Latch::page(page), Mode::S, Level::TreeNode);
-    glance(mtr);
-}
-
-// Loads a page of which the latch is held, and looks.
-fn load_claimed<L: Law, S: Sleep>(mtr: &mut Mtr<'_, L, S>, page: u32)
-    requires mtr { IsMtr mtr.old.latches.now mtr.old.pass.now }
-    requires page { page < mtr.old.latches.now.sizes.pages }
-    requires held { 0 < holdings (page + 2) mtr.old.pass.now.view.session }
-    requires absent { changed_of page mtr.old.pass.now.work ≡ None }
-    requires few { length mtr.old.pass.now.work < MOST_WORK_PAGES }
-    ensures mtr { IsMtr mtr.new.latches.now mtr.new.pass.now }
-    ensures latches { mtr.new.latches ≡ mtr.old.latches }
-    ensures pass { mtr.new.pass.ghost_name ≡ mtr.old.pass.ghost_name }
-    ensures glanced { HasGlanced mtr.old.latches.now.sizes
-        (L.lawful mtr.old.latches.now.sizes.pages) mtr.old.pass.now mtr.new.pass.now }
-    ensures memo { mtr.new.pass.now.memo ≡ mtr.old.pass.now.memo }
-    ensures session { mtr.new.pass.now.view.session ≡ mtr.old.pass.now.view.session }
-    ensures grants { mtr.new.pass.now.view.grants ≡ mtr.old.pass.now.view.grants }
-    ensures loaded { HasPage (by_place L.opening mtr.old.latches.now.sizes.pages) page
-        mtr.old.pass.now mtr.new.pass.now }
-{
-    // The session's entries are those of its number.
-    let _ = mtr.pass().number();
-    mtr.load(page);
+    look(mtr);
 }
 
 // The leaf before one that is loaded, by its link, 0 for none.
@@ -163,7 +94,7 @@ fn left_link<L: Trees>(mtr: &mut Mtr<'_, L, Parkers>, sought: Sought, leaf: u32)
         leaf 0 result mtr.old.pass.now mtr.new.pass.now }
 {
     shape_of(mtr);
-    load_claimed(mtr, leaf);
+    read(mtr, leaf);
     let left = left_of(mtr, leaf);
     mtr.forget(leaf);
     left
@@ -229,7 +160,7 @@ fn peek<L: Trees, R: Wait>(
     ensures low { result.level ≤ MOST_LEVEL }
 {
     shape_of(mtr);
-    stand_claimed(rt, mtr, page);
+    stand(rt, mtr, page, Mode::S);
     let level = level_of(mtr, page);
     let link = link_here(mtr, sought, page, level);
     mtr.release_at(1);
@@ -307,7 +238,7 @@ pub(crate) fn take_page<L: Law, R: Wait>(rt: &R, mtr: &mut Mtr<'_, L, Parkers>, 
 {
     let _ = mtr.geometry().pages();
     take(rt, mtr, Latch::page(page), Mode::X, Level::TreeNode);
-    load_claimed(mtr, page);
+    read(mtr, page);
 }
 
 // Takes the page of a link, where there is one.

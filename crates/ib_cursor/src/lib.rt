@@ -12,8 +12,6 @@ mod nowait;
 mod search;
 mod siblings;
 mod stands;
-#[cfg(test)]
-mod tests;
 
 pub use claim::descend_to_insert;
 pub use descent::{descend, descend_at};

@@ -1,6 +1,6 @@
 //! A latch is taken, and then the log's end is looked at.
 
-ghost use Rattle.std.specs.Prelude.{◌≡◌, ◌<◌, ◌+◌, true, None, length};
+ghost use Rattle.std.specs.Prelude.{◌≡◌, ◌<◌, ◌+◌, ◌∷◌, [], true, false, None, length};
 ghost use Rattle.ib_map.specs.Space.{has_pages};
 ghost use Rattle.ib_levels.specs.declared.level.Level.TheVariants.{TreeNode};
 ghost use Rattle.ib_layout.specs.Places.{latches_of};
@@ -10,10 +10,13 @@ ghost use Rattle.ib_page.specs.declared.work.TheConstants.{MOST_WORK_PAGES};
 ghost use Rattle.ib_page.specs.Work.{changed_of};
 ghost use Rattle.ib_logrec.specs.Log.{by_place};
 ghost use Rattle.ib_rule.specs.Conditions.{MayGrow};
+ghost use Rattle.ib_rule.specs.Views.{is_watched};
 ghost use Rattle.ib_mtr.specs.Mtr.{IsMtr};
+ghost use Rattle.ib_cursor.specs.Claims.{claim_grant};
 ghost use Rattle.ib_cursor.specs.Descent.{HasPage};
-ghost use Rattle.ib_cursor.specs.Going.{HasSeen, HasStood};
-ghost use Rattle.ib_cursor.specs.Grants.{HasTaken, page_grant};
+ghost use Rattle.ib_cursor.specs.Going.{HasStood};
+ghost use Rattle.ib_cursor.specs.Grants.{HasTaken, hold_of, page_grant};
+ghost use Rattle.ib_cursor.specs.Shapes.{HasGlanced, KeepsClaim, is_claimed};
 
 use ib_latch::{Parkers, Sleep};
 use ib_levels::{Latch, Level, Mode};
@@ -47,14 +50,17 @@ pub fn take<L: Law, R: Wait>(
     }
 }
 
-// Looks at the log's end.
+// Looks at the log's end: while the index is claimed, no entry that is first seen is structural.
 pub(crate) fn look<L: Law, S: Sleep>(mtr: &mut Mtr<'_, L, S>)
     requires mtr { IsMtr mtr.old.latches.now mtr.old.pass.now }
     ensures mtr { IsMtr mtr.new.latches.now mtr.new.pass.now }
     ensures latches { mtr.new.latches ≡ mtr.old.latches }
     ensures pass { mtr.new.pass.ghost_name ≡ mtr.old.pass.ghost_name }
-    ensures seen { HasSeen mtr.old.latches.now.sizes
+    ensures glanced { HasGlanced mtr.old.latches.now.sizes
         (L.lawful mtr.old.latches.now.sizes.pages) mtr.old.pass.now mtr.new.pass.now }
+    ensures started { is_watched 1 mtr.old.pass.now.view.memory.since ≡ false
+        → mtr.old.pass.now.view.session.held ≡ hold_of claim_grant ∷ []
+        → is_claimed mtr.new.pass.now.view.memory.since ≡ true }
     ensures memo { mtr.new.pass.now.memo ≡ mtr.old.pass.now.memo }
     ensures session { mtr.new.pass.now.view.session ≡ mtr.old.pass.now.view.session }
     ensures grants { mtr.new.pass.now.view.grants ≡ mtr.old.pass.now.view.grants }
@@ -79,6 +85,8 @@ pub(crate) fn stand<L: Law, R: Wait>(rt: &R, mtr: &mut Mtr<'_, L, Parkers>, page
     ensures stood { HasStood mtr.old.latches.now.sizes
         (L.lawful mtr.old.latches.now.sizes.pages) (page_grant page mode)
         mtr.old.pass.now mtr.new.pass.now }
+    ensures keeps { is_claimed mtr.old.pass.now.view.memory.since ≡ true
+        → KeepsClaim mtr.old.pass.now mtr.new.pass.now }
     ensures space { has_pages mtr.old.latches.now.sizes.pages ≡ true }
 {
     let _ = mtr.geometry().pages();
@@ -88,7 +96,7 @@ pub(crate) fn stand<L: Law, R: Wait>(rt: &R, mtr: &mut Mtr<'_, L, Parkers>, page
 
 /// A step of a cursor: loads a page of which the latch is held in some mode, and looks at the log's end
 /// (`buf_page_get_gen`). The page stands in the work set, as it is after all entries seen, and each latch
-/// that is held is watched from then on.
+/// that is held is watched from then on. While the index is claimed, no entry that is first seen is structural.
 pub fn read<L: Law, S: Sleep>(mtr: &mut Mtr<'_, L, S>, page: u32)
     requires mtr { IsMtr mtr.old.latches.now mtr.old.pass.now }
     requires page { page < mtr.old.latches.now.sizes.pages }
@@ -98,7 +106,7 @@ pub fn read<L: Law, S: Sleep>(mtr: &mut Mtr<'_, L, S>, page: u32)
     ensures mtr { IsMtr mtr.new.latches.now mtr.new.pass.now }
     ensures latches { mtr.new.latches ≡ mtr.old.latches }
     ensures pass { mtr.new.pass.ghost_name ≡ mtr.old.pass.ghost_name }
-    ensures seen { HasSeen mtr.old.latches.now.sizes
+    ensures glanced { HasGlanced mtr.old.latches.now.sizes
         (L.lawful mtr.old.latches.now.sizes.pages) mtr.old.pass.now mtr.new.pass.now }
     ensures memo { mtr.new.pass.now.memo ≡ mtr.old.pass.now.memo }
     ensures session { mtr.new.pass.now.view.session ≡ mtr.old.pass.now.view.session }

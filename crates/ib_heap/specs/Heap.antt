@@ -1,4 +1,7 @@
 -- The record heap of a page: which words have which heap.
+-- The words: 0 the kind, 1 the level, 2 how many records, 3 and 4 the links, 5 the clock, 6 the first free place, 7 how many slots and the top, 8 to 17 the
+-- directory, 18 the infimum, 19 the supremum, 20 to 124 the 35 record places of three words each (head, key, value), 125 to 127 are 0. A head is the place of the
+-- next record, and 256 for each record that its slot owns.
 use Rattle.std.specs.Prelude.{ℕ, zero, suc, ◌+◌, ◌-◌, ◌*◌, ◌/◌, ◌%◌, Bool, true, nat_lt, nat_le, ◌==◌, ◌&&◌, List, [], ◌∷◌, ◌++◌, length, slice_index, if◌then◌else◌}
 use Rattle.ib_map.specs.Pairs.{Pairs}
 use Rattle.ib_map.specs.declared.TheConstants.{PAGE_WORDS}

@@ -11,8 +11,6 @@ mod page;
 mod rebuild;
 mod remove;
 mod search;
-#[cfg(test)]
-mod tests;
 mod walk;
 mod words;
 

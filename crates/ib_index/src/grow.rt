@@ -4,7 +4,7 @@ ghost use Rattle.std.specs.Prelude.{◌≡◌, ◌≢◌, ℕ, ◌+◌, ◌<◌,
 ghost use Rattle.ib_map.specs.Keys.{MapKey, IsKey};
 ghost use Rattle.ib_map.specs.Pairs.{value_at};
 ghost use Rattle.ib_core.specs.Holders.{CanWish};
-ghost use Rattle.ib_core.specs.Sessions.{holdings, idle};
+ghost use Rattle.ib_core.specs.Sessions.{idle};
 ghost use Rattle.ib_levels.specs.declared.level.Level.{Level as LevelValue};
 ghost use Rattle.ib_levels.specs.declared.level.Level.TheVariants.{Space};
 ghost use Rattle.ib_page.specs.Work.{WorkPage, IsWork, changed_of};
@@ -23,15 +23,13 @@ ghost use Rattle.ib_rule.specs.Conditions.{MayGrow};
 ghost use Rattle.ib_rule.specs.Pass.{IsOf, PassState};
 ghost use Rattle.ib_rule.specs.Views.{total};
 ghost use Rattle.ib_mtr.specs.Mtr.{IsMtr, with_work};
-ghost use Rattle.ib_cursor.specs.Descent.{HasPage};
-ghost use Rattle.ib_cursor.specs.Shapes.{HasGlanced};
 ghost use Rattle.ib_map.specs.declared.call.Call.TheVariants.{Insert as InsertCall};
 ghost use Rattle.ib_index.specs.Calls.{HasCalled};
 ghost use Rattle.ib_index.specs.Leaf.{IsSeated};
 ghost use Rattle.ib_index.specs.Grows.{HasComeToWay, HasGrown, HasTakenNew, IsGrowing, IsReady, IsShort, NeedsPages, TakesAtMost, pages_held, space_pages, tree_pages};
 
 use crate::leaf::{ROOT, Work, changed};
-use ib_cursor::{descend_to_insert, take};
+use ib_cursor::{descend_to_insert, read, take};
 use ib_kept::KeptLaw;
 use ib_latch::{Latches, Parkers};
 use ib_levels::{Latch, Level, Mode};
@@ -71,29 +69,6 @@ fn come_to_way<R: Wait>(rt: &R, mtr: &mut Work<'_>, key: Key) -> Path
     descend_to_insert(rt, mtr, ROOT, key)
 }
 
-// Loads a page of which the latch is held, and looks.
-fn load_page(mtr: &mut Work<'_>, page: u32)
-    requires mtr { IsMtr mtr.old.latches.now mtr.old.pass.now }
-    requires page { page < mtr.old.latches.now.sizes.pages }
-    requires held { 0 < holdings (page + 2) mtr.old.pass.now.view.session }
-    requires absent { changed_of page mtr.old.pass.now.work ≡ None }
-    requires few { length mtr.old.pass.now.work < MOST_WORK_PAGES }
-    ensures mtr { IsMtr mtr.new.latches.now mtr.new.pass.now }
-    ensures latches { mtr.new.latches ≡ mtr.old.latches }
-    ensures pass { mtr.new.pass.ghost_name ≡ mtr.old.pass.ghost_name }
-    ensures glanced { HasGlanced mtr.old.latches.now.sizes (IsKeptLog mtr.old.latches.now.sizes.pages)
-        mtr.old.pass.now mtr.new.pass.now }
-    ensures memo { mtr.new.pass.now.memo ≡ mtr.old.pass.now.memo }
-    ensures session { mtr.new.pass.now.view.session ≡ mtr.old.pass.now.view.session }
-    ensures grants { mtr.new.pass.now.view.grants ≡ mtr.old.pass.now.view.grants }
-    ensures loaded { HasPage (by_place opening mtr.old.latches.now.sizes.pages) page
-        mtr.old.pass.now mtr.new.pass.now }
-{
-    // The session's entries are those of its number.
-    let _ = mtr.pass().number();
-    mtr.load(page);
-}
-
 // Takes a page in X at a level, and loads it.
 fn take_at<R: Wait>(rt: &R, mtr: &mut Work<'_>, page: u32, level: Level)
     requires mtr { IsMtr mtr.old.latches.now mtr.old.pass.now }
@@ -112,7 +87,7 @@ fn take_at<R: Wait>(rt: &R, mtr: &mut Work<'_>, page: u32, level: Level)
 {
     let _ = mtr.geometry().pages();
     take(rt, mtr, Latch::page(page), Mode::X, level);
-    load_page(mtr, page);
+    read(mtr, page);
 }
 
 // The value of the key in the last page of its way.

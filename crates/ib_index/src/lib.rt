@@ -5,12 +5,8 @@ mod change;
 mod grow;
 mod index;
 mod leaf;
-#[cfg(test)]
-mod leaf_tests;
 mod lookup;
 mod nowait;
 mod shrink;
-#[cfg(test)]
-mod tests;
 
 pub use index::{Index, IndexRefused};

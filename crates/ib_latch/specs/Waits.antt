@@ -7,7 +7,7 @@ use Rattle.ib_levels.specs.declared.level.Level.{Level}
 use Rattle.ib_levels.specs.declared.level.Mode.{Mode}
 use Rattle.ib_levels.specs.declared.level.Mode.TheVariants.{S as ModeS, Sx as ModeSx, X as ModeX}
 use Rattle.ib_core.specs.declared.phase.Phase.{Phase}
-use Rattle.ib_core.specs.declared.phase.Phase.TheVariants.{Checked, Flagged, Free, Next, NextAsleep, NextChecked}
+use Rattle.ib_core.specs.declared.phase.Phase.TheVariants.{Asleep, Checked, Flagged, Free, Next, NextAsleep, NextChecked}
 use Rattle.ib_core.specs.Responses.{is_drained}
 use Rattle.ib_core.specs.Table.{owns_x_at}
 use Rattle.ib_levels.specs.Holding.{changed}
@@ -105,6 +105,12 @@ abbrev pub NextWaits : ℕ → Level → Phase → Type 0
 NextWaits l v (NextChecked k u g) = (k ≡ l) × Path Level u v
 NextWaits l v (NextAsleep k u g) = (k ≡ l) × Path Level u v
 NextWaits l v p = ⊥
+
+-- who has looked at the generation that it recorded, or as a next writer at the ex generation, and found it standing: it may sleep
+abbrev pub IsAsleepOn : ℕ → Phase → Type 0
+IsAsleepOn l (Asleep k m v g) = k ≡ l
+IsAsleepOn l (NextAsleep k v g) = k ≡ l
+IsAsleepOn l p = ⊥
 
 -- what is written in the cell of who waits for a first grant of the mode
 abbrev pub wish_for : Mode → Wish

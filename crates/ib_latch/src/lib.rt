@@ -8,13 +8,9 @@ mod latches;
 mod locks;
 mod parkers;
 mod sleep;
-#[cfg(test)]
-mod tests;
 mod tries;
 mod unlocks;
 mod waiting;
-#[cfg(test)]
-mod waiting_tests;
 
 pub use latches::{CloseRefused, Latches};
 pub use parkers::Parkers;

@@ -3,12 +3,12 @@
 
 ghost use Rattle.std.specs.Prelude.{◌≡◌, ℕ, ◌<◌, IfNone, IfSome, IsTrue, None, false};
 ghost use Rattle.ib_layout.specs.Places.{latches_of};
-ghost use Rattle.ib_core.specs.declared.phase.Phase.TheVariants.{Checked, Flagged, Free, Next, NextArmed, NextChecked};
+ghost use Rattle.ib_core.specs.declared.phase.Phase.TheVariants.{Flagged, Free, Next, NextArmed};
 ghost use Rattle.ib_core.specs.Holders.{CanWish};
 ghost use Rattle.ib_core.specs.Sessions.{sx_grants};
 ghost use Rattle.ib_rule.specs.Conditions.{MayGrow, MayLoadGen};
 ghost use Rattle.ib_rule.specs.Pass.{IsOf, with_view};
-ghost use Rattle.ib_latch.specs.Waits.{EndsOwned, IsStill, IsWon, NextWaits, wish_for};
+ghost use Rattle.ib_latch.specs.Waits.{EndsOwned, IsAsleepOn, IsStill, IsWon, NextWaits, wish_for};
 
 use crate::latches::Latches;
 use crate::parkers::Parkers;
@@ -104,9 +104,17 @@ impl<L: Law> Latches<L, Parkers> {
             if self.is_awake(pass, latch) {
                 return;
             }
-            self.sleep.sleep(rt, pass.number());
+            self.rest(rt, pass, latch);
         }
         unreachable!()
+    }
+
+    // Sleeps once: no session does that has not looked whether its generation stands.
+    fn rest<R: Wait>(&self, rt: &R, pass: &Pass, latch: Latch)
+        requires { IsAsleepOn latch.0 pass.now.view.session.phase }
+    {
+        let _ = latch;
+        self.sleep.sleep(rt, pass.number());
     }
 
     // A look at the generation: whether it is another than the one recorded.
@@ -118,7 +126,8 @@ impl<L: Law> Latches<L, Parkers> {
         ensures own { IsOf self.now pass.new }
         ensures still { IsStill pass.new.view.session.phase pass.old pass.new }
         ensures awake { IsTrue result → pass.new.view.session.phase ≡ Free }
-        ensures asleep { result ≡ false
+        ensures asleep { result ≡ false → IsAsleepOn latch.0 pass.new.view.session.phase }
+        ensures again { result ≡ false
             → MayLoadGen latch.0 None pass.new.view.session pass.new.view.session.phase }
     {
         self.space.load_gen(pass, latch, None);
@@ -224,7 +233,7 @@ impl<L: Law> Latches<L, Parkers> {
                 return;
             }
             if has_cell {
-                self.sleep.sleep(rt, pass.number());
+                self.rest(rt, pass, latch);
             } else {
                 thread::yield_now();
             }
@@ -240,7 +249,8 @@ impl<L: Law> Latches<L, Parkers> {
         ensures own { IsOf self.now pass.new }
         ensures still { IsStill pass.new.view.session.phase pass.old pass.new }
         ensures awake { IsTrue result → pass.new.view.session.phase ≡ Next latch.0 level }
-        ensures asleep { result ≡ false → NextWaits latch.0 level pass.new.view.session.phase }
+        ensures asleep { result ≡ false → IsAsleepOn latch.0 pass.new.view.session.phase }
+        ensures again { result ≡ false → NextWaits latch.0 level pass.new.view.session.phase }
     {
         let _ = level;
         self.space.load_ex_gen(pass, latch);

@@ -1,6 +1,6 @@
 //! Which two pages a delete merges.
 
-ghost use Rattle.std.specs.Prelude.{◌≡◌, ◌<◌, ◌≤◌, ◌+◌, ◌-◌, ◌^◌, None, slice_get, IsSomeAnd, IfSome, nat_le, length};
+ghost use Rattle.std.specs.Prelude.{◌≡◌, ◌<◌, ◌≤◌, ◌+◌, ◌-◌, None, slice_get, IsSomeAnd, length};
 ghost use Rattle.ib_map.specs.Keys.{rank};
 ghost use Rattle.ib_heap.specs.declared.TheConstants.{MOST_RECORDS};
 ghost use Rattle.ib_page.specs.Image.{IsTreePage, records_of};
@@ -9,9 +9,10 @@ ghost use Rattle.ib_plans.specs.Merge.{siblings_of, fit_one};
 ghost use Rattle.ib_plans.specs.Agreement.{memory_in};
 ghost use Rattle.ib_merge.specs.Deletes.{CanChoose, merger_of};
 
-use crate::edits::{Merger, image_of};
+use crate::edits::Merger;
 use ib_map::Key;
 use ib_page::{Image, MOST_RECORDS, WorkSet};
+use ib_plans::image_of;
 
 /// A node's record of the child to which a key belongs, and those beside it.
 #[derive(Clone, Copy, Debug)]

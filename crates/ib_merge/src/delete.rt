@@ -10,10 +10,10 @@ ghost use Rattle.ib_plans.specs.Agreement.{memory_in, reads_of, last_of};
 ghost use Rattle.ib_merge.specs.Deletes.{CanDelete, IsPlannedForAll, IsClimbedForAll};
 
 use crate::choose::choose_merger;
-use crate::edits::{give_pages, image_of, lift, merge, take_record};
+use crate::edits::{give_pages, lift, merge, take_record};
 use ib_map::Key;
 use ib_page::{Image, Path, WorkSet};
-use ib_plans::{FEWEST_RECORDS, TreeFault};
+use ib_plans::{FEWEST_RECORDS, TreeFault, image_of};
 
 /// Changes the images of a work set as a delete of the key asks it, and gives its value: the record leaves the key's
 /// leaf; from there up, a page other than the root that lost a record and has fewer than `FEWEST_RECORDS` is merged with

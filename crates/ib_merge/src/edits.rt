@@ -1,20 +1,21 @@
 //! The changes that a delete makes in a work set: a record taken out, a merge, the lift of a root, pages given back.
 
-ghost use Rattle.std.specs.Prelude.{◌≡◌, ◌≢◌, ◌<◌, ◌≤◌, ◌^◌, ◌+◌, ◌++◌, [], ℕ, length, slice_index, Some, IsSomeAnd};
+ghost use Rattle.std.specs.Prelude.{◌≡◌, ◌≢◌, ◌<◌, ◌≤◌, ◌^◌, ◌+◌, ◌++◌, [], ℕ, length, slice_index, IsSomeAnd};
 ghost use Rattle.ib_map.specs.Keys.{end_rank};
 ghost use Rattle.ib_map.specs.Pairs.{Rises};
 ghost use Rattle.ib_heap.specs.declared.TheConstants.{MOST_RECORDS};
 ghost use Rattle.ib_page.specs.declared.space.TheConstants.{MAPPED_PAGES};
-ghost use Rattle.ib_page.specs.Image.{IsTreePage, IsFormed};
+ghost use Rattle.ib_page.specs.Image.{IsTreePage};
 ghost use Rattle.ib_page.specs.Work.{changed_of};
 ghost use Rattle.ib_plans.specs.Merge.{first_child};
 ghost use Rattle.ib_plans.specs.Split.{with_prev};
-ghost use Rattle.ib_plans.specs.Agreement.{IsThere, memory_in, Sets, tick, taken_bits, with_bits};
+ghost use Rattle.ib_plans.specs.Agreement.{memory_in, Sets, tick, taken_bits, with_bits};
 ghost use Rattle.ib_merge.specs.Deletes.{without_record, CanMerge, IsJoined, IsMerged, CanLift, IsLifted, AreTaken, MayGivePages, GivesPages};
 
 use crate::images::{join_images, lower_image};
 use ib_map::Key;
 use ib_page::{Image, SpaceImage, WorkSet};
+use ib_plans::{image_of, link_back};
 
 // Two children of a node that become one page: the left one, the record of the one that goes, and which of the two is the
 // sibling of the key's child.
@@ -23,14 +24,6 @@ pub(crate) struct Merger {
     pub(crate) left: u32,
     pub(crate) gone: (Key, u32),
     pub(crate) beside: u32,
-}
-
-// The changed image of a page that is there.
-pub(crate) fn image_of(work: &WorkSet, page: u32) -> &Image
-    requires { IsThere work.now page }
-    ensures { changed_of page work.now ≡ Some result.now }
-{
-    work.image(page).unwrap()
 }
 
 // Takes the record of a key out of a page of the tree, where there is one.
@@ -82,19 +75,6 @@ fn link_behind(work: &mut WorkSet, next: u32, prev: u32)
     if next != 0 {
         link_back(work, next, prev);
     }
-}
-
-// Links a leaf back to another one.
-fn link_back(work: &mut WorkSet, page: u32, prev: u32)
-    requires tree { IsSomeAnd (changed_of page work.old) IsTreePage }
-    requires leaf { (memory_in work.old page).level ≡ 0 }
-    requires clock { (memory_in work.old page).clock < 2 ^ 63 }
-    ensures { Sets page (tick (with_prev prev (memory_in work.old page))) work.old work.new }
-{
-    let image = work.edit(page);
-    let next = image.next();
-    image.set_links(prev, next);
-    image.touch();
 }
 
 // Lifts a root that has one child, and answers the child, which becomes a free page.

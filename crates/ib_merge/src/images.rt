@@ -1,16 +1,18 @@
 //! Two pages of the tree as one.
 
-ghost use Rattle.std.specs.Prelude.{◌≡◌, ◌≤◌, ◌+◌, ◌++◌, [], length};
+ghost use Rattle.std.specs.Prelude.{◌≡◌, ◌≤◌, ◌+◌, ◌++◌, length};
 ghost use Rattle.ib_map.specs.Keys.{end_rank};
 ghost use Rattle.ib_map.specs.Pairs.{Rises};
-ghost use Rattle.ib_heap.specs.declared.TheConstants.{MOST_LEVEL, MOST_RECORDS};
+ghost use Rattle.ib_heap.specs.declared.TheConstants.{MOST_RECORDS};
+ghost use Rattle.ib_heap.specs.Filled.{filled};
+ghost use Rattle.ib_heap.specs.Heap.{read_heap};
 ghost use Rattle.ib_page.specs.Form.{page_of};
-ghost use Rattle.ib_page.specs.Page.PageValue.{Tree};
 ghost use Rattle.ib_page.specs.Image.{IsTreePage, IsFormed, level_of, records_of};
 ghost use Rattle.ib_walk.specs.Words.{state_of};
 ghost use Rattle.ib_merge.specs.Deletes.{joined, lowered};
 
 use ib_page::Image;
+use ib_plans::empty_page;
 
 // The left one of two pages of a level takes the records of the right one, and its link.
 pub(crate) fn join_images(left: &mut Image, right: &Image)
@@ -21,6 +23,7 @@ pub(crate) fn join_images(left: &mut Image, right: &Image)
     requires ascends { Rises 0 (records_of left.old ++ records_of right.now) end_rank }
     ensures state { state_of (page_of left.new) ≡ joined (state_of (page_of left.old)) (state_of (page_of right.now)) }
     ensures tree { IsTreePage left.new }
+    ensures heap { read_heap left.new ≡ filled (length (records_of left.old) + length (records_of right.now)) }
 {
     let prev = left.prev();
     left.join(right);
@@ -33,19 +36,8 @@ pub(crate) fn lower_image(root: &mut Image, child: &Image)
     requires child_tree { IsTreePage child.now }
     ensures state { state_of (page_of root.new) ≡ lowered (state_of (page_of root.old)) (state_of (page_of child.now)) }
     ensures tree { IsTreePage root.new }
+    ensures heap { read_heap root.new ≡ filled (length (records_of child.now)) }
 {
     *root = empty_page(child.level(), root.clock());
     root.join(child);
-}
-
-// An empty page at a level.
-fn empty_page(level: u32, clock: u64) -> Image
-    requires { level ≤ MOST_LEVEL }
-    ensures { page_of result ≡ Tree (record { level = level; prev = 0; next = 0; clock = clock; records = [] }) }
-{
-    if level == 0 {
-        Image::leaf(clock)
-    } else {
-        Image::node(level, clock)
-    }
 }

@@ -8,6 +8,10 @@ ghost use Rattle.ib_map.specs.Pairs.{Rises, put, without, cut, value_at, place_o
 ghost use Rattle.ib_map.specs.Writes.{write_words};
 ghost use Rattle.ib_heap.specs.Page.PageValue.{Tree, Free};
 ghost use Rattle.ib_heap.specs.Words.{free_page_words};
+ghost use Rattle.ib_heap.specs.Heap.{read_heap};
+ghost use Rattle.ib_heap.specs.Put.{put_in};
+ghost use Rattle.ib_heap.specs.Take.{remove_in};
+ghost use Rattle.ib_heap.specs.Filled.{filled};
 ghost use Rattle.ib_heap.specs.Form.{page_of, empty_leaf_words};
 ghost use Rattle.ib_heap.specs.Image.{IsTreePage, IsFormed, level_of, prev_of, next_of, clock_of, records_of, with_records, with_links, with_level, with_clock};
 ghost use Rattle.ib_page.specs.Kind.{kind_of};
@@ -293,6 +297,7 @@ impl Image {
         ensures full { (result ≡ Err PageFault.PageFull) ↔ (IsNone (value_at key (records_of self.old)) × (length (records_of self.old) ≡ MOST_RECORDS)) }
         ensures never_missing { result ≢ Err PageFault.Missing }
         ensures unchanged { OnErr result (self.new ≡ self.old) }
+        ensures heap { OnOk result (read_heap self.new ≡ put_in (place_of key (records_of self.old)) (read_heap self.old)) }
     {
         ib_heap::put(&mut self.words, key, value)
     }
@@ -307,6 +312,7 @@ impl Image {
         ensures missing { (result ≡ Err PageFault.Missing) ↔ IsNone (value_at key (records_of self.old)) }
         ensures only_missing { IfErr result (λ fault. fault ≡ PageFault.Missing) }
         ensures unchanged { OnErr result (self.new ≡ self.old) }
+        ensures heap { OnOk result (read_heap self.new ≡ remove_in (place_of key (records_of self.old)) (read_heap self.old)) }
     {
         ib_heap::take(&mut self.words, key)
     }
@@ -319,6 +325,8 @@ impl Image {
         requires in_range { at ≤ length (records_of self.old) }
         ensures left { page_of self.new ≡ with_records (take at (records_of self.old)) (page_of self.old) }
         ensures right { page_of right.new ≡ with_records (drop at (records_of self.old)) (page_of right.old) }
+        ensures left_heap { read_heap self.new ≡ filled at }
+        ensures right_heap { read_heap right.new ≡ filled (length (records_of self.old) - at) }
     {
         ib_heap::move_tail(&mut self.words, at, &mut right.words);
     }
@@ -329,7 +337,8 @@ impl Image {
         requires right_tree { IsTreePage right.now }
         requires few { length (records_of self.old) + length (records_of right.now) ≤ MOST_RECORDS }
         requires ascends { Rises 0 (records_of self.old ++ records_of right.now) end_rank }
-        ensures { page_of self.new ≡ with_records (records_of self.old ++ records_of right.now) (page_of self.old) }
+        ensures page { page_of self.new ≡ with_records (records_of self.old ++ records_of right.now) (page_of self.old) }
+        ensures heap { read_heap self.new ≡ filled (length (records_of self.old) + length (records_of right.now)) }
     {
         ib_heap::append(&mut self.words, &right.words);
     }
@@ -338,7 +347,8 @@ impl Image {
     /// (`btr_page_reorganize`). What the page holds stays.
     pub fn reorganize(&mut self)
         requires { IsTreePage self.old }
-        ensures { page_of self.new ≡ page_of self.old }
+        ensures page { page_of self.new ≡ page_of self.old }
+        ensures heap { read_heap self.new ≡ filled (length (records_of self.old)) }
     {
         ib_heap::reorganize(&mut self.words);
     }
@@ -348,7 +358,8 @@ impl Image {
         requires tree { IsTreePage self.old }
         requires prev { 0 < level_of self.old → prev ≡ 0 }
         requires next { 0 < level_of self.old → next ≡ 0 }
-        ensures { page_of self.new ≡ with_links prev next (page_of self.old) }
+        ensures page { page_of self.new ≡ with_links prev next (page_of self.old) }
+        ensures heap { read_heap self.new ≡ read_heap self.old }
     {
         ib_heap::set_links(&mut self.words, prev, next);
     }
@@ -359,7 +370,8 @@ impl Image {
         requires low { level ≤ MOST_LEVEL }
         requires prev { 0 < level → prev_of self.old ≡ 0 }
         requires next { 0 < level → next_of self.old ≡ 0 }
-        ensures { page_of self.new ≡ with_level level (page_of self.old) }
+        ensures page { page_of self.new ≡ with_level level (page_of self.old) }
+        ensures heap { read_heap self.new ≡ read_heap self.old }
     {
         ib_heap::set_level(&mut self.words, level);
     }
@@ -368,7 +380,8 @@ impl Image {
     pub fn touch(&mut self)
         requires formed { IsFormed self.old }
         requires room { clock_of self.old < 2 ^ 63 }
-        ensures { page_of self.new ≡ with_clock (clock_of self.old + 1) (page_of self.old) }
+        ensures page { page_of self.new ≡ with_clock (clock_of self.old + 1) (page_of self.old) }
+        ensures heap { read_heap self.new ≡ read_heap self.old }
     {
         let clock = ib_heap::clock(&self.words);
         ib_heap::set_clock(&mut self.words, clock + 1);

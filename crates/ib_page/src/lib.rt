@@ -6,8 +6,6 @@ mod laws;
 mod opening;
 mod path;
 mod space;
-#[cfg(test)]
-mod tests;
 mod words;
 mod work;
 

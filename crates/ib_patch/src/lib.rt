@@ -24,6 +24,3 @@ pub use page_test::all_pass;
 pub use position::PagePosition;
 pub use tree_pages::TreePages;
 pub use visit::visit_levels;
-
-#[cfg(test)]
-mod tests;

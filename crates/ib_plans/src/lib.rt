@@ -3,9 +3,11 @@
 
 mod fault;
 mod laws;
+mod pages;
 
 pub use fault::TreeFault;
 pub use laws::{delete_law, insert_law};
+pub use pages::{empty_page, image_of, link_back};
 
 /// How many of the records of a page that has one too many stay in it at a split: the others go to a page to its right.
 pub const LEFT_RECORDS: usize = 18;

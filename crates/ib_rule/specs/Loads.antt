@@ -1,11 +1,21 @@
 -- A page that is loaded word by word.
-use Rattle.std.specs.Prelude.{◌≡◌, ℕ, ◌+◌, ◌<◌, zero, suc, true, List, [], ◌∷◌, ◌++◌, slice_index}
+use Rattle.std.specs.Prelude.{◌≡◌, ℕ, ◌+◌, ◌<◌, zero, suc, true, List, [], ◌∷◌, ◌++◌, None, slice_index}
 use Rattle.ib_map.specs.declared.TheConstants.{PAGE_WORDS}
 use Rattle.ib_map.specs.Writes.{word_place}
+use Rattle.ib_core.specs.Sessions.{holdings}
 use Rattle.ib_logrec.specs.Log.{memory_after}
 use Rattle.ib_rule.specs.declared.memory.Loaded.{Loaded}
+use Rattle.ib_rule.specs.declared.view.Role.TheVariants.{Session}
 use Rattle.ib_rule.specs.declared.view.View.{View}
-use Rattle.ib_rule.specs.Views.{is_watched, with_memory}
+use Rattle.ib_rule.specs.Roles.{number_in}
+use Rattle.ib_rule.specs.Views.{KnowsHeld, is_watched, with_memory}
+
+-- who may load the page: a session that holds it in some mode and has no append open
+pub record MayLoad (page : ℕ) (v : View) : Type 0 where
+  pub role : v.role ≡ Session (number_in v.role)
+  pub closed : v.memory.append ≡ None
+  pub held : 0 < holdings (page + 2) v.session
+  pub known : KnowsHeld v
 
 -- the first n words of a page's image as loaded words, all fresh, the last one first
 unfoldable pub loads_below : ℕ → List ℕ → ℕ → List Loaded

@@ -23,8 +23,6 @@ mod space;
 mod step;
 mod stores;
 mod takings;
-#[cfg(test)]
-mod tests;
 mod turns;
 mod view;
 mod working;

@@ -1,6 +1,6 @@
 //! The loads of page words, of words of the log, and of the log's end.
 
-ghost use Rattle.std.specs.Prelude.{◌≡◌, ◌+◌, ◌*◌, ◌^◌, ◌<◌, ◌≤◌, length, slice_index_or, true, None};
+ghost use Rattle.std.specs.Prelude.{◌≡◌, ◌+◌, ◌*◌, ◌^◌, ◌<◌, ◌≤◌, length, slice_index_or, true};
 ghost use Rattle.std.specs.List.{AllByRecursion};
 ghost use Rattle.ib_map.specs.declared.TheConstants.{PAGE_WORDS};
 ghost use Rattle.ib_map.specs.Space.{has_pages};
@@ -8,13 +8,11 @@ ghost use Rattle.ib_map.specs.Writes.{word_place};
 ghost use Rattle.ib_layout.specs.Places.{page_place, words_of};
 ghost use Rattle.ib_core.specs.Sessions.{holdings};
 ghost use Rattle.ib_logrec.specs.Log.{by_place, log_words, memory_after, used};
-ghost use Rattle.ib_rule.specs.declared.view.Role.TheVariants.{Session};
 ghost use Rattle.ib_rule.specs.declared.loads.TheConstants.{LINE_WORDS};
 ghost use Rattle.ib_rule.specs.declared.view.View.{View};
-ghost use Rattle.ib_rule.specs.Loads.{AreSettled, HasLoaded, with_page_loaded};
+ghost use Rattle.ib_rule.specs.Loads.{AreSettled, HasLoaded, MayLoad, with_page_loaded};
 ghost use Rattle.ib_rule.specs.Memory.{LoadedFact};
 ghost use Rattle.ib_rule.specs.Pass.{IsFrom, IsOf, with_view};
-ghost use Rattle.ib_rule.specs.Roles.{number_in};
 ghost use Rattle.ib_rule.specs.Stores.{IsLook};
 ghost use Rattle.ib_rule.specs.Views.{KnowsHeld, is_watched, loading, reaching};
 
@@ -138,10 +136,7 @@ fn load_words<L: Law>(
     requires pages { has_pages shared.now.key.pages ≡ true }
     requires page { page < shared.now.key.pages }
     requires first { first ≡ page_place shared.now.key page 0 }
-    requires role { seat.old.me.0.role ≡ Session (number_in seat.old.me.0.role) }
-    requires closed { seat.old.me.0.memory.append ≡ None }
-    requires held { 0 < holdings (page + 2) seat.old.me.0.session }
-    requires known { KnowsHeld seat.old.me.0 }
+    requires may { MayLoad page seat.old.me.0 }
     ensures own { (seat.new.table_id ≡ seat.old.table_id) × (seat.new.id ≡ seat.old.id) }
     ensures view { seat.new.me.0 ≡ with_page_loaded page out.new seat.old.me.0 }
     ensures slots { seat.new.me.1 ≡ seat.old.me.1 }
@@ -169,10 +164,7 @@ fn load_line<L: Law>(
     requires page { page < shared.now.key.pages }
     requires first { first ≡ page_place shared.now.key page 0 }
     requires from { from + LINE_WORDS ≤ PAGE_WORDS }
-    requires role { seat.old.me.0.role ≡ Session (number_in seat.old.me.0.role) }
-    requires closed { seat.old.me.0.memory.append ≡ None }
-    requires held { 0 < holdings (page + 2) seat.old.me.0.session }
-    requires known { KnowsHeld seat.old.me.0 }
+    requires may { MayLoad page seat.old.me.0 }
     ensures own { (seat.new.table_id ≡ seat.old.table_id) × (seat.new.id ≡ seat.old.id) }
     ensures loaded { (start : View)
         → HasLoaded (by_place L.opening shared.now.key.pages) page start out.old from

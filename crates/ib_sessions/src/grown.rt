@@ -5,7 +5,7 @@ ghost use Rattle.ib_core.specs.Sessions.{idle};
 ghost use Rattle.ib_rule.specs.Pass.{IsOf};
 
 use crate::pages::{check_page, close, free_pages, leaf, node};
-use crate::rows::{insert_up_to, inserted};
+use crate::rows::{deleted, insert_up_to, inserted, missing};
 use crate::space::{come, delete, insert, open, scan_keys};
 use ib_index::Index;
 use ib_map::{Call, Chunk, Chunks, Record, Reply};
@@ -20,14 +20,6 @@ fn scanned(low: u64, high: u64, pairs: u32, place: u32) -> Record {
     Record {
         call: Call::Scan { low, high },
         reply: Reply::Scanned { chunks: 1, pairs },
-        place,
-    }
-}
-
-fn deleted(key: u64, value: u64, place: u32) -> Record {
-    Record {
-        call: Call::Delete { key },
-        reply: Reply::Deleted { value },
         place,
     }
 }
@@ -59,12 +51,7 @@ fn two_leaves_are_merged_and_the_root_is_lifted(rt: HostRuntime) {
     insert_up_to(&rt, &index, &mut one, 36);
     assert_eq!(rt; delete(&rt, &index, &mut one, 36), deleted(36, 36, 36));
     assert_eq!(rt; delete(&rt, &index, &mut one, 35), deleted(35, 35, 37));
-    let missing = Record {
-        call: Call::Delete { key: 35 },
-        reply: Reply::Missing,
-        place: 38,
-    };
-    assert_eq!(rt; delete(&rt, &index, &mut one, 35), missing);
+    assert_eq!(rt; delete(&rt, &index, &mut one, 35), missing(35, 38));
     let taken = one.grants();
     assert_eq!(rt; taken.sx, 2);
     index.disconnect(one);

@@ -2,7 +2,11 @@
 #![tactic(auto)]
 
 #[cfg(test)]
+mod cursor;
+#[cfg(test)]
 mod grown;
+#[cfg(test)]
+mod lookups;
 #[cfg(test)]
 mod pages;
 #[cfg(test)]

@@ -4,7 +4,7 @@ ghost use Rattle.std.specs.Prelude.{◌≡◌, true};
 ghost use Rattle.ib_core.specs.Sessions.{idle};
 ghost use Rattle.ib_rule.specs.Pass.{IsOf};
 
-use crate::space::{come, get, insert, open, scan_keys};
+use crate::space::{come, delete, get, insert, open, scan_keys};
 use ib_index::Index;
 use ib_map::{Call, Chunk, Chunks, Record, Reply};
 use ib_rule::Pass;
@@ -36,6 +36,44 @@ pub(crate) fn inserted(key: u64, value: u64, place: u32) -> Record {
         reply: Reply::Inserted,
         place,
     }
+}
+
+pub(crate) fn deleted(key: u64, value: u64, place: u32) -> Record {
+    Record {
+        call: Call::Delete { key },
+        reply: Reply::Deleted { value },
+        place,
+    }
+}
+
+pub(crate) fn missing(key: u64, place: u32) -> Record {
+    Record {
+        call: Call::Delete { key },
+        reply: Reply::Missing,
+        place,
+    }
+}
+
+// None of these changes needs more than the one leaf, though it is full at first: SX is never taken.
+#[test]
+fn a_full_leaf_is_changed_alone(rt: HostRuntime) {
+    let mut index = open(&rt, rt.alloc(), 100_000);
+    let mut one = come(&rt, rt.alloc(), &mut index);
+    insert_up_to(&rt, &index, &mut one, 35);
+    let there = Record {
+        call: Call::Insert { key: 3, value: 9 },
+        reply: Reply::Duplicate,
+        place: 35,
+    };
+    assert_eq!(rt; insert(&rt, &index, &mut one, 3, 9), there);
+    assert_eq!(rt; delete(&rt, &index, &mut one, 3), deleted(3, 3, 35));
+    assert_eq!(rt; delete(&rt, &index, &mut one, 3), missing(3, 36));
+    assert_eq!(rt; insert(&rt, &index, &mut one, 40, 40), inserted(40, 40, 36));
+    let taken = one.grants();
+    assert_eq!(rt; (one.place(), one.made()), (37, 37));
+    assert_eq!(rt; (taken.s, taken.sx, taken.x), (78, 0, 76));
+    index.disconnect(one);
+    index.discard();
 }
 
 #[test]
@@ -87,15 +125,22 @@ fn a_log_has_room_for_one_entry(rt: HostRuntime) {
         insert(&rt, &index, &mut one, 10, 100),
         inserted(10, 100, 0)
     );
-    let full = Record {
+    let full = Reply::LogFull {
+        used: 20,
+        cap: 8196,
+    };
+    let refused = Record {
         call: Call::Insert { key: 11, value: 1 },
-        reply: Reply::LogFull {
-            used: 20,
-            cap: 8196,
-        },
+        reply: full,
         place: 1,
     };
-    assert_eq!(rt; insert(&rt, &index, &mut one, 11, 1), full);
+    assert_eq!(rt; insert(&rt, &index, &mut one, 11, 1), refused);
+    let kept = Record {
+        call: Call::Delete { key: 10 },
+        reply: full,
+        place: 1,
+    };
+    assert_eq!(rt; delete(&rt, &index, &mut one, 10), kept);
     let there = Record {
         call: Call::Insert { key: 10, value: 3 },
         reply: Reply::Duplicate,

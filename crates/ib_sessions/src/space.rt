@@ -6,6 +6,7 @@ ghost use Rattle.ib_rule.specs.Pass.{IsOf};
 ghost use Rattle.ib_rule.specs.Views.{total};
 
 use ib_index::Index;
+use ib_latch::Sleep;
 use ib_layout::Geometry;
 use ib_map::{Chunks, Record};
 use ib_rule::Pass;
@@ -22,7 +23,7 @@ pub(crate) fn open(rt: &impl Abort, alloc: Global, log_words: u32) -> Index
     Index::open(alloc, sizes).expect(rt, "there is memory")
 }
 
-pub(crate) fn come(rt: &impl Abort, alloc: Global, index: &mut Index) -> Pass
+pub(crate) fn come<S: Sleep>(rt: &impl Abort, alloc: Global, index: &mut Index<S>) -> Pass
     ensures own { IsOf index.new result }
     ensures idle { result.view.session ≡ idle }
     ensures scratch { result.has_scratch ≡ true }

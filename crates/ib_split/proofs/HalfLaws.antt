@@ -1,6 +1,6 @@
 -- A record put into a list, and the two parts of the list then.
 use Rattle.std.proofs.Common.{◌≡◌, ◌∙◌, ℕ, zero, suc, ◌+◌, ◌<◌, ◌≤◌, [], ◌∷◌, length, take, drop, refl, sym, ap, arith, ltb, eqb, Option, Some, None, length-drop}
-use Rattle.std.specs.Prelude.{◌↔◌, Result, Ok, Err, OnOk, IsSome, IsNone}
+use Rattle.std.specs.Prelude.{◌↔◌, List, Result, Ok, Err, OnOk, IsSome, IsNone}
 use Rattle.std.proofs.lemmas.Bool.{cases_Bool}
 use Rattle.std.proofs.Common.{inl, inr}
 use Rattle.ib_map.specs.Keys.{MapKey, IsKey, rank, end_rank}
@@ -8,9 +8,12 @@ use Rattle.ib_map.specs.Pairs.{Pairs, Rises, put, place_of, value_at}
 use Rattle.ib_heap.specs.declared.TheConstants.{MOST_RECORDS}
 use Rattle.ib_heap.specs.declared.fault.PageFault.{PageFault}
 use Rattle.ib_heap.specs.declared.fault.PageFault.TheVariants.{Duplicate, PageFull, Missing}
+use Rattle.ib_heap.specs.Filled.{filled}
+use Rattle.ib_heap.specs.Heap.{read_heap}
+use Rattle.ib_page.specs.Form.{page_of}
 use Rattle.ib_page.specs.Page.{PageValue, HoldsTree, page_in}
 use Rattle.ib_page.specs.Page.PageValue.{Malformed, Free, Tree}
-use Rattle.ib_page.specs.Image.{with_records, with_links, with_clock}
+use Rattle.ib_page.specs.Image.{records_of, with_records, with_links, with_clock}
 use Rattle.ib_map.specs.declared.key.TheConstants.{LEAST}
 use Rattle.ib_map.proofs.KeyLaws.{rank-least, rank-lt_end}
 use Rattle.ib_map.proofs.PairLaws.{length-put, Rises-put}
@@ -102,6 +105,13 @@ pub records-with_records : (v : PageValue) (xs : Pairs) → HoldsTree v → (pag
 records-with_records (Tree p) xs tree = refl
 records-with_records (Free clock) xs tree = absurd tree
 records-with_records Malformed xs tree = absurd tree
+
+-- a record is put in, and all records anew
+pub filled_with : (result : Result (Unit {0}) PageFault) (key : MapKey) (value : ℕ) (old mid new : List ℕ) → HoldsTree (page_of old)
+    → OnOk result (page_of mid ≡ with_records (put key value (records_of old)) (page_of old)) → read_heap new ≡ filled (length (records_of mid))
+    → OnOk result (read_heap new ≡ filled (length (records_of old) + 1))
+filled_with (Ok x) key value old mid new tree inserted heap = heap ∙ ap filled (ap length (ap (λ q. (page_in q).records) inserted ∙ records-with_records (page_of old) (put key value (records_of old)) tree) ∙ length-put key value (records_of old))
+filled_with (Err e) key value old mid new tree inserted heap = tt
 
 -- a page with these records, into which a record was put
 pub put-twice : (key : MapKey) (value : ℕ) (v mid new : PageValue) (xs ys : Pairs) → HoldsTree v → mid ≡ with_records xs v

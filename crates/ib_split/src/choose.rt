@@ -4,13 +4,12 @@ ghost use Rattle.std.specs.Prelude.{◌≡◌, ◌<◌, ◌≤◌, List, ℕ, So
 ghost use Rattle.ib_page.specs.declared.space.TheConstants.{MAPPED_PAGES};
 ghost use Rattle.ib_page.specs.declared.path.TheConstants.{MOST_PATH};
 ghost use Rattle.ib_page.specs.Work.{changed_of};
-ghost use Rattle.ib_walk.specs.Full.{chosen, free_of, free_from};
+ghost use Rattle.ib_walk.specs.Full.{chosen, free_of};
 ghost use Rattle.ib_plans.specs.declared.fault.TreeFault.{TreeFault};
 ghost use Rattle.ib_plans.specs.Agreement.{IsThere, bits_in};
 
-use crate::need::image_of;
 use ib_page::{Path, SpaceImage, WorkSet};
-use ib_plans::TreeFault;
+use ib_plans::{TreeFault, image_of};
 
 /// The lowest free pages of a space of so many, as many as are needed, ascending (fsp0fsp,
 /// `fsp_alloc_free_page`). `NeedPages` exactly where fewer are free. Page 0 is there.

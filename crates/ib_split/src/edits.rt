@@ -1,18 +1,15 @@
 //! The changes that an insert makes in a work set: a record put in, a split, the raise of a root, pages taken.
 
-ghost use Rattle.std.specs.Prelude.{◌≡◌, ◌<◌, ◌≤◌, ◌^◌, ℕ, length, slice_index, IsSomeAnd};
+ghost use Rattle.std.specs.Prelude.{◌≡◌, ◌<◌, ◌≤◌, ℕ, length, slice_index};
 ghost use Rattle.ib_page.specs.declared.space.TheConstants.{MAPPED_PAGES};
-ghost use Rattle.ib_page.specs.Image.{IsTreePage};
-ghost use Rattle.ib_page.specs.Work.{changed_of};
 ghost use Rattle.ib_plans.specs.Insert.{AreFresh};
-ghost use Rattle.ib_plans.specs.Split.{with_prev};
 ghost use Rattle.ib_plans.specs.Agreement.{memory_in, Sets, tick, taken_bits, with_bits};
 ghost use Rattle.ib_split.specs.Inserts.{with_record, CanPut, CanSplit, IsSplit, CanRaise, IsRaised, MayTakePages, TakesPages};
 
-use crate::halves::{empty_page, raise_images, split_images};
-use crate::need::image_of;
-use ib_map::{Key, LEAST};
+use crate::halves::{raise_images, split_images};
+use ib_map::Key;
 use ib_page::{SpaceImage, WorkSet};
+use ib_plans::{empty_page, image_of, link_back};
 
 // Puts a record into a page of the tree that has room for it.
 pub(crate) fn put_record(work: &mut WorkSet, page: u32, key: Key, value: u64)
@@ -39,19 +36,6 @@ pub(crate) fn split(work: &mut WorkSet, page: u32, fresh: u32, key: Key, value: 
         link_back(work, next, fresh);
     }
     first
-}
-
-// Links a leaf back to another one.
-fn link_back(work: &mut WorkSet, page: u32, prev: u32)
-    requires tree { IsSomeAnd (changed_of page work.old) IsTreePage }
-    requires leaf { (memory_in work.old page).level ≡ 0 }
-    requires clock { (memory_in work.old page).clock < 2 ^ 63 }
-    ensures { Sets page (tick (with_prev prev (memory_in work.old page))) work.old work.new }
-{
-    let image = work.edit(page);
-    let next = image.next();
-    image.set_links(prev, next);
-    image.touch();
 }
 
 // Raises a full root, to which the record belongs: its records go to two fresh pages below it, and it has a record for each.

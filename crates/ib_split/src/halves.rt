@@ -1,13 +1,16 @@
 //! A page that has one record too many, as two halves.
 
-ghost use Rattle.std.specs.Prelude.{◌≡◌, ◌≢◌, ◌<◌, ◌≤◌, ◌^◌, ◌+◌, ◌==◌, ◌↔◌, if◌then◌else◌, [], ◌∷◌, length, None, IsNone, IsSome, OnOk};
+ghost use Rattle.std.specs.Prelude.{◌≡◌, ◌≢◌, ◌<◌, ◌^◌, ◌+◌, ◌-◌, ◌==◌, ◌↔◌, if◌then◌else◌, [], ◌∷◌, length, None, IsNone, IsSome, OnOk};
 ghost use Rattle.ib_map.specs.Keys.{rank};
 ghost use Rattle.ib_map.specs.Pairs.{put, place_of, value_at};
 ghost use Rattle.ib_heap.specs.declared.TheConstants.{MOST_LEVEL, MOST_RECORDS};
+ghost use Rattle.ib_heap.specs.Filled.{filled};
+ghost use Rattle.ib_heap.specs.Heap.{read_heap};
 ghost use Rattle.ib_page.specs.Form.{page_of};
 ghost use Rattle.ib_page.specs.Page.PageValue.{Tree};
 ghost use Rattle.ib_page.specs.Image.{IsTreePage, level_of, prev_of, next_of, clock_of, records_of, with_records, with_links};
 ghost use Rattle.ib_walk.specs.Words.{state_of};
+ghost use Rattle.ib_plans.specs.declared.TheConstants.{LEFT_RECORDS};
 ghost use Rattle.ib_plans.specs.Split.{left_part, right_part, first_key};
 ghost use Rattle.ib_plans.specs.Agreement.{tick};
 ghost use Rattle.ib_split.specs.Inserts.{lower_half, upper_half, raised_left, raised_right, raised_root, with_record};
@@ -36,6 +39,8 @@ pub(crate) fn split_images(
     ensures right { state_of (page_of right.new) ≡ tick (upper_half (with_record key value (state_of (page_of left.old))) page (clock_of right.old)) }
     ensures tree { IsTreePage left.new }
     ensures right_tree { IsTreePage right.new }
+    ensures left_heap { read_heap left.new ≡ filled LEFT_RECORDS }
+    ensures right_heap { read_heap right.new ≡ filled (MOST_RECORDS + 1 - LEFT_RECORDS) }
     ensures key { result ≡ first_key (right_part (put key value (records_of left.old))) }
 {
     halve(left, right, key, value);
@@ -73,6 +78,8 @@ pub(crate) fn raise_images(
     ensures root_tree { IsTreePage root.new }
     ensures low_tree { IsTreePage low.new }
     ensures high_tree { IsTreePage high.new }
+    ensures low_heap { read_heap low.new ≡ filled LEFT_RECORDS }
+    ensures high_heap { read_heap high.new ≡ filled (MOST_RECORDS + 1 - LEFT_RECORDS) }
 {
     root.cut(0, low);
     halve(low, high, key, value);
@@ -123,6 +130,8 @@ pub(crate) fn halve(left: &mut Image, right: &mut Image, key: Key, value: u64)
     requires absent { value_at key (records_of left.old) ≡ None }
     ensures left { page_of left.new ≡ with_records (left_part (put key value (records_of left.old))) (page_of left.old) }
     ensures right { page_of right.new ≡ with_records (right_part (put key value (records_of left.old))) (page_of right.old) }
+    ensures left_heap { read_heap left.new ≡ filled LEFT_RECORDS }
+    ensures right_heap { read_heap right.new ≡ filled (MOST_RECORDS + 1 - LEFT_RECORDS) }
 {
     if place_in(left, key) < LEFT_RECORDS {
         left.cut(LEFT_RECORDS - 1, right);
@@ -140,6 +149,7 @@ fn insert_anew(image: &mut Image, key: Key, value: u64) -> Result<(), PageFault>
     ensures duplicate { (result ≡ Err PageFault.Duplicate) ↔ IsSome (value_at key (records_of image.old)) }
     ensures full { (result ≡ Err PageFault.PageFull) ↔ (IsNone (value_at key (records_of image.old)) × (length (records_of image.old) ≡ MOST_RECORDS)) }
     ensures never_missing { result ≢ Err PageFault.Missing }
+    ensures heap { OnOk result (read_heap image.new ≡ filled (length (records_of image.old) + 1)) }
 {
     let result = image.insert(key, value);
     image.reorganize();
@@ -165,6 +175,8 @@ fn link(left: &mut Image, right: &mut Image, page: u32, fresh: u32)
     requires alone { next_of right.old ≡ 0 }
     ensures left { page_of left.new ≡ with_links (prev_of left.old) (if level_of left.old == 0 then fresh else next_of left.old) (page_of left.old) }
     ensures right { page_of right.new ≡ with_links (if level_of left.old == 0 then page else prev_of right.old) (if level_of left.old == 0 then next_of left.old else 0) (page_of right.old) }
+    ensures left_heap { read_heap left.new ≡ read_heap left.old }
+    ensures right_heap { read_heap right.new ≡ read_heap right.old }
 {
     if left.level() == 0 {
         let next = left.next();
@@ -182,21 +194,11 @@ fn link_two(low: &mut Image, high: &mut Image, left: u32, right: u32)
     requires high_alone { (prev_of high.old ≡ 0) × (next_of high.old ≡ 0) }
     ensures low { page_of low.new ≡ with_links 0 (if level_of low.old == 0 then right else 0) (page_of low.old) }
     ensures high { page_of high.new ≡ with_links (if level_of low.old == 0 then left else 0) 0 (page_of high.old) }
+    ensures low_heap { read_heap low.new ≡ read_heap low.old }
+    ensures high_heap { read_heap high.new ≡ read_heap high.old }
 {
     if low.level() == 0 {
         low.set_links(0, right);
         high.set_links(left, 0);
-    }
-}
-
-// An empty page at a level.
-pub(crate) fn empty_page(level: u32, clock: u64) -> Image
-    requires { level ≤ MOST_LEVEL }
-    ensures { page_of result ≡ Tree (record { level = level; prev = 0; next = 0; clock = clock; records = [] }) }
-{
-    if level == 0 {
-        Image::leaf(clock)
-    } else {
-        Image::node(level, clock)
     }
 }

@@ -1,16 +1,16 @@
 //! The planned insert.
 
-ghost use Rattle.std.specs.Prelude.{◌≡◌, ◌≢◌, ◌↔◌, ◌<◌, ◌≤◌, ℕ, take, length, None, IsSome, IsErr, OnOk, OnErr, IfErr};
+ghost use Rattle.std.specs.Prelude.{◌≡◌, ◌↔◌, ◌<◌, ◌≤◌, length, None, IsSome, IsErr, OnOk, OnErr, IfErr};
 ghost use Rattle.ib_map.specs.Pairs.{value_at};
 ghost use Rattle.ib_plans.specs.declared.fault.TreeFault.{TreeFault};
 ghost use Rattle.ib_plans.specs.Agreement.{memory_in, reads_of, last_of, HasTreePages};
 ghost use Rattle.ib_split.specs.Inserts.{CanInsert, IsPlannedForAll, IsClimbedForAll};
 
 use crate::edits::{put_record, raise, split, take_pages};
-use crate::need::{image_of, is_full};
+use crate::need::is_full;
 use ib_map::Key;
 use ib_page::{Path, WorkSet};
-use ib_plans::TreeFault;
+use ib_plans::{TreeFault, image_of};
 
 /// Changes the images of a work set as an insert of the record asks it: the record goes into the key's leaf; from
 /// there up, each page that is full is split with the record that belongs to it, and a full root is raised. The fresh pages

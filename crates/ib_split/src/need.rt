@@ -1,6 +1,6 @@
 //! How many pages an insert takes.
 
-ghost use Rattle.std.specs.Prelude.{◌≡◌, ◌≢◌, ◌≤◌, ◌==◌, ℕ, [], Some, true, false, length, reverse, IfOk, IsSomeAnd, MatchResult};
+ghost use Rattle.std.specs.Prelude.{◌≡◌, ◌≢◌, ◌≤◌, ◌==◌, ℕ, [], true, false, length, reverse, IfOk, IsSomeAnd, MatchResult};
 ghost use Rattle.ib_map.specs.Keys.{MapKey};
 ghost use Rattle.ib_page.specs.declared.path.TheConstants.{MOST_PATH};
 ghost use Rattle.ib_heap.specs.declared.TheConstants.{MOST_RECORDS};
@@ -9,10 +9,10 @@ ghost use Rattle.ib_page.specs.Work.{changed_of};
 ghost use Rattle.ib_walk.specs.Pages.{PageMemory};
 ghost use Rattle.ib_walk.specs.Full.{full_run, need_of, is_too_high};
 ghost use Rattle.ib_plans.specs.declared.fault.TreeFault.{TreeFault};
-ghost use Rattle.ib_plans.specs.Agreement.{Agrees, IsThere, memory_in, HasTreePages};
+ghost use Rattle.ib_plans.specs.Agreement.{Agrees, memory_in, HasTreePages};
 
-use ib_page::{Image, MOST_PATH, MOST_RECORDS, Path, WorkSet};
-use ib_plans::TreeFault;
+use ib_page::{MOST_PATH, MOST_RECORDS, Path, WorkSet};
+use ib_plans::{TreeFault, image_of};
 
 /// How many pages an insert takes: one for each full page of the key's path, counted from the leaf up
 /// without a gap, and one more where the root is among them and is raised. `TooHigh` exactly where it
@@ -56,12 +56,4 @@ pub(crate) fn is_full(work: &WorkSet, page: u32) -> bool
     ensures { result ≡ (length (memory_in work.now page).records == MOST_RECORDS) }
 {
     image_of(work, page).len() == MOST_RECORDS
-}
-
-// The changed image of a page that is there.
-pub(crate) fn image_of(work: &WorkSet, page: u32) -> &Image
-    requires { IsThere work.now page }
-    ensures { changed_of page work.now ≡ Some result.now }
-{
-    work.image(page).unwrap()
 }

@@ -12,13 +12,19 @@ use ib_script::MOST_COMMANDS;
 /// What is counted of replies.
 #[derive(Clone, Copy, Debug, PartialEq, Eq)]
 pub enum ReplyKind {
+    /// An insert's: the pair is in the map now.
     Inserted,
+    /// An insert's: the key was there.
     Duplicate,
+    /// A delete's, with the value that the key had.
     Deleted,
+    /// A delete's: the key was not there.
     Missing,
+    /// A lookup's, with the key's value.
     Found,
+    /// A lookup's: the key was not there.
     NotFound,
-    /// For a full log, a full space or a tree too high.
+    /// A change's: for a full log, a full space or a tree too high.
     Refused,
 }
 

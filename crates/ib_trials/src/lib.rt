@@ -7,6 +7,12 @@ mod beside;
 #[cfg(test)]
 mod changes;
 #[cfg(test)]
+mod entries;
+#[cfg(test)]
+mod heaps;
+#[cfg(test)]
+mod images;
+#[cfg(test)]
 mod pages;
 #[cfg(test)]
 mod row_tests;

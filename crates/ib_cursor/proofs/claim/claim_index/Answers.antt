@@ -25,15 +25,15 @@ take-requires-clause-may g c =
 pub returns-clause-stood : goal.returns-clause-stood
 returns-clause-stood g c =
     let key = c.args.mtr.now.latches.now.sizes in
-    let p = c.args.mtr.now.pass.now in let q = c.take.new.mtr.pass.now in let r = c.glance.new.mtr.pass.now in
+    let p = c.args.mtr.now.pass.now in let q = c.take.new.mtr.pass.now in let r = c.look.new.mtr.pass.now in
     let same = ap (λ m. m.now.sizes) c.take.ensures.latches in
-    let glanced = subst (λ k. HasGlanced k (g.L.Law.lawful k.pages) q r) same c.glance.ensures.glanced in
+    let glanced = subst (λ k. HasGlanced k (g.L.Law.lawful k.pages) q r) same c.look.ensures.glanced in
     stood_by key (g.L.Law.lawful key.pages) claim_grant p q r c.take.ensures.taken glanced.seen
-    c.glance.ensures.memo c.glance.ensures.session c.glance.ensures.grants c.glance.ensures.work
+    c.look.ensures.memo c.look.ensures.session c.look.ensures.grants c.look.ensures.work
 
 pub returns-clause-claimed : goal.returns-clause-claimed
 returns-clause-claimed g c =
     let p : PassState = c.args.mtr.now.pass.now in
     let idle = none_granted c.args.mtr.now.latches.now p c.requires.mtr c.requires.memo in
     let held = ap (λ (a : Session). a.held) c.take.ensures.taken.taken.session ∙ ap (λ (a : Session). a.held ++ hold_of claim_grant ∷ []) idle.session in
-    c.glance.ensures.started (ap (λ (m : Memory). is_watched 1 m.since) c.take.ensures.taken.taken.memory ∙ c.requires.unwatched) held
+    c.look.ensures.started (ap (λ (m : Memory). is_watched 1 m.since) c.take.ensures.taken.taken.memory ∙ c.requires.unwatched) held

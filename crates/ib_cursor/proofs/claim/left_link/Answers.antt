@@ -9,33 +9,33 @@ use Rattle.ib_cursor.proofs.PeekLaws.{page_image, left_loaded, left_formed, left
 use Rattle.ib_cursor.proofs.StepLaws.{at_held}
 use Rattle.ib_cursor.proofs.claim.left_link.Goals as goal
 
-pub load_claimed-requires-clause-page : goal.load_claimed-requires-clause-page
-load_claimed-requires-clause-page g c =
+pub read-requires-clause-page : goal.read-requires-clause-page
+read-requires-clause-page g c =
     let key : Sizes = c.args.mtr.now.latches.now.sizes in
     (page_image key g.L.Trees.ROOTS (g.L.Law.lawful key.pages) (by_place g.L.Law.opening key.pages) c.shape_of.ensures.shapes c.args.sought.root c.requires.some c.requires.root c.args.sought.key c.requires.key c.args.mtr.now.pass.now.view.memory.seen c.args.leaf 0 c.requires.at.known.legal c.requires.at.way).there
 
-pub load_claimed-requires-clause-held : goal.load_claimed-requires-clause-held
-load_claimed-requires-clause-held g c =
+pub read-requires-clause-held : goal.read-requires-clause-held
+read-requires-clause-held g c =
     let key : Sizes = c.args.mtr.now.latches.now.sizes in
     at_held key (g.L.Law.lawful key.pages) (by_place g.L.Law.opening key.pages) c.args.sought.root c.args.sought.key (claim_grant ∷ []) c.args.leaf 0 S c.args.mtr.now.pass.now c.requires.at
 
-pub load_claimed-requires-clause-absent : goal.load_claimed-requires-clause-absent
-load_claimed-requires-clause-absent g c = ap (changed_of c.args.leaf) c.requires.at.work
+pub read-requires-clause-absent : goal.read-requires-clause-absent
+read-requires-clause-absent g c = ap (changed_of c.args.leaf) c.requires.at.work
 
-pub load_claimed-requires-clause-few : goal.load_claimed-requires-clause-few
-load_claimed-requires-clause-few g c = let none = ap length c.requires.at.work in omega arith
+pub read-requires-clause-few : goal.read-requires-clause-few
+read-requires-clause-few g c = let none = ap length c.requires.at.work in omega arith
 
 pub left_of-left-requires-clause-loaded : goal.left_of-left-requires-clause-loaded
 left_of-left-requires-clause-loaded g c =
     let key : Sizes = c.args.mtr.now.latches.now.sizes in
-    let p = c.args.mtr.now.pass.now in let q = c.load_claimed.new.mtr.pass.now in
-    let l = c.load_claimed.ensures in
+    let p = c.args.mtr.now.pass.now in let q = c.read.new.mtr.pass.now in
+    let l = c.read.ensures in
     (l.loaded.image, left_loaded key g.L.Trees.ROOTS (g.L.Law.lawful key.pages) (by_place g.L.Law.opening key.pages) c.shape_of.ensures.shapes c.args.sought.root c.requires.some c.requires.root c.args.sought.key c.requires.key c.args.leaf p q c.requires.at c.requires.claimed l.glanced l.memo l.session l.grants l.loaded, left_formed key g.L.Trees.ROOTS (g.L.Law.lawful key.pages) (by_place g.L.Law.opening key.pages) c.shape_of.ensures.shapes c.args.sought.root c.requires.some c.requires.root c.args.sought.key c.requires.key c.args.leaf p q c.requires.at c.requires.claimed l.glanced l.memo l.session l.grants l.loaded)
 
 pub returns-clause-linked : goal.returns-clause-linked
 returns-clause-linked g c =
     let key : Sizes = c.args.mtr.now.latches.now.sizes in
-    let p = c.args.mtr.now.pass.now in let q = c.load_claimed.new.mtr.pass.now in
-    let l = c.load_claimed.ensures in
+    let p = c.args.mtr.now.pass.now in let q = c.read.new.mtr.pass.now in
+    let l = c.read.ensures in
     left_linked key g.L.Trees.ROOTS (g.L.Law.lawful key.pages) (by_place g.L.Law.opening key.pages) c.shape_of.ensures.shapes c.args.sought.root c.requires.some c.requires.root c.args.sought.key c.requires.key c.args.leaf p q c.requires.at c.requires.claimed l.glanced l.memo l.session l.grants l.loaded c.left_of-left.result c.forget.new.self.pass.now
     (c.left_of-left.ensures l.loaded.image (left_loaded key g.L.Trees.ROOTS (g.L.Law.lawful key.pages) (by_place g.L.Law.opening key.pages) c.shape_of.ensures.shapes c.args.sought.root c.requires.some c.requires.root c.args.sought.key c.requires.key c.args.leaf p q c.requires.at c.requires.claimed l.glanced l.memo l.session l.grants l.loaded)) c.forget.ensures.forgotten

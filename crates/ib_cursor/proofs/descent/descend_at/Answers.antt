@@ -54,7 +54,7 @@ returns-clause-descended g c =
     let same = ap (λ m. m.now.sizes) c.come_to_leaf-path.ensures.latches in
     let at : c.unwrap-leaf.result ≡ d.leaf = last_of_path c.last.result c.unwrap-leaf.result c.come_to_leaf-path.result d.front d.leaf d.ends c.last.ensures.last c.unwrap-leaf.ensures in
     let s : PassState = c.read.new.mtr.pass.now in
-    let seen = subst (λ (k : Sizes). HasSeen k (g.L.Law.lawful k.pages) q s) same c.read.ensures.seen in
+    let seen = subst (λ (k : Sizes). HasSeen k (g.L.Law.lawful k.pages) q s) same c.read.ensures.glanced.seen in
     let loaded = subst (λ (n : ℕ). HasPage (by_place g.L.Law.opening key.pages) n q s) at (subst (λ (k : Sizes). HasPage (by_place g.L.Law.opening k.pages) c.unwrap-leaf.result q s) same c.read.ensures.loaded) in
     descended key g.L.Trees.ROOTS (g.L.Law.lawful key.pages) (by_place g.L.Law.opening key.pages) laws c.args.root c.requires.some c.requires.root c.args.key lt (is_exclusive c.args.mode) c.come_to_leaf-path.result p q d
     s c.come_to_leaf-path.ensures.none seen c.read.ensures.memo c.read.ensures.session c.read.ensures.grants loaded

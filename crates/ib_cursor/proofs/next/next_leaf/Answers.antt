@@ -122,7 +122,7 @@ returns-clause-next g c = λ h.
     let at = place_is c.position.result c.unwrap-at.result c.page.result c.args.leaf c.args.mtr.now.pass.now.memo h.front h.holds.grants.memo c.page.ensures h.holds.once c.unwrap-at.ensures c.position.ensures in
     let same = ap (λ m. m.now.sizes) c.take.ensures.latches in
     let taken = subst (λ (l : Latch). HasTaken (record { latch = l.0; mode = S; level = TreeNode }) p q) (c.page-2.ensures ∙ ap (λ (n : ℕ). let l : Latch = record { 0 = n + 2 } in l) link) c.take.ensures.taken in
-    let seen = subst (λ (k : Sizes). HasSeen k (g.L.Law.lawful k.pages) q s) same c.read.ensures.seen in
+    let seen = subst (λ (k : Sizes). HasSeen k (g.L.Law.lawful k.pages) q s) same c.read.ensures.glanced.seen in
     let page = subst (λ (n : ℕ). HasPage (by_place g.L.Law.opening key.pages) n q s) link (subst (λ (k : Sizes). HasPage (by_place g.L.Law.opening k.pages) c.right_of-next.result q s) same c.read.ensures.loaded) in
     subst (λ (n : ℕ). HasNext key (g.L.Law.lawful key.pages) (by_place g.L.Law.opening key.pages) g.L.Trees.ROOTS h.front c.args.leaf h.image h.range n p t) (sym link)
     (stepped key g.L.Trees.ROOTS (g.L.Law.lawful key.pages) (by_place g.L.Law.opening key.pages) laws h.front c.args.leaf h.image h.range p h.holds some (h.may some) q s t taken seen c.read.ensures.memo c.read.ensures.session c.read.ensures.grants page

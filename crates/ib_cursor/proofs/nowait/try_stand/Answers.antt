@@ -15,5 +15,5 @@ returns-clause-stood g c =
     let taken = subst (λ (l : Latch). HasTaken (record { latch = l.0; mode = S; level = TreeNode }) p q) c.page.ensures c.in_ok-try_latch.ensures.taken in
     let same = ap (λ m. m.now.sizes) c.try_latch.ensures.latches in
     stood_by key (g.L.Law.lawful key.pages) (page_grant c.args.page S) p q r taken
-    (subst (λ k. HasSeen k (g.L.Law.lawful k.pages) q r) same c.look.ensures.seen)
+    (subst (λ k. HasSeen k (g.L.Law.lawful k.pages) q r) same c.look.ensures.glanced.seen)
     c.look.ensures.memo c.look.ensures.session c.look.ensures.grants c.look.ensures.work

@@ -3,13 +3,13 @@ use Rattle.std.proofs.Common.{◌≡◌, subst, ap}
 use Rattle.ib_logrec.specs.Log.{by_place}
 use Rattle.ib_rule.specs.declared.view.Role.TheVariants.{Session}
 use Rattle.ib_rule.specs.Pass.{PassState}
-use Rattle.ib_cursor.proofs.StandLaws.{seen_loaded}
+use Rattle.ib_cursor.proofs.ClaimLaws.{glanced_loaded}
 use Rattle.ib_cursor.proofs.stands.read.Goals as goal
 
-pub returns-clause-seen : goal.returns-clause-seen
-returns-clause-seen g c =
+pub returns-clause-glanced : goal.returns-clause-glanced
+returns-clause-glanced g c =
     let key = c.args.mtr.now.latches.now.sizes in
-    seen_loaded key (g.L.Law.lawful key.pages) (by_place g.L.Law.opening key.pages) c.args.page c.args.mtr.now.pass.now c.load.new.self.pass.now
+    glanced_loaded key (g.L.Law.lawful key.pages) (by_place g.L.Law.opening key.pages) c.args.page c.args.mtr.now.pass.now c.load.new.self.pass.now
     (subst (λ (r : PassState). r.view.role ≡ Session r.number) c.pass.ensures c.number.ensures.session) c.load.ensures.loaded
 
 pub returns-clause-loaded : goal.returns-clause-loaded

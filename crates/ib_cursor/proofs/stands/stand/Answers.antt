@@ -4,6 +4,7 @@ use Rattle.ib_levels.specs.declared.latch.Latch.{Latch}
 use Rattle.ib_levels.specs.declared.level.Level.TheVariants.{TreeNode}
 use Rattle.ib_cursor.specs.Grants.{HasTaken, page_grant}
 use Rattle.ib_cursor.specs.Going.{HasSeen}
+use Rattle.ib_cursor.proofs.ClaimLaws.{keeps_after}
 use Rattle.ib_cursor.proofs.StandLaws.{stood_by}
 use Rattle.ib_cursor.proofs.stands.stand.Goals as goal
 
@@ -14,5 +15,9 @@ returns-clause-stood g c =
     let taken = subst (λ (l : Latch). HasTaken (record { latch = l.0; mode = c.args.mode; level = TreeNode }) p q) c.page.ensures c.take.ensures.taken in
     let same = ap (λ m. m.now.sizes) c.take.ensures.latches in
     stood_by key (g.L.Law.lawful key.pages) (page_grant c.args.page c.args.mode) p q r taken
-    (subst (λ k. HasSeen k (g.L.Law.lawful k.pages) q r) same c.look.ensures.seen)
+    (subst (λ k. HasSeen k (g.L.Law.lawful k.pages) q r) same c.look.ensures.glanced.seen)
     c.look.ensures.memo c.look.ensures.session c.look.ensures.grants c.look.ensures.work
+
+pub returns-clause-keeps : goal.returns-clause-keeps
+returns-clause-keeps g c =
+    keeps_after c.args.mtr.now.pass.now c.take.new.mtr.pass.now c.look.new.mtr.pass.now c.take.ensures.taken.taken.memory c.look.ensures.glanced.keeps

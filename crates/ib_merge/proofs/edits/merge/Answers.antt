@@ -50,4 +50,4 @@ returns c =
     (with_changed c.args.merger.beside c.touch.new.self c.link_behind.new.work)
     (touched-sets c.args.merger.beside c.link_behind.new.work c.edit.result.now c.touch.new.self c.edit.ensures.image
     (formed-is _ c.edit.result.now c.edit.ensures.image (beside-formed c.args.parent c.args.merger.left c.args.merger.gone c.args.merger.beside c.args.work.now c.join_pages.new.work c.requires c.join_pages.ensures c.take_record.new.work c.take_record.ensures
-    c.next-next.result (c.next-next.ensures ∙ next-there c.image_of.result.now _ c.image_of.ensures) c.link_behind.new.work c.link_behind.ensures.alone c.link_behind.ensures.linked)) c.touch.ensures)
+    c.next-next.result (c.next-next.ensures ∙ next-there c.image_of.result.now _ c.image_of.ensures) c.link_behind.new.work c.link_behind.ensures.alone c.link_behind.ensures.linked)) c.touch.ensures.page)

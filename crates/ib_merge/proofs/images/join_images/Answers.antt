@@ -7,11 +7,11 @@ use Rattle.ib_merge.proofs.images.join_images.Goals as goal
 
 pub set_links-requires-clause-prev : goal.set_links-requires-clause-prev
 set_links-requires-clause-prev c up =
-    let same = ap (λ v. (page_in v).level) c.join.ensures ∙ level-with_records _ (page_of c.args.left.now) in
+    let same = ap (λ v. (page_in v).level) c.join.ensures.page ∙ level-with_records _ (page_of c.args.left.now) in
     c.prev-prev.ensures ∙ (node-links c.args.left.now c.requires.tree (omega arith)).0
 
 pub set_links-requires-clause-next : goal.set_links-requires-clause-next
 set_links-requires-clause-next c up =
-    let same = ap (λ v. (page_in v).level) c.join.ensures ∙ level-with_records _ (page_of c.args.left.now) in
+    let same = ap (λ v. (page_in v).level) c.join.ensures.page ∙ level-with_records _ (page_of c.args.left.now) in
     let level = c.requires.level in
     c.next.ensures ∙ (node-links c.args.right.now c.requires.right_tree (omega arith)).1

@@ -14,12 +14,12 @@ pub act-word-requires-clause-allowed : goal.act-word-requires-clause-allowed
 act-word-requires-clause-allowed g c =
     let same = c.loop-offset.invariant.same in
     let test = c.loop-offset-test.true in
-    page_allowed_at g.L.Law.lawful g.L.Law.opening _ _ _ _ _ (rw (ap (λ (v : View). v.role) same ∙ c.requires.role) (λ e. absurd (cc))) _ c.args.page (c.args.from + c.loop-offset.offset)
+    page_allowed_at g.L.Law.lawful g.L.Law.opening _ _ _ _ _ (rw (ap (λ (v : View). v.role) same ∙ c.requires.may.role) (λ e. absurd (cc))) _ c.args.page (c.args.from + c.loop-offset.offset)
     (omega arith)
     c.requires.page
     (omega arith)
-    (ap (λ (v : View). v.memory.append) same ∙ c.requires.closed)
-    (subst (λ (a : Session). 0 < holdings (c.args.page + 2) a) (sym (ap (λ (v : View). v.session) same)) c.requires.held)
+    (ap (λ (v : View). v.memory.append) same ∙ c.requires.may.closed)
+    (subst (λ (a : Session). 0 < holdings (c.args.page + 2) a) (sym (ap (λ (v : View). v.session) same)) c.requires.may.held)
 
 pub loop-offset-preserved : goal.loop-offset-preserved
 loop-offset-preserved g c =

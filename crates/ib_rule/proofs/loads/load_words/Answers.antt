@@ -17,20 +17,19 @@ loop-line-init g c = record {
   table = refl;
   id = refl;
   slots = refl;
-  known = c.requires.known;
+  known = c.requires.may.known;
   loaded = has_none (by_place g.L.Law.opening c.args.shared.now.key.pages) c.args.page c.args.seat.now.me.0 c.args.out.now;
 }
 
-pub load_line-requires-clause-role : goal.load_line-requires-clause-role
-load_line-requires-clause-role g c =
-    subst (λ (r : Role). r ≡ Seated (number_in r)) (sym (ap (λ (v : View). v.role) c.loop-line.invariant.loaded.view)) c.requires.role
-
-pub load_line-requires-clause-closed : goal.load_line-requires-clause-closed
-load_line-requires-clause-closed g c = ap (λ (v : View). v.memory.append) c.loop-line.invariant.loaded.view ∙ c.requires.closed
-
-pub load_line-requires-clause-held : goal.load_line-requires-clause-held
-load_line-requires-clause-held g c =
-    subst (λ (a : Session). 0 < holdings (c.args.page + 2) a) (sym (ap (λ (v : View). v.session) c.loop-line.invariant.loaded.view)) c.requires.held
+pub load_line-requires-clause-may : goal.load_line-requires-clause-may
+load_line-requires-clause-may g c =
+    let same = c.loop-line.invariant.loaded.view in
+    record {
+      role = subst (λ (r : Role). r ≡ Seated (number_in r)) (sym (ap (λ (v : View). v.role) same)) c.requires.may.role;
+      closed = ap (λ (v : View). v.memory.append) same ∙ c.requires.may.closed;
+      held = subst (λ (a : Session). 0 < holdings (c.args.page + 2) a) (sym (ap (λ (v : View). v.session) same)) c.requires.may.held;
+      known = c.loop-line.invariant.known;
+    }
 
 pub loop-line-preserved : goal.loop-line-preserved
 loop-line-preserved g c =

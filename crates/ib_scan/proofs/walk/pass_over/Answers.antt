@@ -59,6 +59,6 @@ returns-clause-passed g c = λ h.
     let same = ap (λ m. m.now.sizes) (c.take.ensures.latches ∙ c.forget.ensures.latches) in
     let on = subst (λ (l : Latch). HasTaken (record { latch = l.0; mode = S; level = TreeNode }) c.forget.new.self.pass.now q) (c.page.ensures ∙ ap (λ (n : ℕ). let l : Latch = record { 0 = n + 2 } in l) h.link) c.take.ensures.taken in
     let taken = subst (λ (o : PassState). HasTaken (page_grant (next_of h.last.image) S) o q) empty on in
-    let seen = subst (λ (k : Sizes). HasSeen k (g.L.Law.lawful k.pages) q r) same c.read.ensures.seen in
+    let seen = subst (λ (k : Sizes). HasSeen k (g.L.Law.lawful k.pages) q r) same c.read.ensures.glanced.seen in
     let page = subst (λ (n : ℕ). HasPage (by_place g.L.Law.opening key.pages) n q r) h.link (subst (λ (k : Sizes). HasPage (by_place g.L.Law.opening k.pages) c.args.next q r) same c.read.ensures.loaded) in
     passed_over key g.L.Trees.ROOTS (g.L.Law.lawful key.pages) (by_place g.L.Law.opening key.pages) c.trees_of.ensures.laws h.root h.start h.ps h.last p h.scans h.skipped q r taken seen c.read.ensures.memo c.read.ensures.session c.read.ensures.grants page

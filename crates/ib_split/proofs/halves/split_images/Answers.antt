@@ -11,7 +11,7 @@ use Rattle.ib_split.proofs.halves.split_images.Goals as goal
 pub first_key-requires-clause-some : goal.first_key-requires-clause-some
 first_key-requires-clause-some c =
     let e : records_of c.touch-2.new.self ≡ right_part (put c.args.key c.args.value (records_of c.args.left.now)) =
-    ap (λ v. (page_in v).records) c.touch-2.ensures ∙ (records-with_clock _ (page_of c.link.new.right)
+    ap (λ v. (page_in v).records) c.touch-2.ensures.page ∙ (records-with_clock _ (page_of c.link.new.right)
     ∙ (ap (λ v. (page_in v).records) c.link.ensures.right ∙ (records-with_links _ _ (page_of c.halve.new.right)
     ∙ (ap (λ v. (page_in v).records) c.halve.ensures.right ∙ records-with_records (page_of c.args.right.now) _ (subst HoldsTree (sym c.requires.empty) tt))))) in
     let s = right_part-some c.args.key c.args.value (records_of c.args.left.now) c.requires.full in

@@ -1,10 +1,21 @@
 -- The pass knows more of the page, and nothing else of it is changed.
-use Rattle.std.proofs.Common.{◌++◌, refl}
+use Rattle.std.proofs.Common.{◌++◌, refl, ap}
 use Rattle.ib_map.specs.declared.TheConstants.{PAGE_WORDS}
 use Rattle.ib_rule.specs.declared.memory.Memory.{Memory}
 use Rattle.ib_rule.specs.Loads.{loads_below}
+use Rattle.ib_rule.specs.Pass.{PassState}
 use Rattle.ib_rule.proofs.Passing.{pass_knows}
 use Rattle.ib_rule.proofs.space.Space.load_page.Goals as goal
+
+pub load_words-requires-clause-may : goal.load_words-requires-clause-may
+load_words-requires-clause-may g c =
+    let mine = ap (λ (p : PassState). p.view) c.pass.view_is in
+    record {
+      role = rw c.pass.invariant.role refl;
+      closed = rw mine c.requires.own.closed;
+      held = rw mine c.requires.held;
+      known = c.pass.invariant.known;
+    }
 
 pub invariant_of-pass : goal.invariant_of-pass
 invariant_of-pass g c =

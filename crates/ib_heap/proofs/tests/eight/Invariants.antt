@@ -1,6 +1,0 @@
--- The page stays a page of the tree.
-use Rattle.ib_heap.specs.Image.{IsTreePage}
-use Rattle.ib_heap.proofs.tests.eight.Given as goal
-
-abbrev pub invariant-loop-key : goal.invariant-loop-key
-invariant-loop-key l = IsTreePage l.words

@@ -1,0 +1,45 @@
+//! What both plans do with a page of a work set.
+
+ghost use Rattle.std.specs.Prelude.{◌≡◌, ◌<◌, ◌≤◌, ◌^◌, [], Some, IsSomeAnd};
+ghost use Rattle.ib_heap.specs.declared.TheConstants.{MOST_LEVEL};
+ghost use Rattle.ib_page.specs.Form.{page_of};
+ghost use Rattle.ib_page.specs.Image.{IsTreePage};
+ghost use Rattle.ib_page.specs.Page.PageValue.{Tree};
+ghost use Rattle.ib_page.specs.Work.{changed_of};
+ghost use Rattle.ib_plans.specs.Agreement.{IsThere, Sets, memory_in, tick};
+ghost use Rattle.ib_plans.specs.Split.{with_prev};
+
+use ib_page::{Image, WorkSet};
+
+/// The changed image of a page that is there.
+pub fn image_of(work: &WorkSet, page: u32) -> &Image
+    requires { IsThere work.now page }
+    ensures { changed_of page work.now ≡ Some result.now }
+{
+    work.image(page).unwrap()
+}
+
+/// An empty page at a level.
+pub fn empty_page(level: u32, clock: u64) -> Image
+    requires { level ≤ MOST_LEVEL }
+    ensures { page_of result ≡ Tree (record { level = level; prev = 0; next = 0; clock = clock; records = [] }) }
+{
+    if level == 0 {
+        Image::leaf(clock)
+    } else {
+        Image::node(level, clock)
+    }
+}
+
+/// Links a leaf back to another one. Its clock ticks.
+pub fn link_back(work: &mut WorkSet, page: u32, prev: u32)
+    requires tree { IsSomeAnd (changed_of page work.old) IsTreePage }
+    requires leaf { (memory_in work.old page).level ≡ 0 }
+    requires clock { (memory_in work.old page).clock < 2 ^ 63 }
+    ensures { Sets page (tick (with_prev prev (memory_in work.old page))) work.old work.new }
+{
+    let image = work.edit(page);
+    let next = image.next();
+    image.set_links(prev, next);
+    image.touch();
+}

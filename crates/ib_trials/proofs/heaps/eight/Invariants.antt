@@ -1,0 +1,6 @@
+-- The page stays a page of the tree.
+use Rattle.ib_heap.specs.Image.{IsTreePage}
+use Rattle.ib_trials.proofs.heaps.eight.Given as goal
+
+abbrev pub invariant-loop-key : goal.invariant-loop-key
+invariant-loop-key l = IsTreePage l.words
