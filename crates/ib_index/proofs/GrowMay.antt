@@ -26,6 +26,7 @@ use Rattle.ib_cursor.specs.Claims.{claim_grant}
 use Rattle.ib_cursor.specs.Grants.{Grant}
 use Rattle.ib_index.specs.Grows.{IsFreshForAll, IsGrowing, held_grant}
 use Rattle.ib_index.specs.Leaf.{IsSeated}
+use Rattle.ib_plans.proofs.StayLaws.{planned_insert-stays}
 use Rattle.ib_index.proofs.PlanCommits.{IsPlannedChange}
 use Rattle.ib_index.proofs.PlanLaws.{plan-bits, plan-on}
 use Rattle.ib_index.proofs.WayMay.{may-commit}
@@ -37,6 +38,7 @@ insert-planned pages key value fresh m bits old new low has plan = record {
   may = (low, has.enough);
   plan = subst (λ f. IsPlannedInsert f key value pages 1 m bits old new) has.chosen_are plan;
   leaf_on = plan-on m bits (chosen bits pages (need_of m key 1)) key value (leaf_for m key 1) 1 refl;
+  stays = λ n off. planned_insert-stays n m bits (chosen bits pages (need_of m key 1)) key value 1 off;
   bits_stay = λ off n. plan-bits m bits (chosen bits pages (need_of m key 1)) key value n 1 off;
 }
 

@@ -18,7 +18,9 @@ use Rattle.ib_levels.specs.declared.level.Mode.TheVariants.{X}
 use Rattle.ib_core.specs.declared.session.Session.{Session}
 use Rattle.ib_core.specs.Sessions.{x_grants}
 use Rattle.ib_heap.specs.declared.TheConstants.{MOST_RECORDS}
+use Rattle.ib_heap.specs.Heap.{read_heap}
 use Rattle.ib_page.specs.Form.{page_of}
+use Rattle.ib_page.specs.Image.{records_of}
 use Rattle.ib_page.specs.Work.{WorkPage, with_changed}
 use Rattle.ib_page.specs.Writes.{writes_of, writes_below}
 use Rattle.ib_page.proofs.BufferLaws.{AreOn, writes_on}
@@ -30,6 +32,7 @@ use Rattle.ib_logrec.proofs.LogLaws.{history_of-append}
 use Rattle.ib_walk.specs.Pages.{PageState}
 use Rattle.ib_walk.specs.Words.{state_of}
 use Rattle.ib_plans.specs.declared.TheConstants.{FEWEST_RECORDS}
+use Rattle.ib_plans.specs.Moves.{Move, Puts, Takes, IsMovedHeap}
 use Rattle.ib_tree.specs.TreeLog.{opening}
 use Rattle.ib_kept.specs.Kept.{IsKeptLog}
 use Rattle.ib_kept.specs.LeafChange.{ChangesPage, kept_pages, leaf_after, with_pair, without_pair}
@@ -110,9 +113,9 @@ module _ (sizes : Sizes) (key : MapKey) (is : IsKey key) (leaf : ℕ) (p : PassS
   leaf-x = subst (λ (a : Session). 0 < x_grants (leaf + 2) a) (sym at.grants.session) (let yes = eq-eqb (leaf + 2) (leaf + 2) refl in rw yes (omega arith))
 
   -- the next entry of the session changes the page, behind whatever harmless entries
-  next-changes : (change : Change) (changed : List ℕ) (others : List Entry) → AllByRecursion (IsHarmless p.number p.view.memory.since) others → IsKeptLog sizes.pages (seen ++ others)
-      → ChangesPage sizes.pages (seen ++ others) leaf (state_of (page_of changed)) change (commit_entry (with_work (leaf_work changed) p) change)
-  next-changes change changed others harmless legal =
+  next-changes : (move : Move) (change : Change) (changed : List ℕ) → IsMovedHeap move (records_of at.image) (read_heap at.image) (read_heap changed) → (others : List Entry) → AllByRecursion (IsHarmless p.number p.view.memory.since) others → IsKeptLog sizes.pages (seen ++ others)
+      → ChangesPage sizes.pages (seen ++ others) leaf (state_of (page_of changed)) move change (commit_entry (with_work (leaf_work changed) p) change)
+  next-changes move change changed moved others harmless legal =
       let behind = own-behind p.number p.view.memory.since seen others harmless in
       let mine = ap length at.known.mine in
       let made = seated.made in let few = seated.few in
@@ -126,41 +129,42 @@ module _ (sizes : Sizes) (key : MapKey) (is : IsKey key) (leaf : ℕ) (p : PassS
         writes_are = ap (λ (ws : List ℕ). writes_of (record { page = leaf; before = ws; changed = changed } ∷ [])) (sym (image-stays sizes seated.fits key is leaf p at p.number others harmless legal));
         structural = refl;
         state = refl;
+        moved = subst (λ (ws : List ℕ). IsMovedHeap move (records_of ws) (read_heap ws) (read_heap changed)) (sym (image-stays sizes seated.fits key is leaf p at p.number others harmless legal)) moved;
       }
 
   module _ (few : total p.view.grants < 2 ^ 52) where
     -- the condition on every log that others leave
-    may-commit : (change : Change) (changed : List ℕ)
+    may-commit : (move : Move) (change : Change) (changed : List ℕ) → IsMovedHeap move (records_of at.image) (read_heap at.image) (read_heap changed)
         → ((log : List Entry) (e : Entry) → IsKeptLog sizes.pages log → leaf ≡ leaf_after sizes.pages log key → kept_pages sizes.pages log (leaf_after sizes.pages log key) ≡ leaf_page sizes key p
-        → ChangesPage sizes.pages log leaf (state_of (page_of changed)) change e → IsKeptLog sizes.pages (log ++ e ∷ []))
+        → ChangesPage sizes.pages log leaf (state_of (page_of changed)) move change e → IsKeptLog sizes.pages (log ++ e ∷ []))
         → MayCommit (IsKeptLog sizes.pages) (with_work (leaf_work changed) p) change
-    may-commit change changed push = record {
+    may-commit move change changed moved push = record {
       grows = may_grow (page_grant leaf X ∷ []) p at.grants few (omega arith);
       log = can_wish (page_grant leaf X ∷ []) p at.grants 0 Log ((λ e. absurd (omega arith)), tt) (refl, tt);
       pages_x = λ page touched. subst (λ n. 0 < x_grants (n + 2) p.view.session) (one-alone (record { page = leaf; before = at.image; changed = changed }) page touched) leaf-x;
       index = λ spans. absurd (let none = one-spans (record { page = leaf; before = at.image; changed = changed }) in let z : true ≡ false = sym spans ∙ none in cc);
       legal = λ others harmless legal. push (seen ++ others) (commit_entry (with_work (leaf_work changed) p) change) legal
           (leaf-stays sizes seated.fits key is leaf p at p.number others harmless legal) (page-stays sizes seated.fits key is leaf p at p.number others harmless legal)
-          (next-changes change changed others harmless legal);
+          (next-changes move change changed moved others harmless legal);
     }
 
     pub may-insert : (value : ℕ) (changed : List ℕ) → value_at key (leaf_page sizes key p).records ≡ None → length (leaf_page sizes key p).records < MOST_RECORDS
-        → state_of (page_of changed) ≡ with_pair key value (state_of (page_of at.image)) → MayCommit (IsKeptLog sizes.pages) (with_work (leaf_work changed) p) (Insert key value)
-    may-insert value changed missing room put = may-commit (Insert key value) changed (λ log e legal here page changes.
+        → state_of (page_of changed) ≡ with_pair key value (state_of (page_of at.image)) → IsMovedHeap (Puts key) (records_of at.image) (read_heap at.image) (read_heap changed) → MayCommit (IsKeptLog sizes.pages) (with_work (leaf_work changed) p) (Insert key value)
+    may-insert value changed missing room put moved = may-commit (Puts key) (Insert key value) changed moved (λ log e legal here page changes.
         let state : state_of (page_of changed) ≡ with_pair key value (kept_pages sizes.pages log (leaf_after sizes.pages log key)) =
         put ∙ ap (with_pair key value) (sym (page-is sizes seated.fits key is leaf p at) ∙ sym page) in
         insert-kept sizes.pages seated.fits log legal key is e value
         (subst (λ (q : PageState). value_at key q.records ≡ None) (sym page) missing) (subst (λ (q : PageState). length q.records < MOST_RECORDS) (sym page) room)
-        (subst (λ n. ChangesPage sizes.pages log n (with_pair key value (kept_pages sizes.pages log (leaf_after sizes.pages log key))) (Insert key value) e) here
-        (subst (λ (q : PageState). ChangesPage sizes.pages log leaf q (Insert key value) e) state changes)))
+        (subst (λ n. ChangesPage sizes.pages log n (with_pair key value (kept_pages sizes.pages log (leaf_after sizes.pages log key))) (Puts key) (Insert key value) e) here
+        (subst (λ (q : PageState). ChangesPage sizes.pages log leaf q (Puts key) (Insert key value) e) state changes)))
 
     pub may-delete : (value : ℕ) (changed : List ℕ) → value_at key (leaf_page sizes key p).records ≡ Some value → (leaf ≡ 1) ⊎ (FEWEST_RECORDS < length (leaf_page sizes key p).records)
-        → state_of (page_of changed) ≡ without_pair key (state_of (page_of at.image)) → MayCommit (IsKeptLog sizes.pages) (with_work (leaf_work changed) p) (Delete key)
-    may-delete value changed there enough gone = may-commit (Delete key) changed (λ log e legal here page changes.
+        → state_of (page_of changed) ≡ without_pair key (state_of (page_of at.image)) → IsMovedHeap (Takes key) (records_of at.image) (read_heap at.image) (read_heap changed) → MayCommit (IsKeptLog sizes.pages) (with_work (leaf_work changed) p) (Delete key)
+    may-delete value changed there enough gone moved = may-commit (Takes key) (Delete key) changed moved (λ log e legal here page changes.
         let state : state_of (page_of changed) ≡ without_pair key (kept_pages sizes.pages log (leaf_after sizes.pages log key)) =
         gone ∙ ap (without_pair key) (sym (page-is sizes seated.fits key is leaf p at) ∙ sym page) in
         delete-kept sizes.pages seated.fits log legal key is e value
         (subst (λ (q : PageState). value_at key q.records ≡ Some value) (sym page) there)
         (elim enough [ inl root ↦ inl (sym here ∙ root) | inr more ↦ inr (subst (λ (q : PageState). FEWEST_RECORDS < length q.records) (sym page) more) ])
-        (subst (λ n. ChangesPage sizes.pages log n (without_pair key (kept_pages sizes.pages log (leaf_after sizes.pages log key))) (Delete key) e) here
-        (subst (λ (q : PageState). ChangesPage sizes.pages log leaf q (Delete key) e) state changes)))
+        (subst (λ n. ChangesPage sizes.pages log n (without_pair key (kept_pages sizes.pages log (leaf_after sizes.pages log key))) (Takes key) (Delete key) e) here
+        (subst (λ (q : PageState). ChangesPage sizes.pages log leaf q (Takes key) (Delete key) e) state changes)))

@@ -12,7 +12,9 @@ use Rattle.ib_map.specs.declared.TheConstants.{PAGE_WORDS}
 use Rattle.ib_map.specs.declared.write.Write.{Write}
 use Rattle.ib_map.specs.declared.call.Change.{Change}
 use Rattle.ib_map.proofs.KeyLaws.{rank-lt_end}
+use Rattle.ib_heap.specs.Heap.{read_heap}
 use Rattle.ib_page.specs.Form.{page_of}
+use Rattle.ib_page.specs.Image.{records_of}
 use Rattle.ib_page.specs.Page.{PageValue, HoldsPage}
 use Rattle.ib_page.specs.Page.PageValue.{Malformed as MalformedValue, Free as FreeValue, Tree as TreeValue}
 use Rattle.ib_page.specs.Space.{IsSpacePage, space_clock_of}
@@ -33,6 +35,7 @@ use Rattle.ib_walk.proofs.ImageLaws.{pages_of-image}
 use Rattle.ib_plans.specs.Agreement.{HasBits, IsPlanned, bits_in, reads_of, space_ticks, state_or_free}
 use Rattle.ib_plans.specs.Leads.{LeadsTo}
 use Rattle.ib_plans.specs.Marks.{ticked}
+use Rattle.ib_plans.specs.Moves.{Move, Stays, IsMovedHeap}
 use Rattle.ib_tree.specs.TreeLog.{opening}
 use Rattle.ib_tree.proofs.LogLaws.{pages_after-untouched}
 use Rattle.ib_kept.specs.Kept.{IsKeptLog, IsPlannedEntry, IsPlannedStep, MayPlan, Planned, planned}
@@ -59,13 +62,14 @@ pub record IsReadFrom (pages : ℕ) (words : ℕ → ℕ) (old new : List WorkPa
   pub within : All (λ w. w.page < pages) new
   pub reads : reads_of new ≡ reads_of old
   pub read : All (IsAsBefore words) new
-  pub was : IfSome (changed_of 0 old) (λ image. image_of words 0 ≡ image)
+  pub was : (page : ℕ) → IfSome (changed_of page old) (λ image. image_of words page ≡ image)
 
--- a change that is planned for these pages, as the work set has it: it is not refused, it touches the key's leaf, and page 0 where it changes a bit
+-- a change that is planned for these pages, as the work set has it: it is not refused, it touches the key's leaf, page 0 where it changes a bit, and each page whose records it moves
 pub record IsPlannedChange (pages : ℕ) (change : Change) (memory : PageMemory) (bits : ℕ → ℕ) (old new : List WorkPage) : Type 0 where
   pub may : MayPlan memory bits pages change
-  pub plan : let g = planned memory bits pages change in IsPlanned pages memory g.memory g.bits g.touched old new
+  pub plan : let g = planned memory bits pages change in IsPlanned pages memory g.memory g.bits g.touched g.moves old new
   pub leaf_on : (planned memory bits pages change).touched (leaf_for memory (key_of change) 1) ≡ true
+  pub stays : (page : ℕ) → (planned memory bits pages change).touched page ≡ false → (planned memory bits pages change).moves page ≡ Stays
   pub bits_stay : (planned memory bits pages change).touched 0 ≡ false → (page : ℕ) → (planned memory bits pages change).bits page ≡ bits page
 
 formed : (v : PageValue) → ((state_of v).kind ≡ Malformed → ⊥) → HoldsPage v
@@ -140,6 +144,41 @@ module _ (pages : ℕ) (fits : has_pages pages ≡ true) (log : List Entry) (kep
       go None none = page-away n ne none
       go (Some image) there = page-there n ne image there
 
+  -- where the records of a page stand that is there
+  moved-there : (n : ℕ) → n ≢ 0 → (was image : List ℕ) → changed_of n old ≡ Some was → changed_of n new ≡ Some image
+      → IsMovedHeap (g.moves n) (records_of (image_of (memory_after start log) n)) (read_heap (image_of (memory_after start log) n)) (read_heap (image_of after n))
+  moved-there n ne was image stood there =
+      let state : state_of (page_of image) ≡ then n =
+      sym (ap (λ (o : Option (List ℕ)). state_or_free o) there) ∙ has.plan.same n ne (subst IsSome (sym there) refl) in
+      let sound = leads.lawful.sound n ne in
+      let size = length-formed image (formed (page_of image) (λ k. sound.formed (sym (ap (λ s. s.kind) state) ∙ k))) in
+      let now = image-after start log e new next.writes_are ascends from.read n image there size in
+      let before = some-of (λ i. image_of (memory_after start log) n ≡ i) (changed_of n old) was (from.was n) stood in
+      let moved = some-of (λ i. IsMovedHeap (g.moves n) (records_of was) (read_heap was) (read_heap i)) (changed_of n new) image
+      (some-of (λ w. IfSome (changed_of n new) (λ i. IsMovedHeap (g.moves n) (records_of w) (read_heap w) (read_heap i))) (changed_of n old) was (has.plan.moved n ne) stood) there in
+      subst (λ (ws : List ℕ). IsMovedHeap (g.moves n) (records_of ws) (read_heap ws) (read_heap (image_of after n))) (sym before)
+      (subst (λ (ws : List ℕ). IsMovedHeap (g.moves n) (records_of was) (read_heap was) (read_heap ws)) (sym now) moved)
+
+  moved-away : (n : ℕ) → changed_of n new ≡ None
+      → IsMovedHeap (g.moves n) (records_of (image_of (memory_after start log) n)) (read_heap (image_of (memory_after start log) n)) (read_heap (image_of after n))
+  moved-away n none = go (g.touched n) refl
+    where
+      go : (b : Bool) → g.touched n ≡ b → IsMovedHeap (g.moves n) (records_of (image_of (memory_after start log) n)) (read_heap (image_of (memory_after start log) n)) (read_heap (image_of after n))
+      go true on = absurd (let there = has.plan.there n on in let bad = subst IsSome none there in cc)
+      go false off =
+          subst (λ (mv : Move). IsMovedHeap mv (records_of (image_of (memory_after start log) n)) (read_heap (image_of (memory_after start log) n)) (read_heap (image_of after n))) (sym (has.stays n off))
+          (ap read_heap (image-still start log e new next.writes_are n none))
+
+  moved-is : (n : ℕ) → n ≢ 0
+      → IsMovedHeap (g.moves n) (records_of (image_of (memory_after start log) n)) (read_heap (image_of (memory_after start log) n)) (read_heap (image_of after n))
+  moved-is n ne = go (changed_of n old) (changed_of n new) refl refl
+    where
+      go : (a b : Option (List ℕ)) → changed_of n old ≡ a → changed_of n new ≡ b
+          → IsMovedHeap (g.moves n) (records_of (image_of (memory_after start log) n)) (read_heap (image_of (memory_after start log) n)) (read_heap (image_of after n))
+      go (Some was) (Some image) stood there = moved-there n ne was image stood there
+      go None b stood there = moved-away n (none-same n new old from.reads stood)
+      go (Some was) None stood there = moved-away n there
+
   -- page 0
   record HasSpace : Type 0 where
     pub bits_are : (n : ℕ) → bits_of pages after n ≡ g.bits n
@@ -156,7 +195,7 @@ module _ (pages : ℕ) (fits : has_pages pages ≡ true) (log : List Entry) (kep
       let clock = some-of (λ i. space_clock_of i ≡ space_clock_of was + space_ticks g.touched) (changed_of 0 new) image
       (some-of (λ w. IfSome (changed_of 0 new) (λ i. space_clock_of i ≡ space_clock_of w + space_ticks g.touched)) (changed_of 0 old) was has.plan.clock stood) there in
       let now = image-after start log e new next.writes_are ascends from.read 0 image there bits.0.size in
-      let then = some-of (λ i. image_of (memory_after start log) 0 ≡ i) (changed_of 0 old) was from.was stood in
+      let then = some-of (λ i. image_of (memory_after start log) 0 ≡ i) (changed_of 0 old) was (from.was 0) stood in
       record {
         bits_are = λ n. bits-in after n ∙ (ap (λ (ws : List ℕ). bits_in pages ws n) now ∙ sym (bits.1 n));
         clock = ap space_clock_of now ∙ (clock ∙ ap (λ (ws : List ℕ). space_clock_of ws + space_ticks g.touched) (sym then));
@@ -209,7 +248,7 @@ module _ (pages : ℕ) (fits : has_pages pages ≡ true) (log : List Entry) (kep
   entry-planned =
       let s = has-space in
       let step : IsPlannedStep pages (memory_after start log) after m (kept_pages pages (log ++ e ∷ [])) g =
-      record { pages_are = pages-are; bits_are = s.bits_are; clock = s.clock } in
+      record { pages_are = pages-are; moved = moved-is; bits_are = s.bits_are; clock = s.clock } in
       record {
         may = subst (MayPlan m bits pages) (sym next.change_is) has.may;
         step = subst (λ k. IsPlannedStep pages (memory_after start log) after m (kept_pages pages (log ++ e ∷ [])) (planned m bits pages k)) (sym next.change_is) step;

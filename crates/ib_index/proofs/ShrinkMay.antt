@@ -22,6 +22,7 @@ use Rattle.ib_cursor.specs.Claims.{claim_grant}
 use Rattle.ib_cursor.specs.Grants.{Grant}
 use Rattle.ib_index.specs.Grows.{IsGrowing, held_grant}
 use Rattle.ib_index.specs.Leaf.{IsSeated}
+use Rattle.ib_plans.proofs.StayLaws.{planned_delete-stays}
 use Rattle.ib_index.proofs.ShrinkPlanLaws.{delete-bits, delete-on}
 use Rattle.ib_index.proofs.WayMay.{may-commit}
 
@@ -36,5 +37,6 @@ module _ (sizes : Sizes) (key : MapKey) (is : IsKey key) (path : List ℕ) (held
         may = tt;
         plan = planned sizes.pages 1 1 memory bits a;
         leaf_on = delete-on memory bits key 1 (leaf_for memory key 1) refl;
+        stays = λ n off. planned_delete-stays n memory bits key 1 off;
         bits_stay = λ off n. delete-bits memory bits key 1 n off;
       }) reads is-work

@@ -128,7 +128,7 @@ module _ (sizes : Sizes) (key : MapKey) (is : IsKey key) (path : List ℕ) (held
           within = pages-same (λ n. n < sizes.pages) work p.work reads can.within;
           reads = reads;
           read = reads-same (memory_after start log) work p.work reads (images-before sizes seated.fits key is path p can.at p.number others harmless legal);
-          was = still-in (memory_after start log) 0 p.work (images-now sizes seated.fits key is path p can.at p.number others harmless legal);
+          was = λ n. still-in (memory_after start log) n p.work (images-now sizes seated.fits key is path p can.at p.number others harmless legal);
         })
         (commit_entry (with_work work p) change)
         (record {

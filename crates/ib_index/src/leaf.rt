@@ -7,12 +7,14 @@ ghost use Rattle.ib_map.specs.declared.call.Call.TheVariants.{Insert as InsertCa
 ghost use Rattle.ib_map.specs.declared.call.Change.TheVariants.{Insert, Delete};
 ghost use Rattle.ib_map.specs.declared.call.Reply.TheVariants.{LogFull as LogFullReply};
 ghost use Rattle.ib_heap.specs.declared.TheConstants.{MOST_RECORDS};
+ghost use Rattle.ib_heap.specs.Heap.{read_heap};
 ghost use Rattle.ib_page.specs.Form.{page_of};
 ghost use Rattle.ib_page.specs.Image.{IsTreePage, clock_of, records_of};
 ghost use Rattle.ib_page.specs.Work.{WorkPage, changed_of};
 ghost use Rattle.ib_logrec.specs.Log.{by_place};
 ghost use Rattle.ib_walk.specs.Words.{state_of};
 ghost use Rattle.ib_plans.specs.declared.TheConstants.{FEWEST_RECORDS};
+ghost use Rattle.ib_plans.specs.Moves.{IsMovedHeap, Puts, Takes};
 ghost use Rattle.ib_tree.specs.TreeLog.{opening};
 ghost use Rattle.ib_kept.specs.Kept.{IsKeptLog};
 ghost use Rattle.ib_kept.specs.LeafChange.{with_pair, without_pair};
@@ -91,7 +93,8 @@ fn put_pair(image: &mut Image, key: Key, value: u64)
     requires missing { value_at key (records_of image.old) ≡ None }
     requires room { length (records_of image.old) < MOST_RECORDS }
     requires clock { clock_of image.old < 2 ^ 63 }
-    ensures { state_of (page_of image.new) ≡ with_pair key value (state_of (page_of image.old)) }
+    ensures page { state_of (page_of image.new) ≡ with_pair key value (state_of (page_of image.old)) }
+    ensures heap { IsMovedHeap (Puts key) (records_of image.old) (read_heap image.old) (read_heap image.new) }
 {
     let _ = image.insert(key, value);
     image.touch();
@@ -102,7 +105,8 @@ fn take_pair(image: &mut Image, key: Key)
     requires tree { IsTreePage image.old }
     requires there { IsSome (value_at key (records_of image.old)) }
     requires clock { clock_of image.old < 2 ^ 63 }
-    ensures { state_of (page_of image.new) ≡ without_pair key (state_of (page_of image.old)) }
+    ensures page { state_of (page_of image.new) ≡ without_pair key (state_of (page_of image.old)) }
+    ensures heap { IsMovedHeap (Takes key) (records_of image.old) (read_heap image.old) (read_heap image.new) }
 {
     let _ = image.remove(key);
     image.touch();

@@ -23,6 +23,7 @@ use Rattle.ib_walk.proofs.TreeLaws.{value_at-content_of}
 use Rattle.ib_plans.specs.Delete.{Shrinkage, drop_at}
 use Rattle.ib_plans.specs.Insert.{Growth, put_at}
 use Rattle.ib_plans.specs.Marks.{mark, untouched}
+use Rattle.ib_plans.specs.Moves.{Puts, Takes, unmoved, with_move}
 use Rattle.ib_plans.specs.declared.TheConstants.{FEWEST_RECORDS}
 use Rattle.ib_plans.proofs.ChosenLaws.{chosen-fresh}
 use Rattle.ib_plans.proofs.MetLaws.{met-set}
@@ -86,53 +87,53 @@ module _ (pages : ℕ) (fits : has_pages pages ≡ true) (log : List Entry) (kep
 
   module _ (e : Entry) (value : ℕ) where
     pub insert-planned : value_at key (m leaf).records ≡ None → length (m leaf).records < MOST_RECORDS
-        → ChangesPage pages log leaf (with_pair key value (m leaf)) (Insert key value) e → IsPlannedEntry pages start log e
+        → ChangesPage pages log leaf (with_pair key value (m leaf)) (Puts key) (Insert key value) e → IsPlannedEntry pages start log e
     insert-planned missing room c =
         let free = insert-room room in
         let may : MayPlan m bits pages (Insert key value) = (free.0, let need = free.1 in omega arith) in
         let few : pages ≤ MAPPED_PAGES = grind (arith, nat_tests, fits) in
         let plan = insert-leaf m bits 1 lawful key (rank-lt_end key is) 1 (omega arith) (omega arith) room value (chosen bits pages (need_of m key 1))
         (chosen-fresh bits pages (need_of m key 1) few) (in-content ∙ missing) in
-        let as-planned : planned m bits pages (Insert key value) ≡ record { memory = put_at m leaf key value; bits = bits; touched = mark leaf untouched } =
-        ap (λ (g : Growth). let p : Planned = record { memory = g.memory; bits = g.bits; touched = g.touched } in p) plan in
-        let step = IsPlannedStep-page pages log e leaf (put key value (m leaf).records) (Insert key value) the-leaf.kind the-leaf.some c in
+        let as-planned : planned m bits pages (Insert key value) ≡ record { memory = put_at m leaf key value; bits = bits; touched = mark leaf untouched; moves = with_move leaf (Puts key) unmoved } =
+        ap (λ (g : Growth). let p : Planned = record { memory = g.memory; bits = g.bits; touched = g.touched; moves = g.moves } in p) plan in
+        let step = IsPlannedStep-page pages log e leaf (put key value (m leaf).records) (Puts key) (Insert key value) the-leaf.kind the-leaf.some c in
         record {
           may = subst (MayPlan m bits pages) (sym c.change_is) may;
           step = subst (λ k. IsPlannedStep pages (memory_after start log) (memory_after start (log ++ e ∷ [])) m (kept_pages pages (log ++ e ∷ [])) (planned m bits pages k)) (sym c.change_is)
               (subst (IsPlannedStep pages (memory_after start log) (memory_after start (log ++ e ∷ [])) m (kept_pages pages (log ++ e ∷ []))) (sym as-planned) step);
-          differ = differ-page pages log e leaf (put key value (m leaf).records) (Insert key value) the-leaf.kind the-leaf.some c;
+          differ = differ-page pages log e leaf (put key value (m leaf).records) (Puts key) (Insert key value) the-leaf.kind the-leaf.some c;
         }
 
     pub insert-kept : value_at key (m leaf).records ≡ None → length (m leaf).records < MOST_RECORDS
-        → ChangesPage pages log leaf (with_pair key value (m leaf)) (Insert key value) e → IsKeptLog pages (log ++ e ∷ [])
+        → ChangesPage pages log leaf (with_pair key value (m leaf)) (Puts key) (Insert key value) e → IsKeptLog pages (log ++ e ∷ [])
     insert-kept missing room c =
         let made : is_made (answer_of (map_of log) (Insert key value)) ≡ true = made-insert key value (value_at key (map_of log)) (in-leaf ∙ missing) in
         IsKeptLog-push pages fits log kept e
-        (IsInGrammar-page pages log e leaf (put key value (m leaf).records) (Insert key value) the-leaf.kind the-leaf.some c inside is)
+        (IsInGrammar-page pages log e leaf (put key value (m leaf).records) (Puts key) (Insert key value) the-leaf.kind the-leaf.some c inside is)
         (subst (λ k. is_made (answer_of (map_of log) k) ≡ true) (sym c.change_is) made)
         (insert-planned missing room c) c.number
-        (space-page pages log e leaf (put key value (m leaf).records) (Insert key value) the-leaf.kind the-leaf.some c space)
+        (space-page pages log e leaf (put key value (m leaf).records) (Puts key) (Insert key value) the-leaf.kind the-leaf.some c space)
 
     pub delete-planned : value_at key (m leaf).records ≡ Some value → (leaf ≡ 1) ⊎ (FEWEST_RECORDS < length (m leaf).records)
-        → ChangesPage pages log leaf (without_pair key (m leaf)) (Delete key) e → IsPlannedEntry pages start log e
+        → ChangesPage pages log leaf (without_pair key (m leaf)) (Takes key) (Delete key) e → IsPlannedEntry pages start log e
     delete-planned there short c =
         let plan = delete-leaf m bits 1 lawful key (rank-lt_end key is) 1 (omega arith) (omega arith) value there short in
-        let as-planned : planned m bits pages (Delete key) ≡ record { memory = drop_at m leaf key; bits = bits; touched = mark leaf untouched } =
-        ap (λ (s : Shrinkage). let p : Planned = record { memory = s.memory; bits = s.bits; touched = s.touched } in p) plan.1 in
-        let step = IsPlannedStep-page pages log e leaf (without key (m leaf).records) (Delete key) the-leaf.kind the-leaf.some c in
+        let as-planned : planned m bits pages (Delete key) ≡ record { memory = drop_at m leaf key; bits = bits; touched = mark leaf untouched; moves = with_move leaf (Takes key) unmoved } =
+        ap (λ (s : Shrinkage). let p : Planned = record { memory = s.memory; bits = s.bits; touched = s.touched; moves = s.moves } in p) plan.1 in
+        let step = IsPlannedStep-page pages log e leaf (without key (m leaf).records) (Takes key) (Delete key) the-leaf.kind the-leaf.some c in
         record {
           may = subst (MayPlan m bits pages) (sym c.change_is) tt;
           step = subst (λ k. IsPlannedStep pages (memory_after start log) (memory_after start (log ++ e ∷ [])) m (kept_pages pages (log ++ e ∷ [])) (planned m bits pages k)) (sym c.change_is)
               (subst (IsPlannedStep pages (memory_after start log) (memory_after start (log ++ e ∷ [])) m (kept_pages pages (log ++ e ∷ []))) (sym as-planned) step);
-          differ = differ-page pages log e leaf (without key (m leaf).records) (Delete key) the-leaf.kind the-leaf.some c;
+          differ = differ-page pages log e leaf (without key (m leaf).records) (Takes key) (Delete key) the-leaf.kind the-leaf.some c;
         }
 
     pub delete-kept : value_at key (m leaf).records ≡ Some value → (leaf ≡ 1) ⊎ (FEWEST_RECORDS < length (m leaf).records)
-        → ChangesPage pages log leaf (without_pair key (m leaf)) (Delete key) e → IsKeptLog pages (log ++ e ∷ [])
+        → ChangesPage pages log leaf (without_pair key (m leaf)) (Takes key) (Delete key) e → IsKeptLog pages (log ++ e ∷ [])
     delete-kept there short c =
         let made : is_made (answer_of (map_of log) (Delete key)) ≡ true = ap (λ o. is_made (delete_answer o)) (in-leaf ∙ there) in
         IsKeptLog-push pages fits log kept e
-        (IsInGrammar-page pages log e leaf (without key (m leaf).records) (Delete key) the-leaf.kind the-leaf.some c inside is)
+        (IsInGrammar-page pages log e leaf (without key (m leaf).records) (Takes key) (Delete key) the-leaf.kind the-leaf.some c inside is)
         (subst (λ k. is_made (answer_of (map_of log) k) ≡ true) (sym c.change_is) made)
         (delete-planned there short c) c.number
-        (space-page pages log e leaf (without key (m leaf).records) (Delete key) the-leaf.kind the-leaf.some c space)
+        (space-page pages log e leaf (without key (m leaf).records) (Takes key) (Delete key) the-leaf.kind the-leaf.some c space)

@@ -15,6 +15,7 @@ use Rattle.ib_walk.proofs.SearchLaws.{above, above-zero}
 use Rattle.ib_plans.specs.Delete.{Shrinkage, delete_below, drop_at, lift_single, merge_short, planned_delete, settled}
 use Rattle.ib_plans.specs.Insert.{AreFresh, planned_insert, put_at}
 use Rattle.ib_plans.specs.Marks.{mark, untouched}
+use Rattle.ib_plans.specs.Moves.{Puts, Takes, unmoved, with_move}
 use Rattle.ib_plans.specs.Merge.{siblings_of}
 use Rattle.ib_plans.specs.Split.{with_records}
 use Rattle.ib_plans.specs.declared.TheConstants.{FEWEST_RECORDS}
@@ -66,7 +67,7 @@ module _ (m : PageMemory) (bits : ℕ → ℕ) (roots : ℕ) (law : IsLawful m b
 
     -- the insert puts the pair into the leaf
     pub insert-leaf : (value : ℕ) (fresh : List ℕ) → AreFresh bits fresh → value_at key (content_of m root) ≡ None
-        → planned_insert m bits fresh key value root ≡ record { memory = put_at m leaf key value; bits = bits; touched = mark leaf untouched; fresh = fresh }
+        → planned_insert m bits fresh key value root ≡ record { memory = put_at m leaf key value; bits = bits; touched = mark leaf untouched; moves = with_move leaf (Puts key) unmoved; fresh = fresh }
     insert-leaf value fresh free missing =
         let now = cond-eq leaf leaf (with_records (put key value (m leaf).records) (m leaf)) (m leaf) refl in
         let short : length (put_at m leaf key value leaf).records ≤ MOST_RECORDS =
@@ -75,7 +76,7 @@ module _ (m : PageMemory) (bits : ℕ → ℕ) (roots : ℕ) (law : IsLawful m b
 
   -- what a delete makes of the leaf
   abbrev dropped : ℕ → Bool → Shrinkage
-  dropped page lost = record { memory = drop_at m page key; bits = bits; touched = mark page untouched; lost = lost }
+  dropped page lost = record { memory = drop_at m page key; bits = bits; touched = mark page untouched; moves = with_move page (Takes key) unmoved; lost = lost }
 
   -- the root is the leaf
   root-leaf : height_of m root ≡ 0 → planned_delete m bits key root ≡ dropped root true
@@ -127,7 +128,7 @@ module _ (m : PageMemory) (bits : ℕ → ℕ) (roots : ℕ) (law : IsLawful m b
 
   -- the delete takes the pair from the leaf, where that is the root or keeps enough
   pub delete-leaf : (value : ℕ) → value_at key (m leaf).records ≡ Some value → (leaf ≡ root) ⊎ (FEWEST_RECORDS < length (m leaf).records)
-      → (lost : Bool) × (planned_delete m bits key root ≡ record { memory = drop_at m leaf key; bits = bits; touched = mark leaf untouched; lost = lost })
+      → (lost : Bool) × (planned_delete m bits key root ≡ record { memory = drop_at m leaf key; bits = bits; touched = mark leaf untouched; moves = with_move leaf (Takes key) unmoved; lost = lost })
   delete-leaf value there short = go (height_of m root) refl short
     where
       go : (h : ℕ) → height_of m root ≡ h → (leaf ≡ root) ⊎ (FEWEST_RECORDS < length (m leaf).records) → (lost : Bool) × (planned_delete m bits key root ≡ dropped leaf lost)

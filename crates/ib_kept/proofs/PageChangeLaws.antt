@@ -9,7 +9,9 @@ use Rattle.ib_map.specs.Writes.{touches, PlacesRise}
 use Rattle.ib_map.specs.declared.TheConstants.{PAGE_WORDS}
 use Rattle.ib_map.specs.declared.call.Change.{Change}
 use Rattle.ib_map.specs.declared.write.Write.{Write}
+use Rattle.ib_heap.specs.Heap.{read_heap}
 use Rattle.ib_page.specs.Form.{page_of}
+use Rattle.ib_page.specs.Image.{records_of}
 use Rattle.ib_page.specs.Page.{PageValue, HoldsPage}
 use Rattle.ib_page.specs.Page.PageValue.{Malformed as MalformedValue, Free as FreeValue, Tree as TreeValue}
 use Rattle.ib_page.specs.Space.{IsSpacePage, space_clock_of}
@@ -23,7 +25,9 @@ use Rattle.ib_walk.proofs.ChoiceLaws.{cond-eq, cond-ne}
 use Rattle.ib_walk.proofs.ImageLaws.{pages_of-image}
 use Rattle.ib_plans.specs.Agreement.{tick, space_ticks}
 use Rattle.ib_plans.specs.Marks.{mark, ticked, untouched, with_clock}
+use Rattle.ib_plans.specs.Moves.{Move, unmoved, with_move, IsMovedHeap}
 use Rattle.ib_plans.specs.Split.{with_records}
+use Rattle.ib_plans.proofs.MoveLaws.{with_move-own, with_move-other}
 use Rattle.ib_tree.specs.Logs.{pages_after}
 use Rattle.ib_tree.specs.TreeLog.{opening}
 use Rattle.ib_tree.proofs.LogLaws.{image_of-untouched, pages_after-untouched}
@@ -47,8 +51,8 @@ some-writes : (page : ℕ) (ws : List Write) → (touches page ws ≡ false → 
 some-writes page [] touched = absurd (touched refl)
 some-writes page (w ∷ ws) touched = omega arith
 
-module _ (pages : ℕ) (log : List Entry) (e : Entry) (page : ℕ) (rs : Pairs) (change : Change) (kind : (kept_pages pages log page).kind ≡ Tree) (ne : page ≢ 0)
-    (c : ChangesPage pages log page (tick (with_records rs (kept_pages pages log page))) change e) where
+module _ (pages : ℕ) (log : List Entry) (e : Entry) (page : ℕ) (rs : Pairs) (move : Move) (change : Change) (kind : (kept_pages pages log page).kind ≡ Tree) (ne : page ≢ 0)
+    (c : ChangesPage pages log page (tick (with_records rs (kept_pages pages log page))) move change e) where
   abbrev start : ℕ → ℕ
   start = by_place opening pages
 
@@ -80,7 +84,7 @@ module _ (pages : ℕ) (log : List Entry) (e : Entry) (page : ℕ) (rs : Pairs) 
   written none = let same = ap (λ (p : PageState). p.clock) (sym (pages_after-untouched start log e page none) ∙ new-own) in omega arith
 
   abbrev plan : Planned
-  plan = record { memory = with_page m page now; bits = bits_of pages (memory_after start log); touched = mark page untouched }
+  plan = record { memory = with_page m page now; bits = bits_of pages (memory_after start log); touched = mark page untouched; moves = with_move page move unmoved }
 
   step-pages : (n : ℕ) → n ≢ 0 → new n ≡ ticked m plan.touched plan.memory n
   step-pages n some = elim (cases_eq n page) [
@@ -95,9 +99,23 @@ module _ (pages : ℕ) (log : List Entry) (e : Entry) (page : ℕ) (rs : Pairs) 
         pages_after-untouched start log e n (off-page n (λ z. apart (sym z))) ∙ sym (rw unmarked kept)
   ]
 
+  -- where its records stand, and those of all other pages
+  step-moved : (n : ℕ) → n ≢ 0 → IsMovedHeap (with_move page move unmoved n) (records_of (image_of (memory_after start log) n)) (read_heap (image_of (memory_after start log) n)) (read_heap (image_of (memory_after start (log ++ e ∷ [])) n))
+  step-moved n some = elim (cases_eq n page) [
+    | inl same ↦
+        let here : IsMovedHeap move (records_of (image_of (memory_after start log) page)) (read_heap (image_of (memory_after start log) page)) (read_heap (image_of (memory_after start (log ++ e ∷ [])) page)) =
+        subst (λ (ws : List ℕ). IsMovedHeap move (records_of (image_of (memory_after start log) page)) (read_heap (image_of (memory_after start log) page)) (read_heap ws)) (sym (one-image start log e page c.changed c.writes_are size)) c.moved in
+        subst (λ (mv : Move). IsMovedHeap mv (records_of (image_of (memory_after start log) n)) (read_heap (image_of (memory_after start log) n)) (read_heap (image_of (memory_after start (log ++ e ∷ [])) n))) (sym (with_move-own page move unmoved n same))
+        (subst (λ q. IsMovedHeap move (records_of (image_of (memory_after start log) q)) (read_heap (image_of (memory_after start log) q)) (read_heap (image_of (memory_after start (log ++ e ∷ [])) q))) (sym same) here)
+    | inr apart ↦
+        subst (λ (mv : Move). IsMovedHeap mv (records_of (image_of (memory_after start log) n)) (read_heap (image_of (memory_after start log) n)) (read_heap (image_of (memory_after start (log ++ e ∷ [])) n))) (sym (with_move-other page move unmoved n apart))
+        (ap read_heap (image_of-untouched start log e n (off-page n (λ z. apart (sym z)))))
+  ]
+
   pub IsPlannedStep-page : IsPlannedStep pages (memory_after start log) (memory_after start (log ++ e ∷ [])) m new plan
   IsPlannedStep-page = record {
     pages_are = step-pages;
+    moved = step-moved;
     bits_are = λ n. bits_of-space pages (memory_after start log) (memory_after start (log ++ e ∷ [])) n space-same;
     clock =
         let none : space_ticks (mark page untouched) ≡ 0 = ap (λ (b : Bool). cond {A = ℕ} b 1 0) (cond-ne 0 page true false (λ z. ne (sym z))) in

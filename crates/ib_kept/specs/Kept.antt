@@ -3,6 +3,8 @@ use Rattle.std.specs.Prelude.{◌≡◌, ◌≢◌, ℕ, ◌+◌, ◌≤◌, Boo
 use Rattle.std.specs.List.{AllByRecursion}
 use Rattle.ib_map.specs.declared.call.Change.{Change}
 use Rattle.ib_map.specs.declared.call.Change.TheVariants.{Insert, Delete}
+use Rattle.ib_heap.specs.Heap.{read_heap}
+use Rattle.ib_page.specs.Image.{records_of}
 use Rattle.ib_page.specs.Space.{space_clock_of}
 use Rattle.ib_logrec.specs.declared.entry.Entry.{Entry}
 use Rattle.ib_logrec.specs.Log.{memory_after, by_place}
@@ -10,33 +12,36 @@ use Rattle.ib_walk.specs.Pages.{PageMemory}
 use Rattle.ib_walk.specs.Full.{need_of, is_too_high, free_of, chosen}
 use Rattle.ib_walk.specs.Words.{image_of, bits_of}
 use Rattle.ib_plans.specs.Marks.{ticked}
+use Rattle.ib_plans.specs.Moves.{Move, IsMovedHeap}
 use Rattle.ib_plans.specs.Agreement.{space_ticks}
 use Rattle.ib_plans.specs.Insert.{planned_insert}
 use Rattle.ib_plans.specs.Delete.{planned_delete}
 use Rattle.ib_tree.specs.Logs.{pages_after}
 use Rattle.ib_tree.specs.TreeLog.{opening, IsTreeLog}
 
--- what a change is planned to make of the pages and the bits, all but the clocks, and which pages it touches
+-- what a change is planned to make of the pages and the bits, all but the clocks, which pages it touches, and how their records move
 pub record Planned : Type 0 where
   pub memory : PageMemory
   pub bits : ℕ → ℕ
   pub touched : ℕ → Bool
+  pub moves : ℕ → Move
 
 -- the plan of a change of the first tree, in a space of so many pages
 abbrev pub planned : PageMemory → (ℕ → ℕ) → ℕ → Change → Planned
 planned memory bits pages (Insert key value) =
-    let g = planned_insert memory bits (chosen bits pages (need_of memory key 1)) key value 1 in record { memory = g.memory; bits = g.bits; touched = g.touched }
+    let g = planned_insert memory bits (chosen bits pages (need_of memory key 1)) key value 1 in record { memory = g.memory; bits = g.bits; touched = g.touched; moves = g.moves }
 planned memory bits pages (Delete key) =
-    let s = planned_delete memory bits key 1 in record { memory = s.memory; bits = s.bits; touched = s.touched }
+    let s = planned_delete memory bits key 1 in record { memory = s.memory; bits = s.bits; touched = s.touched; moves = s.moves }
 
 -- the change is not refused: the tree need not grow too high, and there are pages enough
 abbrev pub MayPlan : PageMemory → (ℕ → ℕ) → ℕ → Change → Type 0
 MayPlan memory bits pages (Insert key value) = (is_too_high memory key 1 ≡ false) × (need_of memory key 1 ≤ free_of bits pages)
 MayPlan memory bits pages (Delete key) = Unit {0}
 
--- words of all pages before a planned change and after it: its pages and bits, and the clock of each page that it touches one higher
+-- words of all pages before a planned change and after it: its pages and bits, the clock of each page that it touches one higher, and the records standing as it moves them
 pub record IsPlannedStep (pages : ℕ) (before after : ℕ → ℕ) (old new : PageMemory) (p : Planned) : Type 0 where
   pub pages_are : (n : ℕ) → n ≢ 0 → new n ≡ ticked old p.touched p.memory n
+  pub moved : (n : ℕ) → n ≢ 0 → IsMovedHeap (p.moves n) (records_of (image_of before n)) (read_heap (image_of before n)) (read_heap (image_of after n))
   pub bits_are : (n : ℕ) → bits_of pages after n ≡ p.bits n
   pub clock : space_clock_of (image_of after 0) ≡ space_clock_of (image_of before 0) + space_ticks p.touched
 

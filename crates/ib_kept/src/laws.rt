@@ -15,6 +15,7 @@ ghost use Rattle.ib_logrec.specs.Log.{memory_after, history_of, map_of, by_place
 ghost use Rattle.ib_walk.specs.Full.{need_of, is_too_high};
 ghost use Rattle.ib_walk.specs.Words.{image_of};
 ghost use Rattle.ib_plans.specs.declared.TheConstants.{FEWEST_RECORDS};
+ghost use Rattle.ib_plans.specs.Moves.{Puts, Takes};
 ghost use Rattle.ib_tree.specs.TreeLog.{opening, IsTreeLog};
 ghost use Rattle.ib_kept.specs.Kept.{IsPlannedEntry, IsKeptLog};
 ghost use Rattle.ib_kept.specs.LeafChange.{kept_pages, leaf_after, with_pair, without_pair, ChangesPage};
@@ -47,13 +48,13 @@ pub fn kept_law()
         → has_pages pages ≡ true → IsKeptLog pages log → IsKey key
         → value_at key (kept_pages pages log (leaf_after pages log key)).records ≡ None
         → length (kept_pages pages log (leaf_after pages log key)).records < MOST_RECORDS
-        → ChangesPage pages log (leaf_after pages log key) (with_pair key value (kept_pages pages log (leaf_after pages log key))) (Insert key value) e
+        → ChangesPage pages log (leaf_after pages log key) (with_pair key value (kept_pages pages log (leaf_after pages log key))) (Puts key) (Insert key value) e
         → IsPlannedEntry pages (by_place opening pages) log e × IsKeptLog pages (log ++ e ∷ []) }
     // A delete from the root, or from a leaf that is left with enough, changes that leaf alone (`btr_cur_optimistic_delete`).
     ensures leaf_delete { (pages : ℕ) (log : List Entry) (key : MapKey) (value : ℕ) (e : Entry)
         → has_pages pages ≡ true → IsKeptLog pages log → IsKey key
         → value_at key (kept_pages pages log (leaf_after pages log key)).records ≡ Some value
         → (leaf_after pages log key ≡ 1) ⊎ (FEWEST_RECORDS < length (kept_pages pages log (leaf_after pages log key)).records)
-        → ChangesPage pages log (leaf_after pages log key) (without_pair key (kept_pages pages log (leaf_after pages log key))) (Delete key) e
+        → ChangesPage pages log (leaf_after pages log key) (without_pair key (kept_pages pages log (leaf_after pages log key))) (Takes key) (Delete key) e
         → IsPlannedEntry pages (by_place opening pages) log e × IsKeptLog pages (log ++ e ∷ []) }
 {}

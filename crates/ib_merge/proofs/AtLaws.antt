@@ -15,6 +15,7 @@ use Rattle.ib_walk.proofs.ChoiceLaws.{cond-eq, cond-ne}
 use Rattle.ib_walk.proofs.SearchLaws.{above}
 use Rattle.ib_plans.specs.Delete.{Shrinkage, delete_below, drop_at, merged}
 use Rattle.ib_plans.specs.Marks.{mark, ticked, untouched, with_clock}
+use Rattle.ib_plans.specs.Moves.{Move, Takes, unmoved, with_move, HasMoved}
 use Rattle.ib_plans.specs.Merge.{freed_page, merge_pages}
 use Rattle.ib_plans.specs.Split.{next_or, with_prev, with_records}
 use Rattle.ib_plans.specs.Agreement.{IsThere, Sets, state_or_free, memory_in, reads_of, tick, with_bits}
@@ -23,11 +24,13 @@ use Rattle.ib_plans.proofs.DeleteLaws.{IsDeletedBelow, PathAbove-delete, sibling
 use Rattle.ib_plans.proofs.EditLaws.{IsSome-and, set-reads, set-same, set-other, set-others}
 use Rattle.ib_plans.proofs.LinkLaws.{next_or-next}
 use Rattle.ib_plans.proofs.MergePageLaws.{merge_pages-gone, merge_pages-left, merge_pages-parent, merge_pages-next, merge_pages-other, without-second}
-use Rattle.ib_plans.proofs.PageLaws.{mark-own, mark-on}
+use Rattle.ib_plans.proofs.MoveLaws.{with_move-own, with_move-other, moved-alike, moved-still, then-still-was, filled-any, freed-any}
+use Rattle.ib_plans.proofs.PageLaws.{mark-off, mark-own, mark-on}
 use Rattle.ib_plans.proofs.PathLaws.{PathAbove}
 use Rattle.ib_plans.proofs.SiblingLaws.{SiblingPages, parent-not_gone, parent-not_left}
 use Rattle.ib_merge.specs.Deletes.{without_record, joined, CanMerge, IsMerged, AreTaken}
 use Rattle.ib_merge.proofs.GiveLaws.{with_bits-last, AreTaken-last}
+use Rattle.ib_merge.proofs.MovedLaws.{moves-gone, moves-left, moves-parent, moves-other}
 use Rattle.ib_merge.proofs.MergedLaws.{merged-reads, merged-parent, merged-next, merged-others, beside-left, beside-gone}
 use Rattle.ib_merge.proofs.WayLaws.{there-reads}
 
@@ -36,6 +39,8 @@ pub record IsAt (m : PageMemory) (bits : ℕ → ℕ) (height page : ℕ) (s : S
   pub reads : reads_of new ≡ reads_of old
   pub there : (n : ℕ) → n ≢ 0 → s.touched n ≡ true → IsThere new n
   pub same : (n : ℕ) → n ≢ 0 → IsThere new n → memory_in new n ≡ ticked m s.touched s.memory n
+  pub moved : (n : ℕ) → n ≢ 0 → HasMoved (s.moves n) (changed_of n old) (changed_of n new)
+  pub kept : (n : ℕ) → n ≢ 0 → s.touched n ≡ false → changed_of n new ≡ changed_of n old
   pub space : changed_of 0 new ≡ changed_of 0 old
   pub bits_are : (n : ℕ) → s.bits n ≡ with_bits freed 0 bits n
   pub taken : AreTaken bits freed
@@ -63,7 +68,8 @@ not-true false never = refl
 -- the record was taken out of the leaf
 module _ (m : PageMemory) (bits : ℕ → ℕ) (key : MapKey) (leaf : ℕ) (some : leaf ≢ 0) (old new : List WorkPage)
     (same : (page : ℕ) → page ≢ 0 → IsThere old page → memory_in old page ≡ m page)
-    (there : IsThere old leaf) (sets : Sets leaf (tick (without_record key (memory_in old leaf))) old new) where
+    (there : IsThere old leaf) (sets : Sets leaf (tick (without_record key (memory_in old leaf))) old new)
+    (taken : HasMoved (Takes key) (changed_of leaf old) (changed_of leaf new)) where
   dropped : drop_at m leaf key leaf ≡ with_records (without key (m leaf).records) (m leaf)
   dropped = cond-eq leaf leaf (with_records (without key (m leaf).records) (m leaf)) (m leaf) refl
 
@@ -88,6 +94,13 @@ module _ (m : PageMemory) (bits : ℕ → ℕ) (key : MapKey) (leaf : ℕ) (some
           set-other leaf _ old new sets n (λ e. nl (sym e)) ∙ (same n ne (was-there n h)
           ∙ (sym (kept n nl) ∙ sym (ticked-untouched m (mark leaf untouched) (drop_at m leaf key) n (mark-skip leaf untouched n nl))))
     ];
+    moved = λ n ne. elim (cases_eq n leaf) [
+      | inl e ↦ subst (λ q. HasMoved (with_move leaf (Takes key) unmoved q) (changed_of q old) (changed_of q new)) (sym e)
+          (subst (λ (mv : Move). HasMoved mv (changed_of leaf old) (changed_of leaf new)) (sym (with_move-own leaf (Takes key) unmoved leaf refl)) taken)
+      | inr nl ↦ subst (λ (mv : Move). HasMoved mv (changed_of n old) (changed_of n new)) (sym (with_move-other leaf (Takes key) unmoved n nl))
+          (moved-still (changed_of n old) (changed_of n new) (set-others leaf _ old new sets n (λ e. nl (sym e))))
+    ];
+    kept = λ n ne off. set-others leaf _ old new sets n (λ e. (mark-off leaf untouched n off).0 (sym e));
     space = set-others leaf _ old new sets 0 some;
     bits_are = λ n. refl;
     taken = tt;
@@ -277,6 +290,40 @@ module _ (m : PageMemory) (bits : ℕ → ℕ) (roots : ℕ) (law : IsLawful m b
     there-new : (n : ℕ) → IsThere mid n → IsThere new n
     there-new n h = there-reads mid new n reads-new h
 
+    -- a page that is not the one that the plan names is not the leaf behind
+    apart-next : (n : ℕ) → n ≢ next_or gone.1 (s.memory gone.1) → (memory_in mid gone.1).next ≢ 0 → n ≢ (memory_in mid gone.1).next
+    apart-next n nn ne e = nn (e ∙ (two.next_is ∙ sym (next_or-next gone.1 (s.memory gone.1) (λ z. ne (two.next_is ∙ z)))))
+
+    -- a page that the merge does not touch is as it was
+    kept-new : (n : ℕ) → n ≢ 0 → t-all n ≡ false → changed_of n new ≡ changed_of n old
+    kept-new n nz off =
+        let a = mark-off 0 t-gone n off in
+        let b = mark-off gone.1 t-left n a.1 in
+        let c = mark-off pair.1 t-page n b.1 in
+        let d = mark-off page t-next n c.1 in
+        let e = mark-off (next_or gone.1 (s.memory gone.1)) s.touched n d.1 in
+        merged-others page pair.1 gone beside mid new can mg n c.0 b.0 d.0 (apart-next n e.0) ∙ x.kept n nz e.1
+
+    moved-new : (n : ℕ) → n ≢ 0 → HasMoved ((merged s page pair.1 gone).moves n) (changed_of n old) (changed_of n new)
+    moved-new n nz = elim (cases_eq n gone.1) [
+      | inl e ↦ subst (λ (mv : Move). HasMoved mv (changed_of n old) (changed_of n new)) (sym (ap (merged s page pair.1 gone).moves e ∙ moves-gone page pair.1 gone s.moves)) (freed-any (changed_of n old) (changed_of n new))
+      | inr ng ↦ elim (cases_eq n pair.1) [
+        | inl e ↦ subst (λ q. HasMoved ((merged s page pair.1 gone).moves q) (changed_of q old) (changed_of q new)) (sym e)
+            (subst (λ (mv : Move). HasMoved mv (changed_of pair.1 old) (changed_of pair.1 new)) (sym (moves-left page pair.1 gone s.moves ps.apart))
+            (filled-any (changed_of pair.1 old) (changed_of pair.1 mid) (changed_of pair.1 new) left-there
+            (subst (λ (mv : Move). HasMoved mv (changed_of pair.1 mid) (changed_of pair.1 new)) (moves-left page pair.1 gone unmoved ps.apart) (mg.moved pair.1))))
+        | inr nl ↦ elim (cases_eq n page) [
+          | inl e ↦ subst (λ q. HasMoved ((merged s page pair.1 gone).moves q) (changed_of q old) (changed_of q new)) (sym e)
+              (moved-alike (Takes gone.0) ((merged s page pair.1 gone).moves page) (changed_of page mid) (changed_of page old) (changed_of page new) (changed_of page new)
+              (sym (moves-parent page pair.1 gone s.moves can.parent_gone can.parent_left)) (sym (x.kept page page-some (page-off page-some))) refl
+              (subst (λ (mv : Move). HasMoved mv (changed_of page mid) (changed_of page new)) (moves-parent page pair.1 gone unmoved can.parent_gone can.parent_left) (mg.moved page)))
+          | inr np ↦ subst (λ (mv : Move). HasMoved mv (changed_of n old) (changed_of n new)) (sym (moves-other page pair.1 gone s.moves n ng nl np))
+              (then-still-was (s.moves n) (changed_of n old) (changed_of n mid) (changed_of n new) (there-reads new mid n (sym reads-new)) (x.moved n nz)
+              (subst (λ (mv : Move). HasMoved mv (changed_of n mid) (changed_of n new)) (moves-other page pair.1 gone unmoved n ng nl np) (mg.moved n)))
+        ]
+      ]
+    ]
+
     same-new : (n : ℕ) → n ≢ 0 → IsThere new n → memory_in new n ≡ ticked m t-all planned n
     same-new n nz h = elim (cases_eq n gone.1) [
       | inl e ↦ subst (λ q. memory_in new q ≡ ticked m t-all planned q) (sym e)
@@ -297,9 +344,7 @@ module _ (m : PageMemory) (bits : ℕ → ℕ) (roots : ℕ) (law : IsLawful m b
             | inr nn ↦
                 let off : t-all n ≡ s.touched n =
                 mark-skip 0 t-gone n nz ∙ (mark-skip gone.1 t-left n ng ∙ (mark-skip pair.1 t-page n nl ∙ (mark-skip page t-next n np ∙ mark-skip (next_or gone.1 (s.memory gone.1)) s.touched n nn))) in
-                let apart : (memory_in mid gone.1).next ≢ 0 → n ≢ (memory_in mid gone.1).next =
-                λ ne e. nn (e ∙ (two.next_is ∙ sym (next_or-next gone.1 (s.memory gone.1) (λ z. ne (two.next_is ∙ z))))) in
-                let was-n : changed_of n new ≡ changed_of n mid = merged-others page pair.1 gone beside mid new can mg n nl ng np apart in
+                let was-n : changed_of n new ≡ changed_of n mid = merged-others page pair.1 gone beside mid new can mg n nl ng np (apart-next n nn) in
                 ap state_or_free was-n ∙ (x.same n nz (subst IsSome was-n h)
                 ∙ (ap (λ b. cond b (with_clock ((m n).clock + 1) (s.memory n)) (s.memory n)) (sym off)
                 ∙ ap (λ (p : PageState). cond (t-all n) (with_clock ((m n).clock + 1) p) p) (sym (merge_pages-other s.memory page pair.1 gone n ng nl np nn))))
@@ -367,6 +412,8 @@ module _ (m : PageMemory) (bits : ℕ → ℕ) (roots : ℕ) (law : IsLawful m b
         ]
       ];
       same = same-new;
+      moved = moved-new;
+      kept = kept-new;
       space = merged-others page pair.1 gone beside mid new can mg 0 (λ e. ps.left_some (sym e)) (λ e. ps.gone_some (sym e)) (λ e. page-some (sym e)) (λ ne e. ne (sym e)) ∙ x.space;
       bits_are = λ n. ap (λ k. cond (eqb n gone.1) 0 k) (x.bits_are n) ∙ sym (ap (λ (f : ℕ → ℕ). f n) (with_bits-last freed gone.1 bits));
       taken = AreTaken-last freed gone.1 bits x.taken (λ z. gone-set (x.bits_are gone.1 ∙ z)) gone-few;

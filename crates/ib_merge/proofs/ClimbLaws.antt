@@ -13,6 +13,7 @@ use Rattle.ib_walk.specs.Trees.{height_of}
 use Rattle.ib_walk.proofs.SearchLaws.{above}
 use Rattle.ib_plans.specs.declared.TheConstants.{FEWEST_RECORDS}
 use Rattle.ib_plans.specs.Delete.{Shrinkage, delete_below, merge_short, planned_delete, settled}
+use Rattle.ib_plans.specs.Moves.{Takes, HasMoved}
 use Rattle.ib_plans.specs.Merge.{first_child, siblings_of}
 use Rattle.ib_plans.specs.Agreement.{IsThere, memory_in, Agrees, Sets, tick}
 use Rattle.ib_plans.proofs.DeleteLaws.{IsDeletedBelow, IsDeletedBelow-path}
@@ -101,13 +102,13 @@ module _ (pages roots root : ℕ) (key : MapKey) (path : List ℕ) (old : List W
         ∙ ap (λ n. ltb (length (s.memory n).records) FEWEST_RECORDS) (sym (here-is pages roots root key path old m bits a depth height page tall at s was freed mid x page-was)))
 
     -- nothing more happens
-    stops : merge_short key page s ≡ settled s → let u = planned_delete m bits key root in IsClimbed freed m u.memory u.bits bits u.touched old mid
+    stops : merge_short key page s ≡ settled s → let u = planned_delete m bits key root in IsClimbed freed m u.memory u.bits bits u.touched u.moves old mid
     stops eq =
         let r : planned_delete m bits key root ≡ settled s = planned_delete-settled m bits key depth (suc height) root page tall at (ap (λ (u : Shrinkage). u.lost) eq) ∙ eq in
-        let k : IsClimbed freed m (settled s).memory (settled s).bits bits (settled s).touched old mid = IsClimbed-at m bits height child s freed old mid x in
-        subst (λ (u : Shrinkage). IsClimbed freed m u.memory u.bits bits u.touched old mid) (sym r) k
+        let k : IsClimbed freed m (settled s).memory (settled s).bits bits (settled s).touched (settled s).moves old mid = IsClimbed-at m bits height child s freed old mid x in
+        subst (λ (u : Shrinkage). IsClimbed freed m u.memory u.bits bits u.touched u.moves old mid) (sym r) k
 
-    pub stops-long : few ≡ false → let u = planned_delete m bits key root in IsClimbed freed m u.memory u.bits bits u.touched old mid
+    pub stops-long : few ≡ false → let u = planned_delete m bits key root in IsClimbed freed m u.memory u.bits bits u.touched u.moves old mid
     stops-long off = stops (long-settled key page s x.lost (sym few-is ∙ off))
 
     module _ (beside : HasSiblings key old (get_or path depth 0)) where
@@ -118,7 +119,7 @@ module _ (pages roots root : ℕ) (key : MapKey) (path : List ℕ) (old : List W
       picks-same = same-choice pages roots root key path old m bits a depth height page tall at s was freed mid x page-was beside
 
       pub stops-none : few ≡ true → None ≡ merger_of (memory_in mid) (siblings_of key (memory_in mid page).records)
-          → let u = planned_delete m bits key root in IsClimbed freed m u.memory u.bits bits u.touched old mid
+          → let u = planned_delete m bits key root in IsClimbed freed m u.memory u.bits bits u.touched u.moves old mid
       stops-none on none = stops (short-none key page s x.lost (sym few-is ∙ on) (sym picks-same ∙ sym none))
 
       module _ (g : Merger) (on : few ≡ true) (picks : Some g ≡ merger_of (memory_in mid) (siblings_of key (memory_in mid page).records)) where
@@ -150,11 +151,11 @@ module _ (pages roots root : ℕ) (key : MapKey) (path : List ℕ) (old : List W
     abbrev single : ℕ → Bool
     single n = ltb 0 (memory_in mid n).level && eqb (length (memory_in mid n).records) 1
 
-    pub top-stays : single (get_or path 0 0) ≡ false → let u = planned_delete m bits key root in IsClimbed freed m u.memory u.bits bits u.touched old mid
+    pub top-stays : single (get_or path 0 0) ≡ false → let u = planned_delete m bits key root in IsClimbed freed m u.memory u.bits bits u.touched u.moves old mid
     top-stays off =
         let r : planned_delete m bits key root ≡ delete_below m bits key (height_of m root) root =
         root-stays pages roots root key path old m bits a (height_of m root) (delete_below m bits key (height_of m root) root) root-was freed mid root-x (ap single (sym root-is) ∙ off) in
-        subst (λ (u : Shrinkage). IsClimbed freed m u.memory u.bits bits u.touched old mid) (sym r)
+        subst (λ (u : Shrinkage). IsClimbed freed m u.memory u.bits bits u.touched u.moves old mid) (sym r)
         (IsClimbed-at m bits (height_of m root) root (delete_below m bits key (height_of m root) root) freed old mid root-x)
 
     pub top-can_lift : single (get_or path 0 0) ≡ true → CanLift (get_or path 0 0) mid
@@ -162,7 +163,7 @@ module _ (pages roots root : ℕ) (key : MapKey) (path : List ℕ) (old : List W
         (can-lift pages roots root key path old m bits a (height_of m root) (delete_below m bits key (height_of m root) root) root-was freed mid root-x (ap single (sym root-is) ∙ on))
 
     pub top-lifts : single (get_or path 0 0) ≡ true → (q : ℕ) (new : List WorkPage) → q ≡ first_child (memory_in mid (get_or path 0 0)).records → IsLifted (get_or path 0 0) q mid new
-        → let u = planned_delete m bits key root in IsClimbed (freed ++ q ∷ []) m u.memory u.bits bits u.touched old new
+        → let u = planned_delete m bits key root in IsClimbed (freed ++ q ∷ []) m u.memory u.bits bits u.touched u.moves old new
     top-lifts on q new is lift =
         IsClimbed-lift pages roots root key path old m bits a (height_of m root) (delete_below m bits key (height_of m root) root) root-was freed mid root-x (ap single (sym root-is) ∙ on) q new
         (is ∙ ap (λ n. first_child (memory_in mid n).records) root-is) (subst (λ n. IsLifted n q mid new) root-is lift)
@@ -182,12 +183,13 @@ module _ (path : List ℕ) (key : MapKey) (old : List WorkPage) (can : CanDelete
   path-there i lt = IsSome-and IsTreePage _ (path-tree i lt)
 
   -- the record has left the leaf
-  pub starts : (new : List WorkPage) → Sets (get_or path (length path - 1) 0) (tick (without_record key (memory_in old (get_or path (length path - 1) 0)))) old new → IsAtForAll path key 0 [] old new
-  starts new sets pages roots root m bits a depth e =
+  pub starts : (new : List WorkPage) → Sets (get_or path (length path - 1) 0) (tick (without_record key (memory_in old (get_or path (length path - 1) 0)))) old new
+      → HasMoved (Takes key) (changed_of (get_or path (length path - 1) 0) old) (changed_of (get_or path (length path - 1) 0) new) → IsAtForAll path key 0 [] old new
+  starts new sets taken pages roots root m bits a depth e =
       let d : length path - 1 ≡ depth = omega arith in
       let some = path-some in
       subst (λ i. IsAt m bits 0 (get_or path i 0) (delete_below m bits key 0 (get_or path i 0)) [] old new) d
-      (IsAt-leaf m bits key (get_or path (length path - 1) 0) (some-at pages roots root key path old m bits a (length path - 1) 0 (omega arith)) old new a.same (path-there (length path - 1) (omega arith)) sets)
+      (IsAt-leaf m bits key (get_or path (length path - 1) 0) (some-at pages roots root key path old m bits a (length path - 1) 0 (omega arith)) old new a.same (path-there (length path - 1) (omega arith)) sets taken)
 
   module _ (height : ℕ) (inside : height < length path - 1) (freed : List ℕ) (mid : List WorkPage) (all : IsAtForAll path key height freed old mid) where
     abbrev place : ℕ

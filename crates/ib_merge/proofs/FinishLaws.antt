@@ -12,6 +12,7 @@ use Rattle.ib_walk.specs.Trees.{height_of}
 use Rattle.ib_walk.proofs.ChoiceLaws.{cond-eq}
 use Rattle.ib_plans.specs.Delete.{Shrinkage, delete_below, drop_at, lift_single, lifted, planned_delete}
 use Rattle.ib_plans.specs.Marks.{untouched}
+use Rattle.ib_plans.specs.Moves.{HasMoved}
 use Rattle.ib_plans.specs.Merge.{first_child}
 use Rattle.ib_plans.specs.Split.{with_records}
 use Rattle.ib_plans.specs.Agreement.{IsThere, state_or_free, memory_in, reads_of, Agrees, IsPlanned, HasBits, bits_in, taken_bits, with_bits, space_ticks}
@@ -89,7 +90,7 @@ leaf-frees_none m bits key root zero some level z =
 
 module _ (path : List ℕ) (key : MapKey) (old : List WorkPage) (can : CanDelete path key old) (freed : List ℕ) (mid : List WorkPage) (climbed : IsClimbedForAll path key freed old mid) where
   -- for the one memory
-  c : IsClimbed freed can.memory (planned_delete can.memory can.bits key can.root).memory (planned_delete can.memory can.bits key can.root).bits can.bits (planned_delete can.memory can.bits key can.root).touched old mid
+  c : IsClimbed freed can.memory (planned_delete can.memory can.bits key can.root).memory (planned_delete can.memory can.bits key can.root).bits can.bits (planned_delete can.memory can.bits key can.root).touched (planned_delete can.memory can.bits key can.root).moves old mid
   c = climbed can.pages can.roots can.root can.memory can.bits can.agrees
 
   deep : freed ≢ [] → 1 < length path
@@ -133,10 +134,10 @@ module _ (path : List ℕ) (key : MapKey) (old : List WorkPage) (can : CanDelete
       abbrev u : Shrinkage
       u = planned_delete m bits key root
 
-      k : IsClimbed freed m u.memory u.bits bits u.touched old mid
+      k : IsClimbed freed m u.memory u.bits bits u.touched u.moves old mid
       k = climbed pages roots root m bits a
 
-      planned-none : freed ≡ [] → IsPlanned pages m u.memory u.bits u.touched old new
+      planned-none : freed ≡ [] → IsPlanned pages m u.memory u.bits u.touched u.moves old new
       planned-none e =
           let off : u.touched 0 ≡ false = k.zero ∙ ap (λ (xs : List ℕ). ltb 0 (length xs)) e in
           let same : changed_of 0 new ≡ changed_of 0 old = ap (changed_of 0) (none e) ∙ k.space in
@@ -145,6 +146,7 @@ module _ (path : List ℕ) (key : MapKey) (old : List WorkPage) (can : CanDelete
             reads = ap reads_of (none e) ∙ k.reads;
             there = λ n on. subst (λ ws. IsThere ws n) (sym (none e)) (k.there n (λ z. let x = ap u.touched z in cc) on);
             same = λ n nz h. ap (λ ws. memory_in ws n) (none e) ∙ k.same n nz (subst (λ ws. IsThere ws n) (none e) h);
+            moved = λ n nz. subst (λ ws. HasMoved (u.moves n) (changed_of n old) (changed_of n ws)) (sym (none e)) (k.moved n nz);
             space = subst (λ (o : Option (List ℕ)). IfSome o (HasBits pages u.bits)) (sym same)
                 (some-if (changed_of 0 old) (HasBits pages u.bits) (λ image is.
                 let h = if-some (changed_of 0 old) (HasBits pages bits) image is a.space in
@@ -153,7 +155,7 @@ module _ (path : List ℕ) (key : MapKey) (old : List WorkPage) (can : CanDelete
                 (let r : space_clock_of was ≡ space_clock_of was + space_ticks u.touched = omega arith in r));
           }
 
-      planned-some : freed ≢ [] → IsPlanned pages m u.memory u.bits u.touched old new
+      planned-some : freed ≢ [] → IsPlanned pages m u.memory u.bits u.touched u.moves old new
       planned-some some =
           let g = given some in
           let here : changed_of 0 new ≡ Some g.image = ap (changed_of 0) g.work ∙ changed_of-same 0 g.image mid (is-some (changed_of 0 mid) g.was g.before) in
@@ -168,6 +170,7 @@ module _ (path : List ℕ) (key : MapKey) (old : List WorkPage) (can : CanDelete
               | inr nz ↦ subst IsSome (sym (other n nz)) (k.there n nz t)
             ];
             same = λ n nz h. ap state_or_free (other n nz) ∙ k.same n nz (subst IsSome (other n nz) h);
+            moved = λ n nz. subst (λ (o : Option (List ℕ)). HasMoved (u.moves n) (changed_of n old) o) (sym (other n nz)) (k.moved n nz);
             space = subst (λ (o : Option (List ℕ)). IfSome o (HasBits pages u.bits)) (sym here)
                 (HasBits-given pages bits u.bits freed g.was g.image a.few (if-some (changed_of 0 old) (HasBits pages bits) g.was before a.space) k.bits_are g.size g.bits g.behind);
             clock = subst (λ (o : Option (List ℕ)). IfSome o (λ was. IfSome (changed_of 0 new) (λ image. space_clock_of image ≡ space_clock_of was + space_ticks u.touched))) (sym before)
@@ -179,5 +182,5 @@ module _ (path : List ℕ) (key : MapKey) (old : List WorkPage) (can : CanDelete
           long [] some = absurd (some refl)
           long (x ∷ xs) some = lt-ltb 0 (suc (length xs)) (omega arith)
 
-      pub planned-all : IsPlanned pages m u.memory u.bits u.touched old new
+      pub planned-all : IsPlanned pages m u.memory u.bits u.touched u.moves old new
       planned-all = elim empty-or [ inl e ↦ planned-none e | inr some ↦ planned-some some ]

@@ -1,20 +1,23 @@
 -- What an image of a page of the tree says of its links and its records, and where its state says so.
-use Rattle.std.proofs.Common.{◌≡◌, ◌∙◌, ℕ, ◌+◌, ◌<◌, ◌≤◌, List, length, refl, sym, ap, subst, Option, Some, None}
-use Rattle.std.specs.Prelude.{Result, Ok, Err, OnOk, OnErr, IfErr, IsNone, ◌↔◌, IsSomeAnd}
+use Rattle.std.proofs.Common.{◌≡◌, ◌∙◌, ℕ, cond, ◌+◌, ◌<◌, ◌≤◌, List, length, refl, sym, ap, subst, Option, Some, None}
+use Rattle.std.specs.Prelude.{Result, Ok, Err, OnOk, OnErr, IfOk, IfErr, is_some, IsNone, ◌↔◌, IsSomeAnd}
 use Rattle.ib_map.specs.Keys.{MapKey}
-use Rattle.ib_map.specs.Pairs.{Pairs, value_at, without}
+use Rattle.ib_map.specs.Pairs.{Pairs, place_of, value_at, without}
 use Rattle.ib_map.proofs.PairLaws.{without-none}
 use Rattle.ib_heap.specs.declared.TheConstants.{MOST_RECORDS}
+use Rattle.ib_heap.specs.Heap.{read_heap}
+use Rattle.ib_heap.specs.Take.{remove_in}
 use Rattle.ib_heap.specs.declared.fault.PageFault.{PageFault}
 use Rattle.ib_heap.specs.declared.fault.PageFault.TheVariants.{Missing}
 use Rattle.ib_page.specs.Form.{page_of}
 use Rattle.ib_page.specs.Page.{PageValue, HoldsTree, HoldsPage, page_in}
 use Rattle.ib_page.specs.Page.PageValue.{Malformed as NoValue, Free as FreeValue, Tree as TreeValue}
-use Rattle.ib_page.specs.Image.{with_records, with_clock, IsTreePage, IsFormed, clock_of, next_of}
+use Rattle.ib_page.specs.Image.{with_records, with_clock, IsTreePage, IsFormed, clock_of, next_of, records_of}
 use Rattle.ib_page.specs.Work.{WorkPage, changed_of, with_changed}
 use Rattle.ib_heap.proofs.FormLaws.{tree_fits}
 use Rattle.ib_walk.specs.Pages.{Tree}
 use Rattle.ib_walk.specs.Words.{state_of}
+use Rattle.ib_plans.specs.Moves.{heap_without}
 use Rattle.ib_plans.specs.Agreement.{state_or_free, memory_in, Sets, tick}
 use Rattle.ib_plans.proofs.EditLaws.{state-clock, state-next}
 use Rattle.ib_merge.specs.Deletes.{without_record}
@@ -61,6 +64,17 @@ removed-is (Err fault) key old new tree removed missing only same =
     is-none : (o : Option ℕ) → IsNone o → o ≡ None
     is-none None h = refl
     is-none (Some x) h = absurd (cc)
+
+-- .. and the heap
+pub removed-heap : (result : Result ℕ PageFault) (key : MapKey) (old new : List ℕ) → IfOk result (λ value. value_at key (records_of old) ≡ Some value)
+    → OnOk result (read_heap new ≡ remove_in (place_of key (records_of old)) (read_heap old)) → ((result ≡ Err Missing) ↔ IsNone (value_at key (records_of old)))
+    → IfErr result (λ fault. fault ≡ Missing) → OnErr result (new ≡ old) → read_heap new ≡ heap_without key (records_of old) (read_heap old)
+removed-heap (Ok value) key old new there heap missing only same = heap ∙ sym (ap (λ o. cond (is_some o) (remove_in (place_of key (records_of old)) (read_heap old)) (read_heap old)) there)
+removed-heap (Err fault) key old new there heap missing only same = ap read_heap same ∙ sym (absent (value_at key (records_of old)) (missing.0 (ap Err only)))
+  where
+    absent : (o : Option ℕ) → IsNone o → cond (is_some o) (remove_in (place_of key (records_of old)) (read_heap old)) (read_heap old) ≡ read_heap old
+    absent None h = refl
+    absent (Some x) h = absurd (cc)
 
 -- a page whose state is one of a tree is one of a tree
 state-tree : (v : PageValue) → (state_of v).kind ≡ Tree → HoldsTree v

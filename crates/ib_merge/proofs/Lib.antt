@@ -1,4 +1,5 @@
 pub mod ImageLaws
+pub mod MovedLaws
 pub mod BesideLaws
 pub mod GiveLaws
 pub mod MergeEdits

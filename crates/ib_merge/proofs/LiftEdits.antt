@@ -1,5 +1,5 @@
 -- The root at the end of a delete: it stays, or it takes the records of its one child.
-use Rattle.std.proofs.Common.{◌≡◌, ◌≢◌, ◌∙◌, ℕ, zero, suc, ◌+◌, ◌<◌, List, [], ◌∷◌, ◌++◌, length, length-append, refl, sym, ap, subst, inl, inr, Bool, true, false, cond, arith, eqb, ltb}
+use Rattle.std.proofs.Common.{◌≡◌, ◌≢◌, ◌∙◌, ℕ, zero, suc, ◌+◌, ◌<◌, List, [], ◌∷◌, ◌++◌, length, length-append, refl, sym, ap, subst, inl, inr, Option, Bool, true, false, cond, arith, eqb, ltb}
 use Rattle.std.specs.Prelude.{IsSome, IsSomeAnd, ◌&&◌}
 use Rattle.std.proofs.lemmas.Bool.{cases_eq, cases_lt, cases_Bool, lt-ltb, ltb-true, eqb-true}
 use Rattle.ib_map.specs.Keys.{MapKey, rank}
@@ -15,10 +15,12 @@ use Rattle.ib_walk.proofs.ChoiceLaws.{cond-eq, cond-ne}
 use Rattle.ib_walk.proofs.WalkLaws.{IsAlike}
 use Rattle.ib_plans.specs.Delete.{Shrinkage, lift_single, lifted}
 use Rattle.ib_plans.specs.Marks.{mark, ticked, with_bit, with_clock}
+use Rattle.ib_plans.specs.Moves.{Move, Fills, Frees, unmoved, with_move, HasMoved}
 use Rattle.ib_plans.specs.Merge.{first_child, freed_page, lift_page}
 use Rattle.ib_plans.specs.Agreement.{IsThere, state_or_free, memory_in, Agrees}
 use Rattle.ib_plans.proofs.ClockLaws.{ticked-alike}
 use Rattle.ib_plans.proofs.DeleteLaws.{IsDeletedBelow}
+use Rattle.ib_plans.proofs.MoveLaws.{with_move-own, with_move-other, filled-any, freed-any}
 use Rattle.ib_plans.proofs.PageLaws.{mark-own, mark-on}
 use Rattle.ib_plans.proofs.PathLaws.{PathPage, PathPage-child}
 use Rattle.ib_merge.specs.Deletes.{lowered, CanLift, IsLifted, IsClimbed}
@@ -30,8 +32,8 @@ use Rattle.ib_merge.proofs.WayLaws.{there-reads}
 
 -- what was come to, as the pages of the plan
 pub IsClimbed-at : (m : PageMemory) (bits : ℕ → ℕ) (height page : ℕ) (s : Shrinkage) (freed : List ℕ) (old new : List WorkPage) → IsAt m bits height page s freed old new
-    → IsClimbed freed m s.memory s.bits bits s.touched old new
-IsClimbed-at m bits height page s freed old new x = record { reads = x.reads; there = x.there; same = x.same; space = x.space; bits_are = x.bits_are; taken = x.taken; zero = x.zero_is }
+    → IsClimbed freed m s.memory s.bits bits s.touched s.moves old new
+IsClimbed-at m bits height page s freed old new x = record { reads = x.reads; there = x.there; same = x.same; moved = x.moved; space = x.space; bits_are = x.bits_are; taken = x.taken; zero = x.zero_is }
 
 -- a list of one record
 pub one-record : (rs : Pairs) → length rs ≡ 1 → (y : MapKey × ℕ) × (rs ≡ y ∷ [])
@@ -192,7 +194,26 @@ module _ (pages roots root : ℕ) (key : MapKey) (path : List ℕ) (old : List W
         ]
       ]
 
-      climbed : IsClimbed (freed ++ child ∷ []) m planned (with_bit child 0 s.bits) bits t-all old new
+      abbrev m-all : ℕ → Move
+      m-all = with_move child Frees (with_move root Fills s.moves)
+
+      root-fills : (moves : ℕ → Move) → with_move child Frees (with_move root Fills moves) root ≡ Fills
+      root-fills moves = with_move-other child Frees (with_move root Fills moves) root child-is.apart ∙ with_move-own root Fills moves root refl
+
+      moved-new : (n : ℕ) → n ≢ 0 → HasMoved (m-all n) (changed_of n old) (changed_of n new)
+      moved-new n nz = elim (cases_eq n child) [
+        | inl e ↦ subst (λ (mv : Move). HasMoved mv (changed_of n old) (changed_of n new)) (sym (with_move-own child Frees (with_move root Fills s.moves) n e)) (freed-any (changed_of n old) (changed_of n new))
+        | inr nc ↦ elim (cases_eq n root) [
+          | inl e ↦ subst (λ q. HasMoved (m-all q) (changed_of q old) (changed_of q new)) (sym e)
+              (subst (λ (mv : Move). HasMoved mv (changed_of root old) (changed_of root new)) (sym (root-fills s.moves))
+              (filled-any (changed_of root old) (changed_of root mid) (changed_of root new) root-at
+              (subst (λ (mv : Move). HasMoved mv (changed_of root mid) (changed_of root new)) (root-fills unmoved) (lift.moved root))))
+          | inr nr ↦ subst (λ (mv : Move). HasMoved mv (changed_of n old) (changed_of n new)) (sym (with_move-other child Frees (with_move root Fills s.moves) n nc ∙ with_move-other root Fills s.moves n nr))
+              (subst (λ (o : Option (List ℕ)). HasMoved (s.moves n) (changed_of n old) o) (sym (lifted-others root child mid new root-at child-at child-is.apart lift n nr nc)) (x.moved n nz))
+        ]
+      ]
+
+      climbed : IsClimbed (freed ++ child ∷ []) m planned (with_bit child 0 s.bits) bits t-all m-all old new
       climbed = record {
         reads = lifted-reads root child mid new root-at child-at child-is.apart lift ∙ x.reads;
         there = λ n nz on. elim (mark-split 0 (mark child (mark root s.touched)) n on) [
@@ -206,6 +227,7 @@ module _ (pages roots root : ℕ) (key : MapKey) (path : List ℕ) (old : List W
           ]
         ];
         same = same-new;
+        moved = moved-new;
         space = lifted-others root child mid new root-at child-at child-is.apart lift 0 (λ e. root-some (sym e)) (λ e. child-is.some (sym e)) ∙ x.space;
         bits_are = λ n. ap (λ k. cond (eqb n child) 0 k) (x.bits_are n) ∙ sym (ap (λ (f : ℕ → ℕ). f n) (with_bits-last freed child bits));
         taken = AreTaken-last freed child bits x.taken (λ z. child-set (x.bits_are child ∙ z)) child-few;
@@ -214,12 +236,12 @@ module _ (pages roots root : ℕ) (key : MapKey) (path : List ℕ) (old : List W
 
     -- what a lift leaves
     pub IsClimbed-lift : (q : ℕ) (new : List WorkPage) → q ≡ first_child (memory_in mid root).records → IsLifted root q mid new
-        → let u = lift_single root s in IsClimbed (freed ++ q ∷ []) m u.memory u.bits bits u.touched old new
+        → let u = lift_single root s in IsClimbed (freed ++ q ∷ []) m u.memory u.bits bits u.touched u.moves old new
     IsClimbed-lift q new e lift =
         let c = first-is q e in
         let l : IsLifted root child mid new = subst (λ k. IsLifted root k mid new) c lift in
         let f : first_child (s.memory root).records ≡ child = ap first_child one.1 in
-        let k : IsClimbed (freed ++ child ∷ []) m (lifted s root child).memory (lifted s root child).bits bits (lifted s root child).touched old new = climbed new l in
+        let k : IsClimbed (freed ++ child ∷ []) m (lifted s root child).memory (lifted s root child).bits bits (lifted s root child).touched (lifted s root child).moves old new = climbed new l in
         let r : lift_single root s ≡ lifted s root child = root-lifts ∙ ap (lifted s root) f in
-        subst (λ (n : ℕ). IsClimbed (freed ++ n ∷ []) m (lift_single root s).memory (lift_single root s).bits bits (lift_single root s).touched old new) (sym c)
-        (subst (λ (u : Shrinkage). IsClimbed (freed ++ child ∷ []) m u.memory u.bits bits u.touched old new) (sym r) k)
+        subst (λ (n : ℕ). IsClimbed (freed ++ n ∷ []) m (lift_single root s).memory (lift_single root s).bits bits (lift_single root s).touched (lift_single root s).moves old new) (sym c)
+        (subst (λ (u : Shrinkage). IsClimbed (freed ++ child ∷ []) m u.memory u.bits bits u.touched u.moves old new) (sym r) k)

@@ -11,6 +11,7 @@ use Rattle.ib_page.specs.Space.{space_clock_of}
 use Rattle.ib_page.specs.Work.{WorkPage, changed_of, with_changed}
 use Rattle.ib_walk.specs.Pages.{Tree, PageState, PageMemory}
 use Rattle.ib_plans.specs.Marks.{ticked, with_bit}
+use Rattle.ib_plans.specs.Moves.{Move, Takes, Fills, Frees, unmoved, with_move, HasMoved}
 use Rattle.ib_plans.specs.Split.{with_records, with_prev}
 use Rattle.ib_plans.specs.Merge.{Siblings, siblings_of, fit_one, freed_page}
 use Rattle.ib_plans.specs.Delete.{planned_delete}
@@ -54,7 +55,7 @@ pub record CanDelete (path : List ℕ) (key : MapKey) (work : List WorkPage) : T
 abbrev pub IsPlannedForAll : List ℕ → MapKey → List WorkPage → List WorkPage → Type 0
 IsPlannedForAll path key old new = (pages roots root : ℕ) (memory : PageMemory) (bits : ℕ → ℕ)
     → Agrees pages roots root key path old memory bits
-    → let s = planned_delete memory bits key root in IsPlanned pages memory s.memory s.bits s.touched old new
+    → let s = planned_delete memory bits key root in IsPlanned pages memory s.memory s.bits s.touched s.moves old new
 
 -- a page without the record of a key
 abbrev pub without_record : MapKey → PageState → PageState
@@ -118,6 +119,7 @@ pub record IsJoined (left gone : ℕ) (old new : List WorkPage) : Type 0 where
   pub one : List WorkPage
   pub left_is : Sets left (joined (memory_in old left) (memory_in old gone)) old one
   pub gone_is : Sets gone (freed_page (memory_in old gone)) one new
+  pub filled : HasMoved Fills (changed_of left old) (changed_of left one)
 
 -- .. and the parent has lost the record of the page that is gone, a leaf behind is linked back to the left one, and the clock of the sibling has ticked
 pub record IsMerged (parent left : ℕ) (gone : MapKey × ℕ) (beside : ℕ) (old new : List WorkPage) : Type 0 where
@@ -129,6 +131,7 @@ pub record IsMerged (parent left : ℕ) (gone : MapKey × ℕ) (beside : ℕ) (o
   pub alone : (memory_in old gone.1).next ≡ 0 → four ≡ three
   pub next : (memory_in old gone.1).next ≢ 0 → Sets (memory_in old gone.1).next (tick (with_prev left (memory_in old (memory_in old gone.1).next))) three four
   pub beside_is : Sets beside (tick (memory_in four beside)) four new
+  pub moved : (n : ℕ) → HasMoved (with_move gone.1 Frees (with_move left Fills (with_move parent (Takes gone.0) unmoved)) n) (changed_of n old) (changed_of n new)
 
 -- a root that has one child may be lifted
 pub record CanLift (root : ℕ) (work : List WorkPage) : Type 0 where
@@ -143,6 +146,7 @@ pub record IsLifted (root child : ℕ) (old new : List WorkPage) : Type 0 where
   pub one : List WorkPage
   pub root_is : Sets root (lowered (memory_in old root) (memory_in old child)) old one
   pub child_is : Sets child (freed_page (memory_in old child)) one new
+  pub moved : (n : ℕ) → HasMoved (with_move child Frees (with_move root Fills unmoved) n) (changed_of n old) (changed_of n new)
 
 -- these pages have their bits set, one after the other
 abbrev pub AreTaken : (ℕ → ℕ) → List ℕ → Type 0
@@ -166,11 +170,12 @@ pub record GivesPages (given : List ℕ) (old new : List WorkPage) : Type 0 wher
   pub clock : space_clock_of image ≡ space_clock_of was + 1
   pub behind : (i : ℕ) → 64 < i → slice_index image i ≡ slice_index was i
 
--- the tree's pages are those of the plan, all but page 0, which is as it was; these pages were freed
-pub record IsClimbed (freed : List ℕ) (memory planned : PageMemory) (bits before : ℕ → ℕ) (touched : ℕ → Bool) (old new : List WorkPage) : Type 0 where
+-- the tree's pages are those of the plan, and their records stand as it moves them, all but page 0, which is as it was; these pages were freed
+pub record IsClimbed (freed : List ℕ) (memory planned : PageMemory) (bits before : ℕ → ℕ) (touched : ℕ → Bool) (moves : ℕ → Move) (old new : List WorkPage) : Type 0 where
   pub reads : reads_of new ≡ reads_of old
   pub there : (page : ℕ) → page ≢ 0 → touched page ≡ true → IsThere new page
   pub same : (page : ℕ) → page ≢ 0 → IsThere new page → memory_in new page ≡ ticked memory touched planned page
+  pub moved : (page : ℕ) → page ≢ 0 → HasMoved (moves page) (changed_of page old) (changed_of page new)
   pub space : changed_of 0 new ≡ changed_of 0 old
   pub bits_are : (page : ℕ) → bits page ≡ with_bits freed 0 before page
   pub taken : AreTaken before freed
@@ -180,4 +185,4 @@ pub record IsClimbed (freed : List ℕ) (memory planned : PageMemory) (bits befo
 abbrev pub IsClimbedForAll : List ℕ → MapKey → List ℕ → List WorkPage → List WorkPage → Type 0
 IsClimbedForAll path key freed old new = (pages roots root : ℕ) (memory : PageMemory) (bits : ℕ → ℕ)
     → Agrees pages roots root key path old memory bits
-    → let s = planned_delete memory bits key root in IsClimbed freed memory s.memory s.bits bits s.touched old new
+    → let s = planned_delete memory bits key root in IsClimbed freed memory s.memory s.bits bits s.touched s.moves old new

@@ -8,6 +8,7 @@ ghost use Rattle.ib_page.specs.declared.space.TheConstants.{MAPPED_PAGES};
 ghost use Rattle.ib_page.specs.Image.{IsTreePage};
 ghost use Rattle.ib_page.specs.Work.{changed_of};
 ghost use Rattle.ib_plans.specs.Merge.{first_child};
+ghost use Rattle.ib_plans.specs.Moves.{HasMoved, Takes, Stays};
 ghost use Rattle.ib_plans.specs.Split.{with_prev};
 ghost use Rattle.ib_plans.specs.Agreement.{memory_in, Sets, tick, taken_bits, with_bits};
 ghost use Rattle.ib_merge.specs.Deletes.{without_record, CanMerge, IsJoined, IsMerged, CanLift, IsLifted, AreTaken, MayGivePages, GivesPages};
@@ -30,7 +31,8 @@ pub(crate) struct Merger {
 pub(crate) fn take_record(work: &mut WorkSet, page: u32, key: Key)
     requires tree { IsSomeAnd (changed_of page work.old) IsTreePage }
     requires clock { (memory_in work.old page).clock < 2 ^ 63 }
-    ensures { Sets page (tick (without_record key (memory_in work.old page))) work.old work.new }
+    ensures set { Sets page (tick (without_record key (memory_in work.old page))) work.old work.new }
+    ensures taken { HasMoved (Takes key) (changed_of page work.old) (changed_of page work.new) }
 {
     let image = work.edit(page);
     let _ = image.remove(key);
@@ -71,6 +73,7 @@ fn link_behind(work: &mut WorkSet, next: u32, prev: u32)
     requires clock { next ≢ 0 → (memory_in work.old next).clock < 2 ^ 63 }
     ensures alone { next ≡ 0 → work.new ≡ work.old }
     ensures linked { next ≢ 0 → Sets next (tick (with_prev prev (memory_in work.old next))) work.old work.new }
+    ensures stays { next ≢ 0 → HasMoved Stays (changed_of next work.old) (changed_of next work.new) }
 {
     if next != 0 {
         link_back(work, next, prev);

@@ -109,7 +109,7 @@ module _ (m : PageMemory) (bits : ℕ → ℕ) (roots : ℕ) (law : IsLawful m b
         HasSiblings-of key (s.memory page).records some-record (omega arith)
 
     -- nothing more happens
-    stay : (lost : Bool) → IsDeletedBelow m roots key root (suc height) page (record { memory = s.memory; bits = s.bits; touched = s.touched; lost = lost })
+    stay : (lost : Bool) → IsDeletedBelow m roots key root (suc height) page (record { memory = s.memory; bits = s.bits; touched = s.touched; moves = s.moves; lost = lost })
     stay lost = record {
       lawful = was.lawful;
       kind = ap (λ (p : PageState). p.kind) PathAbove-delete.same ∙ PathAbove-delete.kind;

@@ -28,3 +28,5 @@ pub mod DeleteLaws
 pub mod DeletePlanLaws
 pub mod SettledLaws
 pub mod EditLaws
+pub mod MoveLaws
+pub mod StayLaws

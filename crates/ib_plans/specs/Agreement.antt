@@ -12,6 +12,7 @@ use Rattle.ib_walk.specs.Words.{state_of}
 use Rattle.ib_walk.specs.Search.{child_for}
 use Rattle.ib_walk.specs.Trees.{height_of, free_page, IsLawful}
 use Rattle.ib_plans.specs.Marks.{ticked, with_bit}
+use Rattle.ib_plans.specs.Moves.{Move, HasMoved}
 
 -- the state of an image, where there is one
 abbrev pub state_or_free : Option (List ℕ) → PageState
@@ -61,11 +62,12 @@ reads_of work = map (λ w. (w.page, w.before)) work
 abbrev pub space_ticks : (ℕ → Bool) → ℕ
 space_ticks touched = if touched 0 then 1 else 0
 
--- the changed images are those of a plan: each page that is touched is there, the pages that are there are as planned, with their clocks ticked, and the space page has the planned bits. The images as read stay
-pub record IsPlanned (pages : ℕ) (memory planned : PageMemory) (bits : ℕ → ℕ) (touched : ℕ → Bool) (old new : List WorkPage) : Type 0 where
+-- the changed images are those of a plan: each page that is touched is there, the pages that are there are as planned, with their clocks ticked, their records stand as the plan moves them, and the space page has the planned bits. The images as read stay
+pub record IsPlanned (pages : ℕ) (memory planned : PageMemory) (bits : ℕ → ℕ) (touched : ℕ → Bool) (moves : ℕ → Move) (old new : List WorkPage) : Type 0 where
   pub reads : reads_of new ≡ reads_of old
   pub there : (page : ℕ) → touched page ≡ true → IsThere new page
   pub same : (page : ℕ) → page ≢ 0 → IsThere new page → memory_in new page ≡ ticked memory touched planned page
+  pub moved : (page : ℕ) → page ≢ 0 → HasMoved (moves page) (changed_of page old) (changed_of page new)
   pub space : IfSome (changed_of 0 new) (HasBits pages bits)
   pub clock : IfSome (changed_of 0 old) (λ was. IfSome (changed_of 0 new) (λ image. space_clock_of image ≡ space_clock_of was + space_ticks touched))
 

@@ -8,19 +8,21 @@ use Rattle.ib_walk.specs.Pages.{PageMemory, with_page}
 use Rattle.ib_walk.specs.Trees.{height_of}
 use Rattle.ib_walk.specs.Search.{child_for}
 use Rattle.ib_plans.specs.Marks.{untouched, mark, with_bit}
+use Rattle.ib_plans.specs.Moves.{Move, Takes, Fills, Frees, unmoved, with_move}
 use Rattle.ib_plans.specs.Split.{with_records, next_or}
 use Rattle.ib_plans.specs.Merge.{Siblings, siblings_of, fit_one, merge_pages, first_child, lift_page}
 
--- how far a delete has come: the pages, the bits, which pages it has touched, and whether the page that it has come to has lost a record
+-- how far a delete has come: the pages, the bits, which pages it has touched, how their records moved, and whether the page that it has come to has lost a record
 pub record Shrinkage : Type 0 where
   pub memory : PageMemory
   pub bits : ℕ → ℕ
   pub touched : ℕ → Bool
+  pub moves : ℕ → Move
   pub lost : Bool
 
 -- no page above loses a record
 abbrev pub settled : Shrinkage → Shrinkage
-settled s = record { memory = s.memory; bits = s.bits; touched = s.touched; lost = false }
+settled s = record { memory = s.memory; bits = s.bits; touched = s.touched; moves = s.moves; lost = false }
 
 -- two pages under a parent are merged
 abbrev pub merged : Shrinkage → ℕ → ℕ → MapKey × ℕ → Shrinkage
@@ -28,6 +30,7 @@ merged s parent left gone = record {
   memory = merge_pages s.memory parent left gone;
   bits = with_bit gone.1 0 s.bits;
   touched = mark 0 (mark gone.1 (mark left (mark parent (mark (next_or gone.1 (s.memory gone.1)) s.touched))));
+  moves = with_move gone.1 Frees (with_move left Fills (with_move parent (Takes gone.0) s.moves));
   lost = true;
 }
 
@@ -57,7 +60,7 @@ drop_at memory page key = with_page memory page (with_records (without key (memo
 
 -- the pair is gone from the key's leaf, and each page below this one, which has this height, that lost a record and had few is merged where it could be
 abbrev pub delete_below : PageMemory → (ℕ → ℕ) → MapKey → ℕ → ℕ → Shrinkage
-delete_below memory bits key zero page = record { memory = drop_at memory page key; bits = bits; touched = mark page untouched; lost = true }
+delete_below memory bits key zero page = record { memory = drop_at memory page key; bits = bits; touched = mark page untouched; moves = with_move page (Takes key) unmoved; lost = true }
 delete_below memory bits key (suc height) page = merge_short key page (delete_below memory bits key height (child_for key 0 (memory page).records))
 
 -- the root takes the place of this child
@@ -66,6 +69,7 @@ lifted s root child = record {
   memory = lift_page s.memory root child;
   bits = with_bit child 0 s.bits;
   touched = mark 0 (mark child (mark root s.touched));
+  moves = with_move child Frees (with_move root Fills s.moves);
   lost = false;
 }
 

@@ -9,13 +9,15 @@ use Rattle.ib_walk.specs.Pages.{PageMemory, with_page}
 use Rattle.ib_walk.specs.Trees.{height_of}
 use Rattle.ib_walk.specs.Search.{child_for}
 use Rattle.ib_plans.specs.Marks.{untouched, mark, with_bit}
-use Rattle.ib_plans.specs.Split.{with_records, next_or, split_page, raise_page}
+use Rattle.ib_plans.specs.Moves.{Move, Puts, Fills, unmoved, with_move}
+use Rattle.ib_plans.specs.Split.{with_records, right_part, first_key, next_or, split_page, raise_page}
 
--- how far an insert has come: the pages, the bits, which pages it has touched, and the fresh pages that are left
+-- how far an insert has come: the pages, the bits, which pages it has touched, how their records moved, and the fresh pages that are left
 pub record Growth : Type 0 where
   pub memory : PageMemory
   pub bits : ℕ → ℕ
   pub touched : ℕ → Bool
+  pub moves : ℕ → Move
   pub fresh : List ℕ
 
 -- the first of the fresh pages, and the others
@@ -37,6 +39,7 @@ split parent child g = record {
   memory = split_page g.memory parent child (first_of g.fresh);
   bits = with_bit (first_of g.fresh) 1 g.bits;
   touched = mark 0 (mark (first_of g.fresh) (mark child (mark parent (mark (next_or (first_of g.fresh) (g.memory child)) g.touched))));
+  moves = with_move (first_of g.fresh) Fills (with_move child Fills (with_move parent (Puts (first_key (right_part (g.memory child).records))) g.moves));
   fresh = rest_of g.fresh;
 }
 
@@ -46,7 +49,7 @@ split_long parent child g = if nat_lt MOST_RECORDS (length (g.memory child).reco
 
 -- the pair is in the key's leaf, and every page below this one, which has this height, is short enough
 abbrev pub insert_below : PageMemory → (ℕ → ℕ) → List ℕ → MapKey → ℕ → ℕ → ℕ → Growth
-insert_below memory bits fresh key value zero page = record { memory = put_at memory page key value; bits = bits; touched = mark page untouched; fresh = fresh }
+insert_below memory bits fresh key value zero page = record { memory = put_at memory page key value; bits = bits; touched = mark page untouched; moves = with_move page (Puts key) unmoved; fresh = fresh }
 insert_below memory bits fresh key value (suc height) page =
     split_long page (child_for key 0 (memory page).records) (insert_below memory bits fresh key value height (child_for key 0 (memory page).records))
 
@@ -56,6 +59,7 @@ raised root g = record {
   memory = raise_page g.memory root (first_of g.fresh) (first_of (rest_of g.fresh));
   bits = with_bit (first_of (rest_of g.fresh)) 1 (with_bit (first_of g.fresh) 1 g.bits);
   touched = mark 0 (mark (first_of g.fresh) (mark (first_of (rest_of g.fresh)) (mark root g.touched)));
+  moves = with_move (first_of g.fresh) Fills (with_move (first_of (rest_of g.fresh)) Fills (with_move root Fills g.moves));
   fresh = rest_of (rest_of g.fresh);
 }
 

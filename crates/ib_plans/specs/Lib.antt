@@ -1,4 +1,5 @@
 pub mod Marks
+pub mod Moves
 pub mod Split
 pub mod Insert
 pub mod Merge

@@ -7,6 +7,7 @@ ghost use Rattle.ib_page.specs.Image.{IsTreePage};
 ghost use Rattle.ib_page.specs.Page.PageValue.{Tree};
 ghost use Rattle.ib_page.specs.Work.{changed_of};
 ghost use Rattle.ib_plans.specs.Agreement.{IsThere, Sets, memory_in, tick};
+ghost use Rattle.ib_plans.specs.Moves.{HasMoved, Stays};
 ghost use Rattle.ib_plans.specs.Split.{with_prev};
 
 use ib_page::{Image, WorkSet};
@@ -31,12 +32,13 @@ pub fn empty_page(level: u32, clock: u64) -> Image
     }
 }
 
-/// Links a leaf back to another one. Its clock ticks.
+/// Links a leaf back to another one, 0 for none. Its clock, which is below 2^63, ticks.
 pub fn link_back(work: &mut WorkSet, page: u32, prev: u32)
     requires tree { IsSomeAnd (changed_of page work.old) IsTreePage }
     requires leaf { (memory_in work.old page).level ≡ 0 }
     requires clock { (memory_in work.old page).clock < 2 ^ 63 }
-    ensures { Sets page (tick (with_prev prev (memory_in work.old page))) work.old work.new }
+    ensures set { Sets page (tick (with_prev prev (memory_in work.old page))) work.old work.new }
+    ensures stays { HasMoved Stays (changed_of page work.old) (changed_of page work.new) }
 {
     let image = work.edit(page);
     let next = image.next();

@@ -13,7 +13,7 @@ use Rattle.ib_heap.specs.Heap.{read_heap}
 use Rattle.ib_page.specs.Form.{page_of}
 use Rattle.ib_page.specs.Page.{PageValue, HoldsTree, page_in}
 use Rattle.ib_page.specs.Page.PageValue.{Malformed, Free, Tree}
-use Rattle.ib_page.specs.Image.{records_of, with_records, with_links, with_clock}
+use Rattle.ib_page.specs.Image.{records_of, with_records, with_links, with_level, with_clock}
 use Rattle.ib_map.specs.declared.key.TheConstants.{LEAST}
 use Rattle.ib_map.proofs.KeyLaws.{rank-least, rank-lt_end}
 use Rattle.ib_map.proofs.PairLaws.{length-put, Rises-put}
@@ -113,6 +113,14 @@ pub filled_with : (result : Result (Unit {0}) PageFault) (key : MapKey) (value :
 filled_with (Ok x) key value old mid new tree inserted heap = heap ∙ ap filled (ap length (ap (λ q. (page_in q).records) inserted ∙ records-with_records (page_of old) (put key value (records_of old)) tree) ∙ length-put key value (records_of old))
 filled_with (Err e) key value old mid new tree inserted heap = tt
 
+-- a record that is not there, and for which there is room, is put in
+pub put-done : (P : Type 0) (result : Result (Unit {0}) PageFault) (key : MapKey) (xs : Pairs) → value_at key xs ≡ None → length xs < MOST_RECORDS
+    → ((result ≡ Err Duplicate) ↔ IsSome (value_at key xs)) → ((result ≡ Err PageFull) ↔ (IsNone (value_at key xs) × (length xs ≡ MOST_RECORDS))) → (result ≡ Err Missing → ⊥) → OnOk result P → P
+put-done P (Ok x) key xs absent room duplicate full never p = p
+put-done P (Err Duplicate) key xs absent room duplicate full never p = absurd (let there = duplicate.0 refl in cc)
+put-done P (Err PageFull) key xs absent room duplicate full never p = absurd (let many = (full.0 refl).1 in omega arith)
+put-done P (Err Missing) key xs absent room duplicate full never p = absurd (never refl)
+
 -- a page with these records, into which a record was put
 pub put-twice : (key : MapKey) (value : ℕ) (v mid new : PageValue) (xs ys : Pairs) → HoldsTree v → mid ≡ with_records xs v
     → new ≡ with_records (put key value (page_in mid).records) mid → ys ≡ put key value xs → new ≡ with_records ys v
@@ -126,6 +134,11 @@ pub records-with_links : (prev next : ℕ) (v : PageValue) → (page_in (with_li
 records-with_links prev next (Tree p) = refl
 records-with_links prev next (Free clock) = refl
 records-with_links prev next Malformed = refl
+
+pub records-with_level : (level : ℕ) (v : PageValue) → (page_in (with_level level v)).records ≡ (page_in v).records
+records-with_level level (Tree p) = refl
+records-with_level level (Free clock) = refl
+records-with_level level Malformed = refl
 
 pub records-with_clock : (clock : ℕ) (v : PageValue) → (page_in (with_clock clock v)).records ≡ (page_in v).records
 records-with_clock clock (Tree p) = refl

@@ -1,5 +1,6 @@
 pub mod HalfLaws
 pub mod SplitEdits
+pub mod RaiseEdits
 pub mod BitLaws
 pub mod FreeLaws
 pub mod WayLaws

@@ -15,22 +15,26 @@ use Rattle.ib_walk.specs.Full.{need_of}
 use Rattle.ib_walk.proofs.ChoiceLaws.{cond-eq, cond-ne}
 use Rattle.ib_walk.proofs.SearchLaws.{above}
 use Rattle.ib_plans.specs.Marks.{mark, untouched, with_clock, ticked}
+use Rattle.ib_plans.specs.Moves.{Move, Puts, unmoved, with_move, HasMoved}
 use Rattle.ib_plans.specs.Split.{with_records}
 use Rattle.ib_plans.specs.Insert.{Growth, AreFresh, insert_below, put_at}
 use Rattle.ib_plans.specs.Agreement.{IsThere, memory_in, reads_of, with_bits}
 use Rattle.ib_plans.proofs.InsertLaws.{IsInsertedBelow}
+use Rattle.ib_plans.proofs.MoveLaws.{still}
 use Rattle.ib_plans.proofs.NeedLaws.{IsInsertedBelow-need}
 use Rattle.ib_plans.proofs.PathLaws.{PathPage, PathPage-below}
 
--- The record (k, v) belongs into this page, at this height, and all below it is done. `memory` are the pages of the plan without that record, and `touched` those that it has touched, page 0 apart. Of the fresh pages as many are used as there are levels below. The work set has these pages, with their clocks ticked
+-- The record (k, v) belongs into this page, at this height, and all below it is done. `memory` are the pages of the plan without that record, `touched` those that it has touched, page 0 apart, and `moves` how their records moved. Of the fresh pages as many are used as there are levels below. The work set has these pages, with their clocks ticked and their records moved
 pub record IsPending (key : MapKey) (value : ℕ) (fresh : List ℕ) (old : List WorkPage) (m : PageMemory) (bits : ℕ → ℕ) (height page : ℕ) (k : MapKey) (v : ℕ) (work : List WorkPage) : Type 0 where
   pub memory : PageMemory
   pub touched : ℕ → Bool
   pub memory_is : (n : ℕ) → (insert_below m bits fresh key value height page).memory n ≡ put_at memory page k v n
+  pub moves : ℕ → Move
   pub touched_is : (n : ℕ) → n ≢ 0 → (insert_below m bits fresh key value height page).touched n ≡ mark page touched n
   pub zero_is : (insert_below m bits fresh key value height page).touched 0 ≡ nat_lt 0 height
   pub fresh_is : (insert_below m bits fresh key value height page).fresh ≡ drop height fresh
   pub bits_is : (n : ℕ) → (insert_below m bits fresh key value height page).bits n ≡ with_bits (take height fresh) 1 bits n
+  pub moves_is : (n : ℕ) → (insert_below m bits fresh key value height page).moves n ≡ with_move page (Puts k) moves n
   pub few : height ≤ length fresh
   pub here : memory page ≡ m page
   pub clean : (n : ℕ) → n ≢ 0 → (m n).kind ≡ Tree → height ≤ (m n).level → touched n ≡ false
@@ -40,6 +44,7 @@ pub record IsPending (key : MapKey) (value : ℕ) (fresh : List ℕ) (old : List
   pub kept : (n : ℕ) → n ≢ 0 → touched n ≡ false → changed_of n work ≡ changed_of n old
   pub there : (n : ℕ) → n ≢ 0 → touched n ≡ true → IsThere work n
   pub same : (n : ℕ) → n ≢ 0 → IsThere work n → memory_in work n ≡ ticked m touched memory n
+  pub moved : (n : ℕ) → n ≢ 0 → HasMoved (moves n) (changed_of n old) (changed_of n work)
 
 -- a key that was put into a list which still rises was not there
 pub value_at-put_rises : (key : MapKey) (value low : ℕ) (xs : Pairs) (high : ℕ) → Rises low (put key value xs) high → value_at key xs ≡ None
@@ -68,11 +73,13 @@ pub IsPending-leaf : (key : MapKey) (value : ℕ) (fresh : List ℕ) (old : List
 IsPending-leaf key value fresh old m bits page some agrees = record {
   memory = m;
   touched = untouched;
+  moves = unmoved;
   memory_is = λ n i. put_at m page key value n;
   touched_is = λ n here i. mark page untouched n;
   zero_is = cond-ne 0 page true false (λ e. some (sym e));
   fresh_is = λ i. fresh;
   bits_is = λ n i. bits n;
+  moves_is = λ n i. with_move page (Puts key) unmoved n;
   few = omega arith;
   here = λ i. m page;
   clean = λ n here kind level i. false;
@@ -82,6 +89,7 @@ IsPending-leaf key value fresh old m bits page some agrees = record {
   kept = λ n here off i. changed_of n old;
   there = λ n here on. absurd (cc);
   same = agrees;
+  moved = λ n some. still (changed_of n old);
 }
   where
     none : (xs : List ℕ) → AllByRecursion (λ q. untouched q ≡ false) xs

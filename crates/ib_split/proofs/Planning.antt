@@ -10,6 +10,7 @@ use Rattle.ib_walk.specs.Pages.{PageMemory}
 use Rattle.ib_walk.specs.Full.{free_from, chosen}
 use Rattle.ib_walk.proofs.ChoiceLaws.{cond-ne}
 use Rattle.ib_plans.specs.Marks.{with_bit}
+use Rattle.ib_plans.specs.Moves.{Move, HasMoved}
 use Rattle.ib_plans.specs.Insert.{AreFresh}
 use Rattle.ib_plans.specs.Agreement.{IsThere, state_or_free, reads_of, HasBits, IsPlanned, space_ticks, taken_bits, with_bits}
 use Rattle.ib_plans.proofs.EditLaws.{changed_of-same, changed_of-other, reads_of-changed}
@@ -65,8 +66,8 @@ if-some P o image holds is = let Q : Option (List ℕ) → Type 0 = λ q. IfSome
 some-if : (P : List ℕ → Type 0) (o : Option (List ℕ)) (image : List ℕ) → o ≡ Some image → P image → IfSome o P
 some-if P o image is holds = let Q : Option (List ℕ) → Type 0 = λ q. IfSome q P in subst Q (sym is) holds
 
-module _ (pages : ℕ) (few : pages ≤ MAPPED_PAGES) (used : List ℕ) (m planned : PageMemory) (bits after : ℕ → ℕ) (touched : ℕ → Bool) (old mid : List WorkPage)
-    (climbed : IsClimbed used m planned after bits touched old mid) (space : IfSome (changed_of 0 old) (HasBits pages bits)) (below : AllByRecursion (λ q. q < pages) used) where
+module _ (pages : ℕ) (few : pages ≤ MAPPED_PAGES) (used : List ℕ) (m planned : PageMemory) (bits after : ℕ → ℕ) (touched : ℕ → Bool) (moves : ℕ → Move) (old mid : List WorkPage)
+    (climbed : IsClimbed used m planned after bits touched moves old mid) (space : IfSome (changed_of 0 old) (HasBits pages bits)) (below : AllByRecursion (λ q. q < pages) used) where
   -- no page was taken: page 0 is as it was
   module _ (none : length used ≡ 0) where
     off : touched 0 ≡ false
@@ -79,7 +80,7 @@ module _ (pages : ℕ) (few : pages ≤ MAPPED_PAGES) (used : List ℕ) (m plann
     same-bits : (n : ℕ) → after n ≡ bits n
     same-bits n = climbed.bits_are n ∙ ap (λ xs. with_bits xs 1 bits n) (nothing used none)
 
-    pub planned-alone : IsPlanned pages m planned after touched old mid
+    pub planned-alone : IsPlanned pages m planned after touched moves old mid
     planned-alone = record {
       reads = climbed.reads;
       there = λ n on. elim (cases_eq n 0) [
@@ -87,6 +88,7 @@ module _ (pages : ℕ) (few : pages ≤ MAPPED_PAGES) (used : List ℕ) (m plann
         | inr ne ↦ climbed.there n ne on
       ];
       same = climbed.same;
+      moved = climbed.moved;
       space = still (changed_of 0 mid) (changed_of 0 old) climbed.space space;
       clock = kept (changed_of 0 mid) (changed_of 0 old) climbed.space;
     }
@@ -152,7 +154,7 @@ module _ (pages : ℕ) (few : pages ≤ MAPPED_PAGES) (used : List ℕ) (m plann
           bit-off true e = absurd (omega arith)
           bit-off false e = refl
 
-      pub planned-taken : IsPlanned pages m planned after touched old new
+      pub planned-taken : IsPlanned pages m planned after touched moves old new
       planned-taken = record {
         reads = ap reads_of takes.work ∙ (reads_of-changed 0 takes.image mid ∙ climbed.reads);
         there = λ n on. elim (cases_eq n 0) [
@@ -160,6 +162,7 @@ module _ (pages : ℕ) (few : pages ≤ MAPPED_PAGES) (used : List ℕ) (m plann
           | inr ne ↦ subst IsSome (sym (other-now n ne)) (climbed.there n ne on)
         ];
         same = λ n ne there. ap state_or_free (other-now n ne) ∙ climbed.same n ne (subst IsSome (other-now n ne) there);
+        moved = λ n ne. subst (λ (o : Option (List ℕ)). HasMoved (moves n) (changed_of n old) o) (sym (other-now n ne)) (climbed.moved n ne);
         space = some-if (HasBits pages after) (changed_of 0 new) takes.image image-now has-now;
         clock = some-if (λ was. IfSome (changed_of 0 new) (λ image. space_clock_of image ≡ space_clock_of was + space_ticks touched)) (changed_of 0 old) takes.was (sym climbed.space ∙ takes.before)
             (some-if (λ image. space_clock_of image ≡ space_clock_of takes.was + space_ticks touched) (changed_of 0 new) takes.image image-now

@@ -1,10 +1,10 @@
 -- The record that is left goes into its page, which has room: the plan is done.
-use Rattle.std.proofs.Common.{◌≡◌, ◌≢◌, ◌∙◌, ℕ, ◌+◌, ◌<◌, true, List, length, take, refl, sym, ap, subst, arith, inl, inr, length-take}
+use Rattle.std.proofs.Common.{◌≡◌, ◌≢◌, ◌∙◌, ℕ, ◌+◌, ◌<◌, true, List, length, take, refl, sym, ap, subst, arith, inl, inr, length-take, Option}
 use Rattle.std.specs.Prelude.{nat_lt, IsSome}
 use Rattle.std.proofs.lemmas.Bool.{cases_eq}
 use Rattle.ib_map.specs.Keys.{MapKey}
 use Rattle.ib_heap.specs.declared.TheConstants.{MOST_RECORDS}
-use Rattle.ib_page.specs.Work.{WorkPage}
+use Rattle.ib_page.specs.Work.{WorkPage, changed_of}
 use Rattle.ib_walk.specs.Pages.{PageState, PageMemory}
 use Rattle.ib_walk.specs.Search.{page_below}
 use Rattle.ib_walk.specs.Trees.{height_of}
@@ -12,8 +12,10 @@ use Rattle.ib_walk.proofs.ChoiceLaws.{cond-eq, cond-ne}
 use Rattle.ib_walk.proofs.SearchLaws.{above}
 use Rattle.ib_plans.specs.Marks.{with_clock, ticked}
 use Rattle.ib_plans.specs.Insert.{Growth, insert_below, planned_insert}
+use Rattle.ib_plans.specs.Moves.{Move, Puts, HasMoved}
 use Rattle.ib_plans.specs.Agreement.{IsThere, memory_in, Sets, tick}
 use Rattle.ib_plans.proofs.EditLaws.{set-reads, set-same, set-others, set-other, set-there, set-was}
+use Rattle.ib_plans.proofs.MoveLaws.{with_move-own, with_move-other}
 use Rattle.ib_plans.proofs.NeedLaws.{IsCounted-need}
 use Rattle.ib_plans.proofs.SettledLaws.{planned_insert-short}
 use Rattle.ib_split.specs.Inserts.{with_record, IsClimbed}
@@ -28,7 +30,8 @@ module _ (roots root : ℕ) (key : MapKey) (value : ℕ) (fresh : List ℕ) (old
       (on-path roots root key value fresh old m bits x height depth page tall at k v work p).some
       (clean-here roots root key value fresh old m bits x height depth page tall at k v work p) here
 
-  module _ (room : length (m page).records < MOST_RECORDS) (new : List WorkPage) (sets : Sets page (tick (with_record k v (memory_in work page))) work new) where
+  module _ (room : length (m page).records < MOST_RECORDS) (new : List WorkPage) (sets : Sets page (tick (with_record k v (memory_in work page))) work new)
+      (puts : HasMoved (Puts k) (changed_of page work) (changed_of page new)) where
     some : page ≢ 0
     some = (on-path roots root key value fresh old m bits x height depth page tall at k v work p).some
 
@@ -65,8 +68,18 @@ module _ (roots root : ℕ) (key : MapKey) (value : ℕ) (fresh : List ℕ) (old
       | inr ne ↦ p.there n ns (sym (p.touched_is n ns ∙ cond-ne n page true (p.touched n) ne) ∙ on)
     ])
 
+    moved-here : HasMoved (g.moves page) (changed_of page old) (changed_of page new)
+    moved-here =
+        subst (λ (mv : Move). HasMoved mv (changed_of page old) (changed_of page new)) (sym (p.moves_is page ∙ with_move-own page (Puts k) p.moves page refl))
+        (subst (λ (o : Option (List ℕ)). HasMoved (Puts k) o (changed_of page new)) (kept-here roots root key value fresh old m bits x height depth page tall at k v work p) puts)
+
+    moved-other : (n : ℕ) → n ≢ 0 → n ≢ page → HasMoved (g.moves n) (changed_of n old) (changed_of n new)
+    moved-other n ns ne =
+        subst (λ (mv : Move). HasMoved mv (changed_of n old) (changed_of n new)) (sym (p.moves_is n ∙ with_move-other page (Puts k) p.moves n ne))
+        (subst (λ (o : Option (List ℕ)). HasMoved (p.moves n) (changed_of n old) o) (sym (set-others page (tick (with_record k v (memory_in work page))) work new sets n (λ e. ne (sym e)))) (p.moved n ns))
+
     -- so the work set has the pages of the plan
-    climbed : IsClimbed (take height fresh) m g.memory g.bits bits g.touched old new
+    climbed : IsClimbed (take height fresh) m g.memory g.bits bits g.touched g.moves old new
     climbed = record {
       reads = set-reads page (tick (with_record k v (memory_in work page))) work new sets ∙ p.reads;
       there = there-after;
@@ -74,10 +87,14 @@ module _ (roots root : ℕ) (key : MapKey) (value : ℕ) (fresh : List ℕ) (old
         | inl e ↦ subst (λ q. memory_in new q ≡ ticked m g.touched g.memory q) (sym e) same-here
         | inr ne ↦ same-other n ns ne there
       ];
+      moved = λ n ns. elim (cases_eq n page) [
+        | inl e ↦ subst (λ q. HasMoved (g.moves q) (changed_of q old) (changed_of q new)) (sym e) moved-here
+        | inr ne ↦ moved-other n ns ne
+      ];
       space = set-others page (tick (with_record k v (memory_in work page))) work new sets 0 some ∙ p.space;
       bits_are = p.bits_is;
       zero = p.zero_is ∙ ap (nat_lt 0) (let t = length-take height fresh in let f = p.few in omega arith);
     }
 
-    pub put-climbed : let g = planned_insert m bits fresh key value root in IsClimbed (take height fresh) m g.memory g.bits bits g.touched old new
-    put-climbed = subst (λ (g : Growth). IsClimbed (take height fresh) m g.memory g.bits bits g.touched old new) (sym whole) climbed
+    pub put-climbed : let g = planned_insert m bits fresh key value root in IsClimbed (take height fresh) m g.memory g.bits bits g.touched g.moves old new
+    put-climbed = subst (λ (g : Growth). IsClimbed (take height fresh) m g.memory g.bits bits g.touched g.moves old new) (sym whole) climbed

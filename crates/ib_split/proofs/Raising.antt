@@ -14,6 +14,7 @@ use Rattle.ib_walk.specs.Trees.{height_of, most_height, top_of}
 use Rattle.ib_walk.specs.Full.{full_run, run_of, is_root_full}
 use Rattle.ib_walk.proofs.ChoiceLaws.{cond-eq, cond-ne}
 use Rattle.ib_plans.specs.Marks.{mark, with_bit, with_clock, ticked}
+use Rattle.ib_plans.specs.Moves.{Move, Puts, Fills, unmoved, with_move, HasMoved}
 use Rattle.ib_plans.specs.Split.{with_records, raise_page}
 use Rattle.ib_plans.specs.Insert.{Growth, AreFresh, first_of, rest_of, insert_below, planned_insert, raised}
 use Rattle.ib_plans.specs.Agreement.{IsThere, state_or_free, memory_in, tick, with_bits}
@@ -21,6 +22,7 @@ use Rattle.ib_plans.proofs.EditLaws.{IsSome-and, set-reads, set-same, set-others
 use Rattle.ib_plans.proofs.InsertLaws.{IsInsertedBelow, one_over}
 use Rattle.ib_plans.proofs.InsertPlanLaws.{raise_long-long}
 use Rattle.ib_plans.proofs.MetLaws.{clear-some}
+use Rattle.ib_plans.proofs.MoveLaws.{with_move-own, with_move-other, filled-any}
 use Rattle.ib_plans.proofs.NeedLaws.{IsCountedWhole, IsCountedWhole-need, full_run-le}
 use Rattle.ib_plans.proofs.PageLaws.{mark-on, mark-own}
 use Rattle.ib_plans.proofs.PathLaws.{PathPage}
@@ -237,6 +239,45 @@ module _ (roots root : ℕ) (key : MapKey) (value : ℕ) (fresh : List ℕ) (old
       abbrev touched_after : ℕ → Bool
       touched_after = mark 0 (mark a (mark b (mark root g.touched)))
 
+      abbrev moves_after : ℕ → Move
+      moves_after = with_move a Fills (with_move b Fills (with_move root Fills g.moves))
+
+      -- the three pages are filled anew, and all other records stand as they did
+      module _ (moves : ℕ → Move) where
+        move-left : with_move a Fills (with_move b Fills (with_move root Fills moves)) a ≡ Fills
+        move-left = with_move-own a Fills (with_move b Fills (with_move root Fills moves)) a refl
+
+        move-right : with_move a Fills (with_move b Fills (with_move root Fills moves)) b ≡ Fills
+        move-right = with_move-other a Fills (with_move b Fills (with_move root Fills moves)) b (λ e. free.2 (sym e)) ∙ with_move-own b Fills (with_move root Fills moves) b refl
+
+        move-root : with_move a Fills (with_move b Fills (with_move root Fills moves)) root ≡ Fills
+        move-root = with_move-other a Fills (with_move b Fills (with_move root Fills moves)) root root-not_left
+            ∙ (with_move-other b Fills (with_move root Fills moves) root root-not_right ∙ with_move-own root Fills moves root refl)
+
+        move-other : (n : ℕ) → n ≢ root → n ≢ a → n ≢ b → with_move a Fills (with_move b Fills (with_move root Fills moves)) n ≡ moves n
+        move-other n nr na nb = with_move-other a Fills (with_move b Fills (with_move root Fills moves)) n na
+            ∙ (with_move-other b Fills (with_move root Fills moves) n nb ∙ with_move-other root Fills moves n nr)
+
+      filled-at : (n : ℕ) → IsThere work n → ((moves : ℕ → Move) → with_move a Fills (with_move b Fills (with_move root Fills moves)) n ≡ Fills) → HasMoved (moves_after n) (changed_of n old) (changed_of n new)
+      filled-at n there fills =
+          subst (λ (mv : Move). HasMoved mv (changed_of n old) (changed_of n new)) (sym (fills g.moves))
+          (filled-any (changed_of n old) (changed_of n work) (changed_of n new) there
+          (subst (λ (mv : Move). HasMoved mv (changed_of n work) (changed_of n new)) (fills unmoved) (is.moved n)))
+
+      moved-after : (n : ℕ) → n ≢ 0 → HasMoved (moves_after n) (changed_of n old) (changed_of n new)
+      moved-after n ns = elim (cases_eq n a) [
+        | inl e ↦ subst (λ q. HasMoved (moves_after q) (changed_of q old) (changed_of q new)) (sym e) (filled-at a work-left move-left)
+        | inr na ↦ elim (cases_eq n b) [
+          | inl e ↦ subst (λ q. HasMoved (moves_after q) (changed_of q old) (changed_of q new)) (sym e) (filled-at b work-right move-right)
+          | inr nb ↦ elim (cases_eq n root) [
+            | inl e ↦ subst (λ q. HasMoved (moves_after q) (changed_of q old) (changed_of q new)) (sym e) (filled-at root work-root move-root)
+            | inr nr ↦
+                subst (λ (mv : Move). HasMoved mv (changed_of n old) (changed_of n new)) (sym (move-other g.moves n nr na nb ∙ (p.moves_is n ∙ with_move-other root (Puts k) p.moves n nr)))
+                (subst (λ (o : Option (List ℕ)). HasMoved (p.moves n) (changed_of n old) o) (sym (after-other n nr na nb)) (p.moved n ns))
+          ]
+        ]
+      ]
+
       on-left : touched_after a ≡ true
       on-left = mark-on 0 (mark a (mark b (mark root g.touched))) a (mark-own a (mark b (mark root g.touched)) a refl)
 
@@ -305,11 +346,12 @@ module _ (roots root : ℕ) (key : MapKey) (value : ℕ) (fresh : List ℕ) (old
         ]
       ]
 
-      climbed : IsClimbed (take (height + 2) fresh) m pages_after (raised root g).bits bits touched_after old new
+      climbed : IsClimbed (take (height + 2) fresh) m pages_after (raised root g).bits bits touched_after moves_after old new
       climbed = record {
         reads = set-reads b right-state is.two new is.at_right ∙ (set-reads a left-state is.one is.two is.at_left ∙ (set-reads root root-state work is.one is.at_root ∙ p.reads));
         there = there-after;
         same = same-after;
+        moved = moved-after;
         space = after-other 0 (λ e. path.some (sym e)) (λ e. a-some (sym e)) (λ e. b-some (sym e)) ∙ p.space;
         bits_are = λ n.
             let more : with_bits (take (height + 2) fresh) 1 bits n ≡ with_bits (take (suc (suc height)) fresh) 1 bits n =
@@ -324,5 +366,5 @@ module _ (roots root : ℕ) (key : MapKey) (value : ℕ) (fresh : List ℕ) (old
           bits-path : (c d : ℕ → ℕ) → ((i : ℕ) → c i ≡ d i) → c ≡ d
           bits-path c d h j i = h i j
 
-      pub raise-climbed : let G = planned_insert m bits fresh key value root in IsClimbed (take (height + 2) fresh) m G.memory G.bits bits G.touched old new
-      raise-climbed = subst (λ (G : Growth). IsClimbed (take (height + 2) fresh) m G.memory G.bits bits G.touched old new) (sym whole) climbed
+      pub raise-climbed : let G = planned_insert m bits fresh key value root in IsClimbed (take (height + 2) fresh) m G.memory G.bits bits G.touched G.moves old new
+      raise-climbed = subst (λ (G : Growth). IsClimbed (take (height + 2) fresh) m G.memory G.bits bits G.touched G.moves old new) (sym whole) climbed

@@ -1,18 +1,24 @@
 -- The pages that a split sets, one after the other.
-use Rattle.std.proofs.Common.{◌≡◌, ◌≢◌, ◌∙◌, ℕ, ◌<◌, ◌^◌, List, sym, ap, subst, inl, inr, Option, Some}
+use Rattle.std.proofs.Common.{◌≡◌, ◌≢◌, ◌∙◌, ℕ, ◌+◌, ◌-◌, ◌<◌, ◌^◌, List, refl, sym, ap, subst, inl, inr, Option, Some}
 use Rattle.std.proofs.lemmas.Bool.{cases_eq}
-use Rattle.std.specs.Prelude.{IsSomeAnd}
+use Rattle.std.specs.Prelude.{IsSome, IsSomeAnd}
 use Rattle.ib_map.specs.Keys.{MapKey}
 use Rattle.ib_map.specs.Pairs.{put}
+use Rattle.ib_heap.specs.declared.TheConstants.{MOST_RECORDS}
+use Rattle.ib_heap.specs.Filled.{filled}
+use Rattle.ib_heap.specs.Heap.{read_heap}
 use Rattle.ib_page.specs.Form.{page_of}
 use Rattle.ib_page.specs.Image.{IsTreePage, clock_of, records_of}
 use Rattle.ib_page.specs.Work.{WorkPage, changed_of, with_changed}
 use Rattle.ib_heap.proofs.FormLaws.{formed-tree}
 use Rattle.ib_walk.specs.Pages.{PageState}
 use Rattle.ib_walk.specs.Words.{state_of}
+use Rattle.ib_plans.specs.declared.TheConstants.{LEFT_RECORDS}
+use Rattle.ib_plans.specs.Moves.{Move, Stays, Fills, unmoved, with_move, HasMoved}
 use Rattle.ib_plans.specs.Split.{with_prev, right_part, first_key}
 use Rattle.ib_plans.specs.Agreement.{IsThere, state_or_free, memory_in, reads_of, Sets, tick}
-use Rattle.ib_plans.proofs.EditLaws.{changed_of-other, state-records, set-reads, set-same, set-others, set-other, set-there, set-was}
+use Rattle.ib_plans.proofs.EditLaws.{IsSome-and, changed_of-same, changed_of-other, state-records, set-reads, set-same, set-others, set-other, set-there, set-was}
+use Rattle.ib_plans.proofs.MoveLaws.{with_move-own, with_move-other, moved-still, then-still-was, filled-now}
 use Rattle.ib_split.specs.Inserts.{with_record, lower_half, upper_half, HasNeighbour, IsSplit}
 
 -- the leaf behind a page that is split is another one, and so as it was
@@ -38,7 +44,8 @@ module _ (page fresh : ℕ) (key : MapKey) (value : ℕ) (old : List WorkPage) (
     (there : changed_of page old ≡ Some was) (clock : clock_of empty ≡ (memory_in old fresh).clock)
     (left_is : state_of (page_of left) ≡ tick (lower_half (with_record key value (state_of (page_of was))) fresh)) (left_tree : IsTreePage left)
     (right_is : state_of (page_of right) ≡ tick (upper_half (with_record key value (state_of (page_of was))) page (clock_of empty))) (right_tree : IsTreePage right)
-    (first_is : first ≡ first_key (right_part (put key value (records_of was)))) where
+    (first_is : first ≡ first_key (right_part (put key value (records_of was))))
+    (left_heap : read_heap left ≡ filled LEFT_RECORDS) (right_heap : read_heap right ≡ filled (MOST_RECORDS + 1 - LEFT_RECORDS)) (free_there : IsThere old fresh) where
   here : memory_in old page ≡ state_of (page_of was)
   here = ap state_or_free there
 
@@ -68,6 +75,31 @@ module _ (page fresh : ℕ) (key : MapKey) (value : ℕ) (old : List WorkPage) (
   key-is : first ≡ first_key (right_part (put key value (memory_in old page).records))
   key-is = first_is ∙ ap (λ rs. first_key (right_part (put key value rs))) (sym (ap (λ (p : PageState). p.records) here ∙ state-records (page_of was)))
 
+  -- both halves are filled anew, and all other pages are as they were
+  halved-page : changed_of page (with_changed fresh right (with_changed page left old)) ≡ Some left
+  halved-page = changed_of-other fresh page right (with_changed page left old) (λ e. apart (sym e)) ∙ changed_of-same page left old (subst IsSome (sym there) refl)
+
+  halved-fresh : changed_of fresh (with_changed fresh right (with_changed page left old)) ≡ Some right
+  halved-fresh = changed_of-same fresh right (with_changed page left old) (subst IsSome (sym (changed_of-other page fresh left old apart)) free_there)
+
+  halved-other : (n : ℕ) → n ≢ page → n ≢ fresh → changed_of n (with_changed fresh right (with_changed page left old)) ≡ changed_of n old
+  halved-other n np nf = changed_of-other fresh n right (with_changed page left old) (λ e. nf (sym e)) ∙ changed_of-other page n left old (λ e. np (sym e))
+
+  halved-moved : (n : ℕ) → HasMoved (with_move fresh Fills (with_move page Fills unmoved) n) (changed_of n old) (changed_of n (with_changed fresh right (with_changed page left old)))
+  halved-moved n = elim (cases_eq n fresh) [
+    | inl e ↦
+        subst (λ (mv : Move). HasMoved mv (changed_of n old) (changed_of n (with_changed fresh right (with_changed page left old)))) (sym (with_move-own fresh Fills (with_move page Fills unmoved) n e))
+        (filled-now (changed_of n old) (changed_of n (with_changed fresh right (with_changed page left old))) right (MOST_RECORDS + 1 - LEFT_RECORDS) (ap (λ q. changed_of q (with_changed fresh right (with_changed page left old))) e ∙ halved-fresh) right_heap)
+    | inr nf ↦ elim (cases_eq n page) [
+      | inl e ↦
+          subst (λ (mv : Move). HasMoved mv (changed_of n old) (changed_of n (with_changed fresh right (with_changed page left old)))) (sym (with_move-other fresh Fills (with_move page Fills unmoved) n nf ∙ with_move-own page Fills unmoved n e))
+          (filled-now (changed_of n old) (changed_of n (with_changed fresh right (with_changed page left old))) left LEFT_RECORDS (ap (λ q. changed_of q (with_changed fresh right (with_changed page left old))) e ∙ halved-page) left_heap)
+      | inr np ↦
+          subst (λ (mv : Move). HasMoved mv (changed_of n old) (changed_of n (with_changed fresh right (with_changed page left old)))) (sym (with_move-other fresh Fills (with_move page Fills unmoved) n nf ∙ with_move-other page Fills unmoved n np))
+          (moved-still (changed_of n old) (changed_of n (with_changed fresh right (with_changed page left old))) (halved-other n np nf))
+    ]
+  ]
+
   -- no leaf stands behind
   pub split-alone : (memory_in old page).next ≡ 0 → IsSplit page fresh key value old first (with_changed fresh right (with_changed page left old))
   split-alone none = record {
@@ -78,12 +110,14 @@ module _ (page fresh : ℕ) (key : MapKey) (value : ℕ) (old : List WorkPage) (
     alone = λ z i. with_changed fresh right (with_changed page left old);
     next = λ some. absurd (some none);
     key_is = key-is;
+    moved = halved-moved;
   }
 
   pub split-beside : (new : List WorkPage) (next : ℕ) → next ≡ (memory_in old page).next → next ≢ 0 → HasNeighbour page fresh old
       → Sets next (tick (with_prev fresh (memory_in (with_changed fresh right (with_changed page left old)) next))) (with_changed fresh right (with_changed page left old)) new
+      → HasMoved Stays (changed_of next (with_changed fresh right (with_changed page left old))) (changed_of next new)
       → IsSplit page fresh key value old first new
-  split-beside new next is some beside sets = record {
+  split-beside new next is some beside sets stays = record {
     one = with_changed page left old;
     two = with_changed fresh right (with_changed page left old);
     left = left-sets;
@@ -93,6 +127,14 @@ module _ (page fresh : ℕ) (key : MapKey) (value : ℕ) (old : List WorkPage) (
         (subst (λ (p : PageState). Sets next (tick (with_prev fresh p)) (with_changed fresh right (with_changed page left old)) new)
         (ap state_or_free (neighbour-kept page fresh old left right next is some beside)) sets);
     key_is = key-is;
+    moved = λ n. then-still-was (with_move fresh Fills (with_move page Fills unmoved) n) (changed_of n old) (changed_of n (with_changed fresh right (with_changed page left old))) (changed_of n new)
+        (set-was next (tick (with_prev fresh (memory_in (with_changed fresh right (with_changed page left old)) next))) (with_changed fresh right (with_changed page left old)) new sets n
+        (subst IsSome (ap (λ q. changed_of q old) (sym is) ∙ sym (neighbour-kept page fresh old left right next is some beside)) (IsSome-and IsTreePage _ (beside.there (λ z. some (is ∙ z))))))
+        (halved-moved n) (elim (cases_eq n next) [
+          | inl e ↦ subst (λ q. HasMoved Stays (changed_of q (with_changed fresh right (with_changed page left old))) (changed_of q new)) (sym e) stays
+          | inr ne ↦ moved-still (changed_of n (with_changed fresh right (with_changed page left old))) (changed_of n new)
+              (set-others next (tick (with_prev fresh (memory_in (with_changed fresh right (with_changed page left old)) next))) (with_changed fresh right (with_changed page left old)) new sets n (λ e. ne (sym e)))
+        ]);
   }
 
 -- what a split leaves of each page

@@ -18,6 +18,7 @@ use Rattle.ib_walk.specs.Trees.{height_of}
 use Rattle.ib_walk.proofs.ChoiceLaws.{cond-eq, cond-ne}
 use Rattle.ib_walk.proofs.SearchLaws.{above, above-zero}
 use Rattle.ib_plans.specs.Marks.{mark, with_bit, with_clock, ticked}
+use Rattle.ib_plans.specs.Moves.{Move, Puts, Fills, unmoved, with_move, HasMoved}
 use Rattle.ib_plans.specs.Split.{with_records, with_prev, right_part, first_key, next_or, split_page}
 use Rattle.ib_plans.specs.Insert.{Growth, first_of, rest_of, insert_below, put_at, split}
 use Rattle.ib_plans.specs.Agreement.{IsThere, state_or_free, memory_in, tick, with_bits}
@@ -25,6 +26,7 @@ use Rattle.ib_plans.proofs.EditLaws.{IsSome-and}
 use Rattle.ib_plans.proofs.InsertLaws.{AreFresh-first, AreFresh-each, split_long-long, split-pages, page-after_split}
 use Rattle.ib_plans.proofs.LevelLaws.{above-suc}
 use Rattle.ib_plans.proofs.LinkLaws.{NextLeaf, NextLeaf-leaf_for, next_or-apart, next_or-next}
+use Rattle.ib_plans.proofs.MoveLaws.{with_move-own, with_move-other, then-still-was, filled-any}
 use Rattle.ib_plans.proofs.NeedLaws.{IsCounted-need}
 use Rattle.ib_plans.proofs.PageLaws.{mark-off, mark-on, mark-own}
 use Rattle.ib_plans.proofs.PathLaws.{PathPage, PathPage-below, page_below-child}
@@ -297,6 +299,9 @@ module _ (roots root : ℕ) (key : MapKey) (value : ℕ) (fresh : List ℕ) (old
       abbrev touched_after : ℕ → Bool
       touched_after = mark f (mark page (mark (next_or f (g.memory page)) p.touched))
 
+      abbrev moves_after : ℕ → Move
+      moves_after = with_move f Fills (with_move page Fills p.moves)
+
       parent-other : (n : ℕ) → (m n).kind ≡ Tree → suc height ≤ (m n).level → (n ≢ f) × (n ≢ page) × (n ≢ next_or f (g.memory page))
       parent-other n kind level =
           let not_fresh : n ≢ f = λ e. (let a = ap (λ i. (m i).kind) e in let b = fresh-kind in cc) in
@@ -432,6 +437,50 @@ module _ (roots root : ℕ) (key : MapKey) (value : ℕ) (fresh : List ℕ) (old
         ]
       ]
 
+      -- both halves are filled anew, and all other records stand as they did
+      moved-after : (n : ℕ) → n ≢ 0 → HasMoved (moves_after n) (changed_of n old) (changed_of n new)
+      moved-after n ns = elim (cases_eq n f) [
+        | inl e ↦ subst (λ q. HasMoved (moves_after q) (changed_of q old) (changed_of q new)) (sym e)
+            (subst (λ (mv : Move). HasMoved mv (changed_of f old) (changed_of f new)) (sym (with_move-own f Fills (with_move page Fills p.moves) f refl))
+            (filled-any (changed_of f old) (changed_of f work) (changed_of f new) work-free
+            (subst (λ (mv : Move). HasMoved mv (changed_of f work) (changed_of f new)) (with_move-own f Fills (with_move page Fills unmoved) f refl) (is.moved f))))
+        | inr nf ↦ elim (cases_eq n page) [
+          | inl e ↦
+              let on : (moves : ℕ → Move) → with_move f Fills (with_move page Fills moves) page ≡ Fills = (λ moves. with_move-other f Fills (with_move page Fills moves) page page-not_fresh ∙ with_move-own page Fills moves page refl) in
+              subst (λ q. HasMoved (moves_after q) (changed_of q old) (changed_of q new)) (sym e)
+              (subst (λ (mv : Move). HasMoved mv (changed_of page old) (changed_of page new)) (sym (on p.moves))
+              (filled-any (changed_of page old) (changed_of page work) (changed_of page new) work-there
+              (subst (λ (mv : Move). HasMoved mv (changed_of page work) (changed_of page new)) (on unmoved) (is.moved page))))
+          | inr np ↦
+              let off : (moves : ℕ → Move) → with_move f Fills (with_move page Fills moves) n ≡ moves n = (λ moves. with_move-other f Fills (with_move page Fills moves) n nf ∙ with_move-other page Fills moves n np) in
+              subst (λ (mv : Move). HasMoved mv (changed_of n old) (changed_of n new)) (sym (off p.moves))
+              (then-still-was (p.moves n) (changed_of n old) (changed_of n work) (changed_of n new) (after-was n) (p.moved n ns)
+              (subst (λ (mv : Move). HasMoved mv (changed_of n work) (changed_of n new)) (off unmoved) (is.moved n)))
+        ]
+      ]
+
+      -- the moves of a split, with the parent's in front
+      moves-turn : (n : ℕ) → with_move f Fills (with_move page Fills (with_move parent (Puts first) g.moves)) n ≡ with_move parent (Puts first) moves_after n
+      moves-turn n = elim (cases_eq n parent) [
+        | inl e ↦
+            let nf : n ≢ f = (λ z. parent-not_fresh g.memory height parent page f the-pages (sym e ∙ z)) in
+            let np : n ≢ page = (λ z. parent-not_child g.memory height parent page f the-pages (sym e ∙ z)) in
+            with_move-other f Fills (with_move page Fills (with_move parent (Puts first) g.moves)) n nf ∙ (with_move-other page Fills (with_move parent (Puts first) g.moves) n np
+            ∙ (with_move-own parent (Puts first) g.moves n e ∙ sym (with_move-own parent (Puts first) moves_after n e)))
+        | inr ne ↦ elim (cases_eq n f) [
+          | inl e ↦ with_move-own f Fills (with_move page Fills (with_move parent (Puts first) g.moves)) n e ∙ sym (with_move-other parent (Puts first) moves_after n ne ∙ with_move-own f Fills (with_move page Fills p.moves) n e)
+          | inr nf ↦ elim (cases_eq n page) [
+            | inl e ↦
+                with_move-other f Fills (with_move page Fills (with_move parent (Puts first) g.moves)) n nf ∙ (with_move-own page Fills (with_move parent (Puts first) g.moves) n e
+                ∙ sym (with_move-other parent (Puts first) moves_after n ne ∙ (with_move-other f Fills (with_move page Fills p.moves) n nf ∙ with_move-own page Fills p.moves n e)))
+            | inr np ↦
+                with_move-other f Fills (with_move page Fills (with_move parent (Puts first) g.moves)) n nf ∙ (with_move-other page Fills (with_move parent (Puts first) g.moves) n np
+                ∙ (with_move-other parent (Puts first) g.moves n ne ∙ (p.moves_is n ∙ (with_move-other page (Puts k) p.moves n np
+                ∙ sym (with_move-other parent (Puts first) moves_after n ne ∙ (with_move-other f Fills (with_move page Fills p.moves) n nf ∙ with_move-other page Fills p.moves n np))))))
+          ]
+        ]
+      ]
+
       -- the fresh pages that are left are still free
       unused-after : AllByRecursion (λ q. touched_after q ≡ false) (drop (suc height) fresh)
       unused-after =
@@ -454,7 +503,7 @@ module _ (roots root : ℕ) (key : MapKey) (value : ℕ) (fresh : List ℕ) (old
 
       -- what is left then
       pending : (G : Growth) → G ≡ split parent page g → (memory_is : (n : ℕ) → G.memory n ≡ put_at pages_after parent first f n) × ((n : ℕ) → n ≢ 0 → G.touched n ≡ mark parent touched_after n) × (G.touched 0 ≡ nat_lt 0 (suc height))
-          × (G.fresh ≡ drop (suc height) fresh) × ((n : ℕ) → G.bits n ≡ with_bits (take (suc height) fresh) 1 bits n)
+          × (G.fresh ≡ drop (suc height) fresh) × ((n : ℕ) → G.bits n ≡ with_bits (take (suc height) fresh) 1 bits n) × ((n : ℕ) → G.moves n ≡ with_move parent (Puts first) moves_after n)
       pending G e = (
         (λ n. ap (λ (q : Growth). q.memory n) e ∙ memory-after n),
         (λ n ns. ap (λ (q : Growth). q.touched n) e ∙ (ap (λ b. cond (eqb n 0) true (cond (eqb n f) true (cond (eqb n page) true (cond (eqb n parent) true (cond (eqb n (next_or f (g.memory page))) true b))))) (p.touched_is n ns)
@@ -462,6 +511,7 @@ module _ (roots root : ℕ) (key : MapKey) (value : ℕ) (fresh : List ℕ) (old
         ap (λ (q : Growth). q.touched 0) e ∙ sym (lt-ltb 0 (suc height) (omega arith)),
         ap (λ (q : Growth). q.fresh) e ∙ (ap rest_of p.fresh_is ∙ rest_of-drop height fresh),
         (λ n. ap (λ (q : Growth). q.bits n) e ∙ (ap (λ b. cond (eqb n f) 1 b) (p.bits_is n) ∙ (ap (λ q. with_bit q 1 (with_bits (take height fresh) 1 bits) n) fresh-at ∙ sym (with_bits-more height fresh bits n height-few)))),
+        (λ n. ap (λ (q : Growth). q.moves n) e ∙ (ap (λ j. with_move f Fills (with_move page Fills (with_move parent (Puts j) g.moves)) n) (sym first-is) ∙ moves-turn n)),
       )
 
       pub split-pending : IsPending key value fresh old m bits (suc height) parent first f new
@@ -470,11 +520,13 @@ module _ (roots root : ℕ) (key : MapKey) (value : ℕ) (fresh : List ℕ) (old
           record {
             memory = pages_after;
             touched = touched_after;
+            moves = moves_after;
             memory_is = q.0;
             touched_is = q.1;
             zero_is = q.2;
             fresh_is = q.3;
             bits_is = q.4;
+            moves_is = q.5;
             few = height-few;
             here = cond-eq parent parent (m parent) (split_page g.memory parent page f parent) refl;
             clean = λ n ns kind level. let o = parent-other n kind level in
@@ -486,4 +538,5 @@ module _ (roots root : ℕ) (key : MapKey) (value : ℕ) (fresh : List ℕ) (old
             kept = λ n ns off. let u = untouched-after n off in after-other n u.1 u.0 (not-next n u.2) ∙ p.kept n ns u.3;
             there = there-after;
             same = same-after;
+            moved = moved-after;
           }

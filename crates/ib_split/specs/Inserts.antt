@@ -14,6 +14,7 @@ use Rattle.ib_walk.specs.Full.{need_of, is_root_full, free_of, chosen}
 use Rattle.ib_plans.specs.Split.{with_records, with_prev, left_part, right_part, first_key}
 use Rattle.ib_plans.specs.Insert.{planned_insert, AreFresh}
 use Rattle.ib_plans.specs.Marks.{ticked}
+use Rattle.ib_plans.specs.Moves.{Move, Fills, unmoved, with_move, HasMoved}
 use Rattle.ib_plans.specs.Agreement.{IsThere, memory_in, reads_of, Agrees, IsPlanned, Sets, tick, HasTreePages, MayTick, last_of, taken_bits, with_bits}
 
 -- the fresh pages are the lowest free ones, as many as the insert takes, and it raises no root that is as high as it may be
@@ -44,7 +45,7 @@ pub record CanInsert (path fresh : List ℕ) (key : MapKey) (work : List WorkPag
 -- the plan of the insert, for a memory whose pages these are
 abbrev pub IsPlannedInsert : List ℕ → MapKey → ℕ → ℕ → ℕ → PageMemory → (ℕ → ℕ) → List WorkPage → List WorkPage → Type 0
 IsPlannedInsert fresh key value pages root memory bits old new =
-    let g = planned_insert memory bits fresh key value root in IsPlanned pages memory g.memory g.bits g.touched old new
+    let g = planned_insert memory bits fresh key value root in IsPlanned pages memory g.memory g.bits g.touched g.moves old new
 
 -- .. for every such memory
 abbrev pub IsPlannedForAll : List ℕ → List ℕ → MapKey → ℕ → List WorkPage → List WorkPage → Type 0
@@ -117,6 +118,7 @@ pub record IsSplit (page fresh : ℕ) (key : MapKey) (value : ℕ) (old : List W
   pub alone : (memory_in old page).next ≡ 0 → new ≡ two
   pub next : (memory_in old page).next ≢ 0 → Sets (memory_in old page).next (tick (with_prev fresh (memory_in old (memory_in old page).next))) two new
   pub key_is : first ≡ first_key (right_part (put key value (memory_in old page).records))
+  pub moved : (n : ℕ) → HasMoved (with_move fresh Fills (with_move page Fills unmoved) n) (changed_of n old) (changed_of n new)
 
 -- a full root was raised
 pub record IsRaised (root left right : ℕ) (key : MapKey) (value : ℕ) (old new : List WorkPage) : Type 0 where
@@ -125,6 +127,7 @@ pub record IsRaised (root left right : ℕ) (key : MapKey) (value : ℕ) (old ne
   pub at_root : Sets root (tick (raised_root (with_record key value (memory_in old root)) left right)) old one
   pub at_left : Sets left (tick (raised_left (with_record key value (memory_in old root)) right (memory_in old left).clock)) one two
   pub at_right : Sets right (tick (raised_right (with_record key value (memory_in old root)) left (memory_in old right).clock)) two new
+  pub moved : (n : ℕ) → HasMoved (with_move left Fills (with_move right Fills (with_move root Fills unmoved)) n) (changed_of n old) (changed_of n new)
 
 -- the leaf behind a page is there, and is another page than this one and the fresh one
 pub record HasNeighbour (page fresh : ℕ) (work : List WorkPage) : Type 0 where
@@ -186,11 +189,12 @@ pub record TakesPages (taken : List ℕ) (old new : List WorkPage) : Type 0 wher
   pub clock : space_clock_of image ≡ space_clock_of was + 1
   pub behind : (i : ℕ) → 64 < i → slice_index image i ≡ slice_index was i
 
--- the tree's pages are those of the plan, all but page 0, which is as it was; these fresh pages were used, and the plan has taken them
-pub record IsClimbed (used : List ℕ) (memory planned : PageMemory) (bits before : ℕ → ℕ) (touched : ℕ → Bool) (old new : List WorkPage) : Type 0 where
+-- the tree's pages are those of the plan, and their records stand as it moves them, all but page 0, which is as it was; these fresh pages were used, and the plan has taken them
+pub record IsClimbed (used : List ℕ) (memory planned : PageMemory) (bits before : ℕ → ℕ) (touched : ℕ → Bool) (moves : ℕ → Move) (old new : List WorkPage) : Type 0 where
   pub reads : reads_of new ≡ reads_of old
   pub there : (page : ℕ) → page ≢ 0 → touched page ≡ true → IsThere new page
   pub same : (page : ℕ) → page ≢ 0 → IsThere new page → memory_in new page ≡ ticked memory touched planned page
+  pub moved : (page : ℕ) → page ≢ 0 → HasMoved (moves page) (changed_of page old) (changed_of page new)
   pub space : changed_of 0 new ≡ changed_of 0 old
   pub bits_are : (page : ℕ) → bits page ≡ with_bits used 1 before page
   pub zero : touched 0 ≡ nat_lt 0 (length used)
@@ -199,4 +203,4 @@ pub record IsClimbed (used : List ℕ) (memory planned : PageMemory) (bits befor
 abbrev pub IsClimbedForAll : List ℕ → List ℕ → MapKey → ℕ → ℕ → List WorkPage → List WorkPage → Type 0
 IsClimbedForAll path fresh key value used old new = (pages roots root : ℕ) (memory : PageMemory) (bits : ℕ → ℕ)
     → Agrees pages roots root key path old memory bits → HasFresh pages roots root key fresh memory bits
-    → let g = planned_insert memory bits fresh key value root in IsClimbed (take used fresh) memory g.memory g.bits bits g.touched old new
+    → let g = planned_insert memory bits fresh key value root in IsClimbed (take used fresh) memory g.memory g.bits bits g.touched g.moves old new

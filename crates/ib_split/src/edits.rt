@@ -2,7 +2,9 @@
 
 ghost use Rattle.std.specs.Prelude.{◌≡◌, ◌<◌, ◌≤◌, ℕ, length, slice_index};
 ghost use Rattle.ib_page.specs.declared.space.TheConstants.{MAPPED_PAGES};
+ghost use Rattle.ib_page.specs.Work.{changed_of};
 ghost use Rattle.ib_plans.specs.Insert.{AreFresh};
+ghost use Rattle.ib_plans.specs.Moves.{HasMoved, Puts};
 ghost use Rattle.ib_plans.specs.Agreement.{memory_in, Sets, tick, taken_bits, with_bits};
 ghost use Rattle.ib_split.specs.Inserts.{with_record, CanPut, CanSplit, IsSplit, CanRaise, IsRaised, MayTakePages, TakesPages};
 
@@ -14,7 +16,8 @@ use ib_plans::{empty_page, image_of, link_back};
 // Puts a record into a page of the tree that has room for it.
 pub(crate) fn put_record(work: &mut WorkSet, page: u32, key: Key, value: u64)
     requires { CanPut page key work.old }
-    ensures { Sets page (tick (with_record key value (memory_in work.old page))) work.old work.new }
+    ensures set { Sets page (tick (with_record key value (memory_in work.old page))) work.old work.new }
+    ensures put { HasMoved (Puts key) (changed_of page work.old) (changed_of page work.new) }
 {
     let image = work.edit(page);
     let _ = image.insert(key, value);

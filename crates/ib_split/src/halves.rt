@@ -78,6 +78,7 @@ pub(crate) fn raise_images(
     ensures root_tree { IsTreePage root.new }
     ensures low_tree { IsTreePage low.new }
     ensures high_tree { IsTreePage high.new }
+    ensures root_heap { read_heap root.new ≡ filled 2 }
     ensures low_heap { read_heap low.new ≡ filled LEFT_RECORDS }
     ensures high_heap { read_heap high.new ≡ filled (MOST_RECORDS + 1 - LEFT_RECORDS) }
 {
@@ -93,18 +94,20 @@ pub(crate) fn raise_images(
 fn give_children(root: &mut Image, left: u32, first: Key, right: u32)
     requires tree { IsTreePage root.old }
     requires empty { records_of root.old ≡ [] }
+    requires empty_heap { read_heap root.old ≡ filled 0 }
     requires above { rank LEAST < rank first }
     requires lowest { level_of root.old < MOST_LEVEL }
     requires no_prev { prev_of root.old ≡ 0 }
     requires no_next { next_of root.old ≡ 0 }
     requires clock { clock_of root.old < 2 ^ 63 }
-    ensures { page_of root.new ≡ Tree (record {
+    ensures page { page_of root.new ≡ Tree (record {
       level = level_of root.old + 1;
       prev = 0;
       next = 0;
       clock = clock_of root.old + 1;
       records = (LEAST, left) ∷ (first, right) ∷ [];
     }) }
+    ensures heap { read_heap root.new ≡ filled 2 }
 {
     root.set_level(root.level() + 1);
     let _ = root.insert(LEAST, left as u64);

@@ -2,10 +2,12 @@
 use Rattle.std.proofs.Common.{refl, ◌≡◌, ℕ, ◌^◌, ◌<◌, ◌∙◌, List, length, sym, ap, subst, arith}
 use Rattle.ib_map.specs.Pairs.{value_at}
 use Rattle.ib_map.specs.declared.call.Change.TheVariants.{Insert}
+use Rattle.ib_heap.specs.Heap.{read_heap}
 use Rattle.ib_page.specs.Form.{page_of}
 use Rattle.ib_page.specs.Image.{IsTreePage, clock_of, records_of}
 use Rattle.ib_page.specs.Work.{WorkPage, with_changed}
 use Rattle.ib_walk.specs.Words.{state_of}
+use Rattle.ib_plans.specs.Moves.{Puts, IsMovedHeap}
 use Rattle.ib_kept.specs.Kept.{IsKeptLog}
 use Rattle.ib_kept.specs.LeafChange.{with_pair}
 use Rattle.ib_mtr.specs.Commits.{MayCommit}
@@ -48,8 +50,10 @@ returns-clause-put c =
     let p = c.args.mtr.now.pass.now in let sizes = c.args.mtr.now.latches.now.sizes in let r = c.requires in
     let same = image-got sizes r.seated.fits c.args.key c.ranges.key.fits c.args.leaf p r.at c.edit.result.now c.edit.ensures.image in
     let put : state_of (page_of c.put_pair.new.image) ≡ with_pair c.args.key c.args.value (state_of (page_of r.at.image)) =
-    c.put_pair.ensures ∙ ap (λ (ws : List ℕ). with_pair c.args.key c.args.value (state_of (page_of ws))) same in
+    c.put_pair.ensures.page ∙ ap (λ (ws : List ℕ). with_pair c.args.key c.args.value (state_of (page_of ws))) same in
+    let moved : IsMovedHeap (Puts c.args.key) (records_of r.at.image) (read_heap r.at.image) (read_heap c.put_pair.new.image) =
+    subst (λ (ws : List ℕ). IsMovedHeap (Puts c.args.key) (records_of ws) (read_heap ws) (read_heap c.put_pair.new.image)) same c.put_pair.ensures.heap in
     let may = subst (λ (w : List WorkPage). MayCommit (IsKeptLog sizes.pages) (with_work w p) (Insert c.args.key c.args.value))
     (sym (work-is sizes c.args.key c.ranges.key.fits c.args.leaf p r.at r.seated c.put_pair.new.image))
-    (may-insert sizes c.args.key c.ranges.key.fits c.args.leaf p r.at r.seated r.grows c.args.value c.put_pair.new.image r.missing r.room put) in
+    (may-insert sizes c.args.key c.ranges.key.fits c.args.leaf p r.at r.seated r.grows c.args.value c.put_pair.new.image r.missing r.room put moved) in
     (with_changed c.args.leaf c.put_pair.new.image p.work, refl, may)

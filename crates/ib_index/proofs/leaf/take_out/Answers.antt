@@ -3,10 +3,12 @@ use Rattle.std.proofs.Common.{refl, ◌≡◌, ℕ, ◌^◌, ◌<◌, ◌∙◌,
 use Rattle.std.specs.Prelude.{IsSome}
 use Rattle.ib_map.specs.Pairs.{value_at}
 use Rattle.ib_map.specs.declared.call.Change.TheVariants.{Delete}
+use Rattle.ib_heap.specs.Heap.{read_heap}
 use Rattle.ib_page.specs.Form.{page_of}
 use Rattle.ib_page.specs.Image.{IsTreePage, clock_of, records_of}
 use Rattle.ib_page.specs.Work.{WorkPage, with_changed}
 use Rattle.ib_walk.specs.Words.{state_of}
+use Rattle.ib_plans.specs.Moves.{Takes, IsMovedHeap}
 use Rattle.ib_kept.specs.Kept.{IsKeptLog}
 use Rattle.ib_kept.specs.LeafChange.{without_pair}
 use Rattle.ib_mtr.specs.Commits.{MayCommit}
@@ -48,8 +50,10 @@ returns-clause-taken c =
     let same = image-got sizes r.seated.fits c.args.key c.ranges.key.fits c.args.leaf p r.at c.edit.result.now c.edit.ensures.image in
     let some = some-value (value_at c.args.key (leaf_page sizes c.args.key p).records) r.there in
     let taken : state_of (page_of c.take_pair.new.image) ≡ without_pair c.args.key (state_of (page_of r.at.image)) =
-    c.take_pair.ensures ∙ ap (λ (ws : List ℕ). without_pair c.args.key (state_of (page_of ws))) same in
+    c.take_pair.ensures.page ∙ ap (λ (ws : List ℕ). without_pair c.args.key (state_of (page_of ws))) same in
+    let moved : IsMovedHeap (Takes c.args.key) (records_of r.at.image) (read_heap r.at.image) (read_heap c.take_pair.new.image) =
+    subst (λ (ws : List ℕ). IsMovedHeap (Takes c.args.key) (records_of ws) (read_heap ws) (read_heap c.take_pair.new.image)) same c.take_pair.ensures.heap in
     let may = subst (λ (w : List WorkPage). MayCommit (IsKeptLog sizes.pages) (with_work w p) (Delete c.args.key))
     (sym (work-is sizes c.args.key c.ranges.key.fits c.args.leaf p r.at r.seated c.take_pair.new.image))
-    (may-delete sizes c.args.key c.ranges.key.fits c.args.leaf p r.at r.seated r.grows some.0 c.take_pair.new.image some.1 r.enough taken) in
+    (may-delete sizes c.args.key c.ranges.key.fits c.args.leaf p r.at r.seated r.grows some.0 c.take_pair.new.image some.1 r.enough taken moved) in
     (with_changed c.args.leaf c.take_pair.new.image p.work, refl, may)

@@ -33,7 +33,7 @@ take_record-requires-clause-tree c = let some = path-some c.args.path.now c.args
 pub loop-height-init : goal.loop-height-init
 loop-height-init c =
     let none = c.new-freed.ensures in
-    (subst (λ (xs : List ℕ). IsAtForAll c.args.path.now c.args.key 0 xs c.args.work.now c.take_record.new.work) (sym none) (starts c.args.path.now c.args.key c.args.work.now c.requires.can c.take_record.new.work c.take_record.ensures), ap length none)
+    (subst (λ (xs : List ℕ). IsAtForAll c.args.path.now c.args.key 0 xs c.args.work.now c.take_record.new.work) (sym none) (starts c.args.path.now c.args.key c.args.work.now c.requires.can c.take_record.new.work c.take_record.ensures.set c.take_record.ensures.taken), ap length none)
 
 pub image_of-requires : goal.image_of-requires
 image_of-requires c = IsSome-and IsTreePage _ (below-tree c.args.path.now c.args.key c.args.work.now c.requires.can c.loop-height.height c.loop-height-test.true c.loop-height.freed c.loop-height.work c.loop-height.invariant.0)

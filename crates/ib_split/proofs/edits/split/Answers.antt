@@ -3,7 +3,7 @@ use Rattle.std.proofs.Common.{◌≡◌, ◌∙◌, sym, subst, ap, Option, List
 use Rattle.std.specs.Prelude.{IsSome}
 use Rattle.ib_page.specs.Form.{page_of}
 use Rattle.ib_page.specs.Page.{page_in}
-use Rattle.ib_page.specs.Image.{clock_of, next_of}
+use Rattle.ib_page.specs.Image.{IsFormed, clock_of, next_of}
 use Rattle.ib_page.specs.Work.{changed_of}
 use Rattle.ib_plans.specs.Agreement.{state_or_free}
 use Rattle.ib_plans.proofs.EditLaws.{changed_of-other, IsSome-and, state-clock, state-next}
@@ -40,12 +40,14 @@ returns-then-next-ne0 c =
     split-beside c.args.page c.args.fresh c.args.key c.args.value c.args.work.now c.edit.result.now c.empty_page-right.result c.split_images-first.new.left c.split_images-first.new.right c.split_images-first.result c.requires.apart
     c.edit.ensures.image (ap (λ v. (page_in v).clock) c.empty_page-right.ensures ∙ (c.clock-clock.ensures ∙ clock-there c.image_of.result.now (changed_of c.args.fresh c.args.work.now) c.image_of.ensures))
     c.split_images-first.ensures.left c.split_images-first.ensures.tree c.split_images-first.ensures.right c.split_images-first.ensures.right_tree c.split_images-first.ensures.key
+    c.split_images-first.ensures.left_heap c.split_images-first.ensures.right_heap (IsSome-and IsFormed _ c.requires.free)
     c.link_back.new.work c.next-next.result
-    (c.next-next.ensures ∙ next-there c.image_of-2.result.now (changed_of c.args.page c.args.work.now) c.image_of-2.ensures) c.if-next-ne0.true c.requires.next c.link_back.ensures
+    (c.next-next.ensures ∙ next-there c.image_of-2.result.now (changed_of c.args.page c.args.work.now) c.image_of-2.ensures) c.if-next-ne0.true c.requires.next c.link_back.ensures.set c.link_back.ensures.stays
 
 pub returns-else-next-ne0 : goal.returns-else-next-ne0
 returns-else-next-ne0 c =
     split-alone c.args.page c.args.fresh c.args.key c.args.value c.args.work.now c.edit.result.now c.empty_page-right.result c.split_images-first.new.left c.split_images-first.new.right c.split_images-first.result c.requires.apart
     c.edit.ensures.image (ap (λ v. (page_in v).clock) c.empty_page-right.ensures ∙ (c.clock-clock.ensures ∙ clock-there c.image_of.result.now (changed_of c.args.fresh c.args.work.now) c.image_of.ensures))
     c.split_images-first.ensures.left c.split_images-first.ensures.tree c.split_images-first.ensures.right c.split_images-first.ensures.right_tree c.split_images-first.ensures.key
+    c.split_images-first.ensures.left_heap c.split_images-first.ensures.right_heap (IsSome-and IsFormed _ c.requires.free)
     (sym (c.next-next.ensures ∙ next-there c.image_of-2.result.now (changed_of c.args.page c.args.work.now) c.image_of-2.ensures) ∙ c.if-next-ne0.false)

@@ -23,19 +23,19 @@ module _ (path fresh : List ℕ) (key : MapKey) (value used : ℕ) (old mid : Li
 
   alone : used ≡ 0 → IsPlannedForAll path fresh key value old mid
   alone none pages roots root m bits agrees fits =
-      planned-alone pages agrees.few (take used fresh) m _ bits _ _ old mid (climbed pages roots root m bits agrees fits) agrees.space
+      planned-alone pages agrees.few (take used fresh) m _ bits _ _ _ old mid (climbed pages roots root m bits agrees fits) agrees.space
       (below pages bits (need_of m key root) fits.chosen_are) (let c = count in omega arith)
 
   may : 0 < used → value_at key (memory_in old (last_of path)).records ≡ None → MayTakePages (take used fresh) mid
   may some absent =
       let x = has-room path fresh key 0 old can.images can.clocks absent can.pages can.roots can.root can.memory can.bits can.agrees can.fits in
-      may-take can.pages can.agrees.few (take used fresh) can.memory _ can.bits _ _ old mid (climbed can.pages can.roots can.root can.memory can.bits can.agrees can.fits) can.agrees.space
+      may-take can.pages can.agrees.few (take used fresh) can.memory _ can.bits _ _ _ old mid (climbed can.pages can.roots can.root can.memory can.bits can.agrees can.fits) can.agrees.space
       (below can.pages can.bits (need_of can.memory key can.root) can.fits.chosen_are) (let c = count in omega arith)
       (can.images.space_there (omega arith)) (AreFresh-take used fresh can.bits x.free) can.clocks.1
 
   taken : 0 < used → (new : List WorkPage) → TakesPages (take used fresh) mid new → IsPlannedForAll path fresh key value old new
   taken some new takes pages roots root m bits agrees fits =
-      planned-taken pages agrees.few (take used fresh) m _ bits _ _ old mid (climbed pages roots root m bits agrees fits) agrees.space
+      planned-taken pages agrees.few (take used fresh) m _ bits _ _ _ old mid (climbed pages roots root m bits agrees fits) agrees.space
       (below pages bits (need_of m key root) fits.chosen_are) (let c = count in omega arith) new takes
 
   reads-alone : used ≡ 0 → reads_of mid ≡ reads_of old
