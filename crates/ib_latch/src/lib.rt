@@ -14,5 +14,5 @@ mod waiting;
 
 pub use latches::{CloseRefused, Latches};
 pub use parkers::Parkers;
-pub use sleep::{NoSleep, Raised, Sleep};
+pub use sleep::{NoSleep, Sleep};
 pub use tries::{NotReady, Reserve, TryFault};

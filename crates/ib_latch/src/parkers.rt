@@ -1,6 +1,6 @@
 //! Sessions that sleep on parkers of their own, and write down in the wait array what they wait for.
 
-use crate::sleep::{Raised, Sleep};
+use crate::sleep::Sleep;
 use ib_rule::OutOfMemory;
 use ib_wait::{Cell, Sleepers, WaitArray};
 use std::alloc::Global;
@@ -34,8 +34,7 @@ impl Sleep for Parkers {
         }
     }
 
-    fn wake(&self, raised: Raised) {
-        raised.settle();
+    fn wake(&self, _latch: u32) {
         self.sleepers.wake_all();
     }
 }

@@ -3,9 +3,9 @@
 use ib_rule::OutOfMemory;
 use std::alloc::Global;
 
-/// A generation was raised, and nobody is woken yet. It is not dropped: who raises one gives this to
-/// `Sleep::wake`, which settles it. So no raise goes without its wake.
-pub struct Raised {
+// A generation was raised, and nobody is woken yet. It is not dropped, and nothing but `hand_to` takes it: a release
+// that raises and wakes nobody does not compile.
+pub(crate) struct Raised {
     latch: u32,
 }
 
@@ -15,10 +15,10 @@ impl Raised {
         Raised { latch }
     }
 
-    /// Whoever sleeps is woken: nothing is left to do. It answers the number of the latch.
-    pub fn settle(self) -> u32 {
+    // Whoever sleeps on a generation of the latch is woken.
+    pub(crate) fn hand_to<S: Sleep>(self, sleep: &S) {
         let Raised { latch } = self;
-        latch
+        sleep.wake(latch);
     }
 }
 
@@ -30,8 +30,8 @@ pub trait Sleep: Drop {
     /// Makes ready for the session with this number. Refused where memory lacks.
     fn admit(&mut self, number: u32) -> Result<(), OutOfMemory>;
 
-    /// Wakes whoever sleeps on a generation of the latch. It is called after each raise of one.
-    fn wake(&self, raised: Raised);
+    /// Wakes whoever sleeps on a generation of the latch with this number. It is called after each raise of one.
+    fn wake(&self, latch: u32);
 }
 
 /// Nobody sleeps: who waits tries again.
@@ -47,7 +47,5 @@ impl Sleep for NoSleep {
         Ok(())
     }
 
-    fn wake(&self, raised: Raised) {
-        raised.settle();
-    }
+    fn wake(&self, _latch: u32) {}
 }

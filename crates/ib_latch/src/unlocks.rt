@@ -33,7 +33,7 @@ impl<L: Law, S: Sleep> Latches<L, S> {
         let word = self.space.s_on(pass, latch);
         if is_drained(word) {
             let raised = self.raise_ex(pass, latch);
-            self.sleep.wake(raised);
+            raised.hand_to(&self.sleep);
         }
     }
 
@@ -87,7 +87,7 @@ impl<L: Law, S: Sleep> Latches<L, S> {
         if self.look(pass, latch) {
             if self.clear(pass, latch) {
                 let raised = self.raise(pass, latch);
-                self.sleep.wake(raised);
+                raised.hand_to(&self.sleep);
             }
         }
     }
