@@ -1,5 +1,5 @@
 -- Bad lines, and how one is told.
-use Rattle.std.specs.Prelude.{◌≡◌, ℕ, List, ◌++◌, Option, Some, codes, decimal}
+use Rattle.std.specs.Prelude.{◌≡◌, ℕ, List, ◌++◌, Bool, true, Option, Some, None, codes, decimal}
 use Rattle.ib_edge.specs.declared.bad_line.LineFault.{LineFault}
 use Rattle.ib_edge.specs.declared.bad_line.LineFault.TheVariants.{Bad, OutOfMemory}
 use Rattle.ib_edge.specs.declared.bad_line.ScriptFault.{ScriptFault}
@@ -21,10 +21,10 @@ kind_text Level = codes "level"
 abbrev pub fault_text : ℕ → LineKind → List ℕ
 fault_text line kind = codes "script: line " ++ decimal line ++ codes ": " ++ kind_text kind ++ codes "\n"
 
--- a fault is what is wrong with the line, or want of memory
-abbrev pub IsFault : Option LineKind → LineFault → Type 0
-IsFault found (Bad kind) = found ≡ Some kind
-IsFault found OutOfMemory = Unit {0}
+-- a fault is what is wrong with the line, or want of memory where nothing is wrong with it and it asks for some
+abbrev pub IsFault : Option LineKind → Bool → LineFault → Type 0
+IsFault found asks (Bad kind) = found ≡ Some kind
+IsFault found asks OutOfMemory = (found ≡ None) × (asks ≡ true)
 
 abbrev pub fault_at : ℕ → LineFault → ScriptFault
 fault_at line (Bad kind) = BadLine line kind

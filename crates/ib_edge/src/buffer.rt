@@ -7,6 +7,8 @@ use std::marker::Model;
 /// How many bytes a writer keeps back before it hands them to its sink.
 pub const BUFFER_BYTES: usize = 8192;
 
+const _: () = prove!(BUFFER_BYTES == 8192);
+
 /// Bytes that wait, at most `BUFFER_BYTES` of them. Contracts see their list.
 #[derive(Drop)]
 pub struct Buffer {

@@ -43,13 +43,14 @@ fn number_of(field: &[u8]) -> Option<u64>
 }
 
 /// The number that a field is, at most 18446744073709551615: digits that do not begin with 0, or 0 alone.
+/// `Number` for any other bytes.
 pub fn number_in(field: &[u8]) -> Result<u64, LineKind>
     ensures { result ≡ number_in field.now }
 {
     number_of(field).ok_or(LineKind::Number)
 }
 
-/// The session that a field names, 1 to `MOST_SCRIPT_SESSIONS`.
+/// The session that a field names, 1 to `MOST_SCRIPT_SESSIONS`: `Number` where it is no number, `Session` where it is another one.
 pub fn session_in(field: &[u8]) -> Result<u32, LineKind>
     ensures session { result ≡ session_in field.now }
     ensures in_range { IfOk result (λ session. (1 ≤ session) × (session ≤ MOST_SCRIPT_SESSIONS)) }

@@ -6,7 +6,7 @@ ghost use Rattle.std.specs.Io.{WritesAtMost};
 ghost use Rattle.std.specs.Io.KnownBytes.{WriteAppends};
 ghost use Rattle.ib_edge.specs.Faults.{AppendsAll, HasCause};
 
-/// A call on a source or a sink moved nothing, and that object's count of faults rose.
+/// A call on a source or a sink failed, and that object's count of faults rose. A `read` or `write` has then moved nothing.
 #[derive(Clone, Copy, Debug, PartialEq, Eq)]
 pub struct Failed;
 

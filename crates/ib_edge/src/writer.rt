@@ -8,7 +8,7 @@ use crate::buffer::{BUFFER_BYTES, Buffer};
 use crate::sink::{Failed, Sink, write_all};
 
 /// The one way that text takes to a sink: through a buffer of fixed size, without memory.
-/// After a failed write it takes bytes and drops them, until `finish` tells of the failure.
+/// After a failed write it takes bytes and drops them, and `finish` tells of the failure.
 #[derive(Drop)]
 pub struct Writer<'a, K> {
     sink: &'a mut K,

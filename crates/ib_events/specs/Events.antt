@@ -1,5 +1,5 @@
 -- Events: what a text asks of the latch machine, and which of its lines is the first bad one.
-use Rattle.std.specs.Prelude.{◌≡◌, ◌≤◌, MatchResult, ℕ, List, [], ◌∷◌, ◌++◌, Option, Some, None, Result, Ok, Err, codes, bytes_eq, nat_le, nat_lt, length, ◌==◌, if◌then◌else◌}
+use Rattle.std.specs.Prelude.{◌≡◌, ◌≤◌, MatchResult, ℕ, List, [], ◌∷◌, ◌++◌, Bool, true, false, Option, Some, None, Result, Ok, Err, codes, bytes_eq, nat_le, nat_lt, length, ◌==◌, if◌then◌else◌}
 use Rattle.std.specs.List.{filter_map}
 use Rattle.ib_levels.specs.declared.level.Level.{Level}
 use Rattle.ib_levels.specs.declared.level.Level.TheVariants.{Log, PageNew, Space as SpaceLevel, TreeNode, IndexTree}
@@ -112,6 +112,10 @@ event_reading_of line = if is_skipped line then Ok Skipped else event_reading_of
 abbrev pub IsInRange : ℕ × Event → Type 0
 IsInRange at = (1 ≤ at.0) × (at.0 ≤ MOST_SCRIPT_SESSIONS) × (latch_of at.1 ≤ MOST_LATCH)
 
+abbrev pub is_event : EventReading → Bool
+is_event (Ok (EventOf session event)) = true
+is_event _ = false
+
 -- the event of a line, with its session
 abbrev pub event_in : EventReading → Option (ℕ × Event)
 event_in (Ok (EventOf session event)) = Some (session, event)
@@ -139,4 +143,4 @@ AreEvents before events = events ≡ events_in before
 abbrev pub TakesEvent : {T : Type 0} → EventReading → List (ℕ × Event) → Result T LineFault → List (ℕ × Event) → Type 0
 TakesEvent reading old result new =
     (before : List EventReading) → AreEvents before old
-    → MatchResult result (λ _. (event_fault_behind before reading ≡ None) × AreEvents (before ++ reading ∷ []) new) (IsFault (event_fault_behind before reading))
+    → MatchResult result (λ _. (event_fault_behind before reading ≡ None) × AreEvents (before ++ reading ∷ []) new) (IsFault (event_fault_behind before reading) (is_event reading))

@@ -2,8 +2,8 @@
 
 ghost use Rattle.std.specs.Prelude.{◌≡◌, ◌≤◌, ◌-◌, ◌<◌, ◌^◌, ◌+◌, ℕ, None, Some, Ok, Err, [], ◌∷◌, ◌++◌, length, vec_len, IfOk, OnOk};
 ghost use Rattle.std.specs.List.{AllByRecursion};
-ghost use Rattle.ib_events.specs.Events.{IsInRange, TakesEvent, event_fault, event_reading_of, events_in};
-ghost use Rattle.ib_edge.specs.Lines.{readings_by};
+ghost use Rattle.ib_events.specs.Events.{IsInRange, TakesEvent, event_fault, event_fault_behind, event_reading_of, events_in, is_event};
+ghost use Rattle.ib_edge.specs.Lines.{MayLackMemory, readings_by};
 ghost use Rattle.ib_edge.specs.declared.line_kind.LineKind.{LineKind};
 
 use crate::event_line::{EventLine, MOST_EVENTS, event_reading_of};
@@ -78,6 +78,7 @@ pub fn read_events(alloc: Global, bytes: &[u8]) -> Result<Events, ScriptFault>
     ensures good { IfOk result (λ _. event_fault bytes.now ≡ None) }
     ensures events { IfOk result (λ events. events ≡ events_in (readings_by event_reading_of bytes.now)) }
     ensures bad { (line : ℕ) (kind : LineKind) → result ≡ Err (ScriptFault.BadLine line kind) → event_fault bytes.now ≡ Some (line, kind) }
+    ensures memory { result ≡ Err ScriptFault.OutOfMemory → MayLackMemory event_fault_behind is_event (readings_by event_reading_of bytes.now) }
 {
     let mut list = Vec::new(alloc);
     let mut rest = bytes;

@@ -1,8 +1,9 @@
 //! The line that tells why a raw log is refused.
 
-ghost use Rattle.std.specs.Prelude.{◌≡◌, ◌++◌, codes, decimal};
+ghost use Rattle.std.specs.Prelude.{◌≡◌, ◌++◌, [], codes, decimal};
+ghost use Rattle.std.specs.Io.KnownBytes.{Appends};
 ghost use Rattle.ib_edge.specs.Faults.{Rose};
-ghost use Rattle.ib_edge.specs.Told.{IsMemory, Told, ends};
+ghost use Rattle.ib_edge.specs.Told.{IsWritten, ends};
 ghost use Rattle.ib_edge.specs.Writer.{Puts};
 ghost use Rattle.ib_logs.specs.Replaying.{bad_log_line, log_fault_text, unlawful_text, word_text};
 
@@ -68,7 +69,8 @@ impl Printed for BadLog {
 
 /// Writes where a raw log is refused, and why; want of memory is no fault of a log.
 pub fn refuse<K: Sink>(sink: &mut K, fault: LogFault) -> Status
-    ensures told { Told (λ e. (fault ≡ LogFault.OutOfMemory → ⊥) × (e ≡ ends Status.BadLog (bad_log_line fault))) IsMemory (K.written sink.old) (K.written sink.new) result }
+    ensures told { (fault ≡ LogFault.OutOfMemory → ⊥) → IsWritten (ends Status.BadLog (bad_log_line fault)) (K.written sink.old) (K.written sink.new) result }
+    ensures memory { fault ≡ LogFault.OutOfMemory → (result ≡ Status.Memory) × Appends (K.written sink.old) (K.written sink.new) [] }
     ensures write { result ≡ Status.WriteFault → Rose (K.faults sink.old) (K.faults sink.new) }
 {
     match fault {

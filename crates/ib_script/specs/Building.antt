@@ -37,4 +37,4 @@ pub record IsBuilt (before : List Reading) (builder : Builder) : Type 0 where
 abbrev pub Takes : {T : Type 0} → Reading → Builder → Result T LineFault → Builder → Type 0
 Takes reading old result new =
     (before : List Reading) → IsBuilt before old
-    → MatchResult result (λ _. (fault_behind before reading ≡ None) × IsBuilt (before ++ reading ∷ []) new) (IsFault (fault_behind before reading))
+    → MatchResult result (λ _. (fault_behind before reading ≡ None) × IsBuilt (before ++ reading ∷ []) new) (IsFault (fault_behind before reading) (is_command reading))

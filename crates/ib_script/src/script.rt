@@ -1,9 +1,9 @@
 //! A script, or its first bad line.
 
 ghost use Rattle.std.specs.Prelude.{◌≡◌, ◌≤◌, ◌-◌, ◌<◌, ◌^◌, ℕ, None, Some, Ok, Err, [], length, slice_index_or, vec_len, IfOk};
-ghost use Rattle.ib_edge.specs.Lines.{readings_by};
+ghost use Rattle.ib_edge.specs.Lines.{MayLackMemory, readings_by};
 ghost use Rattle.ib_script.specs.Lists.{lists_of};
-ghost use Rattle.ib_script.specs.Script.{IsScript, IsSmall, first_fault};
+ghost use Rattle.ib_script.specs.Script.{IsScript, IsSmall, fault_behind, first_fault, is_command};
 ghost use Rattle.ib_edge.specs.declared.line_kind.LineKind.{LineKind};
 ghost use Rattle.ib_edge.specs.declared.line_kind.TheConstants.{MOST_SCRIPT_SESSIONS};
 
@@ -84,6 +84,7 @@ pub fn read_script<R: LineReader>(alloc: Global, bytes: &[u8]) -> Result<Script,
     ensures script { IfOk result (IsScript (readings_by R.reading bytes.now)) }
     ensures small { IfOk result IsSmall }
     ensures bad { (line : ℕ) (kind : LineKind) → result ≡ Err (ScriptFault.BadLine line kind) → first_fault (readings_by R.reading bytes.now) ≡ Some (line, kind) }
+    ensures memory { result ≡ Err ScriptFault.OutOfMemory → MayLackMemory fault_behind is_command (readings_by R.reading bytes.now) }
 {
     let mut builder = Builder::new(alloc);
     let mut rest = bytes;

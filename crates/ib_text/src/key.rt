@@ -7,7 +7,7 @@ ghost use Rattle.ib_text.specs.Keys.{key_in, key_text, pair_text};
 use ib_edge::{LineKind, Sink, Writer, number_in};
 use ib_map::Key;
 
-/// The key that a field is.
+/// The key that a field is; `Number` where it is none.
 #[tactic(auto, unfolding(crate::specs::Keys::key_in))]
 pub fn key_in(field: &[u8]) -> Result<Key, LineKind>
     ensures { result ≡ key_in field.now }

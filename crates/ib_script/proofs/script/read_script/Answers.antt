@@ -1,9 +1,9 @@
 use Rattle.std.proofs.Common.{◌∙◌, arith, rules, sym}
-use Rattle.ib_edge.proofs.Reached.{reached-none, reached-more, reached-fault, reached-all, lines-cut, lines-end}
+use Rattle.ib_edge.proofs.Reached.{reached-none, reached-more, reached-fault, reached-memory, reached-all, lines-cut, lines-end}
 use Rattle.ib_edge.specs.Lines.{readings_by}
 use Rattle.ib_script.proofs.Building.{script-built}
 use Rattle.ib_script.specs.Building.{IsBuilt}
-use Rattle.ib_script.specs.Script.{fault_behind}
+use Rattle.ib_script.specs.Script.{fault_behind, is_command}
 use Rattle.ib_script.proofs.script.read_script.Goals as goal
 
 pub loop-rest-init : goal.loop-rest-init
@@ -25,7 +25,15 @@ returns-in-Err-clause-bad g c = λ line kind e.
     let reading = g.R.LineReader.reading in
     let at = c.first_line.result.0.now in
     let after = c.first_line.result.1.now in
-    reached-fault fault_behind IsBuilt (reading at) (readings_by reading after) c.in-Err.fault line kind (lines-cut reading c.loop-rest.rest.now at after c.first_line.ensures.line)
+    reached-fault fault_behind IsBuilt (reading at) (readings_by reading after) (is_command (reading at)) c.in-Err.fault line kind (lines-cut reading c.loop-rest.rest.now at after c.first_line.ensures.line)
+    c.loop-rest.invariant.reached c.in-Err.ensures (sym c.at.ensures ∙ cc)
+
+pub returns-in-Err-clause-memory : goal.returns-in-Err-clause-memory
+returns-in-Err-clause-memory g c = λ e.
+    let reading = g.R.LineReader.reading in
+    let at = c.first_line.result.0.now in
+    let after = c.first_line.result.1.now in
+    reached-memory fault_behind IsBuilt is_command (reading at) (readings_by reading after) c.in-Err.fault (lines-cut reading c.loop-rest.rest.now at after c.first_line.ensures.line)
     c.loop-rest.invariant.reached c.in-Err.ensures (sym c.at.ensures ∙ cc)
 
 pub returns-clause-good : goal.returns-clause-good

@@ -1,6 +1,7 @@
 use Rattle.std.proofs.Common.{◌≡◌, ◌+◌, true, refl, sym, ◌∙◌, ap, arith}
 use Rattle.std.specs.Prelude.{Ok, not, Some, None, if◌then◌else◌}
 use Rattle.std.proofs.lemmas.List.Sums.{fold_push}
+use Rattle.std.proofs.lemmas.Result.{err_from_is_err_and}
 use Rattle.ib_script.specs.Script.{has_room, is_command, is_scan}
 use Rattle.ib_script.specs.Building.{session_then}
 use Rattle.ib_edge.specs.declared.line_kind.LineKind.TheVariants.{Many}
@@ -22,3 +23,10 @@ returns c = λ before built.
         scans = count-more is_scan before reading c.is_scan.result _ _ c.is_scan.ensures built.scans c.from.ensures;
       },
     )
+
+pub returns-in_err-add_command : goal.returns-in_err-add_command
+returns-in_err-add_command c =
+    let fault = err_from_is_err_and c.from_residual.result c.from_residual.ensures.1 in
+    rw (fault.1, fault.2) (λ before built.
+    let room : has_room before (is_scan (Ok (Command c.args.call))) ≡ true = c.is_full.ensures.full before built ∙ ap not c.if-is_full.false in
+    (ap (λ b. if b then None else Some Many) room, refl))
