@@ -1,33 +1,35 @@
-//! The system's streams as a source and a sink.
+//! Readers and writers of std, among them the system's streams, as a source and a sink.
 
-ghost use Rattle.std.specs.Prelude.{◌≡◌, None};
+ghost use Rattle.std.specs.Prelude.{◌≡◌};
 
 use ib_edge::{Failed, Sink, Source};
-use std::io::{Read, Stdin, Stdout, Write};
+use std::io::{Read, Write};
 
-/// Standard input. It tells nothing of its bytes, and counts its faults from 0.
+/// A reader of std as a source. It has left what the reader has left, where that is known (of standard input
+/// nothing is), and counts its faults from 0.
 #[derive(Drop)]
-pub struct StdSource {
-    stdin: Stdin,
+pub struct StdSource<R> {
+    reader: R,
     faults: u64,
 }
 
-impl StdSource {
-    /// Over this stream, with no fault so far.
-    pub fn new(stdin: Stdin) -> StdSource
-        ensures { ⟦<StdSource as Source>⟧.faults result ≡ 0 }
+impl<R: Read> StdSource<R> {
+    /// Over this reader, with no fault so far.
+    pub fn new(reader: R) -> StdSource<R>
+        ensures left { ⟦<StdSource<R> as Source>⟧.left result ≡ R.remaining reader }
+        ensures faults { ⟦<StdSource<R> as Source>⟧.faults result ≡ 0 }
     {
-        StdSource { stdin, faults: 0 }
+        StdSource { reader, faults: 0 }
     }
 }
 
-impl Source for StdSource {
-    ghost left = { λ _. None };
+impl<R: Read> Source for StdSource<R> {
+    ghost left = { λ source. R.remaining source.reader };
 
     ghost faults = { λ source. source.faults };
 
     fn read(&mut self, buf: &mut [u8]) -> Result<usize, Failed> {
-        match self.stdin.read(buf) {
+        match self.reader.read(buf) {
             Ok(count) => Ok(count),
             Err(_) => {
                 self.faults = self.faults.saturating_add(1);
@@ -37,30 +39,32 @@ impl Source for StdSource {
     }
 }
 
-/// Standard output. It tells nothing of its bytes, and counts its faults from 0.
+/// A writer of std as a sink. It was written what the writer holds, where that is known (of standard output
+/// nothing is), and counts its faults from 0.
 #[derive(Drop)]
-pub struct StdSink {
-    stdout: Stdout,
+pub struct StdSink<W> {
+    writer: W,
     faults: u64,
 }
 
-impl StdSink {
-    /// Over this stream, with no fault so far.
-    pub fn new(stdout: Stdout) -> StdSink
-        ensures { ⟦<StdSink as Sink>⟧.faults result ≡ 0 }
+impl<W: Write> StdSink<W> {
+    /// Over this writer, with no fault so far.
+    pub fn new(writer: W) -> StdSink<W>
+        ensures written { ⟦<StdSink<W> as Sink>⟧.written result ≡ W.contents writer }
+        ensures faults { ⟦<StdSink<W> as Sink>⟧.faults result ≡ 0 }
     {
-        StdSink { stdout, faults: 0 }
+        StdSink { writer, faults: 0 }
     }
 }
 
-impl Sink for StdSink {
-    ghost written = { λ _. None };
+impl<W: Write> Sink for StdSink<W> {
+    ghost written = { λ sink. W.contents sink.writer };
 
     ghost faults = { λ sink. sink.faults };
 
-    /// A stream that takes nothing of a piece that isn't empty has failed.
+    /// A writer that takes nothing of a piece that isn't empty has failed.
     fn write(&mut self, buf: &[u8]) -> Result<usize, Failed> {
-        match self.stdout.write(buf) {
+        match self.writer.write(buf) {
             Ok(count) if count > 0 || buf.is_empty() => Ok(count),
             _ => {
                 self.faults = self.faults.saturating_add(1);
