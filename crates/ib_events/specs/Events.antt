@@ -112,6 +112,7 @@ event_reading_of line = if is_skipped line then Ok Skipped else event_reading_of
 abbrev pub IsInRange : ℕ × Event → Type 0
 IsInRange at = (1 ≤ at.0) × (at.0 ≤ MOST_SCRIPT_SESSIONS) × (latch_of at.1 ≤ MOST_LATCH)
 
+-- a line with an event
 abbrev pub is_event : EventReading → Bool
 is_event (Ok (EventOf session event)) = true
 is_event _ = false
