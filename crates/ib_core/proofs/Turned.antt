@@ -1,7 +1,6 @@
 -- Each event leads from a good state to a good state: the rows of the table, one after another.
 use Rattle.std.proofs.Common.{◌≡◌, ◌≢◌, ℕ, ◌+◌, ◌<◌, ◌⊎◌, inl, inr, ⊎_elim, Bool, true, false, cond, pos, ◌-ℤ◌, ◌+ℤ◌, List, set, Option, Some, None, refl, sym, ap, ◌∙◌, subst, eq-eqb, arith}
 use Rattle.std.specs.Prelude.{◌==◌, nat_lt, if◌then◌else◌}
-use Rattle.std.proofs.lemmas.Bool.Decides.{nat_tests}
 use Rattle.ib_word.specs.declared.word.TheConstants.{X_LOCK_DECR, X_LOCK_HALF_DECR}
 use Rattle.std.proofs.lemmas.Int.{ints}
 use Rattle.ib_word.specs.Weight.{weight, x_weight}
@@ -21,7 +20,7 @@ use Rattle.ib_core.specs.declared.session.Session.{Session}
 use Rattle.ib_core.specs.declared.session.Marks.{Marks}
 use Rattle.ib_core.specs.Sessions.{Stands, HasFewReaders, word_on, all_taken, taken, holdings, reads, claims, x_grants, sx_grants}
 use Rattle.ib_core.specs.Takings.{first, is_given_at, upgrade, taking_s, taking_sx, taking_x, giving_s, giving_sx, giving_x, if_allowed, one_fewer, level_on}
-use Rattle.ib_core.specs.Responses.{Response, is_drained, is_above_0, refused}
+use Rattle.ib_core.specs.Responses.{Response, is_drained, is_above_0}
 use Rattle.ib_core.specs.Table.{arming}
 use Rattle.ib_core.specs.Good.{IsProper, IsGood}
 use Rattle.ib_core.proofs.Places.{sum_at, one_of, set_again}
@@ -34,6 +33,7 @@ use Rattle.ib_core.proofs.Waiting.{OwesNothing, nothing_free, arms}
 use Rattle.ib_core.proofs.Firsts.{takes_s, takes_sx, takes_x_alone, takes_x_next}
 use Rattle.ib_core.proofs.Further.{takes_further_sx, takes_further_x, upgrades_alone, upgrades_next}
 use Rattle.ib_core.proofs.Shrunk.{gives_s, gives_last, gives_one_sx, gives_one_x}
+use Rattle.ib_core.proofs.NumberTests.{none_by, some_by}
 
 -- by the cases of a test
 pub choose : {A : Type 0} (P : A → Type 0) (b : Bool) (x y : A) → (b ≡ true → P x) → (b ≡ false → P y) → P (if b then x else y)
@@ -43,13 +43,6 @@ choose P false x y yes' no' = no' refl
 -- a session that stays as it is
 pub stays : (m : ℕ → Marks) (ss : List Session) (i : ℕ) (a : Session) → IsGood ss m → Stands ss i a → IsGood (set ss i a) m
 stays m ss i a good at = subst (λ ss. IsGood ss m) (sym (set_again ss i a at)) good
-
--- more than none
-some : (n : ℕ) → nat_lt 0 n ≡ true → 0 < n
-some n is = grind (arith, nat_tests)
-
-none_of : (n : ℕ) → nat_lt 0 n ≡ false → n ≡ 0
-none_of n is = grind (arith, nat_tests)
 
 module _ (m : ℕ → Marks) (ss : List Session) (i : ℕ) (held : List Holding) (good : IsGood ss m) (few : HasFewReaders ss) where
   -- the session after a response makes a good state
@@ -107,9 +100,9 @@ module _ (m : ℕ → Marks) (ss : List Session) (i : ℕ) (held : List Holding)
     sx_kept l v = choose (λ (r : Response). IsGood (set ss i r.session) m) (nat_lt 0 (reads l (with_phase Free held))) _ _ (λ _. unchanged)
         (λ unread. allowed l v Free (is_held l held) _ at (λ may.
         choose (λ (r : Response). IsGood (set ss i r.session) m) (nat_lt 0 (claims l (with_phase Free held))) _ _
-        (λ claims'. takes_further_sx m ss i held l good at (some _ claims'))
+        (λ claims'. takes_further_sx m ss i held l good at (some_by _ claims'))
         (λ unclaimed.
-        let none = free_of l (none_of _ unread) (none_of _ unclaimed) in
+        let none = free_of l (none_by _ unread) (none_by _ unclaimed) in
         first_kept l v Free Free at refl nothing_free none (may (unheld_from_none l held none)) ModeSx (λ _. unchanged))))
 
     -- X beside one's own SX
@@ -134,18 +127,18 @@ module _ (m : ℕ → Marks) (ss : List Session) (i : ℕ) (held : List Holding)
         choose (λ (r : Response). IsGood (set ss i r.session) m) (nat_lt 0 (reads l (with_phase Free held))) _ _ (λ _. unchanged)
         (λ unread. allowed l v Free (is_held l held) _ at (λ may.
         choose (λ (r : Response). IsGood (set ss i r.session) m) (nat_lt 0 (x_grants l (with_phase Free held))) _ _
-        (λ has. let own = some (x_grants l (with_phase Free held)) has in takes_further_x m ss i held l good at (omega arith) own)
+        (λ has. let own = some_by (x_grants l (with_phase Free held)) has in takes_further_x m ss i held l good at (omega arith) own)
         (λ no_x. choose (λ (r : Response). IsGood (set ss i r.session) m) (nat_lt 0 (sx_grants l (with_phase Free held))) _ _
-        (λ has. upgrade_kept l v (some _ has) (none_of _ no_x))
+        (λ has. upgrade_kept l v (some_by _ has) (none_by _ no_x))
         (λ no_sx.
-        let x = none_of (x_grants l (with_phase Free held)) no_x in let sx = none_of (sx_grants l (with_phase Free held)) no_sx in
-        let none = free_of l (none_of _ unread) (omega arith) in
+        let x = none_by (x_grants l (with_phase Free held)) no_x in let sx = none_by (sx_grants l (with_phase Free held)) no_sx in
+        let none = free_of l (none_by _ unread) (omega arith) in
         first_kept l v Free Free at refl nothing_free none (may (unheld_from_none l held none)) ModeX (λ _. unchanged)))))
 
     -- the word after S is given back is the one that its readers and claimers then make
     pub us_kept : (l : ℕ) → IsGood (set ss i (giving_s l (word_on l ss) (with_phase Free held)).session) m
     us_kept l = choose (λ (r : Response). IsGood (set ss i r.session) m) (nat_lt 0 (reads l (with_phase Free held))) _ _
-        (λ reads'. let has = some (reads l (with_phase Free held)) reads' in by_word has (is_drained (word_on l ss +ℤ pos 1)) refl)
+        (λ reads'. let has = some_by (reads l (with_phase Free held)) reads' in by_word has (is_drained (word_on l ss +ℤ pos 1)) refl)
         (λ _. unchanged)
       where
         gone : (p' : Phase) → 0 < reads l (with_phase Free held) → all_taken l (set ss i (with_phase p' (without l held))) + 1 ≡ all_taken l ss
@@ -167,7 +160,7 @@ module _ (m : ℕ → Marks) (ss : List Session) (i : ℕ) (held : List Holding)
     usx_kept l =
         let a : Session = with_phase Free held in let c = counted l a (proper.single l) in
         choose (λ (r : Response). IsGood (set ss i r.session) m) (nat_lt 0 (sx_grants l a)) _ _
-        (λ sx. let has = some (sx_grants l a) sx in
+        (λ sx. let has = some_by (sx_grants l a) sx in
         by_equal (λ b. IsGood (set ss i (with_phase (cond b (OwesLook l) Free) (cond b (without l held) (changed l (one_fewer ModeSx) held)))) m) (claims l a) 1
         (λ last. gives_last m ss i held l good at (omega arith))
         (λ n. gives_one_sx m ss i held l good at has (omega arith)))
@@ -177,7 +170,7 @@ module _ (m : ℕ → Marks) (ss : List Session) (i : ℕ) (held : List Holding)
     ux_kept l =
         let a : Session = with_phase Free held in let c = counted l a (proper.single l) in
         choose (λ (r : Response). IsGood (set ss i r.session) m) (nat_lt 0 (x_grants l a)) _ _
-        (λ x. let has = some (x_grants l a) x in
+        (λ x. let has = some_by (x_grants l a) x in
         by_equal (λ b. IsGood (set ss i (with_phase (cond (x_grants l a == 1) (OwesLook l) Free) (cond b (without l held) (changed l (one_fewer ModeX) held)))) m) (claims l a) 1
         (λ last. by_equal (λ b. IsGood (set ss i (with_phase (cond b (OwesLook l) Free) (without l held))) m) (x_grants l a) 1
         (λ _. gives_last m ss i held l good at (omega arith))

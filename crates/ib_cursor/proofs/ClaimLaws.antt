@@ -18,7 +18,7 @@ use Rattle.ib_rule.specs.Roles.{number_in}
 use Rattle.ib_rule.specs.Stores.{IsHarmless}
 use Rattle.ib_rule.specs.Views.{is_watched, starts}
 use Rattle.ib_rule.proofs.Lists.{or_says}
-use Rattle.ib_mtr.specs.Loads.{HasLooked, HasLoaded}
+use Rattle.ib_mtr.specs.Loads.{HasLooked, HasLoadedPage}
 use Rattle.ib_cursor.specs.Claims.{claim_grant}
 use Rattle.ib_mtr.specs.Mtr.{released_at, IsReleasedAt}
 use Rattle.ib_cursor.specs.Grants.{Grant, memo_of, hold_of, HasGrants, IsAway}
@@ -82,7 +82,7 @@ glanced_by sizes lawful opening p q role look = record {
   };
 }
 
-pub glanced_loaded : (sizes : Sizes) (lawful : List Entry → Type 0) (opening : ℕ → ℕ) (page : ℕ) (p q : PassState) → p.view.role ≡ SessionRole p.number → HasLoaded sizes lawful opening page p q → HasGlanced sizes lawful p q
+pub glanced_loaded : (sizes : Sizes) (lawful : List Entry → Type 0) (opening : ℕ → ℕ) (page : ℕ) (p q : PassState) → p.view.role ≡ SessionRole p.number → HasLoadedPage sizes lawful opening page p q → HasGlanced sizes lawful p q
 glanced_loaded sizes lawful opening page p q role load = record {
   seen = seen_loaded sizes lawful opening page p q role load;
   keeps = λ is. record {

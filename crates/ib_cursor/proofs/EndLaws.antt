@@ -80,7 +80,7 @@ one-or_more : (m : PageMemory) (key : MapKey) (level page : ℕ) → 1 ≤ lengt
 one-or_more m key zero page = omega arith
 one-or_more m key (suc level) page = omega arith
 
-all-read : (P Q : WorkPage → Type 0) (ws : List WorkPage) → ((w : WorkPage) → P w → Q w) → All P ws → All Q ws
+pub all-read : (P Q : WorkPage → Type 0) (ws : List WorkPage) → ((w : WorkPage) → P w → Q w) → All P ws → All Q ws
 all-read P Q [] f a = All-nil Q
 all-read P Q (w ∷ ws) f a = All-cons Q w ws (f w (All-head P w ws a)) (all-read P Q ws f (All-tail P w ws a))
 

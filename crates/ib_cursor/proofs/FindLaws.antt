@@ -9,7 +9,7 @@ use Rattle.ib_logrec.specs.Log.{memory_after}
 use Rattle.ib_rule.specs.declared.memory.Loaded.{Loaded}
 use Rattle.ib_rule.specs.Pass.{PassState, with_view}
 use Rattle.ib_walk.specs.Words.{image_of}
-use Rattle.ib_cursor.specs.Reading.{HasRead, with_loads}
+use Rattle.ib_cursor.specs.Reading.{HasReadWords, with_loads}
 use Rattle.ib_cursor.specs.Descent.{HasCome, HasFound}
 use Rattle.ib_cursor.specs.Laws.{Laws}
 use Rattle.ib_cursor.proofs.DownLaws.{leaf_image}
@@ -50,5 +50,5 @@ module _ (sizes : Sizes) (roots : ℕ) (lawful : List Entry → Type 0) (opening
     is_value = is ∙ ap (value_at key) (sym (leaf_image sizes roots lawful opening laws root some le key lt false path p q come).image.records);
   }
 
-  pub found : (r : PassState) → HasRead q r → HasFound sizes lawful opening root key value p r
+  pub found : (r : PassState) → HasReadWords q r → HasFound sizes lawful opening root key value p r
   found r read = subst (HasFound sizes lawful opening root key value p) (sym read.same) (found-loads r.view.memory.loaded)

@@ -16,8 +16,9 @@ use Rattle.ib_core.specs.declared.phase.Phase.TheVariants.{Free}
 use Rattle.ib_core.specs.declared.session.Session.{Session}
 use Rattle.ib_core.specs.Holders.{CanWish}
 use Rattle.ib_core.specs.Sessions.{claims, holdings}
-use Rattle.ib_core.specs.Takings.{one_more, one_fewer, first_holding, given_back}
+use Rattle.ib_core.specs.Takings.{one_fewer, first_holding, given_back}
 use Rattle.ib_core.proofs.OnLatch.{one_more-latch}
+use Rattle.ib_core.proofs.Further.{one_more-level}
 use Rattle.ib_page.specs.Work.{WorkPage}
 use Rattle.ib_rule.specs.declared.memory.Since.{Since}
 use Rattle.ib_rule.specs.Conditions.{MayGrow, held_now}
@@ -32,11 +33,6 @@ use Rattle.ib_cursor.proofs.StandLaws.{IsBeside}
 -- the holding of a grant
 pub hold-latch : (g : Grant) → (hold_of g).latch.0 ≡ g.latch
 hold-latch g = one_more-latch g.mode (hold g.latch g.level 0 0 0)
-
-mode-level : (m : Mode) (h : Holding) → (one_more m h).level ≡ h.level
-mode-level S h = refl
-mode-level Sx h = refl
-mode-level X h = refl
 
 mode-count : (m : Mode) (l : ℕ) (v : Level) → (first_holding m l v).s + (first_holding m l v).sx + (first_holding m l v).x ≡ 1
 mode-count S l v = refl
@@ -60,7 +56,7 @@ all-held (g ∷ gs) =
 
 follow-all : (v : Level) (gs : List Grant) → AllByRecursion (λ g. may_follow g.level v ≡ true) gs → All (λ held. MayFollow held v) (levels_of (map hold_of gs))
 follow-all v [] h = All-nil (λ held. MayFollow held v)
-follow-all v (g ∷ gs) h = All-cons (λ held. MayFollow held v) (hold_of g).level (levels_of (map hold_of gs)) (subst (λ u. MayFollow u v) (sym (mode-level g.mode (hold g.latch g.level 0 0 0))) h.0) (follow-all v gs h.1)
+follow-all v (g ∷ gs) h = All-cons (λ held. MayFollow held v) (hold_of g).level (levels_of (map hold_of gs)) (subst (λ u. MayFollow u v) (sym (one_more-level g.mode (hold g.latch g.level 0 0 0))) h.0) (follow-all v gs h.1)
 
 module _ (gs : List Grant) (p : PassState) (has : HasGrants gs p) where
   -- a latch that no grant is on may be taken

@@ -21,11 +21,11 @@ use Rattle.ib_mtr.specs.Mtr.{IsReleasedAt, with_memo}
 use Rattle.ib_cursor.specs.declared.fault.NowaitFault.{NowaitFault}
 use Rattle.ib_cursor.specs.declared.fault.NowaitFault.TheVariants.{Busy, Raced}
 use Rattle.ib_cursor.specs.Way.{IsOnWay}
-use Rattle.ib_cursor.specs.Reading.{HasRead, with_loads}
+use Rattle.ib_cursor.specs.Reading.{HasReadWords, with_loads}
 use Rattle.ib_cursor.specs.Grants.{Grant, index_grant, page_grant, HasGrants, HasTaken}
 use Rattle.ib_cursor.specs.Going.{HasSeen}
 use Rattle.ib_cursor.specs.Descent.{IsDown}
-use Rattle.ib_cursor.specs.Hindrance.{fault_on, latch_of, WasBusy, WasRaced, WasRefused, IsInVain, IsStopped, IsHindered}
+use Rattle.ib_cursor.specs.Hindrance.{fault_on, refused_latch, WasBusy, WasRaced, WasRefused, IsInVain, IsStopped, IsHindered}
 use Rattle.ib_cursor.proofs.StandLaws.{seen_after, IsBeside, went_beside, went_both, known_beside, beside_taken, looked_first, looked_then}
 use Rattle.ib_cursor.proofs.GrantLaws.{grants_more, given, grants_left}
 
@@ -38,7 +38,7 @@ refused-by latch level (TryRaced w found) p q tried =
     subst (λ (k : Looks). WasRaced latch.0 w found p.view.looks k) (sym (ap (λ (r : PassState). r.view.looks) tried.2))
     (record { count = omega arith; high = tried.0; other = tried.1; at = p.view.looks.steps; before = p.view.looks.all; is = refl })
 
-latch-of : (latch : Latch) (fault : TryFault) → latch_of (fault_on latch fault) ≡ latch.0
+latch-of : (latch : Latch) (fault : TryFault) → refused_latch (fault_on latch fault) ≡ latch.0
 latch-of latch (TryBusy w) = refl
 latch-of latch (TryRaced w found) = refl
 
@@ -88,7 +88,7 @@ vain-loads sizes lawful l f p q loaded v = record {
   refused = v.refused;
 }
 
-pub vain_read : (sizes : Sizes) (lawful : List Entry → Type 0) (l : ℕ) (f : NowaitFault) (p q r : PassState) → HasRead p q → IsInVain sizes lawful l f q r → IsInVain sizes lawful l f p r
+pub vain_read : (sizes : Sizes) (lawful : List Entry → Type 0) (l : ℕ) (f : NowaitFault) (p q r : PassState) → HasReadWords p q → IsInVain sizes lawful l f q r → IsInVain sizes lawful l f p r
 vain_read sizes lawful l f p q r read v = vain-loads sizes lawful l f p r q.view.memory.loaded (subst (λ (s : PassState). IsInVain sizes lawful l f s r) read.same v)
 
 -- what is held is held still

@@ -12,7 +12,7 @@ use Rattle.ib_walk.specs.Walk.{AreLinked, below, is_page}
 use Rattle.ib_walk.proofs.WalkLaws.{AllByRecursion-append}
 use Rattle.ib_plans.specs.Agreement.{last_of, way_down, way_of}
 use Rattle.ib_plans.proofs.MetLaws.{root-met}
-use Rattle.ib_merge.proofs.WayLaws.{length-way_down}
+use Rattle.ib_plans.proofs.PathListLaws.{length-way_down}
 use Rattle.ib_tree.specs.PageLists.{is_among, AreOnce}
 use Rattle.ib_cursor.specs.Way.{IsOnWay}
 use Rattle.ib_cursor.specs.Claims.{beside}
@@ -72,7 +72,7 @@ among_right (x ∷ xs) ys n e = by_first (x == n) (among_right xs ys n e)
     by_first true r = refl
     by_first false r = r
 
-among-left : (xs ys : List ℕ) (n : ℕ) → is_among xs n ≡ true → is_among (xs ++ ys) n ≡ true
+pub among-left : (xs ys : List ℕ) (n : ℕ) → is_among xs n ≡ true → is_among (xs ++ ys) n ≡ true
 among-left [] ys n e = cc
 among-left (x ∷ xs) ys n e = by_first (x == n) e (among-left xs ys n)
   where

@@ -12,8 +12,10 @@ use Rattle.ib_walk.specs.Walk.{Visit, children_of, children, below, sum_of, weig
 use Rattle.ib_walk.specs.Trees.{top_of, height_of, leaves_of, weight_of, IsTreeOf}
 use Rattle.ib_walk.proofs.SearchLaws.{above, IsTiled-below}
 use Rattle.ib_patch.specs.Patch.{IsGoodAt}
+use Rattle.ib_plans.proofs.LevelLaws.{above-sum, level-le_weight}
 use Rattle.ib_tree.proofs.PatchLaws.{is_visit-own, IsGoodAt-tree, end_rank-some}
-use Rattle.ib_cursor.proofs.WayLaws.{IsIn, above-sum, stands, weight-top}
+use Rattle.ib_tree.proofs.ContentLaws.{below-children}
+use Rattle.ib_cursor.proofs.WayLaws.{IsIn, stands}
 
 -- where a visit is in a list
 in-left : (v : Visit) (xs ys : List Visit) → IsIn v xs → IsIn v (xs ++ ys)
@@ -58,14 +60,9 @@ child-in m v x [] h k = absurd h
 child-in m v x (y ∷ ys) (inl e) k = in-left v (children_of (m y.page).records y.high) (children m ys) (subst (λ z. IsIn v (children_of (m z.page).records z.high)) e k)
 child-in m v x (y ∷ ys) (inr h) k = in-right v (children_of (m y.page).records y.high) (children m ys) (child-in m v x ys h k)
 
--- one level lower
-below-more : (m : PageMemory) (depth : ℕ) (vs : List Visit) → below m (suc depth) vs ≡ children m (below m depth vs)
-below-more m zero vs = refl
-below-more m (suc depth) vs = below-more m depth (children m vs)
-
 -- what stands on a level is met
 weight-in : (f : ℕ → Visit → ℕ) (m : PageMemory) (depth level : ℕ) (vs : List Visit) → sum_of (f level) (below m depth vs) ≤ weight f m (above depth level) vs
-weight-in f m zero level vs = weight-top f m level vs
+weight-in f m zero level vs = level-le_weight f m level vs
 weight-in f m (suc depth) level vs = let r = weight-in f m depth level (children m vs) in omega arith
 
 in-met : (m : PageMemory) (root depth level : ℕ) (v : Visit) → depth + level ≡ height_of m root → IsIn v (below m depth (top_of root)) → 0 < weight_of (is_visit level v) m root
@@ -203,14 +200,14 @@ lone_below m new root page a (suc depth) level h =
           let d : s.depth ≡ suc depth = let e = s.height in omega (arith, h, high) in
           subst (λ d. IsIn v (below new d (top_of root))) d s.there
       | inl e ↦
-          let r = parent-of m v (below m depth (top_of root)) (subst (IsIn v) (below-more m depth (top_of root)) i) in
+          let r = parent-of m v (below m depth (top_of root)) (subst (IsIn v) (below-children m depth (top_of root)) i) in
           let met = in-met m root depth (suc level) r.visit (omega (arith, h)) r.there in
           let at = good-level m (suc level) r.visit (IsGoodAt-tree m (height_of m root) (top_of root) a.was.tree (suc level) r.visit met) in
           let here = level-is v i in
           let ne : r.visit.page ≢ page = λ q. let z = ap (λ n. (m n).level) (q ∙ sym e) in omega (arith, z, at, here) in
           let child = subst (λ s. IsIn v (children_of s.records r.visit.high)) (sym (a.same r.visit.page ne)) r.child in
           let all = child-in new v r.visit (below new depth (top_of root)) (subst (IsIn r.visit) (sym up) r.there) child in
-          subst (IsIn v) (sym (below-more new depth (top_of root))) all
+          subst (IsIn v) (sym (below-children new depth (top_of root))) all
     ]
 
 -- so what is met stays met

@@ -39,12 +39,12 @@ use Rattle.ib_mtr.specs.Loads.{IsPageAfter}
 use Rattle.ib_core.specs.declared.session.Session.{Session}
 use Rattle.ib_rule.specs.declared.memory.Memory.{Memory}
 use Rattle.ib_rule.proofs.Watching.{word_stays}
-use Rattle.ib_walk.proofs.ImageLaws.{page_at-word}
+use Rattle.ib_map.proofs.WriteLaws.{page_at-word}
 use Rattle.ib_mtr.specs.Mtr.{IsReleasedAt, released_at}
 use Rattle.ib_cursor.specs.Grants.{Grant, memo_of, page_grant, HasGrants, HasTaken, IsAway}
 use Rattle.ib_cursor.specs.Going.{HasSeen}
 use Rattle.ib_cursor.specs.Descent.{HasPage}
-use Rattle.ib_cursor.specs.Nexts.{HoldsLeaf, HasNext}
+use Rattle.ib_cursor.specs.Nexts.{HoldsLeaf, HoldsNext}
 use Rattle.ib_cursor.proofs.StandLaws.{went_beside, went_both, known_beside, beside_taken}
 use Rattle.ib_cursor.proofs.GrantLaws.{HasGiven, away-none, away_left, away_append, none_away, last_held, grants_more, given, grants_left, released_is}
 use Rattle.ib_cursor.specs.Laws.{Laws}
@@ -284,7 +284,7 @@ module _ (sizes : Sizes) (roots : ℕ) (lawful : List Entry → Type 0) (opening
           away_both : (gs : List Grant) → IsAway (leaf + 2) (front ++ page_grant (next_of image) S ∷ [])
           away_both gs = away_append (leaf + 2) front (page_grant (next_of image) S) h.once (λ e. next_other (omega arith))
 
-      pub stepped : HasNext sizes lawful opening roots front leaf image r (next_of image) p t
+      pub stepped : HoldsNext sizes lawful opening roots front leaf image r (next_of image) p t
       stepped =
           let same : t.view.memory.seen ≡ p.view.memory.seen ++ seen.went.more = gave.beside.seen ∙ log-is in
           record {

@@ -11,6 +11,7 @@ use Rattle.ib_walk.proofs.WalkLaws.{sum_of-append}
 use Rattle.ib_walk.proofs.TreeLaws.{weight_of-le, times_met-le}
 use Rattle.ib_tree.specs.PageLists.{is_among, AreOnce}
 use Rattle.ib_cursor.proofs.NextLaws.{IsLeaf}
+use Rattle.ib_rule.proofs.Lists.{or_denies}
 
 -- lists of pages, each once
 pub among_append : (xs ys : List ℕ) (page : ℕ) → is_among xs page ≡ false → is_among ys page ≡ false → is_among (xs ++ ys) page ≡ false
@@ -21,14 +22,10 @@ among_append (x ∷ xs) ys page a b = by_first (x == page) a (among_append xs ys
     by_first true a later = cc
     by_first false a later = later a b
 
-not-either : (a b : Bool) → (a || b) ≡ false → (a ≡ false) × (b ≡ false)
-not-either true b e = cc
-not-either false b e = (refl, e)
-
 pub among_parts : (xs ys : List ℕ) (page : ℕ) → is_among (xs ++ ys) page ≡ false → (is_among xs page ≡ false) × (is_among ys page ≡ false)
 among_parts [] ys page e = (refl, e)
 among_parts (x ∷ xs) ys page e =
-    let n = not-either (x == page) (is_among (xs ++ ys) page) e in let r = among_parts xs ys page n.1 in
+    let n = or_denies (x == page) (is_among (xs ++ ys) page) e in let r = among_parts xs ys page n.1 in
     (ap (λ t. t || is_among xs page) n.0 ∙ r.0, r.1)
 
 -- a page behind others is none of them
@@ -37,7 +34,7 @@ once_here [] page ys pages o = (refl, o.0)
 once_here (x ∷ xs) page ys pages o =
     let r = once_here xs page ys pages o.2 in
     let n = among_parts xs (page ∷ ys) x o.1 in
-    let h = not-either (page == x) (is_among ys x) n.1 in
+    let h = or_denies (page == x) (is_among ys x) n.1 in
     let differ : (x == page) ≡ false = ne_eqb x page (λ e. let y : (page == x) ≡ true = eq-eqb page x (sym e) in let z : true ≡ false = sym y ∙ h.0 in cc) in
     (ap (λ t. t || is_among xs page) differ ∙ r.0, r.1)
 

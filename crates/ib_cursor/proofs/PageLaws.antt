@@ -1,32 +1,19 @@
 -- A page of page memory by its image: its words, and what a search finds there.
-use Rattle.std.proofs.Common.{◌≡◌, inl, inr, ℕ, zero, suc, ◌+◌, ◌-◌, ◌*◌, ◌<◌, ◌≤◌, ◌^◌, true, [], ◌∷◌, Option, Some, get_or, slice_get, IsSomeAnd, refl, sym, ap, ◌∙◌, arith}
-use Rattle.std.specs.Prelude.{slice_index, unwrap_or, nat_le}
+use Rattle.std.proofs.Common.{◌≡◌, inl, inr, ℕ, zero, suc, ◌+◌, ◌-◌, ◌*◌, ◌<◌, ◌≤◌, ◌^◌, true, [], ◌∷◌, Option, Some, slice_get, IsSomeAnd, refl, sym, ap, ◌∙◌, arith}
+use Rattle.std.specs.Prelude.{unwrap_or, nat_le}
 use Rattle.std.proofs.lemmas.Bool.{cases_lt, lt-ltb, le-ltb, le-leb, lt-leb, leb-true, and_parts}
 use Rattle.ib_map.specs.Keys.{MapKey, rank}
 use Rattle.ib_map.specs.Space.{has_pages}
 use Rattle.ib_map.specs.declared.TheConstants.{LEAST_PAGES, MOST_PAGES}
 use Rattle.ib_map.specs.Pairs.{Pairs, place_after}
-use Rattle.ib_map.specs.Writes.{word_place}
-use Rattle.ib_map.specs.declared.TheConstants.{PAGE_WORDS}
-use Rattle.ib_page.specs.Page.{PageValue, HoldsTree, page_in}
-use Rattle.ib_page.specs.Page.PageValue.{Malformed as MalformedValue, Free as FreeValue, Tree as TreeValue}
 use Rattle.ib_page.specs.Form.{page_of}
 use Rattle.ib_page.specs.Image.{IsTreePage, level_of, next_of, records_of}
 use Rattle.ib_heap.proofs.RouteLaws.{IsSomeAnd_get}
 use Rattle.ib_walk.specs.Pages.{Tree}
-use Rattle.ib_walk.specs.Words.{words_at, image_of, pages_of, state_of}
+use Rattle.ib_walk.specs.Words.{image_of, pages_of}
 use Rattle.ib_walk.specs.Search.{child_for}
 use Rattle.ib_walk.proofs.ImageLaws.{pages_of-image}
-
--- a word of an image
-word-at : (words : ℕ → ℕ) (place n i : ℕ) → i < n → get_or (words_at words place n) i 0 ≡ words (place + i)
-word-at words place zero i lt = absurd (omega arith)
-word-at words place (suc n) zero lt = ap words (let e : place ≡ place + 0 = omega arith in e)
-word-at words place (suc n) (suc i) lt = word-at words (place + 1) n i (omega arith) ∙ ap words (let e : place + 1 + i ≡ place + suc i = omega arith in e)
-
-pub word_of_image : (words : ℕ → ℕ) (page index : ℕ) → index < PAGE_WORDS → slice_index (image_of words page) index ≡ words (word_place page index)
-unfolding image_of
-word_of_image words page index lt = word-at words (page * PAGE_WORDS) PAGE_WORDS index lt
+use Rattle.ib_plans.proofs.EditLaws.{state-tree, state-level, state-next, state-records}
 
 -- what a page of the tree says, its image says
 pub record IsTreeImage (words : ℕ → ℕ) (page : ℕ) : Type 0 where
@@ -35,34 +22,14 @@ pub record IsTreeImage (words : ℕ → ℕ) (page : ℕ) : Type 0 where
   pub next : (pages_of words page).next ≡ next_of (image_of words page)
   pub records : (pages_of words page).records ≡ records_of (image_of words page)
 
-pub tree-value : (v : PageValue) → (state_of v).kind ≡ Tree → HoldsTree v
-tree-value (TreeValue p) e = tt
-tree-value (FreeValue clock) e = cc
-tree-value MalformedValue e = cc
-
-level-value : (v : PageValue) → (state_of v).level ≡ (page_in v).level
-level-value (TreeValue p) = refl
-level-value (FreeValue clock) = refl
-level-value MalformedValue = refl
-
-next-value : (v : PageValue) → (state_of v).next ≡ (page_in v).next
-next-value (TreeValue p) = refl
-next-value (FreeValue clock) = refl
-next-value MalformedValue = refl
-
-records-value : (v : PageValue) → (state_of v).records ≡ (page_in v).records
-records-value (TreeValue p) = refl
-records-value (FreeValue clock) = refl
-records-value MalformedValue = refl
-
 pub tree_image : (words : ℕ → ℕ) (page : ℕ) → (pages_of words page).kind ≡ Tree → IsTreeImage words page
 tree_image words page kind =
     let is = pages_of-image words page in let v = page_of (image_of words page) in
     record {
-      tree = tree-value v (ap (λ s. s.kind) (sym is) ∙ kind);
-      level = ap (λ s. s.level) is ∙ level-value v;
-      next = ap (λ s. s.next) is ∙ next-value v;
-      records = ap (λ s. s.records) is ∙ records-value v;
+      tree = state-tree v (ap (λ s. s.kind) (sym is) ∙ kind);
+      level = ap (λ s. s.level) is ∙ state-level v;
+      next = ap (λ s. s.next) is ∙ state-next v;
+      records = ap (λ s. s.records) is ∙ state-records v;
     }
 
 -- the child of a key stands in the last record that is not above the key

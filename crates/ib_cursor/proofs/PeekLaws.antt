@@ -7,25 +7,24 @@ use Rattle.ib_layout.specs.Geometry.{Sizes}
 use Rattle.ib_core.specs.Holders.{CanWish}
 use Rattle.ib_logrec.specs.declared.entry.Entry.{Entry}
 use Rattle.ib_logrec.specs.Log.{memory_after}
-use Rattle.ib_page.specs.Page.{PageValue, page_in}
-use Rattle.ib_page.specs.Page.PageValue.{Malformed as MalformedValue, Free as FreeValue, Tree as TreeValue}
 use Rattle.ib_page.specs.Form.{page_of}
 use Rattle.ib_page.specs.Image.{IsTreePage, IsFormed, prev_of, records_of}
 use Rattle.ib_page.specs.Work.{changed_of, with_read, without_page}
 use Rattle.ib_heap.proofs.FormLaws.{formed-tree}
 use Rattle.ib_rule.specs.Pass.{PassState}
 use Rattle.ib_walk.specs.Search.{child_for}
-use Rattle.ib_walk.specs.Words.{image_of, pages_of, state_of}
+use Rattle.ib_walk.specs.Words.{image_of, pages_of}
+use Rattle.ib_plans.proofs.EditLaws.{state-prev}
 use Rattle.ib_walk.proofs.ImageLaws.{image_of-list, pages_of-image}
 use Rattle.ib_tree.specs.Logs.{pages_after}
 use Rattle.ib_mtr.specs.Mtr.{IsReleasedAt, with_work}
 use Rattle.ib_cursor.specs.Way.{IsOnWay}
-use Rattle.ib_cursor.specs.Reading.{HasRead}
+use Rattle.ib_cursor.specs.Reading.{HasReadWords}
 use Rattle.ib_cursor.specs.Claims.{claim_grant}
 use Rattle.ib_cursor.specs.Grants.{page_grant, HasGrants}
 use Rattle.ib_cursor.specs.Going.{IsKnown, HasStood}
 use Rattle.ib_cursor.specs.Descent.{IsAt, HasPage}
-use Rattle.ib_cursor.specs.Shapes.{ShapeLaws, is_claimed, KeepsClaim, HasGlanced, HasIndex, IsLink, IsLinkedAt, HasPeeked}
+use Rattle.ib_cursor.specs.Shapes.{ShapeLaws, is_claimed, KeepsClaim, HasGlanced, HasIndex, IsLink, NamesLink, HasPeeked}
 use Rattle.ib_cursor.proofs.LogLaws.{IsWayImage, way_image, child_way}
 use Rattle.ib_cursor.proofs.ShapeLaws.{single_way}
 use Rattle.ib_cursor.proofs.StandLaws.{went_both, went_beside, known_beside}
@@ -34,13 +33,8 @@ use Rattle.ib_cursor.proofs.StepLaws.{beside_read, at_read}
 use Rattle.ib_cursor.proofs.ClaimLaws.{keeps_both, keeps_beside, claimed_given}
 
 -- the link to the left, by the image
-prev-value : (v : PageValue) → (state_of v).prev ≡ (page_in v).prev
-prev-value (TreeValue p) = refl
-prev-value (FreeValue clock) = refl
-prev-value MalformedValue = refl
-
 prev-image : (words : ℕ → ℕ) (page : ℕ) → (pages_of words page).prev ≡ prev_of (image_of words page)
-prev-image words page = ap (λ s. s.prev) (pages_of-image words page) ∙ prev-value (page_of (image_of words page))
+prev-image words page = ap (λ s. s.prev) (pages_of-image words page) ∙ state-prev (page_of (image_of words page))
 
 -- the page that was loaded, and is forgotten
 pub loaded_there : (page : ℕ) (image : List ℕ) → changed_of page (with_read page image []) ≡ Some image
@@ -50,8 +44,8 @@ forgotten : (page : ℕ) (image : List ℕ) → without_page page (with_read pag
 forgotten page image = let yes = eq-eqb page page refl in rw yes refl
 
 -- words that were loaded before change nothing
-pub peek_linked : (sizes : Sizes) (lawful : List Entry → Type 0) (opening : ℕ → ℕ) (root : ℕ) (key : MapKey) (page level link : ℕ) (p q r : PassState) → is_claimed p.view.memory.since ≡ true → HasRead p q
-    → IsLinkedAt sizes lawful opening root key page level link q r → IsLinkedAt sizes lawful opening root key page level link p r
+pub peek_linked : (sizes : Sizes) (lawful : List Entry → Type 0) (opening : ℕ → ℕ) (root : ℕ) (key : MapKey) (page level link : ℕ) (p q r : PassState) → is_claimed p.view.memory.since ≡ true → HasReadWords p q
+    → NamesLink sizes lawful opening root key page level link q r → NamesLink sizes lawful opening root key page level link p r
 peek_linked sizes lawful opening root key page level link p q r claimed read l =
     let b = beside_read p q read in
     let since : is_claimed q.view.memory.since ≡ true = ap (λ (r : PassState). is_claimed r.view.memory.since) read.same ∙ claimed in
@@ -88,8 +82,8 @@ module _ (sizes : Sizes) (roots : ℕ) (lawful : List Entry → Type 0) (opening
     pub left_formed : IsFormed loaded.image
     left_formed = formed-tree loaded.image (subst IsTreePage image-is (page_image q.view.memory.seen leaf 0 glanced.seen.known.legal way).image.tree)
 
-    pub left_linked : (link : ℕ) (r : PassState) → link ≡ prev_of loaded.image → r ≡ with_work (without_page leaf q.work) q → IsLinkedAt sizes lawful opening root key leaf 0 link p r
-    left_linked link r is forgot = subst (IsLinkedAt sizes lawful opening root key leaf 0 link p) (sym forgot) (record {
+    pub left_linked : (link : ℕ) (r : PassState) → link ≡ prev_of loaded.image → r ≡ with_work (without_page leaf q.work) q → NamesLink sizes lawful opening root key leaf 0 link p r
+    left_linked link r is forgot = subst (NamesLink sizes lawful opening root key leaf 0 link p) (sym forgot) (record {
       at = record {
         grants = record { memo = memo ∙ at.grants.memo; session = session ∙ at.grants.session };
         watched = glanced.seen.watched (leaf + 2) (last_held (claim_grant ∷ []) (page_grant leaf S) q (record { memo = memo ∙ at.grants.memo; session = session ∙ at.grants.session }));
@@ -105,7 +99,7 @@ module _ (sizes : Sizes) (roots : ℕ) (lawful : List Entry → Type 0) (opening
 
   -- the child of a node, read where it lies
   pub child_linked : (page level link : ℕ) (p q : PassState) → IsAt sizes lawful opening root key (claim_grant ∷ []) page level S p → is_claimed p.view.memory.since ≡ true → 0 < level
-      → link ≡ child_for key 0 (records_of (image_of (memory_after opening p.view.memory.seen) page)) → HasRead p q → IsLinkedAt sizes lawful opening root key page level link p q
+      → link ≡ child_for key 0 (records_of (image_of (memory_after opening p.view.memory.seen) page)) → HasReadWords p q → NamesLink sizes lawful opening root key page level link p q
   child_linked page level link p q at claimed up is read =
       let b = beside_read p q read in
       let since : is_claimed q.view.memory.since ≡ true = ap (λ (r : PassState). is_claimed r.view.memory.since) read.same ∙ claimed in
@@ -146,7 +140,7 @@ module _ (sizes : Sizes) (roots : ℕ) (lawful : List Entry → Type 0) (opening
         way = keeps_way p q stood.seen.known keeps page level here;
       }
 
-      module _ (link : ℕ) (r s : PassState) (linked : IsLinkedAt sizes lawful opening root key page level link q r) (release : IsReleasedAt 1 r s) where
+      module _ (link : ℕ) (r s : PassState) (linked : NamesLink sizes lawful opening root key page level link q r) (release : IsReleasedAt 1 r s) where
         gave : HasGiven (page_grant page S) r s
         gave = given (claim_grant ∷ []) (page_grant page S) [] r s linked.at.grants ((λ e. absurd (omega arith)), tt) tt release
 

@@ -11,14 +11,13 @@ use Rattle.ib_walk.specs.Pages.{PageMemory, Tree}
 use Rattle.ib_walk.specs.Search.{IsPageFor, child_for}
 use Rattle.ib_walk.specs.Trees.{IsLawful, IsTreeOf, height_of, top_of, weight_of}
 use Rattle.ib_walk.specs.Walk.{AreLinked, IsLeafAt, IsNodeAt, IsTree, Visit, below, children, children_of, first_page, last_page, is_page, sum_of, weight}
-use Rattle.ib_walk.proofs.MeetLaws.{is_page-own}
+use Rattle.ib_walk.proofs.MeetLaws.{AreLinked-right, is_page-own}
 use Rattle.ib_walk.proofs.SearchLaws.{AllByRecursion-at, IsPageFor-below, IsTree-below, above, below-above}
 use Rattle.ib_walk.proofs.TreeLaws.{IsPageFor-top, times_met-le, weight_of-le}
 use Rattle.ib_walk.proofs.WalkLaws.{AllByRecursion-left, AllByRecursion-right, children-append, children_of-append}
 use Rattle.ib_plans.specs.Agreement.{last_of}
 use Rattle.ib_plans.specs.Merge.{Siblings, siblings_of}
-use Rattle.ib_plans.proofs.LevelLaws.{AllByRecursion-both, below-le_weight, below-zero, level-le_weight}
-use Rattle.ib_plans.proofs.LinkLaws.{AreLinked-right}
+use Rattle.ib_plans.proofs.LevelLaws.{AllByRecursion-both, above-sum, below-le_weight, below-zero, level-le_weight}
 use Rattle.ib_plans.proofs.MetLaws.{met-some}
 use Rattle.ib_plans.proofs.SiblingRecordLaws.{HasSiblings, HasSiblings-of, one_or_none}
 use Rattle.ib_tree.specs.PageLists.{is_among, AreOnce}
@@ -26,7 +25,6 @@ use Rattle.ib_cursor.specs.Way.{IsOnWay}
 use Rattle.ib_cursor.specs.Claims.{beside}
 use Rattle.ib_cursor.specs.Siblings.{child_if, with_siblings}
 use Rattle.ib_cursor.proofs.OnceLaws.{among_parts}
-use Rattle.ib_cursor.proofs.WayLaws.{above-sum}
 
 abbrev pub pages_in : List Visit → List ℕ
 pages_in vs = map (λ v. v.page) vs
@@ -106,7 +104,7 @@ row-pages P (v ∷ vs) a = (a.0, row-pages P vs a.1)
 pub some_siblings : (m : PageMemory) (key : MapKey) (node : ℕ) → 0 < length (with_siblings m key node)
 some_siblings m key node = let t = siblings_of key (m node).records in let a = length-append (child_if t.left) (t.here.1 ∷ child_if t.right) in omega arith
 
-one-at_most : (o : Option (MapKey × ℕ)) → length (child_if o) ≤ 1
+pub one-at_most : (o : Option (MapKey × ℕ)) → length (child_if o) ≤ 1
 one-at_most None = omega arith
 one-at_most (Some r) = omega arith
 

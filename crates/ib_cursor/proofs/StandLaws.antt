@@ -24,7 +24,7 @@ use Rattle.ib_rule.specs.Views.{is_watched}
 use Rattle.ib_rule.proofs.Watching.{untouched, watched_after}
 use Rattle.ib_latch.specs.Tries.{IsTaken, MayClaim, held_with}
 use Rattle.ib_frames.specs.Reads.{with_page_loaded}
-use Rattle.ib_mtr.specs.Loads.{HasLoaded, HasLooked}
+use Rattle.ib_mtr.specs.Loads.{HasLoadedPage, HasLooked}
 use Rattle.ib_mtr.specs.Mtr.{with_memo}
 use Rattle.ib_cursor.specs.Grants.{Grant, memo_of, HasTaken}
 use Rattle.ib_cursor.specs.Going.{IsKnown, WentOn, HasSeen, HasStood}
@@ -53,7 +53,7 @@ bounds-wider : (ns : List ℕ) (low high a b : ℕ) → a ≤ low → high ≤ b
 bounds-wider [] low high a b l h e = tt
 bounds-wider (n ∷ ns) low high a b l h e = ((omega (arith, e.0.0), omega (arith, e.0.1)), bounds-wider ns low high a b l h e.1)
 
-bounds-append : (P : ℕ → Type 0) (xs ys : List ℕ) → AllByRecursion P xs → AllByRecursion P ys → AllByRecursion P (xs ++ ys)
+pub bounds-append : (P : ℕ → Type 0) (xs ys : List ℕ) → AllByRecursion P xs → AllByRecursion P ys → AllByRecursion P (xs ++ ys)
 bounds-append P [] ys a b = b
 bounds-append P (x ∷ xs) ys a b = (a.0, bounds-append P xs ys a.1 b)
 
@@ -163,7 +163,7 @@ stood_by sizes lawful g p q r t s memo session grants work =
     }
 
 -- a page that is loaded, and the look with it
-pub seen_loaded : (sizes : Sizes) (lawful : List Entry → Type 0) (opening : ℕ → ℕ) (page : ℕ) (p q : PassState) → p.view.role ≡ SessionRole p.number → HasLoaded sizes lawful opening page p q → HasSeen sizes lawful p q
+pub seen_loaded : (sizes : Sizes) (lawful : List Entry → Type 0) (opening : ℕ → ℕ) (page : ℕ) (p q : PassState) → p.view.role ≡ SessionRole p.number → HasLoadedPage sizes lawful opening page p q → HasSeen sizes lawful p q
 seen_loaded sizes lawful opening page p q role load =
     let is = load.pass in
     let own : q.view.memory.own ≡ p.view.memory.own = ap (λ (r : PassState). r.view.memory.own) is in

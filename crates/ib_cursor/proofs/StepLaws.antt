@@ -18,11 +18,12 @@ use Rattle.ib_rule.proofs.Watching.{word_stays}
 use Rattle.ib_walk.specs.Trees.{height_of}
 use Rattle.ib_walk.specs.Search.{child_for}
 use Rattle.ib_walk.specs.Words.{image_of}
-use Rattle.ib_walk.proofs.ImageLaws.{image_of-same, page_at-word}
+use Rattle.ib_map.proofs.WriteLaws.{page_at-word}
+use Rattle.ib_walk.proofs.ImageLaws.{image_of-same}
 use Rattle.ib_tree.specs.Logs.{pages_after}
 use Rattle.ib_mtr.specs.Mtr.{IsReleasedAt}
 use Rattle.ib_cursor.specs.Way.{IsOnWay}
-use Rattle.ib_cursor.specs.Reading.{HasRead, with_loads}
+use Rattle.ib_cursor.specs.Reading.{HasReadWords, with_loads}
 use Rattle.ib_cursor.specs.Grants.{Grant, index_grant, page_grant, HasGrants, IsAway}
 use Rattle.ib_cursor.specs.Going.{WentOn, HasSeen, HasStood}
 use Rattle.ib_cursor.specs.Descent.{IsAt}
@@ -32,7 +33,7 @@ use Rattle.ib_cursor.specs.Laws.{Laws}
 use Rattle.ib_cursor.proofs.LogLaws.{IsWayImage, way_image, way_stays, child_way, root_way, levels_differ}
 
 -- words that are loaded change nothing else
-pub beside_read : (p q : PassState) → HasRead p q → IsBeside p q
+pub beside_read : (p q : PassState) → HasReadWords p q → IsBeside p q
 beside_read p q read = subst (IsBeside p) (sym read.same) (record { table = refl; sizes = refl; number = refl; own = refl; seen = refl; ends = refl })
 
 seen-loads : (sizes : Sizes) (lawful : List Entry → Type 0) (p q : PassState) (loaded : List Loaded) → HasSeen sizes lawful p q → HasSeen sizes lawful p (with_view q (with_loads loaded q.view))
@@ -44,7 +45,7 @@ seen-loads sizes lawful p q loaded s = record {
   watched = s.watched;
 }
 
-pub seen_read : (sizes : Sizes) (lawful : List Entry → Type 0) (p q r : PassState) → HasSeen sizes lawful p q → HasRead q r → HasSeen sizes lawful p r
+pub seen_read : (sizes : Sizes) (lawful : List Entry → Type 0) (p q r : PassState) → HasSeen sizes lawful p q → HasReadWords q r → HasSeen sizes lawful p r
 seen_read sizes lawful p q r s read = subst (HasSeen sizes lawful p) (sym read.same) (seen-loads sizes lawful p q r.view.memory.loaded s)
 
 at-loads : (sizes : Sizes) (lawful : List Entry → Type 0) (opening : ℕ → ℕ) (root : ℕ) (key : MapKey) (front : List Grant) (page level : ℕ) (mode : Mode) (p : PassState) (loaded : List Loaded)
@@ -58,7 +59,7 @@ at-loads sizes lawful opening root key front page level mode p loaded a = record
 }
 
 pub at_read : (sizes : Sizes) (lawful : List Entry → Type 0) (opening : ℕ → ℕ) (root : ℕ) (key : MapKey) (front : List Grant) (page level : ℕ) (mode : Mode) (p q : PassState)
-    → IsAt sizes lawful opening root key front page level mode p → HasRead p q → IsAt sizes lawful opening root key front page level mode q
+    → IsAt sizes lawful opening root key front page level mode p → HasReadWords p q → IsAt sizes lawful opening root key front page level mode q
 at_read sizes lawful opening root key front page level mode p q a read =
     subst (IsAt sizes lawful opening root key front page level mode) (sym read.same) (at-loads sizes lawful opening root key front page level mode p q.view.memory.loaded a)
 

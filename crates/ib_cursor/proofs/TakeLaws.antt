@@ -23,6 +23,7 @@ use Rattle.ib_rule.specs.declared.looks.Grants.{Grants}
 use Rattle.ib_rule.specs.Pass.{PassState}
 use Rattle.ib_rule.specs.Views.{is_watched, total}
 use Rattle.ib_rule.proofs.Watching.{word_stays}
+use Rattle.ib_rule.proofs.Lists.{or_denies}
 use Rattle.ib_map.specs.declared.TheConstants.{PAGE_WORDS}
 use Rattle.ib_page.specs.Image.{IsTreePage, IsFormed, next_of}
 use Rattle.ib_heap.proofs.FormLaws.{formed-tree}
@@ -31,7 +32,8 @@ use Rattle.ib_walk.specs.Pages.{Tree}
 use Rattle.ib_walk.specs.Words.{image_of}
 use Rattle.ib_tree.specs.Logs.{pages_after}
 use Rattle.ib_cursor.proofs.PageLaws.{tree_image}
-use Rattle.ib_walk.proofs.ImageLaws.{page_at-word, image_of-list, pages_of-same}
+use Rattle.ib_map.proofs.WriteLaws.{page_at-word}
+use Rattle.ib_walk.proofs.ImageLaws.{image_of-list, pages_of-same}
 use Rattle.ib_tree.specs.PageLists.{is_among, AreOnce}
 use Rattle.ib_mtr.specs.Loads.{IsPageAfter}
 use Rattle.ib_mtr.proofs.Images.{All-with_page}
@@ -77,19 +79,15 @@ long-more q (p ∷ ps) = by_test (long-more q ps) (nat_lt p.page q.page)
     by_test r true = omega (arith, r)
     by_test r false = omega arith
 
-pub not-first : (a b : Bool) → (a || b) ≡ false → (a ≡ false) × (b ≡ false)
-not-first true b e = cc
-not-first false b e = (refl, e)
-
 pub absent_loaded : (page : ℕ) (ps : List WorkPage) → is_loaded page ps ≡ false → changed_of page ps ≡ None
 absent_loaded page [] none = refl
-absent_loaded page (p ∷ ps) none = let n = not-first (p.page == page) (is_loaded page ps) none in ap (λ b. cond b (Some p.changed) (changed_of page ps)) n.0 ∙ absent_loaded page ps n.1
+absent_loaded page (p ∷ ps) none = let n = or_denies (p.page == page) (is_loaded page ps) none in ap (λ b. cond b (Some p.changed) (changed_of page ps)) n.0 ∙ absent_loaded page ps n.1
 
 -- a page that is none of these has another latch
 away-pages : (held : List ℕ) (page : ℕ) → is_among held page ≡ false → IsAway (page + 2) (page_grants held)
 away-pages [] page none = tt
 away-pages (x ∷ xs) page none =
-    let n = not-first (x == page) (is_among xs page) none in
+    let n = or_denies (x == page) (is_among xs page) none in
     ((λ e. let y : (x == page) ≡ true = eq-eqb x page (omega (arith, e)) in absurd (let z : true ≡ false = sym y ∙ n.0 in cc)), away-pages xs page n.1)
 
 follow-pages : (held : List ℕ) → AllByRecursion (λ (g : Grant). may_follow g.level TreeNode ≡ true) (page_grants held)

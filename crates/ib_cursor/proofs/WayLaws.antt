@@ -14,19 +14,12 @@ use Rattle.ib_walk.proofs.MeetLaws.{is_page-own}
 use Rattle.ib_walk.proofs.SearchLaws.{above, IsTree-below, IsPageFor-below, IsTiled-below}
 use Rattle.ib_walk.proofs.TreeLaws.{weight_of-le, IsPageFor-top}
 use Rattle.ib_walk.proofs.WalkLaws.{sum_of-append}
+use Rattle.ib_plans.proofs.LevelLaws.{above-sum, below-le_weight, level-le_weight}
+use Rattle.ib_plans.proofs.PathLaws.{page_below-child}
 use Rattle.ib_patch.specs.Patch.{IsGoodAt}
 use Rattle.ib_tree.specs.Logs.{HasRange}
 use Rattle.ib_tree.proofs.PatchLaws.{is_visit-own, is_visit-same, IsGoodAt-tree}
 use Rattle.ib_cursor.specs.Way.{IsOnWay}
-
-pub above-sum : (depth level : ℕ) → above depth level ≡ depth + level
-above-sum zero level = omega arith
-above-sum (suc depth) level = let r = above-sum depth level in omega arith
-
--- one level lower
-page_below-more : (m : PageMemory) (key : MapKey) (depth page : ℕ) → page_below m key (suc depth) page ≡ child_for key 0 (m (page_below m key depth page)).records
-page_below-more m key zero page = refl
-page_below-more m key (suc depth) page = page_below-more m key depth (child_for key 0 (m page).records)
 
 pub root_on-way : (m : PageMemory) (root : ℕ) (key : MapKey) → IsOnWay m root key root (height_of m root)
 root_on-way m root key = record { depth = 0; height = omega arith; below = refl }
@@ -35,21 +28,12 @@ pub child_on-way : (m : PageMemory) (root : ℕ) (key : MapKey) (page level : �
 child_on-way m root key page level o = record {
   depth = suc o.depth;
   height = let h = o.height in omega arith;
-  below = page_below-more m key o.depth root ∙ ap (λ (p : ℕ). child_for key 0 (m p).records) o.below;
+  below = page_below-child m key o.depth root ∙ ap (λ (p : ℕ). child_for key 0 (m p).records) o.below;
 }
 
 -- the page at the end of the way
 pub leaf_on-way : (m : PageMemory) (root : ℕ) (key : MapKey) (page : ℕ) → IsOnWay m root key page 0 → page ≡ leaf_for m key root
 leaf_on-way m root key page o = sym o.below ∙ ap (λ (d : ℕ). page_below m key d root) (let h = o.height in let e : o.depth ≡ height_of m root = omega arith in e)
-
--- what the levels below weigh
-weight-below : (f : ℕ → Visit → ℕ) (m : PageMemory) (depth level : ℕ) (vs : List Visit) → weight f m level (below m depth vs) ≤ weight f m (above depth level) vs
-weight-below f m zero level vs = omega arith
-weight-below f m (suc depth) level vs = let r = weight-below f m depth level (children m vs) in omega arith
-
-pub weight-top : (f : ℕ → Visit → ℕ) (m : PageMemory) (height : ℕ) (vs : List Visit) → sum_of (f height) vs ≤ weight f m height vs
-weight-top f m zero vs = omega arith
-weight-top f m (suc height) vs = omega arith
 
 -- a visit is among others
 abbrev pub IsIn : Visit → List Visit → Type 0
@@ -148,8 +132,8 @@ module _ (m : PageMemory) (root : ℕ) (tree : IsTreeOf m (height_of m root) roo
       let own = is_visit-own level p.visit in
       let own_page = is_page-own page level p.visit p.here in
       let counted : (f : ℕ → Visit → ℕ) → 1 ≤ f level p.visit → 1 ≤ weight_of f m root = λ f one.
-      let a = weight-below f m o.depth level (top_of root) in
-      let b = weight-top f m level (below m o.depth (top_of root)) in
+      let a = below-le_weight f m o.depth level (top_of root) in
+      let b = level-le_weight f m level (below m o.depth (top_of root)) in
       let c = ap (sum_of (f level)) p.is in
       let d = sum_of-append (f level) p.before (p.visit ∷ p.behind) in
       let e = ap (λ n. weight f m n (top_of root)) (above-sum o.depth level ∙ o.height) in omega arith in

@@ -25,9 +25,9 @@ abbrev pub fault_on : Latch → TryFault → NowaitFault
 fault_on latch (TryBusy word) = Busy latch word
 fault_on latch (TryRaced expected found) = Raced latch expected found
 
-abbrev pub latch_of : NowaitFault → ℕ
-latch_of (Busy latch word) = latch.0
-latch_of (Raced latch expected found) = latch.0
+abbrev pub refused_latch : NowaitFault → ℕ
+refused_latch (Busy latch word) = latch.0
+refused_latch (Raced latch expected found) = latch.0
 
 -- the last look found this word, in which S is not granted: it is not above 0
 pub record WasBusy (l : ℕ) (word : LockWord) (first last : Looks) : Type 0 where
@@ -58,7 +58,7 @@ pub record IsInVain (sizes : Sizes) (lawful : List Entry → Type 0) (l : ℕ) (
   pub session : q.view.session ≡ p.view.session
   pub grants : q.view.grants ≡ p.view.grants
   pub work : q.work ≡ p.work
-  pub at : latch_of fault ≡ l
+  pub at : refused_latch fault ≡ l
   pub refused : WasRefused fault p.view.looks q.view.looks
 
 -- .. on a page of the key's way in the tree after all seen
@@ -79,7 +79,7 @@ pub record IsHindered (sizes : Sizes) (lawful : List Entry → Type 0) (opening 
   pub known : IsKnown sizes lawful q
   pub grants : HasGrants [] q
   pub work : q.work ≡ []
-  pub way : IsOnTheWay opening q.view.memory.seen root key (latch_of fault)
+  pub way : IsOnTheWay opening q.view.memory.seen root key (refused_latch fault)
   pub refused : WasRefused fault p.view.looks q.view.looks
   pub s : q.view.grants.s ≤ p.view.grants.s + 9
   pub sx : q.view.grants.sx ≡ p.view.grants.sx

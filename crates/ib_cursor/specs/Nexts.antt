@@ -38,7 +38,7 @@ pub record HeldLeaf (sizes : Sizes) (lawful : List Entry → Type 0) (opening : 
   pub may : next_of image ≢ 0 → CanWish (next_of image + 2) TreeNode p.view.session
 
 -- the next leaf is held in its place, and its range begins where that of the leaf ends. After all seen the leaf is as it was read, so the next one is what its link names
-pub record HasNext (sizes : Sizes) (lawful : List Entry → Type 0) (opening : ℕ → ℕ) (roots : ℕ) (front : List Grant) (leaf : ℕ) (image : List ℕ) (r : PageRange) (next : ℕ) (p q : PassState) : Type 0 where
+pub record HoldsNext (sizes : Sizes) (lawful : List Entry → Type 0) (opening : ℕ → ℕ) (roots : ℕ) (front : List Grant) (leaf : ℕ) (image : List ℕ) (r : PageRange) (next : ℕ) (p q : PassState) : Type 0 where
   pub link : next ≡ next_of image
   pub was : IsPageAfter opening q.view.memory.seen leaf image
   pub met : HasRange roots (pages_after opening q.view.memory.seen) leaf r

@@ -21,11 +21,11 @@ abbrev pub with_loads : List Loaded → View → View
 with_loads loaded v = with_memory (record v.memory { loaded = loaded }) v
 
 -- some words more are loaded, and nothing else is changed
-pub record HasRead (p q : PassState) : Type 0 where
+pub record HasReadWords (p q : PassState) : Type 0 where
   pub same : q ≡ with_view p (with_loads q.view.memory.loaded p.view)
 
-pub read_none : (p : PassState) → HasRead p p
+pub read_none : (p : PassState) → HasReadWords p p
 read_none p = record { same = refl }
 
-pub read_more : (p q r : PassState) → HasRead p q → HasRead q r → HasRead p r
+pub read_more : (p q r : PassState) → HasReadWords p q → HasReadWords q r → HasReadWords p r
 read_more p q r one two = record { same = two.same ∙ ap (λ (s : PassState). with_view s (with_loads r.view.memory.loaded s.view)) one.same }

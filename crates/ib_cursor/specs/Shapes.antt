@@ -63,7 +63,7 @@ pub record IsLink (memory : PageMemory) (key : MapKey) (page level link : ℕ) :
   pub left : level ≡ 0 → link ≡ (memory page).prev
 
 -- a page that is held in S behind the claimed index names this one; it is held still, and no page is loaded
-pub record IsLinkedAt (sizes : Sizes) (lawful : List Entry → Type 0) (opening : ℕ → ℕ) (root : ℕ) (key : MapKey) (page level link : ℕ) (p q : PassState) : Type 0 where
+pub record NamesLink (sizes : Sizes) (lawful : List Entry → Type 0) (opening : ℕ → ℕ) (root : ℕ) (key : MapKey) (page level link : ℕ) (p q : PassState) : Type 0 where
   pub at : IsAt sizes lawful opening root key (claim_grant ∷ []) page level S q
   pub keeps : KeepsClaim p q
   pub went : WentOn p q

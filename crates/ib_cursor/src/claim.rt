@@ -15,7 +15,7 @@ ghost use Rattle.ib_mtr.specs.Mtr.{IsMtr};
 ghost use Rattle.ib_cursor.specs.Claims.{HasClaimed, IsWayWithLeaves, beside, claim_grant};
 ghost use Rattle.ib_cursor.specs.Descent.{IsAt};
 ghost use Rattle.ib_cursor.specs.Going.{HasStood};
-ghost use Rattle.ib_cursor.specs.Shapes.{HasIndex, HasPeeked, HasReadWay, IsLinkedAt, ShapeLaws, is_claimed};
+ghost use Rattle.ib_cursor.specs.Shapes.{HasIndex, HasPeeked, HasReadWay, NamesLink, ShapeLaws, is_claimed};
 ghost use Rattle.ib_cursor.specs.Takings.{CanTakePage, HasTakenMore, HasTakenPage, MayTakeLeaves, WillTake};
 ghost use Rattle.ib_cursor.specs.Way.{IsOnWay};
 
@@ -88,7 +88,7 @@ fn left_link<L: Trees>(mtr: &mut Mtr<'_, L, Parkers>, sought: Sought, leaf: u32)
     ensures mtr { IsMtr mtr.new.latches.now mtr.new.pass.now }
     ensures latches { mtr.new.latches ≡ mtr.old.latches }
     ensures pass { mtr.new.pass.ghost_name ≡ mtr.old.pass.ghost_name }
-    ensures linked { IsLinkedAt mtr.old.latches.now.sizes
+    ensures linked { NamesLink mtr.old.latches.now.sizes
         (L.lawful mtr.old.latches.now.sizes.pages)
         (by_place L.opening mtr.old.latches.now.sizes.pages) sought.root sought.key
         leaf 0 result mtr.old.pass.now mtr.new.pass.now }
@@ -114,7 +114,7 @@ fn link_here<L: Trees>(mtr: &mut Mtr<'_, L, Parkers>, sought: Sought, page: u32,
     ensures mtr { IsMtr mtr.new.latches.now mtr.new.pass.now }
     ensures latches { mtr.new.latches ≡ mtr.old.latches }
     ensures pass { mtr.new.pass.ghost_name ≡ mtr.old.pass.ghost_name }
-    ensures linked { IsLinkedAt mtr.old.latches.now.sizes
+    ensures linked { NamesLink mtr.old.latches.now.sizes
         (L.lawful mtr.old.latches.now.sizes.pages)
         (by_place L.opening mtr.old.latches.now.sizes.pages) sought.root sought.key
         page level result mtr.old.pass.now mtr.new.pass.now }

@@ -10,7 +10,7 @@ ghost use Rattle.ib_heap.specs.declared.TheConstants.{MOST_LEVEL};
 ghost use Rattle.ib_walk.specs.Search.{child_for};
 ghost use Rattle.ib_walk.specs.Words.{image_of};
 ghost use Rattle.ib_mtr.specs.Mtr.{IsMtr};
-ghost use Rattle.ib_cursor.specs.Reading.{CanRead, HasRead, read_none, read_more};
+ghost use Rattle.ib_cursor.specs.Reading.{CanRead, HasReadWords, read_none, read_more};
 
 use ib_latch::Sleep;
 use ib_logrec::Law;
@@ -31,7 +31,7 @@ impl<'m, 'a, L: Law, S: Sleep> PageWords for HeldPage<'m, 'a, L, S> {
 
     ghost can_read = { λ h. CanRead h.mtr.now.latches.now h.page h.mtr.now.pass.now };
 
-    ghost has_read = { λ h k. (k.mtr.ghost_name ≡ h.mtr.ghost_name) × (k.page ≡ h.page) × (k.mtr.now.latches ≡ h.mtr.now.latches) × (k.mtr.now.pass.ghost_name ≡ h.mtr.now.pass.ghost_name) × HasRead h.mtr.now.pass.now k.mtr.now.pass.now };
+    ghost has_read = { λ h k. (k.mtr.ghost_name ≡ h.mtr.ghost_name) × (k.page ≡ h.page) × (k.mtr.now.latches ≡ h.mtr.now.latches) × (k.mtr.now.pass.ghost_name ≡ h.mtr.now.pass.ghost_name) × HasReadWords h.mtr.now.pass.now k.mtr.now.pass.now };
 
     fn word(&mut self, index: usize) -> u64 {
         self.mtr.word(self.page, index)
@@ -57,7 +57,7 @@ impl<'m, 'a, L: Law, S: Sleep> HeldPage<'m, 'a, L, S> {
         ensures latches { self.new.mtr.now.latches ≡ self.old.mtr.now.latches }
         ensures pass { self.new.mtr.now.pass.ghost_name ≡ self.old.mtr.now.pass.ghost_name }
         ensures mtr { IsMtr self.new.mtr.now.latches.now self.new.mtr.now.pass.now }
-        ensures read { HasRead self.old.mtr.now.pass.now self.new.mtr.now.pass.now }
+        ensures read { HasReadWords self.old.mtr.now.pass.now self.new.mtr.now.pass.now }
     {
         level_in(self)
     }
@@ -82,7 +82,7 @@ impl<'m, 'a, L: Law, S: Sleep> HeldPage<'m, 'a, L, S> {
         ensures latches { self.new.mtr.now.latches ≡ self.old.mtr.now.latches }
         ensures pass { self.new.mtr.now.pass.ghost_name ≡ self.old.mtr.now.pass.ghost_name }
         ensures mtr { IsMtr self.new.mtr.now.latches.now self.new.mtr.now.pass.now }
-        ensures read { HasRead self.old.mtr.now.pass.now self.new.mtr.now.pass.now }
+        ensures read { HasReadWords self.old.mtr.now.pass.now self.new.mtr.now.pass.now }
     {
         child_in(self, key) as u32
     }
@@ -100,7 +100,7 @@ impl<'m, 'a, L: Law, S: Sleep> HeldPage<'m, 'a, L, S> {
         ensures latches { self.new.mtr.now.latches ≡ self.old.mtr.now.latches }
         ensures pass { self.new.mtr.now.pass.ghost_name ≡ self.old.mtr.now.pass.ghost_name }
         ensures mtr { IsMtr self.new.mtr.now.latches.now self.new.mtr.now.pass.now }
-        ensures read { HasRead self.old.mtr.now.pass.now self.new.mtr.now.pass.now }
+        ensures read { HasReadWords self.old.mtr.now.pass.now self.new.mtr.now.pass.now }
     {
         get_in(self, key)
     }
@@ -117,7 +117,7 @@ pub(crate) fn level_of<L: Law, S: Sleep>(mtr: &mut Mtr<'_, L, S>, page: u32) -> 
     ensures mtr { IsMtr mtr.new.latches.now mtr.new.pass.now }
     ensures latches { mtr.new.latches ≡ mtr.old.latches }
     ensures pass { mtr.new.pass.ghost_name ≡ mtr.old.pass.ghost_name }
-    ensures read { HasRead mtr.old.pass.now mtr.new.pass.now }
+    ensures read { HasReadWords mtr.old.pass.now mtr.new.pass.now }
 {
     let mut held = HeldPage { mtr, page };
     held.level()
@@ -138,7 +138,7 @@ pub(crate) fn child_of<L: Law, S: Sleep>(mtr: &mut Mtr<'_, L, S>, page: u32, key
     ensures mtr { IsMtr mtr.new.latches.now mtr.new.pass.now }
     ensures latches { mtr.new.latches ≡ mtr.old.latches }
     ensures pass { mtr.new.pass.ghost_name ≡ mtr.old.pass.ghost_name }
-    ensures read { HasRead mtr.old.pass.now mtr.new.pass.now }
+    ensures read { HasReadWords mtr.old.pass.now mtr.new.pass.now }
 {
     let mut held = HeldPage { mtr, page };
     held.child(key)
@@ -159,7 +159,7 @@ pub(crate) fn value_of<L: Law, S: Sleep>(
     ensures mtr { IsMtr mtr.new.latches.now mtr.new.pass.now }
     ensures latches { mtr.new.latches ≡ mtr.old.latches }
     ensures pass { mtr.new.pass.ghost_name ≡ mtr.old.pass.ghost_name }
-    ensures read { HasRead mtr.old.pass.now mtr.new.pass.now }
+    ensures read { HasReadWords mtr.old.pass.now mtr.new.pass.now }
 {
     let mut held = HeldPage { mtr, page };
     held.value(key)

@@ -4,7 +4,7 @@ ghost use Rattle.std.specs.Prelude.{◌≡◌, MatchOption};
 ghost use Rattle.ib_logrec.specs.Log.{by_place};
 ghost use Rattle.ib_page.specs.Image.{next_of};
 ghost use Rattle.ib_mtr.specs.Mtr.{IsMtr};
-ghost use Rattle.ib_cursor.specs.Nexts.{HasNext, HeldLeaf};
+ghost use Rattle.ib_cursor.specs.Nexts.{HoldsNext, HeldLeaf};
 
 use crate::claim::right_of;
 use crate::stands::{read, take};
@@ -29,7 +29,7 @@ pub fn next_leaf<L: Trees, R: Wait>(rt: &R, mtr: &mut Mtr<'_, L, Parkers>, leaf:
         (L.lawful mtr.old.latches.now.sizes.pages)
         (by_place L.opening mtr.old.latches.now.sizes.pages) L.ROOTS leaf mtr.old.pass.now)
         → MatchOption result ((next_of h.image ≡ 0) × (mtr.new.pass.now ≡ mtr.old.pass.now))
-        (λ next. HasNext mtr.old.latches.now.sizes (L.lawful mtr.old.latches.now.sizes.pages)
+        (λ next. HoldsNext mtr.old.latches.now.sizes (L.lawful mtr.old.latches.now.sizes.pages)
         (by_place L.opening mtr.old.latches.now.sizes.pages) L.ROOTS h.front leaf h.image
         h.range next mtr.old.pass.now mtr.new.pass.now) }
 {

@@ -1,4 +1,5 @@
 pub mod Cuts
+pub mod Decimals
 pub mod Fields
 pub mod Pieces
 pub mod Reached

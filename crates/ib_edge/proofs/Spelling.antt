@@ -18,7 +18,7 @@ no-last false b c x h = refl
 no-last true false c x h = refl
 no-last true true c x h = rw h refl
 
-all-three : (a b c : Bool) (x : ℕ) → a ≡ true → b ≡ true → c ≡ true → cond (a && b && c) (Some x) None ≡ Some x
+pub all-three : (a b c : Bool) (x : ℕ) → a ≡ true → b ≡ true → c ≡ true → cond (a && b && c) (Some x) None ≡ Some x
 all-three a b c x h k l = rw (h, k, l) refl
 
 -- more digits make no smaller number

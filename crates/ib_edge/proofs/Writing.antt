@@ -35,6 +35,7 @@ grows_none a = record {
   taken = Appends-nil a.written;
   whole = append-nil a.pending;
   good = λ h. (h, refl);
+  calm = λ h. refl;
   cause = λ h. inl h;
   stays = λ h. (h, refl);
 }
@@ -51,6 +52,7 @@ grows_on a b c x y g h = elim (bool_cases b.failed) [
         taken = Appends-trans a.written b.written c.written g.sent h.sent g.taken h.taken;
         whole = rest_on a.pending x y g.sent h.sent g.rest (g.rest ++ y) g.whole (ap (λ z. z ++ (g.rest ++ y)) (sym gone));
         good = λ k. let back : b.failed ≡ false = (h.good k).0 in cc;
+        calm = λ k. h.calm k ∙ g.calm (h.good k).0;
         cause = λ k. cause_on a b c g.later h.later g.cause (h.cause k);
         stays = λ k. ((h.stays e).0, ap (λ z. g.sent ++ z) gone ∙ ap (λ z. z ++ []) (g.stays k).1);
       }
@@ -62,6 +64,7 @@ grows_on a b c x y g h = elim (bool_cases b.failed) [
         taken = Appends-trans a.written b.written c.written g.sent h.sent g.taken h.taken;
         whole = rest_on a.pending x y g.sent h.sent g.rest h.rest g.whole (ap (λ z. z ++ y) (sym (g.good e).1) ∙ h.whole);
         good = λ k. ((g.good (h.good k).0).0, (h.good k).1);
+        calm = λ k. h.calm k ∙ g.calm (h.good k).0;
         cause = λ k. cause_on a b c g.later h.later g.cause (h.cause k);
         stays = λ k. let on : b.failed ≡ true = (g.stays k).0 in absurd (cc);
       }
@@ -77,6 +80,7 @@ grows_kept written faults failed old new x e = record {
   taken = Appends-nil written;
   whole = refl;
   good = λ h. (h, e);
+  calm = λ h. refl;
   cause = λ h. inl h;
   stays = λ h. (h, refl);
 }
@@ -119,14 +123,14 @@ module _ {K : Type 0} {written : K → Option (List ℕ)} {faults : K → ℕ} w
       ap (flat_map f) (take_more xs i d lt) ∙ flat_map-append f (take i xs) (get_or xs i d ∷ []) ∙ ap (λ z. flat_map f (take i xs) ++ z) (append-nil (f (get_or xs i d))) in
       subst (Puts written faults a c) (sym text) (puts_on p q)
 
-  -- A writer that printed x from the start, and then finished: at `Ok` the sink took all of x, and at `Err` a front of it and its count of faults rose.
+  -- A writer that printed x from the start, and then finished: at `Ok` the sink took all of x and never failed, and at `Err` a front of it and its count of faults rose.
   pub puts_finished : {T E : Type 0} {target : K} {a b c : Writer K} {x : List ℕ} (result : Result T E) → IsFresh target a → Puts written faults a b x → Puts written faults b c [] → IsFinished c result
       → AppendsAll (written target) (written (sink_of c)) result x × HasCause (faults target) (faults (sink_of c)) result
   puts_finished {T = T} {E = E} {a = a} {c = c} {x = x} (Ok r) fresh p q end =
       let all = (puts_end p q).grows in
       subst (λ (k : K). Appends (written k) (written (sink_of c)) x × HasCause {T = T} {E = E} (faults k) (faults (sink_of c)) (Ok r)) fresh.sink
-      (grows_whole _ _ x all fresh.empty end.ok end.empty, record { later = all.later; failed = tt })
+      (grows_whole _ _ x all fresh.empty end.ok end.empty, record { later = all.later; calm = all.calm end.ok; failed = tt })
   puts_finished {T = T} {E = E} {a = a} {c = c} {x = x} (Err r) fresh p q end =
       let all = (puts_end p q).grows in
       subst (λ (k : K). AppendsFront (written k) (written (sink_of c)) x × HasCause {T = T} {E = E} (faults k) (faults (sink_of c)) (Err r)) fresh.sink
-      (grows_front _ _ x all fresh.empty, record { later = all.later; failed = grows_fault _ _ x all fresh.good end.err })
+      (grows_front _ _ x all fresh.empty, record { later = all.later; calm = tt; failed = grows_fault _ _ x all fresh.good end.err })

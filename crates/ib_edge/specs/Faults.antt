@@ -1,5 +1,5 @@
 -- Faults of reading and writing, and what stands after one.
-use Rattle.std.specs.Prelude.{◌≡◌, ◌+◌, ◌-◌, ◌^◌, ◌≤◌, ℕ, List, ◌++◌, min, OnErr, Result, MatchResult}
+use Rattle.std.specs.Prelude.{◌≡◌, ◌+◌, ◌-◌, ◌^◌, ◌≤◌, ℕ, List, ◌++◌, min, OnErr, OnOk, Result, MatchResult}
 use Rattle.std.specs.declared.option.Option.{Option}
 use Rattle.std.specs.Io.KnownBytes.{Appends}
 
@@ -7,9 +7,10 @@ use Rattle.std.specs.Io.KnownBytes.{Appends}
 abbrev pub Rose : ℕ → ℕ → Type 0
 Rose before now = min (before + 1) (2 ^ 64 - 1) ≤ now
 
--- the count never falls, and a failed call has raised it
+-- the count never falls, a call that succeeded has left it, and a failed one has raised it
 pub record HasCause {T E : Type 0} (before now : ℕ) (result : Result T E) : Type 0 where
   pub later : before ≤ now
+  pub calm : OnOk result (now ≡ before)
   pub failed : OnErr result (Rose before now)
 
 -- known bytes grow by a front of bs

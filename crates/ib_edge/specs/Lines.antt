@@ -1,5 +1,5 @@
 -- A text is lines, and a line is fields.
-use Rattle.std.specs.Prelude.{◌≡◌, ℕ, ◌+◌, List, [], ◌∷◌, ◌++◌, ◌==◌, Bool, true, Option, Some, None, length, map}
+use Rattle.std.specs.Prelude.{◌≡◌, ◌⊎◌, ℕ, ◌+◌, List, [], ◌∷◌, ◌++◌, ◌==◌, Bool, true, Option, Some, None, length, map}
 use denote.Ref.{Bor}
 use Rattle.std.specs.List.{slice_split}
 use Rattle.ib_edge.specs.declared.line_kind.LineKind.{LineKind}
@@ -47,3 +47,7 @@ pub record MayLackMemory {R : Type 0} (wrong : List R → R → Option LineKind)
   pub whole : before ++ reading ∷ after ≡ readings
   pub asking : asks reading ≡ true
   pub good : first_bad wrong [] (before ++ reading ∷ []) ≡ None
+
+-- what is made of lines may end for want of memory: at one that asks for some before any is bad, or behind all, where none is bad
+abbrev pub MayEndForMemory : {R : Type 0} → (List R → R → Option LineKind) → (R → Bool) → List R → Type 0
+MayEndForMemory wrong asks readings = MayLackMemory wrong asks readings ⊎ (first_bad wrong [] readings ≡ None)

@@ -4,6 +4,8 @@ use Rattle.std.specs.declared.option.Option.{Option}
 use Rattle.std.specs.Io.KnownBytes.{Appends}
 use Rattle.ib_edge.specs.BadLines.{fault_text}
 use Rattle.ib_edge.specs.Faults.{AppendsFront}
+use Rattle.ib_edge.specs.declared.bad_line.ScriptFault.{ScriptFault}
+use Rattle.ib_edge.specs.declared.bad_line.ScriptFault.TheVariants.{BadLine, OutOfMemory as NoMemory}
 use Rattle.ib_edge.specs.declared.line_kind.LineKind.{LineKind}
 use Rattle.ib_edge.specs.declared.status.Status.{Status}
 use Rattle.ib_edge.specs.declared.status.Status.TheVariants.{Done, Script, WriteFault, Memory}
@@ -34,6 +36,15 @@ IsComplete owes written now status =
 -- where only want of memory may come with nothing written
 abbrev pub IsMemory : Status → Type 0
 IsMemory status = status ≡ Memory
+
+-- where it may come on a condition alone
+abbrev pub IsMemoryWhere : Type 0 → Status → Type 0
+IsMemoryWhere may status = (status ≡ Memory) × may
+
+-- what is owed for an input that is not read: its bad line is told, and want of memory is no ending that writes
+abbrev pub OwesFault : ScriptFault → Ending → Type 0
+OwesFault (BadLine line kind) e = e ≡ ends Script (fault_text line kind)
+OwesFault NoMemory e = ⊥
 
 -- what is owed for lines: their first bad one is told, or else they give an output
 abbrev pub OwesLines : Option (ℕ × LineKind) → (List ℕ → Type 0) → Ending → Type 0

@@ -25,6 +25,7 @@ pub record Point : Type 0 where
   pub pending : List ℕ
 
 -- Bytes were put from old to new: what waited and they are what the sink took and a rest, which waits unless the writer has failed.
+-- Where it has not failed, its sink has not.
 pub record Grows (old new : Point) (bytes : List ℕ) : Type 0 where
   pub later : old.faults ≤ new.faults
   pub sent : List ℕ
@@ -32,6 +33,7 @@ pub record Grows (old new : Point) (bytes : List ℕ) : Type 0 where
   pub taken : Appends old.written new.written sent
   pub whole : old.pending ++ bytes ≡ sent ++ rest
   pub good : new.failed ≡ false → (old.failed ≡ false) × (new.pending ≡ rest)
+  pub calm : new.failed ≡ false → new.faults ≡ old.faults
   pub cause : new.failed ≡ true → (old.failed ≡ true) ⊎ Rose old.faults new.faults
   pub stays : old.failed ≡ true → (new.failed ≡ true) × (sent ≡ [])
 

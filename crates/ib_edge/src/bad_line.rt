@@ -1,12 +1,15 @@
 //! A bad line, and the one text that tells it.
 
-ghost use Rattle.std.specs.Prelude.{◌≡◌};
+ghost use Rattle.std.specs.Prelude.{◌≡◌, ◌≢◌};
 ghost use Rattle.ib_edge.specs.BadLines.{fault_at, kind_text};
+ghost use Rattle.ib_edge.specs.Faults.{Rose};
+ghost use Rattle.ib_edge.specs.Told.{IsMemoryWhere, OwesFault, Told};
 ghost use Rattle.ib_edge.specs.Writer.{Puts};
 
 use crate::line_kind::LineKind;
-use crate::printed::Printed;
+use crate::printed::{Printed, tell};
 use crate::sink::Sink;
+use crate::status::Status;
 use crate::writer::Writer;
 use std::alloc::AllocError;
 use thiserror::Error;
@@ -14,7 +17,9 @@ use thiserror::Error;
 /// Why a line is not taken.
 #[derive(Drop)]
 pub enum LineFault {
+    /// This is wrong with it.
     Bad(LineKind),
+    /// It asks for memory, and there is none.
     OutOfMemory,
 }
 
@@ -24,6 +29,7 @@ pub enum ScriptFault {
     /// The first bad line, counted from 1 over all lines.
     #[error("line {line} is bad")]
     BadLine { line: u32, kind: LineKind },
+    /// Memory ran out before a bad line was met.
     #[error("out of memory")]
     OutOfMemory,
 }
@@ -94,5 +100,19 @@ impl Printed for BadLine {
         writer.text(b": ");
         print_kind(writer, self.kind);
         writer.byte(b'\n');
+    }
+}
+
+/// Ends for an input that is not read: writes its bad line, or nothing where memory ran out.
+pub fn refuse<K: Sink>(sink: &mut K, fault: ScriptFault) -> Status
+    ensures told { Told (OwesFault fault) (IsMemoryWhere (fault ≡ ScriptFault.OutOfMemory)) (K.written sink.old) (K.written sink.new) result }
+    ensures calm { result ≢ Status.WriteFault → K.faults sink.new ≡ K.faults sink.old }
+    ensures write { result ≡ Status.WriteFault → Rose (K.faults sink.old) (K.faults sink.new) }
+{
+    match fault {
+        ScriptFault::BadLine { line, kind } => {
+            tell(sink, BadLine { line, kind }, Status::Script)
+        }
+        ScriptFault::OutOfMemory => Status::Memory,
     }
 }

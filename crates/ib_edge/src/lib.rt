@@ -16,12 +16,12 @@ mod source;
 mod status;
 mod writer;
 
-pub use bad_line::{BadLine, LineFault, ScriptFault};
+pub use bad_line::{BadLine, LineFault, ScriptFault, refuse};
 pub use buffer::BUFFER_BYTES;
 pub use line::{first_field, first_line, is_skipped};
 pub use line_kind::{LineKind, MOST_SCRIPT_SESSIONS};
-pub use memory_sink::MemSink;
-pub use memory_source::MemSource;
+pub use memory_sink::MemorySink;
+pub use memory_source::MemorySource;
 pub use number::{number_in, session_in};
 pub use printed::{Printed, tell};
 pub use read::{INPUT_BYTES, PIECE_BYTES, ReadError, read_all};

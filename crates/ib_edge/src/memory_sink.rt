@@ -8,7 +8,7 @@ use std::marker::Model;
 
 /// A sink in memory, for tests: it takes pieces, and fails at the calls that it is told and for want of memory.
 #[derive(Drop)]
-pub struct MemSink {
+pub struct MemorySink {
     bytes: Vec<u8>,
     most: usize,
     failing: Vec<u64>,
@@ -16,7 +16,7 @@ pub struct MemSink {
     faults: u64,
 }
 
-impl Model for MemSink {
+impl Model for MemorySink {
     ghost use Rattle.std.specs.Prelude.{◌<◌};
     ghost use Rattle.ib_edge.specs.Memory.{SinkState};
 
@@ -33,9 +33,9 @@ impl Model for MemSink {
     ghost invariant = { λ s. 0 < s.most };
 }
 
-impl MemSink {
+impl MemorySink {
     /// Takes at most `most` bytes a call. The calls, counted from 1, whose numbers are in `failing` fail.
-    pub fn new(alloc: Global, most: usize, failing: Vec<u64>) -> MemSink
+    pub fn new(alloc: Global, most: usize, failing: Vec<u64>) -> MemorySink
         requires { 0 < most }
         ensures { result ≡ record {
           written = [];
@@ -45,7 +45,7 @@ impl MemSink {
           faults = 0;
         } }
     {
-        MemSink {
+        MemorySink {
             bytes: Vec::new(alloc),
             most,
             failing,
@@ -62,7 +62,7 @@ impl MemSink {
     }
 }
 
-impl Sink for MemSink {
+impl Sink for MemorySink {
     ghost use Rattle.std.specs.Prelude.{◌≡◌, ◌<◌, ◌+◌, ◌-◌, ◌^◌, Some, length, min, Contains, IfOk, IsErr, MatchResult};
     ghost use Rattle.std.specs.Io.{WritesAtMost};
     ghost use Rattle.std.specs.Io.KnownBytes.{WriteAppends};

@@ -8,7 +8,7 @@ use std::marker::Model;
 
 /// A source in memory, for tests: it gives its bytes in pieces, and fails at the calls that it is told.
 #[derive(Drop)]
-pub struct MemSource {
+pub struct MemorySource {
     bytes: Vec<u8>,
     at: usize,
     most: usize,
@@ -17,7 +17,7 @@ pub struct MemSource {
     faults: u64,
 }
 
-impl Model for MemSource {
+impl Model for MemorySource {
     ghost use Rattle.std.specs.Prelude.{◌<◌, ◌≤◌, drop, vec_len};
     ghost use Rattle.ib_edge.specs.Memory.{SourceState};
 
@@ -34,9 +34,9 @@ impl Model for MemSource {
     ghost invariant = { λ s. (0 < s.most) × (s.at ≤ vec_len s.bytes) };
 }
 
-impl MemSource {
+impl MemorySource {
     /// Gives `bytes`, at most `most` of them a call. The calls, counted from 1, whose numbers are in `failing` fail.
-    pub fn new(bytes: Vec<u8>, most: usize, failing: Vec<u64>) -> MemSource
+    pub fn new(bytes: Vec<u8>, most: usize, failing: Vec<u64>) -> MemorySource
         requires { 0 < most }
         ensures { result ≡ record {
           left = bytes.items;
@@ -46,7 +46,7 @@ impl MemSource {
           faults = 0;
         } }
     {
-        MemSource {
+        MemorySource {
             bytes,
             at: 0,
             most,
@@ -57,7 +57,7 @@ impl MemSource {
     }
 }
 
-impl Source for MemSource {
+impl Source for MemorySource {
     ghost use Rattle.std.specs.Prelude.{◌≡◌, ◌↔◌, ◌+◌, ◌-◌, ◌^◌, Some, length, min, Contains, IfOk, IsErr, MatchResult};
     ghost use Rattle.std.specs.Io.{ReadsAtMost};
     ghost use Rattle.std.specs.Io.KnownBytes.{ReadConsumes};

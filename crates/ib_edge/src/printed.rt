@@ -43,6 +43,7 @@ fn write_whole<K: Sink, P: Printed>(sink: &mut K, printed: P) -> Result<(), Fail
 pub fn tell<K: Sink, P: Printed>(sink: &mut K, printed: P, status: Status) -> Status
     requires { status ≢ Status.WriteFault }
     ensures told { IsWritten (ends status (P.text printed)) (K.written sink.old) (K.written sink.new) result }
+    ensures calm { result ≢ Status.WriteFault → K.faults sink.new ≡ K.faults sink.old }
     ensures write { result ≡ Status.WriteFault → Rose (K.faults sink.old) (K.faults sink.new) }
 {
     match write_whole(sink, printed) {

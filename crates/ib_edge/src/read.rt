@@ -1,6 +1,6 @@
 //! An input, read to its end.
 
-ghost use Rattle.std.specs.Prelude.{◌≡◌, ◌≤◌, ◌+◌, vec_len, IfOk, IsErrOf};
+ghost use Rattle.std.specs.Prelude.{◌≡◌, ◌≢◌, ◌≤◌, ◌+◌, Err, vec_len, IfOk, IsErrOf};
 ghost use Rattle.ib_edge.specs.Faults.{Rose};
 ghost use Rattle.ib_edge.specs.Input.{ConsumesAtMost, Reads};
 
@@ -21,10 +21,13 @@ const _: () = prove!(INPUT_BYTES == 67_108_864);
 /// Why an input was not read to its end.
 #[derive(Clone, Copy, Debug, PartialEq, Eq, Error)]
 pub enum ReadError {
+    /// Memory ran out.
     #[error("out of memory")]
     Memory,
+    /// The source failed.
     #[error("the source failed")]
     Fault,
+    /// More than the limit was read.
     #[error("the input is too large")]
     TooLarge,
 }
@@ -44,6 +47,7 @@ pub fn read_all<S: Source>(
     ensures reads { Reads (S.left source.old) (S.left source.new) limit result }
     ensures within { ConsumesAtMost (S.left source.old) (S.left source.new) (limit + PIECE_BYTES) }
     ensures later { S.faults source.old ≤ S.faults source.new }
+    ensures calm { result ≢ Err ReadError.Fault → S.faults source.new ≡ S.faults source.old }
     ensures fault { IsErrOf result ReadError.Fault → Rose (S.faults source.old) (S.faults source.new) }
 {
     let mut bytes = Vec::new(alloc);

@@ -17,7 +17,7 @@ pub trait Sink {
     ghost faults: { Self → ℕ };
 
     /// Takes a front of `buf` and says its length: at least one byte, unless `buf` is empty.
-    /// `Failed` has taken nothing, and has raised the count of faults.
+    /// `Failed` has taken nothing, and has raised the count of faults, which stays where the call succeeds.
     fn write(&mut self, buf: &[u8]) -> Result<usize, Failed>
         ensures bound { WritesAtMost result buf.now }
         ensures moves { IfOk result (λ count. 0 < length buf.now → 0 < count) }

@@ -15,7 +15,7 @@ pub trait Source {
     ghost faults: { Self → ℕ };
 
     /// Moves the next bytes into the front of `buf` and says how many: 0 for a `buf` that isn't
-    /// empty is the end of the input. `Failed` has taken nothing, and has raised the count of faults.
+    /// empty is the end of the input. `Failed` has taken nothing, and has raised the count of faults, which stays where the call succeeds.
     fn read(&mut self, buf: &mut [u8]) -> Result<usize, Failed>
         ensures bound { ReadsAtMost result buf.new }
         ensures bytes { ReadConsumes (left self.old) (left self.new) result buf.new }

@@ -1,7 +1,7 @@
 //! How the program ends, as its exit status.
 
 ghost use Rattle.std.specs.Prelude.{◌≡◌};
-ghost use Rattle.ib_edge.specs.Status.{number_of};
+ghost use Rattle.ib_edge.specs.Status.{status_number};
 
 /// How the program ended.
 #[derive(Clone, Copy, Debug, PartialEq, Eq)]
@@ -27,7 +27,7 @@ pub enum Status {
 impl Status {
     /// The process's exit status, 0 to 7.
     pub fn number(self) -> u8
-        ensures { result ≡ number_of self }
+        ensures { result ≡ status_number self }
     {
         self as u8
     }

@@ -2,20 +2,22 @@
 use Rattle.std.proofs.Common.{◌≡◌, ◌≤◌, ℕ, List, [], ◌∷◌, Bool, true, false, map, refl, sym, ap, ◌∙◌, cond}
 use Rattle.std.specs.Prelude.{Result, Ok, Err, nat_le, ◌&&◌}
 use Rattle.std.specs.List.{AllByRecursion}
-use Rattle.std.proofs.lemmas.Bool.{leb-true}
+use Rattle.std.proofs.lemmas.Bool.{and_parts, leb-true}
 use Rattle.ib_core.specs.declared.event.Event.{Event}
-use Rattle.ib_core.specs.declared.event.Event.TheVariants.{S, Sx, X, Us, Usx, Ux, Arm, Flag, Again, Quit, Sleep, Ready, Exarm, Look, Clear, Raise}
+use Rattle.ib_core.specs.declared.event.Event.TheVariants.{S, Sx, X, Arm}
 use Rattle.ib_core.specs.Responses.{latch_of}
 use Rattle.ib_levels.specs.declared.level.Level.{Level}
 use Rattle.ib_levels.specs.declared.level.Mode.{Mode}
-use Rattle.ib_events.specs.Events.{EventReading, IsInRange, events_in, event_of, event_word, event_reading_of, event_reading_of_fields, latch_in, latch_in_mode, level_in, mode_in}
+use Rattle.ib_events.specs.Events.{EventReading, IsInRange, events_in, event_of, event_on_latch, event_word, event_reading_of, event_reading_of_fields, latch_in, latch_in_mode, level_in, mode_in}
 use Rattle.ib_edge.specs.Fields.{◌>>=◌, number_in, one_field, session_in, two_fields}
 use Rattle.ib_edge.specs.Lines.{fields_of}
 use Rattle.ib_edge.specs.Lines.{is_skipped}
 use Rattle.ib_events.specs.declared.event_line.TheConstants.{MOST_LATCH}
 use Rattle.ib_events.specs.declared.event_line.EventLine.TheVariants.{Skipped, Event as EventOf}
 use Rattle.ib_events.specs.declared.event_line.EventWord.{EventWord}
-use Rattle.ib_events.specs.declared.event_line.EventWord.TheVariants.{S as WordS, Sx as WordSx, X as WordX, Us as WordUs, Usx as WordUsx, Ux as WordUx, Arm as WordArm, Flag as WordFlag, Again as WordAgain, Quit as WordQuit, Sleep as WordSleep, Ready as WordReady, Exarm as WordExarm, Look as WordLook, Clear as WordClear, Raise as WordRaise}
+use Rattle.ib_events.specs.declared.event_line.EventWord.TheVariants.{S as WordS, Sx as WordSx, X as WordX, Arm as WordArm, OnLatch}
+use Rattle.ib_events.specs.declared.event_line.LatchWord.{LatchWord}
+use Rattle.ib_events.specs.declared.event_line.LatchWord.TheVariants.{Us as WordUs, Usx as WordUsx, Ux as WordUx, Flag as WordFlag, Again as WordAgain, Quit as WordQuit, Sleep as WordSleep, Ready as WordReady, Exarm as WordExarm, Look as WordLook, Clear as WordClear, Raise as WordRaise}
 use Rattle.ib_edge.specs.declared.line_kind.LineKind.{LineKind}
 use Rattle.ib_edge.specs.declared.line_kind.LineKind.TheVariants.{Session, Latch}
 use Rattle.ib_edge.specs.declared.line_kind.TheConstants.{MOST_SCRIPT_SESSIONS}
@@ -35,14 +37,9 @@ passed passes kind field n is =
     test m true pass is = let same : m ≡ n = cc in rw same at pass
     test m false pass is = absurd (cc)
 
-both : (a b : Bool) → (a && b) ≡ true → (a ≡ true) × (b ≡ true)
-both true true is = (refl, refl)
-both true false is = absurd (cc)
-both false b is = absurd (cc)
-
 session_in-range : (field : List ℕ) (n : ℕ) → session_in field ≡ Ok n → (1 ≤ n) × (n ≤ MOST_SCRIPT_SESSIONS)
 session_in-range field n is =
-    let within = both (nat_le 1 n) (nat_le n MOST_SCRIPT_SESSIONS) (passed (λ n. nat_le 1 n && nat_le n MOST_SCRIPT_SESSIONS) Session field n is) in
+    let within = and_parts (nat_le 1 n) (nat_le n MOST_SCRIPT_SESSIONS) (passed (λ n. nat_le 1 n && nat_le n MOST_SCRIPT_SESSIONS) Session field n is) in
     (leb-true 1 n within.0, leb-true n MOST_SCRIPT_SESSIONS within.1)
 
 latch_in-range : (field : List ℕ) (n : ℕ) → latch_in field ≡ Ok n → n ≤ MOST_LATCH
@@ -89,6 +86,20 @@ made-at-level make of fields event is =
     let same : latch_of event ≡ read.0.0 = let e : make read.0.0 read.0.1 ≡ event = cc in ap latch_of (sym e) ∙ of read.0.0 read.0.1 in
     rw (sym same) at (level-range fields read.0 read.1)
 
+latch-on : (word : LatchWord) (latch : ℕ) → latch_of (event_on_latch word latch) ≡ latch
+latch-on WordUs latch = refl
+latch-on WordUsx latch = refl
+latch-on WordUx latch = refl
+latch-on WordFlag latch = refl
+latch-on WordAgain latch = refl
+latch-on WordQuit latch = refl
+latch-on WordSleep latch = refl
+latch-on WordReady latch = refl
+latch-on WordExarm latch = refl
+latch-on WordLook latch = refl
+latch-on WordClear latch = refl
+latch-on WordRaise latch = refl
+
 event-range : (word : EventWord) (fields : List (List ℕ)) (event : Event) → event_of word fields ≡ Ok event → latch_of event ≤ MOST_LATCH
 event-range WordS fields event is = made-at-level S (λ n v. refl) fields event is
 event-range WordSx fields event is = made-at-level Sx (λ n v. refl) fields event is
@@ -97,18 +108,7 @@ event-range WordArm fields event is =
     let read = both-ok (latch_in_mode fields) (λ at. Ok (Arm at.0 at.1 at.2)) event is in
     let same : latch_of event ≡ read.0.0 = let e : Arm read.0.0 read.0.1 read.0.2 ≡ event = cc in ap latch_of (sym e) in
     rw (sym same) at (mode-range fields read.0 read.1)
-event-range WordUs fields event is = made-alone Us (λ n. refl) fields event is
-event-range WordUsx fields event is = made-alone Usx (λ n. refl) fields event is
-event-range WordUx fields event is = made-alone Ux (λ n. refl) fields event is
-event-range WordFlag fields event is = made-alone Flag (λ n. refl) fields event is
-event-range WordAgain fields event is = made-alone Again (λ n. refl) fields event is
-event-range WordQuit fields event is = made-alone Quit (λ n. refl) fields event is
-event-range WordSleep fields event is = made-alone Sleep (λ n. refl) fields event is
-event-range WordReady fields event is = made-alone Ready (λ n. refl) fields event is
-event-range WordExarm fields event is = made-alone Exarm (λ n. refl) fields event is
-event-range WordLook fields event is = made-alone Look (λ n. refl) fields event is
-event-range WordClear fields event is = made-alone Clear (λ n. refl) fields event is
-event-range WordRaise fields event is = made-alone Raise (λ n. refl) fields event is
+event-range (OnLatch word) fields event is = made-alone (event_on_latch word) (latch-on word) fields event is
 
 fields-range : (fields : List (List ℕ)) (session : ℕ) (event : Event) → event_reading_of_fields fields ≡ Ok (EventOf session event) → IsInRange (session, event)
 fields-range [] session event is = absurd (cc)

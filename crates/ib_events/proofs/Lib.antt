@@ -1,3 +1,4 @@
 pub mod EventLines
+pub mod EventRead
 pub mod EventsInRange
 pub mod EventsTaken

@@ -16,7 +16,9 @@ use Rattle.ib_events.specs.declared.event_line.TheConstants.{MOST_LATCH, MOST_EV
 use Rattle.ib_events.specs.declared.event_line.EventLine.{EventLine}
 use Rattle.ib_events.specs.declared.event_line.EventLine.TheVariants.{Skipped, Event as EventOf}
 use Rattle.ib_events.specs.declared.event_line.EventWord.{EventWord}
-use Rattle.ib_events.specs.declared.event_line.EventWord.TheVariants.{S as WordS, Sx as WordSx, X as WordX, Us as WordUs, Usx as WordUsx, Ux as WordUx, Arm as WordArm, Flag as WordFlag, Again as WordAgain, Quit as WordQuit, Sleep as WordSleep, Ready as WordReady, Exarm as WordExarm, Look as WordLook, Clear as WordClear, Raise as WordRaise}
+use Rattle.ib_events.specs.declared.event_line.EventWord.TheVariants.{S as WordS, Sx as WordSx, X as WordX, Arm as WordArm, OnLatch}
+use Rattle.ib_events.specs.declared.event_line.LatchWord.{LatchWord}
+use Rattle.ib_events.specs.declared.event_line.LatchWord.TheVariants.{Us as WordUs, Usx as WordUsx, Ux as WordUx, Flag as WordFlag, Again as WordAgain, Quit as WordQuit, Sleep as WordSleep, Ready as WordReady, Exarm as WordExarm, Look as WordLook, Clear as WordClear, Raise as WordRaise}
 use Rattle.ib_edge.specs.declared.line_kind.TheConstants.{MOST_SCRIPT_SESSIONS}
 use Rattle.ib_edge.specs.declared.line_kind.LineKind.{LineKind}
 use Rattle.ib_edge.specs.declared.line_kind.LineKind.TheVariants.{Word, Fields, Many, Latch, Level as LevelKind}
@@ -50,7 +52,7 @@ mode_in field =
     else Err Word
 
 -- the words of the steps of waiting and signalling
-abbrev pub waiting_word : List ℕ → Result EventWord LineKind
+abbrev pub waiting_word : List ℕ → Result LatchWord LineKind
 waiting_word word =
     if bytes_eq word (codes "flag") then Ok WordFlag
     else if bytes_eq word (codes "again") then Ok WordAgain
@@ -63,22 +65,37 @@ waiting_word word =
     else if bytes_eq word (codes "raise") then Ok WordRaise
     else Err Word
 
--- an event by its word
+-- the word of an event
 abbrev pub event_word : List ℕ → Result EventWord LineKind
 event_word word =
     if bytes_eq word (codes "s") then Ok WordS
     else if bytes_eq word (codes "sx") then Ok WordSx
     else if bytes_eq word (codes "x") then Ok WordX
-    else if bytes_eq word (codes "us") then Ok WordUs
-    else if bytes_eq word (codes "usx") then Ok WordUsx
-    else if bytes_eq word (codes "ux") then Ok WordUx
+    else if bytes_eq word (codes "us") then Ok (OnLatch WordUs)
+    else if bytes_eq word (codes "usx") then Ok (OnLatch WordUsx)
+    else if bytes_eq word (codes "ux") then Ok (OnLatch WordUx)
     else if bytes_eq word (codes "arm") then Ok WordArm
-    else waiting_word word
+    else waiting_word word >>= (λ step. Ok (OnLatch step))
 
 -- the three fields of an event on a latch in a mode at a level
 abbrev pub latch_in_mode : List (List ℕ) → Result (ℕ × Mode × Level) LineKind
 latch_in_mode (l ∷ m ∷ v ∷ []) = latch_in l >>= (λ latch. mode_in m >>= (λ mode. level_in v >>= (λ level. Ok (latch, mode, level))))
 latch_in_mode _ = Err Fields
+
+-- an event on a latch alone, by its word
+abbrev pub event_on_latch : LatchWord → ℕ → Event
+event_on_latch WordUs latch = Us latch
+event_on_latch WordUsx latch = Usx latch
+event_on_latch WordUx latch = Ux latch
+event_on_latch WordFlag latch = Flag latch
+event_on_latch WordAgain latch = Again latch
+event_on_latch WordQuit latch = Quit latch
+event_on_latch WordSleep latch = Sleep latch
+event_on_latch WordReady latch = Ready latch
+event_on_latch WordExarm latch = Exarm latch
+event_on_latch WordLook latch = Look latch
+event_on_latch WordClear latch = Clear latch
+event_on_latch WordRaise latch = Raise latch
 
 -- an event by its word and the fields behind it
 abbrev pub event_of : EventWord → List (List ℕ) → Result Event LineKind
@@ -86,18 +103,7 @@ event_of WordS fields = two_fields latch_in level_in fields >>= (λ at. Ok (S at
 event_of WordSx fields = two_fields latch_in level_in fields >>= (λ at. Ok (Sx at.0 at.1))
 event_of WordX fields = two_fields latch_in level_in fields >>= (λ at. Ok (X at.0 at.1))
 event_of WordArm fields = latch_in_mode fields >>= (λ at. Ok (Arm at.0 at.1 at.2))
-event_of WordUs fields = one_field latch_in fields >>= (λ latch. Ok (Us latch))
-event_of WordUsx fields = one_field latch_in fields >>= (λ latch. Ok (Usx latch))
-event_of WordUx fields = one_field latch_in fields >>= (λ latch. Ok (Ux latch))
-event_of WordFlag fields = one_field latch_in fields >>= (λ latch. Ok (Flag latch))
-event_of WordAgain fields = one_field latch_in fields >>= (λ latch. Ok (Again latch))
-event_of WordQuit fields = one_field latch_in fields >>= (λ latch. Ok (Quit latch))
-event_of WordSleep fields = one_field latch_in fields >>= (λ latch. Ok (Sleep latch))
-event_of WordReady fields = one_field latch_in fields >>= (λ latch. Ok (Ready latch))
-event_of WordExarm fields = one_field latch_in fields >>= (λ latch. Ok (Exarm latch))
-event_of WordLook fields = one_field latch_in fields >>= (λ latch. Ok (Look latch))
-event_of WordClear fields = one_field latch_in fields >>= (λ latch. Ok (Clear latch))
-event_of WordRaise fields = one_field latch_in fields >>= (λ latch. Ok (Raise latch))
+event_of (OnLatch word) fields = one_field latch_in fields >>= (λ latch. Ok (event_on_latch word latch))
 
 -- a line by its fields: the session, the event's word, and what is behind it
 abbrev pub event_reading_of_fields : List (List ℕ) → EventReading

@@ -1,27 +1,25 @@
 //! What is answered to events that were read.
 
-ghost use Rattle.std.specs.Prelude.{◌≡◌, ◌≤◌, length};
+ghost use Rattle.std.specs.Prelude.{◌≡◌, ◌≢◌, ◌≤◌, length};
 ghost use Rattle.ib_edge.specs.Faults.{Rose};
-ghost use Rattle.ib_edge.specs.Told.{IsMemory, Told};
-ghost use Rattle.ib_events.specs.Answers.{AnswersEvents};
+ghost use Rattle.ib_edge.specs.Told.{IsMemoryWhere, Told};
+ghost use Rattle.ib_events.specs.Answers.{AnswersEvents, MayLackEvents};
 
 use crate::events::read_events;
 use crate::latching::make_events;
-use ib_edge::{BadLine, INPUT_BYTES, ScriptFault, Sink, Status, tell};
+use ib_edge::{INPUT_BYTES, Sink, Status, refuse};
 use std::alloc::Global;
 
 /// Answers events that were read: makes them on the latch machine of one thread, and writes each with its answer and
 /// its latch's word afterwards, or tells where they are refused and why.
 pub fn answer_events<K: Sink>(alloc: Global, input: &[u8], sink: &mut K) -> Status
     requires { length input.now ≤ INPUT_BYTES }
-    ensures told { Told (AnswersEvents input.now) IsMemory (K.written sink.old) (K.written sink.new) result }
+    ensures told { Told (AnswersEvents input.now) (IsMemoryWhere (MayLackEvents input.now)) (K.written sink.old) (K.written sink.new) result }
+    ensures calm { result ≢ Status.WriteFault → K.faults sink.new ≡ K.faults sink.old }
     ensures write { result ≡ Status.WriteFault → Rose (K.faults sink.old) (K.faults sink.new) }
 {
     match read_events(alloc, input) {
         Ok(events) => make_events(alloc, events, sink),
-        Err(ScriptFault::OutOfMemory) => Status::Memory,
-        Err(ScriptFault::BadLine { line, kind }) => {
-            tell(sink, BadLine { line, kind }, Status::Script)
-        }
+        Err(fault) => refuse(sink, fault),
     }
 }

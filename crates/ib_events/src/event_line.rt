@@ -2,7 +2,7 @@
 
 ghost use Rattle.std.specs.Prelude.{◌≡◌, ◌∷◌};
 ghost use Rattle.ib_edge.specs.Fields.{one_field, two_fields};
-ghost use Rattle.ib_events.specs.Events.{event_of, event_reading_of, event_reading_of_fields, event_word, latch_in, latch_in_mode, level_in, mode_in, waiting_word};
+ghost use Rattle.ib_events.specs.Events.{event_of, event_on_latch, event_reading_of, event_reading_of_fields, event_word, latch_in, latch_in_mode, level_in, mode_in, waiting_word};
 ghost use Rattle.ib_edge.specs.Lines.{fields_behind};
 
 use ib_core::Event;
@@ -19,25 +19,48 @@ pub const MOST_EVENTS: u32 = 1_000_000;
 
 const _: () = prove!(MOST_EVENTS == 1_000_000);
 
+/// The word of an event that names a latch and nothing else.
+#[derive(Clone, Copy, Debug, PartialEq, Eq)]
+pub enum LatchWord {
+    /// `us`: gives S back.
+    Us,
+    /// `usx`: gives one SX back.
+    Usx,
+    /// `ux`: gives one X back.
+    Ux,
+    /// `flag`: sets the waiters flag.
+    Flag,
+    /// `again`: tries once more, before it sleeps.
+    Again,
+    /// `quit`: gives up waiting.
+    Quit,
+    /// `sleep`: looks at the generation, before it sleeps or when it was woken.
+    Sleep,
+    /// `ready`: as next writer, looks whether the readers are gone.
+    Ready,
+    /// `exarm`: as next writer, records the ex generation.
+    Exarm,
+    /// `look`: looks at the waiters flag, after a release.
+    Look,
+    /// `clear`: clears the waiters flag.
+    Clear,
+    /// `raise`: raises the generation that it owes.
+    Raise,
+}
+
 /// An event's word.
 #[derive(Clone, Copy, Debug, PartialEq, Eq)]
 pub enum EventWord {
+    /// `s`: takes S, at a level.
     S,
+    /// `sx`: takes SX, at a level.
     Sx,
+    /// `x`: takes X, at a level.
     X,
-    Us,
-    Usx,
-    Ux,
+    /// `arm`: records the generation, before it sleeps for a mode at a level.
     Arm,
-    Flag,
-    Again,
-    Quit,
-    Sleep,
-    Ready,
-    Exarm,
-    Look,
-    Clear,
-    Raise,
+    /// An event that names a latch and nothing else.
+    OnLatch(LatchWord),
 }
 
 /// What one line of events says.
@@ -130,35 +153,35 @@ fn latch_in_mode(fields: Option<&[u8]>) -> Result<(u32, Mode, Level), LineKind>
 }
 
 // The words of the steps of waiting and signalling.
-fn waiting_word(word: &[u8]) -> Result<EventWord, LineKind>
+fn waiting_word(word: &[u8]) -> Result<LatchWord, LineKind>
     ensures { result ≡ waiting_word word.now }
 {
     if word == b"flag".as_slice() {
-        return Ok(EventWord::Flag);
+        return Ok(LatchWord::Flag);
     }
     if word == b"again".as_slice() {
-        return Ok(EventWord::Again);
+        return Ok(LatchWord::Again);
     }
     if word == b"quit".as_slice() {
-        return Ok(EventWord::Quit);
+        return Ok(LatchWord::Quit);
     }
     if word == b"sleep".as_slice() {
-        return Ok(EventWord::Sleep);
+        return Ok(LatchWord::Sleep);
     }
     if word == b"ready".as_slice() {
-        return Ok(EventWord::Ready);
+        return Ok(LatchWord::Ready);
     }
     if word == b"exarm".as_slice() {
-        return Ok(EventWord::Exarm);
+        return Ok(LatchWord::Exarm);
     }
     if word == b"look".as_slice() {
-        return Ok(EventWord::Look);
+        return Ok(LatchWord::Look);
     }
     if word == b"clear".as_slice() {
-        return Ok(EventWord::Clear);
+        return Ok(LatchWord::Clear);
     }
     if word == b"raise".as_slice() {
-        return Ok(EventWord::Raise);
+        return Ok(LatchWord::Raise);
     }
     Err(LineKind::Word)
 }
@@ -176,18 +199,38 @@ fn event_word(word: &[u8]) -> Result<EventWord, LineKind>
         return Ok(EventWord::X);
     }
     if word == b"us".as_slice() {
-        return Ok(EventWord::Us);
+        return Ok(EventWord::OnLatch(LatchWord::Us));
     }
     if word == b"usx".as_slice() {
-        return Ok(EventWord::Usx);
+        return Ok(EventWord::OnLatch(LatchWord::Usx));
     }
     if word == b"ux".as_slice() {
-        return Ok(EventWord::Ux);
+        return Ok(EventWord::OnLatch(LatchWord::Ux));
     }
     if word == b"arm".as_slice() {
         return Ok(EventWord::Arm);
     }
-    waiting_word(word)
+    Ok(EventWord::OnLatch(waiting_word(word)?))
+}
+
+// An event on a latch alone, by its word.
+fn event_on_latch(word: LatchWord, latch: u32) -> Event
+    ensures { result ≡ event_on_latch word latch }
+{
+    match word {
+        LatchWord::Us => Event::Us { latch },
+        LatchWord::Usx => Event::Usx { latch },
+        LatchWord::Ux => Event::Ux { latch },
+        LatchWord::Flag => Event::Flag { latch },
+        LatchWord::Again => Event::Again { latch },
+        LatchWord::Quit => Event::Quit { latch },
+        LatchWord::Sleep => Event::Sleep { latch },
+        LatchWord::Ready => Event::Ready { latch },
+        LatchWord::Exarm => Event::Exarm { latch },
+        LatchWord::Look => Event::Look { latch },
+        LatchWord::Clear => Event::Clear { latch },
+        LatchWord::Raise => Event::Raise { latch },
+    }
 }
 
 // An event by its word and the fields behind it.
@@ -211,53 +254,9 @@ fn event_of(word: EventWord, fields: Option<&[u8]>) -> Result<Event, LineKind>
             let (latch, mode, level) = latch_in_mode(fields)?;
             Ok(Event::Arm { latch, mode, level })
         }
-        EventWord::Us => {
+        EventWord::OnLatch(word) => {
             let latch = latch_alone(fields)?;
-            Ok(Event::Us { latch })
-        }
-        EventWord::Usx => {
-            let latch = latch_alone(fields)?;
-            Ok(Event::Usx { latch })
-        }
-        EventWord::Ux => {
-            let latch = latch_alone(fields)?;
-            Ok(Event::Ux { latch })
-        }
-        EventWord::Flag => {
-            let latch = latch_alone(fields)?;
-            Ok(Event::Flag { latch })
-        }
-        EventWord::Again => {
-            let latch = latch_alone(fields)?;
-            Ok(Event::Again { latch })
-        }
-        EventWord::Quit => {
-            let latch = latch_alone(fields)?;
-            Ok(Event::Quit { latch })
-        }
-        EventWord::Sleep => {
-            let latch = latch_alone(fields)?;
-            Ok(Event::Sleep { latch })
-        }
-        EventWord::Ready => {
-            let latch = latch_alone(fields)?;
-            Ok(Event::Ready { latch })
-        }
-        EventWord::Exarm => {
-            let latch = latch_alone(fields)?;
-            Ok(Event::Exarm { latch })
-        }
-        EventWord::Look => {
-            let latch = latch_alone(fields)?;
-            Ok(Event::Look { latch })
-        }
-        EventWord::Clear => {
-            let latch = latch_alone(fields)?;
-            Ok(Event::Clear { latch })
-        }
-        EventWord::Raise => {
-            let latch = latch_alone(fields)?;
-            Ok(Event::Raise { latch })
+            Ok(event_on_latch(word, latch))
         }
     }
 }

@@ -1,6 +1,6 @@
 //! Events made on the latch machine, and what is printed of them.
 
-ghost use Rattle.std.specs.Prelude.{◌≡◌, ◌≤◌, ◌+◌, length};
+ghost use Rattle.std.specs.Prelude.{◌≡◌, ◌≢◌, ◌≤◌, ◌+◌, length};
 ghost use Rattle.std.specs.List.{AllByRecursion};
 ghost use Rattle.ib_edge.specs.Faults.{Rose};
 ghost use Rattle.ib_edge.specs.Told.{IsMemory, Told, ends};
@@ -55,6 +55,7 @@ impl Printed for Making {
 /// Makes events on the latch machine with all latches free, and writes what came of each.
 pub fn make_events<K: Sink>(alloc: Global, events: Events, sink: &mut K) -> Status
     ensures told { Told (λ e. e ≡ ends Status.Done (latch_output events)) IsMemory (K.written sink.old) (K.written sink.new) result }
+    ensures calm { result ≢ Status.WriteFault → K.faults sink.new ≡ K.faults sink.old }
     ensures write { result ≡ Status.WriteFault → Rose (K.faults sink.old) (K.faults sink.new) }
 {
     match Core::new(alloc, MOST_SCRIPT_SESSIONS, MOST_LATCH + 1) {

@@ -6,8 +6,10 @@ mod event_line;
 mod event_part;
 mod events;
 mod latching;
+mod laws;
 
 pub use answer::answer_events;
-pub use event_line::{EventLine, EventWord, MOST_EVENTS, MOST_LATCH, event_reading_of};
+pub use event_line::{EventLine, EventWord, LatchWord, MOST_EVENTS, MOST_LATCH, event_reading_of};
 pub use event_part::print_event_line;
 pub use events::{Events, read_events};
+pub use laws::event_law;

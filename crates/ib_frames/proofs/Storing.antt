@@ -1,5 +1,5 @@
 -- The loops of an append.
-use Rattle.std.proofs.Common.{◌≡◌, ℕ, suc, ◌+◌, ◌<◌, ⊎_elim, Bool, true, false, eqb, eq-eqb, List, [], ◌∷◌, length, get_or, refl, sym, ap, ◌∙◌, subst, arith}
+use Rattle.std.proofs.Common.{◌≡◌, ℕ, suc, ◌+◌, ◌<◌, ⊎_elim, true, false, eqb, eq-eqb, List, [], ◌∷◌, length, get_or, refl, sym, ap, ◌∙◌, subst, arith}
 use Rattle.std.specs.Prelude.{◌||◌, Option, Some, None}
 use mathlib.Core.List.{IsPrefix}
 use mathlib.Core.Logic.{dite}
@@ -18,11 +18,8 @@ use Rattle.ib_rule.specs.Pass.{PassState, with_view}
 use Rattle.ib_rule.specs.Stores.{stale, begun, Begins, storing, storing_page, storing_word, appending, IsReady, AllStored}
 use Rattle.ib_rule.specs.Writing.{MayStore, entry_of}
 use Rattle.ib_rule.proofs.Lists.{eqb_says, or_says}
+use Rattle.ib_rule.proofs.Watching.{either_true}
 use Rattle.ib_frames.specs.Storing.{HasStored, place_at, no_write, PagesStored, WordsStored}
-
-more_true : {c : Bool} (b : Bool) → c ≡ true → (b || c) ≡ true
-more_true true e = refl
-more_true false e = e
 
 found_at : (ws : List Write) (q : ℕ) → writes_at q ws ≡ true → (k : ℕ) × (k < length ws) × (place_at ws k ≡ q)
 found_at [] q e = absurd (cc)
@@ -36,7 +33,7 @@ has_first : (q : ℕ) (xs : List ℕ) → has q (q ∷ xs) ≡ true
 has_first q xs = ap (λ b. b || has q xs) (eq-eqb q q refl)
 
 has_later : (q x : ℕ) (xs : List ℕ) → has q xs ≡ true → has q (x ∷ xs) ≡ true
-has_later q x xs e = more_true (eqb x q) e
+has_later q x xs e = either_true (eqb x q) e
 
 begins_entry : (e : Entry) (o : Option OpenAppend) → Begins e o → (begun e o).entry ≡ e
 begins_entry e None b = refl

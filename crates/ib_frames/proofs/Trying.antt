@@ -1,5 +1,5 @@
 -- One page that a session changes: what it asks of an append under the law of any entries.
-use Rattle.std.proofs.Common.{◌≡◌, ◌≢◌, ℕ, ◌+◌, ◌*◌, ◌^◌, ◌<◌, ◌≤◌, true, false, List, [], ◌∷◌, ◌++◌, length, refl, sym, ◌∙◌, subst, arith}
+use Rattle.std.proofs.Common.{◌≡◌, ◌≢◌, ℕ, ◌+◌, ◌*◌, ◌^◌, ◌<◌, ◌≤◌, true, false, [], ◌∷◌, ◌++◌, length, refl, sym, ◌∙◌, subst, arith}
 use Rattle.std.specs.Prelude.{None}
 use Rattle.std.proofs.lemmas.Bool.{ne_eqb}
 use Rattle.std.proofs.lemmas.List.Elements.{All-cons, All-nil}
@@ -15,22 +15,17 @@ use Rattle.ib_levels.proofs.Counts.{on-none}
 use Rattle.ib_core.specs.declared.phase.Phase.TheVariants.{Free}
 use Rattle.ib_core.specs.declared.session.Session.{Session}
 use Rattle.ib_core.specs.Sessions.{holdings, x_grants}
-use Rattle.ib_logrec.specs.declared.entry.Entry.{Entry}
 use Rattle.ib_logrec.specs.declared.entry.TheConstants.{MOST_SESSIONS}
 use Rattle.ib_logrec.specs.Law.{AreInGrammar}
 use Rattle.ib_logrec.specs.Grammar.{IsInGrammar}
 use Rattle.ib_rule.specs.Pass.{PassState}
 use Rattle.ib_rule.specs.Views.{is_watched}
+use Rattle.ib_rule.proofs.Storing.{grammar_push}
 use Rattle.ib_frames.specs.Appends.{entry_for, MayAppend}
 
 -- who owns X holds the latch
 pub held_by_x : (l : ℕ) (a : Session) → 0 < x_grants l a → 0 < holdings l a
 held_by_x l a x = dite (ℕ_discrete (holdings l a) 0) (λ none. let z : x_grants l a ≡ 0 = on-none l (λ h. h.x) a.held none in absurd (omega arith)) (λ some. omega arith)
-
--- entries in the grammar, with one more
-pub grammar_more : (pages : ℕ) (log : List Entry) (e : Entry) → AreInGrammar pages log → IsInGrammar pages e → AreInGrammar pages (log ++ e ∷ [])
-grammar_more pages [] e are is = (is, tt)
-grammar_more pages (x ∷ log) e are is = (are.0, grammar_more pages log e are.1 is)
 
 module _ (p : WorkPage) where
   elsewhere : (page : ℕ) → p.page ≢ page → changed_of page (p ∷ []) ≡ None
@@ -65,5 +60,5 @@ module _ (p : WorkPage) where
       watched = watched;
       pages_x = λ page is. subst (λ k. 0 < x_grants (k + 2) pass.view.session) (alone page is) page_x;
       index = λ is. let z : true ≡ false = sym is ∙ whole in absurd (cc);
-      legal = grammar_more pages pass.view.memory.seen (entry_for pass (Insert key value) (p ∷ [])) legal entry_fits;
+      legal = grammar_push pages pass.view.memory.seen (entry_for pass (Insert key value) (p ∷ [])) legal entry_fits;
     }

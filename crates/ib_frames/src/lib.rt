@@ -5,8 +5,6 @@
 mod appends;
 mod entries;
 mod reads;
-#[cfg(test)]
-mod tests;
 
 pub use appends::{LogFull, append};
 pub use reads::{LogEnd, log_end, read_page};

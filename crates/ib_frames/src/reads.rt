@@ -35,10 +35,12 @@ pub fn read_page<L: Law>(space: &Space<L>, pass: &mut Pass, page: u32, out: &mut
     space.load_end(pass);
 }
 
-/// The log's end: how many entries the log has, and how many words they have.
+/// The log's end.
 #[derive(Clone, Copy, Debug, PartialEq, Eq)]
 pub struct LogEnd {
+    /// How many entries the log has.
     pub entries: u32,
+    /// How many words they have.
     pub words: u32,
 }
 

@@ -2,10 +2,18 @@
 #![tactic(auto)]
 
 #[cfg(test)]
+mod levels;
+#[cfg(test)]
 mod machine;
+#[cfg(test)]
+mod sizes;
+#[cfg(test)]
+mod sleepers;
 #[cfg(test)]
 mod spaces;
 #[cfg(test)]
 mod tries;
 #[cfg(test)]
 mod waits;
+#[cfg(test)]
+mod words;

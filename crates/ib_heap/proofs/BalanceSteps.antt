@@ -1,5 +1,5 @@
 -- A removal's calls, joined.
-use Rattle.std.proofs.Common.{◌≡◌, ℕ, zero, suc, ◌+◌, ◌-◌, ◌*◌, ◌/◌, ◌%◌, ◌<◌, ◌≤◌, ◌≢◌, ◌⊎◌, [], ◌∷◌, ◌∙◌, List, length, drop, get_or, refl, ap, sym, arith, inl, inr, subst, true, None}
+use Rattle.std.proofs.Common.{◌≡◌, ℕ, suc, ◌+◌, ◌-◌, ◌*◌, ◌/◌, ◌%◌, ◌<◌, ◌≤◌, ◌≢◌, ◌⊎◌, ◌∷◌, ◌∙◌, List, length, drop, get_or, ap, sym, arith, inl, inr, subst, true, None}
 use Rattle.std.proofs.lemmas.Bool.{cases_eq, cases_lt}
 use Rattle.std.proofs.lemmas.List.{get_or_past}
 use Rattle.ib_map.specs.Pairs.{without, value_at, place_of}
@@ -9,46 +9,40 @@ use Rattle.ib_heap.specs.Heap.{Node, Heap, first_of, owners, times, places_of, r
 use Rattle.ib_heap.specs.Form.{page_of}
 use Rattle.ib_heap.specs.Image.{with_records, records_of}
 use Rattle.ib_heap.specs.Put.{owner_from, owned_by}
-use Rattle.ib_heap.specs.Take.{cut_node, cut_last, cut_in, settle, settle_last, remove_in}
+use Rattle.ib_heap.specs.Take.{unlink_node, unlink_last, unlink_in, balance, balance_last, remove_in}
 use Rattle.ib_heap.specs.Kept.{IsKept}
 use Rattle.ib_heap.specs.Steps.{Stands, Lent, Joined}
 use Rattle.ib_heap.proofs.KeptLaws.{kept-fixed, kept-place, kept-far}
 use Rattle.ib_heap.specs.Shape.{is_shaped}
 use Rattle.ib_heap.specs.Page.PageValue.{Tree}
 use Rattle.ib_heap.proofs.HeapLaws.{Chained, Owned, Directory, ArePlaces, ArePlaces-left, IsHeap, page-from, heap-read}
-use Rattle.ib_heap.proofs.SeekLaws.{Known, directory-at, directory-few}
-use Rattle.ib_heap.proofs.PutLaws.{one-same, owner-in, times-drop, Apart, apart-rest}
-use Rattle.ib_heap.proofs.SplitShape.{head_owned}
-use Rattle.ib_heap.proofs.PutShape.{Low}
+use Rattle.ib_heap.proofs.SeekLaws.{Known, directory-at, directory-few, head_owned, node-word, first-in}
+use Rattle.ib_heap.proofs.PutLaws.{owner-in, times-drop, Apart, first-member, apart-next, times-apart}
+use Rattle.ib_heap.proofs.PutShape.{Low, low-member}
 use Rattle.ib_heap.proofs.ShapeLaws.{Shaped, heap-shaped, Places, places-known}
 use Rattle.ib_heap.proofs.PutPage.{middle-apart, OwnerWord, owner-word}
-use Rattle.ib_heap.proofs.CountLaws.{Under, under-cut, owned-settle}
-use Rattle.ib_heap.proofs.CutLaws.{At, first-member, SetAt}
-use Rattle.ib_heap.proofs.SettleLaws.{settle-well, places-settle, lend-some, chain-lend, chain-join, slots-lend, slots-join, GoneAt}
+use Rattle.ib_heap.proofs.CountLaws.{Under, under-unlink, owned-balance}
+use Rattle.ib_heap.proofs.UnlinkLaws.{At, SetAt}
+use Rattle.ib_heap.proofs.BalanceLaws.{balance-well, places-balance, lend-some, chain-lend, chain-join, slots-lend, slots-join, GoneAt}
 use Rattle.ib_heap.proofs.RemoveShape.{directory-set, directory-gone, other-page, other-shaped}
-use Rattle.ib_heap.proofs.SlotLaws.{count, owner-count, owner-skip, count-step, count-le, Stand, stand, CutSlot, cut-slot}
+use Rattle.ib_heap.proofs.SlotLaws.{count, owner-count, owner-skip, count-step, count-le, Stand, stand, UnlinkSlot, unlink-slot}
 use Rattle.ib_heap.proofs.ShapedDecides.{Shaped-Decides}
-use Rattle.ib_heap.proofs.CutSteps.{lt, slot-is, apart, slot-range, node-word, used-cut}
-
-two-firsts : (n : ℕ) (ys : List Node) → Apart ys → suc n < length ys → first_of (drop n ys) ≡ first_of (drop (suc n) ys) → ⊥
-two-firsts n [] a2 m2 f = absurd (omega arith)
-two-firsts zero (y ∷ ys) a2 m2 f = let r = a2.once y.place in let o = one-same y.place in let m3 = first-member 0 ys (omega arith) in let m4 : 0 < times y.place (places_of ys) = subst (λ (n : ℕ). 0 < times n (places_of ys)) (sym f) m3 in absurd (omega arith)
-two-firsts (suc n) (y ∷ ys) a2 m2 f = two-firsts n ys (apart-rest y ys a2) (omega arith) f
+use Rattle.ib_heap.proofs.UnlinkSteps.{lt, slot-is, apart, slot-range, used-unlink}
 
 module _ (ws w0 : List ℕ) (key slot before at : ℕ) (kn : Known ws) (st : Stands ws key slot before at) (found : value_at key (records_of ws) ≢ None)
-    (shp : is_shaped w0 (cut_in (place_of key (records_of ws)) (read_heap ws)) ≡ true)
-    (pg : page_with w0 (records_in w0 (cut_node (place_of key (records_of ws)) (nodes_of ws))) ≡ page_with ws (without key (records_of ws))) where
+    (shp : is_shaped w0 (unlink_in (place_of key (records_of ws)) (read_heap ws)) ≡ true)
+    (pg : page_with w0 (records_in w0 (unlink_node (place_of key (records_of ws)) (nodes_of ws))) ≡ page_with ws (without key (records_of ws))) where
   abbrev k : ℕ
   k = place_of key (records_of ws)
 
   abbrev h1 : Heap
-  h1 = cut_in k (read_heap ws)
+  h1 = unlink_in k (read_heap ws)
 
   abbrev ys : List Node
-  ys = cut_node k (nodes_of ws)
+  ys = unlink_node k (nodes_of ws)
 
   abbrev yl : ℕ
-  yl = cut_last k (nodes_of ws) (read_heap ws).last
+  yl = unlink_last k (nodes_of ws) (read_heap ws).last
 
   abbrev short : ℕ
   short = get_or w0 (8 + slot) 0
@@ -59,8 +53,8 @@ module _ (ws w0 : List ℕ) (key slot before at : ℕ) (kn : Known ws) (st : Sta
   sh : Shaped w0 h1
   sh = (Shaped-Decides w0 h1).0 shp
 
-  cs : CutSlot ys yl slot
-  cs = cut-slot k slot (nodes_of ws) (read_heap ws).last (lt ws key slot before at kn st found) kn.is.owned (apart ws key slot before at kn st found) (slot-is ws key slot before at kn st found)
+  cs : UnlinkSlot ys yl slot
+  cs = unlink-slot k slot (nodes_of ws) (read_heap ws).last (lt ws key slot before at kn st found) kn.is.owned (apart ws key slot before at kn st found) (slot-is ws key slot before at kn st found)
 
   abbrev m0 : ℕ
   m0 = cs.number
@@ -71,11 +65,11 @@ module _ (ws w0 : List ℕ) (key slot before at : ℕ) (kn : Known ws) (st : Sta
   apart1 : Apart ys
   apart1 = places1.apart
 
-  low1 : (q : ℕ) → 0 < times q (places_of ys) → Low q
-  low1 q m = let pl = places1.place q (omega arith) in let b = pl.below in let f = sh.few in record { number = pl.number; is = pl.is; below = omega arith }
+  low : (q : ℕ) → 0 < times q (places_of ys) → Low q
+  low q m = low-member h1 places1 sh.few q (omega arith)
 
   under1 : Under 0 ys yl
-  under1 = under-cut k 0 (nodes_of ws) (read_heap ws).last (lt ws key slot before at kn st found) (λ z. omega arith) kn.is.owned
+  under1 = under-unlink k 0 (nodes_of ws) (read_heap ws).last (lt ws key slot before at kn st found) (λ z. omega arith) kn.is.owned
 
   slot-few : slot ≤ 9
   slot-few = slot-range ws key slot before at kn st found
@@ -92,7 +86,7 @@ module _ (ws w0 : List ℕ) (key slot before at : ℕ) (kn : Known ws) (st : Sta
   owner-cases t o e = elim (owner-in (drop t ys)) [ inl z ↦ inl (e ∙ z) | inr m ↦ inr (subst (λ (q : ℕ). 0 < times q (places_of ys)) (sym e) (let d = times-drop t (owner_from (drop t ys)) ys in omega arith)) ]
 
   range-of : (o : ℕ) → (o ≡ 19) ⊎ (0 < times o (places_of ys)) → (19 ≤ o) × (o ≤ 122)
-  range-of o c = elim c [ inl e ↦ (omega arith, omega arith) | inr m ↦ (let w = low1 o m in let a = w.is in let b = w.below in (omega arith, omega arith)) ]
+  range-of o c = elim c [ inl e ↦ (omega arith, omega arith) | inr m ↦ (let w = low o m in let a = w.is in let b = w.below in (omega arith, omega arith)) ]
 
   pub short-range : (19 ≤ short) × (short ≤ 122)
   short-range = range-of short (owner-cases m0 short short-is)
@@ -119,19 +113,19 @@ module _ (ws w0 : List ℕ) (key slot before at : ℕ) (kn : Known ws) (st : Sta
   mk ns n = record { nodes = ns; last = n; free = h1.free }
 
   pub well-heap : Owned 0 ys yl → read_heap w0 ≡ remove_in k (read_heap ws)
-  well-heap owned = let s = settle-well 0 ys yl owned in heap-read w0 h1 (heap-shaped w0 h1 sh owned) ∙ (ap (λ (ns : List Node). mk ns yl) (sym s.0) ∙ ap (λ (n : ℕ). mk (settle ys yl) n) (sym s.1))
+  well-heap owned = let s = balance-well 0 ys yl owned in heap-read w0 h1 (heap-shaped w0 h1 sh owned) ∙ (ap (λ (ns : List Node). mk ns yl) (sym s.0) ∙ ap (λ (n : ℕ). mk (balance ys yl) n) (sym s.1))
 
   kept-here : (i : ℕ) → IsKept (used (read_heap ws)) i → IsKept (used h1) i
-  kept-here i kept = subst (λ (n : ℕ). IsKept n i) (sym (used-cut ws key slot before at kn st found)) kept
+  kept-here i kept = subst (λ (n : ℕ). IsKept n i) (sym (used-unlink ws key slot before at kn st found)) kept
 
-  kept-low1 : (i q : ℕ) → IsKept (used (read_heap ws)) i → (q ≡ 19) ⊎ (0 < times q (places_of ys)) → i ≢ q
-  kept-low1 i q kept c = elim c [
+  kept-low : (i q : ℕ) → IsKept (used (read_heap ws)) i → (q ≡ 19) ⊎ (0 < times q (places_of ys)) → i ≢ q
+  kept-low i q kept c = elim c [
     | inl e ↦ kept-fixed _ i q kept (inr (omega arith, omega arith))
     | inr m ↦ kept-place (used h1) i q (kept-here i kept) (places1.place q (omega arith))
   ]
 
   not-in : (i q : ℕ) → times i (places_of ys) ≡ 0 → i ≢ 19 → (q ≡ 19) ⊎ (0 < times q (places_of ys)) → i ≢ q
-  not-in i q absent nine c z = elim c [ inl e ↦ nine (z ∙ e) | inr m ↦ absurd (let u = subst (λ (n : ℕ). 0 < times n (places_of ys)) (sym z) m in omega arith) ]
+  not-in i q absent nine c z = elim c [ inl e ↦ nine (z ∙ e) | inr m ↦ times-apart i q (places_of ys) absent m z ]
 
   -- a slot of three
   module _ (ne : short ≢ 19) (three : get_or w0 short 0 / 256 ≡ 3) where
@@ -199,7 +193,7 @@ module _ (ws w0 : List ℕ) (key slot before at : ℕ) (kn : Known ws) (st : Sta
     short-after z = middle-apart t ys apart1 lt1 (sym short-t ∙ (z ∙ after-is))
 
     chain-high : (q : ℕ) → At q ys → 19 ≤ q
-    chain-high q m = elim m [ inl n ↦ (let w = low1 q n in let a = w.is in omega arith) | inr e ↦ omega arith ]
+    chain-high q m = elim m [ inl n ↦ (let w = low q n in let a = w.is in omega arith) | inr e ↦ omega arith ]
 
     count-pred : 0 < slot → count t ys ≡ suc (slot - 1)
     count-pred p = let c = count-t in omega arith
@@ -215,23 +209,23 @@ module _ (ws w0 : List ℕ) (key slot before at : ℕ) (kn : Known ws) (st : Sta
       abbrev first : ℕ
       first = get_or w0 short 0 % 256
 
-      first-in2 : 0 < times (first_of (drop (suc t) ys)) (places_of ys)
-      first-in2 = first-member (suc t) ys ls.0
+      next-in : 0 < times (first_of (drop (suc t) ys)) (places_of ys)
+      next-in = first-member (suc t) ys ls.0
 
       first-is : first ≡ first_of (drop (suc t) ys)
-      first-is = let w = word-t in let l1 = low1 _ first-in2 in let a = l1.is in let b = l1.below in omega arith
+      first-is = let w = word-t in let l1 = low _ next-in in let a = l1.is in let b = l1.below in omega arith
 
-      first-in : 0 < times first (places_of ys)
-      first-in = subst (λ (q : ℕ). 0 < times q (places_of ys)) (sym first-is) first-in2
+      lent-in : 0 < times first (places_of ys)
+      lent-in = subst (λ (q : ℕ). 0 < times q (places_of ys)) (sym first-is) next-in
 
       pub first-range : (18 ≤ first) × (first ≤ 122)
-      first-range = let l1 = low1 first first-in in let a = l1.is in let b = l1.below in (omega arith, omega arith)
+      first-range = let l1 = low first lent-in in let a = l1.is in let b = l1.below in (omega arith, omega arith)
 
       after-next : after ≡ owner_from (drop (suc (suc t)) ys)
       after-next = after-is ∙ owner-skip (suc t) ys ls.0 ls.1
 
       pub apart-lend : (short ≢ first) × ((short ≢ after) × (first ≢ after))
-      apart-lend = (λ z. two-firsts t ys apart1 ls.0 (sym short-t ∙ (z ∙ first-is)), (short-after, λ z. middle-apart (suc t) ys apart1 ls.0 (sym first-is ∙ (z ∙ after-next))))
+      apart-lend = (λ z. apart-next t ys apart1 ls.0 (sym short-t ∙ (z ∙ first-is)), (short-after, λ z. middle-apart (suc t) ys apart1 ls.0 (sym first-is ∙ (z ∙ after-next))))
 
       pub first-few : get_or w0 first 0 < 65536
       first-few =
@@ -241,60 +235,51 @@ module _ (ws w0 : List ℕ) (key slot before at : ℕ) (kn : Known ws) (st : Sta
           let lw = next-low (suc (suc t)) (let l1 = ls.0 in omega arith) in omega arith
         where
           next-low : (i : ℕ) → i ≤ length ys → first_of (drop i ys) < 256
-          next-low i le = elim (first-cases i ys le) [ inl e ↦ omega arith | inr m ↦ (let w = low1 _ m in let a = w.is in let b = w.below in omega arith) ]
-            where
-              first-cases : (n : ℕ) (xs : List Node) → n ≤ length xs → (first_of (drop n xs) ≡ 19) ⊎ (0 < times (first_of (drop n xs)) (places_of xs))
-              first-cases n xs le2 = elim (cases_lt n (length xs)) [ inl l2 ↦ inr (first-member n xs l2) | inr ge ↦ inl (past n xs (omega arith)) ]
-                where
-                  past : (i2 : ℕ) (zs : List Node) → length zs ≤ i2 → first_of (drop i2 zs) ≡ 19
-                  past zero [] g = refl
-                  past (suc i2) [] g = refl
-                  past zero (z ∷ zs) g = absurd (omega arith)
-                  past (suc i2) (z ∷ zs) g = past i2 zs (omega arith)
+          next-low i le = elim (first-in (used h1) ys i sh.few places-ok le) [ inl e ↦ (let f = e.0 in omega arith) | inr e ↦ (let f = e.1.0 in omega arith) ]
 
       pub after-much : 256 ≤ get_or w0 after 0
       after-much = omega arith
 
       module _ (w1 : List ℕ) (u : Lent w0 w1 slot short first after) (pos : 0 < slot) where
-        set1 : SetAt (slot - 1) (first_of (drop (suc t) ys)) (owners ys) (owners (settle ys yl))
+        set1 : SetAt (slot - 1) (first_of (drop (suc t) ys)) (owners ys) (owners (balance ys yl))
         set1 = slots-lend 0 t (slot - 1) ys yl under1 lt1 head3 five1 (count-pred pos)
 
-        chained1 : Chained w1 (settle ys yl) (settle_last ys yl)
+        chained1 : Chained w1 (balance ys yl) (balance_last ys yl)
         chained1 = chain-lend w0 w1 0 t ys yl under1 lt1 head3 five1 sh.chained apart1
             (subst (λ (q : ℕ). get_or w1 q 0 + 768 ≡ get_or w0 q 0) short-t u.fewer)
             (subst (λ (q : ℕ). get_or w1 q 0 ≡ get_or w0 q 0 + 1024) first-is u.marked)
             (subst (λ (q : ℕ). get_or w1 q 0 + 256 ≡ get_or w0 q 0) after-next u.lowered)
             (λ q m na nb nc. let h = chain-high q m in let s = slot-few in u.other q (λ z. na (z ∙ short-t)) (λ z. nb (z ∙ first-is)) (λ z. nc (z ∙ after-next)) (λ z. absurd (omega arith)))
 
-        directory1 : Directory w1 10 8 (18 ∷ owners (settle ys yl))
+        directory1 : Directory w1 10 8 (18 ∷ owners (balance ys yl))
         directory1 =
             let a = short-range.0 in let b = after-range.0 in let d = first-range.0 in
-            directory-set w0 w1 (slot - 1) (first_of (drop (suc t) ys)) (owners ys) (owners (settle ys yl)) sh.directory set1
+            directory-set w0 w1 (slot - 1) (first_of (drop (suc t) ys)) (owners ys) (owners (balance ys yl)) sh.directory set1
             (λ m nm l1. u.other (8 + m) (λ z. absurd (omega arith)) (λ z. absurd (omega arith)) (λ z. absurd (omega arith)) (λ z. nm (omega arith)))
             (ap (λ n. get_or w1 n 0) (let e : 8 + suc (slot - 1) ≡ 8 + slot = omega arith in e) ∙ (u.here ∙ first-is))
 
         other1 : (i : ℕ) → (i < 7) ⊎ (17 < i) → times i (places_of ys) ≡ 0 → i ≢ 19 → get_or w1 i 0 ≡ get_or w0 i 0
-        other1 i far absent nine = let s = slot-few in u.other i (not-in i short absent nine (inr short-in)) (not-in i first absent nine (inr first-in)) (not-in i after absent nine after-cases) (λ z. elim far [ inl f ↦ absurd (omega arith) | inr f ↦ absurd (omega arith) ])
+        other1 i far absent nine = let s = slot-few in u.other i (not-in i short absent nine (inr short-in)) (not-in i first absent nine (inr lent-in)) (not-in i after absent nine after-cases) (λ z. elim far [ inl f ↦ absurd (omega arith) | inr f ↦ absurd (omega arith) ])
 
         size2 : length w1 ≡ PAGE_WORDS
         size2 = u.size ∙ sh.size
 
-        top1 : get_or w1 7 0 ≡ (1 + length (owners (settle ys yl))) * 256 + (20 + 3 * used h1)
+        top1 : get_or w1 7 0 ≡ (1 + length (owners (balance ys yl))) * 256 + (20 + 3 * used h1)
         top1 =
             let a = short-range.0 in let b = after-range.0 in let d = first-range.0 in let l1 = set1.long in let t0 = sh.top in
             let e = u.other 7 (λ z. absurd (omega arith)) (λ z. absurd (omega arith)) (λ z. absurd (omega arith)) (λ z. absurd (omega arith)) in omega arith
 
         heap1 : IsHeap w1 (remove_in k (read_heap ws))
-        heap1 = heap-shaped w1 (remove_in k (read_heap ws)) (other-shaped w0 w1 h1 (settle ys yl) (settle_last ys yl) sh (places-settle ys yl) size2 other1 chained1 directory1 top1) (owned-settle 0 ys yl under1)
+        heap1 = heap-shaped w1 (remove_in k (read_heap ws)) (other-shaped w0 w1 h1 (balance ys yl) (balance_last ys yl) sh (places-balance ys yl) size2 other1 chained1 directory1 top1) (owned-balance 0 ys yl under1)
 
         pub lend-page : page_of w1 ≡ with_records (without key (records_of ws)) (page_of ws)
-        lend-page = page-from w1 (remove_in k (read_heap ws)) heap1 ∙ (ap (λ (q : Page). Tree q) (other-page w0 w1 h1 (settle ys yl) (settle_last ys yl) sh (places-settle ys yl) size2 other1 ∙ pg) ∙ sym wanted)
+        lend-page = page-from w1 (remove_in k (read_heap ws)) heap1 ∙ (ap (λ (q : Page). Tree q) (other-page w0 w1 h1 (balance ys yl) (balance_last ys yl) sh (places-balance ys yl) size2 other1 ∙ pg) ∙ sym wanted)
 
         pub lend-heap : read_heap w1 ≡ remove_in k (read_heap ws)
         lend-heap = heap-read w1 (remove_in k (read_heap ws)) heap1
 
         pub lend-kept : (i : ℕ) → IsKept (used (read_heap ws)) i → get_or w1 i 0 ≡ get_or w0 i 0
-        lend-kept i kept = let s = slot-few in u.other i (kept-low1 i short kept (inr short-in)) (kept-low1 i first kept (inr first-in)) (kept-low1 i after kept after-cases) (λ z. elim (kept-far _ i kept) [ inl f ↦ absurd (omega arith) | inr f ↦ absurd (omega arith) ])
+        lend-kept i kept = let s = slot-few in u.other i (kept-low i short kept (inr short-in)) (kept-low i first kept (inr lent-in)) (kept-low i after kept after-cases) (λ z. elim (kept-far _ i kept) [ inl f ↦ absurd (omega arith) | inr f ↦ absurd (omega arith) ])
 
     -- it joins the slot after it
     module _ (few : get_or w0 after 0 / 256 < 5) where
@@ -314,13 +299,13 @@ module _ (ws w0 : List ℕ) (key slot before at : ℕ) (kn : Known ws) (st : Sta
       top-few = let a = top-is in let b = slots-few in omega arith
 
       module _ (w1 : List ℕ) (u : Joined w0 w1 slot short after) (pos : 0 < slot) where
-        gone1 : GoneAt (slot - 1) (owners ys) (owners (settle ys yl))
+        gone1 : GoneAt (slot - 1) (owners ys) (owners (balance ys yl))
         gone1 = slots-join 0 t (slot - 1) ys yl under1 lt1 head3 few1 (count-pred pos)
 
         at-chain : (q : ℕ) → At q ys → q ≢ short → q ≢ after → get_or w1 q 0 ≡ get_or w0 q 0
         at-chain q m na nc = let h = chain-high q m in let a = top-few in u.other q (inr (omega arith)) na nc
 
-        chained3 : Chained w1 (settle ys yl) (settle_last ys yl)
+        chained3 : Chained w1 (balance ys yl) (balance_last ys yl)
         chained3 = chain-join w0 w1 0 t ys yl under1 lt1 head3 few1 sh.chained apart1
             (subst (λ (q : ℕ). get_or w1 q 0 + 768 ≡ get_or w0 q 0) short-t u.fewer)
             (subst (λ (q : ℕ). get_or w1 q 0 ≡ get_or w0 q 0 + 768) after-is u.raised)
@@ -338,8 +323,8 @@ module _ (ws w0 : List ℕ) (key slot before at : ℕ) (kn : Known ws) (st : Sta
               ]
             ]
 
-        directory3 : Directory w1 10 8 (18 ∷ owners (settle ys yl))
-        directory3 = directory-gone w0 w1 (slot - 1) (owners ys) (owners (settle ys yl)) sh.directory gone1 (λ m le l1. u.before m (omega arith)) (λ m le l1. back3 m (omega arith) l1)
+        directory3 : Directory w1 10 8 (18 ∷ owners (balance ys yl))
+        directory3 = directory-gone w0 w1 (slot - 1) (owners ys) (owners (balance ys yl)) sh.directory gone1 (λ m le l1. u.before m (omega arith)) (λ m le l1. back3 m (omega arith) l1)
 
         other3 : (i : ℕ) → (i < 7) ⊎ (17 < i) → times i (places_of ys) ≡ 0 → i ≢ 19 → get_or w1 i 0 ≡ get_or w0 i 0
         other3 i far absent nine = let a = top-few in u.other i (elim far [ inl f ↦ inl f | inr f ↦ inr (omega arith) ]) (not-in i short absent nine (inr short-in)) (not-in i after absent nine after-cases)
@@ -347,17 +332,17 @@ module _ (ws w0 : List ℕ) (key slot before at : ℕ) (kn : Known ws) (st : Sta
         size3 : length w1 ≡ PAGE_WORDS
         size3 = u.size ∙ sh.size
 
-        top3 : get_or w1 7 0 ≡ (1 + length (owners (settle ys yl))) * 256 + (20 + 3 * used h1)
+        top3 : get_or w1 7 0 ≡ (1 + length (owners (balance ys yl))) * 256 + (20 + 3 * used h1)
         top3 = let l1 = gone1.long in let t0 = sh.top in let e = u.top in omega arith
 
         heap3 : IsHeap w1 (remove_in k (read_heap ws))
-        heap3 = heap-shaped w1 (remove_in k (read_heap ws)) (other-shaped w0 w1 h1 (settle ys yl) (settle_last ys yl) sh (places-settle ys yl) size3 other3 chained3 directory3 top3) (owned-settle 0 ys yl under1)
+        heap3 = heap-shaped w1 (remove_in k (read_heap ws)) (other-shaped w0 w1 h1 (balance ys yl) (balance_last ys yl) sh (places-balance ys yl) size3 other3 chained3 directory3 top3) (owned-balance 0 ys yl under1)
 
         pub join-page : page_of w1 ≡ with_records (without key (records_of ws)) (page_of ws)
-        join-page = page-from w1 (remove_in k (read_heap ws)) heap3 ∙ (ap (λ (q : Page). Tree q) (other-page w0 w1 h1 (settle ys yl) (settle_last ys yl) sh (places-settle ys yl) size3 other3 ∙ pg) ∙ sym wanted)
+        join-page = page-from w1 (remove_in k (read_heap ws)) heap3 ∙ (ap (λ (q : Page). Tree q) (other-page w0 w1 h1 (balance ys yl) (balance_last ys yl) sh (places-balance ys yl) size3 other3 ∙ pg) ∙ sym wanted)
 
         pub join-heap : read_heap w1 ≡ remove_in k (read_heap ws)
         join-heap = heap-read w1 (remove_in k (read_heap ws)) heap3
 
         pub join-kept : (i : ℕ) → IsKept (used (read_heap ws)) i → get_or w1 i 0 ≡ get_or w0 i 0
-        join-kept i kept = let a = top-few in u.other i (elim (kept-far _ i kept) [ inl f ↦ inl f | inr f ↦ inr (omega arith) ]) (kept-low1 i short kept (inr short-in)) (kept-low1 i after kept after-cases)
+        join-kept i kept = let a = top-few in u.other i (elim (kept-far _ i kept) [ inl f ↦ inl f | inr f ↦ inr (omega arith) ]) (kept-low i short kept (inr short-in)) (kept-low i after kept after-cases)

@@ -1,5 +1,7 @@
 -- The records between two keys, one after another.
 use Rattle.std.proofs.Common.{◌≡◌, ℕ, zero, suc, ◌+◌, ◌<◌, ◌≤◌, true, false, cond, ◌∙◌, [], ◌∷◌, ◌++◌, List, Some, slice_get, length, take, drop, set, refl, ap, arith, inl, inr, append-nil}
+use Rattle.std.proofs.lemmas.Option.{slice_get_within, get_or_from_slice_get}
+use Rattle.std.proofs.lemmas.List.{take_more}
 use Rattle.std.proofs.lemmas.Bool.{cases_lt}
 use Rattle.ib_map.specs.Keys.{MapKey, rank}
 use Rattle.ib_map.specs.Pairs.{Pairs, cut}
@@ -12,10 +14,7 @@ length-cut (x ∷ xs) low high =
     elim (is_within low high x) as (λ b. length (cond b (x ∷ cut xs low high) (cut xs low high)) ≤ length (x ∷ xs)) [ true ↦ omega arith | false ↦ omega arith ]
 
 take-one_more : (xs : Pairs) (i : ℕ) (r : MapKey × ℕ) → slice_get xs i ≡ Some r → take (i + 1) xs ≡ take i xs ++ r ∷ []
-take-one_more [] i r at = cc
-take-one_more (x ∷ xs) zero r at = let same : x ≡ r = cc in ap (λ (y : MapKey × ℕ). y ∷ []) same
-take-one_more (x ∷ xs) (suc i) r at =
-    ap (λ k. take k (x ∷ xs)) (let e : suc i + 1 ≡ suc (i + 1) = omega arith in e) ∙ ap (λ ys. x ∷ ys) (take-one_more xs i r at)
+take-one_more xs i r at = take_more xs i r (slice_get_within xs i r at) ∙ ap (λ (y : MapKey × ℕ). take i xs ++ y ∷ []) (get_or_from_slice_get xs i r r at)
 
 -- a record that lies between the keys, and one that does not
 pub cut_inside : (xs : Pairs) (low high : MapKey) (i : ℕ) (r : MapKey × ℕ) → slice_get xs i ≡ Some r → (rank low ≤ rank r.0) × (rank r.0 ≤ rank high) → cut (take (i + 1) xs) low high ≡ cut (take i xs) low high ++ r ∷ []

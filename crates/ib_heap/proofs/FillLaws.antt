@@ -1,5 +1,5 @@
 -- Records that ascend, put in one behind another.
-use Rattle.std.proofs.Common.{◌≡◌, ℕ, zero, suc, ◌+◌, ◌-◌, ◌<◌, ◌≤◌, [], ◌∷◌, ◌++◌, ◌∙◌, None, length, take, drop, get_or, append_assoc, refl, ap, sym, arith}
+use Rattle.std.proofs.Common.{◌≡◌, ℕ, zero, suc, ◌+◌, ◌-◌, ◌<◌, ◌≤◌, [], ◌∷◌, ◌++◌, ◌∙◌, None, length, take, drop, get_or, append_assoc, ap, sym, arith, append-nil}
 use Rattle.std.proofs.Math.Seq.{take-append_seam, take-append-add}
 use Rattle.std.proofs.lemmas.List.{take-append-le}
 use borrow.Rule.Slice.PartMut.{put_mid}
@@ -14,29 +14,16 @@ module _ (xs : Pairs) (r : MapKey × ℕ) (rises : Rises 0 xs (rank r.0)) where
   is-absent = value_at-above r.0 0 xs (rank r.0) rises (omega arith)
 
   pub is-put-last : put r.0 r.1 xs ≡ xs ++ r ∷ []
-  is-put-last = ap (λ (ys : Pairs). put r.0 r.1 ys) (sym (append-none xs)) ∙ put-behind r.0 r.1 0 xs (rank r.0) [] rises (omega arith)
-    where
-      append-none : (ys : Pairs) → ys ++ [] ≡ ys
-      append-none [] = refl
-      append-none (y ∷ ys) = ap (λ (zs : Pairs). y ∷ zs) (append-none ys)
+  is-put-last = ap (λ (ys : Pairs). put r.0 r.1 ys) (sym (append-nil xs)) ∙ put-behind r.0 r.1 0 xs (rank r.0) [] rises (omega arith)
 
   pub is-last-place : place_of r.0 xs ≡ length xs
-  is-last-place = ap (λ (ys : Pairs). place_of r.0 ys) (sym (append-none xs)) ∙ (place_of-behind r.0 0 xs (rank r.0) [] rises (omega arith) ∙ (let e : length xs + 0 ≡ length xs = omega arith in e))
-    where
-      append-none : (ys : Pairs) → ys ++ [] ≡ ys
-      append-none [] = refl
-      append-none (y ∷ ys) = ap (λ (zs : Pairs). y ∷ zs) (append-none ys)
+  is-last-place = ap (λ (ys : Pairs). place_of r.0 ys) (sym (append-nil xs)) ∙ (place_of-behind r.0 0 xs (rank r.0) [] rises (omega arith) ∙ (let e : length xs + 0 ≡ length xs = omega arith in e))
 
 -- the records before one of those that ascend
 pub take-rises : (low : ℕ) (xs : Pairs) (high i : ℕ) (d : MapKey × ℕ) → Rises low xs high → i < length xs → Rises low (take i xs) (rank (get_or xs i d).0)
 take-rises low [] high i d h lt = absurd (omega arith)
 take-rises low (x ∷ xs) high zero d h lt = h.0
 take-rises low (x ∷ xs) high (suc i) d h lt = (h.0, take-rises (rank x.0 + 1) xs high i d h.1 (omega arith))
-
-pub take-more : (xs : Pairs) (i : ℕ) (d : MapKey × ℕ) → i < length xs → take (i + 1) xs ≡ take i xs ++ get_or xs i d ∷ []
-take-more [] i d lt = absurd (omega arith)
-take-more (x ∷ xs) zero d lt = refl
-take-more (x ∷ xs) (suc i) d lt = ap (λ k. take k (x ∷ xs)) (let e : suc i + 1 ≡ suc (i + 1) = omega arith in e) ∙ ap (λ (ys : Pairs). x ∷ ys) (take-more xs i d (omega arith))
 
 -- records that were copied to the front of some room
 pub front-of : (rs rest out : Pairs) (n : ℕ) → out ≡ rs ++ rest → n ≤ length rs → take n out ≡ take n rs

@@ -1,11 +1,11 @@
 -- The heap of a page that was filled: its places in order, and none that is free.
 use Rattle.std.proofs.Common.{◌≡◌, ℕ, zero, suc, true, false, cond, ◌+◌, ◌-◌, ◌*◌, ◌≤◌, [], ◌∷◌, ◌∙◌, List, length, drop, take, refl, ap, arith, inr, leb}
-use Rattle.ib_heap.specs.Heap.{Node, Heap, used, read_heap, owners, upto}
-use Rattle.ib_heap.specs.Put.{owned_by, put_node, put_last, mark, mark_last, place_for, rest_of, put_in}
+use Rattle.ib_heap.specs.Heap.{Node, Heap, used, read_heap, owners, up_to}
+use Rattle.ib_heap.specs.Put.{owned_by, put_node, put_last, give_slot, give_slot_last, place_for, rest_of, put_in}
 use Rattle.ib_heap.specs.Filled.{filled, empty_heap}
 use Rattle.ib_heap.specs.Kept.{IsKept}
 use Rattle.ib_heap.proofs.PutLaws.{length-put}
-use Rattle.ib_heap.proofs.SplitPage.{length-mark}
+use Rattle.ib_heap.proofs.SplitPage.{length-give_slot}
 
 pub filled-none : filled 0 ≡ empty_heap
 unfolding filled
@@ -17,15 +17,15 @@ filled-more n = ap filled (let e : suc n ≡ n + 1 = omega arith in e)
 
 put-free : (k : ℕ) (h : Heap) → (put_in k h).free ≡ rest_of h.free
 put-free k h =
-    let p = place_for h in let ns = put_node k p h.nodes in let l = put_last k h.nodes h.last in let t = upto (length (owners (take k h.nodes)) - 1) ns + 3 in
-    elim (leb (owned_by (drop k ns) l) 8) as (λ b. (cond b (let g : Heap = record { nodes = ns; last = l; free = rest_of h.free } in g) (let g : Heap = record { nodes = mark t ns; last = mark_last t ns l; free = rest_of h.free } in g)).free ≡ rest_of h.free) [ true ↦ refl | false ↦ refl ]
+    let p = place_for h in let ns = put_node k p h.nodes in let l = put_last k h.nodes h.last in let t = up_to (length (owners (take k h.nodes)) - 1) ns + 3 in
+    elim (leb (owned_by (drop k ns) l) 8) as (λ b. (cond b (let g : Heap = record { nodes = ns; last = l; free = rest_of h.free } in g) (let g : Heap = record { nodes = give_slot t ns; last = give_slot_last t ns l; free = rest_of h.free } in g)).free ≡ rest_of h.free) [ true ↦ refl | false ↦ refl ]
 
 put-long : (k : ℕ) (h : Heap) → k ≤ length h.nodes → length (put_in k h).nodes ≡ length h.nodes + 1
 put-long k h le =
-    let p = place_for h in let ns = put_node k p h.nodes in let l = put_last k h.nodes h.last in let t = upto (length (owners (take k h.nodes)) - 1) ns + 3 in
+    let p = place_for h in let ns = put_node k p h.nodes in let l = put_last k h.nodes h.last in let t = up_to (length (owners (take k h.nodes)) - 1) ns + 3 in
     let long : length ns ≡ length h.nodes + 1 = length-put k p h.nodes le in
-    elim (leb (owned_by (drop k ns) l) 8) as (λ b. length (cond b (let g : Heap = record { nodes = ns; last = l; free = rest_of h.free } in g) (let g : Heap = record { nodes = mark t ns; last = mark_last t ns l; free = rest_of h.free } in g)).nodes ≡ length h.nodes + 1)
-    [ true ↦ long | false ↦ length-mark t ns ∙ long ]
+    elim (leb (owned_by (drop k ns) l) 8) as (λ b. length (cond b (let g : Heap = record { nodes = ns; last = l; free = rest_of h.free } in g) (let g : Heap = record { nodes = give_slot t ns; last = give_slot_last t ns l; free = rest_of h.free } in g)).nodes ≡ length h.nodes + 1)
+    [ true ↦ long | false ↦ length-give_slot t ns ∙ long ]
 
 -- as many records as were put in, and no free place
 pub record IsFilled (n : ℕ) (h : Heap) : Type 0 where

@@ -25,14 +25,15 @@ module _ (ws : List ℕ) (key before at : ℕ) (kn : Known ws) (before_is : befo
   within : at ≢ 19 → k < length (nodes_of ws)
   within ne = elim (first-in (used (read_heap ws)) (nodes_of ws) k kn.few kn.places k_le) [ inl e ↦ absurd (ne (at_is ∙ e.0)) | inr e ↦ e.1.1 ]
 
-  there : at ≢ 19 → slice_get (records_of ws) k ≡ Some (get_or ws (at + 1) 0, get_or ws (at + 2) 0)
-  there ne = record-is ws k at kn (within ne) at_is
+  -- the record at the place
+  pub has-record : at ≢ 19 → slice_get (records_of ws) k ≡ Some (get_or ws (at + 1) 0, get_or ws (at + 2) 0)
+  has-record ne = record-is ws k at kn (within ne) at_is
 
   pub found : at ≢ 19 → rank (get_or ws (at + 1) 0) ≡ rank key → value_at key (records_of ws) ≡ Some (get_or ws (at + 2) 0)
   found ne same =
-      let some = subst (λ (o : Option (MapKey × ℕ)). IsSomeAnd o (λ r. rank r.0 ≡ rank key)) (sym (there ne)) same in
+      let some = subst (λ (o : Option (MapKey × ℕ)). IsSomeAnd o (λ r. rank r.0 ≡ rank key)) (sym (has-record ne)) same in
       let got = value_at-found key 0 (records_of ws) end_rank k kn.rises refl some in
-      subst (λ (o : Option (MapKey × ℕ)). IsSomeAnd o (λ r. value_at key (records_of ws) ≡ Some r.1)) (there ne) got
+      subst (λ (o : Option (MapKey × ℕ)). IsSomeAnd o (λ r. value_at key (records_of ws) ≡ Some r.1)) (has-record ne) got
 
   pub absent-end : at ≡ 19 → value_at key (records_of ws) ≡ None
   absent-end e = elim (first-in (used (read_heap ws)) (nodes_of ws) k kn.few kn.places k_le) [
@@ -41,29 +42,25 @@ module _ (ws : List ℕ) (key before at : ℕ) (kn : Known ws) (before_is : befo
   ]
 
   pub absent-other : at ≢ 19 → rank (get_or ws (at + 1) 0) ≢ rank key → value_at key (records_of ws) ≡ None
-  absent-other ne differs = value_at-differs key 0 (records_of ws) end_rank k _ kn.rises refl (there ne) differs
+  absent-other ne differs = value_at-differs key 0 (records_of ws) end_rank k _ kn.rises refl (has-record ne) differs
 
   -- the key is not at its place
   pub absent-at : (at ≡ 19) ⊎ ((at ≢ 19) × (rank (get_or ws (at + 1) 0) ≢ rank key)) → value_at key (records_of ws) ≡ None
   absent-at no_key = elim no_key [ inl e ↦ absent-end e | inr e ↦ absent-other e.0 e.1 ]
 
-  -- the record at the place
-  pub has-record : at ≢ 19 → slice_get (records_of ws) k ≡ Some (get_or ws (at + 1) 0, get_or ws (at + 2) 0)
-  has-record ne = there ne
-
   pub within-records : at ≢ 19 → k < length (records_of ws)
   within-records ne = let lt = within ne in let l = kn.long in omega arith
 
-  pub upto-records : k ≤ length (records_of ws)
-  upto-records = place_of-le key (records_of ws)
+  pub up_to-records : k ≤ length (records_of ws)
+  up_to-records = place_of-le key (records_of ws)
 
   -- the last record that is not above the key
   pub routed-at : at ≢ 19 → get_or ws (at + 1) 0 ≡ key → slice_get (records_of ws) (place_after key (records_of ws) - 1) ≡ Some (get_or ws (at + 1) 0, get_or ws (at + 2) 0)
   routed-at ne same =
-      let some = subst (λ (o : Option (MapKey × ℕ)). IsSomeAnd o (λ r. r.0 ≡ key)) (sym (there ne)) same in
+      let some = subst (λ (o : Option (MapKey × ℕ)). IsSomeAnd o (λ r. r.0 ≡ key)) (sym (has-record ne)) same in
       let r = routed-found key (records_of ws) k kn.rises refl some in
       let p = r.place in
-      ap (λ n. slice_get (records_of ws) n) (let e : place_after key (records_of ws) - 1 ≡ k = omega arith in e) ∙ there ne
+      ap (λ n. slice_get (records_of ws) n) (let e : place_after key (records_of ws) - 1 ≡ k = omega arith in e) ∙ has-record ne
 
   pub routed-before : value_at key (records_of ws) ≡ None → IsSomeAnd (slice_get (records_of ws) 0) (λ r. rank r.0 ≤ rank key) → slice_get (records_of ws) (place_after key (records_of ws) - 1) ≡ Some (get_or ws (before + 1) 0, get_or ws (before + 2) 0)
   routed-before none first =

@@ -1,13 +1,13 @@
 -- The clauses of the form, from the test's parts and back.
-use Rattle.std.proofs.Common.{inl, inr, ◌≡◌, ℕ, zero, suc, ◌+◌, ◌-◌, ◌*◌, ◌/◌, ◌%◌, ◌<◌, ◌≤◌, true, false, ◌∙◌, List, [], ◌∷◌, ◌++◌, length, get_or, refl, ap, sym, arith, subst, length-append, ◌&&◌, eqb}
+use Rattle.std.proofs.Common.{inl, inr, ◌≡◌, ℕ, zero, suc, ◌+◌, ◌-◌, ◌/◌, ◌%◌, ◌<◌, ◌≤◌, true, false, ◌∙◌, List, ◌∷◌, ◌++◌, length, get_or, refl, ap, sym, arith, subst, length-append, ◌&&◌, eqb}
 use Rattle.std.proofs.lemmas.Bool.{cases_Bool, cases_eq, eq-eqb, eqb-true, and_from, and_parts}
 use Rattle.ib_map.specs.Keys.{end_rank}
 use Rattle.ib_heap.specs.Page.{rises, HasLimits}
-use Rattle.ib_heap.specs.Heap.{Node, Heap, is_heap, read_heap, places_of, chain_from, free_from, is_directory, is_owned, owners, records_in, first_of, first_free, used}
+use Rattle.ib_heap.specs.Heap.{Heap, is_heap, read_heap, places_of, chain_from, free_from, is_directory, is_owned, owners, records_in, first_of, first_free, used}
 use Rattle.ib_heap.specs.Walks.{HasHead, HasSlots, IsUnmet, are_new, met_with, first_step, chain_holds, end_from, free_end}
 use Rattle.ib_heap.proofs.PageLaws.{rises-Decides}
-use Rattle.ib_heap.proofs.HeapLaws.{Chained, Freed, Directory, ArePlaces, EachOnce, IsHeap, IsHeap-Decides, Owned-Decides, Directory-Decides, ArePlaces-left}
-use Rattle.ib_heap.proofs.SeekLaws.{first-in, owner-last, directory-at, directory-few, owners-some, length-records}
+use Rattle.ib_heap.proofs.HeapLaws.{Chained, Freed, Directory, ArePlaces, EachOnce, IsHeap, IsHeap-Decides, Owned-Decides, Directory-Decides, ArePlaces-left, last-word}
+use Rattle.ib_heap.proofs.SeekLaws.{first-in, owner-last, directory-at, directory-few, owners-some, length-records, length-places}
 use Rattle.ib_heap.proofs.MetLaws.{new-append, new-places, new-few, few-new, few-once, once-few}
 use Rattle.ib_heap.proofs.FormedLoops.{chained-from, freed-from, slots-number}
 
@@ -26,14 +26,6 @@ chained-end ws (suc n) p last h e = let a = h.0 in chained-end ws n (get_or ws p
 pub freed-end : (ws : List ℕ) (n p : ℕ) → Freed ws (free_from ws n p) → p ≡ first_free (free_from ws n p) → free_end ws n p ≡ 0
 freed-end ws zero p h e = e
 freed-end ws (suc n) p h e = freed-end ws n (get_or ws p 0) h.1 h.0
-
-last-word : (ws : List ℕ) (xs : List Node) (last : ℕ) → Chained ws xs last → get_or ws 19 0 ≡ last * 256
-last-word ws [] last c = c
-last-word ws (x ∷ xs) last c = last-word ws xs last c.1
-
-length-places : (xs : List Node) → length (places_of xs) ≡ length xs
-length-places [] = refl
-length-places (x ∷ xs) = ap suc (length-places xs)
 
 pub refuse : (ws : List ℕ) → (IsHeap ws (read_heap ws) → ⊥) → false ≡ is_heap ws (read_heap ws)
 refuse ws bad = elim (cases_Bool (is_heap ws (read_heap ws))) [

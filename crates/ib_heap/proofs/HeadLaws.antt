@@ -13,7 +13,7 @@ use Rattle.ib_heap.specs.Form.{page_of}
 use Rattle.ib_heap.specs.Page.PageValue.{Tree}
 use Rattle.ib_heap.proofs.HeapLaws.{IsHeap, HasHeap, heap_in, heap-read, page-from}
 use Rattle.ib_heap.proofs.PutLaws.{chain-same}
-use Rattle.ib_heap.proofs.ShapeLaws.{Places, places-known, freed-same, directory-same, records-same}
+use Rattle.ib_heap.proofs.ShapeLaws.{Places, places-known, freed-same, directory-same, records-same, page_of_parts, page-parts}
 
 -- one of the words of level, links and clock
 abbrev pub IsHeadWord : ℕ → Type 0
@@ -63,9 +63,6 @@ module _ (ws vs : List ℕ) (h : Heap) (is : IsHeap ws h) (size : length vs ≡ 
   pub head-page : IsPage (page_with vs (records_in ws h.nodes)) → page_of vs ≡ Tree (page_with vs (records_in ws h.nodes))
   head-page fits = page-from vs h (head-heap fits) ∙ ap (λ (rs : Pairs). Tree (page_with vs rs)) records
 
-abbrev mk : ℕ → ℕ → ℕ → ℕ → Pairs → Page
-mk level prev next clock records = record { level = level; prev = prev; next = next; clock = clock; records = records }
-
 -- a page with other level, links and clock in its words
 pub record Headed (ws vs : List ℕ) (v : PageValue) : Type 0 where
   pub page : page_of vs ≡ v
@@ -73,11 +70,10 @@ pub record Headed (ws vs : List ℕ) (v : PageValue) : Type 0 where
 
 headed : (ws vs : List ℕ) (level prev next clock : ℕ) → (h : HasHeap ws) → length vs ≡ PAGE_WORDS → ((i : ℕ) → (IsHeadWord i → ⊥) → get_or vs i 0 ≡ get_or ws i 0)
     → get_or vs 1 0 ≡ level → get_or vs 3 0 ≡ prev → get_or vs 4 0 ≡ next → get_or vs 5 0 ≡ clock
-    → IsPage (mk level prev next clock (records_in ws (nodes_of ws))) → Headed ws vs (Tree (mk level prev next clock (records_in ws (nodes_of ws))))
+    → IsPage (page_of_parts level prev next clock (records_in ws (nodes_of ws))) → Headed ws vs (Tree (page_of_parts level prev next clock (records_in ws (nodes_of ws))))
 headed ws vs level prev next clock h size same l p n k fits =
     let rs = records_in ws (nodes_of ws) in
-    let is : page_with vs rs ≡ mk level prev next clock rs =
-    ap (λ i. mk i (get_or vs 3 0) (get_or vs 4 0) (get_or vs 5 0) rs) l ∙ (ap (λ i. mk level i (get_or vs 4 0) (get_or vs 5 0) rs) p ∙ (ap (λ i. mk level prev i (get_or vs 5 0) rs) n ∙ ap (λ i. mk level prev next i rs) k)) in
+    let is : page_with vs rs ≡ page_of_parts level prev next clock rs = page-parts vs rs level prev next clock l p n k in
     let good = subst IsPage (sym is) fits in
     record {
       page = head-page ws vs (read_heap ws) h.is size same good ∙ ap (λ (q : Page). Tree q) is;

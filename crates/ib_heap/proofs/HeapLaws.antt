@@ -149,14 +149,19 @@ ArePlaces-right n [] qs h = h
 ArePlaces-right n (p ∷ ps) qs h = ArePlaces-right n ps qs h.1
 
 -- the chain is read from its words again
-next_byte : (n : ℕ) (xs : List Node) → n ≤ 35 → ArePlaces n (places_of xs) → first_of xs < 256
-next_byte n [] le h = omega arith
-next_byte n (x ∷ xs) le h = let a = h.0.is in let b = h.0.below in omega arith
+pub first-low : (n : ℕ) (xs : List Node) → n ≤ 35 → ArePlaces n (places_of xs) → first_of xs < 256
+first-low n [] le h = omega arith
+first-low n (x ∷ xs) le h = let a = h.0.is in let b = h.0.below in omega arith
+
+-- the word of the supremum
+pub last-word : (ws : List ℕ) (xs : List Node) (last : ℕ) → Chained ws xs last → get_or ws 19 0 ≡ last * 256
+last-word ws [] last c = c
+last-word ws (x ∷ xs) last c = last-word ws xs last c.1
 
 pub chain-read : (ws : List ℕ) (n : ℕ) (xs : List Node) (last : ℕ) → n ≤ 35 → ArePlaces n (places_of xs) → Chained ws xs last → chain_from ws (length xs) (first_of xs) ≡ xs
 chain-read ws n [] last le places h = refl
 chain-read ws n (x ∷ xs) last le places h =
-    let low = next_byte n xs le places.1 in
+    let low = first-low n xs le places.1 in
     let head = h.0 in
     let owned : get_or ws x.place 0 / 256 ≡ x.owned = omega arith in
     let next : get_or ws x.place 0 % 256 ≡ first_of xs = omega arith in
@@ -175,21 +180,17 @@ heap-read ws h k =
     let count = k.count in
     let start = k.start in
     let nodes_places = ArePlaces-left (used h) (places_of h.nodes) h.free k.places in
-    let low = next_byte (used h) h.nodes few nodes_places in
+    let low = first-low (used h) h.nodes few nodes_places in
     let first : get_or ws 18 0 % 256 ≡ first_of h.nodes = omega arith in
     let nodes : chain_from ws (get_or ws 2 0) (get_or ws 18 0 % 256) ≡ h.nodes =
     ap (λ n. chain_from ws n (get_or ws 18 0 % 256)) count ∙ (ap (λ n. chain_from ws (length h.nodes) n) first ∙ chain-read ws (used h) h.nodes h.last few nodes_places k.chained) in
-    let last : get_or ws 19 0 / 256 ≡ h.last = let e = last_word h.nodes k.chained in omega arith in
+    let last : get_or ws 19 0 / 256 ≡ h.last = let e = last-word ws h.nodes h.last k.chained in omega arith in
     let long : (get_or ws 7 0 % 256 - 20) / 3 - get_or ws 2 0 ≡ length h.free = omega arith in
     let free : free_from ws ((get_or ws 7 0 % 256 - 20) / 3 - get_or ws 2 0) (get_or ws 6 0) ≡ h.free =
     ap (λ n. free_from ws n (get_or ws 6 0)) long ∙ (ap (λ n. free_from ws (length h.free) n) k.front ∙ free-read ws h.free k.freed) in
     ap (λ (xs : List Node). let g : Heap = record { nodes = xs; last = get_or ws 19 0 / 256; free = free_from ws ((get_or ws 7 0 % 256 - 20) / 3 - get_or ws 2 0) (get_or ws 6 0) } in g) nodes
     ∙ (ap (λ (n : ℕ). let g : Heap = record { nodes = h.nodes; last = n; free = free_from ws ((get_or ws 7 0 % 256 - 20) / 3 - get_or ws 2 0) (get_or ws 6 0) } in g) last
     ∙ ap (λ (ps : List ℕ). let g : Heap = record { nodes = h.nodes; last = h.last; free = ps } in g) free)
-  where
-    last_word : (xs : List Node) → Chained ws xs h.last → get_or ws 19 0 ≡ h.last * 256
-    last_word [] c = c
-    last_word (x ∷ xs) c = last_word xs c.1
 
 -- the page that words with a heap are
 pub page-from : (ws : List ℕ) (h : Heap) → IsHeap ws h → page_of ws ≡ Tree (page_with ws (records_in ws h.nodes))

@@ -4,7 +4,7 @@ use Rattle.ib_map.specs.Keys.{rank, end_rank}
 use Rattle.ib_map.specs.Pairs.{put, value_at, place_of}
 use Rattle.ib_heap.specs.Page.{Page, HoldsTree}
 use Rattle.ib_heap.specs.Page.PageValue.{Tree}
-use Rattle.ib_heap.specs.Heap.{Heap, first_of, nodes_of, read_heap, upto, used}
+use Rattle.ib_heap.specs.Heap.{Heap, first_of, nodes_of, read_heap, up_to, used}
 use Rattle.ib_heap.specs.Form.{page_of}
 use Rattle.ib_heap.specs.Image.{records_of, with_records}
 use Rattle.ib_heap.specs.Put.{owned_by, owner_from, place_for, rest_of, put_in}
@@ -125,7 +125,7 @@ module _ (ws : List ℕ) (key slot before at : ℕ) (holds : HoldsTree (page_of 
           abbrev oi : own ≡ owner_from (drop k h1.nodes)
           oi = owner_is ws key slot before at p kn st nodes-few gives ∙ sym (owner-drop _ p (nodes_of ws) (k_le ws key slot before at p kn st nodes-few gives))
 
-          abbrev mi : middle ≡ first_of (drop (upto (slot - 1) h1.nodes + 3) h1.nodes)
+          abbrev mi : middle ≡ first_of (drop (up_to (slot - 1) h1.nodes + 3) h1.nodes)
           mi = is ∙ walk.is
 
           middle-head : IsHead middle

@@ -25,13 +25,13 @@ pub mod RecordsLaws
 pub mod FilledLaws
 pub mod HeadLaws
 pub mod CountLaws
-pub mod CutLaws
-pub mod SettleLaws
+pub mod UnlinkLaws
+pub mod BalanceLaws
 pub mod RemoveShape
 pub mod SlotLaws
 pub mod ShapedDecides
 pub mod KeptLaws
-pub mod CutSteps
+pub mod UnlinkSteps
 pub mod BalanceSteps
 pub mod RemovalLaws
 pub mod MetLaws

@@ -1,18 +1,15 @@
 -- Places that are met one by one: as many as there are, and none twice, are all of them once.
-use Rattle.std.proofs.Common.{inl, inr, ◌≡◌, ℕ, zero, suc, ◌+◌, ◌*◌, ◌<◌, ◌≤◌, true, ◌∙◌, List, [], ◌∷◌, ◌++◌, length, get_or, set, refl, ap, sym, arith, ◌&&◌, Bool, false}
+use Rattle.std.proofs.Common.{inl, inr, ◌≡◌, ℕ, zero, suc, ◌+◌, ◌*◌, ◌<◌, ◌≤◌, true, ◌∙◌, List, [], ◌∷◌, ◌++◌, length, get_or, set, refl, ap, sym, arith, ◌&&◌, Bool}
+use Rattle.std.proofs.Math.Bool.{and_assoc}
 use Rattle.std.proofs.lemmas.Bool.{and_parts, and_from, eq-eqb, ne_eqb, eqb-true, cases_eq, cases_lt}
 use Rattle.std.proofs.lemmas.List.{get_or-set_same, get_or-set_other, length-set}
 use Rattle.ib_heap.specs.Heap.{times}
 use Rattle.ib_heap.specs.Walks.{is_new, are_new, met_with}
 use Rattle.ib_heap.proofs.HeapLaws.{IsPlace, IsPlace-Decides, ArePlaces, EachOnce}
 
-and-nested : (a b c : Bool) → (a && (b && c)) ≡ ((a && b) && c)
-and-nested true b c = refl
-and-nested false b c = refl
-
 pub new-append : (n : ℕ) (met ps qs : List ℕ) → are_new n met (ps ++ qs) ≡ (are_new n met ps && are_new n (met_with met ps) qs)
 new-append n met [] qs = refl
-new-append n met (p ∷ ps) qs = ap (λ (b : Bool). is_new n met p && b) (new-append n (set met p 1) ps qs) ∙ and-nested (is_new n met p) (are_new n (set met p 1) ps) (are_new n (met_with (set met p 1) ps) qs)
+new-append n met (p ∷ ps) qs = ap (λ (b : Bool). is_new n met p && b) (new-append n (set met p 1) ps qs) ∙ sym (and_assoc (is_new n met p) (are_new n (set met p 1) ps) (are_new n (met_with (set met p 1) ps) qs))
 
 -- how often a place stands in a list with one more
 times-same : (p q : ℕ) (ps : List ℕ) → p ≡ q → times q (p ∷ ps) ≡ 1 + times q ps

@@ -1,8 +1,8 @@
 -- The heap that a put leaves.
 use Rattle.std.proofs.Common.{◌≡◌, ℕ, zero, suc, ◌+◌, ◌-◌, ◌<◌, ◌≤◌, ◌⊎◌, [], ◌∷◌, ◌∙◌, List, length, take, drop, refl, ap, sym, arith, inl, inr, subst}
 use Rattle.std.proofs.lemmas.Bool.{cases_eq, eq-eqb, ne_eqb, le-leb, lt-leb, cond-true, cond-false}
-use Rattle.ib_heap.specs.Heap.{Node, Heap, owners, upto}
-use Rattle.ib_heap.specs.Put.{put_node, put_last, mark, mark_last, place_for, rest_of, owned_by, put_in}
+use Rattle.ib_heap.specs.Heap.{Node, Heap, owners, up_to}
+use Rattle.ib_heap.specs.Put.{put_node, put_last, give_slot, give_slot_last, place_for, rest_of, owned_by, put_in}
 use Rattle.ib_heap.proofs.SeekLaws.{owners-some}
 use Rattle.ib_heap.proofs.SplitLaws.{InSlot}
 
@@ -15,26 +15,26 @@ slot-number j (suc k) [] within le = absurd (omega arith)
 slot-number zero (suc k) (x ∷ xs) within le = elim (cases_eq x.owned 0) [
   | inl f ↦ (
       let e = eq-eqb x.owned 0 f in
-      let high : (suc k < 1 + upto 1 xs) ⊎ (1 ≡ length (owners xs)) = rw e at within.1.0 in
+      let high : (suc k < 1 + up_to 1 xs) ⊎ (1 ≡ length (owners xs)) = rw e at within.1.0 in
       let slots : 0 < length (owners xs) = rw e at within.1.1 in
       rw e (slot-number 0 k xs (omega arith, (elim high [ inl b ↦ inl (omega arith) | inr b ↦ inr b ], slots)) (omega arith)))
   | inr f ↦ absurd (
       let e = ne_eqb x.owned 0 f in
-      let w : (suc k < 1 + upto 0 xs) ⊎ (1 ≡ length (x.place ∷ owners xs)) = rw e at within.1.0 in
+      let w : (suc k < 1 + up_to 0 xs) ⊎ (1 ≡ length (x.place ∷ owners xs)) = rw e at within.1.0 in
       let some = owners-some xs in
       elim w [ inl b ↦ omega arith | inr b ↦ omega arith ])
 ]
 slot-number (suc j) (suc k) (x ∷ xs) within le = elim (cases_eq x.owned 0) [
   | inl f ↦ (
       let e = eq-eqb x.owned 0 f in
-      let low : 1 + upto (suc j) xs ≤ suc k = rw e at within.0 in
-      let high : (suc k < 1 + upto (suc (suc j)) xs) ⊎ (suc (suc j) ≡ length (owners xs)) = rw e at within.1.0 in
+      let low : 1 + up_to (suc j) xs ≤ suc k = rw e at within.0 in
+      let high : (suc k < 1 + up_to (suc (suc j)) xs) ⊎ (suc (suc j) ≡ length (owners xs)) = rw e at within.1.0 in
       let slots : suc j < length (owners xs) = rw e at within.1.1 in
       rw e (slot-number (suc j) k xs (omega arith, (elim high [ inl b ↦ inl (omega arith) | inr b ↦ inr b ], slots)) (omega arith)))
   | inr f ↦ (
       let e = ne_eqb x.owned 0 f in
-      let low : 1 + upto j xs ≤ suc k = rw e at within.0 in
-      let high : (suc k < 1 + upto (suc j) xs) ⊎ (suc (suc j) ≡ length (x.place ∷ owners xs)) = rw e at within.1.0 in
+      let low : 1 + up_to j xs ≤ suc k = rw e at within.0 in
+      let high : (suc k < 1 + up_to (suc j) xs) ⊎ (suc (suc j) ≡ length (x.place ∷ owners xs)) = rw e at within.1.0 in
       let slots : suc j < length (x.place ∷ owners xs) = rw e at within.1.1 in
       let r = slot-number j k xs (omega arith, (elim high [ inl b ↦ inl (omega arith) | inr b ↦ inr (omega arith) ], omega arith)) (omega arith) in
       rw e (omega arith))
@@ -45,7 +45,7 @@ module _ (k p slot : ℕ) (h : Heap) (place : p ≡ place_for h) where
   made q = record { nodes = put_node k q h.nodes; last = put_last k h.nodes h.last; free = rest_of h.free }
 
   abbrev split : ℕ → ℕ → Heap
-  split q j = record { nodes = mark (upto j (put_node k q h.nodes) + 3) (put_node k q h.nodes); last = mark_last (upto j (put_node k q h.nodes) + 3) (put_node k q h.nodes) (put_last k h.nodes h.last); free = rest_of h.free }
+  split q j = record { nodes = give_slot (up_to j (put_node k q h.nodes) + 3) (put_node k q h.nodes); last = give_slot_last (up_to j (put_node k q h.nodes) + 3) (put_node k q h.nodes) (put_last k h.nodes h.last); free = rest_of h.free }
 
   pub put-in-plain : owned_by (drop k (put_node k p h.nodes)) (put_last k h.nodes h.last) ≤ 8 → made p ≡ put_in k h
   put-in-plain room =

@@ -3,7 +3,7 @@ use Rattle.std.proofs.Common.{◌≡◌, ℕ, zero, suc, ◌+◌, ◌*◌, ◌<�
 use Rattle.std.specs.Prelude.{if◌then◌else◌, ◌==◌}
 use Rattle.std.proofs.lemmas.Bool.{cases_eq, eq-eqb, ne_eqb}
 use Rattle.ib_heap.specs.Heap.{Node, first_of, owners, times, places_of, last_from}
-use Rattle.ib_heap.specs.Put.{owned_by, owner_from, raise, raise_last, put_node, put_last}
+use Rattle.ib_heap.specs.Put.{owned_by, owner_from, own_one_more, last_one_more, put_node, put_last}
 use Rattle.ib_heap.proofs.HeapLaws.{Chained, Owned, IsOwner}
 
 -- whether two numbers are one
@@ -21,10 +21,10 @@ abbrev pub Over : ℕ → List Node → ℕ → Type 0
 Over n [] last = (last ≡ n + 1) × (last ≤ 9)
 Over n (x ∷ xs) last = ((x.owned ≡ 0) × Over (n + 1) xs last) ⊎ (((x.owned ≡ n + 1) × ((4 ≤ x.owned) × (x.owned ≤ 9))) × Owned 0 xs last)
 
-pub over-raise : (n : ℕ) (xs : List Node) (last : ℕ) → Owned n xs last → Over (n + 1) (raise xs) (raise_last xs last)
-over-raise n [] last h = let a = h.0 in let b = h.1 in (omega arith, omega arith)
-over-raise n (x ∷ xs) last (inl h) = rw (eq-eqb x.owned 0 h.0) (inl (h.0, over-raise (n + 1) xs last h.1))
-over-raise n (x ∷ xs) last (inr h) = let a = h.0.0 in let b = h.0.1.0 in let d = h.0.1.1 in rw (ne_eqb x.owned 0 (λ e. omega arith)) (inr ((omega arith, (omega arith, omega arith)), h.1))
+pub over-own_one_more : (n : ℕ) (xs : List Node) (last : ℕ) → Owned n xs last → Over (n + 1) (own_one_more xs) (last_one_more xs last)
+over-own_one_more n [] last h = let a = h.0 in let b = h.1 in (omega arith, omega arith)
+over-own_one_more n (x ∷ xs) last (inl h) = rw (eq-eqb x.owned 0 h.0) (inl (h.0, over-own_one_more (n + 1) xs last h.1))
+over-own_one_more n (x ∷ xs) last (inr h) = let a = h.0.0 in let b = h.0.1.0 in let d = h.0.1.1 in rw (ne_eqb x.owned 0 (λ e. omega arith)) (inr ((omega arith, (omega arith, omega arith)), h.1))
 
 -- the same behind the first k records
 abbrev pub OverAt : ℕ → ℕ → List Node → ℕ → Type 0
@@ -33,7 +33,7 @@ OverAt (suc k) n [] last = ⊥
 OverAt (suc k) n (x ∷ xs) last = ((x.owned ≡ 0) × OverAt k (n + 1) xs last) ⊎ (IsOwner n x.owned × OverAt k 0 xs last)
 
 pub over-put : (k n p : ℕ) (xs : List Node) (last : ℕ) → k ≤ length xs → Owned n xs last → OverAt k n (put_node k p xs) (put_last k xs last)
-over-put zero n p xs last le h = inl (refl, over-raise n xs last h)
+over-put zero n p xs last le h = inl (refl, over-own_one_more n xs last h)
 over-put (suc k) n p [] last le h = absurd (omega arith)
 over-put (suc k) n p (x ∷ xs) last le (inl h) = inl (h.0, over-put k (n + 1) p xs last (omega arith) h.1)
 over-put (suc k) n p (x ∷ xs) last le (inr h) = inr (h.0, over-put k 0 p xs last (omega arith) h.1)
@@ -50,55 +50,59 @@ over_at-room (suc k) n [] last h room = absurd h
 over_at-room (suc k) n (x ∷ xs) last (inl h) room = inl (h.0, over_at-room k (n + 1) xs last h.1 room)
 over_at-room (suc k) n (x ∷ xs) last (inr h) room = inr (h.0, over_at-room k 0 xs last h.1 room)
 
-pub places-raise : (xs : List Node) → places_of (raise xs) ≡ places_of xs
-places-raise [] = refl
-places-raise (x ∷ xs) = elim (cases_eq x.owned 0) [
-  | inl e ↦ rw (eq-eqb x.owned 0 e) (ap (λ (ps : List ℕ). x.place ∷ ps) (places-raise xs))
+pub places-own_one_more : (xs : List Node) → places_of (own_one_more xs) ≡ places_of xs
+places-own_one_more [] = refl
+places-own_one_more (x ∷ xs) = elim (cases_eq x.owned 0) [
+  | inl e ↦ rw (eq-eqb x.owned 0 e) (ap (λ (ps : List ℕ). x.place ∷ ps) (places-own_one_more xs))
   | inr ne ↦ rw (ne_eqb x.owned 0 ne) refl
 ]
 
-pub owners-raise : (xs : List Node) → owners (raise xs) ≡ owners xs
-owners-raise [] = refl
-owners-raise (x ∷ xs) = elim (cases_eq x.owned 0) [
-  | inl e ↦ rw (eq-eqb x.owned 0 e) (rw (eq-eqb x.owned 0 e) (owners-raise xs))
+pub owners-own_one_more : (xs : List Node) → owners (own_one_more xs) ≡ owners xs
+owners-own_one_more [] = refl
+owners-own_one_more (x ∷ xs) = elim (cases_eq x.owned 0) [
+  | inl e ↦ rw (eq-eqb x.owned 0 e) (rw (eq-eqb x.owned 0 e) (owners-own_one_more xs))
   | inr ne ↦ rw (ne_eqb x.owned 0 ne) (rw (ne_eqb (x.owned + 1) 0 (λ e. omega arith)) refl)
 ]
 
-pub first-raise : (xs : List Node) → first_of (raise xs) ≡ first_of xs
-first-raise [] = refl
-first-raise (x ∷ xs) = elim (cases_eq x.owned 0) [
+pub first-own_one_more : (xs : List Node) → first_of (own_one_more xs) ≡ first_of xs
+first-own_one_more [] = refl
+first-own_one_more (x ∷ xs) = elim (cases_eq x.owned 0) [
   | inl e ↦ rw (eq-eqb x.owned 0 e) refl
   | inr ne ↦ rw (ne_eqb x.owned 0 ne) refl
 ]
 
 pub owners-put : (k p : ℕ) (xs : List Node) → k ≤ length xs → owners (put_node k p xs) ≡ owners xs
-owners-put zero p xs le = owners-raise xs
+owners-put zero p xs le = owners-own_one_more xs
 owners-put (suc k) p [] le = absurd (omega arith)
 owners-put (suc k) p (x ∷ xs) le = elim (cases_eq x.owned 0) [
   | inl e ↦ rw (eq-eqb x.owned 0 e) (owners-put k p xs (omega arith))
   | inr ne ↦ rw (ne_eqb x.owned 0 ne) (ap (λ (os : List ℕ). x.place ∷ os) (owners-put k p xs (omega arith)))
 ]
 
-pub length-raise : (xs : List Node) → length (raise xs) ≡ length xs
-length-raise [] = refl
-length-raise (x ∷ xs) = elim (cases_eq x.owned 0) [
-  | inl e ↦ rw (eq-eqb x.owned 0 e) (ap suc (length-raise xs))
+pub length-own_one_more : (xs : List Node) → length (own_one_more xs) ≡ length xs
+length-own_one_more [] = refl
+length-own_one_more (x ∷ xs) = elim (cases_eq x.owned 0) [
+  | inl e ↦ rw (eq-eqb x.owned 0 e) (ap suc (length-own_one_more xs))
   | inr ne ↦ rw (ne_eqb x.owned 0 ne) refl
 ]
 
 pub length-put : (k p : ℕ) (xs : List Node) → k ≤ length xs → length (put_node k p xs) ≡ length xs + 1
-length-put zero p xs le = let r = length-raise xs in omega arith
+length-put zero p xs le = let r = length-own_one_more xs in omega arith
 length-put (suc k) p [] le = absurd (omega arith)
 length-put (suc k) p (x ∷ xs) le = let r = length-put k p xs (omega arith) in omega arith
 
 pub times-put : (k p q : ℕ) (xs : List Node) → k ≤ length xs → times q (places_of (put_node k p xs)) ≡ one p q + times q (places_of xs)
-times-put zero p q xs le = ap (λ (ps : List ℕ). one p q + times q ps) (places-raise xs)
+times-put zero p q xs le = ap (λ (ps : List ℕ). one p q + times q ps) (places-own_one_more xs)
 times-put (suc k) p q [] le = absurd (omega arith)
 times-put (suc k) p q (x ∷ xs) le = let r = times-put k p q xs (omega arith) in omega arith
 
 pub times-append : (q : ℕ) (ps qs : List ℕ) → times q (ps ++ qs) ≡ times q ps + times q qs
 times-append q [] qs = omega arith
 times-append q (p ∷ ps) qs = let r = times-append q ps qs in omega arith
+
+-- a place that stands in a list is not one that does not
+pub times-apart : (i q : ℕ) (ps : List ℕ) → times i ps ≡ 0 → 0 < times q ps → i ≢ q
+times-apart i q ps none some z = absurd (let t = subst (λ (n : ℕ). times n ps ≡ 0) z none in omega arith)
 
 -- where the chain goes on
 pub first-put : (k p : ℕ) (xs : List Node) → first_of (put_node (suc k) p xs) ≡ first_of xs
@@ -127,6 +131,11 @@ last-member b k [] lt = absurd (omega arith)
 last-member b zero (x ∷ xs) lt = let o = one-same x.place in omega arith
 last-member b (suc k) (x ∷ xs) lt = let r = last-member x.place k xs (omega arith) in omega arith
 
+pub first-member : (i : ℕ) (ys : List Node) → i < length ys → 0 < times (first_of (drop i ys)) (places_of ys)
+first-member i [] l = absurd (omega arith)
+first-member zero (y ∷ ys) l = let o = one-same y.place in omega arith
+first-member (suc i) (y ∷ ys) l = let r = first-member i ys (omega arith) in omega arith
+
 -- each place once, and each a record's
 pub record Apart (xs : List Node) : Type 0 where
   pub once : (q : ℕ) → times q (places_of xs) ≤ 1
@@ -147,6 +156,12 @@ apart-owner x xs k h = elim (owner-in (drop k xs)) [
   | inr lt ↦ let m = times-drop k (owner_from (drop k xs)) xs in apart-first x xs (owner_from (drop k xs)) h (omega arith)
 ]
 
+-- and no place stands behind itself
+pub apart-next : (n : ℕ) (ys : List Node) → Apart ys → suc n < length ys → first_of (drop n ys) ≡ first_of (drop (suc n) ys) → ⊥
+apart-next n [] a2 m2 f = absurd (omega arith)
+apart-next zero (y ∷ ys) a2 m2 f = let r = a2.once y.place in let o = one-same y.place in let m3 = first-member 0 ys (omega arith) in let m4 : 0 < times y.place (places_of ys) = subst (λ (n : ℕ). 0 < times n (places_of ys)) (sym f) m3 in absurd (omega arith)
+apart-next (suc n) (y ∷ ys) a2 m2 f = apart-next n ys (apart-rest y ys a2) (omega arith) f
+
 -- words that are the same at these places and at the supremum
 abbrev pub SameAt : List ℕ → List ℕ → List Node → ℕ → ℕ → Type 0
 SameAt ws vs xs a b = (q : ℕ) → (0 < times q (places_of xs)) ⊎ (q ≡ 19) → q ≢ a → q ≢ b → get_or vs q 0 ≡ get_or ws q 0
@@ -156,20 +171,20 @@ chain-same ws vs [] last h same = same 19 (inr refl) ∙ h
 chain-same ws vs (x ∷ xs) last h same =
     (same x.place (inl (let o = one-same x.place in omega arith)) ∙ h.0, chain-same ws vs xs last h.1 (λ q m. same q (elim m [ inl lt ↦ inl (omega arith) | inr e ↦ inr e ])))
 
-pub chain-raise : (ws vs : List ℕ) (xs : List Node) (last b : ℕ) → Chained ws xs last → Apart xs → get_or vs (owner_from xs) 0 ≡ get_or ws (owner_from xs) 0 + 256 → (b ≡ 18) ⊎ ((20 ≤ b) × (times b (places_of xs) ≡ 0))
-    → SameAt ws vs xs b (owner_from xs) → Chained vs (raise xs) (raise_last xs last)
-chain-raise ws vs [] last b h apart raised off same = let c : get_or ws 19 0 ≡ last * 256 = h in let d : get_or vs 19 0 ≡ get_or ws 19 0 + 256 = raised in omega arith
-chain-raise ws vs (x ∷ xs) last b h apart raised off same = elim (cases_eq x.owned 0) [
+pub chain-own_one_more : (ws vs : List ℕ) (xs : List Node) (last b : ℕ) → Chained ws xs last → Apart xs → get_or vs (owner_from xs) 0 ≡ get_or ws (owner_from xs) 0 + 256 → (b ≡ 18) ⊎ ((20 ≤ b) × (times b (places_of xs) ≡ 0))
+    → SameAt ws vs xs b (owner_from xs) → Chained vs (own_one_more xs) (last_one_more xs last)
+chain-own_one_more ws vs [] last b h apart raised off same = let c : get_or ws 19 0 ≡ last * 256 = h in let d : get_or vs 19 0 ≡ get_or ws 19 0 + 256 = raised in omega arith
+chain-own_one_more ws vs (x ∷ xs) last b h apart raised off same = elim (cases_eq x.owned 0) [
   | inl e ↦
       let none = eq-eqb x.owned 0 e in
       let is : owner_from (x ∷ xs) ≡ owner_from xs = rw none refl in
       let here : 0 < times x.place (places_of (x ∷ xs)) = let o = one-same x.place in omega arith in
       let differs : x.place ≢ owner_from xs = apart-owner x xs 0 apart in
       let first : get_or vs x.place 0 ≡ get_or ws x.place 0 = same x.place (inl here) (not_b here) (λ z. differs (z ∙ is)) in
-      let rest : Chained vs (raise xs) (raise_last xs last) = chain-raise ws vs xs last b h.1 (apart-rest x xs apart)
+      let rest : Chained vs (own_one_more xs) (last_one_more xs last) = chain-own_one_more ws vs xs last b h.1 (apart-rest x xs apart)
       (subst (λ (q : ℕ). get_or vs q 0 ≡ get_or ws q 0 + 256) is raised) (off-rest off)
       (λ q m ne nf. same q (elim m [ inl lt ↦ inl (omega arith) | inr z ↦ inr z ]) ne (λ z. nf (z ∙ is))) in
-      rw none (first ∙ (h.0 ∙ ap (λ n. x.owned * 256 + n) (sym (first-raise xs))), rest)
+      rw none (first ∙ (h.0 ∙ ap (λ n. x.owned * 256 + n) (sym (first-own_one_more xs))), rest)
   | inr ne ↦
       let some = ne_eqb x.owned 0 ne in
       let is : owner_from (x ∷ xs) ≡ x.place = rw some refl in
@@ -183,7 +198,7 @@ chain-raise ws vs (x ∷ xs) last b h apart raised off same = elim (cases_eq x.o
     not_b : 0 < times x.place (places_of (x ∷ xs)) → x.place ≢ b
     not_b lt = elim off [
       | inl e ↦ λ z. absurd (let l = apart-place x xs apart in omega arith)
-      | inr e ↦ λ z. absurd (let t : times b (places_of (x ∷ xs)) ≡ 0 = e.1 in let s : times x.place (places_of (x ∷ xs)) ≡ 0 = subst (λ (n : ℕ). times n (places_of (x ∷ xs)) ≡ 0) (sym z) t in omega arith)
+      | inr e ↦ λ z. times-apart b x.place (places_of (x ∷ xs)) e.1 lt (sym z)
     ]
 
     off-rest : (b ≡ 18) ⊎ ((20 ≤ b) × (times b (places_of (x ∷ xs)) ≡ 0)) → (b ≡ 18) ⊎ ((20 ≤ b) × (times b (places_of xs) ≡ 0))
@@ -192,7 +207,7 @@ chain-raise ws vs (x ∷ xs) last b h apart raised off same = elim (cases_eq x.o
     not_b-rest : (q : ℕ) → (0 < times q (places_of xs)) ⊎ (q ≡ 19) → q ≢ b
     not_b-rest q m = elim off [
       | inl e ↦ elim m [ inl lt ↦ (λ z. absurd (let l = apart.above q (omega arith) in omega arith)) | inr t ↦ (λ z. absurd (omega arith)) ]
-      | inr e ↦ elim m [ inl lt ↦ (λ z. absurd (let t : times b (places_of (x ∷ xs)) ≡ 0 = e.1 in let s : times q (places_of (x ∷ xs)) ≡ 0 = subst (λ (n : ℕ). times n (places_of (x ∷ xs)) ≡ 0) (sym z) t in omega arith)) | inr t ↦ (λ z. absurd (let l = e.0 in omega arith)) ]
+      | inr e ↦ elim m [ inl lt ↦ (λ z. times-apart b q (places_of (x ∷ xs)) e.1 (omega arith) (sym z)) | inr t ↦ (λ z. absurd (let l = e.0 in omega arith)) ]
     ]
 
 -- the chain with the new record, whose head and whose neighbours' heads were written
@@ -203,7 +218,7 @@ pub chain-put : (ws vs : List ℕ) (b k p : ℕ) (xs : List Node) (last : ℕ) �
     → SameAt ws vs xs (last_from b (take k xs)) (owner_from (drop k xs))
     → Chained vs (put_node k p xs) (put_last k xs last)
 chain-put ws vs b zero p xs last le h apart off new link raised same =
-    (new ∙ (ap (λ n. n) (sym (first-raise xs)) ∙ (let e : first_of (raise xs) ≡ 0 * 256 + first_of (raise xs) = omega arith in e)), chain-raise ws vs xs last b h apart raised off same)
+    (new ∙ (ap (λ n. n) (sym (first-own_one_more xs)) ∙ (let e : first_of (own_one_more xs) ≡ 0 * 256 + first_of (own_one_more xs) = omega arith in e)), chain-own_one_more ws vs xs last b h apart raised off same)
 chain-put ws vs b (suc k) p [] last le h apart off new link raised same = absurd (omega arith)
 chain-put ws vs b (suc zero) p (x ∷ xs) last le h apart off new link raised same =
     let word = h.0 in

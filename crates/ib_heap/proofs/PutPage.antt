@@ -5,44 +5,44 @@ use Rattle.ib_map.specs.Keys.{rank, end_rank}
 use Rattle.ib_map.specs.Pairs.{Pairs, put, value_at, place_of}
 use Rattle.ib_map.proofs.PlaceLaws.{place_of-le}
 use Rattle.ib_heap.specs.Page.{Page, PageValue}
-use Rattle.ib_heap.specs.Heap.{Node, Heap, first_of, owners, times, places_of, records_in, used, page_with, read_heap, last_from, upto, nodes_of}
+use Rattle.ib_heap.specs.Heap.{Node, Heap, first_of, owners, times, places_of, records_in, used, page_with, read_heap, last_from, up_to, nodes_of}
 use Rattle.ib_heap.specs.Form.{page_of}
 use Rattle.ib_heap.specs.Image.{with_records, records_of}
-use Rattle.ib_heap.specs.Put.{owned_by, owner_from, raise, put_node, put_last, rest_of}
+use Rattle.ib_heap.specs.Put.{owned_by, owner_from, own_one_more, put_node, put_last, rest_of}
 use Rattle.ib_heap.specs.Page.PageValue.{Tree}
 use Rattle.ib_heap.specs.Steps.{Stands}
 use Rattle.ib_heap.proofs.HeapLaws.{Chained, Owned, ArePlaces, ArePlaces-left, IsPlace, page-from}
 use Rattle.ib_heap.proofs.SeekLaws.{Known, directory-at, owner-at, link-at, last-first, last-in, first-in}
-use Rattle.ib_heap.proofs.PutLaws.{one-same, OverAt, Over, over-put, over_at-room, owner-in, times-drop, Apart, apart-owner, apart-rest, owners-put, length-put, times-put}
+use Rattle.ib_heap.proofs.PutLaws.{one-same, OverAt, Over, over-put, over_at-room, owner-in, times-drop, Apart, apart-owner, apart-rest, owners-put, length-put, times-put, times-apart}
 use Rattle.ib_heap.specs.Kept.{IsKept}
 use Rattle.ib_heap.proofs.KeptLaws.{kept-fixed, kept-place}
 use Rattle.ib_heap.proofs.SplitLaws.{InSlot, owner-slot, slot-put}
 use Rattle.ib_heap.proofs.SplitShape.{Group, group}
 use Rattle.ib_heap.proofs.ShapeLaws.{Shaped, heap-shaped, places-known, Gives, Written, put_heap}
-use Rattle.ib_heap.proofs.PutShape.{Low, NewPlace, new-place, before-in, put-shaped, put-page}
+use Rattle.ib_heap.proofs.PutShape.{NewPlace, new-place, before-in, put-shaped, put-page, low-node}
 
 -- the slot of a place, by its number
-pub in-slot : (slot k : ℕ) (xs : List Node) → 0 < slot → slot ≤ length (owners xs) → upto (slot - 1) xs ≤ k → (k < upto slot xs) ⊎ (slot ≡ length (owners xs)) → InSlot (slot - 1) k xs
+pub in-slot : (slot k : ℕ) (xs : List Node) → 0 < slot → slot ≤ length (owners xs) → up_to (slot - 1) xs ≤ k → (k < up_to slot xs) ⊎ (slot ≡ length (owners xs)) → InSlot (slot - 1) k xs
 in-slot slot k xs some le low high =
     let e : slot ≡ suc (slot - 1) = omega arith in
-    (low, (subst (λ (n : ℕ). (k < upto n xs) ⊎ (n ≡ length (owners xs))) e high, omega arith))
+    (low, (subst (λ (n : ℕ). (k < up_to n xs) ⊎ (n ≡ length (owners xs))) e high, omega arith))
 
-pub in-slot-put : (j k p : ℕ) (xs : List Node) → InSlot j k xs → k ≤ length xs → (k < upto (suc j) (put_node k p xs)) ⊎ (suc j ≡ length (owners (put_node k p xs)))
+pub in-slot-put : (j k p : ℕ) (xs : List Node) → InSlot j k xs → k ≤ length xs → (k < up_to (suc j) (put_node k p xs)) ⊎ (suc j ≡ length (owners (put_node k p xs)))
 in-slot-put j k p xs within le = elim within.1.0 [
   | inl lt ↦ inl (go j k xs lt le)
   | inr e ↦ inr (e ∙ ap length (sym (owners-put k p xs le)))
 ]
   where
-    go : (i m : ℕ) (ys : List Node) → m < upto (suc i) ys → m ≤ length ys → m < upto (suc i) (put_node m p ys)
+    go : (i m : ℕ) (ys : List Node) → m < up_to (suc i) ys → m ≤ length ys → m < up_to (suc i) (put_node m p ys)
     go i zero ys lt l = omega arith
     go i (suc m) [] lt l = absurd (omega arith)
     go zero (suc m) (y ∷ ys) lt l = elim (cases_eq y.owned 0) [
-      | inl f ↦ (let e = eq-eqb y.owned 0 f in let q : suc m < 1 + upto 1 ys = rw e at lt in let r = go 0 m ys (omega arith) (omega arith) in rw e (omega arith))
-      | inr f ↦ absurd (let e = ne_eqb y.owned 0 f in let q : suc m < 1 + upto 0 ys = rw e at lt in omega arith)
+      | inl f ↦ (let e = eq-eqb y.owned 0 f in let q : suc m < 1 + up_to 1 ys = rw e at lt in let r = go 0 m ys (omega arith) (omega arith) in rw e (omega arith))
+      | inr f ↦ absurd (let e = ne_eqb y.owned 0 f in let q : suc m < 1 + up_to 0 ys = rw e at lt in omega arith)
     ]
     go (suc i) (suc m) (y ∷ ys) lt l = elim (cases_eq y.owned 0) [
-      | inl f ↦ (let e = eq-eqb y.owned 0 f in let q : suc m < 1 + upto (suc (suc i)) ys = rw e at lt in let r = go (suc i) m ys (omega arith) (omega arith) in rw e (omega arith))
-      | inr f ↦ (let e = ne_eqb y.owned 0 f in let q : suc m < 1 + upto (suc i) ys = rw e at lt in let r = go i m ys (omega arith) (omega arith) in rw e (omega arith))
+      | inl f ↦ (let e = eq-eqb y.owned 0 f in let q : suc m < 1 + up_to (suc (suc i)) ys = rw e at lt in let r = go (suc i) m ys (omega arith) (omega arith) in rw e (omega arith))
+      | inr f ↦ (let e = ne_eqb y.owned 0 f in let q : suc m < 1 + up_to (suc i) ys = rw e at lt in let r = go i m ys (omega arith) (omega arith) in rw e (omega arith))
     ]
 
 -- the neighbours are two
@@ -95,6 +95,14 @@ owned-few n zero [] last h = h.1
 owned-few n zero (x ∷ xs) last (inl h) = rw (eq-eqb x.owned 0 h.0) (owned-few (n + 1) zero xs last h.1)
 owned-few n zero (x ∷ xs) last (inr h) = let a = h.0.0 in rw (ne_eqb x.owned 0 (λ z. omega arith)) h.0.1.1
 
+pub owned-some : (n k : ℕ) (xs : List Node) (last : ℕ) → Owned n xs last → 1 ≤ owned_by (drop k xs) last
+owned-some n (suc k) [] last h = let a = h.0 in omega arith
+owned-some n (suc k) (x ∷ xs) last (inl h) = owned-some (n + 1) k xs last h.1
+owned-some n (suc k) (x ∷ xs) last (inr h) = owned-some 0 k xs last h.1
+owned-some n zero [] last h = let a = h.0 in omega arith
+owned-some n zero (x ∷ xs) last (inl h) = rw (eq-eqb x.owned 0 h.0) (owned-some (n + 1) zero xs last h.1)
+owned-some n zero (x ∷ xs) last (inr h) = let a = h.0.0 in rw (ne_eqb x.owned 0 (λ z. absurd (omega arith))) (omega arith)
+
 pub over-few : (k n : ℕ) (xs : List Node) (last : ℕ) → OverAt k n xs last → owned_by (drop k xs) last ≤ 9
 over-few zero n xs last h = go n xs h
   where
@@ -109,7 +117,7 @@ over-few (suc k) n (x ∷ xs) last (inr h) = over-few k 0 xs last h.1
 pub owner-drop : (k p : ℕ) (xs : List Node) → k ≤ length xs → owner_from (drop k (put_node k p xs)) ≡ owner_from (drop k xs)
 owner-drop zero p xs le = go xs
   where
-    go : (ys : List Node) → owner_from (raise ys) ≡ owner_from ys
+    go : (ys : List Node) → owner_from (own_one_more ys) ≡ owner_from ys
     go [] = refl
     go (y ∷ ys) = elim (cases_eq y.owned 0) [
       | inl f ↦ (let e = eq-eqb y.owned 0 f in rw e (rw e (go ys)))
@@ -155,20 +163,17 @@ module _ (ws : List ℕ) (key slot before at p : ℕ) (kn : Known ws) (st : Stan
   p_place : IsPlace (length nodes + 1 + length (rest_of (read_heap ws).free)) p
   p_place = new.place p (let o = one-same p in omega arith)
 
-  member_low : (q : ℕ) → 0 < times q (places_of nodes) → Low q
-  member_low q m = let pl = (places-known (read_heap ws) kn.is.places kn.is.once).place q (omega arith) in let b = pl.below in let f = kn.few in record { number = pl.number; is = pl.is; below = omega arith }
-
   not_p : (q : ℕ) → 0 < times q (places_of nodes) → (q ≢ p) × ((q ≢ p + 1) × (q ≢ p + 2))
   not_p q m =
-      let l = member_low q m in let a = l.is in let pl = p_place in let b = pl.is in
-      (λ z. absurd (let t : times q (places_of nodes) ≡ 0 = subst (λ (n : ℕ). times n (places_of nodes) ≡ 0) (sym z) new.not_node in omega arith), (λ z. absurd (omega arith), λ z. absurd (omega arith)))
+      let l = low-node ws kn q m in let a = l.is in let pl = p_place in let b = pl.is in
+      (λ z. times-apart p q (places_of nodes) new.not_node m (sym z), (λ z. absurd (omega arith), λ z. absurd (omega arith)))
 
   pub before_facts : (18 ≤ before) × ((before ≤ 122) × ((before ≢ p) × ((before ≢ p + 1) × (before ≢ p + 2))))
   before_facts =
       let e = st.before_is in let pl = p_place in let b = pl.is in
       elim (before-in k nodes k_le) [
         | inl z ↦ (let f = z.1 in (omega arith, (omega arith, (λ y. absurd (omega arith), (λ y. absurd (omega arith), λ y. absurd (omega arith))))))
-        | inr z ↦ subst (λ (q : ℕ). (18 ≤ q) × ((q ≤ 122) × ((q ≢ p) × ((q ≢ p + 1) × (q ≢ p + 2))))) (sym e) (let l = member_low _ z.1 in let a = l.is in let d = l.below in (omega arith, (omega arith, not_p _ z.1)))
+        | inr z ↦ subst (λ (q : ℕ). (18 ≤ q) × ((q ≤ 122) × ((q ≢ p) × ((q ≢ p + 1) × (q ≢ p + 2))))) (sym e) (let l = low-node ws kn _ z.1 in let a = l.is in let d = l.below in (omega arith, (omega arith, not_p _ z.1)))
       ]
 
   pub owner_facts : (18 ≤ owner) × ((owner ≤ 122) × ((owner ≢ p) × ((owner ≢ p + 1) × (owner ≢ p + 2))))
@@ -176,7 +181,7 @@ module _ (ws : List ℕ) (key slot before at p : ℕ) (kn : Known ws) (st : Stan
       let pl = p_place in let b = pl.is in
       subst (λ (q : ℕ). (18 ≤ q) × ((q ≤ 122) × ((q ≢ p) × ((q ≢ p + 1) × (q ≢ p + 2))))) (sym owner_is) (elim (owner-in (drop k nodes)) [
         | inl f ↦ (omega arith, (omega arith, (λ y. absurd (omega arith), (λ y. absurd (omega arith), λ y. absurd (omega arith)))))
-        | inr m ↦ (let t = times-drop k (owner_from (drop k nodes)) nodes in let n : 0 < times (owner_from (drop k nodes)) (places_of nodes) = omega arith in let l = member_low _ n in let a = l.is in let d = l.below in (omega arith, (omega arith, not_p _ n)))
+        | inr m ↦ (let t = times-drop k (owner_from (drop k nodes)) nodes in let n : 0 < times (owner_from (drop k nodes)) (places_of nodes) = omega arith in let l = low-node ws kn _ n in let a = l.is in let d = l.below in (omega arith, (omega arith, not_p _ n)))
       ])
 
   pub two : before ≢ owner
@@ -280,7 +285,7 @@ module _ (ws : List ℕ) (key slot before at p : ℕ) (kn : Known ws) (st : Stan
     )
 
     abbrev pub t : ℕ
-    t = upto (slot - 1) nodes1 + 3
+    t = up_to (slot - 1) nodes1 + 3
 
     pub group1 : owned_by (drop k nodes1) last1 ≡ 9 → Group (slot - 1) k t nodes1 last1
     group1 full = group (slot - 1) k 0 nodes1 last1 (λ z. refl) over1 full within1
@@ -297,7 +302,7 @@ module _ (ws : List ℕ) (key slot before at p : ℕ) (kn : Known ws) (st : Stan
     pub low1 : (i q : ℕ) → i ≤ length nodes1 → q ≡ last_from 18 (take i nodes1) → q ≤ 122
     low1 i q le e = elim (last-in (used heap1) 18 nodes1 i shaped1.few places1 le) [ inl z ↦ (let y = z.1 in omega arith) | inr z ↦ (let y = z.1 in omega arith) ]
 
-    pub first_is : get_or ws (8 + (slot - 1)) 0 ≡ last_from 18 (take (upto (slot - 1) nodes1) nodes1)
+    pub first_is : get_or ws (8 + (slot - 1)) 0 ≡ last_from 18 (take (up_to (slot - 1) nodes1) nodes1)
     first_is =
         let s = kn.slots in let r = st.in_range in let z = st.some in
         directory-at ws 10 8 (18 ∷ owners nodes) (slot - 1) kn.is.directory (omega arith)
@@ -316,7 +321,7 @@ module _ (ws : List ℕ) (key slot before at p : ℕ) (kn : Known ws) (st : Stan
     pub steps : owned_by (drop k nodes1) last1 ≡ 9 → (q0 q1 q2 q3 q4 : ℕ) → q0 ≡ get_or ws (8 + (slot - 1)) 0 → q1 ≡ get_or vs q0 0 % 256 → q2 ≡ get_or vs q1 0 % 256 → q3 ≡ get_or vs q2 0 % 256 → q4 ≡ get_or vs q3 0 % 256 → Steps q0 q1 q2 q3 q4
     steps full q0 q1 q2 q3 q4 e0 e1 e2 e3 e4 =
         let g = group1 full in let lt = g.in_range in
-        let u = upto (slot - 1) nodes1 in
+        let u = up_to (slot - 1) nodes1 in
         let p0 : q0 ≡ last_from 18 (take u nodes1) = e0 ∙ first_is in
         let p1 : q1 ≡ last_from 18 (take (suc u) nodes1) = e1 ∙ next1 u q0 (omega arith) p0 in
         let p2 : q2 ≡ last_from 18 (take (suc (suc u)) nodes1) = e2 ∙ next1 (suc u) q1 (omega arith) p1 in

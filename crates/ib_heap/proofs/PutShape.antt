@@ -7,12 +7,12 @@ use Rattle.ib_map.specs.Pairs.{Pairs, put, value_at, place_of}
 use Rattle.ib_map.proofs.PairLaws.{Rises-put, length-put as length-put-pairs}
 use Rattle.ib_map.proofs.PlaceLaws.{insert-place}
 use Rattle.ib_heap.specs.Page.{Page, IsPage}
-use Rattle.ib_heap.specs.Heap.{Node, Heap, first_of, owners, times, places_of, records_in, used, page_with, last_from}
+use Rattle.ib_heap.specs.Heap.{Node, Heap, first_of, owners, times, places_of, records_in, used, page_with, last_from, nodes_of, read_heap}
 use Rattle.ib_heap.specs.Put.{owner_from, put_node, put_last}
 use Rattle.ib_heap.proofs.HeapLaws.{Chained, Freed, Directory, IsPlace, ArePlaces, EachOnce, IsHeap}
-use Rattle.ib_heap.proofs.SeekLaws.{length-records}
-use Rattle.ib_heap.proofs.PutLaws.{one, one-same, one-other, owners-put, length-put, times-put, times-append, first-put, owner-in, times-drop, last-member, SameAt, chain-put}
-use Rattle.ib_heap.proofs.ShapeLaws.{Shaped, Places, places-known, places-from, once-from, freed-same, directory-same, records-put, Gives, Written, put_heap}
+use Rattle.ib_heap.proofs.SeekLaws.{length-records, Known}
+use Rattle.ib_heap.proofs.PutLaws.{one, one-same, one-other, owners-put, length-put, times-put, times-append, first-put, owner-in, times-drop, last-member, SameAt, chain-put, times-apart}
+use Rattle.ib_heap.proofs.ShapeLaws.{Shaped, Places, places-known, places-from, once-from, freed-same, directory-same, records-put, Gives, Written, put_heap, same-page}
 
 -- what is known of the place that a record takes
 pub record NewPlace (h : Heap) (p : ℕ) (free : List ℕ) : Type 0 where
@@ -87,6 +87,34 @@ pub record Low (p : ℕ) : Type 0 where
   pub is : p ≡ 20 + 3 * number
   pub below : number < 35
 
+pub low-member : (h : Heap) → Places h → used h ≤ 35 → (q : ℕ) → 0 < times q (places_of h.nodes) + times q h.free → Low q
+low-member h known few q m = let pl = known.place q m in let b = pl.below in record { number = pl.number; is = pl.is; below = omega arith }
+
+-- the same of an image of a page
+pub low-node : (ws : List ℕ) → Known ws → (q : ℕ) → 0 < times q (places_of (nodes_of ws)) → Low q
+low-node ws kn q m = low-member (read_heap ws) (places-known (read_heap ws) kn.is.places kn.is.once) kn.few q (omega arith)
+
+-- a word that is the head of no record place
+abbrev pub Off : ℕ → Type 0
+Off i = (i < 20) ⊎ ((122 < i) ⊎ ((q : ℕ) → i ≢ 20 + 3 * q))
+
+pub off-low : (i q : ℕ) → Off i → Low q → i ≢ q
+off-low i q off l z = let a = l.is in let b = l.below in elim off [ inl f ↦ absurd (omega arith) | inr f ↦ elim f [ inl g ↦ absurd (omega arith) | inr g ↦ g l.number (z ∙ a) ] ]
+
+-- no record stands there
+pub off-none : (h : Heap) → Places h → used h ≤ 35 → (i : ℕ) → Off i → times i (places_of h.nodes) ≡ 0
+off-none h known few i off = elim (cases_lt 0 (times i (places_of h.nodes))) [
+  | inl lt ↦ absurd (off-low i i off (low-member h known few i (omega arith)) refl)
+  | inr ge ↦ omega arith
+]
+
+-- a record keeps its key and value where each word behind 20 that is no head stays as it is
+pub kept-pair : (ws vs : List ℕ) (h : Heap) → Places h → used h ≤ 35 → ((i : ℕ) → 20 < i → Off i → get_or vs i 0 ≡ get_or ws i 0) → (q : ℕ) → 0 < times q (places_of h.nodes)
+    → (get_or vs (q + 1) 0 ≡ get_or ws (q + 1) 0) × (get_or vs (q + 2) 0 ≡ get_or ws (q + 2) 0)
+kept-pair ws vs h known few same q m =
+    let l = low-member h known few q (omega arith) in let a = l.is in
+    (same (q + 1) (omega arith) (inr (inr (λ r z. absurd (omega arith)))), same (q + 2) (omega arith) (inr (inr (λ r z. absurd (omega arith)))))
+
 module _ (ws vs : List ℕ) (h : Heap) (k p key value : ℕ) (free : List ℕ) (is : IsHeap ws h) (gives : Gives h p free) (w : Written ws vs h k p key value free) (le : k ≤ length h.nodes) (lt : length h.nodes < 35) where
   abbrev before : ℕ
   before = last_from 18 (take k h.nodes)
@@ -106,9 +134,6 @@ module _ (ws vs : List ℕ) (h : Heap) (k p key value : ℕ) (free : List ℕ) (
   p_low : Low p
   p_low = let pl = new.place p (let o = one-same p in omega arith) in let b = pl.below in let f = n_few in record { number = pl.number; is = pl.is; below = omega arith }
 
-  low : (q : ℕ) → 0 < times q (places_of h.nodes) + times q h.free → Low q
-  low q m = let pl = known.place q m in let b = pl.below in let f = is.few in record { number = pl.number; is = pl.is; below = omega arith }
-
   b_in : ((k ≡ 0) × (before ≡ 18)) ⊎ ((0 < k) × (0 < times before (places_of h.nodes)))
   b_in = before-in k h.nodes le
 
@@ -116,17 +141,10 @@ module _ (ws vs : List ℕ) (h : Heap) (k p key value : ℕ) (free : List ℕ) (
   owner_is = elim (owner-in (drop k h.nodes)) [ inl e ↦ inl e | inr m ↦ inr (let t = times-drop k owner h.nodes in omega arith) ]
 
   before_low : (before ≡ 18) ⊎ Low before
-  before_low = elim b_in [ inl e ↦ inl e.1 | inr m ↦ inr (low before (let t = m.1 in omega arith)) ]
+  before_low = elim b_in [ inl e ↦ inl e.1 | inr m ↦ inr (low-member h known is.few before (let t = m.1 in omega arith)) ]
 
   owner_low : (owner ≡ 19) ⊎ Low owner
-  owner_low = elim owner_is [ inl e ↦ inl e | inr m ↦ inr (low owner (omega arith)) ]
-
-  -- a word that is the head of no record place
-  abbrev Off : ℕ → Type 0
-  Off i = (i < 20) ⊎ ((122 < i) ⊎ ((q : ℕ) → i ≢ 20 + 3 * q))
-
-  off-low : (i q : ℕ) → Off i → Low q → i ≢ q
-  off-low i q off l z = let a = l.is in let b = l.below in elim off [ inl f ↦ absurd (omega arith) | inr f ↦ elim f [ inl g ↦ absurd (omega arith) | inr g ↦ g l.number (z ∙ a) ] ]
+  owner_low = elim owner_is [ inl e ↦ inl e | inr m ↦ inr (low-member h known is.few owner (omega arith)) ]
 
   not_before : (i : ℕ) → Off i → i ≢ 18 → i ≢ before
   not_before i off ne = elim before_low [ inl e ↦ (λ z. ne (z ∙ e)) | inr l ↦ off-low i before off l ]
@@ -142,12 +160,12 @@ module _ (ws vs : List ℕ) (h : Heap) (k p key value : ℕ) (free : List ℕ) (
       (not_before i off (λ z. elim far [ inl g ↦ absurd (omega arith) | inr g ↦ absurd (omega arith) ])) (not_owner i off (λ z. elim far [ inl g ↦ absurd (omega arith) | inr g ↦ absurd (omega arith) ]))
 
   not_new : (q : ℕ) → 0 < times q (places_of h.nodes) → q ≢ p
-  not_new q m z = absurd (let t : times q (places_of h.nodes) ≡ 0 = subst (λ (n : ℕ). times n (places_of h.nodes) ≡ 0) (sym z) new.not_node in omega arith)
+  not_new q m z = times-apart p q (places_of h.nodes) new.not_node m (sym z)
 
   -- the word of a key or a value
   kept_word : (q i : ℕ) → 0 < times q (places_of h.nodes) → (i ≡ q + 1) ⊎ (i ≡ q + 2) → get_or vs i 0 ≡ get_or ws i 0
   kept_word q i m e =
-      let l = low q (omega arith) in let a = l.is in let b = l.below in
+      let l = low-member h known is.few q (omega arith) in let a = l.is in let b = l.below in
       let pl = p_low in let pa = pl.is in
       let ne = not_new q m in
       let off : Off i = inr (inr (λ r z. elim e [ inl f ↦ absurd (omega arith) | inr f ↦ absurd (omega arith) ])) in
@@ -167,15 +185,8 @@ module _ (ws vs : List ℕ) (h : Heap) (k p key value : ℕ) (free : List ℕ) (
   same_head i m = far_word i (λ z. elim m [ inl f ↦ absurd (omega arith) | inr f ↦ absurd (omega arith) ]) (λ z. elim m [ inl f ↦ absurd (omega arith) | inr f ↦ absurd (omega arith) ]) (λ z. elim m [ inl f ↦ absurd (omega arith) | inr f ↦ absurd (omega arith) ])
       (inl (elim m [ inl f ↦ omega arith | inr f ↦ omega arith ]))
 
-  abbrev mk : ℕ → ℕ → ℕ → ℕ → Pairs → Page
-  mk a b d e rs = record { level = a; prev = b; next = d; clock = e; records = rs }
-
   new_page : (rs : Pairs) → page_with vs rs ≡ page_with ws rs
-  new_page rs =
-      ap (λ n. mk n (get_or vs 3 0) (get_or vs 4 0) (get_or vs 5 0) rs) (same_head 1 (inl (omega arith)))
-      ∙ (ap (λ n. mk (get_or ws 1 0) n (get_or vs 4 0) (get_or vs 5 0) rs) (same_head 3 (inr (omega arith, omega arith)))
-      ∙ (ap (λ n. mk (get_or ws 1 0) (get_or ws 3 0) n (get_or vs 5 0) rs) (same_head 4 (inr (omega arith, omega arith)))
-      ∙ ap (λ n. mk (get_or ws 1 0) (get_or ws 3 0) (get_or ws 4 0) n rs) (same_head 5 (inr (omega arith, omega arith)))))
+  new_page rs = same-page ws vs rs (same_head 1 (inl (omega arith))) (same_head 3 (inr (omega arith, omega arith))) (same_head 4 (inr (omega arith, omega arith))) (same_head 5 (inr (omega arith, omega arith)))
 
   pub put-page : k ≡ place_of key (records_in ws h.nodes) → page_with vs (records_in vs (put_node k p h.nodes)) ≡ page_with ws (put key value (records_in ws h.nodes))
   put-page at = ap (λ (rs : Pairs). page_with vs rs) (new_records at) ∙ new_page (put key value (records_in ws h.nodes))
@@ -194,11 +205,11 @@ module _ (ws vs : List ℕ) (h : Heap) (k p key value : ℕ) (free : List ℕ) (
   same_at : SameAt ws vs h.nodes before owner
   same_at q m nb nw =
       let pl = p_low in let pa = pl.is in
-      w.other q (λ z. elim m [ inl n ↦ absurd (let l = low q (omega arith) in let a = l.is in omega arith) | inr e ↦ absurd (omega arith) ]) (λ z. elim m [ inl n ↦ absurd (let l = low q (omega arith) in let a = l.is in omega arith) | inr e ↦ absurd (omega arith) ])
-      (λ z. elim m [ inl n ↦ absurd (let l = low q (omega arith) in let a = l.is in omega arith) | inr e ↦ absurd (omega arith) ])
+      w.other q (λ z. elim m [ inl n ↦ absurd (let l = low-member h known is.few q (omega arith) in let a = l.is in omega arith) | inr e ↦ absurd (omega arith) ]) (λ z. elim m [ inl n ↦ absurd (let l = low-member h known is.few q (omega arith) in let a = l.is in omega arith) | inr e ↦ absurd (omega arith) ])
+      (λ z. elim m [ inl n ↦ absurd (let l = low-member h known is.few q (omega arith) in let a = l.is in omega arith) | inr e ↦ absurd (omega arith) ])
       (λ z. elim m [ inl n ↦ not_new q n z | inr e ↦ absurd (omega arith) ])
-      (λ z. elim m [ inl n ↦ absurd (let l = low q (omega arith) in let a = l.is in omega arith) | inr e ↦ absurd (omega arith) ])
-      (λ z. elim m [ inl n ↦ absurd (let l = low q (omega arith) in let a = l.is in omega arith) | inr e ↦ absurd (omega arith) ]) nb nw
+      (λ z. elim m [ inl n ↦ absurd (let l = low-member h known is.few q (omega arith) in let a = l.is in omega arith) | inr e ↦ absurd (omega arith) ])
+      (λ z. elim m [ inl n ↦ absurd (let l = low-member h known is.few q (omega arith) in let a = l.is in omega arith) | inr e ↦ absurd (omega arith) ]) nb nw
 
   new_chained : Chained vs (put_node k p h.nodes) (put_last k h.nodes h.last)
   new_chained = chain-put ws vs 18 k p h.nodes h.last le is.chained known.apart (inl refl) w.place_word w.link w.raised same_at
@@ -212,10 +223,10 @@ module _ (ws vs : List ℕ) (h : Heap) (k p key value : ℕ) (free : List ℕ) (
   free_word : (q : ℕ) → 0 < times q free → get_or vs q 0 ≡ get_or ws q 0
   free_word q m =
       let in_free = new.was_free q in
-      let l = low q (omega arith) in let a = l.is in
+      let l = low-member h known is.few q (omega arith) in let a = l.is in
       let pl = p_low in let pa = pl.is in
       w.other q (λ z. absurd (omega arith)) (λ z. absurd (omega arith)) (λ z. absurd (omega arith))
-      (λ z. absurd (let t : times q free ≡ 0 = subst (λ (x : ℕ). times x free ≡ 0) (sym z) new.not_free in omega arith)) (λ z. absurd (omega arith)) (λ z. absurd (omega arith))
+      (λ z. times-apart p q free new.not_free m (sym z)) (λ z. absurd (omega arith)) (λ z. absurd (omega arith))
       (elim b_in [ inl e ↦ (λ z. absurd (let f = e.1 in omega arith)) | inr e ↦ not_member q before m e.1 ])
       (elim owner_is [ inl e ↦ (λ z. absurd (omega arith)) | inr e ↦ not_member q owner m e ])
 
@@ -232,7 +243,7 @@ module _ (ws vs : List ℕ) (h : Heap) (k p key value : ℕ) (free : List ℕ) (
       go (suc j) e =
           let pl = p_low in let pa = pl.is in
           let same : get_or vs 18 0 ≡ get_or ws 18 0 = w.other 18 (λ z. absurd (omega arith)) (λ z. absurd (omega arith)) (λ z. absurd (omega arith)) (λ z. absurd (omega arith)) (λ z. absurd (omega arith)) (λ z. absurd (omega arith))
-          (elim b_in [ inl f ↦ (λ z. absurd (let g = f.0 in omega arith)) | inr f ↦ (λ z. absurd (let g = low before (let t = f.1 in omega arith) in let y = g.is in omega arith)) ])
+          (elim b_in [ inl f ↦ (λ z. absurd (let g = f.0 in omega arith)) | inr f ↦ (λ z. absurd (let g = low-member h known is.few before (let t = f.1 in omega arith) in let y = g.is in omega arith)) ])
           (not_owner 18 (inl (omega arith)) (λ z. absurd (omega arith))) in
           subst (λ (i : ℕ). get_or vs 18 0 ≡ 256 + first_of (put_node i p h.nodes)) (sym e) (same ∙ (is.start ∙ ap (λ n. 256 + n) (sym (first-put j p h.nodes))))
 

@@ -1,28 +1,27 @@
 -- A put's calls, joined.
-use Rattle.std.proofs.Common.{◌≡◌, ℕ, zero, suc, ◌+◌, ◌-◌, ◌*◌, ◌/◌, ◌%◌, ◌<◌, ◌≤◌, ◌≢◌, [], ◌∷◌, ◌∙◌, List, length, drop, get_or, refl, ap, sym, arith, inl, inr, subst, None}
+use Rattle.std.proofs.Common.{◌≡◌, ℕ, suc, ◌+◌, ◌-◌, ◌/◌, ◌%◌, ◌<◌, ◌≤◌, ◌≢◌, [], ◌∷◌, ◌∙◌, List, length, drop, get_or, refl, ap, sym, arith, inl, inr, subst, None}
 use Rattle.std.proofs.lemmas.Bool.{cases_lt}
 use Rattle.std.proofs.lemmas.List.{get_or_past}
 use Rattle.ib_map.specs.Keys.{rank, end_rank}
 use Rattle.ib_map.specs.Pairs.{put, value_at, place_of}
 use Rattle.ib_heap.specs.Page.{Page}
-use Rattle.ib_heap.specs.Heap.{Node, Heap, first_of, owners, used, page_with, read_heap, upto, nodes_of, records_in, times, places_of}
+use Rattle.ib_heap.specs.Heap.{Node, Heap, first_of, owners, used, page_with, read_heap, up_to, nodes_of, records_in, times, places_of}
 use Rattle.ib_heap.specs.Form.{page_of}
 use Rattle.ib_heap.specs.Image.{with_records, records_of}
-use Rattle.ib_heap.specs.Put.{owned_by, owner_from, mark, mark_last, place_for, rest_of, put_in}
+use Rattle.ib_heap.specs.Put.{owned_by, owner_from, give_slot, give_slot_last, place_for, rest_of, put_in}
 use Rattle.ib_heap.specs.Kept.{IsKept}
 use Rattle.ib_heap.specs.Steps.{Stands, Taken, Linked, Split}
 use Rattle.ib_heap.proofs.KeptLaws.{kept-place, kept-far}
 use Rattle.ib_heap.specs.Page.PageValue.{Tree}
 use Rattle.ib_heap.proofs.PutHeap.{put-in-plain}
-use Rattle.ib_heap.proofs.HeapLaws.{Owned, Chained, page-from, heap-read, ArePlaces-left}
-use Rattle.ib_heap.proofs.SeekLaws.{Known, directory-at, first-in}
-use Rattle.ib_heap.proofs.PutLaws.{over_at-room, OverAt, times-append}
-use Rattle.ib_heap.proofs.CutLaws.{first-member}
+use Rattle.ib_heap.proofs.HeapLaws.{Owned, page-from, heap-read, ArePlaces-left}
+use Rattle.ib_heap.proofs.SeekLaws.{Known, directory-at, first-in, node-word}
+use Rattle.ib_heap.proofs.PutLaws.{over_at-room, OverAt, times-append, first-member}
 use Rattle.ib_heap.proofs.SplitLaws.{InSlot, split-owned}
-use Rattle.ib_heap.proofs.SplitShape.{Group, group, head_owned, slots-room}
+use Rattle.ib_heap.proofs.SplitShape.{Group, group, slots-room}
 use Rattle.ib_heap.proofs.SplitPage.{SplitWords, split_heap, split-page, split-shaped}
 use Rattle.ib_heap.proofs.ShapeLaws.{Shaped, heap-shaped, Places, places-known, Gives, Written}
-use Rattle.ib_heap.proofs.PutPage.{done_plain, k, nodes1, last1, owner_is, before_facts, owner_facts, two, before_head, at_low, owner_head, heap1, shaped1, over1, owner1, nine, t, Steps, steps, middle-apart}
+use Rattle.ib_heap.proofs.PutPage.{done_plain, k, nodes1, last1, owner_is, before_facts, owner_facts, two, before_head, at_low, owner_head, heap1, shaped1, over1, owner1, nine, Steps, steps, middle-apart}
 
 gives-from : (ns : List Node) (last : ℕ) (free : List ℕ) (p : ℕ) → p ≡ place_for (record { nodes = ns; last = last; free = free }) → Gives (record { nodes = ns; last = last; free = free }) p (rest_of free)
 gives-from ns last [] p e = inr (refl, (e, refl))
@@ -109,15 +108,10 @@ module _ (ws w1 : List ℕ) (key slot before at p : ℕ) (kn : Known ws) (st : S
         → Steps ws key slot before at p kn st few gv vs value written absent in_range q0 q1 q2 q3 q4
     walked full = steps ws key slot before at p kn st few gv vs value written absent in_range (full-nine full)
 
-node-word : (ws : List ℕ) (t : ℕ) (xs : List Node) (last : ℕ) → t < length xs → Chained ws xs last → get_or ws (first_of (drop t xs)) 0 ≡ head_owned (drop t xs) * 256 + first_of (drop (suc t) xs)
-node-word ws t [] last lt c = absurd (omega arith)
-node-word ws zero (x ∷ xs) last lt c = c.0
-node-word ws (suc t) (x ∷ xs) last lt c = node-word ws t xs last (omega arith) c.1
-
 module _ (vs : List ℕ) (h : Heap) (kk slot own middle : ℕ) (sh : Shaped vs h) (some : 0 < slot) (over : OverAt kk 0 h.nodes h.last) (nn : owned_by (drop kk h.nodes) h.last ≡ 9) (within : InSlot (slot - 1) kk h.nodes)
-    (own_is : own ≡ owner_from (drop kk h.nodes)) (middle_is : middle ≡ first_of (drop (upto (slot - 1) h.nodes + 3) h.nodes)) where
+    (own_is : own ≡ owner_from (drop kk h.nodes)) (middle_is : middle ≡ first_of (drop (up_to (slot - 1) h.nodes + 3) h.nodes)) where
   abbrev tt1 : ℕ
-  tt1 = upto (slot - 1) h.nodes + 3
+  tt1 = up_to (slot - 1) h.nodes + 3
 
   grp : Group (slot - 1) kk tt1 h.nodes h.last
   grp = group (slot - 1) kk 0 h.nodes h.last (λ z. refl) over nn within
@@ -177,7 +171,7 @@ module _ (vs : List ℕ) (h : Heap) (kk slot own middle : ℕ) (sh : Shaped vs h
       } in
       let few1 : length h.nodes ≤ 35 = let f = sh.few in omega arith in
       let shaped2 = split-shaped vs v2 h (slot - 1) kk sh over nn within sw few1 in
-      let owned2 : Owned 0 (mark tt1 h.nodes) (mark_last tt1 h.nodes h.last) = split-owned (slot - 1) kk 0 h.nodes h.last (λ z. refl) over nn within in
+      let owned2 : Owned 0 (give_slot tt1 h.nodes) (give_slot_last tt1 h.nodes h.last) = split-owned (slot - 1) kk 0 h.nodes h.last (λ z. refl) over nn within in
       page-from v2 (split_heap tt1 h) (heap-shaped v2 (split_heap tt1 h) shaped2 owned2) ∙ ap (λ (q : Page). Tree q) (split-page vs v2 h (slot - 1) kk sh over nn within sw few1)
 
   pub split-heap-is : (v2 : List ℕ) → Split vs v2 slot middle own → 18 ≤ own → 18 ≤ middle → read_heap v2 ≡ split_heap tt1 h
@@ -199,5 +193,5 @@ module _ (vs : List ℕ) (h : Heap) (kk slot own middle : ℕ) (sh : Shaped vs h
       } in
       let few1 : length h.nodes ≤ 35 = let f = sh.few in omega arith in
       let shaped2 = split-shaped vs v2 h (slot - 1) kk sh over nn within sw few1 in
-      let owned2 : Owned 0 (mark tt1 h.nodes) (mark_last tt1 h.nodes h.last) = split-owned (slot - 1) kk 0 h.nodes h.last (λ z. refl) over nn within in
+      let owned2 : Owned 0 (give_slot tt1 h.nodes) (give_slot_last tt1 h.nodes h.last) = split-owned (slot - 1) kk 0 h.nodes h.last (λ z. refl) over nn within in
       heap-read v2 (split_heap tt1 h) (heap-shaped v2 (split_heap tt1 h) shaped2 owned2)

@@ -5,18 +5,18 @@ use Rattle.ib_heap.specs.Page.{HoldsTree}
 use Rattle.ib_heap.specs.Heap.{nodes_of, read_heap, used, records_in, page_with}
 use Rattle.ib_heap.specs.Form.{page_of}
 use Rattle.ib_heap.specs.Image.{records_of, with_records}
-use Rattle.ib_heap.specs.Take.{cut_node, cut_in, remove_in}
+use Rattle.ib_heap.specs.Take.{unlink_node, unlink_in, remove_in}
 use Rattle.ib_heap.specs.Shape.{is_shaped}
 use Rattle.ib_heap.specs.Kept.{IsKept}
 use Rattle.ib_heap.specs.Steps.{Stands, IsHead, CanUnlink, Unlinked, CanHandOver, HandedOver, CanGiveBack, GivenBack, CanLend, Lent, CanJoin, Joined}
 use Rattle.ib_heap.proofs.SeekLaws.{Known, known}
-use Rattle.ib_heap.proofs.CutSteps.{at-range, before-range, own-range, slot-range, at-le, before-few, own-word, two, count-some, plain, owning, plain-shaped, plain-page, plain-kept, owner-shaped, owner-page, owner-kept, value-is}
+use Rattle.ib_heap.proofs.UnlinkSteps.{at-range, before-range, own-range, slot-range, at-le, before-few, own-word, two, count-some, plain, owning, plain-shaped, plain-page, plain-kept, owner-shaped, owner-page, owner-kept, value-is}
 use Rattle.ib_heap.proofs.BalanceSteps.{size1, short-range, well-from, well-page, well-heap, slot-small, after-range, short-much, short-after, first-range, apart-lend, first-few, after-much, lend-page, lend-heap, lend-kept, after-few, slot-below, top-few, join-page, join-heap, join-kept}
 
 -- what is left where the record is out of the chain, and its slot as it is then
 pub record IsOut (ws vs : List ℕ) (key : ℕ) : Type 0 where
-  pub shaped : is_shaped vs (cut_in (place_of key (records_of ws)) (read_heap ws)) ≡ true
-  pub page : page_with vs (records_in vs (cut_node (place_of key (records_of ws)) (nodes_of ws))) ≡ page_with ws (without key (records_of ws))
+  pub shaped : is_shaped vs (unlink_in (place_of key (records_of ws)) (read_heap ws)) ≡ true
+  pub page : page_with vs (records_in vs (unlink_node (place_of key (records_of ws)) (nodes_of ws))) ≡ page_with ws (without key (records_of ws))
   pub kept : (i : ℕ) → IsKept (used (read_heap ws)) i → get_or vs i 0 ≡ get_or ws i 0
 
 -- what a removal leaves

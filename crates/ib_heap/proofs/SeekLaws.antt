@@ -1,16 +1,17 @@
 -- Slots, places and records along the chain.
-use Rattle.std.proofs.Common.{◌≡◌, ℕ, zero, suc, ◌+◌, ◌-◌, ◌%◌, ◌<◌, ◌≤◌, ◌⊎◌, [], ◌∷◌, ◌∙◌, List, length, take, drop, get_or, refl, ap, sym, arith, inl, inr, subst, Some, slice_get}
+use Rattle.std.proofs.Common.{◌≡◌, ℕ, zero, suc, ◌+◌, ◌-◌, ◌*◌, ◌%◌, ◌<◌, ◌≤◌, ◌⊎◌, [], ◌∷◌, ◌∙◌, List, length, take, drop, get_or, refl, ap, sym, arith, inl, inr, subst, Some, slice_get}
 use Rattle.std.proofs.lemmas.Bool.{cases_eq, eq-eqb, ne_eqb, cases_lt}
 use Rattle.ib_map.specs.Keys.{rank, end_rank}
 use Rattle.ib_map.specs.Pairs.{Pairs, Rises, place_of}
 use Rattle.ib_map.specs.declared.TheConstants.{PAGE_WORDS}
 use Rattle.ib_heap.specs.Page.{HoldsTree, page_in}
-use Rattle.ib_heap.specs.Heap.{Node, first_of, owners, places_of, records_in, used, read_heap, last_from, upto, nodes_of}
+use Rattle.ib_heap.specs.Heap.{Node, first_of, owners, places_of, records_in, used, read_heap, last_from, up_to, nodes_of}
 use Rattle.ib_heap.specs.Form.{page_of}
 use Rattle.ib_heap.specs.Image.{records_of}
 use Rattle.ib_map.proofs.PlaceLaws.{place_of-le}
 use Rattle.ib_heap.proofs.RouteLaws.{place_of-behind_lower, place_of-not_behind}
-use Rattle.ib_heap.proofs.HeapLaws.{Chained, Directory, ArePlaces, ArePlaces-left, IsHeap, heap_in}
+use Rattle.ib_heap.proofs.HeapLaws.{Chained, Directory, ArePlaces, ArePlaces-left, IsHeap, heap_in, first-low}
+use Rattle.ib_heap.specs.Put.{owner_from}
 
 -- the word of a slot
 pub directory-at : (ws : List ℕ) (n i : ℕ) (slots : List ℕ) (j : ℕ) → Directory ws n i slots → j < n → get_or ws (i + j) 0 ≡ get_or slots j 0
@@ -32,8 +33,13 @@ owners-some (x ∷ xs) = elim (cases_eq x.owned 0) [
   | inr ne ↦ rw (ne_eqb x.owned 0 ne) (omega arith)
 ]
 
+-- the first slot is the first owner's
+pub owner-first : (xs : List Node) → get_or (owners xs) 0 0 ≡ owner_from xs
+owner-first [] = refl
+owner-first (x ∷ xs) = elim (cases_eq x.owned 0) [ inl e ↦ rw (eq-eqb x.owned 0 e) (owner-first xs) | inr ne ↦ rw (ne_eqb x.owned 0 ne) refl ]
+
 -- the owner of a slot is the record up to which it counts
-pub owner-at : (p : ℕ) (xs : List Node) (j : ℕ) → j < length (owners xs) → get_or (p ∷ owners xs) j 0 ≡ last_from p (take (upto j xs) xs)
+pub owner-at : (p : ℕ) (xs : List Node) (j : ℕ) → j < length (owners xs) → get_or (p ∷ owners xs) j 0 ≡ last_from p (take (up_to j xs) xs)
 owner-at p [] zero lt = refl
 owner-at p [] (suc j) lt = absurd (omega arith)
 owner-at p (x ∷ xs) zero lt = refl
@@ -42,13 +48,13 @@ owner-at p (x ∷ xs) (suc j) lt = elim (cases_eq x.owned 0) [
       let none = eq-eqb x.owned 0 e in
       let within : suc j < length (owners xs) = rw none at lt in
       let rest = owner-at x.place xs (suc j) within in
-      let count : 1 + upto (suc j) xs ≡ suc (upto (suc j) xs) = omega arith in
+      let count : 1 + up_to (suc j) xs ≡ suc (up_to (suc j) xs) = omega arith in
       rw (none, count) (owner-head p x.place (owners xs) j ∙ rest)
   | inr ne ↦
       let one = ne_eqb x.owned 0 ne in
       let within : suc j < length (x.place ∷ owners xs) = rw one at lt in
       let rest = owner-at x.place xs j (omega arith) in
-      let count : 1 + upto j xs ≡ suc (upto j xs) = omega arith in
+      let count : 1 + up_to j xs ≡ suc (up_to j xs) = omega arith in
       rw (one, count) rest
 ]
   where
@@ -62,19 +68,19 @@ owner-last p (x ∷ xs) = elim (cases_eq x.owned 0) [
   | inr ne ↦ rw (ne_eqb x.owned 0 ne) (owner-last x.place xs)
 ]
 
-pub upto-le : (j : ℕ) (xs : List Node) → upto j xs ≤ length xs
-upto-le zero xs = omega arith
-upto-le (suc j) [] = omega arith
-upto-le (suc j) (x ∷ xs) = elim (cases_eq x.owned 0) [
-  | inl e ↦ rw (eq-eqb x.owned 0 e) (let r = upto-le (suc j) xs in omega arith)
-  | inr ne ↦ rw (ne_eqb x.owned 0 ne) (let r = upto-le j xs in omega arith)
+pub up_to-le : (j : ℕ) (xs : List Node) → up_to j xs ≤ length xs
+up_to-le zero xs = omega arith
+up_to-le (suc j) [] = omega arith
+up_to-le (suc j) (x ∷ xs) = elim (cases_eq x.owned 0) [
+  | inl e ↦ rw (eq-eqb x.owned 0 e) (let r = up_to-le (suc j) xs in omega arith)
+  | inr ne ↦ rw (ne_eqb x.owned 0 ne) (let r = up_to-le j xs in omega arith)
 ]
 
 -- the record up to which a slot counts
-pub upto-some : (j : ℕ) (xs : List Node) → 0 < j → j < length (owners xs) → 0 < upto j xs
-upto-some zero xs some lt = absurd (omega arith)
-upto-some (suc j) [] some lt = absurd (omega arith)
-upto-some (suc j) (x ∷ xs) some lt = omega arith
+pub up_to-some : (j : ℕ) (xs : List Node) → 0 < j → j < length (owners xs) → 0 < up_to j xs
+up_to-some zero xs some lt = absurd (omega arith)
+up_to-some (suc j) [] some lt = absurd (omega arith)
+up_to-some (suc j) (x ∷ xs) some lt = omega arith
 
 -- the place behind the first k, by the word of the last of them
 pub link-at : (ws : List ℕ) (n p : ℕ) (xs : List Node) (last k : ℕ) → n ≤ 35 → ArePlaces n (places_of xs) → get_or ws p 0 % 256 ≡ first_of xs → Chained ws xs last → k ≤ length xs
@@ -84,12 +90,19 @@ link-at ws n p [] last (suc k) le places first h within = absurd (omega arith)
 link-at ws n p (x ∷ xs) last zero le places first h within = first
 link-at ws n p (x ∷ xs) last (suc k) le places first h within =
     let head = h.0 in
-    let low = first_low n xs le places.1 in
+    let low = first-low n xs le places.1 in
     link-at ws n x.place xs last k le places.1 (omega arith) h.1 (omega arith)
-  where
-    first_low : (m : ℕ) (ys : List Node) → m ≤ 35 → ArePlaces m (places_of ys) → first_of ys < 256
-    first_low m [] le h = omega arith
-    first_low m (y ∷ ys) le h = let a = h.0.is in let b = h.0.below in omega arith
+
+-- how many the first of these records owns
+abbrev pub head_owned : List Node → ℕ
+head_owned [] = 0
+head_owned (x ∷ xs) = x.owned
+
+-- the head of a record, by its number in the chain
+pub node-word : (ws : List ℕ) (t : ℕ) (xs : List Node) (last : ℕ) → t < length xs → Chained ws xs last → get_or ws (first_of (drop t xs)) 0 ≡ head_owned (drop t xs) * 256 + first_of (drop (suc t) xs)
+node-word ws t [] last lt c = absurd (omega arith)
+node-word ws zero (x ∷ xs) last lt c = c.0
+node-word ws (suc t) (x ∷ xs) last lt c = node-word ws t xs last (omega arith) c.1
 
 -- a record, by its place
 pub record-at : (ws : List ℕ) (xs : List Node) (k : ℕ) → k < length xs → slice_get (records_in ws xs) k ≡ Some (get_or ws (first_of (drop k xs) + 1) 0, get_or ws (first_of (drop k xs) + 2) 0)
@@ -116,6 +129,10 @@ last-first p (x ∷ xs) (suc k) lt = last-first x.place xs k (omega arith)
 pub length-records : (ws : List ℕ) (xs : List Node) → length (records_in ws xs) ≡ length xs
 length-records ws [] = refl
 length-records ws (x ∷ xs) = let r = length-records ws xs in omega arith
+
+pub length-places : (xs : List Node) → length (places_of xs) ≡ length xs
+length-places [] = refl
+length-places (x ∷ xs) = ap suc (length-places xs)
 
 -- what is known of an image of a page of the tree
 pub record Known (ws : List ℕ) : Type 0 where
@@ -157,7 +174,7 @@ last-in n p (x ∷ xs) (suc k) le h within =
 
 -- the owner of a slot, by its word
 pub record OwnerIs (ws : List ℕ) (slot place : ℕ) : Type 0 where
-  pub at : (slot < length (owners (nodes_of ws)) → place ≡ last_from 18 (take (upto slot (nodes_of ws)) (nodes_of ws)))
+  pub at : (slot < length (owners (nodes_of ws)) → place ≡ last_from 18 (take (up_to slot (nodes_of ws)) (nodes_of ws)))
   pub low : 18 ≤ place
   pub high : place ≤ 122
   pub is_record : 0 < slot → slot < length (owners (nodes_of ws)) → 20 ≤ place
@@ -168,9 +185,9 @@ owner-is ws slot k le =
     let word : get_or ws (8 + slot) 0 ≡ get_or (18 ∷ owners (nodes_of ws)) slot 0 = directory-at ws 10 8 (18 ∷ owners (nodes_of ws)) slot k.is.directory (omega arith) in
     elim (cases_lt slot (length (owners (nodes_of ws)))) [
       | inl lt ↦
-          let place : get_or ws (8 + slot) 0 ≡ last_from 18 (take (upto slot (nodes_of ws)) (nodes_of ws)) = word ∙ owner-at 18 (nodes_of ws) slot lt in
-          elim (last-in (used (read_heap ws)) 18 (nodes_of ws) (upto slot (nodes_of ws)) k.few k.places (upto-le slot (nodes_of ws))) [
-            | inl e ↦ let f = e.1 in let z = e.0 in record { at = λ h. place; low = omega arith; high = omega arith; is_record = λ pos within. absurd (let s = upto-some slot (nodes_of ws) pos within in omega arith) }
+          let place : get_or ws (8 + slot) 0 ≡ last_from 18 (take (up_to slot (nodes_of ws)) (nodes_of ws)) = word ∙ owner-at 18 (nodes_of ws) slot lt in
+          elim (last-in (used (read_heap ws)) 18 (nodes_of ws) (up_to slot (nodes_of ws)) k.few k.places (up_to-le slot (nodes_of ws))) [
+            | inl e ↦ let f = e.1 in let z = e.0 in record { at = λ h. place; low = omega arith; high = omega arith; is_record = λ pos within. absurd (let s = up_to-some slot (nodes_of ws) pos within in omega arith) }
             | inr e ↦ let f = e.0 in let z = e.1 in record { at = λ h. place; low = omega arith; high = omega arith; is_record = λ pos within. omega arith }
           ]
       | inr ge ↦
@@ -191,26 +208,26 @@ pub record-is : (ws : List ℕ) (k place : ℕ) → Known ws → k < length (nod
 record-is ws k place kn lt at = ap (λ (rs : Pairs). slice_get rs k) kn.records ∙ (record-at ws (nodes_of ws) k lt ∙ ap (λ i. Some (get_or ws (i + 1) 0, get_or ws (i + 2) 0)) (sym at))
 
 -- a slot whose owner is below the key, and one whose owner is not
-pub slot-record : (ws : List ℕ) (slot place : ℕ) → Known ws → 0 < slot → slot < length (owners (nodes_of ws)) → place ≡ last_from 18 (take (upto slot (nodes_of ws)) (nodes_of ws))
-    → slice_get (records_of ws) (upto slot (nodes_of ws) - 1) ≡ Some (get_or ws (place + 1) 0, get_or ws (place + 2) 0)
+pub slot-record : (ws : List ℕ) (slot place : ℕ) → Known ws → 0 < slot → slot < length (owners (nodes_of ws)) → place ≡ last_from 18 (take (up_to slot (nodes_of ws)) (nodes_of ws))
+    → slice_get (records_of ws) (up_to slot (nodes_of ws) - 1) ≡ Some (get_or ws (place + 1) 0, get_or ws (place + 2) 0)
 slot-record ws slot place kn pos lt at =
-    let some = upto-some slot (nodes_of ws) pos lt in
-    let within = upto-le slot (nodes_of ws) in
-    let e : upto slot (nodes_of ws) ≡ suc (upto slot (nodes_of ws) - 1) = omega arith in
-    let here : place ≡ first_of (drop (upto slot (nodes_of ws) - 1) (nodes_of ws)) = at ∙ (ap (λ n. last_from 18 (take n (nodes_of ws))) e ∙ last-first 18 (nodes_of ws) (upto slot (nodes_of ws) - 1) (omega arith)) in
-    record-is ws (upto slot (nodes_of ws) - 1) place kn (omega arith) here
+    let some = up_to-some slot (nodes_of ws) pos lt in
+    let within = up_to-le slot (nodes_of ws) in
+    let e : up_to slot (nodes_of ws) ≡ suc (up_to slot (nodes_of ws) - 1) = omega arith in
+    let here : place ≡ first_of (drop (up_to slot (nodes_of ws) - 1) (nodes_of ws)) = at ∙ (ap (λ n. last_from 18 (take n (nodes_of ws))) e ∙ last-first 18 (nodes_of ws) (up_to slot (nodes_of ws) - 1) (omega arith)) in
+    record-is ws (up_to slot (nodes_of ws) - 1) place kn (omega arith) here
 
-pub slot-below : (ws : List ℕ) (slot place key : ℕ) → Known ws → 0 < slot → slot < length (owners (nodes_of ws)) → place ≡ last_from 18 (take (upto slot (nodes_of ws)) (nodes_of ws))
-    → rank (get_or ws (place + 1) 0) < rank key → upto slot (nodes_of ws) ≤ place_of key (records_of ws)
+pub slot-below : (ws : List ℕ) (slot place key : ℕ) → Known ws → 0 < slot → slot < length (owners (nodes_of ws)) → place ≡ last_from 18 (take (up_to slot (nodes_of ws)) (nodes_of ws))
+    → rank (get_or ws (place + 1) 0) < rank key → up_to slot (nodes_of ws) ≤ place_of key (records_of ws)
 slot-below ws slot place key kn pos lt at below =
-    let some = upto-some slot (nodes_of ws) pos lt in
-    let r = place_of-behind_lower key 0 (records_of ws) end_rank (upto slot (nodes_of ws) - 1) _ kn.rises (slot-record ws slot place kn pos lt at) below in omega arith
+    let some = up_to-some slot (nodes_of ws) pos lt in
+    let r = place_of-behind_lower key 0 (records_of ws) end_rank (up_to slot (nodes_of ws) - 1) _ kn.rises (slot-record ws slot place kn pos lt at) below in omega arith
 
-pub slot-above : (ws : List ℕ) (slot place key : ℕ) → Known ws → 0 < slot → slot < length (owners (nodes_of ws)) → place ≡ last_from 18 (take (upto slot (nodes_of ws)) (nodes_of ws))
-    → rank key ≤ rank (get_or ws (place + 1) 0) → place_of key (records_of ws) < upto slot (nodes_of ws)
+pub slot-above : (ws : List ℕ) (slot place key : ℕ) → Known ws → 0 < slot → slot < length (owners (nodes_of ws)) → place ≡ last_from 18 (take (up_to slot (nodes_of ws)) (nodes_of ws))
+    → rank key ≤ rank (get_or ws (place + 1) 0) → place_of key (records_of ws) < up_to slot (nodes_of ws)
 slot-above ws slot place key kn pos lt at above =
-    let some = upto-some slot (nodes_of ws) pos lt in
-    let r = place_of-not_behind key (records_of ws) (upto slot (nodes_of ws) - 1) _ (slot-record ws slot place kn pos lt at) above in omega arith
+    let some = up_to-some slot (nodes_of ws) pos lt in
+    let r = place_of-not_behind key (records_of ws) (up_to slot (nodes_of ws) - 1) _ (slot-record ws slot place kn pos lt at) above in omega arith
 
 -- a walk from behind the first records on, so many steps
 pub record Walk (ws : List ℕ) (key first before at step : ℕ) : Type 0 where
@@ -259,9 +276,9 @@ walk-full ws key first before at step kn w full = elim (first-in (used (read_hea
   | inr e ↦ absurd (let lt = e.1.1 in let number = w.number_is in let few = kn.few in omega arith)
 ]
 
-pub walk-start : (ws : List ℕ) (key slot before at : ℕ) → Known ws → upto slot (nodes_of ws) ≤ place_of key (records_of ws) → before ≡ last_from 18 (take (upto slot (nodes_of ws)) (nodes_of ws))
-    → ((k : ℕ) → k ≤ length (nodes_of ws) → before ≡ last_from 18 (take k (nodes_of ws)) → at ≡ first_of (drop k (nodes_of ws))) → Walk ws key (upto slot (nodes_of ws)) before at 0
-walk-start ws key slot before at kn low is reads = record { number = upto slot (nodes_of ws); number_is = omega arith; within = upto-le slot (nodes_of ws); low = low; before_is = is; at_is = reads _ (upto-le slot (nodes_of ws)) is }
+pub walk-start : (ws : List ℕ) (key slot before at : ℕ) → Known ws → up_to slot (nodes_of ws) ≤ place_of key (records_of ws) → before ≡ last_from 18 (take (up_to slot (nodes_of ws)) (nodes_of ws))
+    → ((k : ℕ) → k ≤ length (nodes_of ws) → before ≡ last_from 18 (take k (nodes_of ws)) → at ≡ first_of (drop k (nodes_of ws))) → Walk ws key (up_to slot (nodes_of ws)) before at 0
+walk-start ws key slot before at kn low is reads = record { number = up_to slot (nodes_of ws); number_is = omega arith; within = up_to-le slot (nodes_of ws); low = low; before_is = is; at_is = reads _ (up_to-le slot (nodes_of ws)) is }
 
 pub walk-low : (ws : List ℕ) (key first before at step : ℕ) → Known ws → Walk ws key first before at step → at ≤ 122
 walk-low ws key first before at step kn w = elim (first-in (used (read_heap ws)) (nodes_of ws) w.number kn.few kn.places w.within) [

@@ -4,11 +4,11 @@ use Rattle.std.specs.List.{insert}
 use Rattle.std.proofs.lemmas.Bool.{cases_eq, cases_lt}
 use Rattle.ib_map.specs.Pairs.{Pairs}
 use Rattle.ib_map.specs.declared.TheConstants.{PAGE_WORDS}
-use Rattle.ib_heap.specs.Page.{IsPage}
+use Rattle.ib_heap.specs.Page.{IsPage, Page}
 use Rattle.ib_heap.specs.Heap.{Node, Heap, first_of, first_free, owners, times, places_of, records_in, used, page_with, last_from}
-use Rattle.ib_heap.specs.Put.{owner_from, raise, put_node, put_last}
+use Rattle.ib_heap.specs.Put.{owner_from, own_one_more, put_node, put_last}
 use Rattle.ib_heap.proofs.HeapLaws.{Chained, Freed, Owned, Directory, IsPlace, ArePlaces, EachOnce, IsHeap}
-use Rattle.ib_heap.proofs.PutLaws.{one-same, one-other, places-raise, times-append, Apart}
+use Rattle.ib_heap.proofs.PutLaws.{one-same, one-other, places-own_one_more, times-append, Apart}
 
 pub record Shaped (ws : List ℕ) (h : Heap) : Type 0 where
   pub size : length ws ≡ PAGE_WORDS
@@ -99,6 +99,20 @@ records-same ws vs (x ∷ xs) same =
     ap (λ n. (n, get_or vs (x.place + 2) 0) ∷ records_in vs xs) here.0 ∙ (ap (λ n. (get_or ws (x.place + 1) 0, n) ∷ records_in vs xs) here.1
     ∙ ap (λ (rs : Pairs). (get_or ws (x.place + 1) 0, get_or ws (x.place + 2) 0) ∷ rs) (records-same ws vs xs (λ q lt. same q (omega arith))))
 
+-- the page of these parts
+abbrev pub page_of_parts : ℕ → ℕ → ℕ → ℕ → Pairs → Page
+page_of_parts level prev next clock records = record { level = level; prev = prev; next = next; clock = clock; records = records }
+
+pub page-parts : (ws : List ℕ) (rs : Pairs) (level prev next clock : ℕ) → get_or ws 1 0 ≡ level → get_or ws 3 0 ≡ prev → get_or ws 4 0 ≡ next → get_or ws 5 0 ≡ clock → page_with ws rs ≡ page_of_parts level prev next clock rs
+page-parts ws rs level prev next clock l p n k =
+    ap (λ i. page_of_parts i (get_or ws 3 0) (get_or ws 4 0) (get_or ws 5 0) rs) l
+    ∙ (ap (λ i. page_of_parts level i (get_or ws 4 0) (get_or ws 5 0) rs) p
+    ∙ (ap (λ i. page_of_parts level prev i (get_or ws 5 0) rs) n
+    ∙ ap (λ i. page_of_parts level prev next i rs) k))
+
+pub same-page : (ws vs : List ℕ) (rs : Pairs) → get_or vs 1 0 ≡ get_or ws 1 0 → get_or vs 3 0 ≡ get_or ws 3 0 → get_or vs 4 0 ≡ get_or ws 4 0 → get_or vs 5 0 ≡ get_or ws 5 0 → page_with vs rs ≡ page_with ws rs
+same-page ws vs rs l p n k = page-parts vs rs _ _ _ _ l p n k
+
 pub records-places : (ws : List ℕ) (xs ys : List Node) → places_of xs ≡ places_of ys → records_in ws xs ≡ records_in ws ys
 records-places ws [] [] e = refl
 records-places ws [] (y ∷ ys) e = cc
@@ -110,7 +124,7 @@ records-places ws (x ∷ xs) (y ∷ ys) e =
 
 pub records-put : (ws vs : List ℕ) (k p : ℕ) (xs : List Node) → k ≤ length xs → ((q : ℕ) → 0 < times q (places_of xs) → (get_or vs (q + 1) 0 ≡ get_or ws (q + 1) 0) × (get_or vs (q + 2) 0 ≡ get_or ws (q + 2) 0))
     → records_in vs (put_node k p xs) ≡ insert (records_in ws xs) k (get_or vs (p + 1) 0, get_or vs (p + 2) 0)
-records-put ws vs zero p xs le same = ap (λ (rs : Pairs). (get_or vs (p + 1) 0, get_or vs (p + 2) 0) ∷ rs) (records-places vs (raise xs) xs (places-raise xs) ∙ records-same ws vs xs same)
+records-put ws vs zero p xs le same = ap (λ (rs : Pairs). (get_or vs (p + 1) 0, get_or vs (p + 2) 0) ∷ rs) (records-places vs (own_one_more xs) xs (places-own_one_more xs) ∙ records-same ws vs xs same)
 records-put ws vs (suc k) p [] le same = absurd (omega arith)
 records-put ws vs (suc k) p (x ∷ xs) le same =
     let here = same x.place (let o = one-same x.place in omega arith) in

@@ -3,19 +3,15 @@ use Rattle.std.proofs.Common.{◌≡◌, ℕ, zero, suc, ◌+◌, ◌-◌, ◌<�
 use Rattle.std.proofs.lemmas.Bool.{cases_eq, eq-eqb, ne_eqb}
 use Rattle.ib_heap.specs.Heap.{Node, first_of, owners}
 use Rattle.ib_heap.specs.Put.{owned_by, owner_from}
-use Rattle.ib_heap.specs.Take.{fall, fall_last, cut_node, cut_last}
+use Rattle.ib_heap.specs.Take.{own_one_fewer, last_one_fewer, unlink_node, unlink_last}
 use Rattle.ib_heap.proofs.HeapLaws.{Owned}
 use Rattle.ib_heap.proofs.PutLaws.{Apart, apart-rest, apart-place}
-use Rattle.ib_heap.proofs.SplitShape.{head_owned}
-use Rattle.ib_heap.proofs.CutLaws.{length-cut, owners-some}
+use Rattle.ib_heap.proofs.UnlinkLaws.{length-unlink}
+use Rattle.ib_heap.proofs.SeekLaws.{owner-first, head_owned, owners-some}
 
 -- how many slots stand up to the first m records, that of the infimum with them
 abbrev pub count : ℕ → List Node → ℕ
 count m xs = length (owners (take m xs))
-
-pub owner-first : (xs : List Node) → get_or (owners xs) 0 0 ≡ owner_from xs
-owner-first [] = refl
-owner-first (x ∷ xs) = elim (cases_eq x.owned 0) [ inl e ↦ rw (eq-eqb x.owned 0 e) (owner-first xs) | inr ne ↦ rw (ne_eqb x.owned 0 ne) refl ]
 
 pub owner-count : (p m : ℕ) (xs : List Node) → m ≤ length xs → get_or (p ∷ owners xs) (count m xs) 0 ≡ owner_from (drop m xs)
 owner-count p zero xs le = owner-first xs
@@ -70,18 +66,18 @@ stand (suc m) (x ∷ xs) last le ne =
     record { at = suc r.at; below = (let b = r.below in omega arith); first = r.first; head = r.head; some = r.some; slots = (let s = r.slots in elim (cases_eq x.owned 0) [ inl e ↦ rw (eq-eqb x.owned 0 e) s | inr f ↦ rw (ne_eqb x.owned 0 f) (ap suc s) ]) }
 
 -- the slot after the record is taken out
-pub record CutSlot (ys : List Node) (l slot : ℕ) : Type 0 where
+pub record UnlinkSlot (ys : List Node) (l slot : ℕ) : Type 0 where
   pub number : ℕ
   pub within : number ≤ length ys
   pub slots : count number ys ≡ slot
   pub well : Owned 0 ys l ⊎ ((owned_by (drop number ys) l ≡ 3) × (owner_from (drop number ys) ≢ 19))
 
-fall-well : (n : ℕ) (xs : List Node) (last : ℕ) → Owned (n + 1) xs last → Apart xs → Owned n (fall xs) (fall_last xs last) ⊎ ((owned_by (fall xs) (fall_last xs last) ≡ 3) × (owner_from (fall xs) ≢ 19))
-fall-well n [] last h apart = let a = h.0 in let b = h.1 in inl (omega arith, omega arith)
-fall-well n (x ∷ xs) last (inl h) apart =
+own_one_fewer-well : (n : ℕ) (xs : List Node) (last : ℕ) → Owned (n + 1) xs last → Apart xs → Owned n (own_one_fewer xs) (last_one_fewer xs last) ⊎ ((owned_by (own_one_fewer xs) (last_one_fewer xs last) ≡ 3) × (owner_from (own_one_fewer xs) ≢ 19))
+own_one_fewer-well n [] last h apart = let a = h.0 in let b = h.1 in inl (omega arith, omega arith)
+own_one_fewer-well n (x ∷ xs) last (inl h) apart =
     let e = eq-eqb x.owned 0 h.0 in
-    elim (fall-well (n + 1) xs last h.1 (apart-rest x xs apart)) [ inl g ↦ inl (rw e (inl (h.0, g))) | inr g ↦ inr (rw e (rw e g.0), rw e (rw e g.1)) ]
-fall-well n (x ∷ xs) last (inr h) apart =
+    elim (own_one_fewer-well (n + 1) xs last h.1 (apart-rest x xs apart)) [ inl g ↦ inl (rw e (inl (h.0, g))) | inr g ↦ inr (rw e (rw e g.0), rw e (rw e g.1)) ]
+own_one_fewer-well n (x ∷ xs) last (inr h) apart =
     let a = h.0.0 in let b = h.0.1.0 in let d = h.0.1.1 in
     let e = ne_eqb x.owned 0 (λ z. absurd (omega arith)) in
     let f = ne_eqb (x.owned - 1) 0 (λ z. absurd (omega arith)) in
@@ -91,9 +87,9 @@ fall-well n (x ∷ xs) last (inr h) apart =
     ]
 
 plain-well : (k n : ℕ) (xs : List Node) (last : ℕ) → k < length xs → Owned n xs last → Apart xs → head_owned (drop k xs) ≡ 0
-    → Owned n (cut_node k xs) (cut_last k xs last) ⊎ ((owned_by (drop k (cut_node k xs)) (cut_last k xs last) ≡ 3) × (owner_from (drop k (cut_node k xs)) ≢ 19))
+    → Owned n (unlink_node k xs) (unlink_last k xs last) ⊎ ((owned_by (drop k (unlink_node k xs)) (unlink_last k xs last) ≡ 3) × (owner_from (drop k (unlink_node k xs)) ≢ 19))
 plain-well k n [] last lt h apart none = absurd (omega arith)
-plain-well zero n (x ∷ xs) last lt (inl h) apart none = fall-well n xs last h.1 (apart-rest x xs apart)
+plain-well zero n (x ∷ xs) last lt (inl h) apart none = own_one_fewer-well n xs last h.1 (apart-rest x xs apart)
 plain-well zero n (x ∷ xs) last lt (inr h) apart none = absurd (let b = h.0.1.0 in let z : x.owned ≡ 0 = none in omega arith)
 plain-well (suc zero) n (y ∷ []) last lt h apart none = absurd (omega arith)
 plain-well (suc zero) n (y ∷ x ∷ xs) last lt (inl h) apart none =
@@ -105,7 +101,7 @@ plain-well (suc (suc k)) n (x ∷ xs) last lt (inl h) apart none =
 plain-well (suc (suc k)) n (x ∷ xs) last lt (inr h) apart none =
     elim (plain-well (suc k) 0 xs last (omega arith) h.1 (apart-rest x xs apart) none) [ inl g ↦ inl (inr (h.0, g)) | inr g ↦ inr g ]
 
-plain-count : (k : ℕ) (xs : List Node) → k < length xs → head_owned (drop k xs) ≡ 0 → count k (cut_node k xs) ≡ count k xs
+plain-count : (k : ℕ) (xs : List Node) → k < length xs → head_owned (drop k xs) ≡ 0 → count k (unlink_node k xs) ≡ count k xs
 plain-count k [] lt none = absurd (omega arith)
 plain-count zero (x ∷ xs) lt none = refl
 plain-count (suc zero) (y ∷ []) lt none = absurd (omega arith)
@@ -127,7 +123,7 @@ first-none (x ∷ xs) last (inl h) = h.0
 first-none (x ∷ xs) last (inr h) = absurd (let a = h.0.0 in let b = h.0.1.0 in omega arith)
 
 owner-well : (j n : ℕ) (xs : List Node) (last : ℕ) → suc j < length xs → Owned n xs last → Apart xs → (head_owned (drop (suc j) xs) ≡ 0 → ⊥) → head_owned (drop j xs) ≡ 0
-    → Owned n (cut_node (suc j) xs) (cut_last (suc j) xs last) ⊎ ((owned_by (drop j (cut_node (suc j) xs)) (cut_last (suc j) xs last) ≡ 3) × (owner_from (drop j (cut_node (suc j) xs)) ≢ 19))
+    → Owned n (unlink_node (suc j) xs) (unlink_last (suc j) xs last) ⊎ ((owned_by (drop j (unlink_node (suc j) xs)) (unlink_last (suc j) xs last) ≡ 3) × (owner_from (drop j (unlink_node (suc j) xs)) ≢ 19))
 owner-well j n [] last lt h apart some none = absurd (omega arith)
 owner-well zero n (y ∷ []) last lt h apart some none = absurd (omega arith)
 owner-well zero n (y ∷ x ∷ xs) last lt (inr h) apart some none = absurd (let b = h.0.1.0 in let z : y.owned ≡ 0 = none in omega arith)
@@ -147,20 +143,20 @@ owner-well (suc j) n (x ∷ xs) last lt (inl h) apart some none =
 owner-well (suc j) n (x ∷ xs) last lt (inr h) apart some none =
     elim (owner-well j 0 xs last (omega arith) h.1 (apart-rest x xs apart) some none) [ inl g ↦ inl (inr (h.0, g)) | inr g ↦ inr g ]
 
-owner-slots : (j : ℕ) (xs : List Node) → suc j < length xs → (head_owned (drop (suc j) xs) ≡ 0 → ⊥) → head_owned (drop j xs) ≡ 0 → count j (cut_node (suc j) xs) ≡ count (suc j) xs
+owner-slots : (j : ℕ) (xs : List Node) → suc j < length xs → (head_owned (drop (suc j) xs) ≡ 0 → ⊥) → head_owned (drop j xs) ≡ 0 → count j (unlink_node (suc j) xs) ≡ count (suc j) xs
 owner-slots j [] lt some none = absurd (omega arith)
 owner-slots zero (y ∷ []) lt some none = absurd (omega arith)
 owner-slots zero (y ∷ x ∷ xs) lt some none = rw (eq-eqb y.owned 0 none) refl
 owner-slots (suc j) (x ∷ xs) lt some none = let r = owner-slots j xs (omega arith) some none in elim (cases_eq x.owned 0) [ inl e ↦ rw (eq-eqb x.owned 0 e) r | inr f ↦ rw (ne_eqb x.owned 0 f) (ap suc r) ]
 
-pub cut-slot : (k slot : ℕ) (xs : List Node) (last : ℕ) → k < length xs → Owned 0 xs last → Apart xs → count k xs ≡ slot → CutSlot (cut_node k xs) (cut_last k xs last) slot
-cut-slot k slot xs last lt h apart at = elim (cases_eq (head_owned (drop k xs)) 0) [
-  | inl none ↦ record { number = k; within = (let l = length-cut k xs lt in omega arith); slots = plain-count k xs lt none ∙ at; well = plain-well k 0 xs last lt h apart none }
+pub unlink-slot : (k slot : ℕ) (xs : List Node) (last : ℕ) → k < length xs → Owned 0 xs last → Apart xs → count k xs ≡ slot → UnlinkSlot (unlink_node k xs) (unlink_last k xs last) slot
+unlink-slot k slot xs last lt h apart at = elim (cases_eq (head_owned (drop k xs)) 0) [
+  | inl none ↦ record { number = k; within = (let l = length-unlink k xs lt in omega arith); slots = plain-count k xs lt none ∙ at; well = plain-well k 0 xs last lt h apart none }
   | inr some ↦ go k lt some at
 ]
   where
-    go : (i : ℕ) → i < length xs → (head_owned (drop i xs) ≡ 0 → ⊥) → count i xs ≡ slot → CutSlot (cut_node i xs) (cut_last i xs last) slot
+    go : (i : ℕ) → i < length xs → (head_owned (drop i xs) ≡ 0 → ⊥) → count i xs ≡ slot → UnlinkSlot (unlink_node i xs) (unlink_last i xs last) slot
     go zero l some e = absurd (some (first-none xs last h))
     go (suc j) l some e =
         let none = owner-before j 0 xs last h l some in
-        record { number = j; within = (let m = length-cut (suc j) xs l in omega arith); slots = owner-slots j xs l some none ∙ e; well = owner-well j 0 xs last l h apart some none }
+        record { number = j; within = (let m = length-unlink (suc j) xs l in omega arith); slots = owner-slots j xs l some none ∙ e; well = owner-well j 0 xs last l h apart some none }

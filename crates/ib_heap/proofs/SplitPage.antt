@@ -1,17 +1,18 @@
 -- The page after a slot of nine is split.
-use Rattle.std.proofs.Common.{◌≡◌, ℕ, zero, suc, ◌+◌, ◌*◌, ◌<◌, ◌≤◌, ◌≢◌, ◌⊎◌, [], ◌∷◌, ◌++◌, ◌∙◌, List, length, drop, get_or, refl, ap, sym, arith, inl, inr, subst}
+use Rattle.std.proofs.Common.{◌≡◌, ℕ, suc, ◌+◌, ◌<◌, ◌≤◌, ◌≢◌, ◌⊎◌, ◌∷◌, ◌++◌, ◌∙◌, List, length, drop, get_or, refl, ap, sym, arith, inl, inr, subst}
 use Rattle.std.proofs.lemmas.List.Edits.{length-insert}
 use Rattle.ib_map.specs.Pairs.{Pairs}
 use Rattle.ib_map.specs.declared.TheConstants.{PAGE_WORDS}
 use Rattle.ib_heap.specs.Page.{Page, IsPage}
-use Rattle.ib_heap.specs.Heap.{Node, Heap, first_of, owners, times, places_of, records_in, used, page_with, upto}
-use Rattle.ib_heap.specs.Put.{owned_by, owner_from, mark, mark_last}
+use Rattle.ib_heap.specs.Heap.{Node, Heap, first_of, owners, times, places_of, records_in, used, page_with, up_to}
+use Rattle.ib_heap.specs.Put.{owned_by, owner_from, give_slot, give_slot_last}
 use Rattle.ib_heap.proofs.HeapLaws.{Directory, ArePlaces, EachOnce}
-use Rattle.ib_heap.proofs.PutLaws.{one-same, OverAt, owner-in, times-drop, SameAt}
-use Rattle.ib_heap.proofs.SplitLaws.{InSlot, places-mark, first-places}
-use Rattle.ib_heap.proofs.SplitShape.{Group, group, slots-room, chain-mark, directory-insert}
-use Rattle.ib_heap.proofs.PutShape.{Low}
-use Rattle.ib_heap.proofs.ShapeLaws.{Shaped, Places, places-known, freed-same, records-same, records-places}
+use Rattle.ib_heap.proofs.PutLaws.{OverAt, owner-in, times-drop, SameAt, first-member}
+use Rattle.ib_heap.proofs.SplitLaws.{InSlot, places-give_slot, first-places}
+use Rattle.ib_heap.proofs.SplitShape.{Group, group, slots-room, chain-give_slot, directory-insert}
+use Rattle.ib_heap.proofs.PutShape.{Low, low-member, Off, off-low, kept-pair}
+use Rattle.ib_heap.proofs.ShapeLaws.{Shaped, Places, places-known, freed-same, records-same, records-places, same-page}
+use Rattle.ib_heap.proofs.SeekLaws.{length-places}
 
 -- what was written for a split
 pub record SplitWords (ws vs : List ℕ) (nodes : List Node) (j t : ℕ) : Type 0 where
@@ -25,27 +26,18 @@ pub record SplitWords (ws vs : List ℕ) (nodes : List Node) (j t : ℕ) : Type 
   pub other : (i : ℕ) → (i < 7) ⊎ (17 < i) → i ≢ first_of (drop t nodes) → i ≢ owner_from (drop (suc t) nodes) → get_or vs i 0 ≡ get_or ws i 0
 
 abbrev pub split_heap : ℕ → Heap → Heap
-split_heap t h = record { nodes = mark t h.nodes; last = mark_last t h.nodes h.last; free = h.free }
+split_heap t h = record { nodes = give_slot t h.nodes; last = give_slot_last t h.nodes h.last; free = h.free }
 
-length-places : (xs : List Node) → length (places_of xs) ≡ length xs
-length-places [] = refl
-length-places (x ∷ xs) = ap suc (length-places xs)
-
-pub length-mark : (t : ℕ) (xs : List Node) → length (mark t xs) ≡ length xs
-length-mark t xs = sym (length-places (mark t xs)) ∙ (ap length (places-mark t xs) ∙ length-places xs)
+pub length-give_slot : (t : ℕ) (xs : List Node) → length (give_slot t xs) ≡ length xs
+length-give_slot t xs = sym (length-places (give_slot t xs)) ∙ (ap length (places-give_slot t xs) ∙ length-places xs)
 
 -- as many places are used as before
 pub used-split : (t : ℕ) (h : Heap) → used (split_heap t h) ≡ used h
-used-split t h = let a = length-mark t h.nodes in omega arith
+used-split t h = let a = length-give_slot t h.nodes in omega arith
 
-first-member : (i : ℕ) (ys : List Node) → i < length ys → 0 < times (first_of (drop i ys)) (places_of ys)
-first-member i [] l = absurd (omega arith)
-first-member zero (y ∷ ys) l = let o = one-same y.place in omega arith
-first-member (suc i) (y ∷ ys) l = let r = first-member i ys (omega arith) in omega arith
-
-module _ (ws vs : List ℕ) (h : Heap) (j k : ℕ) (is : Shaped ws h) (over : OverAt k 0 h.nodes h.last) (nine : owned_by (drop k h.nodes) h.last ≡ 9) (within : InSlot j k h.nodes) (w : SplitWords ws vs h.nodes j (upto j h.nodes + 3)) (few : length h.nodes ≤ 35) where
+module _ (ws vs : List ℕ) (h : Heap) (j k : ℕ) (is : Shaped ws h) (over : OverAt k 0 h.nodes h.last) (nine : owned_by (drop k h.nodes) h.last ≡ 9) (within : InSlot j k h.nodes) (w : SplitWords ws vs h.nodes j (up_to j h.nodes + 3)) (few : length h.nodes ≤ 35) where
   abbrev t : ℕ
-  t = upto j h.nodes + 3
+  t = up_to j h.nodes + 3
 
   abbrev middle : ℕ
   middle = first_of (drop t h.nodes)
@@ -59,64 +51,39 @@ module _ (ws vs : List ℕ) (h : Heap) (j k : ℕ) (is : Shaped ws h) (over : Ov
   known : Places h
   known = places-known h is.places is.once
 
-  low : (q : ℕ) → 0 < times q (places_of h.nodes) + times q h.free → Low q
-  low q m = let pl = known.place q m in let b = pl.below in let f = is.few in record { number = pl.number; is = pl.is; below = omega arith }
-
   middle_in : 0 < times middle (places_of h.nodes)
   middle_in = first-member t h.nodes g.in_range
 
   middle_low : Low middle
-  middle_low = let m = middle_in in low middle (omega arith)
+  middle_low = let m = middle_in in low-member h known is.few middle (omega arith)
 
   owner_low : (owner ≡ 19) ⊎ ((0 < times owner (places_of h.nodes)) × Low owner)
-  owner_low = elim (owner-in (drop (suc t) h.nodes)) [ inl e ↦ inl e | inr m ↦ (let d = times-drop (suc t) owner h.nodes in inr (omega arith, low owner (omega arith))) ]
+  owner_low = elim (owner-in (drop (suc t) h.nodes)) [ inl e ↦ inl e | inr m ↦ (let d = times-drop (suc t) owner h.nodes in inr (omega arith, low-member h known is.few owner (omega arith))) ]
 
-  abbrev Off : ℕ → Type 0
-  Off i = (i < 19) ⊎ ((122 < i) ⊎ ((19 < i) × ((q : ℕ) → i ≢ 20 + 3 * q)))
+  off_word : (i : ℕ) → (i < 7) ⊎ (17 < i) → Off i → i ≢ 19 → get_or vs i 0 ≡ get_or ws i 0
+  off_word i m off ne = w.other i m (off-low i middle off middle_low) (elim owner_low [ inl e ↦ (λ z. ne (z ∙ e)) | inr l ↦ off-low i owner off l.1 ])
 
-  off-low : (i q : ℕ) → Off i → Low q → i ≢ q
-  off-low i q off l z = let a = l.is in let b = l.below in elim off [ inl f ↦ absurd (omega arith) | inr f ↦ elim f [ inl u ↦ absurd (omega arith) | inr u ↦ u.1 l.number (z ∙ a) ] ]
-
-  off_word : (i : ℕ) → (i < 7) ⊎ (17 < i) → Off i → get_or vs i 0 ≡ get_or ws i 0
-  off_word i m off = w.other i m (off-low i middle off middle_low) (elim owner_low [
-    | inl e ↦ (λ z. elim off [ inl f ↦ absurd (omega arith) | inr f ↦ elim f [ inl u ↦ absurd (omega arith) | inr u ↦ absurd (let v = u.0 in omega arith) ] ])
-    | inr l ↦ off-low i owner off l.1
-  ])
-
-  kept_word : (q i : ℕ) → 0 < times q (places_of h.nodes) → (i ≡ q + 1) ⊎ (i ≡ q + 2) → get_or vs i 0 ≡ get_or ws i 0
-  kept_word q i m e =
-      let l = low q (omega arith) in let a = l.is in
-      off_word i (inr (elim e [ inl f ↦ omega arith | inr f ↦ omega arith ])) (inr (inr (elim e [ inl f ↦ omega arith | inr f ↦ omega arith ], (λ r z. elim e [ inl f ↦ absurd (omega arith) | inr f ↦ absurd (omega arith) ]))))
-
-  split_records : records_in vs (mark t h.nodes) ≡ records_in ws h.nodes
-  split_records = records-places vs (mark t h.nodes) h.nodes (places-mark t h.nodes) ∙ records-same ws vs h.nodes (λ q m. (kept_word q (q + 1) m (inl refl), kept_word q (q + 2) m (inr refl)))
-
-  abbrev mk : ℕ → ℕ → ℕ → ℕ → Pairs → Page
-  mk a b d e rs = record { level = a; prev = b; next = d; clock = e; records = rs }
+  split_records : records_in vs (give_slot t h.nodes) ≡ records_in ws h.nodes
+  split_records = records-places vs (give_slot t h.nodes) h.nodes (places-give_slot t h.nodes) ∙ records-same ws vs h.nodes (kept-pair ws vs h known is.few (λ i high off. off_word i (inr (omega arith)) off (λ z. absurd (omega arith))))
 
   head_word : (i : ℕ) → i < 7 → get_or vs i 0 ≡ get_or ws i 0
-  head_word i lt = off_word i (inl lt) (inl (omega arith))
+  head_word i lt = off_word i (inl lt) (inl (omega arith)) (λ z. absurd (omega arith))
 
-  pub split-page : page_with vs (records_in vs (mark t h.nodes)) ≡ page_with ws (records_in ws h.nodes)
-  split-page =
-      ap (λ n. mk n (get_or vs 3 0) (get_or vs 4 0) (get_or vs 5 0) (records_in vs (mark t h.nodes))) (head_word 1 (omega arith))
-      ∙ (ap (λ n. mk (get_or ws 1 0) n (get_or vs 4 0) (get_or vs 5 0) (records_in vs (mark t h.nodes))) (head_word 3 (omega arith))
-      ∙ (ap (λ n. mk (get_or ws 1 0) (get_or ws 3 0) n (get_or vs 5 0) (records_in vs (mark t h.nodes))) (head_word 4 (omega arith))
-      ∙ (ap (λ n. mk (get_or ws 1 0) (get_or ws 3 0) (get_or ws 4 0) n (records_in vs (mark t h.nodes))) (head_word 5 (omega arith))
-      ∙ ap (λ (rs : Pairs). mk (get_or ws 1 0) (get_or ws 3 0) (get_or ws 4 0) (get_or ws 5 0) rs) split_records)))
+  pub split-page : page_with vs (records_in vs (give_slot t h.nodes)) ≡ page_with ws (records_in ws h.nodes)
+  split-page = ap (λ (rs : Pairs). page_with vs rs) split_records ∙ same-page ws vs (records_in ws h.nodes) (head_word 1 (omega arith)) (head_word 3 (omega arith)) (head_word 4 (omega arith)) (head_word 5 (omega arith))
 
   same_at : SameAt ws vs h.nodes middle owner
-  same_at q m nm nw = w.other q (inr (elim m [ inl n ↦ (let l = low q (omega arith) in let a = l.is in omega arith) | inr e ↦ omega arith ])) nm nw
+  same_at q m nm nw = w.other q (inr (elim m [ inl n ↦ (let l = low-member h known is.few q (omega arith) in let a = l.is in omega arith) | inr e ↦ omega arith ])) nm nw
 
-  long : length (mark t h.nodes) ≡ length h.nodes
-  long = length-mark t h.nodes
+  long : length (give_slot t h.nodes) ≡ length h.nodes
+  long = length-give_slot t h.nodes
 
-  slots_long : length (owners (mark t h.nodes)) ≡ length (owners h.nodes) + 1
+  slots_long : length (owners (give_slot t h.nodes)) ≡ length (owners h.nodes) + 1
   slots_long = ap length g.slots ∙ length-insert (owners h.nodes) j middle (let b = within.1.1 in omega arith)
 
   free_word : (q : ℕ) → 0 < times q h.free → get_or vs q 0 ≡ get_or ws q 0
   free_word q m =
-      let l = low q (omega arith) in let a = l.is in let o = known.once q in
+      let l = low-member h known is.few q (omega arith) in let a = l.is in let o = known.once q in
       w.other q (inr (omega arith)) (not_member q middle m middle_in) (elim owner_low [ inl e ↦ (λ z. absurd (omega arith)) | inr e ↦ not_member q owner m e.0 ])
     where
       not_member : (q o : ℕ) → 0 < times q h.free → 0 < times o (places_of h.nodes) → q ≢ o
@@ -136,14 +103,14 @@ module _ (ws vs : List ℕ) (h : Heap) (j k : ℕ) (is : Shaped ws h) (over : Ov
         front = head_word 6 (omega arith) ∙ is.front;
         top = omega arith;
         few = omega arith;
-        start = off_word 18 (inr (omega arith)) (inl (omega arith)) ∙ (is.start ∙ ap (λ n. 256 + n) (first-places h.nodes (mark t h.nodes) (sym (places-mark t h.nodes))));
-        chained = chain-mark ws vs t h.nodes h.last g.in_range is.chained known.apart g.head g.owned w.marked w.lowered same_at;
+        start = off_word 18 (inr (omega arith)) (inl (omega arith)) (λ z. absurd (omega arith)) ∙ (is.start ∙ ap (λ n. 256 + n) (first-places h.nodes (give_slot t h.nodes) (sym (places-give_slot t h.nodes))));
+        chained = chain-give_slot ws vs t h.nodes h.last g.in_range is.chained known.apart g.head g.owned w.marked w.lowered same_at;
         freed = freed-same ws vs h.free is.freed free_word;
         directory = subst (λ (os : List ℕ). Directory vs 10 8 (18 ∷ os)) (sym g.slots) (directory-insert ws vs 10 8 (suc j) middle (18 ∷ owners h.nodes) is.directory (omega arith) (omega arith)
             (λ m lt. w.before m (omega arith)) (ap (λ i. get_or vs i 0) (let e : 8 + suc j ≡ 8 + (j + 1) = omega arith in e) ∙ w.here) (λ m le lt. w.behind m (omega arith) lt));
-        places = subst (λ (ps : List ℕ). ArePlaces (used (split_heap t h)) (ps ++ h.free)) (sym (places-mark t h.nodes)) (subst (λ (n : ℕ). ArePlaces n (places_of h.nodes ++ h.free)) (let e : used h ≡ used (split_heap t h) = omega arith in e) is.places);
-        once = subst (λ (ps : List ℕ). EachOnce (used (split_heap t h)) (ps ++ h.free)) (sym (places-mark t h.nodes)) (subst (λ (n : ℕ). EachOnce n (places_of h.nodes ++ h.free)) (let e : used h ≡ used (split_heap t h) = omega arith in e) is.once);
-        zero_125 = off_word 125 (inr (omega arith)) (inr (inl (omega arith))) ∙ is.zero_125;
-        zero_126 = off_word 126 (inr (omega arith)) (inr (inl (omega arith))) ∙ is.zero_126;
-        zero_127 = off_word 127 (inr (omega arith)) (inr (inl (omega arith))) ∙ is.zero_127;
+        places = subst (λ (ps : List ℕ). ArePlaces (used (split_heap t h)) (ps ++ h.free)) (sym (places-give_slot t h.nodes)) (subst (λ (n : ℕ). ArePlaces n (places_of h.nodes ++ h.free)) (let e : used h ≡ used (split_heap t h) = omega arith in e) is.places);
+        once = subst (λ (ps : List ℕ). EachOnce (used (split_heap t h)) (ps ++ h.free)) (sym (places-give_slot t h.nodes)) (subst (λ (n : ℕ). EachOnce n (places_of h.nodes ++ h.free)) (let e : used h ≡ used (split_heap t h) = omega arith in e) is.once);
+        zero_125 = off_word 125 (inr (omega arith)) (inr (inl (omega arith))) (λ z. absurd (omega arith)) ∙ is.zero_125;
+        zero_126 = off_word 126 (inr (omega arith)) (inr (inl (omega arith))) (λ z. absurd (omega arith)) ∙ is.zero_126;
+        zero_127 = off_word 127 (inr (omega arith)) (inr (inl (omega arith))) (λ z. absurd (omega arith)) ∙ is.zero_127;
       }

@@ -137,7 +137,7 @@ last_from p [] = p
 last_from p (x ∷ xs) = last_from x.place xs
 
 -- how many records stand up to the j-th one that has a slot
-abbrev pub upto : ℕ → List Node → ℕ
-upto zero xs = 0
-upto (suc j) [] = 0
-upto (suc j) (x ∷ xs) = 1 + (if x.owned == 0 then upto (suc j) xs else upto j xs)
+abbrev pub up_to : ℕ → List Node → ℕ
+up_to zero xs = 0
+up_to (suc j) [] = 0
+up_to (suc j) (x ∷ xs) = 1 + (if x.owned == 0 then up_to (suc j) xs else up_to j xs)

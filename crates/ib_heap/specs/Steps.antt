@@ -2,7 +2,7 @@
 use Rattle.std.specs.Prelude.{◌≡◌, ◌≢◌, ℕ, ◌+◌, ◌-◌, ◌*◌, ◌/◌, ◌%◌, ◌<◌, ◌≤◌, ◌⊎◌, List, length, take, drop, slice_index}
 use Rattle.ib_map.specs.Pairs.{place_of}
 use Rattle.ib_map.specs.declared.TheConstants.{PAGE_WORDS}
-use Rattle.ib_heap.specs.Heap.{first_of, first_free, owners, used, read_heap, nodes_of, last_from, upto}
+use Rattle.ib_heap.specs.Heap.{first_of, first_free, owners, used, read_heap, nodes_of, last_from, up_to}
 use Rattle.ib_heap.specs.Image.{records_of}
 use Rattle.ib_heap.specs.Put.{place_for, rest_of}
 
@@ -12,8 +12,8 @@ pub record Stands (ws : List ℕ) (key slot before at : ℕ) : Type 0 where
   pub at_is : at ≡ first_of (drop (place_of key (records_of ws)) (nodes_of ws))
   pub some : 0 < slot
   pub in_range : slot ≤ length (owners (nodes_of ws))
-  pub low : upto (slot - 1) (nodes_of ws) ≤ place_of key (records_of ws)
-  pub high : (place_of key (records_of ws) < upto slot (nodes_of ws)) ⊎ (slot ≡ length (owners (nodes_of ws)))
+  pub low : up_to (slot - 1) (nodes_of ws) ≤ place_of key (records_of ws)
+  pub high : (place_of key (records_of ws) < up_to slot (nodes_of ws)) ⊎ (slot ≡ length (owners (nodes_of ws)))
 
 -- a head that may be written
 pub record IsHead (place : ℕ) : Type 0 where

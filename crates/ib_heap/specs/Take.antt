@@ -4,69 +4,69 @@ use Rattle.ib_heap.specs.Heap.{Node, Heap, first_of}
 use Rattle.ib_heap.specs.Put.{owned_by}
 
 -- the first slot of these records owns one fewer
-abbrev pub fall : List Node → List Node
-fall [] = []
-fall (x ∷ xs) = if x.owned == 0 then x ∷ fall xs else (let y : Node = record { place = x.place; owned = x.owned - 1 } in y) ∷ xs
+abbrev pub own_one_fewer : List Node → List Node
+own_one_fewer [] = []
+own_one_fewer (x ∷ xs) = if x.owned == 0 then x ∷ own_one_fewer xs else (let y : Node = record { place = x.place; owned = x.owned - 1 } in y) ∷ xs
 
-abbrev pub fall_last : List Node → ℕ → ℕ
-fall_last [] last = last - 1
-fall_last (x ∷ xs) last = if x.owned == 0 then fall_last xs last else last
+abbrev pub last_one_fewer : List Node → ℕ → ℕ
+last_one_fewer [] last = last - 1
+last_one_fewer (x ∷ xs) last = if x.owned == 0 then last_one_fewer xs last else last
 
 -- the first of these records is taken out behind `y`, which becomes the owner where that one was
-abbrev pub hand : Node → List Node → List Node
-hand y [] = y ∷ []
-hand y (x ∷ xs) = if x.owned == 0 then y ∷ fall xs else (let z : Node = record { place = y.place; owned = x.owned - 1 } in z) ∷ xs
+abbrev pub hand_over : Node → List Node → List Node
+hand_over y [] = y ∷ []
+hand_over y (x ∷ xs) = if x.owned == 0 then y ∷ own_one_fewer xs else (let z : Node = record { place = y.place; owned = x.owned - 1 } in z) ∷ xs
 
-abbrev pub hand_last : List Node → ℕ → ℕ
-hand_last [] last = last
-hand_last (x ∷ xs) last = if x.owned == 0 then fall_last xs last else last
+abbrev pub hand_over_last : List Node → ℕ → ℕ
+hand_over_last [] last = last
+hand_over_last (x ∷ xs) last = if x.owned == 0 then last_one_fewer xs last else last
 
 -- the chain without the record behind the first k
-abbrev pub cut_node : ℕ → List Node → List Node
-cut_node k [] = []
-cut_node zero (x ∷ xs) = fall xs
-cut_node (suc zero) (x ∷ xs) = hand x xs
-cut_node (suc (suc k)) (x ∷ xs) = x ∷ cut_node (suc k) xs
+abbrev pub unlink_node : ℕ → List Node → List Node
+unlink_node k [] = []
+unlink_node zero (x ∷ xs) = own_one_fewer xs
+unlink_node (suc zero) (x ∷ xs) = hand_over x xs
+unlink_node (suc (suc k)) (x ∷ xs) = x ∷ unlink_node (suc k) xs
 
-abbrev pub cut_last : ℕ → List Node → ℕ → ℕ
-cut_last k [] last = last
-cut_last zero (x ∷ xs) last = fall_last xs last
-cut_last (suc zero) (x ∷ xs) last = hand_last xs last
-cut_last (suc (suc k)) (x ∷ xs) last = cut_last (suc k) xs last
+abbrev pub unlink_last : ℕ → List Node → ℕ → ℕ
+unlink_last k [] last = last
+unlink_last zero (x ∷ xs) last = last_one_fewer xs last
+unlink_last (suc zero) (x ∷ xs) last = hand_over_last xs last
+unlink_last (suc (suc k)) (x ∷ xs) last = unlink_last (suc k) xs last
 
 -- the first slot of these records owns three more
-abbrev pub add_three : List Node → List Node
-add_three [] = []
-add_three (x ∷ xs) = if x.owned == 0 then x ∷ add_three xs else (let y : Node = record { place = x.place; owned = x.owned + 3 } in y) ∷ xs
+abbrev pub own_three_more : List Node → List Node
+own_three_more [] = []
+own_three_more (x ∷ xs) = if x.owned == 0 then x ∷ own_three_more xs else (let y : Node = record { place = x.place; owned = x.owned + 3 } in y) ∷ xs
 
-abbrev pub add_three_last : List Node → ℕ → ℕ
-add_three_last [] last = last + 3
-add_three_last (x ∷ xs) last = if x.owned == 0 then add_three_last xs last else last
+abbrev pub last_three_more : List Node → ℕ → ℕ
+last_three_more [] last = last + 3
+last_three_more (x ∷ xs) last = if x.owned == 0 then last_three_more xs last else last
 
 -- the first of these records owns the short slot before it, and its own slot one fewer
 abbrev pub lend : List Node → List Node
 lend [] = []
-lend (x ∷ xs) = (let y : Node = record { place = x.place; owned = 4 } in y) ∷ fall xs
+lend (x ∷ xs) = (let y : Node = record { place = x.place; owned = 4 } in y) ∷ own_one_fewer xs
 
 abbrev pub lend_last : List Node → ℕ → ℕ
 lend_last [] last = last
-lend_last (x ∷ xs) last = fall_last xs last
+lend_last (x ∷ xs) last = last_one_fewer xs last
 
 -- a slot of three is filled by the slot behind it where that owns five, or joins it
-abbrev pub settle : List Node → ℕ → List Node
-settle [] last = []
-settle (x ∷ xs) last = if x.owned == 3 then (let y : Node = record { place = x.place; owned = 0 } in y) ∷ (if nat_le 5 (owned_by xs last) then lend xs else add_three xs) else x ∷ settle xs last
+abbrev pub balance : List Node → ℕ → List Node
+balance [] last = []
+balance (x ∷ xs) last = if x.owned == 3 then (let y : Node = record { place = x.place; owned = 0 } in y) ∷ (if nat_le 5 (owned_by xs last) then lend xs else own_three_more xs) else x ∷ balance xs last
 
-abbrev pub settle_last : List Node → ℕ → ℕ
-settle_last [] last = last
-settle_last (x ∷ xs) last = if x.owned == 3 then (if nat_le 5 (owned_by xs last) then lend_last xs last else add_three_last xs last) else settle_last xs last
+abbrev pub balance_last : List Node → ℕ → ℕ
+balance_last [] last = last
+balance_last (x ∷ xs) last = if x.owned == 3 then (if nat_le 5 (owned_by xs last) then lend_last xs last else last_three_more xs last) else balance_last xs last
 
 -- the heap without the record behind the first k, whose place goes to the front of the free ones; its slot may own three
-abbrev pub cut_in : ℕ → Heap → Heap
-cut_in k h = record { nodes = cut_node k h.nodes; last = cut_last k h.nodes h.last; free = first_of (drop k h.nodes) ∷ h.free }
+abbrev pub unlink_in : ℕ → Heap → Heap
+unlink_in k h = record { nodes = unlink_node k h.nodes; last = unlink_last k h.nodes h.last; free = first_of (drop k h.nodes) ∷ h.free }
 
 -- the same with its slots balanced
 abbrev pub remove_in : ℕ → Heap → Heap
 remove_in k h =
-    let c = cut_in k h in
-    record { nodes = settle c.nodes c.last; last = settle_last c.nodes c.last; free = c.free }
+    let c = unlink_in k h in
+    record { nodes = balance c.nodes c.last; last = balance_last c.nodes c.last; free = c.free }

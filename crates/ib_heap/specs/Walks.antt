@@ -2,6 +2,7 @@
 use Rattle.std.specs.Prelude.{◌≡◌, ℕ, zero, suc, ◌+◌, ◌-◌, ◌/◌, ◌*◌, ◌%◌, ◌<◌, ◌≤◌, Bool, true, ◌==◌, ◌&&◌, List, [], ◌∷◌, Option, None, Some, length, slice_index, slice_set}
 use Rattle.ib_map.specs.declared.TheConstants.{PAGE_WORDS}
 use Rattle.ib_map.specs.Keys.{rank, end_rank}
+use Rattle.ib_heap.specs.declared.TheConstants.{MOST_RECORDS}
 use Rattle.ib_heap.specs.declared.formed.ChainStep.{ChainStep}
 use Rattle.ib_heap.specs.Page.{rises}
 use Rattle.ib_heap.specs.Heap.{is_place, chain_from, owners, is_owned, is_directory, records_in}
@@ -18,7 +19,7 @@ free_end ws (suc n) p = free_end ws n (slice_index ws p)
 
 -- the words of the head that stand by themselves: kind, count, top, the start and the end of the chain, and the zeros behind the records
 abbrev pub HasHead : List ℕ → Type 0
-HasHead ws = (slice_index ws 0 ≡ 1) × ((slice_index ws 2 ≤ 35) × ((20 ≤ slice_index ws 7 % 256) × (((slice_index ws 7 % 256 - 20) % 3 ≡ 0) × ((slice_index ws 7 % 256 ≤ 125)
+HasHead ws = (slice_index ws 0 ≡ 1) × ((slice_index ws 2 ≤ MOST_RECORDS) × ((20 ≤ slice_index ws 7 % 256) × (((slice_index ws 7 % 256 - 20) % 3 ≡ 0) × ((slice_index ws 7 % 256 ≤ 125)
     × ((slice_index ws 2 ≤ (slice_index ws 7 % 256 - 20) / 3) × ((slice_index ws 18 / 256 ≡ 1) × ((slice_index ws 19 % 256 ≡ 0) × ((slice_index ws 8 ≡ 18) × ((slice_index ws 125 ≡ 0) × ((slice_index ws 126 ≡ 0) × (slice_index ws 127 ≡ 0)))))))))))
 
 -- whether the top word's number of slots ends at the supremum's
@@ -27,12 +28,12 @@ HasSlots ws = (2 ≤ slice_index ws 7 / 256) × ((slice_index ws 7 / 256 ≤ 10)
 
 -- no word but the heads of record places is 0: only those may still be met
 abbrev pub HasOnlyPlaces : List ℕ → Type 0
-HasOnlyPlaces met = (p : ℕ) → p < 125 → slice_index met p ≡ 0 → is_place 35 p ≡ true
+HasOnlyPlaces met = (p : ℕ) → p < 125 → slice_index met p ≡ 0 → is_place MOST_RECORDS p ≡ true
 
 -- no record place is met
 pub record IsUnmet (met : List ℕ) : Type 0 where
   pub size : length met ≡ PAGE_WORDS
-  pub none : (r : ℕ) → r < 35 → slice_index met (20 + 3 * r) ≡ 0
+  pub none : (r : ℕ) → r < MOST_RECORDS → slice_index met (20 + 3 * r) ≡ 0
   pub places : HasOnlyPlaces met
 
 -- the word is the head of one of the first n record places, and was not met before

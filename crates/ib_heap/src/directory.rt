@@ -3,9 +3,9 @@
 ghost use Rattle.std.specs.Prelude.{◌≡◌, ℕ, ◌+◌, ◌-◌, ◌/◌, ◌<◌, ◌≤◌, ◌⊎◌, length, take, drop, slice_index};
 ghost use Rattle.ib_map.specs.Pairs.{place_of};
 ghost use Rattle.ib_heap.specs.Image.{IsTreePage, records_of};
-ghost use Rattle.ib_heap.specs.Heap.{nodes_of, owners, upto, last_from, first_of};
+ghost use Rattle.ib_heap.specs.Heap.{nodes_of, owners, up_to, last_from, first_of};
 
-use crate::form::{DIRECTORY, ONE, TOP};
+use crate::form::{DIRECTORY, OWNED_UNIT, TOP};
 use crate::words::PageWords;
 use ib_map::{Key, is_below};
 
@@ -20,7 +20,7 @@ pub(crate) fn last_slot<W: PageWords>(page: &mut W) -> usize
     ensures can { W.can_read page.new }
     ensures read { W.has_read page.old page.new }
 {
-    (page.word(TOP) / ONE) as usize - 1
+    (page.word(TOP) / OWNED_UNIT) as usize - 1
 }
 
 /// The place of the record that owns a slot.
@@ -28,7 +28,7 @@ pub(crate) fn owner<W: PageWords>(page: &mut W, slot: usize) -> usize
     requires can { W.can_read page.old }
     requires tree { IsTreePage (W.words page.old) }
     requires in_range { slot ≤ length (owners (nodes_of (W.words page.old))) }
-    ensures place { slot < length (owners (nodes_of (W.words page.old))) → result ≡ last_from 18 (take (upto slot (nodes_of (W.words page.old))) (nodes_of (W.words page.old))) }
+    ensures place { slot < length (owners (nodes_of (W.words page.old))) → result ≡ last_from 18 (take (up_to slot (nodes_of (W.words page.old))) (nodes_of (W.words page.old))) }
     ensures word { result ≡ slice_index (W.words page.old) (8 + slot) }
     ensures low { 18 ≤ result }
     ensures high { result ≤ 122 }
@@ -50,7 +50,7 @@ pub(crate) fn owned_at<W: PageWords>(page: &mut W, place: usize) -> usize
     ensures can { W.can_read page.new }
     ensures read { W.has_read page.old page.new }
 {
-    (page.word(place) / ONE) as usize
+    (page.word(place) / OWNED_UNIT) as usize
 }
 
 /// The place behind another in the chain.
@@ -63,11 +63,11 @@ pub(crate) fn next_place<W: PageWords>(page: &mut W, place: usize) -> usize
     ensures can { W.can_read page.new }
     ensures read { W.has_read page.old page.new }
 {
-    (page.word(place) % ONE) as usize
+    (page.word(place) % OWNED_UNIT) as usize
 }
 
 /// The key of the record at a place.
-pub(crate) fn key_at<W: PageWords>(page: &mut W, place: usize) -> Key
+pub(crate) fn key_word<W: PageWords>(page: &mut W, place: usize) -> Key
     requires can { W.can_read page.old }
     requires tree { IsTreePage (W.words page.old) }
     requires in_page { place ≤ 122 }
@@ -80,7 +80,7 @@ pub(crate) fn key_at<W: PageWords>(page: &mut W, place: usize) -> Key
 }
 
 /// The value of the record at a place.
-pub(crate) fn value_at<W: PageWords>(page: &mut W, place: usize) -> u64
+pub(crate) fn value_word<W: PageWords>(page: &mut W, place: usize) -> u64
     requires can { W.can_read page.old }
     requires tree { IsTreePage (W.words page.old) }
     requires in_page { place ≤ 122 }
@@ -98,8 +98,8 @@ pub(crate) fn slot_of<W: PageWords>(page: &mut W, key: Key) -> usize
     requires tree { IsTreePage (W.words page.old) }
     ensures some { 0 < result }
     ensures in_range { result ≤ length (owners (nodes_of (W.words page.old))) }
-    ensures low { upto (result - 1) (nodes_of (W.words page.old)) ≤ place_of key (records_of (W.words page.old)) }
-    ensures high { (place_of key (records_of (W.words page.old)) < upto result (nodes_of (W.words page.old))) ⊎ (result ≡ length (owners (nodes_of (W.words page.old)))) }
+    ensures low { up_to (result - 1) (nodes_of (W.words page.old)) ≤ place_of key (records_of (W.words page.old)) }
+    ensures high { (place_of key (records_of (W.words page.old)) < up_to result (nodes_of (W.words page.old))) ⊎ (result ≡ length (owners (nodes_of (W.words page.old)))) }
     ensures same { W.words page.new ≡ W.words page.old }
     ensures can { W.can_read page.new }
     ensures read { W.has_read page.old page.new }
@@ -109,7 +109,7 @@ pub(crate) fn slot_of<W: PageWords>(page: &mut W, key: Key) -> usize
     while high - low > 1 {
         let middle = low + (high - low) / 2;
         let place = owner(page, middle);
-        if is_below(key_at(page, place), key) {
+        if is_below(key_word(page, place), key) {
             low = middle;
         } else {
             high = middle;
@@ -123,7 +123,7 @@ pub(crate) fn index_behind<W: PageWords>(page: &mut W, slot: usize) -> usize
     requires can { W.can_read page.old }
     requires tree { IsTreePage (W.words page.old) }
     requires in_range { slot < length (owners (nodes_of (W.words page.old))) }
-    ensures index { result ≡ upto slot (nodes_of (W.words page.old)) }
+    ensures index { result ≡ up_to slot (nodes_of (W.words page.old)) }
     ensures same { W.words page.new ≡ W.words page.old }
     ensures can { W.can_read page.new }
     ensures read { W.has_read page.old page.new }

@@ -49,9 +49,9 @@ pub(crate) const PLACE_WORDS: usize = 3;
 // The word behind the last record place.
 pub(crate) const PLACES_END: usize = FIRST_PLACE + PLACE_WORDS * MOST_RECORDS;
 
-// A record's head is how many records its slot owns, times this, and the place behind it in the chain. Word
-// `TOP` is how many slots there are, times this, and the first word that no record has used.
-pub(crate) const ONE: u64 = 256;
+// What a head counts for each record that its slot owns: the head is so many of these, and the place behind
+// it in the chain. Word `TOP` is one for each slot, and the first word that no record has used.
+pub(crate) const OWNED_UNIT: u64 = 256;
 
 // The most records that a slot owns, and the fewest that a slot owns between the infimum's and the supremum's.
 pub(crate) const MOST_OWNED: u64 = 8;
@@ -61,7 +61,17 @@ pub(crate) const FEWEST_OWNED: u64 = 4;
 // What a removal may leave a slot that owned the fewest.
 pub(crate) const ONE_TOO_FEW: u64 = 3;
 
-/// A page with no records and no links.
+// The supremum's slot where no record has one, behind the infimum's.
+const SECOND_SLOT: usize = DIRECTORY + 1;
+
+// Word `TOP` and the infimum's head where there are no records.
+const EMPTY_TOP: u64 = 2 * OWNED_UNIT + FIRST_PLACE as u64;
+
+const EMPTY_INFIMUM: u64 = OWNED_UNIT + SUPREMUM as u64;
+
+/// The words of a page with no records and no links, at this level, which is at most `MOST_LEVEL`, and with this
+/// modify clock (`page_create`). The chain goes from the infimum to the supremum, and the directory has the slots
+/// of these two.
 pub fn empty_page(level: u32, clock: u64) -> [u64; PAGE_WORDS]
     requires { level ≤ MOST_LEVEL }
     ensures page { page_of result ≡ Tree (record { level = level; prev = 0; next = 0; clock = clock; records = [] }) }
@@ -73,15 +83,15 @@ pub fn empty_page(level: u32, clock: u64) -> [u64; PAGE_WORDS]
     words[KIND] = TREE;
     words[LEVEL] = level as u64;
     words[CLOCK] = clock;
-    words[TOP] = 2 * ONE + FIRST_PLACE as u64;
+    words[TOP] = EMPTY_TOP;
     words[DIRECTORY] = INFIMUM as u64;
-    words[DIRECTORY + 1] = SUPREMUM as u64;
-    words[INFIMUM] = ONE + SUPREMUM as u64;
-    words[SUPREMUM] = ONE;
+    words[SECOND_SLOT] = SUPREMUM as u64;
+    words[INFIMUM] = EMPTY_INFIMUM;
+    words[SUPREMUM] = OWNED_UNIT;
     words
 }
 
-/// A word of an empty leaf.
+/// One word of an empty leaf with this modify clock, for who writes such a page word by word.
 pub fn empty_leaf_word(clock: u64, index: usize) -> u64
     requires { index < PAGE_WORDS }
     ensures { result ≡ slice_index (empty_leaf_words clock) index }
@@ -89,16 +99,16 @@ pub fn empty_leaf_word(clock: u64, index: usize) -> u64
     match index {
         KIND => TREE,
         CLOCK => clock,
-        TOP => 532,
-        8 => 18,
-        9 => 19,
-        INFIMUM => 275,
-        SUPREMUM => 256,
+        TOP => EMPTY_TOP,
+        DIRECTORY => INFIMUM as u64,
+        SECOND_SLOT => SUPREMUM as u64,
+        INFIMUM => EMPTY_INFIMUM,
+        SUPREMUM => OWNED_UNIT,
         _ => 0,
     }
 }
 
-/// Whether a page is one of the tree, and not free.
+/// Whether a page is one of the tree, and not free. Asked of words that `is_formed` takes.
 pub fn is_tree(words: &[u64]) -> bool
     requires { IsFormed words.now }
     ensures { IsTrue result ↔ IsTreePage words.now }
@@ -106,7 +116,7 @@ pub fn is_tree(words: &[u64]) -> bool
     words[KIND] == TREE
 }
 
-/// The level of a page.
+/// The level of a page, 0 for a leaf and for a free page (`btr_page_get_level`).
 pub fn level(words: &[u64]) -> u32
     requires { IsFormed words.now }
     ensures level { result ≡ level_of words.now }
@@ -115,7 +125,7 @@ pub fn level(words: &[u64]) -> u32
     words[LEVEL] as u32
 }
 
-/// How many records a page has.
+/// How many records a page has, 0 for a free page (`page_get_n_recs`).
 pub fn count(words: &[u64]) -> usize
     requires { IsFormed words.now }
     ensures count { result ≡ length (records_of words.now) }
@@ -125,7 +135,7 @@ pub fn count(words: &[u64]) -> usize
     words[COUNT] as usize
 }
 
-/// The leaf before this one, 0 for none.
+/// The number of the leaf before this one, 0 for none (`btr_page_get_prev`).
 pub fn prev(words: &[u64]) -> u32
     requires { IsFormed words.now }
     ensures { result ≡ prev_of words.now }
@@ -133,7 +143,7 @@ pub fn prev(words: &[u64]) -> u32
     words[PREV] as u32
 }
 
-/// The leaf behind this one, 0 for none.
+/// The number of the leaf behind this one, 0 for none (`btr_page_get_next`).
 pub fn next(words: &[u64]) -> u32
     requires { IsFormed words.now }
     ensures { result ≡ next_of words.now }
@@ -141,7 +151,8 @@ pub fn next(words: &[u64]) -> u32
     words[NEXT] as u32
 }
 
-/// The modify clock of a page.
+/// The modify clock of a page, by which a cursor tells whether what it found there still stands
+/// (`buf_block_get_modify_clock`).
 pub fn clock(words: &[u64]) -> u64
     requires { IsFormed words.now }
     ensures { result ≡ clock_of words.now }
@@ -149,7 +160,7 @@ pub fn clock(words: &[u64]) -> u64
     words[CLOCK]
 }
 
-/// The level of a page, by one word of it.
+/// The level of a page over a source of its words, of which one is read.
 pub fn level_in<W: PageWords>(page: &mut W) -> u32
     requires can { W.can_read page.old }
     requires tree { IsTreePage (W.words page.old) }
@@ -162,7 +173,8 @@ pub fn level_in<W: PageWords>(page: &mut W) -> u32
     page.word(LEVEL) as u32
 }
 
-/// Sets both links.
+/// Sets both links of a leaf: the numbers of the leaves before and behind it, 0 for none
+/// (`btr_page_set_prev`, `btr_page_set_next`). A node has no links, so there both must be 0. No record moves.
 pub fn set_links(words: &mut [u64], prev: u32, next: u32)
     requires tree { IsTreePage words.old }
     requires prev { 0 < level_of words.old → prev ≡ 0 }
@@ -175,7 +187,8 @@ pub fn set_links(words: &mut [u64], prev: u32, next: u32)
     words[NEXT] = next as u64;
 }
 
-/// Sets the level.
+/// Sets the level of a page, at most `MOST_LEVEL` (`btr_page_set_level`). A page above level 0 has no links, so
+/// there the page must have none. No record moves.
 pub fn set_level(words: &mut [u64], level: u32)
     requires tree { IsTreePage words.old }
     requires low { level ≤ MOST_LEVEL }
@@ -188,7 +201,7 @@ pub fn set_level(words: &mut [u64], level: u32)
     words[LEVEL] = level as u64;
 }
 
-/// Sets the clock.
+/// Sets the modify clock of a page, free or not (`buf_block_modify_clock_inc`).
 pub fn set_clock(words: &mut [u64], clock: u64)
     requires { IsFormed words.old }
     ensures page { page_of words.new ≡ with_clock clock (page_of words.old) }

@@ -9,7 +9,7 @@ ghost use Rattle.ib_heap.specs.Walks.{IsUnmet, HasOnlyPlaces, is_new, are_new, m
 use crate::MOST_RECORDS;
 use crate::form::{
     COUNT, DIRECTORY, FEWEST_OWNED, FIRST_PLACE, FREE, INFIMUM, KIND, LEVEL, MOST_OWNED,
-    MOST_SLOTS, NEXT, ONE, PLACE_WORDS, PLACES_END, PREV, SUPREMUM, TOP, TREE,
+    MOST_SLOTS, NEXT, OWNED_UNIT, PLACE_WORDS, PLACES_END, PREV, SUPREMUM, TOP, TREE,
 };
 use crate::page::{has_limits, is_free};
 use ib_map::{Key, PAGE_WORDS, is_below};
@@ -22,7 +22,10 @@ const NO_PLACES: [u8; PAGE_WORDS] = [
     1, 1, 0, 1, 1, 0, 1, 1, 0, 1, 1, 0, 1, 1, 0, 1, 1, 0, 1, 1, 0, 1, 1, 0, 1, 1, 0, 1, 1, 1, 1, 1,
 ];
 
-/// Whether the words are those of a free page or of a page of the tree.
+/// Whether the words are those of a free page or of a page of the tree (`page_validate`): the head is within its
+/// limits, the chain ends at the supremum after as many records as are counted, their keys ascend, the slots are
+/// those of the directory and own no fewer and no more than they may, and each place that was used stands once
+/// in the chain or in the free list. Nothing is asked of the words but that they are as many as a page has.
 pub fn is_formed(words: &[u64]) -> bool
     requires { length words.now ≡ PAGE_WORDS }
     ensures { IsTrue result ↔ IsFormed words.now }
@@ -49,7 +52,7 @@ fn has_heap(words: &[u64]) -> bool
         return false;
     }
     let count = words[COUNT] as usize;
-    let n = ((words[TOP] % ONE) as usize - FIRST_PLACE) / PLACE_WORDS;
+    let n = ((words[TOP] % OWNED_UNIT) as usize - FIRST_PLACE) / PLACE_WORDS;
     let mut met = unmet();
     if !has_chain(words, &mut met, count, n) {
         return false;
@@ -62,19 +65,19 @@ fn has_head(words: &[u64]) -> bool
     requires { length words.now ≡ PAGE_WORDS }
     ensures { IsTrue result ↔ HasHead words.now }
 {
-    let top = (words[TOP] % ONE) as usize;
+    let top = (words[TOP] % OWNED_UNIT) as usize;
     words[KIND] == TREE
         && words[COUNT] <= MOST_RECORDS as u64
         && FIRST_PLACE <= top
         && (top - FIRST_PLACE) % PLACE_WORDS == 0
         && top <= PLACES_END
         && words[COUNT] as usize <= (top - FIRST_PLACE) / PLACE_WORDS
-        && words[INFIMUM] / ONE == 1
-        && words[SUPREMUM] % ONE == 0
+        && words[INFIMUM] / OWNED_UNIT == 1
+        && words[SUPREMUM] % OWNED_UNIT == 0
         && words[DIRECTORY] as usize == INFIMUM
-        && words[125] == 0
-        && words[126] == 0
-        && words[127] == 0
+        && words[PLACES_END] == 0
+        && words[PLACES_END + 1] == 0
+        && words[PLACES_END + 2] == 0
 }
 
 // Whether the number of slots ends at the supremum's.
@@ -82,7 +85,7 @@ fn has_slots(words: &[u64]) -> bool
     requires { length words.now ≡ PAGE_WORDS }
     ensures { IsTrue result ↔ HasSlots words.now }
 {
-    let slots = words[TOP] / ONE;
+    let slots = words[TOP] / OWNED_UNIT;
     2 <= slots && slots <= MOST_SLOTS as u64 && words[TOP + slots as usize] as usize == SUPREMUM
 }
 
@@ -96,7 +99,7 @@ fn unmet() -> [u8; PAGE_WORDS]
 // Whether a word is the head of one of the first n record places and was not met before. It is met now.
 fn meet(met: &mut [u8], at: usize, n: usize) -> bool
     requires size { length met.old ≡ PAGE_WORDS }
-    requires few { n ≤ 35 }
+    requires few { n ≤ MOST_RECORDS }
     requires places { HasOnlyPlaces met.old }
     ensures is_new { result ≡ is_new n met.old at }
     ensures meets { result ≡ true → met.new ≡ slice_set met.old at 1 }
@@ -128,15 +131,15 @@ impl ChainStep {
     fn next(self, words: &[u64]) -> Option<ChainStep>
         requires size { length words.now ≡ PAGE_WORDS }
         requires low { self.at ≤ 122 }
-        requires few { self.owned ≤ 35 }
+        requires few { self.owned ≤ MOST_RECORDS }
         ensures { MatchOption result ((m : ℕ) → chain_holds words.now (suc m) self ≡ false) (LeavesStep words.now self) }
     {
         let key = words[self.at + 1];
         if !is_above(key, self.last) {
             return None;
         }
-        let at = (words[self.at] % ONE) as usize;
-        let head = words[self.at] / ONE;
+        let at = (words[self.at] % OWNED_UNIT) as usize;
+        let head = words[self.at] / OWNED_UNIT;
         if head == 0 {
             return Some(ChainStep {
                 at,
@@ -162,14 +165,14 @@ impl ChainStep {
     // Whether a chain of a page ends here.
     fn is_end(self, words: &[u64]) -> bool
         requires size { length words.now ≡ PAGE_WORDS }
-        requires few { self.owned ≤ 35 }
+        requires few { self.owned ≤ MOST_RECORDS }
         requires last { low_of self.last ≤ end_rank }
         ensures { result ≡ chain_holds words.now 0 self }
     {
         if self.at != SUPREMUM {
             return false;
         }
-        if !is_last_slot(words[SUPREMUM] / ONE, self.owned) {
+        if !is_last_slot(words[SUPREMUM] / OWNED_UNIT, self.owned) {
             return false;
         }
         if !has_owner(words, self.slot, SUPREMUM) {
@@ -199,7 +202,7 @@ fn has_owner(words: &[u64], slot: usize, at: usize) -> bool
 
 // Whether a slot with so many records before its owner owns them.
 fn is_slot(head: u64, owned: u64) -> bool
-    requires { owned ≤ 35 }
+    requires { owned ≤ MOST_RECORDS }
     ensures { IsTrue result ↔ ((head ≡ owned + 1) × ((4 ≤ head) × (head ≤ 8))) }
 {
     head == owned + 1 && FEWEST_OWNED <= head && head <= MOST_OWNED
@@ -207,7 +210,7 @@ fn is_slot(head: u64, owned: u64) -> bool
 
 // Whether the supremum's slot with so many records before it owns them.
 fn is_last_slot(head: u64, owned: u64) -> bool
-    requires { owned ≤ 35 }
+    requires { owned ≤ MOST_RECORDS }
     ensures { IsTrue result ↔ ((head ≡ owned + 1) × (head ≤ 8)) }
 {
     head == owned + 1 && head <= MOST_OWNED
@@ -232,14 +235,14 @@ fn has_chain(words: &[u64], met: &mut [u8], count: usize, n: usize) -> bool
     requires size { length words.now ≡ PAGE_WORDS }
     requires met_size { length met.old ≡ PAGE_WORDS }
     requires met_places { HasOnlyPlaces met.old }
-    requires few { n ≤ 35 }
-    requires count { count ≤ 35 }
+    requires few { n ≤ MOST_RECORDS }
+    requires count { count ≤ MOST_RECORDS }
     ensures holds { result ≡ (are_new n met.old (places_of (chain_from words.now count (slice_index words.now 18 % 256))) && chain_holds words.now count (first_step words.now)) }
     ensures met_places { HasOnlyPlaces met.new }
     ensures meets { result ≡ true → met.new ≡ met_with met.old (places_of (chain_from words.now count (slice_index words.now 18 % 256))) }
 {
     let mut step = ChainStep {
-        at: (words[INFIMUM] % ONE) as usize,
+        at: (words[INFIMUM] % OWNED_UNIT) as usize,
         owned: 0,
         slot: 1,
         last: None,
@@ -261,7 +264,7 @@ fn has_free(words: &[u64], met: &mut [u8], count: usize, n: usize) -> bool
     requires size { length words.now ≡ PAGE_WORDS }
     requires met_size { length met.old ≡ PAGE_WORDS }
     requires met_places { HasOnlyPlaces met.old }
-    requires few { n ≤ 35 }
+    requires few { n ≤ MOST_RECORDS }
     ensures { result ≡ (are_new n met.old (free_from words.now count (slice_index words.now 6)) && free_end words.now count (slice_index words.now 6) == 0) }
 {
     let mut at = words[FREE] as usize;

@@ -12,13 +12,17 @@ ghost use Rattle.ib_heap.specs.Walks.{end_from};
 
 use crate::MOST_RECORDS;
 use crate::fault::PageFault;
-use crate::form::{COUNT, DIRECTORY, FREE, MOST_OWNED, ONE, PLACE_WORDS, TOP, count};
+use crate::form::{
+    COUNT, DIRECTORY, FEWEST_OWNED, FREE, MOST_OWNED, OWNED_UNIT, PLACE_WORDS, TOP, count,
+};
 use crate::search::{Cursor, find, seek};
 use crate::walk::{next_word, owned_word, slot_word};
 use ib_map::{Key, PAGE_WORDS};
 
-/// Puts a record in. Refused as `Duplicate` exactly where the key is there, and then as `PageFull` exactly where
-/// there are `MOST_RECORDS` records.
+/// Puts a record in: it takes the first free place, or the one at the top, its neighbours in the order of keys
+/// are linked to it, and a slot that would own nine is split (`page_cur_insert_rec_low`, `page_dir_split_slot`).
+/// Refused as `Duplicate` exactly where the key is there, and then as `PageFull` exactly where there are
+/// `MOST_RECORDS` records. A page that refuses is unchanged.
 pub fn put(words: &mut [u64], key: Key, value: u64) -> Result<(), PageFault>
     requires { IsTreePage words.old }
     ensures inserted { OnOk result (page_of words.new ≡ with_records (put key value (records_of words.old)) (page_of words.old)) }
@@ -59,7 +63,7 @@ pub(crate) fn put_new(words: &mut [u64], key: Key, value: u64)
     link(words, cursor, owner, place, key, value);
     if owned_word(words, owner) > MOST_OWNED {
         let middle = fourth_behind(words, first);
-        split(words, cursor.slot, middle, owner);
+        split_slot(words, cursor.slot, middle, owner);
     }
 }
 
@@ -108,7 +112,7 @@ fn take_place(words: &mut [u64]) -> usize
     }
     let top = words[TOP];
     write(words, TOP, top + PLACE_WORDS as u64);
-    (top % ONE) as usize
+    (top % OWNED_UNIT) as usize
 }
 
 // Writes a record, and its place into the chain between its neighbours, and counts it.
@@ -123,12 +127,12 @@ fn link(words: &mut [u64], cursor: Cursor, owner: usize, place: usize, key: Key,
     write(words, place + 1, key);
     write(words, place + 2, value);
     write(words, cursor.before, head - cursor.at as u64 + place as u64);
-    write(words, owner, owned + ONE);
+    write(words, owner, owned + OWNED_UNIT);
     write(words, COUNT, count + 1);
 }
 
 // Makes room in the directory before a slot's owner.
-fn shift(words: &mut [u64], slot: usize, last: usize)
+fn open_slot(words: &mut [u64], slot: usize, last: usize)
     requires size { length words.old ≡ PAGE_WORDS }
     requires slot { slot ≤ last }
     requires last { last ≤ 8 }
@@ -146,17 +150,17 @@ fn shift(words: &mut [u64], slot: usize, last: usize)
 
 // Splits a slot of nine: the fourth of its records owns the first four, and the old owner keeps the others
 // (`page_dir_split_slot`).
-fn split(words: &mut [u64], slot: usize, middle: usize, owner: usize)
+fn split_slot(words: &mut [u64], slot: usize, middle: usize, owner: usize)
     requires { CanSplit words.old slot middle owner }
     ensures { Split words.old words.new slot middle owner }
 {
     let top = words[TOP];
-    let last = (top / ONE) as usize - 1;
+    let last = (top / OWNED_UNIT) as usize - 1;
     let more = words[middle];
     let fewer = words[owner];
-    shift(words, slot, last);
+    open_slot(words, slot, last);
     write(words, DIRECTORY + slot, middle as u64);
-    write(words, middle, more + 4 * ONE);
-    write(words, owner, fewer - 4 * ONE);
-    write(words, TOP, top + ONE);
+    write(words, middle, more + FEWEST_OWNED * OWNED_UNIT);
+    write(words, owner, fewer - FEWEST_OWNED * OWNED_UNIT);
+    write(words, TOP, top + OWNED_UNIT);
 }

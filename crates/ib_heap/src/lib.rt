@@ -29,8 +29,8 @@ pub use search::{child_in, find, get, get_in, route, route_to};
 pub use walk::{copy_between, record_at};
 pub use words::PageWords;
 
-/// The most records that a page has.
+/// The most records that a page has: behind its directory there are so many places of three words.
 pub const MOST_RECORDS: usize = 35;
 
-/// The level of the highest page: a leaf has level 0.
+/// The highest level of a page, with leaves at level 0: no tree is higher (`BTR_MAX_NODE_LEVEL`).
 pub const MOST_LEVEL: u32 = 7;

@@ -10,7 +10,7 @@ use ib_map::PAGE_WORDS;
 /// The word of the modify clock.
 pub const CLOCK: usize = 5;
 
-/// The words of a free page.
+/// The words of a free page with this modify clock: all others are 0.
 pub fn free_page(clock: u64) -> [u64; PAGE_WORDS]
     ensures { result ≡ free_page_words clock }
 {

@@ -15,7 +15,8 @@ use crate::insert::put_new;
 use crate::walk::copy_between;
 use ib_map::{GREATEST, Key, LEAST, PAGE_WORDS};
 
-/// Moves the records from a place on to a page that has none.
+/// Moves the records from a place on, in the order of keys, to a page that has none, as a split does
+/// (`page_move_rec_list_end`). Both pages are filled anew, and keep their levels, links and clocks.
 pub fn move_tail(left: &mut [u64], place: usize, right: &mut [u64])
     requires left { IsTreePage left.old }
     requires right { IsTreePage right.old }
@@ -34,7 +35,9 @@ pub fn move_tail(left: &mut [u64], place: usize, right: &mut [u64])
     rebuild(right, &records[place..len]);
 }
 
-/// Appends the records of a page to those of another.
+/// Appends the records of the right page to those of the left, as a merge does (`page_copy_rec_list_end`,
+/// `btr_compress`). Their keys must be above those of the left, and together they must be no more than
+/// `MOST_RECORDS`. The left page is filled anew and keeps its level, its links and its clock.
 pub fn append(left: &mut [u64], right: &[u64])
     requires left { IsTreePage left.old }
     requires right { IsTreePage right.now }
@@ -50,7 +53,8 @@ pub fn append(left: &mut [u64], right: &[u64])
     rebuild(left, &records[..len + more]);
 }
 
-/// Puts the records of a page in anew, one behind the other. What the page holds stays.
+/// Puts the records of a page in anew, one behind the other in the order of keys, so that no place is free but
+/// those at the top (`btr_page_reorganize`). What the page holds stays.
 pub fn reorganize(words: &mut [u64])
     requires { IsTreePage words.old }
     ensures page { page_of words.new ≡ page_of words.old }

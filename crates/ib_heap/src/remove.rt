@@ -5,19 +5,22 @@ ghost use Rattle.ib_map.specs.Pairs.{without, value_at, place_of};
 ghost use Rattle.ib_heap.specs.Form.{page_of};
 ghost use Rattle.ib_heap.specs.Image.{IsTreePage, records_of, with_records};
 ghost use Rattle.ib_heap.specs.Heap.{nodes_of, read_heap, used, records_in, page_with};
-ghost use Rattle.ib_heap.specs.Take.{cut_node, cut_in, remove_in};
+ghost use Rattle.ib_heap.specs.Take.{unlink_node, unlink_in, remove_in};
 ghost use Rattle.ib_heap.specs.Shape.{is_shaped};
 ghost use Rattle.ib_heap.specs.Kept.{IsKept};
 ghost use Rattle.ib_heap.specs.Steps.{Stands, CanUnlink, Unlinked, CanHandOver, HandedOver, CanGiveBack, GivenBack, CanLend, Lent, CanJoin, Joined};
 
 use crate::fault::PageFault;
-use crate::form::{COUNT, DIRECTORY, FEWEST_OWNED, FREE, ONE, ONE_TOO_FEW, SUPREMUM, TOP};
+use crate::form::{COUNT, DIRECTORY, FEWEST_OWNED, FREE, ONE_TOO_FEW, OWNED_UNIT, SUPREMUM, TOP};
 use crate::insert::{locate, write};
 use crate::search::{Cursor, get};
 use crate::walk::{next_word, owned_word, record_of, slot_word};
 use ib_map::{Key, PAGE_WORDS};
 
-/// Takes a record out, and gives its value. Refused as `Missing` exactly where the key is not there.
+/// Takes a record out, and gives its value: its neighbours are linked to each other, its place goes to the front
+/// of the free list, and a slot before the last that is left with three takes a record from the slot after it, or
+/// joins it (`page_cur_delete_rec`, `page_mem_free`, `page_dir_balance_slot`). Refused as `Missing` exactly where
+/// the key is not there; the page is then unchanged.
 pub fn take(words: &mut [u64], key: Key) -> Result<u64, PageFault>
     requires { IsTreePage words.old }
     ensures value { IfOk result (λ value. value_at key (records_of words.old) ≡ Some value) }
@@ -61,7 +64,7 @@ fn take_there(words: &mut [u64], key: Key) -> u64
         lend(words, cursor.slot, short, first, after);
         return value;
     }
-    join(words, cursor.slot, short, after);
+    join_slots(words, cursor.slot, short, after);
     value
 }
 
@@ -71,8 +74,8 @@ fn take_out(words: &mut [u64], key: Key, cursor: Cursor)
     requires tree { IsTreePage words.old }
     requires found { value_at key (records_of words.old) ≢ None }
     requires stands { Stands words.old key cursor.slot cursor.before cursor.at }
-    ensures shaped { is_shaped words.new (cut_in (place_of key (records_of words.old)) (read_heap words.old)) ≡ true }
-    ensures page { let nodes = cut_node (place_of key (records_of words.old)) (nodes_of words.old) in page_with words.new (records_in words.new nodes) ≡ page_with words.old (without key (records_of words.old)) }
+    ensures shaped { is_shaped words.new (unlink_in (place_of key (records_of words.old)) (read_heap words.old)) ≡ true }
+    ensures page { let nodes = unlink_node (place_of key (records_of words.old)) (nodes_of words.old) in page_with words.new (records_in words.new nodes) ≡ page_with words.old (without key (records_of words.old)) }
     ensures kept { (i : ℕ) → IsKept (used (read_heap words.old)) i → slice_index words.new i ≡ slice_index words.old i }
 {
     let owner = slot_word(words, cursor.slot);
@@ -102,11 +105,11 @@ fn unlink(words: &mut [u64], before: usize, at: usize, owner: usize)
     requires { CanUnlink words.old before at owner }
     ensures { Unlinked words.old words.new before at owner }
 {
-    let next = words[at] % ONE;
+    let next = words[at] % OWNED_UNIT;
     let head = words[before];
     let owned = words[owner];
     write(words, before, head - at as u64 + next);
-    write(words, owner, owned - ONE);
+    write(words, owner, owned - OWNED_UNIT);
 }
 
 // Takes the owner of a slot out of the chain: the record before it owns the slot.
@@ -115,7 +118,7 @@ fn hand_over(words: &mut [u64], before: usize, at: usize, slot: usize)
     ensures { HandedOver words.old words.new before at slot }
 {
     let head = words[at];
-    write(words, before, head - ONE);
+    write(words, before, head - OWNED_UNIT);
     write(words, DIRECTORY + slot, before as u64);
 }
 
@@ -127,14 +130,14 @@ fn lend(words: &mut [u64], slot: usize, short: usize, first: usize, after: usize
     let fewer = words[short];
     let more = words[first];
     let rest = words[after];
-    write(words, short, fewer - 3 * ONE);
-    write(words, first, more + 4 * ONE);
-    write(words, after, rest - ONE);
+    write(words, short, fewer - ONE_TOO_FEW * OWNED_UNIT);
+    write(words, first, more + FEWEST_OWNED * OWNED_UNIT);
+    write(words, after, rest - OWNED_UNIT);
     write(words, DIRECTORY + slot, first as u64);
 }
 
 // Takes a slot out of the directory.
-fn close(words: &mut [u64], slot: usize, last: usize)
+fn close_slot(words: &mut [u64], slot: usize, last: usize)
     requires size { length words.old ≡ PAGE_WORDS }
     requires slot { slot ≤ last }
     requires last { last ≤ 9 }
@@ -150,17 +153,17 @@ fn close(words: &mut [u64], slot: usize, last: usize)
 }
 
 // Joins a slot of three to the slot after it.
-fn join(words: &mut [u64], slot: usize, short: usize, after: usize)
+fn join_slots(words: &mut [u64], slot: usize, short: usize, after: usize)
     requires { CanJoin words.old slot short after }
     ensures { Joined words.old words.new slot short after }
 {
     let top = words[TOP];
-    let last = (top / ONE) as usize - 1;
+    let last = (top / OWNED_UNIT) as usize - 1;
     let fewer = words[short];
     let more = words[after];
-    close(words, slot, last);
+    close_slot(words, slot, last);
     write(words, DIRECTORY + last, 0);
-    write(words, short, fewer - 3 * ONE);
-    write(words, after, more + 3 * ONE);
-    write(words, TOP, top - ONE);
+    write(words, short, fewer - ONE_TOO_FEW * OWNED_UNIT);
+    write(words, after, more + ONE_TOO_FEW * OWNED_UNIT);
+    write(words, TOP, top - OWNED_UNIT);
 }

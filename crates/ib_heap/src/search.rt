@@ -5,10 +5,10 @@ ghost use Rattle.std.specs.List.Sorted.{IsSearchInRange};
 ghost use Rattle.ib_map.specs.Keys.{rank};
 ghost use Rattle.ib_map.specs.Pairs.{value_at, place_of, place_after};
 ghost use Rattle.ib_heap.specs.Image.{IsTreePage, records_of};
-ghost use Rattle.ib_heap.specs.Heap.{nodes_of, owners, upto, last_from, first_of};
+ghost use Rattle.ib_heap.specs.Heap.{nodes_of, owners, up_to, last_from, first_of};
 
 use crate::MOST_RECORDS;
-use crate::directory::{index_behind, key_at, next_place, owner, slot_of, value_at};
+use crate::directory::{index_behind, key_word, next_place, owner, slot_of, value_word};
 use crate::form::SUPREMUM;
 use crate::walk::record_of;
 use crate::words::PageWords;
@@ -32,9 +32,9 @@ pub(crate) fn seek<W: PageWords>(page: &mut W, key: Key) -> Cursor
     ensures at { let nodes = nodes_of (W.words page.old) in result.at ≡ first_of (drop (place_of key (records_of (W.words page.old))) nodes) }
     ensures some { 0 < result.slot }
     ensures in_range { result.slot ≤ length (owners (nodes_of (W.words page.old))) }
-    ensures steps { upto (result.slot - 1) (nodes_of (W.words page.old)) + result.steps ≡ place_of key (records_of (W.words page.old)) }
-    ensures low { upto (result.slot - 1) (nodes_of (W.words page.old)) ≤ place_of key (records_of (W.words page.old)) }
-    ensures high { (place_of key (records_of (W.words page.old)) < upto result.slot (nodes_of (W.words page.old))) ⊎ (result.slot ≡ length (owners (nodes_of (W.words page.old)))) }
+    ensures steps { up_to (result.slot - 1) (nodes_of (W.words page.old)) + result.steps ≡ place_of key (records_of (W.words page.old)) }
+    ensures low { up_to (result.slot - 1) (nodes_of (W.words page.old)) ≤ place_of key (records_of (W.words page.old)) }
+    ensures high { (place_of key (records_of (W.words page.old)) < up_to result.slot (nodes_of (W.words page.old))) ⊎ (result.slot ≡ length (owners (nodes_of (W.words page.old)))) }
     ensures same { W.words page.new ≡ W.words page.old }
     ensures can { W.can_read page.new }
     ensures read { W.has_read page.old page.new }
@@ -77,7 +77,7 @@ fn is_at<W: PageWords>(page: &mut W, place: usize, key: Key) -> bool
     if place == SUPREMUM {
         return true;
     }
-    !is_below(key_at(page, place), key)
+    !is_below(key_word(page, place), key)
 }
 
 // Whether a place is that of the key's record.
@@ -94,10 +94,12 @@ fn has_key<W: PageWords>(page: &mut W, place: usize, key: Key) -> bool
     if place == SUPREMUM {
         return false;
     }
-    is_same(key_at(page, place), key)
+    is_same(key_word(page, place), key)
 }
 
-/// Where a key stands, or where it would stand: behind what the slots before own, and the steps from there.
+/// Where a key stands among the records in their order, as `Ok`, or where it would stand, as `Err`
+/// (`page_cur_search_with_match`). The search halves the directory down to one slot and goes along the chain
+/// from there; the place is what the slots before own, and the steps along the chain.
 pub fn find(words: &[u64], key: Key) -> Result<usize, usize>
     requires { IsTreePage words.now }
     ensures place { let place = place_of key (records_of words.now) in MatchResult result (λ i. i ≡ place) (λ i. i ≡ place) }
@@ -132,7 +134,7 @@ fn find_in<W: PageWords>(page: &mut W, key: Key) -> Result<usize, usize>
     }
 }
 
-/// The value of a key. None exactly where the key is not there.
+/// The value of a key, by the search of `find`. None exactly where the key is not there.
 pub fn get(words: &[u64], key: Key) -> Option<u64>
     requires { IsTreePage words.now }
     ensures { result ≡ value_at key (records_of words.now) }
@@ -153,12 +155,14 @@ pub fn get_in<W: PageWords>(page: &mut W, key: Key) -> Option<u64>
 {
     let cursor = seek(page, key);
     if has_key(page, cursor.at, key) {
-        return Some(value_at(page, cursor.at));
+        return Some(value_word(page, cursor.at));
     }
     None
 }
 
-/// Where the last record stands whose key is not above this one. The first record must have such a key.
+/// Where the last record stands whose key is not above this one, among the records in their order: in a node,
+/// the child whose keys it is among (`page_cur_search_with_match` in mode `PAGE_CUR_LE`). The first record must
+/// have such a key.
 pub fn route(words: &[u64], key: Key) -> usize
     requires tree { IsTreePage words.now }
     requires first { IsSomeAnd (slice_get (records_of words.now) 0) (λ r. rank r.0 ≤ rank key) }
@@ -173,7 +177,7 @@ pub fn route(words: &[u64], key: Key) -> usize
     }
 }
 
-/// The last record whose key is not above this one. The first record must have such a key.
+/// The key and the value of the record that `route` finds.
 pub fn route_to(words: &[u64], key: Key) -> (Key, u64)
     requires tree { IsTreePage words.now }
     requires first { IsSomeAnd (slice_get (records_of words.now) 0) (λ r. rank r.0 ≤ rank key) }
@@ -181,7 +185,7 @@ pub fn route_to(words: &[u64], key: Key) -> (Key, u64)
     ensures not_above { rank result.0 ≤ rank key }
 {
     let mut page = words;
-    let place = route_place(&mut page, key);
+    let place = route_word(&mut page, key);
     record_of(words, place)
 }
 
@@ -198,12 +202,12 @@ pub fn child_in<W: PageWords>(page: &mut W, key: Key) -> u64
     ensures can { W.can_read page.new }
     ensures read { W.has_read page.old page.new }
 {
-    let place = route_place(page, key);
-    value_at(page, place)
+    let place = route_word(page, key);
+    value_word(page, place)
 }
 
 // The place of the last record whose key is not above this one.
-fn route_place<W: PageWords>(page: &mut W, key: Key) -> usize
+fn route_word<W: PageWords>(page: &mut W, key: Key) -> usize
     requires can { W.can_read page.old }
     requires tree { IsTreePage (W.words page.old) }
     requires first { IsSomeAnd (slice_get (records_of (W.words page.old)) 0) (λ r. rank r.0 ≤ rank key) }

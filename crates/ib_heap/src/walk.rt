@@ -5,7 +5,7 @@ ghost use Rattle.ib_map.specs.Keys.{rank};
 ghost use Rattle.ib_map.specs.Pairs.{cut};
 ghost use Rattle.ib_heap.specs.Image.{IsTreePage, records_of};
 
-use crate::form::{DIRECTORY, INFIMUM, ONE, count};
+use crate::form::{DIRECTORY, INFIMUM, OWNED_UNIT, count};
 use ib_map::{Key, is_below};
 
 // The place behind another in the chain.
@@ -14,7 +14,7 @@ pub(crate) fn next_word(words: &[u64], place: usize) -> usize
     ensures next { result ≡ slice_index words.now place % 256 }
     ensures low { result < 256 }
 {
-    (words[place] % ONE) as usize
+    (words[place] % OWNED_UNIT) as usize
 }
 
 // How many records the slot of a place owns, 0 where it has none.
@@ -22,7 +22,7 @@ pub(crate) fn owned_word(words: &[u64], place: usize) -> u64
     requires { place < length words.now }
     ensures { result ≡ slice_index words.now place / 256 }
 {
-    words[place] / ONE
+    words[place] / OWNED_UNIT
 }
 
 // The place of the record that owns a slot.
@@ -41,7 +41,8 @@ pub(crate) fn record_of(words: &[u64], place: usize) -> (Key, u64)
     (words[place + 1], words[place + 2])
 }
 
-/// A record, by its place in the order of keys.
+/// The key and the value of a record, by its place in the order of keys (`page_rec_get_nth`). It is found along the
+/// chain.
 pub fn record_at(words: &[u64], place: usize) -> (Key, u64)
     requires tree { IsTreePage words.now }
     requires in_range { place < length (records_of words.now) }
@@ -54,7 +55,8 @@ pub fn record_at(words: &[u64], place: usize) -> (Key, u64)
     record_of(words, at)
 }
 
-/// Copies the records whose keys are neither below `low` nor above `high`, and says how many they are.
+/// Copies the records whose keys are neither below `low` nor above `high` to the front of `out`, in their order,
+/// and says how many they are. `out` must have room for all records of the page.
 pub fn copy_between(words: &[u64], low: Key, high: Key, out: &mut [(Key, u64)]) -> usize
     requires tree { IsTreePage words.now }
     requires room { length (records_of words.now) ≤ length out.old }

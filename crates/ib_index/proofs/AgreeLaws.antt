@@ -4,7 +4,7 @@ use Rattle.std.specs.Prelude.{IsSome, IfSome}
 use Rattle.std.proofs.Common.{◌≡◌, inl, inr, ℕ, true, cond, List, [], ◌∷◌, ◌++◌, Option, Some, None, refl, sym, ap, subst, ◌∙◌, arith, append-nil}
 use Rattle.std.proofs.lemmas.Bool.{cases_eq, eq-eqb, ne_eqb}
 use Rattle.std.proofs.lemmas.Bool.Decides.{nat_tests}
-use Rattle.std.proofs.lemmas.List.Elements.{All-nil, All-cons, All-head, All-tail}
+use Rattle.std.proofs.lemmas.List.Elements.{All-head, All-tail}
 use Rattle.ib_map.specs.Keys.{MapKey, IsKey}
 use Rattle.ib_map.specs.Space.{has_pages}
 use Rattle.ib_map.proofs.KeyLaws.{rank-lt_end}
@@ -35,7 +35,8 @@ use Rattle.ib_cursor.proofs.LogLaws.{tree_of-log}
 use Rattle.ib_cursor.proofs.ReadLaws.{way_same}
 use Rattle.ib_cursor.proofs.ShapeLaws.{single_way}
 use Rattle.ib_cursor.proofs.StepLaws.{image_stays}
-use Rattle.ib_index.specs.Grows.{IsStanding}
+use Rattle.ib_cursor.proofs.EndLaws.{all-read}
+use Rattle.ib_index.specs.Grows.{StandsOnWay}
 use Rattle.ib_index.proofs.LeafStays.{kept-laws}
 
 -- kept logs keep the laws of the shapes of trees
@@ -68,11 +69,7 @@ space-in : (pages : ℕ) (words : ℕ → ℕ) → IsSpacePage pages (image_of w
 space-in pages words space None is = tt
 space-in pages words space (Some image) is = subst (HasBits pages (bits_of pages words)) is (space, bits-in pages words)
 
-pub all-each : (P Q : WorkPage → Type 0) (ws : List WorkPage) → ((w : WorkPage) → P w → Q w) → All P ws → All Q ws
-all-each P Q [] f a = All-nil Q
-all-each P Q (w ∷ ws) f a = All-cons Q w ws (f w (All-head P w ws a)) (all-each P Q ws f (All-tail P w ws a))
-
-module _ (sizes : Sizes) (fits : has_pages sizes.pages ≡ true) (key : MapKey) (is : IsKey key) (path : List ℕ) (p : PassState) (at : IsStanding sizes key path p) where
+module _ (sizes : Sizes) (fits : has_pages sizes.pages ≡ true) (key : MapKey) (is : IsKey key) (path : List ℕ) (p : PassState) (at : StandsOnWay sizes key path p) where
   abbrev start : ℕ → ℕ
   start = by_place opening sizes.pages
 
@@ -104,10 +101,10 @@ module _ (sizes : Sizes) (fits : has_pages sizes.pages ≡ true) (key : MapKey) 
         ∙ sym h.read.unchanged)
 
     pub images-now : All (λ w. image_of (memory_after start (seen ++ others)) w.page ≡ w.changed) p.work
-    images-now = all-each (IsHeldPage start p) (λ w. image_of (memory_after start (seen ++ others)) w.page ≡ w.changed) p.work image-now at.read
+    images-now = all-read (IsHeldPage start p) (λ w. image_of (memory_after start (seen ++ others)) w.page ≡ w.changed) p.work image-now at.read
 
     pub images-before : All (λ w. image_of (memory_after start (seen ++ others)) w.page ≡ w.before) p.work
-    images-before = all-each (IsHeldPage start p) (λ w. image_of (memory_after start (seen ++ others)) w.page ≡ w.before) p.work (λ w h. image-now w h ∙ h.read.unchanged) at.read
+    images-before = all-read (IsHeldPage start p) (λ w. image_of (memory_after start (seen ++ others)) w.page ≡ w.before) p.work (λ w h. image-now w h ∙ h.read.unchanged) at.read
 
     pub agrees : Agrees sizes.pages 1 1 key path p.work m (bits_of sizes.pages (memory_after start (seen ++ others)))
     agrees =

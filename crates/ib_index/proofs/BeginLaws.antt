@@ -25,8 +25,9 @@ use Rattle.ib_cursor.proofs.OnceLaws.{AreBeside}
 use Rattle.ib_cursor.proofs.TakeLaws.{beside_few}
 use Rattle.ib_cursor.proofs.WayLaws.{bit_on-way, child_on-way, page_on-way, root_on-way}
 use Rattle.ib_index.specs.Grows.{HasComeToWay}
-use Rattle.ib_index.proofs.ClaimedLaws.{IsPageOfTree, agreed, among-beside, among-both, beside-own, growing, held-kinds, held-same, held-there, held-zero, last-held, last-of, or-right, way-long, way-low, way_bits}
+use Rattle.ib_index.proofs.ClaimedLaws.{IsPageOfTree, agreed, among-beside, among-both, beside-own, growing, held-kinds, held-same, held-there, held-zero, last-held, last-of, way-long, way-low, way_bits}
 use Rattle.ib_index.proofs.AgreeLaws.{kept-shapes}
+use Rattle.ib_mtr.proofs.Lists.{or_true}
 
 -- lists of pages
 or-path : (a x b y : Bool) → (a || (b || false)) ≡ true → (a || (x || (b || y))) ≡ true
@@ -122,7 +123,7 @@ module _ (sizes : Sizes) (fits : has_pages sizes.pages ≡ true) (key : MapKey) 
   held-kind n among = elim (or-cases (is_among w.front n) (is_among (beside (m w.leaf).prev) n) (w.leaf == n) (is_among (beside (m w.leaf).next) n) (sym (held-is n) ∙ among)) [
     | inl front ↦ way-kind n (ap (λ ns. is_among ns n) w.ends ∙ (among-both w.front (w.leaf ∷ []) n ∙ ap (λ b. b || ((w.leaf == n) || false)) front))
     | inr (inl prev) ↦ let b = among-beside (m w.leaf).prev n prev in subst (IsPageOfTree m) b.0 ((beside-is.left b.1).3, b.1)
-    | inr (inr (inl leaf)) ↦ way-kind n (ap (λ ns. is_among ns n) w.ends ∙ (among-both w.front (w.leaf ∷ []) n ∙ or-right (is_among w.front n) ((w.leaf == n) || false) (ap (λ b. b || false) leaf)))
+    | inr (inr (inl leaf)) ↦ way-kind n (ap (λ ns. is_among ns n) w.ends ∙ (among-both w.front (w.leaf ∷ []) n ∙ or_true (is_among w.front n) ((w.leaf == n) || false) (ap (λ b. b || false) leaf)))
     | inr (inr (inr next)) ↦ let b = among-beside (m w.leaf).next n next in subst (IsPageOfTree m) b.0 ((beside-is.right b.1).3, b.1)
   ]
 
@@ -148,6 +149,7 @@ module _ (sizes : Sizes) (fits : has_pages sizes.pages ≡ true) (key : MapKey) 
     once = once;
     went = c.went;
     looked = c.looked;
+    claims = c.sx;
     grants =
         let a = c.s in let b = c.sx in let d = c.x in let g = way-long sizes fits key is path held p q c claims in
         let j = way-low sizes fits key is path held p q c claims in let f = held-few in omega arith;

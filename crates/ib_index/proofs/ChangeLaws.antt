@@ -1,6 +1,6 @@
 -- A change that was tried on the key's leaf alone, and then made with the tree: both are one call.
 use Rattle.std.specs.List.{AllByRecursion}
-use Rattle.std.proofs.Common.{◌≡◌, ℕ, ◌+◌, ◌<◌, ◌≤◌, List, [], ◌∷◌, ◌++◌, length, take, refl, sym, ap, subst, ◌∙◌, arith, length-append, append_assoc, take_at, inl, inr}
+use Rattle.std.proofs.Common.{◌≡◌, ℕ, ◌+◌, ◌<◌, ◌≤◌, Bool, true, false, List, [], ◌∷◌, ◌++◌, length, take, refl, sym, ap, subst, ◌∙◌, arith, length-append, append_assoc, take_at, inl, inr}
 use Rattle.ib_map.specs.Keys.{MapKey}
 use Rattle.ib_map.specs.Map.{is_made}
 use Rattle.ib_map.specs.History.{History}
@@ -15,13 +15,14 @@ use Rattle.ib_walk.specs.Pages.{PageState}
 use Rattle.ib_tree.specs.Fits.{FitsLog, TreeSpace}
 use Rattle.ib_rule.specs.Pass.{PassState}
 use Rattle.ib_rule.specs.Views.{total}
+use Rattle.ib_cursor.specs.Descent.{one_if}
 use Rattle.ib_cursor.specs.Going.{WentOn}
 use Rattle.ib_cursor.specs.Spaces.{space_of}
 use Rattle.ib_cursor.proofs.StandLaws.{seen_longer}
 use Rattle.ib_index.specs.Calls.{HasCalled, MakesOwn}
 use Rattle.ib_index.specs.Changes.{TakesFewUnless}
 use Rattle.ib_index.specs.Grows.{TakesAtMost}
-use Rattle.ib_index.specs.Leaf.{AddsX, HasLeaf, NeedsTree, TakesFew}
+use Rattle.ib_index.specs.Leaf.{AddsFewX, HasLeaf, NeedsTree, TakesFew, TakesFor, reaches_log}
 use Rattle.ib_index.proofs.CallLaws.{bounds-wider}
 
 -- whether an answer to this call fits has nothing to do with what its session had seen
@@ -47,6 +48,10 @@ bounds-lower (n ∷ ns) low floor most le e = ((let h = e.0.0 in omega arith, e.
 pub bounds-both : (ms ns : List ℕ) (low high : ℕ) → AllByRecursion (λ n. (low ≤ n) × (n ≤ high)) ms → AllByRecursion (λ n. (low ≤ n) × (n ≤ high)) ns → AllByRecursion (λ n. (low ≤ n) × (n ≤ high)) (ms ++ ns)
 bounds-both [] ns low high a b = b
 bounds-both (m ∷ ms) ns low high a b = (a.0, bounds-both ms ns low high a.1 b)
+
+one-most : (b : Bool) → one_if b ≤ 1
+one-most true = omega arith
+one-most false = omega arith
 
 module _ (sizes : Sizes) (lawful : List Entry → Type 0) (opens : ℕ → ℕ) (why : ℕ → PageState → Type 0) (key : MapKey) (p q r : PassState) where
   pub called-again : (call : Call) (answer : Record) → IsFreeOfReach call → NeedsTree sizes why key p q → HasCalled sizes lawful opens call answer q r → HasCalled sizes lawful opens call answer p r
@@ -84,25 +89,26 @@ module _ (sizes : Sizes) (lawful : List Entry → Type 0) (opens : ℕ → ℕ) 
           }
 
   -- the leaf alone was enough
-  pub few-alone : TakesFew sizes 2 p q → TakesFewUnless sizes why key p q
-  few-alone few = record { few = inl few; all = by-x few.x }
+  pub few-alone : (reply : Reply) → TakesFor sizes reply p q → TakesFewUnless sizes why key reply p q
+  few-alone reply few = record { few = inl few; claims = let sx = few.sx in omega arith; all = by-x (reaches_log reply) few.x }
     where
-      by-x : AddsX sizes 2 p q → total q.view.grants ≤ total p.view.grants + 128
-      by-x (inl x) = let s = few.s in let sx = few.sx in omega arith
-      by-x (inr x) = let s = few.s in let sx = few.sx in let h = x.0 in omega arith
+      by-x : (b : Bool) → AddsFewX sizes (1 + one_if b) p q → total q.view.grants ≤ total p.view.grants + 128
+      by-x b (inl x) = let s = few.s in let sx = few.sx in let one = one-most b in omega arith
+      by-x b (inr x) = let s = few.s in let sx = few.sx in let one = one-most b in let h = x.0 in omega arith
 
   -- or the key's leaf was found to need more
-  pub few-again : NeedsTree sizes why key p q → TakesFew sizes 2 p q → TakesAtMost 64 q r → (more : List Entry) → r.view.memory.seen ≡ q.view.memory.seen ++ more → TakesFewUnless sizes why key p r
-  few-again needs few most more longer = record {
+  pub few-again : (reply : Reply) → NeedsTree sizes why key p q → TakesFew sizes 1 p q → TakesAtMost 64 q r → (more : List Entry) → r.view.memory.seen ≡ q.view.memory.seen ++ more → TakesFewUnless sizes why key reply p r
+  few-again reply needs few most more longer = record {
     few = inr (record {
       place = length q.view.memory.seen;
       from = seen_longer p q needs.went;
       to = let a = ap length longer in let b = length-append q.view.memory.seen more in omega arith;
       was = subst (HasLeaf sizes why key) (sym (ap (take (length q.view.memory.seen)) longer ∙ take_at q.view.memory.seen more (length q.view.memory.seen) refl)) needs.needs;
     });
+    claims = let sx = few.sx in let m = most.claims in omega arith;
     all = by-x few.x;
   }
     where
-      by-x : AddsX sizes 2 p q → total r.view.grants ≤ total p.view.grants + 128
+      by-x : AddsFewX sizes 1 p q → total r.view.grants ≤ total p.view.grants + 128
       by-x (inl x) = let s = few.s in let sx = few.sx in let m = most.all in omega arith
       by-x (inr x) = let s = few.s in let sx = few.sx in let m = most.all in let h = x.0 in omega arith

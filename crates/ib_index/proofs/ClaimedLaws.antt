@@ -35,16 +35,12 @@ use Rattle.ib_cursor.specs.Takings.{IsHeldPage, is_loaded}
 use Rattle.ib_cursor.specs.Way.{IsOnWay}
 use Rattle.ib_cursor.proofs.EndLaws.{loaded_some}
 use Rattle.ib_cursor.proofs.LogLaws.{bit_inside}
-use Rattle.ib_cursor.proofs.PageLaws.{tree-value}
+use Rattle.ib_plans.proofs.EditLaws.{state-tree}
 use Rattle.ib_cursor.proofs.TakeLaws.{all-both}
 use Rattle.ib_cursor.proofs.WayLaws.{bit_on-way, child_on-way, page_on-way, root_on-way}
-use Rattle.ib_index.specs.Grows.{IsGrowing, IsStanding, held_grant, pages_held, tree_pages}
+use Rattle.ib_index.specs.Grows.{IsGrowing, StandsOnWay, held_grant, pages_held, tree_pages}
 use Rattle.ib_index.proofs.AgreeLaws.{agrees-now}
-
--- lists of pages
-pub or-right : (a b : Bool) → b ≡ true → (a || b) ≡ true
-or-right true b h = refl
-or-right false b h = h
+use Rattle.ib_mtr.proofs.Lists.{or_true}
 
 pub bools-same : (a b : Bool) → ((a ≡ true) ↔ (b ≡ true)) → a ≡ b
 bools-same true b h = sym (h.0 refl)
@@ -80,7 +76,7 @@ loaded-each : (P : ℕ → Type 0) (ws : List WorkPage) → ((n : ℕ) → is_lo
 loaded-each P [] f = All-nil (λ w. P w.page)
 loaded-each P (w ∷ ws) f =
     All-cons (λ w. P w.page) w ws (f w.page (ap (λ b. b || is_loaded w.page ws) (eq-eqb w.page w.page refl)))
-    (loaded-each P ws (λ n there. f n (or-right (w.page == n) (is_loaded n ws) there)))
+    (loaded-each P ws (λ n there. f n (or_true (w.page == n) (is_loaded n ws) there)))
 
 pub last-of : (front : List ℕ) (leaf : ℕ) → last_of (front ++ leaf ∷ []) ≡ leaf
 last-of [] leaf = refl
@@ -96,7 +92,7 @@ last-got (x ∷ y ∷ ys) page got =
 
 pub tree-some : (o : Option (List ℕ)) → IsSome o → (state_or_free o).kind ≡ Tree → IsSomeAnd o IsTreePage
 tree-some None there kind = cc
-tree-some (Some image) there kind = tree-value (page_of image) kind
+tree-some (Some image) there kind = state-tree (page_of image) kind
 
 grants-same : (held : List ℕ) → map (λ page. page_grant page X) held ≡ map held_grant (tree_pages held)
 grants-same [] = refl
@@ -127,7 +123,7 @@ module _ (sizes : Sizes) (fits : has_pages sizes.pages ≡ true) (key : MapKey) 
   loaded-is : (n : ℕ) → is_loaded n q.work ≡ is_among held n
   loaded-is n = bools-same (is_loaded n q.work) (is_among held n) ((λ l. (c.there n).0 ((loaded_some n q.work).1 l)), (λ a. (loaded_some n q.work).0 ((c.there n).1 a)))
 
-  pub standing : IsStanding sizes key path q
+  pub standing : StandsOnWay sizes key path q
   standing = record {
     claimed = claims;
     read = all-both (IsAsRead start q.view.memory.seen) (λ w. is_watched (w.page + 2) q.view.memory.since ≡ true) (IsHeldPage start q) q.work (λ w a b. record { read = a; watched = b }) c.read
@@ -166,7 +162,7 @@ module _ (sizes : Sizes) (fits : has_pages sizes.pages ≡ true) (key : MapKey) 
       let child = child_for key 0 (m n).records in
       All-cons (λ k. IsSomeAnd (changed_of k q.work) IsTreePage) n (way_down m key level child)
       (tree-at n (suc level) o (there n (ap (λ b. b || is_among (way_down m key level child) n) (eq-eqb n n refl))))
-      (trees-down level child (child_on-way m 1 key n level o) (λ k among. there k (or-right (n == k) (is_among (way_down m key level child) k) among)))
+      (trees-down level child (child_on-way m 1 key n level o) (λ k among. there k (or_true (n == k) (is_among (way_down m key level child) k) among)))
 
   module _ (ways : (n : ℕ) → is_among path n ≡ true → is_among held n ≡ true) (each : (n : ℕ) → is_among held n ≡ true → IsPageOfTree m n) where
     -- what is held is there, as it is in the tree
@@ -192,7 +188,7 @@ module _ (sizes : Sizes) (fits : has_pages sizes.pages ≡ true) (key : MapKey) 
     last-among : (ns : List ℕ) → 0 < length ns → is_among ns (last_of ns) ≡ true
     last-among [] some = absurd (omega arith)
     last-among (x ∷ []) some = ap (λ b. b || false) (eq-eqb x x refl)
-    last-among (x ∷ y ∷ ys) some = or-right (x == last_of (y ∷ ys)) (is_among (y ∷ ys) (last_of (y ∷ ys))) (last-among (y ∷ ys) (omega arith))
+    last-among (x ∷ y ∷ ys) some = or_true (x == last_of (y ∷ ys)) (is_among (y ∷ ys) (last_of (y ∷ ys))) (last-among (y ∷ ys) (omega arith))
 
     pub last-held : is_among held (last_of path) ≡ true
     last-held = ways (last_of path) (last-among path (let l = way-long in omega arith))

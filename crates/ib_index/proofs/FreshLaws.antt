@@ -158,6 +158,7 @@ module _ (sizes : Sizes) (key : MapKey) (path held fresh items : List ℕ) (at :
       subst (λ ns. HasTakenNew sizes key path (space_pages held) ns p r) (sym one-more) (record {
         growing = subst (λ hs. IsGrowing sizes key path hs r) (append_assoc (space_pages held) (new_pages (take at fresh)) ((get_or items at 0, PageNew) ∷ []) ∙ ap (λ hs. space_pages held ++ hs) (sym (map-append (λ page. (page, PageNew)) (take at fresh) (get_or items at 0 ∷ [])))) g.growing;
         went = went_both p q r taken.went g.went;
+        claims = ap (λ (v : Grants). v.sx) g.grants ∙ taken.claims;
         grants = let a = taken.grants in let s = ap (λ (v : Grants). v.s) g.grants in let x = ap (λ (v : Grants). v.x) g.grants in let y = ap (λ (v : Grants). v.sx) g.grants in let l = length-append (take at fresh) (get_or items at 0 ∷ []) in omega arith;
         there = all-more (IsThere r.work) (take at fresh) (get_or items at 0) (all-later (take at fresh) taken.there later) g.there;
         same = λ n there. g.same n (subst IsSome (sym (taken.same n there)) there) ∙ taken.same n there;
@@ -178,6 +179,7 @@ new-none sizes key path held fresh p g =
     subst (λ ns. HasTakenNew sizes key path (space_pages held) ns p p) (sym (take_at [] fresh 0 refl)) (record {
       growing = subst (λ hs. IsGrowing sizes key path hs p) (sym (append-nil (space_pages held))) g;
       went = went_none p;
+      claims = refl;
       grants = omega arith;
       there = All-nil (IsThere p.work);
       same = λ n there. refl;

@@ -18,7 +18,7 @@ use Rattle.ib_page.specs.Image.{IsTreePage}
 use Rattle.ib_page.specs.Work.{WorkPage, changed_of, with_read}
 use Rattle.ib_logrec.specs.declared.entry.Entry.{Entry}
 use Rattle.ib_logrec.specs.Log.{by_place}
-use Rattle.ib_walk.proofs.ImageLaws.{page_at-word}
+use Rattle.ib_map.proofs.WriteLaws.{page_at-word}
 use Rattle.ib_plans.specs.Agreement.{IsThere, last_of, memory_in, reads_of, state_or_free}
 use Rattle.ib_plans.proofs.EditLaws.{IsSome-and}
 use Rattle.ib_tree.specs.PageLists.{is_among}
@@ -29,6 +29,7 @@ use Rattle.ib_rule.specs.Pass.{PassState}
 use Rattle.ib_rule.specs.Views.{is_watched}
 use Rattle.ib_rule.proofs.Watching.{word_stays}
 use Rattle.ib_rule.specs.Space.{SpaceState}
+use Rattle.ib_rule.proofs.Lists.{or_denies}
 use Rattle.ib_frames.specs.Reads.{IsLoadedImage}
 use Rattle.ib_mtr.specs.Loads.{IsPageAfter}
 use Rattle.ib_mtr.specs.Mtr.{IsMtr, with_work}
@@ -42,7 +43,7 @@ use Rattle.ib_cursor.proofs.ClaimLaws.{keeps_after}
 use Rattle.ib_cursor.proofs.GrantLaws.{can_wish, grants_more}
 use Rattle.ib_cursor.proofs.ReadLaws.{keeps_path}
 use Rattle.ib_cursor.proofs.StandLaws.{beside_taken, went_beside, went_both}
-use Rattle.ib_cursor.proofs.TakeLaws.{absent_loaded, all-both, among-more, loaded-more, long-more, not-first}
+use Rattle.ib_cursor.proofs.TakeLaws.{absent_loaded, all-both, among-more, loaded-more, long-more}
 use Rattle.ib_index.specs.Grows.{HasGrown, IsGrowing, held_grant, pages_held, tree_pages}
 use Rattle.ib_index.proofs.AgreeLaws.{kept-shapes}
 use Rattle.ib_index.proofs.WorkLaws.{reads-each}
@@ -78,7 +79,7 @@ changed-kept n page image ps none there = elim (cases_eq page n) [
 away-held : (held : List (ℕ × Level)) (page : ℕ) → is_among (pages_held held) page ≡ false → IsAway (page + 2) (map held_grant held)
 away-held [] page none = tt
 away-held (h ∷ hs) page none =
-    let n = not-first (h.0 == page) (is_among (pages_held hs) page) none in
+    let n = or_denies (h.0 == page) (is_among (pages_held hs) page) none in
     ((λ e. let y : (h.0 == page) ≡ true = eq-eqb h.0 page (omega (arith, e)) in let z : true ≡ false = sym y ∙ n.0 in cc), away-held hs page n.1)
 
 -- the pages of the tree, as they are held

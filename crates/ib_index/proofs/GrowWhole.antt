@@ -16,7 +16,7 @@ use Rattle.ib_kept.specs.Kept.{IsKeptLog}
 use Rattle.ib_tree.specs.TreeLog.{opening}
 use Rattle.ib_logrec.specs.Log.{by_place, memory_after}
 use Rattle.ib_map.specs.declared.call.Change.{Change}
-use Rattle.ib_index.specs.Grows.{HasComeToWay, IsReady}
+use Rattle.ib_index.specs.Grows.{HasComeToWay, HoldsAllPages}
 use Rattle.ib_index.specs.Leaf.{IsSeated}
 use Rattle.ib_index.proofs.AgreeLaws.{agrees-now}
 use Rattle.ib_split.specs.Inserts.{CanInsert}
@@ -35,6 +35,7 @@ way-started sizes key path p q h = record {
   few = h.few;
   went = record { table = h.went.table; sizes = h.went.sizes; number = h.went.number; own = h.went.own; more = h.went.more; seen = h.went.seen; added = h.went.added; ends = h.went.ends; bounds = h.went.bounds };
   looked = h.looked;
+  claims = h.claims;
   grants = h.grants;
 }
 
@@ -57,8 +58,15 @@ pub ended-grants : (sizes : Sizes) (t : PassState) (work : List WorkPage) (chang
 ended-grants sizes t work change (Ok place) r committed refused = let a = ap (λ (v : Grants). v.x) committed.ended.grants in let b = ap (λ (v : Grants). v.s) committed.ended.grants in let d = ap (λ (v : Grants). v.sx) committed.ended.grants in omega arith
 ended-grants sizes t work change (Err full) r committed refused = let a = ap (λ (v : Grants). v.x) refused.ended.grants in let b = ap (λ (v : Grants). v.s) refused.ended.grants in let d = ap (λ (v : Grants). v.sx) refused.ended.grants in omega arith
 
+-- .. none of which is of SX
+pub ended-claims : (sizes : Sizes) (t : PassState) (work : List WorkPage) (change : Change) (o : Result ℕ LogFull) (r : PassState)
+    → IfOk o (λ place. HasCommitted sizes (IsKeptLog sizes.pages) (by_place opening sizes.pages) change (with_work work t) place r)
+    → IfErr o (λ full. IsFull sizes (IsKeptLog sizes.pages) (with_work work t) full r) → r.view.grants.sx ≡ t.view.grants.sx
+ended-claims sizes t work change (Ok place) r committed refused = ap (λ (v : Grants). v.sx) committed.ended.grants
+ended-claims sizes t work change (Err full) r committed refused = ap (λ (v : Grants). v.sx) refused.ended.grants
+
 -- what is held suffices for the plan, where the clocks may tick
-pub can-insert : (sizes : Sizes) (key : MapKey) (is : IsKey key) (path fresh : List ℕ) (p q t : PassState) → IsSeated sizes t → HasComeToWay sizes key path p q → IsReady sizes key path fresh q t → MayTick t.work
+pub can-insert : (sizes : Sizes) (key : MapKey) (is : IsKey key) (path fresh : List ℕ) (p q t : PassState) → IsSeated sizes t → HasComeToWay sizes key path p q → HoldsAllPages sizes key path fresh q t → MayTick t.work
     → CanInsert path fresh key t.work
 can-insert sizes key is path fresh p q t seated come ready clocks =
     let a = agrees-now sizes seated.fits key is path t ready.growing.at in

@@ -1,5 +1,5 @@
 -- A call that came to the key's leaf and ended there was answered.
-use Rattle.std.proofs.Common.{◌≡◌, ℕ, ◌+◌, ◌<◌, ◌≤◌, true, false, cond, List, [], ◌∷◌, ◌++◌, length, Option, Some, None, take, refl, sym, ap, subst, ◌∙◌, arith, length-append, append_assoc, inl, inr}
+use Rattle.std.proofs.Common.{◌≡◌, ℕ, ◌+◌, ◌<◌, ◌≤◌, Bool, true, false, cond, List, [], ◌∷◌, ◌++◌, length, Option, Some, None, take, refl, sym, ap, subst, ◌∙◌, arith, length-append, append_assoc, inl, inr}
 use Rattle.std.specs.Prelude.{IfErr, IfOk, IsTrue, is_some, slice_get, Result, Ok, Err}
 use Rattle.std.proofs.Math.Seq.{take-length}
 use Rattle.std.proofs.lemmas.List.{take_at}
@@ -41,20 +41,20 @@ use Rattle.ib_rule.specs.Space.{SpaceState}
 use Rattle.ib_rule.specs.Stores.{IsLook}
 use Rattle.ib_mtr.specs.Commits.{HasCommitted, HasEnded, HasRead, IsFull, commit_entry, commit_grants}
 use Rattle.ib_mtr.specs.Mtr.{started, with_work}
-use Rattle.ib_cursor.specs.Descent.{HasDescended}
+use Rattle.ib_cursor.specs.Descent.{HasDescended, one_if}
 use Rattle.ib_cursor.specs.Going.{IsKnown, WentOn}
 use Rattle.ib_cursor.specs.Spaces.{space_of}
 use Rattle.ib_cursor.proofs.DownLaws.{raised_more}
 use Rattle.ib_cursor.proofs.StandLaws.{seen_longer}
 use Rattle.ib_index.specs.Calls.{HasCalled}
-use Rattle.ib_index.specs.Leaf.{HasCome, HasLeaf, IsSeated, NeededLeaf, NeedsTree, TakesFew, leaf_page, the_leaf}
+use Rattle.ib_index.specs.Leaf.{HasComeToLeaf, HasLeaf, IsSeated, NeededLeaf, NeedsTree, TakesFew, TakesFor, leaf_page, reaches_log, the_leaf}
 use Rattle.ib_index.proofs.CallLaws.{IsEnd, bounds-push, bounds-wider, called-from, read-end, push-end, read-known}
 use Rattle.ib_index.proofs.LeafStays.{leaf-stays, page-stays, value-stays}
 
 -- the way ends at the leaf
 pub come : (sizes : Sizes) (key : MapKey) (path : List ℕ) (leaf : ℕ) (p q : PassState) → (d : HasDescended sizes (IsKeptLog sizes.pages) (by_place opening sizes.pages) 1 key true path p q)
-    → leaf ≡ d.come.leaf → IsSeated sizes q → HasCome sizes key leaf p q
-come sizes key path leaf p q d is seated = subst (λ n. HasCome sizes key n p q) (sym is) (record {
+    → leaf ≡ d.come.leaf → IsSeated sizes q → HasComeToLeaf sizes key leaf p q
+come sizes key path leaf p q d is seated = subst (λ n. HasComeToLeaf sizes key n p q) (sym is) (record {
   went = d.come.went;
   looked = d.come.looked;
   at = record { is_leaf = d.come.is_leaf; grants = d.come.grants; watched = d.come.watched; image = d.image; size = d.size; is_page = d.is_page; work = d.work; known = d.come.known };
@@ -73,7 +73,7 @@ come sizes key path leaf p q d is seated = subst (λ n. HasCome sizes key n p q)
 went-started : (p q : PassState) (w : WentOn (started p) q) → WentOn p q
 went-started p q w = record { table = w.table; sizes = w.sizes; number = w.number; own = w.own; more = w.more; seen = w.seen; added = w.added; ends = w.ends; bounds = w.bounds }
 
-pub come-started : (sizes : Sizes) (key : MapKey) (leaf : ℕ) (p q : PassState) → HasCome sizes key leaf (started p) q → HasCome sizes key leaf p q
+pub come-started : (sizes : Sizes) (key : MapKey) (leaf : ℕ) (p q : PassState) → HasComeToLeaf sizes key leaf (started p) q → HasComeToLeaf sizes key leaf p q
 unfolding went-started
 come-started sizes key leaf p q h = record {
   went = went-started p q h.went;
@@ -95,16 +95,6 @@ takes-more sizes p q r more few seen sx s x takes = record {
   ];
 }
 
-wider : (sizes : Sizes) (p r : PassState) → TakesFew sizes 1 p r → TakesFew sizes 2 p r
-wider sizes p r takes = record {
-  sx = takes.sx;
-  s = takes.s;
-  x = elim takes.x [
-    | inl one ↦ inl (let e : r.view.grants.x ≤ p.view.grants.x + 1 = one in omega arith)
-    | inr two ↦ inr (let e : r.view.grants.x ≤ p.view.grants.x + 1 + 1 = two.0 in omega arith, two.1)
-  ];
-}
-
 -- what each end leaves of the pass
 pub record IsIdle (space : SpaceState) (r : PassState) : Type 0 where
   pub own : IsOf space r
@@ -118,7 +108,7 @@ ended-idle space q r taken seen own ends table sizes ended = record {
   scratch = ap (λ (s : PassState). s.has_scratch) ended.pass;
 }
 
-module _ (space : SpaceState) (key : MapKey) (is : IsKey key) (leaf : ℕ) (p q : PassState) (own : IsOf space p) (h : HasCome space.sizes key leaf p q) where
+module _ (space : SpaceState) (key : MapKey) (is : IsKey key) (leaf : ℕ) (p q : PassState) (own : IsOf space p) (h : HasComeToLeaf space.sizes key leaf p q) where
   abbrev sizes : Sizes
   sizes = space.sizes
 
@@ -157,10 +147,10 @@ module _ (space : SpaceState) (key : MapKey) (is : IsKey key) (leaf : ℕ) (p q 
     pub idle-read : IsIdle space r
     idle-read = ended-idle space q r q.view.grants read.log q.view.memory.own (q.view.memory.ends ++ place ∷ []) table-q sizes-q read.ended
 
-    pub takes-read : TakesFew sizes 2 p r
+    pub takes-read : TakesFew sizes 1 p r
     takes-read =
         let sx = ap (λ (g : Grants). g.sx) read.ended.grants in let s = ap (λ (g : Grants). g.s) read.ended.grants in let x = ap (λ (g : Grants). g.x) read.ended.grants in
-        wider sizes p r (takes-more sizes p q r read.looked.others 0 seen-r sx s (omega arith) h.takes)
+        takes-more sizes p q r read.looked.others 0 seen-r sx s (omega arith) h.takes
 
     -- the change needs more than the leaf
     pub needs-read : (why : ℕ → PageState → Type 0) → why leaf (leaf_page sizes key q) → NeedsTree sizes why key p r
@@ -457,8 +447,12 @@ module _ (space : SpaceState) (key : MapKey) (is : IsKey key) (leaf : ℕ) (p q 
   answered-delete (Err fault) work value answer r there made full committed refused =
       subst (λ a. HasCalled sizes (IsKeptLog sizes.pages) (by_place opening sizes.pages) (DeleteCall key) a p r) (sym full) (full-delete work fault r refused value there)
 
-  pub takes-ended : (o : Result ℕ LogFull) (work : List WorkPage) (change : Change) (r : PassState)
+  -- the log was reached, by the answer too
+  pub takes-ended : (o : Result ℕ LogFull) (work : List WorkPage) (change : Change) (answer : Record) (call : Call) (made : Reply) (r : PassState) → reaches_log made ≡ true
+      → IfOk o (λ place. answer ≡ record { call = call; reply = made; place = place })
+      → IfErr o (λ full. answer ≡ record { call = call; reply = LogFullReply full.used full.cap; place = length r.view.memory.seen })
       → IfOk o (λ place. HasCommitted sizes (IsKeptLog sizes.pages) (by_place opening sizes.pages) change (with_work work q) place r)
-      → IfErr o (λ full. IsFull sizes (IsKeptLog sizes.pages) (with_work work q) full r) → TakesFew sizes 2 p r
-  takes-ended (Ok place) work change r committed refused = takes-committed work change place r committed
-  takes-ended (Err fault) work change r committed refused = takes-full work fault r refused
+      → IfErr o (λ full. IsFull sizes (IsKeptLog sizes.pages) (with_work work q) full r) → TakesFor sizes answer.reply p r
+  takes-ended (Ok place) work change answer call made r reaches is full committed refused =
+      subst (λ (a : Record). TakesFor sizes a.reply p r) (sym is) (subst (λ (b : Bool). TakesFew sizes (1 + one_if b) p r) (sym reaches) (takes-committed work change place r committed))
+  takes-ended (Err fault) work change answer call made r reaches is full committed refused = subst (λ (a : Record). TakesFor sizes a.reply p r) (sym full) (takes-full work fault r refused)

@@ -23,7 +23,7 @@ use Rattle.ib_page.specs.Form.{page_of}
 use Rattle.ib_page.specs.Image.{records_of}
 use Rattle.ib_page.specs.Work.{WorkPage, with_changed}
 use Rattle.ib_page.specs.Writes.{writes_of, writes_below}
-use Rattle.ib_page.proofs.BufferLaws.{AreOn, writes_on}
+use Rattle.ib_page.proofs.BufferLaws.{AreOn, AreOn-append, writes_on}
 use Rattle.ib_page.proofs.StoreLaws.{untouched}
 use Rattle.ib_layout.specs.Geometry.{Sizes}
 use Rattle.ib_logrec.specs.declared.entry.Entry.{Entry}
@@ -81,12 +81,8 @@ spans-none : (page : ℕ) (ws : List Write) → AreOn page ws → spans_pages ws
 spans-none page [] on = refl
 spans-none page (w ∷ ws) on = on-one page ws on.1 w on.0
 
-on-append : (page : ℕ) (xs ys : List Write) → AreOn page xs → AreOn page ys → AreOn page (xs ++ ys)
-on-append page [] ys a b = b
-on-append page (x ∷ xs) ys a b = (a.0, on-append page xs ys a.1 b)
-
 one-spans : (w : WorkPage) → spans_pages (writes_of (w ∷ [])) ≡ false
-one-spans w = spans-none w.page (writes_of (w ∷ [])) (on-append w.page (writes_below w.page w.before w.changed PAGE_WORDS) [] (writes_on w.page w.before w.changed PAGE_WORDS (omega arith)) tt)
+one-spans w = spans-none w.page (writes_of (w ∷ [])) (AreOn-append w.page (writes_below w.page w.before w.changed PAGE_WORDS) [] (writes_on w.page w.before w.changed PAGE_WORDS (omega arith)) tt)
 
 one-alone : (w : WorkPage) (page : ℕ) → touches page (writes_of (w ∷ [])) ≡ true → w.page ≡ page
 one-alone w page is = elim (cases_eq w.page page) [

@@ -1,6 +1,6 @@
 mod CallLaws
 mod ChangeLaws
-mod LookupLaws
+pub mod LookupLaws
 mod LeafStays
 mod LeafCommits
 mod LeafCalls

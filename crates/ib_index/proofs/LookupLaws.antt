@@ -41,7 +41,7 @@ use Rattle.ib_index.specs.Calls.{HasCalled}
 use Rattle.ib_index.proofs.CallLaws.{called-from, read-end, read-known}
 use Rattle.ib_index.specs.Lookups.{HasLookedUp}
 
-lookup-made : (v : Option ℕ) → is_made (lookup_answer v) ≡ false
+pub lookup-made : (v : Option ℕ) → is_made (lookup_answer v) ≡ false
 lookup-made (Some value) = refl
 lookup-made None = refl
 

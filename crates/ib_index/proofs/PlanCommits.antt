@@ -42,9 +42,10 @@ use Rattle.ib_kept.specs.Kept.{IsKeptLog, IsPlannedEntry, IsPlannedStep, MayPlan
 use Rattle.ib_kept.specs.LeafChange.{kept_pages}
 use Rattle.ib_kept.proofs.LeadLaws.{planned-leads}
 use Rattle.ib_kept.proofs.LeafPlanLaws.{leaf-page}
-use Rattle.ib_kept.proofs.PageChangeLaws.{bits_of-space}
+use Rattle.ib_kept.proofs.PageChangeLaws.{bits_of-space, some-writes}
 use Rattle.ib_kept.proofs.PushLaws.{IsKeptLog-push, content-before, lawful-before}
 use Rattle.ib_index.proofs.WorkLaws.{IsAsBefore, image-after, image-still, none-same, still-after, work-count, work-differ}
+use Rattle.ib_split.proofs.Planning.{if-some}
 
 -- the next entry of its session behind the log: it makes the change, and writes the words of the work set that differ
 pub record IsNextEntry (log : List Entry) (change : Change) (work : List WorkPage) (e : Entry) : Type 0 where
@@ -76,14 +77,6 @@ formed : (v : PageValue) → ((state_of v).kind ≡ Malformed → ⊥) → Holds
 formed (TreeValue p) kind = tt
 formed (FreeValue clock) kind = tt
 formed MalformedValue kind = absurd (kind refl)
-
-some-of : (P : List ℕ → Type 0) (o : Option (List ℕ)) (image : List ℕ) → IfSome o P → o ≡ Some image → P image
-some-of P o image holds is = let Q : Option (List ℕ) → Type 0 = λ q. IfSome q P in subst Q is holds
-
--- writes that touch a page are some
-some-writes : (page : ℕ) (ws : List Write) → (touches page ws ≡ false → ⊥) → 1 ≤ length ws
-some-writes page [] touched = absurd (touched refl)
-some-writes page (w ∷ ws) touched = omega arith
 
 module _ (pages : ℕ) (fits : has_pages pages ≡ true) (log : List Entry) (kept : IsKeptLog pages log) (change : Change) (is : IsKey (key_of change)) (old new : List WorkPage)
     (has : IsPlannedChange pages change (kept_pages pages log) (bits_of pages (memory_after (by_place opening pages) log)) old new)
@@ -153,9 +146,9 @@ module _ (pages : ℕ) (fits : has_pages pages ≡ true) (log : List Entry) (kep
       let sound = leads.lawful.sound n ne in
       let size = length-formed image (formed (page_of image) (λ k. sound.formed (sym (ap (λ s. s.kind) state) ∙ k))) in
       let now = image-after start log e new next.writes_are ascends from.read n image there size in
-      let before = some-of (λ i. image_of (memory_after start log) n ≡ i) (changed_of n old) was (from.was n) stood in
-      let moved = some-of (λ i. IsMovedHeap (g.moves n) (records_of was) (read_heap was) (read_heap i)) (changed_of n new) image
-      (some-of (λ w. IfSome (changed_of n new) (λ i. IsMovedHeap (g.moves n) (records_of w) (read_heap w) (read_heap i))) (changed_of n old) was (has.plan.moved n ne) stood) there in
+      let before = if-some (λ i. image_of (memory_after start log) n ≡ i) (changed_of n old) was (from.was n) stood in
+      let moved = if-some (λ i. IsMovedHeap (g.moves n) (records_of was) (read_heap was) (read_heap i)) (changed_of n new) image
+      (if-some (λ w. IfSome (changed_of n new) (λ i. IsMovedHeap (g.moves n) (records_of w) (read_heap w) (read_heap i))) (changed_of n old) was (has.plan.moved n ne) stood) there in
       subst (λ (ws : List ℕ). IsMovedHeap (g.moves n) (records_of ws) (read_heap ws) (read_heap (image_of after n))) (sym before)
       (subst (λ (ws : List ℕ). IsMovedHeap (g.moves n) (records_of was) (read_heap was) (read_heap ws)) (sym now) moved)
 
@@ -191,11 +184,11 @@ module _ (pages : ℕ) (fits : has_pages pages ≡ true) (log : List Entry) (kep
 
   space-there : (was image : List ℕ) → changed_of 0 old ≡ Some was → changed_of 0 new ≡ Some image → HasSpace
   space-there was image stood there =
-      let bits = some-of (HasBits pages g.bits) (changed_of 0 new) image has.plan.space there in
-      let clock = some-of (λ i. space_clock_of i ≡ space_clock_of was + space_ticks g.touched) (changed_of 0 new) image
-      (some-of (λ w. IfSome (changed_of 0 new) (λ i. space_clock_of i ≡ space_clock_of w + space_ticks g.touched)) (changed_of 0 old) was has.plan.clock stood) there in
+      let bits = if-some (HasBits pages g.bits) (changed_of 0 new) image has.plan.space there in
+      let clock = if-some (λ i. space_clock_of i ≡ space_clock_of was + space_ticks g.touched) (changed_of 0 new) image
+      (if-some (λ w. IfSome (changed_of 0 new) (λ i. space_clock_of i ≡ space_clock_of w + space_ticks g.touched)) (changed_of 0 old) was has.plan.clock stood) there in
       let now = image-after start log e new next.writes_are ascends from.read 0 image there bits.0.size in
-      let then = some-of (λ i. image_of (memory_after start log) 0 ≡ i) (changed_of 0 old) was (from.was 0) stood in
+      let then = if-some (λ i. image_of (memory_after start log) 0 ≡ i) (changed_of 0 old) was (from.was 0) stood in
       record {
         bits_are = λ n. bits-in after n ∙ (ap (λ (ws : List ℕ). bits_in pages ws n) now ∙ sym (bits.1 n));
         clock = ap space_clock_of now ∙ (clock ∙ ap (λ (ws : List ℕ). space_clock_of ws + space_ticks g.touched) (sym then));

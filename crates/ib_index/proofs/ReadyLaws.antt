@@ -19,7 +19,7 @@ use Rattle.ib_rule.specs.declared.looks.Grants.{Grants}
 use Rattle.ib_rule.specs.Pass.{PassState}
 use Rattle.ib_cursor.proofs.EndLaws.{loaded_some}
 use Rattle.ib_cursor.proofs.StandLaws.{went_both, went_none}
-use Rattle.ib_index.specs.Grows.{HasComeToWay, HasGrown, HasTakenNew, IsReady, IsShort, NeedsPages, new_pages, space_pages, tree_pages}
+use Rattle.ib_index.specs.Grows.{HasComeToWay, HasGrown, HasTakenNew, HoldsAllPages, IsShort, NeedsPages, new_pages, space_pages, tree_pages}
 use Rattle.ib_index.proofs.AgreeLaws.{agrees-now}
 use Rattle.ib_index.proofs.FreshLaws.{agrees-less, bits-same, follow-log, follow-tree, fresh-once, length-all}
 use Rattle.ib_index.proofs.GrowLaws.{among-tree, length-tree}
@@ -37,18 +37,19 @@ has-fresh pages key path fresh work memory bits a low are enough = record {
   low = low-enough (is_root_full memory key 1) (height_of memory 1) low (a.lawful.trees 1 (omega arith) (omega arith)).1;
 }
 
-some-pages : (n : ℕ) → has_pages n ≡ true → 0 < n
+pub some-pages : (n : ℕ) → has_pages n ≡ true → 0 < n
 some-pages n has = grind (arith, nat_tests, has)
 
 module _ (sizes : Sizes) (key : MapKey) (path : List ℕ) (need : ℕ) (p q : PassState) (come : HasComeToWay sizes key path p q) (needs : NeedsPages sizes.pages key path need q.work) where
   -- no fresh page is needed
-  pub ready-none : need ≡ 0 → IsReady sizes key path [] q q
+  pub ready-none : need ≡ 0 → HoldsAllPages sizes key path [] q q
   ready-none none = record {
     held = tree_pages come.held;
     growing = come.growing;
     short = let f = come.few in let l = length-tree come.held in omega arith;
     follow = (refl, follow-tree come.held);
     went = went_none q;
+    claims = refl;
     grants = omega arith;
     fresh_are = λ memory bits a.
         let n = needs memory bits a in
@@ -82,7 +83,7 @@ module _ (sizes : Sizes) (fits : has_pages sizes.pages ≡ true) (key : MapKey) 
   module _ (needs : NeedsPages sizes.pages key path need q.work) where
     -- they were taken
     pub ready-some : (fresh : List ℕ) (t : PassState) → fresh ≡ chosen (bits_in sizes.pages image) sizes.pages need → need ≤ free_of (bits_in sizes.pages image) sizes.pages → length fresh ≤ 9
-        → HasTakenNew sizes key path (space_pages come.held) fresh s t → IsReady sizes key path fresh q t
+        → HasTakenNew sizes key path (space_pages come.held) fresh s t → HoldsAllPages sizes key path fresh q t
     ready-some fresh t are enough few taken =
         let later : (n : ℕ) → IsThere q.work n → changed_of n t.work ≡ changed_of n q.work = λ n there. taken.same n (subst IsSome (sym (g.same n there)) there) ∙ g.same n there in
         record {
@@ -91,6 +92,7 @@ module _ (sizes : Sizes) (fits : has_pages sizes.pages ≡ true) (key : MapKey) 
           short = let l = length-all come.held fresh in let f = come.few in omega arith;
           follow = (refl, follow-log come.held fresh);
           went = went_both q s t g.went taken.went;
+          claims = taken.claims ∙ ap (λ (v : Grants). v.sx) g.grants;
           grants = let a = taken.grants in let x = ap (λ (v : Grants). v.x) g.grants in let y = ap (λ (v : Grants). v.s) g.grants in let z = ap (λ (v : Grants). v.sx) g.grants in omega arith;
           fresh_are = λ memory bits a.
               let b = agrees-less sizes.pages key path s.work t.work memory bits taken.same a in
@@ -112,6 +114,7 @@ module _ (sizes : Sizes) (fits : has_pages sizes.pages ≡ true) (key : MapKey) 
       held = space_pages come.held;
       growing = g.growing;
       went = g.went;
+      claims = ap (λ (v : Grants). v.sx) g.grants;
       grants = let x = ap (λ (v : Grants). v.x) g.grants in let y = ap (λ (v : Grants). v.s) g.grants in let z = ap (λ (v : Grants). v.sx) g.grants in omega arith;
       lacks = λ memory bits a.
           let n = needs memory bits (agrees-less sizes.pages key path q.work s.work memory bits g.same a) in

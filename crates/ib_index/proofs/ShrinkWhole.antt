@@ -44,6 +44,7 @@ siblings-started sizes key path p q h = record {
   few = h.few;
   went = record { table = h.went.table; sizes = h.went.sizes; number = h.went.number; own = h.went.own; more = h.went.more; seen = h.went.seen; added = h.went.added; ends = h.went.ends; bounds = h.went.bounds };
   looked = h.looked;
+  claims = h.claims;
   grants = h.grants;
 }
 
@@ -90,6 +91,7 @@ pub record IsReadyToShrink (sizes : Sizes) (key : MapKey) (path : List ℕ) (val
   pub seated : IsSeated sizes t
   pub went : WentOn p t
   pub looked : 0 < length went.added
+  pub claims : t.view.grants.sx ≡ p.view.grants.sx + 1
   pub grants : total t.view.grants ≤ total p.view.grants + 33
   pub can : CanDelete path key t.work
   pub value_is : value_at key (memory_in t.work (last_of path)).records ≡ Some value
@@ -135,6 +137,7 @@ module _ (sizes : Sizes) (key : MapKey) (is : IsKey key) (path : List ℕ) (valu
         seated = seated-t;
         went = went_both p q t come.went grown.went;
         looked = looked_first p q t come.went grown.went come.looked;
+        claims = ap (λ (v : Grants). v.sx) grown.grants ∙ come.claims;
         grants = let a = come.grants in let x = ap (λ (v : Grants). v.x) grown.grants in let y = ap (λ (v : Grants). v.s) grown.grants in let z = ap (λ (v : Grants). v.sx) grown.grants in omega arith;
         can = can-delete;
         value_is = value-kept key (last_of path) q.work t.work (grown.same (last_of path) come.growing.leaf) ∙ there;

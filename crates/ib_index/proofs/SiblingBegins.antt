@@ -29,9 +29,10 @@ use Rattle.ib_cursor.specs.Way.{IsOnWay}
 use Rattle.ib_cursor.proofs.TakeLaws.{beside_few}
 use Rattle.ib_cursor.proofs.WayLaws.{leaf_on-way, root_on-way}
 use Rattle.ib_index.specs.Shrinks.{HasChildren, HasComeToSiblings, HasWithNext}
-use Rattle.ib_index.proofs.ClaimedLaws.{IsPageOfTree, agreed, among-beside, among-both, beside-own, each-among, growing, held-same, held-there, held-zero, or-right, way-long, way-low, way_bits}
+use Rattle.ib_index.proofs.ClaimedLaws.{IsPageOfTree, agreed, among-beside, among-both, beside-own, each-among, growing, held-same, held-there, held-zero, way-long, way-low, way_bits}
 use Rattle.ib_index.proofs.FreshLaws.{each-of}
 use Rattle.ib_index.proofs.SiblingWays.{among-flat, behind-page, last-levels, last_beside, last_child, length-levels, levels-down, node-on, nodes-front, way-among, way-page}
+use Rattle.ib_mtr.proofs.Lists.{or_true}
 
 -- lists of pages
 among-child : (o : Option (MapKey × ℕ)) (x : MapKey × ℕ) → o ≡ Some x → is_among (child_if o) x.1 ≡ true
@@ -92,7 +93,7 @@ module _ (sizes : Sizes) (fits : has_pages sizes.pages ≡ true) (key : MapKey) 
   next-held : (m (last_of levels)).next ≢ 0 → is_among held (m (last_of levels)).next ≡ true
   next-held ne =
       let n = (m (last_of levels)).next in
-      ap (λ ns. is_among ns n) held-are ∙ (among-both levels (beside n) n ∙ or-right (is_among levels n) (is_among (beside n) n) (beside-own n ne))
+      ap (λ ns. is_among ns n) held-are ∙ (among-both levels (beside n) n ∙ or_true (is_among levels n) (is_among (beside n) n) (beside-own n ne))
 
   way-held : (n : ℕ) → is_among path n ≡ true → is_among held n ≡ true
   way-held n among = level-held n (way-among m bits agreement.lawful key lt (height_of m 1) 1 n top (sym (ap (λ ns. is_among ns n) c.way) ∙ among))
@@ -145,18 +146,18 @@ module _ (sizes : Sizes) (fits : has_pages sizes.pages ≡ true) (key : MapKey) 
     parent-on = node-on m bits agreement.lawful key lt (height_of m 1) 1 parent top among
 
     side-held : (n : ℕ) → is_among (with_siblings m key parent) n ≡ true → is_among held n ≡ true
-    side-held n h = level-held n (or-right (1 == n) (is_among (flat_map (with_siblings m key) nodes) n) (among-flat (with_siblings m key) nodes parent n among h))
+    side-held n h = level-held n (or_true (1 == n) (is_among (flat_map (with_siblings m key) nodes) n) (among-flat (with_siblings m key) nodes parent n among h))
 
     left-held : (x : MapKey × ℕ) → t.left ≡ Some x → is_among held x.1 ≡ true
     left-held x eq = side-held x.1 (among-both (child_if t.left) (t.here.1 ∷ child_if t.right) x.1 ∙ ap (λ b. b || is_among (t.here.1 ∷ child_if t.right) x.1) (among-child t.left x eq))
 
     here-held : is_among held t.here.1 ≡ true
     here-held = side-held t.here.1 (among-both (child_if t.left) (t.here.1 ∷ child_if t.right) t.here.1
-        ∙ or-right (is_among (child_if t.left) t.here.1) (is_among (t.here.1 ∷ child_if t.right) t.here.1) (ap (λ b. b || is_among (child_if t.right) t.here.1) (eq-eqb t.here.1 t.here.1 refl)))
+        ∙ or_true (is_among (child_if t.left) t.here.1) (is_among (t.here.1 ∷ child_if t.right) t.here.1) (ap (λ b. b || is_among (child_if t.right) t.here.1) (eq-eqb t.here.1 t.here.1 refl)))
 
     right-held : (x : MapKey × ℕ) → t.right ≡ Some x → is_among held x.1 ≡ true
     right-held x eq = side-held x.1 (among-both (child_if t.left) (t.here.1 ∷ child_if t.right) x.1
-        ∙ or-right (is_among (child_if t.left) x.1) (is_among (t.here.1 ∷ child_if t.right) x.1) (or-right (t.here.1 == x.1) (is_among (child_if t.right) x.1) (among-child t.right x eq)))
+        ∙ or_true (is_among (child_if t.left) x.1) (is_among (t.here.1 ∷ child_if t.right) x.1) (or_true (t.here.1 == x.1) (is_among (child_if t.right) x.1) (among-child t.right x eq)))
 
     last-held : is_among held (last_beside m key parent) ≡ true
     last-held = go t.right refl
@@ -216,6 +217,7 @@ module _ (sizes : Sizes) (fits : has_pages sizes.pages ≡ true) (key : MapKey) 
     few = held-few;
     went = c.went;
     looked = c.looked;
+    claims = c.sx;
     grants =
         let a = c.s in let b = c.sx in let d = c.x in let g = way-long sizes fits key is path held p q c claims in
         let j = way-low sizes fits key is path held p q c claims in let f = held-few in omega arith;

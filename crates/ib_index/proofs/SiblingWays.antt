@@ -18,10 +18,13 @@ use Rattle.ib_plans.proofs.SiblingLaws.{SiblingPages, SiblingPages-path}
 use Rattle.ib_plans.proofs.SiblingRecordLaws.{HasSiblings, HasSiblings-of, one_or_none}
 use Rattle.ib_merge.specs.Deletes.{nodes_of}
 use Rattle.ib_tree.specs.PageLists.{is_among}
+use Rattle.ib_plans.proofs.LevelLaws.{above-sum}
 use Rattle.ib_cursor.specs.Siblings.{child_if, with_siblings}
 use Rattle.ib_cursor.specs.Way.{IsOnWay}
-use Rattle.ib_cursor.proofs.WayLaws.{above-sum, bit_on-way, child_on-way, leaf_on-way, page_on-way}
-use Rattle.ib_index.proofs.ClaimedLaws.{IsPageOfTree, among-both, or-right}
+use Rattle.ib_cursor.proofs.LevelLaws.{among-left, among_right}
+use Rattle.ib_cursor.proofs.RowLaws.{one-at_most}
+use Rattle.ib_cursor.proofs.WayLaws.{bit_on-way, child_on-way, leaf_on-way, page_on-way}
+use Rattle.ib_index.proofs.ClaimedLaws.{IsPageOfTree}
 
 -- the rightmost of a node's children that a delete may merge: the one to the right of the key's child, where there is one
 abbrev pub last_child : Option (MapKey × ℕ) → MapKey × ℕ → ℕ
@@ -32,17 +35,11 @@ abbrev pub last_beside : PageMemory → MapKey → ℕ → ℕ
 last_beside m key parent = let t = siblings_of key (m parent).records in last_child t.right t.here
 
 -- lists of pages
-among-left : (xs ys : List ℕ) (n : ℕ) → is_among xs n ≡ true → is_among (xs ++ ys) n ≡ true
-among-left xs ys n h = among-both xs ys n ∙ ap (λ b. b || is_among ys n) h
-
-among-right : (xs ys : List ℕ) (n : ℕ) → is_among ys n ≡ true → is_among (xs ++ ys) n ≡ true
-among-right xs ys n h = among-both xs ys n ∙ or-right (is_among xs n) (is_among ys n) h
-
 pub among-flat : (f : ℕ → List ℕ) (ns : List ℕ) (parent n : ℕ) → is_among ns parent ≡ true → is_among (f parent) n ≡ true → is_among (flat_map f ns) n ≡ true
 among-flat f [] parent n there h = cc
 among-flat f (x ∷ xs) parent n there h = elim (cases_eq x parent) [
   | inl e ↦ among-left (f x) (flat_map f xs) n (subst (λ p. is_among (f p) n ≡ true) (sym e) h)
-  | inr ne ↦ among-right (f x) (flat_map f xs) n (among-flat f xs parent n (sym (ap (λ b. b || is_among xs parent) (ne_eqb x parent ne)) ∙ there) h)
+  | inr ne ↦ among_right (f x) (flat_map f xs) n (among-flat f xs parent n (sym (ap (λ b. b || is_among xs parent) (ne_eqb x parent ne)) ∙ there) h)
 ]
 
 -- the last page of lists behind each other
@@ -53,10 +50,6 @@ last-behind x (z ∷ zs) ys = last-behind z zs ys
 last-here : (right : Option (MapKey × ℕ)) (here : MapKey × ℕ) → last_of (here.1 ∷ child_if right) ≡ last_child right here
 last-here None here = refl
 last-here (Some right) here = refl
-
-few-sides : (o : Option (MapKey × ℕ)) → length (child_if o) ≤ 1
-few-sides None = omega arith
-few-sides (Some x) = omega arith
 
 -- the nodes of a way, from the first down
 pub nodes-down : (m : PageMemory) (key : MapKey) (level page : ℕ) → nodes_of (way_down m key (suc level) page) ≡ page ∷ nodes_of (way_down m key level (child_for key 0 (m page).records))
@@ -93,7 +86,7 @@ module _ (m : PageMemory) (key : MapKey) where
       let e = ap (λ ns. length (flat_map (with_siblings m key) ns)) (nodes-down m key level page) in
       let a = length-append (with_siblings m key page) (flat_map (with_siblings m key) (nodes_of (way_down m key level child))) in
       let b = length-append (child_if t.left) (t.here.1 ∷ child_if t.right) in
-      let c = few-sides t.left in let d = few-sides t.right in
+      let c = one-at_most t.left in let d = one-at_most t.right in
       let r = length-levels level child in omega arith
 
 module _ (m : PageMemory) (bits : ℕ → ℕ) (law : IsLawful m bits 1) (key : MapKey) (lt : rank key < end_rank) where
@@ -192,9 +185,9 @@ module _ (m : PageMemory) (bits : ℕ → ℕ) (law : IsLawful m bits 1) (key : 
           let t = siblings_of key (m page).records in
           let here : t.here.1 ≡ n = (records level page o).here ∙ e in
           among-left (with_siblings m key page) (flat_map (with_siblings m key) (nodes_of (way_down m key level (child_for key 0 (m page).records)))) n
-          (among-right (child_if t.left) (t.here.1 ∷ child_if t.right) n (ap (λ b. b || is_among (child_if t.right) n) (eq-eqb t.here.1 n here)))
+          (among_right (child_if t.left) (t.here.1 ∷ child_if t.right) n (ap (λ b. b || is_among (child_if t.right) n) (eq-eqb t.here.1 n here)))
       below n (inr ne) r =
-          among-right (with_siblings m key page) (flat_map (with_siblings m key) (nodes_of (way_down m key level (child_for key 0 (m page).records)))) n
+          among_right (with_siblings m key page) (flat_map (with_siblings m key) (nodes_of (way_down m key level (child_for key 0 (m page).records)))) n
           (sym (ap (λ b. b || is_among (flat_map (with_siblings m key) (nodes_of (way_down m key level (child_for key 0 (m page).records)))) n) (ne_eqb (child_for key 0 (m page).records) n ne)) ∙ r)
 
   -- each node of the way stands on it above the leaf

@@ -13,11 +13,11 @@ use Rattle.ib_logrec.specs.declared.entry.Entry.{Entry}
 use Rattle.ib_logrec.specs.Log.{memory_after}
 use Rattle.ib_logrec.proofs.LogLaws.{memory_after-push}
 use Rattle.ib_walk.specs.Words.{image_of}
-use Rattle.ib_walk.proofs.ImageLaws.{image_of-list}
+use Rattle.ib_walk.proofs.ImageLaws.{image_of-list, word_of_image}
 use Rattle.ib_walk.proofs.WalkLaws.{AllByRecursion-append}
 use Rattle.ib_plans.specs.Agreement.{reads_of}
 use Rattle.ib_tree.proofs.LogLaws.{image_of-untouched}
-use Rattle.ib_kept.proofs.WordLaws.{one-count, one-differ, word_of_image}
+use Rattle.ib_kept.proofs.WordLaws.{one-count, one-differ}
 
 -- a page is the image that was read
 abbrev pub IsAsBefore : (ℕ → ℕ) → WorkPage → Type 0

@@ -27,7 +27,7 @@ use Rattle.ib_cursor.specs.Shapes.{is_claimed}
 use Rattle.ib_cursor.specs.Takings.{IsHeldPage, is_loaded}
 
 -- the session stands on the key's way: the index is claimed, each page of the work set is watched and as it was read, and the path is the key's in the tree after all seen
-pub record IsStanding (sizes : Sizes) (key : MapKey) (path : List ℕ) (p : PassState) : Type 0 where
+pub record StandsOnWay (sizes : Sizes) (key : MapKey) (path : List ℕ) (p : PassState) : Type 0 where
   pub claimed : is_claimed p.view.memory.since ≡ true
   pub read : All (IsHeldPage (by_place opening sizes.pages) p) p.work
   pub way : path ≡ way_of (kept_pages sizes.pages p.view.memory.seen) key 1
@@ -42,7 +42,7 @@ pages_held held = map (λ h. h.0) held
 
 -- .. and these pages are held in X, in this order: they alone are loaded, among them the pages of the path
 pub record IsGrowing (sizes : Sizes) (key : MapKey) (path : List ℕ) (held : List (ℕ × Level)) (p : PassState) : Type 0 where
-  pub at : IsStanding sizes key path p
+  pub at : StandsOnWay sizes key path p
   pub grants : HasGrants (claim_grant ∷ map held_grant held) p
   pub loaded : (page : ℕ) → is_loaded page p.work ≡ is_among (pages_held held) page
   pub count : length p.work ≡ length held
@@ -73,6 +73,7 @@ pub record HasComeToWay (sizes : Sizes) (key : MapKey) (path : List ℕ) (p q : 
   pub few : length held ≤ 10
   pub went : WentOn p q
   pub looked : 0 < length went.added
+  pub claims : q.view.grants.sx ≡ p.view.grants.sx + 1
   pub grants : total q.view.grants ≤ total p.view.grants + 20
 
 -- .. and page 0 behind them, and fresh pages behind that
@@ -86,6 +87,7 @@ new_pages fresh = map (λ page. (page, PageNew)) fresh
 pub record HasTakenNew (sizes : Sizes) (key : MapKey) (path : List ℕ) (held : List (ℕ × Level)) (fresh : List ℕ) (p q : PassState) : Type 0 where
   pub growing : IsGrowing sizes key path (held ++ new_pages fresh) q
   pub went : WentOn p q
+  pub claims : q.view.grants.sx ≡ p.view.grants.sx
   pub grants : total q.view.grants ≡ total p.view.grants + length fresh
   pub there : All (IsThere q.work) fresh
   pub same : (n : ℕ) → IsThere p.work n → changed_of n q.work ≡ changed_of n p.work
@@ -106,12 +108,13 @@ IsFreshForAll pages key path fresh work = (memory : PageMemory) (bits : ℕ → 
     → (is_too_high memory key 1 ≡ false) × HasFresh pages 1 1 key fresh memory bits
 
 -- all pages that the insert reads and writes are held
-pub record IsReady (sizes : Sizes) (key : MapKey) (path fresh : List ℕ) (p q : PassState) : Type 0 where
+pub record HoldsAllPages (sizes : Sizes) (key : MapKey) (path fresh : List ℕ) (p q : PassState) : Type 0 where
   pub held : List (ℕ × Level)
   pub growing : IsGrowing sizes key path held q
   pub short : length held < 64
   pub follow : AllByRecursion (λ (g : Grant). may_follow g.level Log ≡ true) (claim_grant ∷ map held_grant held)
   pub went : WentOn p q
+  pub claims : q.view.grants.sx ≡ p.view.grants.sx
   pub grants : total q.view.grants ≤ total p.view.grants + 20
   pub fresh_are : IsFreshForAll sizes.pages key path fresh q.work
   pub there : All (IsThere q.work) fresh
@@ -123,10 +126,12 @@ pub record IsShort (sizes : Sizes) (key : MapKey) (path : List ℕ) (free need :
   pub held : List (ℕ × Level)
   pub growing : IsGrowing sizes key path held q
   pub went : WentOn p q
+  pub claims : q.view.grants.sx ≡ p.view.grants.sx
   pub grants : total q.view.grants ≤ total p.view.grants + 20
   pub lacks : LacksPages sizes.pages key path free need q.work
   pub same : (n : ℕ) → IsThere p.work n → changed_of n q.work ≡ changed_of n p.work
 
--- so many grants more at most
+-- so many grants more at most, and at most one of them claims the index
 pub record TakesAtMost (most : ℕ) (p q : PassState) : Type 0 where
+  pub claims : q.view.grants.sx ≤ p.view.grants.sx + 1
   pub all : total q.view.grants ≤ total p.view.grants + most

@@ -1,9 +1,12 @@
 -- A change of the index that needs the key's leaf alone.
-use Rattle.std.specs.Prelude.{◌≡◌, ◌≢◌, ◌⊎◌, ℕ, ◌+◌, ◌^◌, ◌<◌, ◌≤◌, true, List, [], ◌∷◌, length, take, None, IsSome}
+use Rattle.std.specs.Prelude.{◌≡◌, ◌≢◌, ◌⊎◌, ℕ, ◌+◌, ◌^◌, ◌<◌, ◌≤◌, Bool, true, List, [], ◌∷◌, length, take, None, IsSome}
 use Rattle.ib_map.specs.Keys.{MapKey}
+use Rattle.ib_map.specs.Map.{is_made}
 use Rattle.ib_map.specs.Pairs.{value_at}
 use Rattle.ib_map.specs.Space.{has_pages}
 use Rattle.ib_map.specs.declared.TheConstants.{PAGE_WORDS}
+use Rattle.ib_map.specs.declared.call.Reply.{Reply}
+use Rattle.ib_map.specs.declared.call.Reply.TheVariants.{LogFull}
 use Rattle.ib_levels.specs.declared.level.Mode.TheVariants.{X}
 use Rattle.ib_heap.specs.declared.TheConstants.{MOST_RECORDS}
 use Rattle.ib_layout.specs.Geometry.{Sizes}
@@ -19,7 +22,7 @@ use Rattle.ib_rule.specs.declared.view.Role.TheVariants.{Session}
 use Rattle.ib_rule.specs.Pass.{PassState}
 use Rattle.ib_rule.specs.Views.{is_watched}
 use Rattle.ib_mtr.specs.Loads.{IsPageAfter}
-use Rattle.ib_cursor.specs.Descent.{WasRaised}
+use Rattle.ib_cursor.specs.Descent.{WasRaised, one_if}
 use Rattle.ib_cursor.specs.Going.{IsKnown, WentOn}
 use Rattle.ib_cursor.specs.Grants.{page_grant, HasGrants}
 
@@ -50,17 +53,26 @@ pub record IsSeated (sizes : Sizes) (p : PassState) : Type 0 where
   pub few : length p.view.memory.seen < 2 ^ 31
 
 -- the X grants of a way to the leaf: one more where the root was looked at as a leaf and became a node
-abbrev pub AddsX : Sizes → ℕ → PassState → PassState → Type 0
-AddsX sizes few p q = (q.view.grants.x ≤ p.view.grants.x + few) ⊎ ((q.view.grants.x ≤ p.view.grants.x + few + 1) × WasRaised (by_place opening sizes.pages) 1 p.view.memory.seen q.view.memory.seen)
+abbrev pub AddsFewX : Sizes → ℕ → PassState → PassState → Type 0
+AddsFewX sizes few p q = (q.view.grants.x ≤ p.view.grants.x + few) ⊎ ((q.view.grants.x ≤ p.view.grants.x + few + 1) × WasRaised (by_place opening sizes.pages) 1 p.view.memory.seen q.view.memory.seen)
 
 -- the grants that a call took on its way to the leaf, and so many of X on it
 pub record TakesFew (sizes : Sizes) (few : ℕ) (p q : PassState) : Type 0 where
   pub sx : q.view.grants.sx ≡ p.view.grants.sx
   pub s : q.view.grants.s ≤ p.view.grants.s + 9
-  pub x : AddsX sizes few p q
+  pub x : AddsFewX sizes few p q
+
+-- a change that is answered so came as far as the log: it was made, or the log was full
+abbrev pub reaches_log : Reply → Bool
+reaches_log (LogFull used cap) = true
+reaches_log reply = is_made reply
+
+-- the grants of a change of the leaf alone: X on the leaf, and on the log latch only where it came as far as the log
+abbrev pub TakesFor : Sizes → Reply → PassState → PassState → Type 0
+TakesFor sizes reply p q = TakesFew sizes (1 + one_if (reaches_log reply)) p q
 
 -- the way to the leaf is over
-pub record HasCome (sizes : Sizes) (key : MapKey) (leaf : ℕ) (p q : PassState) : Type 0 where
+pub record HasComeToLeaf (sizes : Sizes) (key : MapKey) (leaf : ℕ) (p q : PassState) : Type 0 where
   pub went : WentOn p q
   pub looked : 0 < length went.added
   pub at : IsAtLeaf sizes key leaf q

@@ -32,4 +32,5 @@ pub record HasComeToSiblings (sizes : Sizes) (key : MapKey) (path : List ℕ) (p
   pub few : length held ≤ 23
   pub went : WentOn p q
   pub looked : 0 < length went.added
+  pub claims : q.view.grants.sx ≡ p.view.grants.sx + 1
   pub grants : total q.view.grants ≤ total p.view.grants + 32

@@ -38,7 +38,7 @@ pub(crate) fn insert<R: Wait>(
     ensures scratch { IsTrue pass.new.has_scratch }
     ensures called { HasCalled latches.now.sizes (IsKeptLog latches.now.sizes.pages)
         (by_place opening latches.now.sizes.pages) (Insert key value) result pass.old pass.new }
-    ensures grants { TakesFewUnless latches.now.sizes (IsFullFor key) key pass.old pass.new }
+    ensures grants { TakesFewUnless latches.now.sizes (IsFullFor key) key result.reply pass.old pass.new }
 {
     match optimistic_insert(rt, latches, pass, key, value) {
         Some(answer) => answer,
@@ -62,7 +62,7 @@ pub(crate) fn delete<R: Wait>(
     ensures scratch { IsTrue pass.new.has_scratch }
     ensures called { HasCalled latches.now.sizes (IsKeptLog latches.now.sizes.pages)
         (by_place opening latches.now.sizes.pages) (Delete key) result pass.old pass.new }
-    ensures grants { TakesFewUnless latches.now.sizes (IsShortFor key) key pass.old pass.new }
+    ensures grants { TakesFewUnless latches.now.sizes (IsShortFor key) key result.reply pass.old pass.new }
 {
     match optimistic_delete(rt, latches, pass, key) {
         Some(answer) => answer,

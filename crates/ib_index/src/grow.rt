@@ -26,7 +26,7 @@ ghost use Rattle.ib_mtr.specs.Mtr.{IsMtr, with_work};
 ghost use Rattle.ib_map.specs.declared.call.Call.TheVariants.{Insert as InsertCall};
 ghost use Rattle.ib_index.specs.Calls.{HasCalled};
 ghost use Rattle.ib_index.specs.Leaf.{IsSeated};
-ghost use Rattle.ib_index.specs.Grows.{HasComeToWay, HasGrown, HasTakenNew, IsGrowing, IsReady, IsShort, NeedsPages, TakesAtMost, pages_held, space_pages, tree_pages};
+ghost use Rattle.ib_index.specs.Grows.{HasComeToWay, HasGrown, HasTakenNew, IsGrowing, HoldsAllPages, IsShort, NeedsPages, TakesAtMost, pages_held, space_pages, tree_pages};
 
 use crate::leaf::{ROOT, Work, changed};
 use ib_cursor::{descend_to_insert, read, take};
@@ -220,7 +220,7 @@ fn take_fresh<R: Wait>(rt: &R, mtr: &mut Work<'_>, path: &Path, need: u32) -> Re
     ensures taken { IfOk result (λ fresh. (key : MapKey) → IsKey key → (p : PassState)
         → HasComeToWay mtr.old.latches.now.sizes key path.now p mtr.old.pass.now
         → NeedsPages mtr.old.latches.now.sizes.pages key path.now need mtr.old.pass.now.work
-        → IsReady mtr.old.latches.now.sizes key path.now fresh mtr.old.pass.now mtr.new.pass.now) }
+        → HoldsAllPages mtr.old.latches.now.sizes key path.now fresh mtr.old.pass.now mtr.new.pass.now) }
     ensures short { IfErr result (λ free. (key : MapKey) → IsKey key → (p : PassState)
         → HasComeToWay mtr.old.latches.now.sizes key path.now p mtr.old.pass.now
         → NeedsPages mtr.old.latches.now.sizes.pages key path.now need mtr.old.pass.now.work

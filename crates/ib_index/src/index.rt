@@ -1,6 +1,6 @@
 //! One tree that sessions share: how it is opened and closed, and how sessions come, look keys up and go.
 
-ghost use Rattle.std.specs.Prelude.{◌≡◌, ◌↔◌, ◌+◌, ◌-◌, ◌≤◌, ◌^◌, true, [], ◌∷◌, length, Err, IsTrue, IfOk, IfErr};
+ghost use Rattle.std.specs.Prelude.{◌≡◌, ◌↔◌, ℕ, ◌+◌, ◌-◌, ◌≤◌, ◌^◌, true, [], ◌∷◌, length, Err, IsTrue, IfOk, IfErr};
 ghost use mathlib.Core.List.{IsPrefix};
 ghost use Rattle.ib_core.specs.Sessions.{idle};
 ghost use Rattle.ib_logrec.specs.Log.{by_place};
@@ -74,8 +74,8 @@ impl<S: Sleep> Index<S> {
     }
 
     /// Draws the next number, and gives its session's pass: nothing seen, held or granted, and the scratch
-    /// in it. Refused as `TooManySessions` exactly where 1,024 were drawn. Where memory lacks, no number is
-    /// drawn.
+    /// in it. Refused as `TooManySessions`, with 1,024, exactly where so many were drawn. Where memory lacks, no
+    /// number is drawn.
     pub fn connect(&mut self, alloc: Global) -> Result<Pass, ConnectFault>
         ensures pass { IfOk result (λ p. IsOf self.old p × (p.number ≡ self.old.drawn + 1)
             × (p.view ≡ seated (Session (self.old.drawn + 1))) × (p.has_scratch ≡ true)) }
@@ -84,6 +84,7 @@ impl<S: Sleep> Index<S> {
         ensures err { IfErr result (λ e. self.new ≡ self.old) }
         ensures full { (result ≡ Err (ConnectFault.TooManySessions 1024))
             ↔ (self.old.drawn ≡ 1024) }
+        ensures told { (n : ℕ) → result ≡ Err (ConnectFault.TooManySessions n) → n ≡ 1024 }
         ensures few { self.old.drawn ≤ 1024 }
     {
         self.latches.connect(alloc)
@@ -201,7 +202,7 @@ impl Index<Parkers> {
         ensures scratch { IsTrue pass.new.has_scratch }
         ensures called { HasCalled self.now.sizes (IsKeptLog self.now.sizes.pages)
             (by_place opening self.now.sizes.pages) (Insert key value) result pass.old pass.new }
-        ensures grants { TakesFewUnless self.now.sizes (IsFullFor key) key pass.old pass.new }
+        ensures grants { TakesFewUnless self.now.sizes (IsFullFor key) key result.reply pass.old pass.new }
     {
         change::insert(rt, &self.latches, pass, key, value)
     }
@@ -222,7 +223,7 @@ impl Index<Parkers> {
         ensures scratch { IsTrue pass.new.has_scratch }
         ensures called { HasCalled self.now.sizes (IsKeptLog self.now.sizes.pages)
             (by_place opening self.now.sizes.pages) (Delete key) result pass.old pass.new }
-        ensures grants { TakesFewUnless self.now.sizes (IsShortFor key) key pass.old pass.new }
+        ensures grants { TakesFewUnless self.now.sizes (IsShortFor key) key result.reply pass.old pass.new }
     {
         change::delete(rt, &self.latches, pass, key)
     }

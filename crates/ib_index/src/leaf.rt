@@ -23,7 +23,7 @@ ghost use Rattle.ib_rule.specs.Views.{total};
 ghost use Rattle.ib_mtr.specs.Commits.{MayCommit};
 ghost use Rattle.ib_mtr.specs.Mtr.{IsMtr, with_work};
 ghost use Rattle.ib_index.specs.Calls.{HasCalled};
-ghost use Rattle.ib_index.specs.Leaf.{HasCome, IsAtLeaf, IsFullFor, IsSeated, IsShortFor, NeededLeaf, NeedsTree, TakesFew, leaf_page};
+ghost use Rattle.ib_index.specs.Leaf.{HasComeToLeaf, IsAtLeaf, IsFullFor, IsSeated, IsShortFor, NeededLeaf, NeedsTree, TakesFew, TakesFor, leaf_page};
 
 use ib_cursor::{Search, descend};
 use ib_frames::LogFull;
@@ -58,7 +58,7 @@ fn come_to_leaf<R: Wait>(rt: &R, mtr: &mut Work<'_>, key: Key) -> u32
     ensures mtr { IsMtr mtr.new.latches.now mtr.new.pass.now }
     ensures latches { mtr.new.latches ≡ mtr.old.latches }
     ensures pass { mtr.new.pass.ghost_name ≡ mtr.old.pass.ghost_name }
-    ensures come { HasCome mtr.old.latches.now.sizes key result mtr.old.pass.now mtr.new.pass.now }
+    ensures come { HasComeToLeaf mtr.old.latches.now.sizes key result mtr.old.pass.now mtr.new.pass.now }
 {
     let path = descend(rt, mtr, Search::ModifyLeaf, key);
     // The session's number, and that what it has seen and made fits the log.
@@ -190,7 +190,8 @@ pub(crate) fn optimistic_insert<R: Wait>(
         (λ answer. HasCalled latches.now.sizes (IsKeptLog latches.now.sizes.pages)
         (by_place opening latches.now.sizes.pages) (InsertCall key value) answer pass.old pass.new) }
     ensures alone { IfSome result (λ answer. NeededLeaf latches.now.sizes (IsFullFor key) key answer.place pass.new) }
-    ensures grants { TakesFew latches.now.sizes 2 pass.old pass.new }
+    ensures grants { MatchOption result (TakesFew latches.now.sizes 1 pass.old pass.new)
+        (λ answer. TakesFor latches.now.sizes answer.reply pass.old pass.new) }
     ensures forgotten { pass.new.view.memory.since ≡ [] }
 {
     let call = Call::Insert { key, value };
@@ -232,7 +233,8 @@ pub(crate) fn optimistic_delete<R: Wait>(
         (λ answer. HasCalled latches.now.sizes (IsKeptLog latches.now.sizes.pages)
         (by_place opening latches.now.sizes.pages) (DeleteCall key) answer pass.old pass.new) }
     ensures alone { IfSome result (λ answer. NeededLeaf latches.now.sizes (IsShortFor key) key answer.place pass.new) }
-    ensures grants { TakesFew latches.now.sizes 2 pass.old pass.new }
+    ensures grants { MatchOption result (TakesFew latches.now.sizes 1 pass.old pass.new)
+        (λ answer. TakesFor latches.now.sizes answer.reply pass.old pass.new) }
     ensures forgotten { pass.new.view.memory.since ≡ [] }
 {
     let call = Call::Delete { key };

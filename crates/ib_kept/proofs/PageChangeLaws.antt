@@ -47,7 +47,7 @@ unfolding bits_of
 bits_of-space pages words new n same = rw same refl
 
 -- writes that touch a page are some
-some-writes : (page : ℕ) (ws : List Write) → (touches page ws ≡ false → ⊥) → 1 ≤ length ws
+pub some-writes : (page : ℕ) (ws : List Write) → (touches page ws ≡ false → ⊥) → 1 ≤ length ws
 some-writes page [] touched = absurd (touched refl)
 some-writes page (w ∷ ws) touched = omega arith
 

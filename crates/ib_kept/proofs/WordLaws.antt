@@ -13,19 +13,9 @@ use Rattle.ib_page.proofs.StoreLaws.{leads, untouched, writes_rise}
 use Rattle.ib_logrec.specs.declared.entry.Entry.{Entry}
 use Rattle.ib_logrec.specs.Log.{memory_after}
 use Rattle.ib_logrec.proofs.LogLaws.{memory_after-push}
-use Rattle.ib_walk.specs.Words.{words_at, image_of}
-use Rattle.ib_walk.proofs.ImageLaws.{image_of-list}
+use Rattle.ib_walk.specs.Words.{image_of}
+use Rattle.ib_walk.proofs.ImageLaws.{image_of-list, word_of_image}
 use Rattle.ib_walk.proofs.WalkLaws.{AllByRecursion-append}
-
--- a word of an image
-word-at : (words : ℕ → ℕ) (place n i : ℕ) → i < n → get_or (words_at words place n) i 0 ≡ words (place + i)
-word-at words place zero i lt = absurd (omega arith)
-word-at words place (suc n) zero lt = ap words (let e : place ≡ place + 0 = omega arith in e)
-word-at words place (suc n) (suc i) lt = word-at words (place + 1) n i (omega arith) ∙ ap words (let e : place + 1 + i ≡ place + suc i = omega arith in e)
-
-pub word_of_image : (words : ℕ → ℕ) (page index : ℕ) → index < PAGE_WORDS → get_or (image_of words page) index 0 ≡ words (word_place page index)
-unfolding image_of
-word_of_image words page index lt = word-at words (page * PAGE_WORDS) PAGE_WORDS index lt
 
 -- one write a word at most
 count-le : (page : ℕ) (before changed : List ℕ) (n : ℕ) → length (writes_below page before changed n) ≤ n

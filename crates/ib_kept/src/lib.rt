@@ -3,8 +3,6 @@
 
 mod law;
 mod laws;
-#[cfg(test)]
-mod tests;
 
 pub use law::KeptLaw;
 pub use laws::kept_law;

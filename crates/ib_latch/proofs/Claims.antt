@@ -6,7 +6,7 @@ use Rattle.ib_levels.specs.declared.level.Level.{Level}
 use Rattle.ib_levels.specs.declared.level.Mode.{Mode}
 use Rattle.ib_levels.specs.declared.level.Mode.TheVariants.{S, Sx, X}
 use Rattle.ib_levels.specs.Holding.{on, changed}
-use Rattle.ib_levels.proofs.Counts.{by_equal, on-cons, on-changed, part}
+use Rattle.ib_levels.proofs.Counts.{by_equal, on-cons, on-changed, part, on_le}
 use Rattle.ib_core.specs.declared.session.Session.{Session}
 use Rattle.ib_core.specs.Sessions.{claims, sx_grants, x_grants}
 use Rattle.ib_core.specs.Takings.{one_more, holding_too}
@@ -25,18 +25,11 @@ sum_on l (h ∷ held) =
 pub claims_are : (l : ℕ) (a : Session) → claims l a ≡ sx_grants l a + x_grants l a
 claims_are l a = sum_on l a.held
 
--- more of each is more of all
-on_more : (l : ℕ) (f g : Holding → ℕ) (held : List Holding) → ((h : Holding) → f h ≤ g h) → on l f held ≤ on l g held
-on_more l f g [] less = omega arith
-on_more l f g (h ∷ held) less =
-    let a = on-cons l f h held in let b = on-cons l g h held in let c = on_more l f g held less in let i = less h in
-    let d : part l f h ≤ part l g h = by_equal (λ t. cond t (f h) 0 ≤ cond t (g h) 0) h.latch.0 l (λ _. i) (λ _. omega arith) in omega arith
-
 -- one more grant leaves no fewer of SX and X
 pub claims_kept : (mode : Mode) (l : ℕ) (held : List Holding) → on l (λ h. h.sx + h.x) held ≤ on l (λ h. h.sx + h.x) (changed l (one_more mode) held)
-claims_kept S l held = let e = on-changed l (one_more S) (λ h. h.sx + h.x) held (λ h. refl) in let m = on_more l (λ h. h.sx + h.x) (λ h. (one_more S h).sx + (one_more S h).x) held (λ h. omega arith) in omega arith
-claims_kept Sx l held = let e = on-changed l (one_more Sx) (λ h. h.sx + h.x) held (λ h. refl) in let m = on_more l (λ h. h.sx + h.x) (λ h. (one_more Sx h).sx + (one_more Sx h).x) held (λ h. omega arith) in omega arith
-claims_kept X l held = let e = on-changed l (one_more X) (λ h. h.sx + h.x) held (λ h. refl) in let m = on_more l (λ h. h.sx + h.x) (λ h. (one_more X h).sx + (one_more X h).x) held (λ h. omega arith) in omega arith
+claims_kept S l held = let e = on-changed l (one_more S) (λ h. h.sx + h.x) held (λ h. refl) in let m = on_le l (λ h. h.sx + h.x) (λ h. (one_more S h).sx + (one_more S h).x) held (λ h. omega arith) in omega arith
+claims_kept Sx l held = let e = on-changed l (one_more Sx) (λ h. h.sx + h.x) held (λ h. refl) in let m = on_le l (λ h. h.sx + h.x) (λ h. (one_more Sx h).sx + (one_more Sx h).x) held (λ h. omega arith) in omega arith
+claims_kept X l held = let e = on-changed l (one_more X) (λ h. h.sx + h.x) held (λ h. refl) in let m = on_le l (λ h. h.sx + h.x) (λ h. (one_more X h).sx + (one_more X h).x) held (λ h. omega arith) in omega arith
 
 -- what is held with one more grant, by whether there were any
 pub held_more : (mode : Mode) (l : ℕ) (v : Level) (a : Session) → 0 < claims l a → held_with mode l v a ≡ changed l (one_more mode) a.held

@@ -7,14 +7,15 @@ use Rattle.ib_levels.specs.declared.level.Level.{Level}
 use Rattle.ib_levels.specs.declared.level.Mode.{Mode}
 use Rattle.ib_levels.specs.declared.level.Mode.TheVariants.{S as ModeS, Sx as ModeSx, X as ModeX}
 use Rattle.ib_core.specs.declared.phase.Phase.{Phase}
-use Rattle.ib_core.specs.declared.phase.Phase.TheVariants.{Asleep, Checked, Flagged, Free, Next, NextAsleep, NextChecked}
+use Rattle.ib_core.specs.declared.phase.Phase.TheVariants.{Asleep, Checked, Flagged, Free, Next, NextArmed, NextAsleep, NextChecked}
 use Rattle.ib_core.specs.Responses.{is_drained}
 use Rattle.ib_core.specs.Table.{owns_x_at}
 use Rattle.ib_levels.specs.Holding.{changed}
 use Rattle.ib_levels.specs.declared.level.Level.TheVariants.{Log}
 use Rattle.ib_core.specs.Takings.{holding_too, is_given_at, level_on, one_more}
 use Rattle.ib_wait.specs.declared.cells.Wish.{Wish}
-use Rattle.ib_wait.specs.declared.cells.Wish.TheVariants.{S as WishS, Sx as WishSx, X as WishX}
+use Rattle.ib_wait.specs.declared.cells.Wish.TheVariants.{S as WishS, Sx as WishSx, X as WishX, NextX as WishNextX}
+use Rattle.ib_wait.specs.declared.cells.Cell.{Cell}
 use Rattle.ib_rule.specs.declared.looks.Look.{Look}
 use Rattle.ib_rule.specs.declared.looks.Looks.{Looks}
 use Rattle.ib_rule.specs.Afterwards.{looked_on, phased}
@@ -117,6 +118,15 @@ abbrev pub wish_for : Mode → Wish
 wish_for ModeS = WishS
 wish_for ModeSx = WishSx
 wish_for ModeX = WishX
+
+-- what stands in the cell of a session that waits: the latch, what it wishes for there, who it is, and the generation that it recorded
+abbrev pub IsCellFor : Cell → ℕ → Phase → Type 0
+IsCellFor cell n (Flagged l mode v g) = (cell.latch.0 ≡ l) × (cell.wish ≡ wish_for mode) × (cell.session ≡ n) × (cell.generation ≡ g)
+IsCellFor cell n (NextArmed l v g) = (cell.latch.0 ≡ l) × (cell.wish ≡ WishNextX) × (cell.session ≡ n) × (cell.generation ≡ g)
+IsCellFor cell n p = ⊥
+
+abbrev pub IsCellOf : Cell → PassState → Type 0
+IsCellOf cell p = IsCellFor cell p.number p.view.session.phase
 
 -- who reserved X on the latch owns it, or is its next writer
 abbrev pub HasReserved : ℕ → Phase → Type 0

@@ -1,6 +1,6 @@
 //! A space whose sessions take its latches, from its opening on.
 
-ghost use Rattle.std.specs.Prelude.{◌≡◌, ◌↔◌, ◌+◌, ◌-◌, ◌≤◌, true, [], ◌∷◌, length, Err, IfOk, IfErr};
+ghost use Rattle.std.specs.Prelude.{◌≡◌, ◌↔◌, ℕ, ◌+◌, ◌-◌, ◌≤◌, true, [], ◌∷◌, length, Err, IfOk, IfErr};
 ghost use mathlib.Core.List.{IsPrefix};
 ghost use Rattle.ib_core.specs.Sessions.{idle};
 ghost use Rattle.ib_rule.specs.declared.view.Role.TheVariants.{Session};
@@ -34,12 +34,13 @@ impl<L: Law, S: Sleep> Model for Latches<L, S> {
 
 /// There was no memory to copy the words. The latches come back as they were.
 pub struct CloseRefused<L: Law, S: Sleep = Parkers> {
+    /// The latches, with all that they had.
     pub latches: Latches<L, S>,
 }
 
 impl<L: Law, S: Sleep> Latches<L, S> {
-    /// The opening memory of the law, an empty log, no sessions, and every latch free. Refused
-    /// where memory lacks.
+    /// The latches of a new space: the opening pages of the law, an empty log, no sessions, and every
+    /// latch free. Refused where memory lacks.
     pub fn open(alloc: Global, geometry: Geometry) -> Result<Latches<L, S>, OutOfMemory>
         ensures { IfOk result (λ s. s
             ≡ record { table = s.table; sizes = geometry; drawn = 0; ended = [] }) }
@@ -65,7 +66,7 @@ impl<L: Law, S: Sleep> Latches<L, S> {
     }
 
     /// Draws the next number, and gives its session's pass: nothing seen, held or granted, the phase
-    /// free, and the scratch in it. Refused as `TooManySessions` exactly where 1,024 were drawn.
+    /// free, and the scratch in it. Refused as `TooManySessions`, with 1,024, exactly where so many were drawn.
     /// Where memory lacks, no number is drawn.
     pub fn connect(&mut self, alloc: Global) -> Result<Pass, ConnectFault>
         ensures pass { IfOk result (λ p. IsOf self.old p × (p.number ≡ self.old.drawn + 1)
@@ -75,6 +76,7 @@ impl<L: Law, S: Sleep> Latches<L, S> {
         ensures err { IfErr result (λ e. self.new ≡ self.old) }
         ensures full { (result ≡ Err (ConnectFault.TooManySessions 1024))
             ↔ (self.old.drawn ≡ 1024) }
+        ensures told { (n : ℕ) → result ≡ Err (ConnectFault.TooManySessions n) → n ≡ 1024 }
         ensures few { self.old.drawn ≤ 1024 }
     {
         let drawn = self.space.drawn();

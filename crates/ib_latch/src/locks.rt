@@ -30,6 +30,8 @@ use std::sync::Wait;
 /// How many rounds of tries a call makes before it sleeps (`srv_n_spin_wait_rounds`).
 const SPIN_ROUNDS: u32 = 30;
 
+const _: () = prove!(SPIN_ROUNDS == 30);
+
 impl<L: Law, S: Sleep> Latches<L, S> {
     // A first try for the mode. None where it was not won.
     #[tactic(auto, using(crate::proofs::Stills::won_is))]

@@ -1,7 +1,9 @@
 //! Sessions that sleep on parkers of their own, and write down in the wait array what they wait for.
 
+ghost use Rattle.ib_latch.specs.Waits.{IsCellOf};
+
 use crate::sleep::Sleep;
-use ib_rule::OutOfMemory;
+use ib_rule::{OutOfMemory, Pass};
 use ib_wait::{Cell, Sleepers, WaitArray};
 use std::alloc::Global;
 use std::sync::Wait;
@@ -9,6 +11,8 @@ use std::thread;
 
 /// How many cells a wait array has: as many as there can be sessions.
 const CELLS: usize = 1024;
+
+const _: () = prove!(CELLS == 1024);
 
 /// A parker for each session, and a wait array of 1,024 cells (sync0arr).
 #[derive(Drop)]
@@ -39,14 +43,27 @@ impl Sleep for Parkers {
     }
 }
 
+// A cell of the wait array that is reserved. It is not dropped, and nothing but `free` takes it: a session that has one
+// and does not return it does not compile.
+pub(crate) struct ReservedCell {
+    place: usize,
+}
+
 impl Parkers {
-    // Reserves a cell. None where all are reserved.
-    pub(crate) fn reserve<R: Wait>(&self, rt: &R, cell: Cell) -> Option<usize> {
-        self.array.lend(rt).reserve(cell).ok()
+    // Reserves a cell for a session, in which stands what it waits for. None where all are reserved.
+    pub(crate) fn reserve<R: Wait>(&self, rt: &R, pass: &Pass, cell: Cell) -> Option<ReservedCell>
+        requires { IsCellOf cell pass.now }
+    {
+        let _ = pass;
+        match self.array.lend(rt).reserve(cell) {
+            Ok(place) => Some(ReservedCell { place }),
+            Err(_) => None,
+        }
     }
 
-    // Returns the cell at a place.
-    pub(crate) fn free<R: Wait>(&self, rt: &R, place: usize) {
+    // Returns a cell.
+    pub(crate) fn free<R: Wait>(&self, rt: &R, cell: ReservedCell) {
+        let ReservedCell { place } = cell;
         let mut cells = self.array.lend(rt);
         if cells.report(place).is_some() {
             cells.free(place);
@@ -54,7 +71,8 @@ impl Parkers {
     }
 
     // The session sleeps until it is woken.
-    pub(crate) fn sleep<R: Wait>(&self, rt: &R, number: u32) {
+    pub(crate) fn sleep<R: Wait>(&self, rt: &R, pass: &Pass) {
+        let number = pass.number();
         if number >= 1 && number as usize <= self.sleepers.len() {
             self.sleepers.sleep(rt, number);
         } else {

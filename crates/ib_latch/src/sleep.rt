@@ -1,17 +1,21 @@
 //! How sessions sleep and wake.
 
+ghost use Rattle.std.specs.Prelude.{◌≡◌};
+
 use ib_rule::OutOfMemory;
 use std::alloc::Global;
 
 // A generation was raised, and nobody is woken yet. It is not dropped, and nothing but `hand_to` takes it: a release
-// that raises and wakes nobody does not compile.
+// that has one and wakes nobody does not compile.
 pub(crate) struct Raised {
     latch: u32,
 }
 
 impl Raised {
     // The generation of this latch was raised, or its ex generation.
-    pub(crate) fn on(latch: u32) -> Raised {
+    pub(crate) fn on(latch: u32) -> Raised
+        ensures { result.latch ≡ latch }
+    {
         Raised { latch }
     }
 

@@ -56,10 +56,11 @@ pub(crate) enum Claim {
     X,
 }
 
-/// Readers remain, as this word tells.
+/// Readers remain, as this word tells: the next writer does not own X yet.
 #[derive(Clone, Copy, PartialEq, Eq, Debug, Error)]
 #[error("readers remain at the lock word {}", word.0)]
 pub struct NotReady {
+    /// The lock word found.
     pub word: LockWord,
 }
 

@@ -119,7 +119,8 @@ impl<L: Law, S: Sleep> Latches<L, S> {
         requires own { IsOf self.now pass.old }
         requires latch { latch.0 < latches_of self.now.sizes }
         requires owes { pass.old.view.session.phase ≡ OwesRaise latch.0 }
-        ensures { pass.new ≡ with_view pass.old (phased Free pass.old.view) }
+        ensures raised { pass.new ≡ with_view pass.old (phased Free pass.old.view) }
+        ensures on { result.latch ≡ latch.0 }
     {
         self.space.raise_gen(pass, latch);
         Raised::on(latch.0)
@@ -130,7 +131,8 @@ impl<L: Law, S: Sleep> Latches<L, S> {
         requires own { IsOf self.now pass.old }
         requires latch { latch.0 < latches_of self.now.sizes }
         requires owes { pass.old.view.session.phase ≡ OwesRaiseEx latch.0 }
-        ensures { pass.new ≡ with_view pass.old (phased Free pass.old.view) }
+        ensures raised { pass.new ≡ with_view pass.old (phased Free pass.old.view) }
+        ensures on { result.latch ≡ latch.0 }
     {
         self.space.raise_ex_gen(pass, latch);
         Raised::on(latch.0)

@@ -49,12 +49,12 @@ impl<L: Law> Latches<L, Parkers> {
             session: pass.number(),
             generation,
         };
-        let Some(place) = self.sleep.reserve(rt, cell) else {
+        let Some(cell) = self.sleep.reserve(rt, pass, cell) else {
             self.stand_down(pass);
             return None;
         };
         let reserve = self.recheck_or_sleep(rt, pass, mode, latch, level);
-        self.sleep.free(rt, place);
+        self.sleep.free(rt, cell);
         reserve
     }
 
@@ -114,7 +114,7 @@ impl<L: Law> Latches<L, Parkers> {
         requires { IsAsleepOn latch.0 pass.now.view.session.phase }
     {
         let _ = latch;
-        self.sleep.sleep(rt, pass.number());
+        self.sleep.sleep(rt, pass);
     }
 
     // A look at the generation: whether it is another than the one recorded.
@@ -161,10 +161,10 @@ impl<L: Law> Latches<L, Parkers> {
             session: pass.number(),
             generation,
         };
-        let place = self.sleep.reserve(rt, cell);
-        let owned = self.verify_or_sleep(rt, pass, latch, level, place.is_some());
-        if let Some(place) = place {
-            self.sleep.free(rt, place);
+        let cell = self.sleep.reserve(rt, pass, cell);
+        let owned = self.verify_or_sleep(rt, pass, latch, level, cell.is_some());
+        if let Some(cell) = cell {
+            self.sleep.free(rt, cell);
         }
         owned
     }

@@ -3,8 +3,6 @@
 
 mod geometry;
 mod laws;
-#[cfg(test)]
-mod tests;
 
 pub use geometry::{
     DRAWN_PLACE, END_PLACE, Geometry, LEAST_LOG_WORDS, LayoutFault, MOST_LOG_WORDS,

@@ -7,8 +7,6 @@ mod holding;
 mod latch;
 mod level;
 mod listed;
-#[cfg(test)]
-mod tests;
 
 pub use held::{Held, may_take};
 pub use holding::{Holding, holds, may_add};

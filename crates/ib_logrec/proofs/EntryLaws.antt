@@ -14,7 +14,8 @@ use Rattle.ib_logrec.specs.Heads.{head_of, first_word, head_words, count_in, is_
 use Rattle.ib_logrec.specs.Words.{writes_in, words_of_entry, entry_with, entry_in}
 use Rattle.ib_logrec.specs.Grammar.{IsInGrammar, StandsAt, head_fault, place_fault, writes_fault, fault_at, IsFault}
 use Rattle.ib_logrec.proofs.HeadLaws.{length-head_words, head_in-words, first_at-words, drop-head_words, count_is, structural_is, HeadIsRight, HeadIsRight-no_fault, no_fault-HeadIsRight, HeadIsRight-words, HasHead, HasHead-head_in, head_words-head_in}
-use Rattle.ib_logrec.proofs.WriteLaws.{length-write_words, length-writes_in, writes_in-words, write_words-writes_in, unless-none, or-none, PlacesRise-no_fault, no_fault-PlacesRise}
+use Rattle.ib_map.proofs.WriteLaws.{length-write_words}
+use Rattle.ib_logrec.proofs.WriteLaws.{length-writes_in, writes_in-words, write_words-writes_in, unless-none, or-none, PlacesRise-no_fault, no_fault-PlacesRise}
 
 pub length-words_of_entry : (e : Entry) → length (words_of_entry e) ≡ HEAD_WORDS + 2 * length e.writes
 unfolding words_of_entry

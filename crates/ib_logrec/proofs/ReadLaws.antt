@@ -12,7 +12,8 @@ use Rattle.ib_logrec.specs.Words.{writes_in, words_of_entry, entry_with, entry_i
 use Rattle.ib_logrec.specs.Grammar.{IsInGrammar, StandsAt, HeadStandsAt, fault_at}
 use Rattle.ib_logrec.proofs.HeadLaws.{head_in-words, drop-head_words}
 use Rattle.ib_logrec.proofs.EntryLaws.{length-words_of_entry, words_of_entry-append, head_of-entry_in, StandsAt-no_fault}
-use Rattle.ib_logrec.proofs.WriteLaws.{length-write_words, writes_in-words}
+use Rattle.ib_map.proofs.WriteLaws.{length-write_words}
+use Rattle.ib_logrec.proofs.WriteLaws.{writes_in-words}
 
 count_read : (h : Head) (words : List ℕ) → h ≡ head_in words → h.writes ≡ count_in (first_at words)
 unfolding head_in

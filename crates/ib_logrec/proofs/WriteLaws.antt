@@ -2,21 +2,14 @@
 use Rattle.std.proofs.Common.{◌≡◌, ℕ, zero, suc, ◌+◌, ◌*◌, ◌≤◌, Bool, true, false, List, [], ◌∷◌, ◌++◌, length, take, Some, None, Option, refl, ap, arith}
 use Rattle.std.specs.Prelude.{nat_lt, nat_le}
 use Rattle.std.proofs.lemmas.Bool.{ltb-true, leb-true, lt-ltb, le-leb}
-use Rattle.std.proofs.lemmas.Grind.{flat_map-append}
 use Rattle.ib_map.specs.declared.TheConstants.{PAGE_WORDS}
 use Rattle.ib_map.specs.declared.write.Write.{Write}
 use Rattle.ib_logrec.specs.declared.fault.LogFault.{LogFault}
 use Rattle.ib_logrec.specs.declared.fault.LogFault.TheVariants.{BadWrite, Outside}
 use Rattle.ib_map.specs.Writes.{PlacesRise, write_words}
+use Rattle.ib_map.proofs.WriteLaws.{length-write_words}
 use Rattle.ib_logrec.specs.Words.{writes_in}
 use Rattle.ib_logrec.specs.Grammar.{unless, ◌or◌, place_fault}
-
-pub length-write_words : (ws : List Write) → length (write_words ws) ≡ 2 * length ws
-length-write_words [] = refl
-length-write_words (w ∷ ws) = let rest = length-write_words ws in omega arith
-
-pub write_words-append : (xs ys : List Write) → write_words (xs ++ ys) ≡ write_words xs ++ write_words ys
-write_words-append xs ys = flat_map-append (λ (w : Write). w.place ∷ w.value ∷ []) xs ys
 
 -- writes are those that their words spell
 pub writes_in-words : (ws : List Write) (rest : List ℕ) → writes_in (length ws) (write_words ws ++ rest) ≡ ws

@@ -4,7 +4,7 @@ use Rattle.std.proofs.Math.ListN.{set}
 use Rattle.std.proofs.lemmas.List.{drop_more, take_more, set_at, length-take-le}
 use Rattle.ib_map.specs.declared.write.Write.{Write}
 use Rattle.ib_map.specs.Writes.{write_words}
-use Rattle.ib_logrec.proofs.WriteLaws.{length-write_words, write_words-append}
+use Rattle.ib_map.proofs.WriteLaws.{length-write_words, write_words-append}
 
 two_set : (front : List ℕ) (x y : ℕ) (rest : List ℕ) (n p v : ℕ) → length front ≡ n → set (set (front ++ x ∷ y ∷ rest) n p) (n + 1) v ≡ front ++ p ∷ v ∷ rest
 two_set front x y rest n p v size =

@@ -19,6 +19,3 @@ pub use head::Head;
 pub use ib_map::{Write, spans_pages};
 pub use law::{AnyLaw, Law};
 pub use writes::Writes;
-
-#[cfg(test)]
-mod tests;

@@ -1,6 +1,6 @@
 //! The line that tells why a raw log is refused.
 
-ghost use Rattle.std.specs.Prelude.{◌≡◌, ◌++◌, [], codes, decimal};
+ghost use Rattle.std.specs.Prelude.{◌≡◌, ◌≢◌, ◌++◌, [], codes, decimal};
 ghost use Rattle.std.specs.Io.KnownBytes.{Appends};
 ghost use Rattle.ib_edge.specs.Faults.{Rose};
 ghost use Rattle.ib_edge.specs.Told.{IsWritten, ends};
@@ -71,6 +71,7 @@ impl Printed for BadLog {
 pub fn refuse<K: Sink>(sink: &mut K, fault: LogFault) -> Status
     ensures told { (fault ≡ LogFault.OutOfMemory → ⊥) → IsWritten (ends Status.BadLog (bad_log_line fault)) (K.written sink.old) (K.written sink.new) result }
     ensures memory { fault ≡ LogFault.OutOfMemory → (result ≡ Status.Memory) × Appends (K.written sink.old) (K.written sink.new) [] }
+    ensures calm { result ≢ Status.WriteFault → K.faults sink.new ≡ K.faults sink.old }
     ensures write { result ≡ Status.WriteFault → Rose (K.faults sink.old) (K.faults sink.new) }
 {
     match fault {

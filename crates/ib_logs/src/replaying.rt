@@ -1,6 +1,6 @@
 //! What is printed of a log that was replayed.
 
-ghost use Rattle.std.specs.Prelude.{◌≡◌};
+ghost use Rattle.std.specs.Prelude.{◌≡◌, ◌≢◌};
 ghost use Rattle.ib_edge.specs.Faults.{Rose};
 ghost use Rattle.ib_edge.specs.Told.{IsWritten, ends};
 ghost use Rattle.ib_logrec.specs.Log.{map_of};
@@ -47,6 +47,7 @@ impl Printed for Shown {
 pub fn show<K: Sink>(sink: &mut K, replayed: Replayed) -> Status
     requires { replayed.map ≡ map_of replayed.entries.items }
     ensures told { IsWritten (ends Status.Done (replay_output replayed.entries.items)) (K.written sink.old) (K.written sink.new) result }
+    ensures calm { result ≢ Status.WriteFault → K.faults sink.new ≡ K.faults sink.old }
     ensures write { result ≡ Status.WriteFault → Rose (K.faults sink.old) (K.faults sink.new) }
 {
     tell(sink, Shown { replayed }, Status::Done)

@@ -146,22 +146,3 @@ fn search(pairs: &[(Key, u64)], key: Key) -> Result<usize, usize>
         _ => Err(place),
     }
 }
-
-#[cfg(test)]
-mod tests {
-    use super::*;
-    use std::test::Fail;
-
-    #[test]
-    fn refuses_what_is_there_and_what_is_not(rt: HostRuntime) -> Result<(), Fail> {
-        let mut map = PlainMap::new(rt.alloc());
-        map.insert(1, 2)?;
-        assert!(rt; matches!(map.insert(1, 2), Err(MapFault::Duplicate)));
-        assert!(rt; matches!(map.delete(9), Err(MapFault::Missing)));
-        assert_eq!(rt; map.range(0, 9), [(1, 2)].as_slice());
-        assert_eq!(rt; map.get(1), Some(2));
-        assert_eq!(rt; map.delete(1)?, 2);
-        assert!(rt; map.is_empty());
-        Ok(())
-    }
-}

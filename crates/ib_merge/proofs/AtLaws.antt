@@ -19,7 +19,7 @@ use Rattle.ib_plans.specs.Moves.{Move, Takes, unmoved, with_move, HasMoved}
 use Rattle.ib_plans.specs.Merge.{freed_page, merge_pages}
 use Rattle.ib_plans.specs.Split.{next_or, with_prev, with_records}
 use Rattle.ib_plans.specs.Agreement.{IsThere, Sets, state_or_free, memory_in, reads_of, tick, with_bits}
-use Rattle.ib_plans.proofs.ClockLaws.{ticked-untouched}
+use Rattle.ib_plans.proofs.ClockLaws.{ticked-touched, ticked-untouched}
 use Rattle.ib_plans.proofs.DeleteLaws.{IsDeletedBelow, PathAbove-delete, sibling-same, pages}
 use Rattle.ib_plans.proofs.EditLaws.{IsSome-and, set-reads, set-same, set-other, set-others}
 use Rattle.ib_plans.proofs.LinkLaws.{next_or-next}
@@ -50,9 +50,6 @@ pub record IsAt (m : PageMemory) (bits : ℕ → ℕ) (height page : ℕ) (s : S
   pub low : (n : ℕ) → n ≢ 0 → n ≢ page → s.touched n ≡ true → (m n).level < height
   pub links : height ≡ 0 → (s.memory page).next ≡ (m page).next
   pub single : (y : MapKey × ℕ) → 0 < height → (s.memory page).records ≡ y ∷ [] → s.touched y.1 ≡ true
-
-pub ticked-on : (m : PageMemory) (touched : ℕ → Bool) (planned : PageMemory) (n : ℕ) → touched n ≡ true → ticked m touched planned n ≡ with_clock ((m n).clock + 1) (planned n)
-ticked-on m touched planned n on = ap (λ b. cond b (with_clock ((m n).clock + 1) (planned n)) (planned n)) on
 
 pub mark-skip : (page : ℕ) (touched : ℕ → Bool) (n : ℕ) → n ≢ page → mark page touched n ≡ touched n
 mark-skip page touched n ne = cond-ne n page true (touched n) ne
@@ -89,7 +86,7 @@ module _ (m : PageMemory) (bits : ℕ → ℕ) (key : MapKey) (leaf : ℕ) (some
     same = λ n ne h. elim (cases_eq n leaf) [
       | inl e ↦ subst (λ q. memory_in new q ≡ ticked m (mark leaf untouched) (drop_at m leaf key) q) (sym e)
           (set-same leaf _ old new sets there ∙ (ap (λ (p : PageState). tick (without_record key p)) (same leaf some there)
-          ∙ (sym (ap (λ (p : PageState). with_clock ((m leaf).clock + 1) p) dropped) ∙ sym (ticked-on m (mark leaf untouched) (drop_at m leaf key) leaf (mark-own leaf untouched leaf refl)))))
+          ∙ (sym (ap (λ (p : PageState). with_clock ((m leaf).clock + 1) p) dropped) ∙ sym (ticked-touched m (mark leaf untouched) (drop_at m leaf key) leaf (mark-own leaf untouched leaf refl)))))
       | inr nl ↦
           set-other leaf _ old new sets n (λ e. nl (sym e)) ∙ (same n ne (was-there n h)
           ∙ (sym (kept n nl) ∙ sym (ticked-untouched m (mark leaf untouched) (drop_at m leaf key) n (mark-skip leaf untouched n nl))))
@@ -148,7 +145,7 @@ module _ (m : PageMemory) (bits : ℕ → ℕ) (roots : ℕ) (law : IsLawful m b
   child-there = x.there child child-some x.own
 
   pub child-mid : memory_in mid child ≡ with_clock ((m child).clock + 1) (s.memory child)
-  child-mid = x.same child child-some child-there ∙ ticked-on m s.touched s.memory child x.own
+  child-mid = x.same child child-some child-there ∙ ticked-touched m s.touched s.memory child x.own
 
   -- a sibling of the child
   module _ (sib : ℕ) (ne : sib ≢ 0) (nc : sib ≢ child) (same : s.memory sib ≡ m sib) (level : (s.memory sib).level ≡ height) (h : IsThere mid sib) where
@@ -327,20 +324,20 @@ module _ (m : PageMemory) (bits : ℕ → ℕ) (roots : ℕ) (law : IsLawful m b
     same-new : (n : ℕ) → n ≢ 0 → IsThere new n → memory_in new n ≡ ticked m t-all planned n
     same-new n nz h = elim (cases_eq n gone.1) [
       | inl e ↦ subst (λ q. memory_in new q ≡ ticked m t-all planned q) (sym e)
-          (two.gone_is ∙ (sym (ap (with_clock ((m gone.1).clock + 1)) (merge_pages-gone s.memory page pair.1 gone)) ∙ sym (ticked-on m t-all planned gone.1 (on-all gone.1 (mark-own gone.1 t-left gone.1 refl)))))
+          (two.gone_is ∙ (sym (ap (with_clock ((m gone.1).clock + 1)) (merge_pages-gone s.memory page pair.1 gone)) ∙ sym (ticked-touched m t-all planned gone.1 (on-all gone.1 (mark-own gone.1 t-left gone.1 refl)))))
       | inr ng ↦ elim (cases_eq n pair.1) [
         | inl e ↦ subst (λ q. memory_in new q ≡ ticked m t-all planned q) (sym e)
-            (two.left_is ∙ (sym (ap (with_clock ((m pair.1).clock + 1)) (merge_pages-left s.memory page pair.1 gone ps.apart)) ∙ sym (ticked-on m t-all planned pair.1 (on-left pair.1 (mark-own pair.1 t-page pair.1 refl)))))
+            (two.left_is ∙ (sym (ap (with_clock ((m pair.1).clock + 1)) (merge_pages-left s.memory page pair.1 gone ps.apart)) ∙ sym (ticked-touched m t-all planned pair.1 (on-left pair.1 (mark-own pair.1 t-page pair.1 refl)))))
         | inr nl ↦ elim (cases_eq n page) [
           | inl e ↦ subst (λ q. memory_in new q ≡ ticked m t-all planned q) (sym e)
               (page-new ∙ (sym (ap (with_clock ((m page).clock + 1)) (merge_pages-parent s.memory page pair.1 gone (parent-not_gone s.memory height page pair.1 gone.1 ps) (parent-not_left s.memory height page pair.1 gone.1 ps)))
-              ∙ sym (ticked-on m t-all planned page (on-page page (mark-own page t-next page refl)))))
+              ∙ sym (ticked-touched m t-all planned page (on-page page (mark-own page t-next page refl)))))
           | inr np ↦ elim (cases_eq n (next_or gone.1 (s.memory gone.1))) [
             | inl e ↦
                 let w = next-named n ng e in
                 let here : planned n ≡ with_prev pair.1 (s.memory n) = merge_pages-next s.memory page pair.1 gone n ng nl np e in
                 subst (λ q. memory_in new q ≡ with_clock ((m q).clock + 1) (with_prev pair.1 (s.memory q))) (sym w.1) (next-new w.0)
-                ∙ (sym (ap (with_clock ((m n).clock + 1)) here) ∙ sym (ticked-on m t-all planned n (on-next n (mark-own (next_or gone.1 (s.memory gone.1)) s.touched n e))))
+                ∙ (sym (ap (with_clock ((m n).clock + 1)) here) ∙ sym (ticked-touched m t-all planned n (on-next n (mark-own (next_or gone.1 (s.memory gone.1)) s.touched n e))))
             | inr nn ↦
                 let off : t-all n ≡ s.touched n =
                 mark-skip 0 t-gone n nz ∙ (mark-skip gone.1 t-left n ng ∙ (mark-skip pair.1 t-page n nl ∙ (mark-skip page t-next n np ∙ mark-skip (next_or gone.1 (s.memory gone.1)) s.touched n nn))) in

@@ -18,8 +18,9 @@ use Rattle.ib_plans.specs.Merge.{first_child, siblings_of}
 use Rattle.ib_plans.specs.Agreement.{IsThere, memory_in, Agrees, Sets, tick}
 use Rattle.ib_plans.proofs.DeleteLaws.{IsDeletedBelow, IsDeletedBelow-path}
 use Rattle.ib_plans.proofs.EditLaws.{IsSome-and}
-use Rattle.ib_plans.proofs.LevelLaws.{above-suc}
+use Rattle.ib_plans.proofs.LevelLaws.{above-suc, above-sum}
 use Rattle.ib_plans.proofs.PathLaws.{PathPage-below, page_below-child}
+use Rattle.ib_plans.proofs.PathListLaws.{length-way_down}
 use Rattle.ib_plans.proofs.SettledLaws.{planned_delete-settled}
 use Rattle.ib_merge.specs.declared.edits.Merger.{Merger}
 use Rattle.ib_merge.specs.Deletes.{HasSiblings, HasNext, CanDelete, CanChoose, CanMerge, CanLift, IsMerged, IsLifted, IsClimbed, IsClimbedForAll, merger_of, without_record}
@@ -28,7 +29,7 @@ use Rattle.ib_merge.proofs.ImageLaws.{there-tree}
 use Rattle.ib_merge.proofs.LiftEdits.{IsClimbed-at, root-tree, root-stays, can-lift, IsClimbed-lift}
 use Rattle.ib_merge.proofs.MergerLaws.{short-none, long-settled}
 use Rattle.ib_merge.proofs.NodeLaws.{mid-alike, here-is, can-choose, same-choice, can-merge, IsAt-step}
-use Rattle.ib_merge.proofs.WayLaws.{length-way_down, way_down-at, nodes-at, above-sum}
+use Rattle.ib_merge.proofs.WayLaws.{way_down-at, nodes-at}
 
 -- the pages of the path up to this height were seen to
 abbrev pub IsAtForAll : List ℕ → MapKey → ℕ → List ℕ → List WorkPage → List WorkPage → Type 0

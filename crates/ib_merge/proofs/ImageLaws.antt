@@ -1,5 +1,5 @@
 -- What an image of a page of the tree says of its links and its records, and where its state says so.
-use Rattle.std.proofs.Common.{◌≡◌, ◌∙◌, ℕ, cond, ◌+◌, ◌<◌, ◌≤◌, List, length, refl, sym, ap, subst, Option, Some, None}
+use Rattle.std.proofs.Common.{◌≡◌, ◌∙◌, ℕ, cond, ◌+◌, ◌≤◌, List, length, refl, sym, ap, subst, Option, Some, None}
 use Rattle.std.specs.Prelude.{Result, Ok, Err, OnOk, OnErr, IfOk, IfErr, is_some, IsNone, ◌↔◌, IsSomeAnd}
 use Rattle.ib_map.specs.Keys.{MapKey}
 use Rattle.ib_map.specs.Pairs.{Pairs, place_of, value_at, without}
@@ -12,24 +12,15 @@ use Rattle.ib_heap.specs.declared.fault.PageFault.TheVariants.{Missing}
 use Rattle.ib_page.specs.Form.{page_of}
 use Rattle.ib_page.specs.Page.{PageValue, HoldsTree, HoldsPage, page_in}
 use Rattle.ib_page.specs.Page.PageValue.{Malformed as NoValue, Free as FreeValue, Tree as TreeValue}
-use Rattle.ib_page.specs.Image.{with_records, with_clock, IsTreePage, IsFormed, clock_of, next_of, records_of}
+use Rattle.ib_page.specs.Image.{with_records, with_clock, IsTreePage, IsFormed, clock_of, records_of}
 use Rattle.ib_page.specs.Work.{WorkPage, changed_of, with_changed}
 use Rattle.ib_heap.proofs.FormLaws.{tree_fits}
 use Rattle.ib_walk.specs.Pages.{Tree}
 use Rattle.ib_walk.specs.Words.{state_of}
 use Rattle.ib_plans.specs.Moves.{heap_without}
 use Rattle.ib_plans.specs.Agreement.{state_or_free, memory_in, Sets, tick}
-use Rattle.ib_plans.proofs.EditLaws.{state-clock, state-next}
+use Rattle.ib_plans.proofs.EditLaws.{state-tree}
 use Rattle.ib_merge.specs.Deletes.{without_record}
-
--- a node has no links
-tree-no_links : (ws : List ℕ) (v : PageValue) → page_of ws ≡ v → HoldsTree v → 0 < (page_in v).level → ((page_in v).prev ≡ 0) × ((page_in v).next ≡ 0)
-tree-no_links ws (TreeValue p) is tree up = let f = tree_fits ws p is in (f.no_prev up, f.no_next up)
-tree-no_links ws (FreeValue clock) is tree up = absurd tree
-tree-no_links ws NoValue is tree up = absurd tree
-
-pub node-links : (ws : List ℕ) → HoldsTree (page_of ws) → 0 < (page_in (page_of ws)).level → ((page_in (page_of ws)).prev ≡ 0) × ((page_in (page_of ws)).next ≡ 0)
-node-links ws tree up = tree-no_links ws (page_of ws) refl tree up
 
 -- a page has few records
 tree-few : (ws : List ℕ) (v : PageValue) → page_of ws ≡ v → HoldsTree v → length (page_in v).records ≤ MOST_RECORDS
@@ -76,12 +67,7 @@ removed-heap (Err fault) key old new there heap missing only same = ap read_heap
     absent None h = refl
     absent (Some x) h = absurd (cc)
 
--- a page whose state is one of a tree is one of a tree
-state-tree : (v : PageValue) → (state_of v).kind ≡ Tree → HoldsTree v
-state-tree (TreeValue p) is = tt
-state-tree (FreeValue clock) is = cc
-state-tree NoValue is = cc
-
+-- a page that is there is one of the tree where its state is one of a tree
 pub there-tree : (o : Option (List ℕ)) → (state_or_free o).kind ≡ Tree → IsSomeAnd o IsTreePage
 there-tree None is = cc
 there-tree (Some image) is = state-tree (page_of image) is
@@ -108,9 +94,6 @@ state-removed key old mid new o tree there removed ticks =
     by-value (FreeValue clock) tree = absurd tree
     by-value NoValue tree = absurd tree
 
-pub there-is : (o : Option (List ℕ)) (image : List ℕ) → o ≡ Some image → IsSomeAnd o IsTreePage → IsTreePage image
-there-is o image is tree = subst (λ (q : Option (List ℕ)). IsSomeAnd q IsTreePage) is tree
-
 -- a page whose clock has ticked is formed
 pub ticked-formed : (old new : List ℕ) → IsTreePage old → page_of new ≡ with_clock ((page_in (page_of old)).clock + 1) (page_of old) → IsFormed new
 ticked-formed old new tree is = subst HoldsPage (sym is) (by-value (page_of old) tree ((page_in (page_of old)).clock + 1))
@@ -122,13 +105,6 @@ ticked-formed old new tree is = subst HoldsPage (sym is) (by-value (page_of old)
 
 pub formed-is : (o : Option (List ℕ)) (image : List ℕ) → o ≡ Some image → IsSomeAnd o IsFormed → IsFormed image
 formed-is o image is formed = subst (λ (q : Option (List ℕ)). IsSomeAnd q IsFormed) is formed
-
--- the clock of an image that is there, and the leaf behind it
-pub clock-there : (image : List ℕ) (o : Option (List ℕ)) → o ≡ Some image → clock_of image ≡ (state_or_free o).clock
-clock-there image o is = sym (state-clock (page_of image)) ∙ ap (λ q. (state_or_free q).clock) (sym is)
-
-pub next-there : (image : List ℕ) (o : Option (List ℕ)) → o ≡ Some image → next_of image ≡ (state_or_free o).next
-next-there image o is = sym (state-next (page_of image)) ∙ ap (λ q. (state_or_free q).next) (sym is)
 
 -- a page whose clock has ticked, be it free or not
 pub touched-sets : (page : ℕ) (work : List WorkPage) (was now : List ℕ) → changed_of page work ≡ Some was → IsFormed was

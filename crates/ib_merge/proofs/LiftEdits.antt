@@ -21,10 +21,11 @@ use Rattle.ib_plans.specs.Agreement.{IsThere, state_or_free, memory_in, Agrees}
 use Rattle.ib_plans.proofs.ClockLaws.{ticked-alike}
 use Rattle.ib_plans.proofs.DeleteLaws.{IsDeletedBelow}
 use Rattle.ib_plans.proofs.MoveLaws.{with_move-own, with_move-other, filled-any, freed-any}
+use Rattle.ib_plans.proofs.ClockLaws.{ticked-touched}
 use Rattle.ib_plans.proofs.PageLaws.{mark-own, mark-on}
 use Rattle.ib_plans.proofs.PathLaws.{PathPage, PathPage-child}
 use Rattle.ib_merge.specs.Deletes.{lowered, CanLift, IsLifted, IsClimbed}
-use Rattle.ib_merge.proofs.AtLaws.{IsAt, ticked-on, mark-skip, mark-split}
+use Rattle.ib_merge.proofs.AtLaws.{IsAt, mark-skip, mark-split}
 use Rattle.ib_merge.proofs.GiveLaws.{with_bits-last, AreTaken-last}
 use Rattle.ib_merge.proofs.ImageLaws.{there-tree}
 use Rattle.ib_merge.proofs.MergedLaws.{lifted-reads, lifted-root, lifted-child, lifted-others}
@@ -161,10 +162,10 @@ module _ (pages roots root : ℕ) (key : MapKey) (path : List ℕ) (old : List W
       on-root = mark-on 0 (mark child (mark root s.touched)) root (mark-on child (mark root s.touched) root (mark-own root s.touched root refl))
 
       root-mid : memory_in mid root ≡ with_clock ((m root).clock + 1) (s.memory root)
-      root-mid = x.same root root-some root-at ∙ ticked-on m s.touched s.memory root x.own
+      root-mid = x.same root root-some root-at ∙ ticked-touched m s.touched s.memory root x.own
 
       child-mid : memory_in mid child ≡ with_clock ((m child).clock + 1) (s.memory child)
-      child-mid = x.same child child-is.some child-at ∙ ticked-on m s.touched s.memory child child-touched
+      child-mid = x.same child child-is.some child-at ∙ ticked-touched m s.touched s.memory child child-touched
 
       planned-root : planned root ≡ the-root
       planned-root = cond-ne root child (freed_page (s.memory child)) (cond (eqb root root) the-root (s.memory root)) child-is.apart ∙ cond-eq root root the-root (s.memory root) refl
@@ -179,12 +180,12 @@ module _ (pages roots root : ℕ) (key : MapKey) (path : List ℕ) (old : List W
       same-new n nz h = elim (cases_eq n child) [
         | inl e ↦ subst (λ q. memory_in new q ≡ ticked m t-all planned q) (sym e)
             (lifted-child root child mid new root-at child-at child-is.apart lift ∙ (ap freed_page child-mid
-            ∙ (sym (ap (with_clock ((m child).clock + 1)) planned-child) ∙ sym (ticked-on m t-all planned child on-child))))
+            ∙ (sym (ap (with_clock ((m child).clock + 1)) planned-child) ∙ sym (ticked-touched m t-all planned child on-child))))
         | inr nc ↦ elim (cases_eq n root) [
           | inl e ↦ subst (λ q. memory_in new q ≡ ticked m t-all planned q) (sym e)
               (lifted-root root child mid new root-at child-at child-is.apart lift
               ∙ (ap (λ (p : PageState). lowered p (memory_in mid child)) root-mid ∙ (ap (λ (p : PageState). lowered (with_clock ((m root).clock + 1) (s.memory root)) p) child-mid
-              ∙ (sym (ap (with_clock ((m root).clock + 1)) planned-root) ∙ sym (ticked-on m t-all planned root on-root)))))
+              ∙ (sym (ap (with_clock ((m root).clock + 1)) planned-root) ∙ sym (ticked-touched m t-all planned root on-root)))))
           | inr nr ↦
               let off : t-all n ≡ s.touched n = mark-skip 0 (mark child (mark root s.touched)) n nz ∙ (mark-skip child (mark root s.touched) n nc ∙ mark-skip root s.touched n nr) in
               let was-n : changed_of n new ≡ changed_of n mid = lifted-others root child mid new root-at child-at child-is.apart lift n nr nc in

@@ -11,7 +11,7 @@ use Rattle.ib_walk.proofs.SearchLaws.{AllByRecursion-at, IsPageFor-below, IsTree
 use Rattle.ib_walk.proofs.TreeLaws.{IsPageFor-top}
 use Rattle.ib_walk.proofs.WalkLaws.{children-append, children_of-append}
 use Rattle.ib_plans.proofs.LevelLaws.{below-zero}
-use Rattle.ib_plans.proofs.LinkLaws.{AreLinked-right}
+use Rattle.ib_walk.proofs.MeetLaws.{AreLinked-right}
 
 module _ (m : PageMemory) (bits : ℕ → ℕ) (roots : ℕ) (law : IsLawful m bits roots)
     (key : MapKey) (in-range : rank key < end_rank) (root : ℕ) (some : 0 < root) (le : root ≤ roots)

@@ -7,13 +7,8 @@ use Rattle.ib_map.specs.Keys.{MapKey}
 use Rattle.ib_page.specs.Work.{WorkPage, changed_of}
 use Rattle.ib_walk.specs.Pages.{PageMemory}
 use Rattle.ib_walk.specs.Search.{child_for, page_below}
-use Rattle.ib_walk.proofs.SearchLaws.{above}
-use Rattle.ib_plans.specs.Agreement.{IsThere, reads_of, way_down, last_of}
+use Rattle.ib_plans.specs.Agreement.{IsThere, reads_of, way_down}
 use Rattle.ib_merge.specs.Deletes.{nodes_of}
-
-pub length-way_down : (m : PageMemory) (key : MapKey) (height page : ℕ) → length (way_down m key height page) ≡ suc height
-length-way_down m key zero page = refl
-length-way_down m key (suc height) page = ap suc (length-way_down m key height (child_for key 0 (m page).records))
 
 -- the page at a place is the one so many levels below
 pub way_down-at : (m : PageMemory) (key : MapKey) (height page depth : ℕ) → depth ≤ height → get_or (way_down m key height page) depth 0 ≡ page_below m key depth page
@@ -28,13 +23,13 @@ nodes-count [] = omega arith
 nodes-count (x ∷ []) = omega arith
 nodes-count (x ∷ y ∷ ys) = let r = nodes-count (y ∷ ys) in omega arith
 
-nodes-few : (path : List ℕ) (i : ℕ) → i < length (nodes_of path) → i + 1 < length path
+pub nodes-few : (path : List ℕ) (i : ℕ) → i < length (nodes_of path) → i + 1 < length path
 nodes-few [] i lt = absurd (omega arith)
 nodes-few (x ∷ []) i lt = absurd (omega arith)
 nodes-few (x ∷ y ∷ ys) zero lt = omega arith
 nodes-few (x ∷ y ∷ ys) (suc i) lt = let r = nodes-few (y ∷ ys) i (omega arith) in omega arith
 
-nodes-same : (path : List ℕ) (i : ℕ) → i + 1 < length path → get_or (nodes_of path) i 0 ≡ get_or path i 0
+pub nodes-same : (path : List ℕ) (i : ℕ) → i + 1 < length path → get_or (nodes_of path) i 0 ≡ get_or path i 0
 nodes-same [] i lt = absurd (omega arith)
 nodes-same (x ∷ []) i lt = absurd (omega arith)
 nodes-same (x ∷ y ∷ ys) zero lt = refl
@@ -51,13 +46,6 @@ nodes-all P path each = All-from_get_or P (nodes_of path) 0 (λ i lt. let few = 
 pub way_down-last : (m : PageMemory) (key : MapKey) (depth page : ℕ) → way_down m key (suc depth) page ≡ way_down m key depth page ++ page_below m key (suc depth) page ∷ []
 way_down-last m key zero page = refl
 way_down-last m key (suc depth) page = ap (λ ps. page ∷ ps) (way_down-last m key depth (child_for key 0 (m page).records))
-
-pub last_of-at : (path : List ℕ) (i : ℕ) → i + 1 ≡ length path → get_or path i 0 ≡ last_of path
-last_of-at [] i e = absurd (omega arith)
-last_of-at (x ∷ []) zero e = refl
-last_of-at (x ∷ []) (suc i) e = absurd (omega arith)
-last_of-at (x ∷ y ∷ ys) zero e = absurd (omega arith)
-last_of-at (x ∷ y ∷ ys) (suc i) e = last_of-at (y ∷ ys) i (omega arith)
 
 -- where the pages read are the same, the same pages are there
 pub there-reads : (old new : List WorkPage) (page : ℕ) → reads_of new ≡ reads_of old → IsThere old page → IsThere new page
@@ -79,8 +67,3 @@ there-reads (w ∷ ws) (v ∷ vs) page same there =
     tail : List (ℕ × List ℕ) → List (ℕ × List ℕ)
     tail [] = []
     tail (r ∷ rs) = rs
-
--- a height is so many levels above another
-pub above-sum : (depth height : ℕ) → above depth height ≡ depth + height
-above-sum zero height = omega arith
-above-sum (suc depth) height = let r = above-sum depth height in omega arith

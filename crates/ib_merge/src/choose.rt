@@ -1,4 +1,4 @@
-//! Which two pages a delete merges.
+//! Which two pages a delete merges (`btr_compress`: the left sibling before the right one).
 
 ghost use Rattle.std.specs.Prelude.{◌≡◌, ◌<◌, ◌≤◌, ◌+◌, ◌-◌, None, slice_get, IsSomeAnd, length};
 ghost use Rattle.ib_map.specs.Keys.{rank};

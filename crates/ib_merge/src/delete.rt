@@ -1,4 +1,4 @@
-//! The planned delete.
+//! The planned delete (btr0cur, `btr_cur_pessimistic_delete`).
 
 ghost use Rattle.std.specs.Prelude.{◌≡◌, ◌↔◌, Some, None, ◌≤◌, ◌&&◌, ◌==◌, length, nat_lt, IfOk, IfErr, IsErr, OnOk, OnErr};
 ghost use Rattle.ib_map.specs.Pairs.{value_at};

@@ -1,4 +1,4 @@
-//! Two pages of the tree as one.
+//! Two pages of the tree as one (`btr_compress`, `btr_lift_page_up`).
 
 ghost use Rattle.std.specs.Prelude.{◌≡◌, ◌≤◌, ◌+◌, ◌++◌, length};
 ghost use Rattle.ib_map.specs.Keys.{end_rank};
@@ -12,7 +12,6 @@ ghost use Rattle.ib_walk.specs.Words.{state_of};
 ghost use Rattle.ib_merge.specs.Deletes.{joined, lowered};
 
 use ib_page::Image;
-use ib_plans::empty_page;
 
 // The left one of two pages of a level takes the records of the right one, and its link.
 pub(crate) fn join_images(left: &mut Image, right: &Image)
@@ -38,6 +37,6 @@ pub(crate) fn lower_image(root: &mut Image, child: &Image)
     ensures tree { IsTreePage root.new }
     ensures heap { read_heap root.new ≡ filled (length (records_of child.now)) }
 {
-    *root = empty_page(child.level(), root.clock());
+    *root = Image::empty(child.level(), root.clock());
     root.join(child);
 }

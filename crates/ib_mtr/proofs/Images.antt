@@ -6,7 +6,8 @@ use Rattle.std.proofs.lemmas.List.Elements.{All-cons, All-head, All-nil, All-tai
 use mathlib.Core.Logic.{dite}
 use native.Mathlib.Decide.{ℕ_discrete}
 use Rattle.ib_map.specs.declared.TheConstants.{PAGE_WORDS}
-use Rattle.ib_map.specs.Writes.{page_at, word_place}
+use Rattle.ib_map.specs.Writes.{word_place}
+use Rattle.ib_map.proofs.WriteLaws.{page_at-word}
 use Rattle.ib_core.specs.declared.session.Session.{Session}
 use Rattle.ib_core.specs.Sessions.{holdings}
 use Rattle.ib_page.specs.Work.{WorkPage, with_changed, with_page}
@@ -37,15 +38,12 @@ pub none_of : {A : Type 0} (P : A → Type 0) (xs : List A) → ((x : A) → P x
 none_of P [] never all = refl
 none_of P (x ∷ xs) never all = absurd (never x all.0)
 
-page_of_word : (page index : ℕ) → index < PAGE_WORDS → page_at (word_place page index) ≡ page
-page_of_word page index within = omega arith
-
 -- where the latch is still held, or is another one, an image is what was loaded
 pub image_left : (l : ℕ) (a : Session) (loaded : List Loaded) (page : ℕ) (image : List ℕ) → (not (page + 2 == l) || nat_lt 0 (holdings l a)) ≡ true → IsLoadedImage loaded page image
     → IsLoadedImage (filter (λ x. not (latch_at x.place == l) || nat_lt 0 (holdings l a)) loaded) page image
 image_left l a loaded page image passes all index within =
     let has = all index within in
-    passes_too _ loaded has.0 _ has.1 has.2 (subst (λ (n : ℕ). (not (n + 2 == l) || nat_lt 0 (holdings l a)) ≡ true) (sym (page_of_word page index within)) passes)
+    passes_too _ loaded has.0 _ has.1 has.2 (subst (λ (n : ℕ). (not (n + 2 == l) || nat_lt 0 (holdings l a)) ≡ true) (sym (page_at-word page index within)) passes)
 
 -- the pages that stay when a grant was given back
 pub pages_read : (l : ℕ) (a : Session) (loaded : List Loaded) (pages : List WorkPage) → All (λ w. IsLoadedImage loaded w.page w.before) pages

@@ -12,8 +12,9 @@ use Rattle.ib_logrec.specs.declared.entry.TheConstants.{MOST_SESSIONS}
 use Rattle.ib_logrec.specs.Law.{AreInGrammar}
 use Rattle.ib_rule.specs.Conditions.{MayGrow}
 use Rattle.ib_rule.specs.Pass.{PassState}
+use Rattle.ib_rule.proofs.Storing.{grammar_push}
 use Rattle.ib_frames.specs.Appends.{entry_for}
-use Rattle.ib_frames.proofs.Trying.{alone, entry_fits, grammar_more}
+use Rattle.ib_frames.proofs.Trying.{alone, entry_fits}
 use Rattle.ib_mtr.specs.Commits.{MayCommit}
 use Rattle.ib_mtr.specs.Mtr.{IsUnchangedOn}
 
@@ -37,7 +38,7 @@ may_commit_one pages p w key value is inside number made is_key some few whole h
   pages_x = λ page here. subst (λ k. 0 < x_grants (k + 2) p.view.session) (alone w page (subst (λ (ws : List WorkPage). Rattle.ib_map.specs.Writes.touches page (writes_of ws) ≡ true) is here)) held;
   index = λ spans. let z : true ≡ false = sym spans ∙ whole in absurd (cc);
   legal = λ others harmless legal.
-      grammar_more pages (p.view.memory.seen ++ others) (entry_for p (Insert key value) p.work) legal
+      grammar_push pages (p.view.memory.seen ++ others) (entry_for p (Insert key value) p.work) legal
       (subst (λ (ws : List WorkPage). Rattle.ib_logrec.specs.Grammar.IsInGrammar pages (entry_for p (Insert key value) ws)) (sym is)
       (entry_fits w pages p key value inside number made is_key (subst (λ (ws : List WorkPage). 0 < length (writes_of ws)) is some) (subst (λ (ws : List WorkPage). length (writes_of ws) ≤ 128) is few)));
 }

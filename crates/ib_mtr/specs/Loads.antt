@@ -23,7 +23,7 @@ pub record HasLooked (key : Sizes) (lawful : List Entry → Type 0) (opening : �
   pub pass : q ≡ with_view p (reaching q.view.memory.seen p.view)
 
 -- a page was loaded: it stands in the work set as it is after all entries seen, among them those first seen by the load, which are harmless
-pub record HasLoaded (key : Sizes) (lawful : List Entry → Type 0) (opening : ℕ → ℕ) (page : ℕ) (p q : PassState) : Type 0 where
+pub record HasLoadedPage (key : Sizes) (lawful : List Entry → Type 0) (opening : ℕ → ℕ) (page : ℕ) (p q : PassState) : Type 0 where
   pub image : List ℕ
   pub size : length image ≡ PAGE_WORDS
   pub is_page : IsPageAfter opening q.view.memory.seen page image

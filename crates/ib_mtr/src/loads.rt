@@ -11,7 +11,7 @@ ghost use Rattle.ib_page.specs.Work.{changed_of};
 ghost use Rattle.ib_rule.specs.Pass.{with_view};
 ghost use Rattle.ib_rule.specs.Views.{is_watched, loading};
 ghost use Rattle.ib_mtr.specs.Lending.{LendsImage};
-ghost use Rattle.ib_mtr.specs.Loads.{HasLoaded, HasLooked};
+ghost use Rattle.ib_mtr.specs.Loads.{HasLoadedPage, HasLooked};
 ghost use Rattle.ib_mtr.specs.Mtr.{IsMtr};
 
 use crate::mtr::Mtr;
@@ -35,7 +35,7 @@ impl<'a, L: Law, S: Sleep> Mtr<'a, L, S> {
         ensures mtr { IsMtr self.new.latches.now self.new.pass.now }
         ensures latches { self.new.latches ≡ self.old.latches }
         ensures pass { self.new.pass.ghost_name ≡ self.old.pass.ghost_name }
-        ensures loaded { HasLoaded self.old.latches.now.sizes
+        ensures loaded { HasLoadedPage self.old.latches.now.sizes
             (L.lawful self.old.latches.now.sizes.pages)
             (by_place L.opening self.old.latches.now.sizes.pages)
             page self.old.pass.now self.new.pass.now }

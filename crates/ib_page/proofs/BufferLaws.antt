@@ -8,12 +8,13 @@ use Rattle.std.proofs.lemmas.List.{map-append}
 use Rattle.std.proofs.lemmas.List.Folds.{list_any-append}
 use Rattle.ib_map.specs.declared.TheConstants.{PAGE_WORDS}
 use Rattle.ib_map.specs.declared.write.Write.{Write}
-use Rattle.ib_map.specs.Writes.{word_place, page_at, write_words, spans_pages}
+use Rattle.ib_map.specs.Writes.{page_at, write_words, spans_pages}
 use Rattle.ib_page.specs.declared.work.Slot.{Slot}
-use Rattle.ib_page.specs.Rooms.{pages_in, page_in, image_in, changed_in, SlotsAscend}
+use Rattle.ib_page.specs.Rooms.{pages_in, work_page_in, image_in, changed_in, SlotsAscend}
 use Rattle.ib_page.specs.Writes.{word_write, writes_below, page_writes, writes_of}
 use Rattle.ib_page.proofs.RoomLaws.{page-le}
-use Rattle.ib_page.proofs.WriteLaws.{writes_none, writes_more, put_more, length-write_words, write_words-append}
+use Rattle.ib_map.proofs.WriteLaws.{page_at-word, length-write_words, write_words-append}
+use Rattle.ib_page.proofs.WriteLaws.{writes_none, writes_more, put_more}
 
 -- one page more
 take-more : (ss : List Slot) (i : ℕ) (d : Slot) → i < length ss → take (i + 1) ss ≡ take i ss ++ get_or ss i d ∷ []
@@ -22,12 +23,12 @@ take-more (s ∷ ss) zero d lt = refl
 take-more (s ∷ ss) (suc i) d lt = ap (λ k. take k (s ∷ ss)) (let e : suc i + 1 ≡ suc (i + 1) = omega arith in e) ∙ ap (λ ts. s ∷ ts) (take-more ss i d (omega arith))
 
 pub writes_of-more : (before changed : List (List ℕ)) (ss : List Slot) (i : ℕ) (d : Slot) → i < length ss
-    → writes_of (pages_in before changed (take (i + 1) ss)) ≡ writes_of (pages_in before changed (take i ss)) ++ page_writes (page_in before changed (get_or ss i d))
+    → writes_of (pages_in before changed (take (i + 1) ss)) ≡ writes_of (pages_in before changed (take i ss)) ++ page_writes (work_page_in before changed (get_or ss i d))
 writes_of-more before changed ss i d lt =
     ap (λ ts. writes_of (pages_in before changed ts)) (take-more ss i d lt)
-    ∙ (ap (λ ps. writes_of ps) (map-append (page_in before changed) (take i ss) (get_or ss i d ∷ []))
+    ∙ (ap (λ ps. writes_of ps) (map-append (work_page_in before changed) (take i ss) (get_or ss i d ∷ []))
     ∙ (flat_map-append page_writes (pages_in before changed (take i ss)) (pages_in before changed (get_or ss i d ∷ []))
-    ∙ ap (λ ws. writes_of (pages_in before changed (take i ss)) ++ ws) (append-nil (page_writes (page_in before changed (get_or ss i d))))))
+    ∙ ap (λ ws. writes_of (pages_in before changed (take i ss)) ++ ws) (append-nil (page_writes (work_page_in before changed (get_or ss i d))))))
 
 -- no more writes in front than there are
 pub writes_of-le : (before changed : List (List ℕ)) (ss : List Slot) (n : ℕ) → length (writes_of (pages_in before changed (take n ss))) ≤ length (writes_of (pages_in before changed ss))
@@ -36,8 +37,8 @@ writes_of-le before changed [] (suc n) = omega arith
 writes_of-le before changed (s ∷ ss) zero = omega arith
 writes_of-le before changed (s ∷ ss) (suc n) =
     let rest = writes_of-le before changed ss n in
-    let all = length-append (page_writes (page_in before changed s)) (writes_of (pages_in before changed ss)) in
-    let some = length-append (page_writes (page_in before changed s)) (writes_of (pages_in before changed (take n ss))) in
+    let all = length-append (page_writes (work_page_in before changed s)) (writes_of (pages_in before changed ss)) in
+    let some = length-append (page_writes (work_page_in before changed s)) (writes_of (pages_in before changed (take n ss))) in
     omega arith
 
 -- the words of one page behind those of others
@@ -59,7 +60,7 @@ abbrev pub AreBefore : ℕ → List Write → Type 0
 AreBefore page [] = Unit {0}
 AreBefore page (w ∷ ws) = (page_at w.place < page) × AreBefore page ws
 
-AreOn-append : (page : ℕ) (xs ys : List Write) → AreOn page xs → AreOn page ys → AreOn page (xs ++ ys)
+pub AreOn-append : (page : ℕ) (xs ys : List Write) → AreOn page xs → AreOn page ys → AreOn page (xs ++ ys)
 AreOn-append page [] ys h k = k
 AreOn-append page (x ∷ xs) ys h k = (h.0, AreOn-append page xs ys h.1 k)
 
@@ -70,9 +71,6 @@ AreBefore-append page (x ∷ xs) ys h k = (h.0, AreBefore-append page xs ys h.1 
 AreOn-before : (page later : ℕ) (ws : List Write) → page < later → AreOn page ws → AreBefore later ws
 AreOn-before page later [] lt h = tt
 AreOn-before page later (w ∷ ws) lt h = (let at = h.0 in omega arith, AreOn-before page later ws lt h.1)
-
-pub page_at-word : (page index : ℕ) → index < PAGE_WORDS → page_at (word_place page index) ≡ page
-page_at-word page index lt = omega arith
 
 pub writes_on : (page : ℕ) (before changed : List ℕ) (n : ℕ) → n ≤ PAGE_WORDS → AreOn page (writes_below page before changed n)
 writes_on page before changed zero le = subst (λ (ws : List Write). AreOn page ws) (sym (writes_none page before changed)) tt
@@ -92,8 +90,8 @@ writes_before before changed low [] i d h lt = absurd (omega arith)
 writes_before before changed low (s ∷ ss) zero d h lt = tt
 writes_before before changed low (s ∷ ss) (suc i) d h lt =
     let above = page-le (s.page + 1) ss i d h.1 (omega arith) in
-    AreBefore-append (get_or ss i d).page (page_writes (page_in before changed s)) (writes_of (pages_in before changed (take i ss)))
-    (AreOn-before s.page (get_or ss i d).page (page_writes (page_in before changed s)) (omega arith) (writes_on s.page (image_in before s.room) (changed_in before changed s) PAGE_WORDS (omega arith)))
+    AreBefore-append (get_or ss i d).page (page_writes (work_page_in before changed s)) (writes_of (pages_in before changed (take i ss)))
+    (AreOn-before s.page (get_or ss i d).page (page_writes (work_page_in before changed s)) (omega arith) (writes_on s.page (image_in before s.room) (changed_in before changed s) PAGE_WORDS (omega arith)))
     (writes_before before changed (s.page + 1) ss i d h.1 (omega arith))
 
 -- writes on one page do not span pages, and behind writes on others they do

@@ -12,7 +12,7 @@ use Rattle.std.proofs.lemmas.List.Edits.{length-insert, length-remove}
 use Rattle.ib_page.specs.declared.work.TheConstants.{MOST_WORK_PAGES}
 use Rattle.ib_page.specs.declared.work.Slot.{Slot}
 use Rattle.ib_page.specs.Work.{WorkPage, PagesAscend, IsWork, changed_of, before_of, with_read, without_page, with_changed}
-use Rattle.ib_page.specs.Rooms.{image_in, changed_in, page_in, pages_in, SlotsAscend, times_used, times_kept, IsKept}
+use Rattle.ib_page.specs.Rooms.{image_in, changed_in, work_page_in, pages_in, SlotsAscend, times_used, times_kept, IsRoomed}
 
 -- 1 where a slot has this room
 abbrev here : ℕ → Slot → ℕ
@@ -41,7 +41,7 @@ used_at (s ∷ ss) (suc i) d lt =
 not_used : (room : ℕ) (s : Slot) (ss : List Slot) → times_used room (s ∷ ss) ≡ 0 → (s.room ≢ room) × (times_used room ss ≡ 0)
 not_used room s ss none = let split = used_first room s ss in (λ same. (let one = is_here room s same in omega arith), omega arith)
 
-pub room-lt : (ss : List Slot) (before changed : List (List ℕ)) (spare : List ℕ) (i : ℕ) (d : Slot) → IsKept ss before changed spare → i < length ss → (get_or ss i d).room < MOST_WORK_PAGES
+pub room-lt : (ss : List Slot) (before changed : List (List ℕ)) (spare : List ℕ) (i : ℕ) (d : Slot) → IsRoomed ss before changed spare → i < length ss → (get_or ss i d).room < MOST_WORK_PAGES
 room-lt ss before changed spare i d h lt = elim (cases_lt (get_or ss i d).room MOST_WORK_PAGES) [
   | inl within ↦ within
   | inr over ↦ absurd (let none = h.no_other (get_or ss i d).room over in let some = used_at ss i d lt in omega arith)
@@ -84,33 +84,33 @@ pub pages_ascend : (before changed : List (List ℕ)) (low : ℕ) (ss : List Slo
 pages_ascend before changed low [] h = tt
 pages_ascend before changed low (s ∷ ss) h = (h.0, pages_ascend before changed (s.page + 1) ss h.1)
 
-pub is_work : (ss : List Slot) (before changed : List (List ℕ)) (spare : List ℕ) → IsKept ss before changed spare → IsWork (pages_in before changed ss)
+pub is_work : (ss : List Slot) (before changed : List (List ℕ)) (spare : List ℕ) → IsRoomed ss before changed spare → IsWork (pages_in before changed ss)
 is_work ss before changed spare h =
-    let long = length-map ss (page_in before changed) in let rooms = h.rooms in
+    let long = length-map ss (work_page_in before changed) in let rooms = h.rooms in
     record { ascends = pages_ascend before changed 0 ss h.ascends; few = omega arith }
 
 -- a room that is not used may have any image
-page_in-before : (before changed : List (List ℕ)) (s : Slot) (room : ℕ) (image : List ℕ) → s.room ≢ room → page_in (set before room image) changed s ≡ page_in before changed s
-page_in-before before changed s room image apart =
+work_page_in-before : (before changed : List (List ℕ)) (s : Slot) (room : ℕ) (image : List ℕ) → s.room ≢ room → work_page_in (set before room image) changed s ≡ work_page_in before changed s
+work_page_in-before before changed s room image apart =
     ap (λ (v : List ℕ). let p : WorkPage = record { page = s.page; before = v; changed = cond s.edited (image_in changed s.room) v } in p) (get_or-set_other before room s.room image [] apart)
 
-page_in-changed : (before changed : List (List ℕ)) (s : Slot) (room : ℕ) (image : List ℕ) → s.room ≢ room → page_in before (set changed room image) s ≡ page_in before changed s
-page_in-changed before changed s room image apart =
+work_page_in-changed : (before changed : List (List ℕ)) (s : Slot) (room : ℕ) (image : List ℕ) → s.room ≢ room → work_page_in before (set changed room image) s ≡ work_page_in before changed s
+work_page_in-changed before changed s room image apart =
     ap (λ (v : List ℕ). let p : WorkPage = record { page = s.page; before = image_in before s.room; changed = cond s.edited v (image_in before s.room) } in p) (get_or-set_other changed room s.room image [] apart)
 
 pub pages_in-before : (before changed : List (List ℕ)) (ss : List Slot) (room : ℕ) (image : List ℕ) → times_used room ss ≡ 0 → pages_in (set before room image) changed ss ≡ pages_in before changed ss
 pages_in-before before changed [] room image none = refl
 pages_in-before before changed (s ∷ ss) room image none =
     let apart = not_used room s ss none in
-    ap (λ p. p ∷ pages_in (set before room image) changed ss) (page_in-before before changed s room image apart.0)
-    ∙ ap (λ ps. page_in before changed s ∷ ps) (pages_in-before before changed ss room image apart.1)
+    ap (λ p. p ∷ pages_in (set before room image) changed ss) (work_page_in-before before changed s room image apart.0)
+    ∙ ap (λ ps. work_page_in before changed s ∷ ps) (pages_in-before before changed ss room image apart.1)
 
 pub pages_in-changed : (before changed : List (List ℕ)) (ss : List Slot) (room : ℕ) (image : List ℕ) → times_used room ss ≡ 0 → pages_in before (set changed room image) ss ≡ pages_in before changed ss
 pages_in-changed before changed [] room image none = refl
 pages_in-changed before changed (s ∷ ss) room image none =
     let apart = not_used room s ss none in
-    ap (λ p. p ∷ pages_in before (set changed room image) ss) (page_in-changed before changed s room image apart.0)
-    ∙ ap (λ ps. page_in before changed s ∷ ps) (pages_in-changed before changed ss room image apart.1)
+    ap (λ p. p ∷ pages_in before (set changed room image) ss) (work_page_in-changed before changed s room image apart.0)
+    ∙ ap (λ ps. work_page_in before changed s ∷ ps) (pages_in-changed before changed ss room image apart.1)
 
 -- the slot of an edited page
 abbrev pub edited_slot : Slot → Slot
@@ -124,7 +124,7 @@ edit_changes before changed low [] i page image d h lt same within once = absurd
 edit_changes before changed low (s ∷ ss) zero page image d h lt same within once =
     let split = used_first s.room s ss in
     let one = is_here s.room s refl in
-    let first : page_in before (set changed s.room image) (edited_slot s) ≡ record { page = s.page; before = image_in before s.room; changed = image } =
+    let first : work_page_in before (set changed s.room image) (edited_slot s) ≡ record { page = s.page; before = image_in before s.room; changed = image } =
     ap (λ (v : List ℕ). let p : WorkPage = record { page = s.page; before = image_in before s.room; changed = v } in p) (get_or-set_same changed s.room image [] within) in
     rw (eq-eqb s.page page same) (ap (λ p. p ∷ pages_in before (set changed s.room image) ss) first
     ∙ ap (λ ps. (let p : WorkPage = record { page = s.page; before = image_in before s.room; changed = image } in p) ∷ ps) (pages_in-changed before changed ss s.room image (omega arith)))
@@ -134,8 +134,8 @@ edit_changes before changed low (s ∷ ss) (suc i) page image d h lt same within
     let some = used_at ss i d (omega arith) in
     let apart : s.room ≢ room = λ e. (let one = is_here room s e in omega arith) in
     let above = page-le (s.page + 1) ss i d h.1 (omega arith) in
-    rw (ne_eqb s.page page (λ e. omega arith)) (ap (λ p. p ∷ pages_in before (set changed room image) (set ss i (edited_slot (get_or ss i d)))) (page_in-changed before changed s room image apart)
-    ∙ ap (λ ps. page_in before changed s ∷ ps) (edit_changes before changed (s.page + 1) ss i page image d h.1 (omega arith) same within (omega arith)))
+    rw (ne_eqb s.page page (λ e. omega arith)) (ap (λ p. p ∷ pages_in before (set changed room image) (set ss i (edited_slot (get_or ss i d)))) (work_page_in-changed before changed s room image apart)
+    ∙ ap (λ ps. work_page_in before changed s ∷ ps) (edit_changes before changed (s.page + 1) ss i page image d h.1 (omega arith) same within (omega arith)))
 
 -- a page that is read into a room that is not used
 pub insert_reads : (before changed : List (List ℕ)) (ss : List Slot) (page room : ℕ) (image : List ℕ) → room < length before → times_used room ss ≡ 0
@@ -145,8 +145,8 @@ insert_reads before changed [] page room image within none =
 insert_reads before changed (s ∷ ss) page room image within none = elim (cases_lt s.page page) [
   | inl lt ↦
       let apart = not_used room s ss none in
-      rw (lt-ltb s.page page lt, one-add (place_in page ss)) (ap (λ p. p ∷ pages_in (set before room image) changed (insert ss (place_in page ss) (record { page = page; room = room; edited = false }))) (page_in-before before changed s room image apart.0)
-      ∙ ap (λ ps. page_in before changed s ∷ ps) (insert_reads before changed ss page room image within apart.1))
+      rw (lt-ltb s.page page lt, one-add (place_in page ss)) (ap (λ p. p ∷ pages_in (set before room image) changed (insert ss (place_in page ss) (record { page = page; room = room; edited = false }))) (work_page_in-before before changed s room image apart.0)
+      ∙ ap (λ ps. work_page_in before changed s ∷ ps) (insert_reads before changed ss page room image within apart.1))
   | inr ge ↦ rw (le-ltb s.page page ge) (ap (λ (v : List ℕ). (let p : WorkPage = record { page = page; before = v; changed = v } in p) ∷ pages_in (set before room image) changed (s ∷ ss)) (get_or-set_same before room image [] within)
       ∙ ap (λ ps. (let p : WorkPage = record { page = page; before = image; changed = image } in p) ∷ ps) (pages_in-before before changed (s ∷ ss) room image none))
 ]
@@ -158,7 +158,7 @@ remove_leaves before changed low [] i page d h lt same = absurd (omega arith)
 remove_leaves before changed low (s ∷ ss) zero page d h lt same = rw (eq-eqb s.page page same) refl
 remove_leaves before changed low (s ∷ ss) (suc i) page d h lt same =
     let above = page-le (s.page + 1) ss i d h.1 (omega arith) in
-    rw (ne_eqb s.page page (λ e. omega arith)) (ap (λ ps. page_in before changed s ∷ ps) (remove_leaves before changed (s.page + 1) ss i page d h.1 (omega arith) same))
+    rw (ne_eqb s.page page (λ e. omega arith)) (ap (λ ps. work_page_in before changed s ∷ ps) (remove_leaves before changed (s.page + 1) ss i page d h.1 (omega arith) same))
 
 -- the order of pages after each change
 SlotsAscend-lower : (under low : ℕ) (ss : List Slot) → under ≤ low → SlotsAscend low ss → SlotsAscend under ss
@@ -198,8 +198,8 @@ times_used-set (s ∷ ss) zero r q d same lt = used_first r q ss ∙ (ap (λ n. 
 times_used-set (s ∷ ss) (suc i) r q d same lt = used_first r s (set ss i q) ∙ (ap (λ n. here r s + n) (times_used-set ss i r q d same (omega arith)) ∙ sym (used_first r s ss))
 
 -- the rooms after an edit
-pub kept_edited : (ss : List Slot) (before changed changes : List (List ℕ)) (spare : List ℕ) (i : ℕ) (d : Slot) → IsKept ss before changed spare → i < length ss → length changes ≡ length changed
-    → IsKept (set ss i (edited_slot (get_or ss i d))) before changes spare
+pub kept_edited : (ss : List Slot) (before changed changes : List (List ℕ)) (spare : List ℕ) (i : ℕ) (d : Slot) → IsRoomed ss before changed spare → i < length ss → length changes ≡ length changed
+    → IsRoomed (set ss i (edited_slot (get_or ss i d))) before changes spare
 kept_edited ss before changed changes spare i d h lt long =
     let size = h.changed_size in let rooms = h.rooms in
     record {
@@ -212,7 +212,7 @@ kept_edited ss before changed changes spare i d h lt long =
     }
 
 -- the last spare room is one of the rooms, and not used
-pub spare_room : (ss : List Slot) (before changed : List (List ℕ)) (spare rest : List ℕ) (room : ℕ) → IsKept ss before changed spare → spare ≡ rest ++ room ∷ [] → (room < MOST_WORK_PAGES) × (times_used room ss ≡ 0)
+pub spare_room : (ss : List Slot) (before changed : List (List ℕ)) (spare rest : List ℕ) (room : ℕ) → IsRoomed ss before changed spare → spare ≡ rest ++ room ∷ [] → (room < MOST_WORK_PAGES) × (times_used room ss ≡ 0)
 spare_room ss before changed spare rest room h popped =
     let one_here : count_by (λ (n : ℕ). eqb n room) spare ≡ count_by (λ (n : ℕ). eqb n room) rest + 1 =
     ap (λ (ns : List ℕ). count_by (λ (n : ℕ). eqb n room) ns) popped ∙ (sum_by_push (λ (n : ℕ). cond (eqb n room) 1 0) rest room ∙ ap (λ b. count_by (λ (n : ℕ). eqb n room) rest + cond b 1 0) (eq-eqb room room refl)) in
@@ -222,8 +222,8 @@ spare_room ss before changed spare rest room h popped =
     ] in
     (within, let once = h.once room within in omega arith)
 
-pub kept_read : (ss : List Slot) (before befores changed : List (List ℕ)) (spare rest : List ℕ) (page room : ℕ) → IsKept ss before changed spare → spare ≡ rest ++ room ∷ [] → changed_of page (pages_in before changed ss) ≡ None → length befores ≡ length before
-    → IsKept (insert ss (place_in page ss) (record { page = page; room = room; edited = false })) befores changed rest
+pub kept_read : (ss : List Slot) (before befores changed : List (List ℕ)) (spare rest : List ℕ) (page room : ℕ) → IsRoomed ss before changed spare → spare ≡ rest ++ room ∷ [] → changed_of page (pages_in before changed ss) ≡ None → length befores ≡ length before
+    → IsRoomed (insert ss (place_in page ss) (record { page = page; room = room; edited = false })) befores changed rest
 kept_read ss before befores changed spare rest page room h popped none long =
     let q : Slot = record { page = page; room = room; edited = false } in
     let le : place_in page ss ≤ length ss = prefix_len-le-length (λ (s : Slot). ltb s.page page) ss in
@@ -244,7 +244,7 @@ kept_read ss before befores changed spare rest page room h popped none long =
       rooms = omega arith;
     }
 
-pub kept_removed : (ss : List Slot) (before changed : List (List ℕ)) (spare : List ℕ) (i : ℕ) (d : Slot) → IsKept ss before changed spare → i < length ss → IsKept (remove ss i) before changed (spare ++ (get_or ss i d).room ∷ [])
+pub kept_removed : (ss : List Slot) (before changed : List (List ℕ)) (spare : List ℕ) (i : ℕ) (d : Slot) → IsRoomed ss before changed spare → i < length ss → IsRoomed (remove ss i) before changed (spare ++ (get_or ss i d).room ∷ [])
 kept_removed ss before changed spare i d h lt =
     let room = (get_or ss i d).room in
     let shorter = length-remove ss i lt in
@@ -272,7 +272,7 @@ kept_removed ss before changed spare i d h lt =
         let split_rest = used_first r s (remove ss i) in
         omega arith
 
-pub kept_popped : (ss rest : List Slot) (before changed : List (List ℕ)) (spare : List ℕ) (s : Slot) → IsKept ss before changed spare → ss ≡ rest ++ s ∷ [] → IsKept rest before changed (spare ++ s.room ∷ [])
+pub kept_popped : (ss rest : List Slot) (before changed : List (List ℕ)) (spare : List ℕ) (s : Slot) → IsRoomed ss before changed spare → ss ≡ rest ++ s ∷ [] → IsRoomed rest before changed (spare ++ s.room ∷ [])
 kept_popped ss rest before changed spare s h popped =
     let long : length ss ≡ length rest + 1 = ap length popped ∙ length_push rest s in
     let longer = length_push spare s.room in
@@ -292,7 +292,7 @@ kept_popped ss rest before changed spare s h popped =
 
 -- a new work set: all rooms are spare
 pub kept_new : (before changed : List (List ℕ)) (spare : List ℕ) → length before ≡ MOST_WORK_PAGES → length changed ≡ MOST_WORK_PAGES → length spare ≡ MOST_WORK_PAGES
-    → ((r : ℕ) → count_by (λ (k : ℕ). eqb k r) spare ≡ cond {A = ℕ} (ltb r MOST_WORK_PAGES) 1 0) → IsKept [] before changed spare
+    → ((r : ℕ) → count_by (λ (k : ℕ). eqb k r) spare ≡ cond {A = ℕ} (ltb r MOST_WORK_PAGES) 1 0) → IsRoomed [] before changed spare
 kept_new before changed spare many many_changed all once = record {
   ascends = tt;
   once = λ r lt. (let now = once r in let one : cond {A = ℕ} (ltb r MOST_WORK_PAGES) 1 0 ≡ 1 = ap (λ b. cond {A = ℕ} b 1 0) (lt-ltb r MOST_WORK_PAGES lt) in omega arith);
@@ -335,7 +335,7 @@ place_in-is page ss n d le below above =
 pub image_read : (images : List (List ℕ)) (room : ℕ) (image : List ℕ) → room < length images → image ≡ get_or images room image → image ≡ image_in images room
 image_read images room image lt at = at ∙ sym (get_or_default images room [] image lt)
 
-pub room_at-lt : (ss : List Slot) (before changed : List (List ℕ)) (spare : List ℕ) (i : ℕ) (s : Slot) → IsKept ss before changed spare → i < length ss → s ≡ get_or ss i s → s.room < MOST_WORK_PAGES
+pub room_at-lt : (ss : List Slot) (before changed : List (List ℕ)) (spare : List ℕ) (i : ℕ) (s : Slot) → IsRoomed ss before changed spare → i < length ss → s ≡ get_or ss i s → s.room < MOST_WORK_PAGES
 room_at-lt ss before changed spare i s h lt at = subst (λ (t : Slot). t.room < MOST_WORK_PAGES) (sym at) (room-lt ss before changed spare i s h lt)
 
 pub found_slot : (ss : List Slot) (i page : ℕ) (d : Slot) → IsSomeAnd (slice_get ss i) (λ s. s.page ≡ page) → (i < length ss) × ((get_or ss i d).page ≡ page)
@@ -347,13 +347,13 @@ pub found_slot-lt : (ss : List Slot) (i page : ℕ) → IsSomeAnd (slice_get ss 
 found_slot-lt ss i page found = (found_slot ss i page (record { page = 0; room = 0; edited = false }) found).0
 
 pub place-lt : (before changed : List (List ℕ)) (ss : List Slot) (ps : List WorkPage) (i : ℕ) → pages_in before changed ss ≡ ps → i < length ps → i < length ss
-place-lt before changed ss ps i view lt = let long = length-map ss (page_in before changed) in let same = ap length view in omega arith
+place-lt before changed ss ps i view lt = let long = length-map ss (work_page_in before changed) in let same = ap length view in omega arith
 
 -- the page at a place
 pub page_read : (before changed : List (List ℕ)) (ss : List Slot) (ps : List WorkPage) (i : ℕ) (s : Slot) (image latest : List ℕ) → pages_in before changed ss ≡ ps → i < length ss → s ≡ get_or ss i s
     → image ≡ image_in before s.room → latest ≡ changed_in before changed s → slice_get ps i ≡ Some (record { page = s.page; before = image; changed = latest })
 page_read before changed ss ps i s image latest view lt at is now =
-    ap (λ qs. slice_get qs i) (sym view) ∙ (slice_get-map (page_in before changed) ss i ∙ (ap (λ o. option_map (page_in before changed) o) (slice_get_read ss (length ss) i s refl lt at) ∙ (cc)))
+    ap (λ qs. slice_get qs i) (sym view) ∙ (slice_get-map (work_page_in before changed) ss i ∙ (ap (λ o. option_map (work_page_in before changed) o) (slice_get_read ss (length ss) i s refl lt at) ∙ (cc)))
 
 -- the images of a page that is found, and of one that is not
 pub image_found : (before changed : List (List ℕ)) (ss : List Slot) (ps : List WorkPage) (i page : ℕ) (s : Slot) (image : List ℕ) → pages_in before changed ss ≡ ps → SlotsAscend 0 ss → IsSomeAnd (slice_get ss i) (λ t. t.page ≡ page)
@@ -385,7 +385,7 @@ set-twice (image ∷ images) zero x y = refl
 set-twice (image ∷ images) (suc room) x y = ap (λ zs. image ∷ zs) (set-twice images room x y)
 
 -- what an edit makes of the pages and of their rooms, from a slot that was read
-module _ (before changed : List (List ℕ)) (ss : List Slot) (spare : List ℕ) (ps : List WorkPage) (i page : ℕ) (s : Slot) (h : IsKept ss before changed spare) (view : pages_in before changed ss ≡ ps)
+module _ (before changed : List (List ℕ)) (ss : List Slot) (spare : List ℕ) (ps : List WorkPage) (i page : ℕ) (s : Slot) (h : IsRoomed ss before changed spare) (view : pages_in before changed ss ≡ ps)
     (found : IsSomeAnd (slice_get ss i) (λ t. t.page ≡ page)) (at : s ≡ get_or ss i s) where
   pub edit-lt : i < length ss
   edit-lt = (found_slot ss i page s found).0
@@ -393,10 +393,10 @@ module _ (before changed : List (List ℕ)) (ss : List Slot) (spare : List ℕ) 
   pub edit_room-lt : s.room < MOST_WORK_PAGES
   edit_room-lt = room_at-lt ss before changed spare i s h edit-lt at
 
-  pub edit_kept : (copies : List (List ℕ)) (w : List ℕ) → copies ≡ set changed s.room (changed_in before changed s) → IsKept (set ss i (edited_slot s)) before (set copies s.room w) spare
+  pub edit_kept : (copies : List (List ℕ)) (w : List ℕ) → copies ≡ set changed s.room (changed_in before changed s) → IsRoomed (set ss i (edited_slot s)) before (set copies s.room w) spare
   edit_kept copies w is =
       let long : length (set copies s.room w) ≡ length changed = length-set copies s.room w ∙ (ap length is ∙ length-set changed s.room (changed_in before changed s)) in
-      subst (λ (t : Slot). IsKept (set ss i (edited_slot t)) before (set copies s.room w) spare) (sym at) (kept_edited ss before changed (set copies s.room w) spare i s h edit-lt long)
+      subst (λ (t : Slot). IsRoomed (set ss i (edited_slot t)) before (set copies s.room w) spare) (sym at) (kept_edited ss before changed (set copies s.room w) spare i s h edit-lt long)
 
   pub edit_gives : (copies : List (List ℕ)) (w : List ℕ) → copies ≡ set changed s.room (changed_in before changed s) → pages_in before (set copies s.room w) (set ss i (edited_slot s)) ≡ with_changed page w ps
   edit_gives copies w is =
@@ -413,20 +413,20 @@ module _ (before changed : List (List ℕ)) (ss : List Slot) (spare : List ℕ) 
       image_found before changed ss ps i page s image view h.ascends found at
       (read ∙ (ap (λ cs. get_or cs s.room image) is ∙ get_or-set_same changed s.room (changed_in before changed s) image (omega arith)))
 
-  pub remove_kept : IsKept (remove ss i) before changed (spare ++ s.room ∷ [])
-  remove_kept = subst (λ (t : Slot). IsKept (remove ss i) before changed (spare ++ t.room ∷ [])) (sym at) (kept_removed ss before changed spare i s h edit-lt)
+  pub remove_kept : IsRoomed (remove ss i) before changed (spare ++ s.room ∷ [])
+  remove_kept = subst (λ (t : Slot). IsRoomed (remove ss i) before changed (spare ++ t.room ∷ [])) (sym at) (kept_removed ss before changed spare i s h edit-lt)
 
   pub remove_gives : pages_in before changed (remove ss i) ≡ without_page page ps
   remove_gives = remove_leaves before changed 0 ss i page s h.ascends edit-lt (found_slot ss i page s found).1 ∙ ap (λ qs. without_page page qs) view
 
 -- what reading a page in makes of the pages and of their rooms
-module _ (before changed : List (List ℕ)) (ss : List Slot) (spare rest : List ℕ) (ps : List WorkPage) (page room i : ℕ) (slots : List Slot) (h : IsKept ss before changed spare) (view : pages_in before changed ss ≡ ps)
+module _ (before changed : List (List ℕ)) (ss : List Slot) (spare rest : List ℕ) (ps : List WorkPage) (page room i : ℕ) (slots : List Slot) (h : IsRoomed ss before changed spare) (view : pages_in before changed ss ≡ ps)
     (absent : changed_of page ps ≡ None) (popped : spare ≡ rest ++ room ∷ []) (at : i ≡ place_in page ss) (inserted : slots ≡ insert ss i (record { page = page; room = room; edited = false })) where
   read_slots : slots ≡ insert ss (place_in page ss) (record { page = page; room = room; edited = false })
   read_slots = inserted ∙ ap (λ k. insert ss k (record { page = page; room = room; edited = false })) at
 
-  pub read_kept : (w : List ℕ) → IsKept slots (set before room w) changed rest
-  read_kept w = subst (λ (ts : List Slot). IsKept ts (set before room w) changed rest) (sym read_slots)
+  pub read_kept : (w : List ℕ) → IsRoomed slots (set before room w) changed rest
+  read_kept w = subst (λ (ts : List Slot). IsRoomed ts (set before room w) changed rest) (sym read_slots)
       (kept_read ss before (set before room w) changed spare rest page room h popped (ap (λ qs. changed_of page qs) view ∙ absent) (length-set before room w))
 
   pub read_gives : (w : List ℕ) → pages_in (set before room w) changed slots ≡ with_read page w ps

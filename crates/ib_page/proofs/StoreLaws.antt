@@ -8,11 +8,11 @@ use Rattle.std.proofs.lemmas.List.Folds.{list_any-append}
 use Rattle.ib_map.specs.declared.TheConstants.{PAGE_WORDS}
 use Rattle.ib_map.specs.declared.write.Write.{Write}
 use Rattle.ib_map.specs.Writes.{word_place, page_at, stored, touches, PlacesRise}
-use Rattle.ib_map.proofs.WriteLaws.{stored-append, stored-unwritten, writes_at-untouched}
+use Rattle.ib_map.proofs.WriteLaws.{page_at-word, stored-append, stored-unwritten, writes_at-untouched}
 use Rattle.ib_page.specs.Work.{WorkPage, PagesAscend, changed_of, before_of}
 use Rattle.ib_page.specs.Writes.{word_write, writes_below, page_writes, writes_of, word_in}
 use Rattle.ib_page.proofs.WriteLaws.{writes_none, writes_more, writes_more_same}
-use Rattle.ib_page.proofs.BufferLaws.{AreOn, page_at-word, writes_on}
+use Rattle.ib_page.proofs.BufferLaws.{AreOn, writes_on}
 
 -- one word more, where the number is a successor
 writes_suc : (page : ℕ) (before changed : List ℕ) (n : ℕ) → writes_below page before changed (suc n) ≡ writes_below page before changed n ++ word_write page before changed n

@@ -2,9 +2,9 @@
 use Rattle.std.proofs.Common.{◌≡◌, ℕ, zero, suc, ◌+◌, ◌-◌, ◌*◌, ◌≤◌, ◌∙◌, [], ◌∷◌, ◌++◌, List, length, take, drop, get_or, refl, ap, sym, arith, zero-add, append_assoc, append-nil, length-append}
 use Rattle.std.proofs.lemmas.Bool.{eq-eqb, ne_eqb}
 use Rattle.std.proofs.lemmas.List.{take_at, drop-drop, take-append-drop, length-take-le}
-use Rattle.std.proofs.lemmas.Grind.{flat_map-append}
 use Rattle.ib_map.specs.declared.write.Write.{Write}
 use Rattle.ib_map.specs.Writes.{word_place, write_words}
+use Rattle.ib_map.proofs.WriteLaws.{length-write_words, write_words-append}
 use Rattle.ib_page.specs.Writes.{word_write, writes_below}
 
 -- what stands behind other words
@@ -61,14 +61,6 @@ writes_same page image zero = writes_none page image image
 writes_same page image (suc n) =
     ap (λ k. writes_below page image image k) (let e : suc n ≡ n + 1 = omega arith in e)
     ∙ (writes_more_same page image image n refl ∙ writes_same page image n)
-
--- two words for a write
-pub length-write_words : (ws : List Write) → length (write_words ws) ≡ 2 * length ws
-length-write_words [] = refl
-length-write_words (w ∷ ws) = let rest = length-write_words ws in omega arith
-
-pub write_words-append : (xs ys : List Write) → write_words (xs ++ ys) ≡ write_words xs ++ write_words ys
-write_words-append xs ys = flat_map-append (λ (w : Write). w.place ∷ w.value ∷ []) xs ys
 
 -- what is put behind what was put
 pub put_more : (front vs out more : List ℕ) (n k : ℕ) → vs ≡ front ++ drop n out → length front ≡ n → take n vs ++ more ++ drop (n + k) vs ≡ (front ++ more) ++ drop (n + k) out

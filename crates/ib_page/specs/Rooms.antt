@@ -13,12 +13,12 @@ abbrev pub changed_in : List (List ℕ) → List (List ℕ) → Slot → List �
 changed_in before changed s = if s.edited then image_in changed s.room else image_in before s.room
 
 -- the page of a slot with its images
-abbrev pub page_in : List (List ℕ) → List (List ℕ) → Slot → WorkPage
-page_in before changed s = record { page = s.page; before = image_in before s.room; changed = changed_in before changed s }
+abbrev pub work_page_in : List (List ℕ) → List (List ℕ) → Slot → WorkPage
+work_page_in before changed s = record { page = s.page; before = image_in before s.room; changed = changed_in before changed s }
 
 -- the pages of all slots
 abbrev pub pages_in : List (List ℕ) → List (List ℕ) → List Slot → List WorkPage
-pages_in before changed slots = map (page_in before changed) slots
+pages_in before changed slots = map (work_page_in before changed) slots
 
 -- pages ascend strictly, from `low` on
 abbrev pub SlotsAscend : ℕ → List Slot → Type 0
@@ -34,7 +34,7 @@ abbrev pub times_kept : ℕ → List Slot → List ℕ → ℕ
 times_kept room slots spare = times_used room slots + count_by (λ r. r == room) spare
 
 -- pages ascend, and each of the rooms is that of one page or spare
-pub record IsKept (slots : List Slot) (before changed : List (List ℕ)) (spare : List ℕ) : Type 0 where
+pub record IsRoomed (slots : List Slot) (before changed : List (List ℕ)) (spare : List ℕ) : Type 0 where
   pub ascends : SlotsAscend 0 slots
   pub once : (room : ℕ) → room < MOST_WORK_PAGES → times_kept room slots spare ≡ 1
   pub no_other : (room : ℕ) → MOST_WORK_PAGES ≤ room → times_kept room slots spare ≡ 0

@@ -11,7 +11,7 @@ ghost use Rattle.ib_heap.specs.Words.{free_page_words};
 ghost use Rattle.ib_heap.specs.Heap.{read_heap};
 ghost use Rattle.ib_heap.specs.Put.{put_in};
 ghost use Rattle.ib_heap.specs.Take.{remove_in};
-ghost use Rattle.ib_heap.specs.Filled.{filled};
+ghost use Rattle.ib_heap.specs.Filled.{filled, empty_heap};
 ghost use Rattle.ib_heap.specs.Form.{page_of, empty_leaf_words};
 ghost use Rattle.ib_heap.specs.Image.{IsTreePage, IsFormed, level_of, prev_of, next_of, clock_of, records_of, with_records, with_links, with_level, with_clock};
 ghost use Rattle.ib_page.specs.Kind.{kind_of};
@@ -24,8 +24,11 @@ use std::marker::Model;
 /// What a page is used for.
 #[derive(Clone, Copy, Debug, PartialEq, Eq)]
 pub enum Kind {
+    /// In no tree: it may be taken.
     Free,
+    /// A page of the tree at level 0, with keys and their values.
     Leaf,
+    /// A page of the tree at a level above 0, with keys and the children that they lead to.
     Node,
 }
 
@@ -47,25 +50,25 @@ impl Model for Image {
 }
 
 impl Image {
-    /// An empty leaf.
-    pub fn leaf(clock: u64) -> Image
-        ensures page { page_of result ≡ Tree (record { level = 0; prev = 0; next = 0; clock = clock; records = [] }) }
-        ensures words { result ≡ empty_leaf_words clock }
-    {
-        Image {
-            words: ib_heap::empty_page(0, clock),
-        }
-    }
-
-    /// An empty node, of level 1 to `MOST_LEVEL`.
-    pub fn node(level: u32, clock: u64) -> Image
-        requires above_leaves { 0 < level }
-        requires low { level ≤ MOST_LEVEL }
-        ensures { page_of result ≡ Tree (record { level = level; prev = 0; next = 0; clock = clock; records = [] }) }
+    /// A page of the tree with no record and no link, at a level of 0 to `MOST_LEVEL` (`page_create`).
+    pub fn empty(level: u32, clock: u64) -> Image
+        requires { level ≤ MOST_LEVEL }
+        ensures page { page_of result ≡ Tree (record { level = level; prev = 0; next = 0; clock = clock; records = [] }) }
+        ensures words { level ≡ 0 → result ≡ empty_leaf_words clock }
+        ensures heap { read_heap result ≡ empty_heap }
     {
         Image {
             words: ib_heap::empty_page(level, clock),
         }
+    }
+
+    /// An empty leaf.
+    pub fn leaf(clock: u64) -> Image
+        ensures page { page_of result ≡ Tree (record { level = 0; prev = 0; next = 0; clock = clock; records = [] }) }
+        ensures words { result ≡ empty_leaf_words clock }
+        ensures heap { read_heap result ≡ empty_heap }
+    {
+        Image::empty(0, clock)
     }
 
     /// A free page.
@@ -78,7 +81,7 @@ impl Image {
         }
     }
 
-    /// Whether the image holds a page, free or of the tree.
+    /// Whether the image holds a page, free or of the tree (`page_simple_validate_new`).
     pub fn is_formed(&self) -> bool
         ensures { IsTrue result ↔ IsFormed self.now }
     {
@@ -99,7 +102,7 @@ impl Image {
         }
     }
 
-    /// The level, 0 to `MOST_LEVEL`: 0 for a leaf, and for a free page.
+    /// The level, 0 to `MOST_LEVEL`: 0 for a leaf, and for a free page (`btr_page_get_level`).
     pub fn level(&self) -> u32
         requires { IsFormed self.now }
         ensures level { result ≡ level_of self.now }
@@ -108,7 +111,7 @@ impl Image {
         ib_heap::level(&self.words)
     }
 
-    /// How many records the page has, at most `MOST_RECORDS`.
+    /// How many records the page has, at most `MOST_RECORDS` (`page_get_n_recs`).
     pub fn len(&self) -> usize
         requires { IsFormed self.now }
         ensures count { result ≡ length (records_of self.now) }
@@ -125,7 +128,7 @@ impl Image {
         self.len() == 0
     }
 
-    /// The leaf before this one, 0 for none.
+    /// The leaf before this one, 0 for none (`btr_page_get_prev`).
     pub fn prev(&self) -> u32
         requires { IsFormed self.now }
         ensures { result ≡ prev_of self.now }
@@ -133,7 +136,7 @@ impl Image {
         ib_heap::prev(&self.words)
     }
 
-    /// The leaf behind this one, 0 for none.
+    /// The leaf behind this one, 0 for none (`btr_page_get_next`).
     pub fn next(&self) -> u32
         requires { IsFormed self.now }
         ensures { result ≡ next_of self.now }
@@ -141,7 +144,7 @@ impl Image {
         ib_heap::next(&self.words)
     }
 
-    /// The modify clock.
+    /// The modify clock (`buf_block_get_modify_clock`).
     pub fn clock(&self) -> u64
         requires { IsFormed self.now }
         ensures { result ≡ clock_of self.now }
@@ -223,7 +226,7 @@ impl Image {
         end
     }
 
-    /// A record, by its place in the order of keys.
+    /// A record, by its place in the order of keys, from 0 on (`page_rec_get_nth`).
     pub fn record_at(&self, i: usize) -> (Key, u64)
         requires tree { IsTreePage self.now }
         requires in_range { i < length (records_of self.now) }
@@ -232,7 +235,8 @@ impl Image {
         ib_heap::record_at(&self.words, i)
     }
 
-    /// The place of a key, or the place at which it would stand. By binary search.
+    /// The place of a key, or the place at which it would stand. The directory says in which run of records to look
+    /// (`page_cur_search_with_match`).
     pub fn find(&self, key: Key) -> Result<usize, usize>
         requires { IsTreePage self.now }
         ensures place { let place = place_of key (records_of self.now) in MatchResult result (λ i. i ≡ place) (λ i. i ≡ place) }
@@ -253,7 +257,7 @@ impl Image {
     }
 
     /// Where the last record stands whose key is not above this one: in a node, the one of the child to which
-    /// the key belongs. The first record must have such a key.
+    /// the key belongs (`page_cur_search_with_match`, `PAGE_CUR_LE`). The first record must have such a key.
     pub fn route(&self, key: Key) -> usize
         requires tree { IsTreePage self.now }
         requires first { IsSomeAnd (slice_get (records_of self.now) 0) (λ r. rank r.0 ≤ rank key) }
@@ -288,7 +292,7 @@ impl Image {
     }
 
     /// Puts a record in. Refused as `Duplicate` exactly where the key is there, and then as `PageFull`
-    /// exactly where there are `MOST_RECORDS` records.
+    /// exactly where there are `MOST_RECORDS` records (`page_cur_insert_rec_low`).
     pub fn insert(&mut self, key: Key, value: u64) -> Result<(), PageFault>
         requires { IsTreePage self.old }
         ensures inserted { OnOk result (page_of self.new ≡ with_records (put key value (records_of self.old)) (page_of self.old)) }
@@ -303,7 +307,7 @@ impl Image {
     }
 
     /// Takes a record out, and gives its value. Refused as `Missing` exactly where the key is not there,
-    /// and for no other reason.
+    /// and for no other reason (`page_cur_delete_rec`).
     pub fn remove(&mut self, key: Key) -> Result<u64, PageFault>
         requires { IsTreePage self.old }
         ensures value { IfOk result (λ value. value_at key (records_of self.old) ≡ Some value) }
@@ -317,7 +321,7 @@ impl Image {
         ib_heap::take(&mut self.words, key)
     }
 
-    /// Moves the records from `at` on to `right`, which has none; both pages keep all else.
+    /// Moves the records from `at` on to `right`, which has none; both pages keep all else (`page_move_rec_list_end`).
     pub fn cut(&mut self, at: usize, right: &mut Image)
         requires tree { IsTreePage self.old }
         requires right_tree { IsTreePage right.old }
@@ -331,7 +335,8 @@ impl Image {
         ib_heap::move_tail(&mut self.words, at, &mut right.words);
     }
 
-    /// Appends the records of `right`, whose keys stand above all of this page; both pages keep all else.
+    /// Appends the records of `right`, whose keys stand above all of this page; both pages keep all else
+    /// (`page_copy_rec_list_end`).
     pub fn join(&mut self, right: &Image)
         requires tree { IsTreePage self.old }
         requires right_tree { IsTreePage right.now }
@@ -353,7 +358,7 @@ impl Image {
         ib_heap::reorganize(&mut self.words);
     }
 
-    /// Sets both links. A node's are 0.
+    /// Sets both links (`btr_page_set_prev`, `btr_page_set_next`). A node's are 0.
     pub fn set_links(&mut self, prev: u32, next: u32)
         requires tree { IsTreePage self.old }
         requires prev { 0 < level_of self.old → prev ≡ 0 }
@@ -364,7 +369,7 @@ impl Image {
         ib_heap::set_links(&mut self.words, prev, next);
     }
 
-    /// Sets the level, 0 to `MOST_LEVEL`. Only a page with no links becomes a node.
+    /// Sets the level, 0 to `MOST_LEVEL` (`btr_page_set_level`). Only a page with no links becomes a node.
     pub fn set_level(&mut self, level: u32)
         requires tree { IsTreePage self.old }
         requires low { level ≤ MOST_LEVEL }
@@ -376,7 +381,7 @@ impl Image {
         ib_heap::set_level(&mut self.words, level);
     }
 
-    /// Adds 1 to the modify clock, which is below 2^63.
+    /// Adds 1 to the modify clock, which is below 2^63 (`buf_block_modify_clock_inc`).
     pub fn touch(&mut self)
         requires formed { IsFormed self.old }
         requires room { clock_of self.old < 2 ^ 63 }

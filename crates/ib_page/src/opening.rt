@@ -1,4 +1,4 @@
-//! The pages of a new space, whole and by the word.
+//! The pages of a new space, whole and by the word (`fsp_header_init`, `btr_create`).
 
 ghost use Rattle.std.specs.Prelude.{◌≡◌, ◌<◌, slice_index};
 ghost use Rattle.ib_page.specs.Opening.{opening_words};

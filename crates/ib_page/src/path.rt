@@ -1,4 +1,4 @@
-//! The pages of a descent, from the root to a leaf.
+//! The pages of a descent, from the root to a leaf (btr0cur, `btr_cur_search_to_nth_level`).
 
 ghost use Rattle.std.specs.Prelude.{◌≡◌, ◌-◌, ◌<◌, ◌≤◌, ◌++◌, ◌∷◌, [], length, slice_get, IsTrue, IsNone, IfSome, ◌↔◌, Some};
 

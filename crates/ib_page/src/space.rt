@@ -6,18 +6,23 @@ ghost use Rattle.ib_page.specs.Space.{is_taken, space_clock_of, with_space_clock
 
 use crate::image::Image;
 use ib_heap::are_zeros;
-use ib_map::PAGE_WORDS;
+use ib_map::{MOST_PAGES, PAGE_WORDS};
 use std::marker::Model;
 
-/// The pages for which the space page has a bit.
+/// The pages for which the space page has a bit, as an extent descriptor has one for each page of its extent (fsp0fsp).
 pub const MAPPED_PAGES: u32 = 4096;
 
 const _: () = prove!(MAPPED_PAGES == 4096);
 
-// The bits of a word, and the word of the clock.
+// Each page that a space may have has its bit.
+const _: () = prove!(MAPPED_PAGES == MOST_PAGES);
+
+// The bits of a word, and the word of the clock, which stands behind the words of the bits.
 const WORD_BITS: u32 = 64;
 
 const CLOCK: usize = 64;
+
+const _: () = prove!(MAPPED_PAGES as usize == WORD_BITS as usize * CLOCK);
 
 // The bits of pages 0 and 1.
 const FIRST_PAGES: u64 = 3;
@@ -39,7 +44,7 @@ impl Model for SpaceImage {
 }
 
 impl SpaceImage {
-    /// The space page of a new space of so many pages, at least 2: pages 0 and 1 are taken.
+    /// The space page of a new space of so many pages, at least 2: pages 0 and 1 are taken (`fsp_header_init`).
     pub fn opening(pages: u32) -> SpaceImage
         requires { 2 ≤ pages }
         ensures taken { (page : ℕ) → page < MAPPED_PAGES → is_taken result page ≡ nat_lt page 2 }
@@ -52,11 +57,10 @@ impl SpaceImage {
         }
     }
 
-    /// Whether this is the space page of a space of so many pages, 2 to `MAPPED_PAGES`: no page beyond the last one
+    /// Whether this is the space page of a space of so many pages, at most `MAPPED_PAGES`: no page beyond the last one
     /// is taken, and all words behind the clock are 0.
     pub fn is_formed(&self, pages: u32) -> bool
-        requires some { 2 ≤ pages }
-        requires in_range { pages ≤ MAPPED_PAGES }
+        requires { pages ≤ MAPPED_PAGES }
         ensures { IsTrue result ↔ IsSpacePage pages self.now }
     {
         ends_with_zeros(&self.words)
@@ -79,7 +83,7 @@ impl SpaceImage {
         Image::from_words(self.words)
     }
 
-    /// Whether a page is taken.
+    /// Whether a page is taken (`xdes_get_bit`).
     pub fn is_taken(&self, page: u32) -> bool
         requires { page < MAPPED_PAGES }
         ensures { result ≡ is_taken self.now page }
@@ -101,7 +105,7 @@ impl SpaceImage {
         count + zeros_below(self.words[whole as usize], pages % WORD_BITS)
     }
 
-    /// The lowest free one of the first `pages` pages. None exactly where none is free.
+    /// The lowest free one of the first `pages` pages. None exactly where none is free (`xdes_find_bit`).
     pub fn lowest_free(&self, pages: u32) -> Option<u32>
         requires { pages ≤ MAPPED_PAGES }
         ensures none { IsNone result ↔ ((page : ℕ) → page < pages → is_taken self.now page ≡ true) }
@@ -119,7 +123,7 @@ impl SpaceImage {
         None
     }
 
-    /// Takes a page that is free.
+    /// Takes a page that is free (`fsp_alloc_free_page`).
     pub fn take(&mut self, page: u32)
         requires in_range { page < MAPPED_PAGES }
         requires free { is_taken self.old page ≡ false }
@@ -128,7 +132,7 @@ impl SpaceImage {
         self.words[(page / WORD_BITS) as usize] |= 1 << (page % WORD_BITS);
     }
 
-    /// Gives a page back that is taken.
+    /// Gives a page back that is taken (`fsp_free_page`).
     pub fn give(&mut self, page: u32)
         requires in_range { page < MAPPED_PAGES }
         requires taken { is_taken self.old page ≡ true }
@@ -150,7 +154,7 @@ impl SpaceImage {
 // Whether all words behind the clock are 0.
 fn ends_with_zeros(words: &[u64]) -> bool
     requires { length words.now ≡ PAGE_WORDS }
-    ensures zeros { IsTrue result ↔ ((i : ℕ) → 64 < i → slice_index words.now i ≡ 0) }
+    ensures zeros { IsTrue result ↔ ((i : ℕ) → CLOCK < i → slice_index words.now i ≡ 0) }
     ensures size { length words.now ≡ PAGE_WORDS }
 {
     are_zeros(&words[CLOCK + 1..])

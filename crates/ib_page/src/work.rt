@@ -1,11 +1,11 @@
-//! The pages that one change works on, in memory that is taken once.
+//! The pages that one change works on, those of a mini-transaction (mtr0mtr), in memory that is taken once.
 
 ghost use Rattle.std.specs.Prelude.{◌≡◌, ◌≢◌, ◌+◌, ◌*◌, ◌<◌, ◌≤◌, ◌++◌, ℕ, [], drop, take, length, slice_get, slice_set, nat_lt, ◌&&◌, ◌||◌, All, None, Some, IsSome, IsSomeAnd, IfSome, IfOk, IsTrue, ◌↔◌, MatchOption};
 ghost use Rattle.std.specs.List.{prefix_len};
 ghost use Rattle.std.specs.Borrow.{sem};
 ghost use Rattle.ib_map.specs.Writes.{write_words, spans_pages};
 ghost use Rattle.ib_page.specs.Work.{IsWork, changed_of, before_of, with_read, without_page};
-ghost use Rattle.ib_page.specs.Rooms.{page_in, image_in, changed_in};
+ghost use Rattle.ib_page.specs.Rooms.{work_page_in, image_in, changed_in};
 ghost use Rattle.ib_page.specs.Writes.{page_writes, writes_of};
 ghost use Rattle.ib_page.specs.Lending.{LendsChanged, LendsRead};
 
@@ -20,15 +20,20 @@ pub const MOST_WORK_PAGES: usize = 32;
 /// A page of a work set: its image as read, and its image as changed.
 #[derive(Clone, Copy)]
 pub struct PageImages<'a> {
+    /// The number of the page.
     pub page: u32,
+    /// Its image as read.
     pub before: &'a Image,
+    /// Its image as changed: the one that was read, where the page was not edited.
     pub changed: &'a Image,
 }
 
-/// What `write_into` wrote: how many writes, and whether they lie on more than one page.
+/// What `write_into` wrote.
 #[derive(Clone, Copy, Debug, PartialEq, Eq)]
 pub struct Written {
+    /// How many writes there are, of a place and a value each.
     pub count: usize,
+    /// Whether they lie on more than one page.
     pub structural: bool,
 }
 
@@ -40,8 +45,8 @@ struct Slot {
     edited: bool,
 }
 
-/// The pages that a change reads and writes: each with its image as read and its image as changed. Contracts
-/// see the list of its pages in ascending order. An image is copied when its page is first edited.
+/// The pages that a change reads and writes, those of a mini-transaction (mtr0mtr): each with its image as read and its image
+/// as changed. Contracts see the list of its pages in ascending order. An image is copied when its page is first edited.
 #[derive(Drop)]
 pub struct WorkSet {
     slots: Vec<Slot>,
@@ -55,14 +60,14 @@ impl Model for WorkSet {
     ghost use Rattle.std.specs.Vec.{vec_capacity};
     ghost use Rattle.ib_page.specs.declared.work.TheConstants.{MOST_WORK_PAGES};
     ghost use Rattle.ib_page.specs.Work.{WorkPage};
-    ghost use Rattle.ib_page.specs.Rooms.{IsKept, pages_in};
+    ghost use Rattle.ib_page.specs.Rooms.{IsRoomed, pages_in};
 
     ghost Value = { List WorkPage };
 
     ghost view = { λ w. pages_in w.before.items w.changed.items w.slots.items };
 
     ghost invariant = { λ w. record {
-      kept : IsKept w.slots.items w.before.items w.changed.items w.spare.items;
+      kept : IsRoomed w.slots.items w.before.items w.changed.items w.spare.items;
       slots_room : MOST_WORK_PAGES ≤ vec_capacity w.slots;
       spare_room : MOST_WORK_PAGES ≤ vec_capacity w.spare;
     } };
@@ -146,7 +151,7 @@ impl WorkSet {
     }
 
     /// In how many words the changed images differ from those that were read.
-    pub fn changed(&self) -> usize
+    pub fn difference_count(&self) -> usize
         ensures count { result ≡ length (writes_of self.now) }
         ensures work { IsWork self.now }
     {
@@ -305,7 +310,7 @@ fn copy_at_first(slot: Slot, before: &[Image], changed: &mut [Image])
 fn differing(slot: Slot, before: &[Image], changed: &[Image]) -> usize
     requires before { slot.room < length before.now }
     requires changed { slot.room < length changed.now }
-    ensures count { result ≡ length (page_writes (page_in before.now changed.now slot)) }
+    ensures count { result ≡ length (page_writes (work_page_in before.now changed.now slot)) }
     ensures few { result ≤ PAGE_WORDS }
 {
     if slot.edited {
@@ -325,10 +330,10 @@ fn write_page(
 ) -> usize
     requires before { slot.room < length before.now }
     requires changed { slot.room < length changed.now }
-    requires room { 2 * (count + length (page_writes (page_in before.now changed.now slot))) ≤ length out.old }
-    ensures words { let writes = page_writes (page_in before.now changed.now slot) in
+    requires room { 2 * (count + length (page_writes (work_page_in before.now changed.now slot))) ≤ length out.old }
+    ensures words { let writes = page_writes (work_page_in before.now changed.now slot) in
         out.new ≡ take (2 * count) out.old ++ write_words writes ++ drop (2 * (count + length writes)) out.old }
-    ensures count { result ≡ count + length (page_writes (page_in before.now changed.now slot)) }
+    ensures count { result ≡ count + length (page_writes (work_page_in before.now changed.now slot)) }
 {
     if slot.edited {
         let old = &before[slot.room];

@@ -8,7 +8,7 @@ use Rattle.ib_walk.specs.Walk.{Visit, is_visit}
 use Rattle.ib_patch.specs.Patch.{LevelVisit, over}
 use Rattle.ib_patch.specs.PatchTest.{Position, Positions, visit_of, visit_in, fresh_of}
 use Rattle.ib_patch.specs.Contents.{HasItsContent, HasSlice, IsLeafOf, HasLeafOf}
-use Rattle.ib_patch.proofs.PositionLaws.{cond-eq, cond-ne}
+use Rattle.ib_walk.proofs.ChoiceLaws.{cond-eq, cond-ne}
 
 abbrev level_visit : ℕ → Position → LevelVisit
 level_visit p e = record { height = e.height; visit = visit_of p e }

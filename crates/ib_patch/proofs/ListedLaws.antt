@@ -10,7 +10,8 @@ use Rattle.ib_patch.specs.Patch.{on_written}
 use Rattle.ib_patch.specs.PatchTest.{Position, Positions, visit_of, at_page, positions_over, list_over, IsListed}
 use Rattle.ib_patch.specs.Positions.{marks_of}
 use Rattle.ib_patch.specs.TreeMemory.{TreeMemory, IsTreeMemory}
-use Rattle.ib_patch.proofs.PositionLaws.{cond-eq, cond-ne, marks_of-within, marks_of-past}
+use Rattle.ib_walk.proofs.ChoiceLaws.{cond-eq, cond-ne}
+use Rattle.ib_patch.proofs.PositionLaws.{marks_of-within, marks_of-past}
 
 at_page-marked : (w : ℕ → Bool) (f : ℕ → Visit → ℕ) (root p : ℕ) (o : Option Position) → w p ≡ true → at_page (on_written w f) root p o ≡ at_page f root p o
 at_page-marked w f root p None e = refl

@@ -16,7 +16,8 @@ use Rattle.ib_patch.specs.PatchTest.{Positions, visited, all_back}
 use Rattle.ib_patch.specs.PageTests.{PassesAt, bit_of}
 use Rattle.ib_patch.specs.Positions.{is_good_at, marks_of, positions_of}
 use Rattle.ib_patch.specs.TreeMemory.{TreeMemory, IsTreeMemory, PassesAtAll, IsTreePatch, bits_in}
-use Rattle.ib_patch.proofs.MemoryLaws.{image_of-whole, image_of-same, memory_of-same}
+use Rattle.ib_walk.proofs.ImageLaws.{image_of-images}
+use Rattle.ib_patch.proofs.MemoryLaws.{image_of-same, memory_of-same}
 use Rattle.ib_patch.proofs.PositionLaws.{marks_of-within, positions_of-past}
 use Rattle.ib_patch.proofs.ListedLaws.{listed-each, listed-mine}
 
@@ -24,7 +25,7 @@ use Rattle.ib_patch.proofs.ListedLaws.{listed-each, listed-mine}
 pub bits_in-there : (images : List (List ℕ)) (page : ℕ) → page < length images → length (image_at images 0) ≡ PAGE_WORDS → bits_in images page ≡ bit_of (is_taken (image_at images 0) page)
 unfolding bits_of
 bits_in-there images page lt whole =
-    cond-true (ltb page (length images)) _ 0 (lt-ltb page (length images) lt) ∙ ap (λ (ws : List ℕ). bit_of (is_taken ws page)) (image_of-whole images 0 whole)
+    cond-true (ltb page (length images)) _ 0 (lt-ltb page (length images) lt) ∙ ap (λ (ws : List ℕ). bit_of (is_taken ws page)) (image_of-images images 0 whole)
 
 pub bits_in-past : (images : List (List ℕ)) (page : ℕ) → length images ≤ page → bits_in images page ≡ 0
 unfolding bits_of
@@ -102,7 +103,7 @@ module _ (t : TreeMemory) (kept : IsTreeMemory t) (whole_before : length (image_
         others = others;
       };
       sliced = h.sliced;
-      space = λ w. subst (IsSpacePage (length t.after)) (sym (image_of-whole t.after 0 whole_after)) (h.space w).0;
+      space = λ w. subst (IsSpacePage (length t.after)) (sym (image_of-images t.after 0 whole_after)) (h.space w).0;
     }
 
   pub passes-complete : IsTreePatch t table key target → PassesAtAll t.before t.after table t.written t.pages key target
@@ -115,7 +116,7 @@ module _ (t : TreeMemory) (kept : IsTreeMemory t) (whole_before : length (image_
       freed = λ e. h.passes.freed p w (there p w ∙ e);
     };
     space = λ w. (
-      subst (IsSpacePage (length t.after)) (image_of-whole t.after 0 whole_after) (h.space w),
+      subst (IsSpacePage (length t.after)) (image_of-images t.after 0 whole_after) (h.space w),
       λ p lt off. bit-apart _ _ (
           sym (bits_in-there t.after p (let a = kept.written in let b = kept.after in omega arith) whole_after)
           ∙ (h.passes.others p off ∙ bits_in-there t.before p (let a = kept.written in omega arith) whole_before)),

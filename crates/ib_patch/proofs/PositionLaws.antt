@@ -1,15 +1,10 @@
 -- The positions and marks of a list, and what a write of the list does.
-use Rattle.std.proofs.Common.{◌≡◌, ℕ, zero, suc, ◌<◌, ◌≤◌, ◌≢◌, Bool, true, false, cond, List, [], ◌∷◌, ◌++◌, length, get_or, set, replicate, Option, Some, None, refl, sym, ap, ◌∙◌, arith, eqb, inl, inr}
-use Rattle.std.proofs.lemmas.Bool.{cases_eq, cases_lt, eq-eqb, ne_eqb}
+use Rattle.std.proofs.Common.{◌≡◌, ℕ, zero, suc, ◌<◌, ◌≤◌, ◌≢◌, Bool, true, false, List, [], ◌∷◌, ◌++◌, length, get_or, set, replicate, Option, Some, None, refl, sym, ap, ◌∙◌, arith, inl, inr}
+use Rattle.std.proofs.lemmas.Bool.{cases_eq, cases_lt}
 use Rattle.ib_patch.specs.declared.position.PagePosition.{PagePosition}
+use Rattle.ib_walk.proofs.ChoiceLaws.{cond-eq, cond-ne}
 use Rattle.ib_patch.specs.PatchTest.{Position, Positions, set_at, same_position}
 use Rattle.ib_patch.specs.Positions.{position_if, positions_of, marks_of}
-
-pub cond-eq : {X : Type 0} (n p : ℕ) (x y : X) → n ≡ p → cond (eqb n p) x y ≡ x
-cond-eq n p x y e = rw (eq-eqb n p e) refl
-
-pub cond-ne : {X : Type 0} (n p : ℕ) (x y : X) → n ≢ p → cond (eqb n p) x y ≡ y
-cond-ne n p x y ne = rw (ne_eqb n p ne) refl
 
 pub positions-same : (a b : Positions) → ((n : ℕ) → a n ≡ b n) → a ≡ b
 positions-same a b e = λ i n. e n i

@@ -5,12 +5,10 @@ use Rattle.std.proofs.lemmas.Bool.{cases_eq, cases_Bool, eqb-true, and_parts, co
 use Rattle.ib_walk.specs.Pages.{PageMemory}
 use Rattle.ib_walk.specs.Walk.{Visit}
 use Rattle.ib_patch.specs.PatchTest.{Position, Positions, visit_of, set_at, position_of, same_position, is_none, detach, attach, children_at, height_below, detach_at, detach_pages, root_at, set_roots, visit_at, then_do, visit_level, visit_levels, are_back, back_at, all_back, visited}
-use Rattle.ib_patch.proofs.PositionLaws.{cond-eq, cond-ne}
+use Rattle.ib_walk.proofs.ChoiceLaws.{Some-same, cond-eq, cond-ne}
 
-some-same : {X : Type 0} (a b : X) → Some a ≡ Some b → a ≡ b
-some-same a b e = cc
-
-same_position-is : (o : Option Position) (e : Position) → same_position o e ≡ true → o ≡ Some e
+-- the same position, tested
+pub same_position-is : (o : Option Position) (e : Position) → same_position o e ≡ true → o ≡ Some e
 same_position-is None e t = absurd (let x = t in cc)
 same_position-is (Some d) e t =
     let a = and_parts ((eqb d.tree e.tree && eqb d.height e.height) && eqb d.low e.low) (eqb d.high e.high) t in
@@ -28,7 +26,7 @@ not-true true e = absurd (let x = e in cc)
 not-true false e = refl
 
 -- a page that is detached is met no more
-detach-each : (ks : List Visit) (now : Positions) (p : ℕ) → (detach ks now p ≡ now p) ⊎ (detach ks now p ≡ None)
+pub detach-each : (ks : List Visit) (now : Positions) (p : ℕ) → (detach ks now p ≡ now p) ⊎ (detach ks now p ≡ None)
 detach-each [] now p = inl refl
 detach-each (k ∷ ks) now p = elim (detach-each ks (set_at now k.page None) p) [
   | inr z ↦ inr z
@@ -42,7 +40,7 @@ detach_at-each : (m : PageMemory) (q : ℕ) (o : Option Position) (now : Positio
 detach_at-each m q None now p = inl refl
 detach_at-each m q (Some d) now p = detach-each (children_at m d.height (visit_of q d)) now p
 
-detach_pages-each : (m : PageMemory) (old : Positions) (ps : List ℕ) (now : Positions) (p : ℕ) → (detach_pages m old ps now p ≡ now p) ⊎ (detach_pages m old ps now p ≡ None)
+pub detach_pages-each : (m : PageMemory) (old : Positions) (ps : List ℕ) (now : Positions) (p : ℕ) → (detach_pages m old ps now p ≡ now p) ⊎ (detach_pages m old ps now p ≡ None)
 detach_pages-each m old [] now p = inl refl
 detach_pages-each m old (q ∷ ps) now p = elim (detach_pages-each m old ps (detach_at m q (old q) now) p) [
   | inr z ↦ inr z
@@ -87,7 +85,7 @@ module _ (written : ℕ → Bool) (p : ℕ) (unwritten : written p ≡ false) wh
 
   -- a page that is attached is met where it was
   attach-rest : (old : Positions) (tree h : ℕ) (ks : List Visit) (now after : Positions) → attach written old tree h ks now ≡ Some after → (after p ≡ now p) ⊎ (after p ≡ old p)
-  attach-rest old tree h [] now after e = inl (ap (λ (t : Positions). t p) (sym (some-same now after e)))
+  attach-rest old tree h [] now after e = inl (ap (λ (t : Positions). t p) (sym (Some-same now after e)))
   attach-rest old tree h (k ∷ ks) now after e =
       elim (cases_Bool (is_none (now k.page) && (written k.page || same_position (old k.page) (position_of tree h k)))) [
         | inr fails ↦ absurd (let x = sym (cond-false _ (attach written old tree h ks (set_at now k.page (Some (position_of tree h k)))) None fails) ∙ e in cc)
@@ -109,9 +107,9 @@ module _ (written : ℕ → Bool) (p : ℕ) (unwritten : written p ≡ false) wh
     then-rest a b c x y = elim y [ inr o ↦ inr o | inl s ↦ elim x [ inr o ↦ inr (s ∙ o) | inl e ↦ inl (s ∙ e) ] ]
 
     visit_at-rest : (h q : ℕ) (o : Option Position) (now after : Positions) → visit_at written old new good h q o now ≡ Some after → (after p ≡ now p) ⊎ (after p ≡ old p)
-    visit_at-rest h q None now after e = inl (ap (λ (t : Positions). t p) (sym (some-same now after e)))
+    visit_at-rest h q None now after e = inl (ap (λ (t : Positions). t p) (sym (Some-same now after e)))
     visit_at-rest h q (Some d) now after e = elim (cases_eq d.height h) [
-      | inr ne ↦ inl (ap (λ (t : Positions). t p) (sym (some-same now after (sym (cond-ne d.height h _ (Some now) ne) ∙ e))))
+      | inr ne ↦ inl (ap (λ (t : Positions). t p) (sym (Some-same now after (sym (cond-ne d.height h _ (Some now) ne) ∙ e))))
       | inl s ↦ elim (cases_Bool (good h (visit_of q d))) [
         | inr fails ↦ absurd (let x = sym (cond-eq d.height h _ (Some now) s ∙ cond-false (good h (visit_of q d)) _ None fails) ∙ e in cc)
         | inl holds ↦ attach-rest old d.tree (height_below h) (children_at new h (visit_of q d)) now after (sym (cond-eq d.height h _ (Some now) s ∙ cond-true (good h (visit_of q d)) _ None holds) ∙ e)
@@ -123,7 +121,7 @@ module _ (written : ℕ → Bool) (p : ℕ) (unwritten : written p ≡ false) wh
     then_do-parts (Some mid) f after e = (mid, refl, e)
 
     visit_level-rest : (h : ℕ) (ps : List ℕ) (now after : Positions) → visit_level written old new good h ps now ≡ Some after → (after p ≡ now p) ⊎ (after p ≡ old p)
-    visit_level-rest h [] now after e = inl (ap (λ (t : Positions). t p) (sym (some-same now after e)))
+    visit_level-rest h [] now after e = inl (ap (λ (t : Positions). t p) (sym (Some-same now after e)))
     visit_level-rest h (q ∷ ps) now after e =
         let parts = then_do-parts (visit_at written old new good h q (now q) now) (visit_level written old new good h ps) after e in
         then-rest now parts.0 after (visit_at-rest h q (now q) now parts.0 parts.1) (visit_level-rest h ps parts.0 after parts.2)

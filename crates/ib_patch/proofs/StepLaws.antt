@@ -4,7 +4,7 @@ use Rattle.ib_walk.specs.Pages.{PageMemory}
 use Rattle.ib_walk.specs.Walk.{Visit, children_of}
 use Rattle.ib_patch.specs.PatchTest.{Position, Positions, visit_of, attach, children_at, height_below, detach, detach_at, visit_at, then_do, are_back, back_at}
 use Rattle.ib_patch.specs.Positions.{IsStep, AreVisits}
-use Rattle.ib_patch.proofs.PositionLaws.{cond-eq}
+use Rattle.ib_walk.proofs.ChoiceLaws.{cond-eq}
 
 children_at-zero : (m : PageMemory) (h : ℕ) (v : Visit) → h ≡ 0 → children_at m h v ≡ []
 children_at-zero m zero v e = refl

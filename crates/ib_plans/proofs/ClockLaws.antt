@@ -63,3 +63,7 @@ ticked-links before touched planned n = elim (touched n) as (λ b. HasLinks (con
 -- a page that is not touched has the clock that was planned
 pub ticked-untouched : (before : PageMemory) (touched : ℕ → Bool) (planned : PageMemory) (n : ℕ) → touched n ≡ false → ticked before touched planned n ≡ planned n
 ticked-untouched before touched planned n off = rw off refl
+
+-- .. and one that is touched has the clock that it had, and one more
+pub ticked-touched : (before : PageMemory) (touched : ℕ → Bool) (planned : PageMemory) (n : ℕ) → touched n ≡ true → ticked before touched planned n ≡ with_clock ((before n).clock + 1) (planned n)
+ticked-touched before touched planned n on = ap (λ b. cond b (with_clock ((before n).clock + 1) (planned n)) (planned n)) on

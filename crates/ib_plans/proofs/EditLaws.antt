@@ -2,11 +2,12 @@
 use Rattle.std.proofs.Common.{◌≡◌, ◌≢◌, ◌∙◌, ℕ, cond, List, [], ◌∷◌, refl, sym, ap, subst, inl, inr, Option, Some, None, eqb}
 use Rattle.std.specs.Prelude.{IsSome, IsSomeAnd}
 use Rattle.std.proofs.lemmas.Bool.{cases_eq, eq-eqb, ne_eqb}
-use Rattle.ib_page.specs.Page.{PageValue, page_in}
+use Rattle.ib_page.specs.Form.{page_of}
+use Rattle.ib_page.specs.Page.{PageValue, HoldsTree, page_in}
 use Rattle.ib_page.specs.Page.PageValue.{Malformed, Free, Tree}
-use Rattle.ib_page.specs.Image.{IsFormed}
+use Rattle.ib_page.specs.Image.{IsFormed, IsTreePage, clock_of, next_of}
 use Rattle.ib_page.specs.Work.{WorkPage, changed_of, with_changed}
-use Rattle.ib_walk.specs.Pages.{PageState}
+use Rattle.ib_walk.specs.Pages.{PageState, Tree as TreeState}
 use Rattle.ib_walk.specs.Words.{state_of}
 use Rattle.ib_plans.specs.Agreement.{IsThere, state_or_free, memory_in, reads_of, Sets}
 
@@ -92,7 +93,23 @@ state-records (Tree p) = refl
 state-records (Free clock) = refl
 state-records Malformed = refl
 
+-- a page whose state is one of a tree is one of a tree
+pub state-tree : (v : PageValue) → (state_of v).kind ≡ TreeState → HoldsTree v
+state-tree (Tree p) is = tt
+state-tree (Free clock) is = cc
+state-tree Malformed is = cc
+
 -- an image that is a tree page is there
 pub IsSome-and : (P : List ℕ → Type 0) (o : Option (List ℕ)) → IsSomeAnd o P → IsSome o
 IsSome-and P None h = absurd h
 IsSome-and P (Some image) h = refl
+
+pub there-is : (o : Option (List ℕ)) (image : List ℕ) → o ≡ Some image → IsSomeAnd o IsTreePage → IsTreePage image
+there-is o image is tree = subst (λ (q : Option (List ℕ)). IsSomeAnd q IsTreePage) is tree
+
+-- the clock of an image that is there, and the leaf behind it
+pub clock-there : (image : List ℕ) (o : Option (List ℕ)) → o ≡ Some image → clock_of image ≡ (state_or_free o).clock
+clock-there image o is = sym (state-clock (page_of image)) ∙ ap (λ q. (state_or_free q).clock) (sym is)
+
+pub next-there : (image : List ℕ) (o : Option (List ℕ)) → o ≡ Some image → next_of image ≡ (state_or_free o).next
+next-there image o is = sym (state-next (page_of image)) ∙ ap (λ q. (state_or_free q).next) (sym is)

@@ -16,7 +16,7 @@ use Rattle.ib_walk.proofs.ChoiceLaws.{cond-eq, cond-ne}
 use Rattle.ib_walk.proofs.LeafLaws.{IsLawful-edit, IsLeafEdit-insert, IsLeafInsert, content_of-insert, content_of-other, weight_of-edit}
 use Rattle.ib_walk.proofs.SearchLaws.{above, above-zero}
 use Rattle.ib_walk.proofs.TreeLaws.{value_at-content_of}
-use Rattle.ib_plans.specs.Insert.{AreEnough, AreFresh, Growth, first_of, insert_below, put_at, rest_of, split, split_long}
+use Rattle.ib_plans.specs.Insert.{AreEnough, AreFresh, Growth, first_fresh, insert_below, put_at, other_fresh, split, split_long}
 use Rattle.ib_plans.specs.Marks.{mark, untouched, with_bit}
 use Rattle.ib_plans.specs.Split.{first_key, next_or, right_part, split_page, with_records}
 use Rattle.ib_plans.specs.declared.TheConstants.{LEFT_RECORDS}
@@ -32,7 +32,7 @@ use Rattle.ib_plans.proofs.SplitWalkLaws.{IsSplit}
 
 -- the first of the fresh pages is free, and so are the others after it was taken
 pub AreFresh-first : (bits : ℕ → ℕ) (xs : List ℕ) → 0 < length xs → AreFresh bits xs
-    → (bits (first_of xs) ≡ 0) × (first_of xs < MAPPED_PAGES) × AreFresh (with_bit (first_of xs) 1 bits) (rest_of xs)
+    → (bits (first_fresh xs) ≡ 0) × (first_fresh xs < MAPPED_PAGES) × AreFresh (with_bit (first_fresh xs) 1 bits) (other_fresh xs)
 AreFresh-first bits [] some h = absurd (omega arith)
 AreFresh-first bits (x ∷ xs) some h = h
 
@@ -164,12 +164,12 @@ module _ (m : PageMemory) (bits : ℕ → ℕ) (roots : ℕ) (law : IsLawful m b
       c = child_for key 0 (m page).records
 
       abbrev q : ℕ
-      q = first_of g.fresh
+      q = first_fresh g.fresh
 
       abbrev now : PageMemory
-      now = split_page g.memory page (child_for key 0 (m page).records) (first_of g.fresh)
+      now = split_page g.memory page (child_for key 0 (m page).records) (first_fresh g.fresh)
 
-      ready : (g.bits (first_of g.fresh) ≡ 0) × (first_of g.fresh < MAPPED_PAGES) × AreFresh (with_bit (first_of g.fresh) 1 g.bits) (rest_of g.fresh)
+      ready : (g.bits (first_fresh g.fresh) ≡ 0) × (first_fresh g.fresh < MAPPED_PAGES) × AreFresh (with_bit (first_fresh g.fresh) 1 g.bits) (other_fresh g.fresh)
       ready = AreFresh-first g.bits g.fresh enough was.free
 
       child-leaf : height ≡ 0 → leaf_for g.memory key root ≡ child_for key 0 (m page).records
@@ -192,8 +192,8 @@ module _ (m : PageMemory) (bits : ℕ → ℕ) (roots : ℕ) (law : IsLawful m b
         child_kind = was.kind;
         child_level = was.level;
         child_some = child-some;
-        fresh_kind = was.lawful.unmet (first_of g.fresh) ready.0;
-        fresh_some = clear-some (one_over c) g.memory g.bits roots was.lawful (first_of g.fresh) ready.0;
+        fresh_kind = was.lawful.unmet (first_fresh g.fresh) ready.0;
+        fresh_some = clear-some (one_over c) g.memory g.bits roots was.lawful (first_fresh g.fresh) ready.0;
         node = node;
         behind = λ ne.
             let zero : height ≡ 0 = elim (cases_eq height 0) [ inl z ↦ z | inr up ↦ absurd (ne (node (omega (arith, up)))) ] in
@@ -204,7 +204,7 @@ module _ (m : PageMemory) (bits : ℕ → ℕ) (roots : ℕ) (law : IsLawful m b
       -- the page has one record more than it had
       pub page-after_split : split_page g.memory page c q page ≡ with_records (put (first_key (right_part (g.memory c).records)) q (m page).records) (m page)
       page-after_split =
-          parent-after_split g.memory height page (child_for key 0 (m page).records) (first_of g.fresh) split-pages
+          parent-after_split g.memory height page (child_for key 0 (m page).records) (first_fresh g.fresh) split-pages
           ∙ ap (λ (p : PageState). with_records (put (first_key (right_part (g.memory c).records)) q p.records) p) PathAbove-insert.same
 
       page-some : page ≢ 0
@@ -214,16 +214,16 @@ module _ (m : PageMemory) (bits : ℕ → ℕ) (roots : ℕ) (law : IsLawful m b
       parts = Halves-of LEFT_RECORDS (g.memory (child_for key 0 (m page).records)).records (omega arith)
 
       abbrev the-split : IsSplit g.memory now page c q
-      the-split = IsSplit-pages g.memory height page (child_for key 0 (m page).records) (first_of g.fresh) split-pages parts
+      the-split = IsSplit-pages g.memory height page (child_for key 0 (m page).records) (first_fresh g.fresh) split-pages parts
 
       the-links : IsRelinked g.memory now c q
-      the-links = IsRelinked-pages g.memory height page (child_for key 0 (m page).records) (first_of g.fresh) split-pages
+      the-links = IsRelinked-pages g.memory height page (child_for key 0 (m page).records) (first_fresh g.fresh) split-pages
 
       page-not_child : page ≢ c
-      page-not_child = parent-not_child g.memory height page (child_for key 0 (m page).records) (first_of g.fresh) split-pages
+      page-not_child = parent-not_child g.memory height page (child_for key 0 (m page).records) (first_fresh g.fresh) split-pages
 
       page-not_fresh : page ≢ q
-      page-not_fresh = parent-not_fresh g.memory height page (child_for key 0 (m page).records) (first_of g.fresh) split-pages
+      page-not_fresh = parent-not_fresh g.memory height page (child_for key 0 (m page).records) (first_fresh g.fresh) split-pages
 
       upper-now : (n : ℕ) → (m n).kind ≡ Tree → suc height ≤ (m n).level → n ≢ page → split_page g.memory page c q n ≡ m n
       upper-now n k l ne =

@@ -9,7 +9,7 @@ use Rattle.ib_walk.specs.Pages.{Free, PageMemory, PageState, Tree}
 use Rattle.ib_walk.specs.Trees.{IsLawful, content_of, height_of, most_height, weight_of}
 use Rattle.ib_walk.specs.Walk.{Visit}
 use Rattle.ib_walk.proofs.ChoiceLaws.{cond-eq}
-use Rattle.ib_plans.specs.Insert.{AreEnough, AreFresh, Growth, first_of, insert_below, planned_insert, raise_long, raised, rest_of}
+use Rattle.ib_plans.specs.Insert.{AreEnough, AreFresh, Growth, first_fresh, insert_below, planned_insert, raise_long, raised, other_fresh}
 use Rattle.ib_plans.specs.Marks.{mark, with_bit}
 use Rattle.ib_plans.specs.Split.{first_key, raise_page, right_part}
 use Rattle.ib_plans.specs.declared.TheConstants.{LEFT_RECORDS}
@@ -28,7 +28,7 @@ raise_long-long root g long = let yes = lt-ltb MOST_RECORDS (length (g.memory ro
 
 -- the first two fresh pages are free, and two pages
 two-fresh : (bits : ℕ → ℕ) (xs : List ℕ) → 1 < length xs → AreFresh bits xs
-    → (bits (first_of xs) ≡ 0) × (first_of xs < MAPPED_PAGES) × (bits (first_of (rest_of xs)) ≡ 0) × (first_of (rest_of xs) < MAPPED_PAGES) × (first_of xs ≢ first_of (rest_of xs))
+    → (bits (first_fresh xs) ≡ 0) × (first_fresh xs < MAPPED_PAGES) × (bits (first_fresh (other_fresh xs)) ≡ 0) × (first_fresh (other_fresh xs) < MAPPED_PAGES) × (first_fresh xs ≢ first_fresh (other_fresh xs))
 two-fresh bits [] h f = absurd (omega arith)
 two-fresh bits (x ∷ []) h f = absurd (omega arith)
 two-fresh bits (x ∷ y ∷ xs) h f =
@@ -61,13 +61,13 @@ module _ (m : PageMemory) (roots : ℕ) (key : MapKey) (value root : ℕ) (some 
   -- the root is raised
   module _ (over : MOST_RECORDS < length (g.memory root).records) (enough : 1 < length g.fresh) (low : height_of m root < most_height roots) where
     abbrev a : ℕ
-    a = first_of g.fresh
+    a = first_fresh g.fresh
 
     abbrev b : ℕ
-    b = first_of (rest_of g.fresh)
+    b = first_fresh (other_fresh g.fresh)
 
     abbrev now : PageMemory
-    now = raise_page g.memory root (first_of g.fresh) (first_of (rest_of g.fresh))
+    now = raise_page g.memory root (first_fresh g.fresh) (first_fresh (other_fresh g.fresh))
 
     ready : (g.bits a ≡ 0) × (a < MAPPED_PAGES) × (g.bits b ≡ 0) × (b < MAPPED_PAGES) × (a ≢ b)
     ready = two-fresh g.bits g.fresh enough was.free

@@ -1,6 +1,6 @@
 -- Levels of a walk: what a level weighs, and what each of its pages is.
 use Rattle.std.specs.List.{AllByRecursion}
-use Rattle.std.proofs.Common.{◌≡◌, ℕ, zero, suc, ◌≤◌, List, [], ◌∷◌, ◌++◌, refl, ap, arith}
+use Rattle.std.proofs.Common.{◌≡◌, ℕ, zero, suc, ◌+◌, ◌≤◌, List, [], ◌∷◌, ◌++◌, refl, ap, arith}
 use Rattle.ib_map.specs.Pairs.{Rises}
 use Rattle.ib_walk.specs.Pages.{Tree, PageMemory}
 use Rattle.ib_walk.specs.Walk.{Visit, children, below, sum_of, weight, IsNodeAt, IsLeafAt, IsTree}
@@ -16,6 +16,11 @@ AllByRecursion-both A B C (x ∷ xs) so a b = (so x a.0 b.0, AllByRecursion-both
 pub above-suc : (depth height : ℕ) → above depth (suc height) ≡ suc (above depth height)
 above-suc zero height = refl
 above-suc (suc depth) height = ap suc (above-suc depth height)
+
+-- a height is so many levels above another
+pub above-sum : (depth height : ℕ) → above depth height ≡ depth + height
+above-sum zero height = omega arith
+above-sum (suc depth) height = let r = above-sum depth height in omega arith
 
 -- a level weighs no more than it and all levels below it, and these no more than with the levels above them
 pub level-le_weight : (f : ℕ → Visit → ℕ) (m : PageMemory) (height : ℕ) (vs : List Visit) → sum_of (f height) vs ≤ weight f m height vs

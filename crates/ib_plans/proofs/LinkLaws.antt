@@ -8,7 +8,7 @@ use Rattle.ib_walk.specs.Search.{leaf_for}
 use Rattle.ib_walk.specs.Trees.{IsLawfulUpTo, height_of, top_of}
 use Rattle.ib_walk.specs.Walk.{AreLinked, IsLeafAt, Visit, first_page, is_page, last_page, sum_of}
 use Rattle.ib_walk.proofs.ChoiceLaws.{cond-eq, cond-ne}
-use Rattle.ib_walk.proofs.MeetLaws.{AllByRecursion-other, HasLinks, is_page-own, lowest-le_weight, sum_of-own}
+use Rattle.ib_walk.proofs.MeetLaws.{AllByRecursion-other, AreLinked-right, HasLinks, is_page-own, lowest-le_weight, sum_of-own}
 use Rattle.ib_walk.proofs.TreeLaws.{IsPageFor-leaf, times_met-le, weight_of-le}
 use Rattle.ib_walk.proofs.WalkLaws.{AllByRecursion-right}
 use Rattle.ib_plans.specs.Split.{next_or}
@@ -24,10 +24,6 @@ pub AreLinked-left : (m : PageMemory) (prev : ℕ) (xs ys : List Visit) (next : 
 AreLinked-left m prev [] ys next h = tt
 AreLinked-left m prev (x ∷ []) ys next h = (h.0, h.1, tt)
 AreLinked-left m prev (x ∷ y ∷ xs) ys next h = (h.0, h.1, AreLinked-left m x.page (y ∷ xs) ys next h.2)
-
-pub AreLinked-right : (m : PageMemory) (prev : ℕ) (xs ys : List Visit) (next : ℕ) → AreLinked m prev (xs ++ ys) next → AreLinked m (last_page prev xs) ys next
-AreLinked-right m prev [] ys next h = h
-AreLinked-right m prev (x ∷ xs) ys next h = AreLinked-right m x.page xs ys next h.2
 
 -- a first page that is not 0 is met
 pub first_page-met : (vs : List Visit) → first_page vs 0 ≢ 0 → 0 < sum_of (is_page (first_page vs 0) 0) vs

@@ -11,7 +11,7 @@ use Rattle.ib_walk.specs.Search.{child_for, page_below}
 use Rattle.ib_walk.specs.Trees.{IsLawful, content_of, height_of, most_height}
 use Rattle.ib_walk.proofs.ChoiceLaws.{cond-eq, cond-ne}
 use Rattle.ib_walk.proofs.SearchLaws.{above}
-use Rattle.ib_plans.specs.Insert.{AreEnough, AreFresh, Growth, first_of, insert_below, planned_insert, put_at, rest_of, split}
+use Rattle.ib_plans.specs.Insert.{AreEnough, AreFresh, Growth, first_fresh, insert_below, planned_insert, put_at, other_fresh, split}
 use Rattle.ib_plans.specs.Split.{first_key, right_part, with_records}
 use Rattle.ib_plans.proofs.InsertLaws.{IsInsertedBelow, IsInsertedBelow-path, PathAbove-insert, page-after_split, split_long-long, split_long-short}
 use Rattle.ib_plans.proofs.InsertPlanLaws.{IsPlannedInsert, IsPlannedInsert-plan, raise_long-long, raise_long-short}
@@ -51,9 +51,9 @@ full_run-below m key (suc depth) height root =
     let a = full_run-left m (pages_up m key (above depth height) (child_for key 0 (m root).records)) (root ∷ []) in omega arith
 
 -- one page fewer is left after the first was taken
-pub length-rest_of : (xs : List ℕ) → 0 < length xs → length (rest_of xs) + 1 ≡ length xs
-length-rest_of [] some = absurd (omega arith)
-length-rest_of (x ∷ xs) some = omega arith
+pub length-other_fresh : (xs : List ℕ) → 0 < length xs → length (other_fresh xs) + 1 ≡ length xs
+length-other_fresh [] some = absurd (omega arith)
+length-other_fresh (x ∷ xs) some = omega arith
 
 -- how far the run of full pages reaches says how many fresh pages were taken, and whether the page has one record too many
 pub record IsCounted (m : PageMemory) (bits : ℕ → ℕ) (fresh : List ℕ) (key : MapKey) (value height page : ℕ) : Type 0 where
@@ -116,8 +116,8 @@ module _ (m : PageMemory) (bits : ℕ → ℕ) (roots : ℕ) (law : IsLawful m b
       let n = ap (λ (q : Growth). length (q.memory page).records) same in
       let now = page-after_split m bits roots law key value in-range root some le fresh free missing height depth page tall at (below-it height page) w (omega arith) has in
       let x = ap (λ (p : PageState). length p.records) now in
-      let y = length-put (first_key (right_part ((below-it height page).memory (child_for key 0 (m page).records)).records)) (first_of (below-it height page).fresh) (m page).records in
-      let r = length-rest_of (below-it height page).fresh has in
+      let y = length-put (first_key (right_part ((below-it height page).memory (child_for key 0 (m page).records)).records)) (first_fresh (below-it height page).fresh) (m page).records in
+      let r = length-other_fresh (below-it height page).fresh has in
       let s = page-short (suc height) depth page tall at in
       elim (cases_eq (length (m page).records) MOST_RECORDS) [
         | inl full ↦ let q = cond-eq {X = ℕ} (length (m page).records) MOST_RECORDS 1 0 full in record {
@@ -240,8 +240,8 @@ module _ (m : PageMemory) (bits : ℕ → ℕ) (roots : ℕ) (law : IsLawful m b
             let a = o.0 in let b = o.1 in let c = o.2 in
             let q = cond-eq {X = ℕ} (run_of m key root) (suc (height_of m root)) 1 0 full in
             let f = ap (λ (g : Growth). length g.fresh) (raise_long-long root whole (omega arith)) in
-            let x = length-rest_of whole.fresh (omega arith) in
-            let y = length-rest_of (rest_of whole.fresh) (omega arith) in
+            let x = length-other_fresh whole.fresh (omega arith) in
+            let y = length-other_fresh (other_fresh whole.fresh) (omega arith) in
             omega arith
       ]
 

@@ -1,6 +1,6 @@
 -- The list of the pages whose range has a key is the key's path: one page of each level, each the child of the one above.
 use Rattle.std.specs.List.{AllByRecursion}
-use Rattle.std.proofs.Common.{◌≡◌, ℕ, ◌<◌, ◌≤◌, ◌∙◌, [], ◌∷◌, ◌++◌, zero, suc, Bool, true, false, cond, List, length, refl, ap, subst, arith, ltb, length-append, leb, map, filter}
+use Rattle.std.proofs.Common.{◌≡◌, ℕ, ◌+◌, ◌<◌, ◌≤◌, ◌∙◌, [], ◌∷◌, ◌++◌, zero, suc, Bool, true, false, cond, List, length, get_or, refl, ap, subst, arith, ltb, length-append, leb, map, filter}
 use Rattle.std.specs.Prelude.{◌&&◌}
 use Rattle.std.proofs.lemmas.Bool.{lt-ltb, le-ltb, le-leb, lt-leb, and_from, and_left, and_right}
 use Rattle.ib_map.specs.Keys.{MapKey, end_rank, rank}
@@ -13,6 +13,7 @@ use Rattle.ib_walk.specs.Walk.{IsLeafAt, IsNodeAt, IsTiled, IsTree, Visit, child
 use Rattle.ib_walk.proofs.SearchLaws.{IsPageFor-children, IsTiled-children, IsTiled-left, IsTiled-right}
 use Rattle.ib_walk.proofs.TreeLaws.{IsPageFor-top}
 use Rattle.ib_walk.proofs.WalkLaws.{AllByRecursion-left, AllByRecursion-right}
+use Rattle.ib_plans.specs.Agreement.{way_down, last_of}
 use Rattle.ib_plans.proofs.LevelLaws.{IsTree-children}
 
 -- the path from the leaf up to a page of this height
@@ -25,6 +26,19 @@ length-pages_up m key zero page = refl
 length-pages_up m key (suc height) page =
     let r = length-pages_up m key height (child_for key 0 (m page).records) in
     let a = length-append (pages_up m key height (child_for key 0 (m page).records)) (page ∷ []) in omega arith
+
+-- the path from the root down has as many pages
+pub length-way_down : (m : PageMemory) (key : MapKey) (height page : ℕ) → length (way_down m key height page) ≡ suc height
+length-way_down m key zero page = refl
+length-way_down m key (suc height) page = ap suc (length-way_down m key height (child_for key 0 (m page).records))
+
+-- the last page is the one with the last number
+pub last_of-at : (path : List ℕ) (i : ℕ) → i + 1 ≡ length path → get_or path i 0 ≡ last_of path
+last_of-at [] i e = absurd (omega arith)
+last_of-at (x ∷ []) zero e = refl
+last_of-at (x ∷ []) (suc i) e = absurd (omega arith)
+last_of-at (x ∷ y ∷ ys) zero e = absurd (omega arith)
+last_of-at (x ∷ y ∷ ys) (suc i) e = last_of-at (y ∷ ys) i (omega arith)
 
 -- whether a visit's range has the key
 abbrev has_key : MapKey → Visit → Bool

@@ -2,7 +2,6 @@
 use Rattle.std.specs.List.{AllByRecursion}
 use Rattle.std.proofs.Common.{◌≡◌, ◌≢◌, ℕ, ◌+◌, ◌<◌, ◌≤◌, ◌∙◌, [], ◌∷◌, ◌++◌, suc, inl, inr, length, refl, sym, ap, subst, arith}
 use Rattle.std.proofs.lemmas.Bool.{cases_eq}
-use Rattle.std.proofs.lemmas.Bool.Decides.{nat_tests}
 use Rattle.ib_map.specs.Keys.{MapKey, end_rank, rank}
 use Rattle.ib_map.specs.Pairs.{Rises, first_rank}
 use Rattle.ib_map.proofs.RiseLaws.{Rises-higher, Rises-le, Rises-left, Rises-lower, Rises-right}
@@ -13,7 +12,7 @@ use Rattle.ib_walk.specs.Trees.{IsLawfulUpTo, IsTreeOf, content_of, height_of, l
 use Rattle.ib_walk.specs.Walk.{AreLinked, AreNodes, IsLeafAt, IsTree, Visit, below, children, is_page, records_in, weight}
 use Rattle.ib_walk.proofs.LeafLaws.{IsSound-wider}
 use Rattle.ib_walk.proofs.MeetLaws.{AllByRecursion-met, AreLinked-same, HasLinks, IsSameTree-met, is_page-other, is_page-own, lowest-le_weight}
-use Rattle.ib_walk.proofs.TreeLaws.{weight_of-le}
+use Rattle.ib_walk.proofs.TreeLaws.{most_height-le, weight_of-le}
 use Rattle.ib_walk.proofs.WalkLaws.{IsSameTree}
 use Rattle.ib_plans.proofs.HalfLaws.{IsHalved, IsHalvedRow, IsHalvedRow-halved}
 use Rattle.ib_plans.proofs.LevelLaws.{AllByRecursion-both, Rises-visit, below-zero}
@@ -214,10 +213,7 @@ module _ (most : ℕ → ℕ) (m new : PageMemory) (bits : ℕ → ℕ) (roots :
   first-low = Rises-apart 0 raised.halved.left (rank raised.halved.first.0) (Rises-left 0 raised.halved.left (raised.halved.first ∷ raised.halved.rest) end_rank cut-all) raised.halved.some
 
   low-level : suc (height_of m root) ≤ MOST_LEVEL
-  low-level = let x = highest-le roots in omega arith
-    where
-      highest-le : (n : ℕ) → most_height n ≤ MOST_LEVEL
-      highest-le n = grind (arith, nat_tests)
+  low-level = let x = most_height-le roots in omega arith
 
   a-sound : (now : ℕ) → length raised.halved.left ≤ now → IsSound now (new a)
   a-sound now short = record {

@@ -9,12 +9,11 @@ use Rattle.ib_walk.specs.Pages.{PageMemory, Tree}
 use Rattle.ib_walk.specs.Search.{IsPageFor, page_below}
 use Rattle.ib_walk.specs.Trees.{IsLawful, IsTreeOf, height_of, top_of, weight_of}
 use Rattle.ib_walk.specs.Walk.{AreLinked, IsLeafAt, IsNodeAt, IsTree, Visit, below, children, children_of, first_page, is_page, sum_of, weight}
-use Rattle.ib_walk.proofs.MeetLaws.{is_page-own}
+use Rattle.ib_walk.proofs.MeetLaws.{AreLinked-right, is_page-own}
 use Rattle.ib_walk.proofs.SearchLaws.{AllByRecursion-at, IsPageFor-below, IsTree-below, above, below-above}
 use Rattle.ib_walk.proofs.TreeLaws.{IsPageFor-top, times_met-le, weight_of-le}
 use Rattle.ib_walk.proofs.WalkLaws.{AllByRecursion-right, children-append, children_of-append, sum_of-append}
 use Rattle.ib_plans.proofs.LevelLaws.{below-le_weight, below-zero, kind-visit, level-le_weight, level-visit}
-use Rattle.ib_plans.proofs.LinkLaws.{AreLinked-right}
 use Rattle.ib_plans.proofs.MetLaws.{met-some}
 
 -- the leaf behind the right one is another one than both

@@ -10,13 +10,13 @@ use Rattle.ib_walk.specs.Pages.{IsSound, PageMemory, Tree}
 use Rattle.ib_walk.specs.Search.{IsPageFor, child_for, page_below}
 use Rattle.ib_walk.specs.Trees.{IsLawfulUpTo, IsTreeOf, content_of, height_of, leaves_of, times_met, top_of, weight_of}
 use Rattle.ib_walk.specs.Walk.{AreLinked, IsLeafAt, IsNodeAt, IsTree, Visit, below, children, children_of, first_page, is_page, records_in, sum_of, weight}
-use Rattle.ib_walk.proofs.MeetLaws.{AllByRecursion-met, AllByRecursion-other, AreLinked-same, HasLinks, IsSameTree-met, is_page-other, is_page-own, lowest-le_weight, sum_of-own}
+use Rattle.ib_walk.proofs.MeetLaws.{AllByRecursion-met, AllByRecursion-other, AreLinked-right, AreLinked-same, HasLinks, IsSameTree-met, is_page-other, is_page-own, lowest-le_weight, sum_of-own}
 use Rattle.ib_walk.proofs.SearchLaws.{AllByRecursion-at, IsPageFor-below, IsTree-below, above}
 use Rattle.ib_walk.proofs.TreeLaws.{IsPageFor-top, times_met-le, weight_of-le}
 use Rattle.ib_walk.proofs.WalkLaws.{AllByRecursion-right, IsSameTree, children-append, children_of-append, sum_of-append}
 use Rattle.ib_plans.proofs.HalfLaws.{AreOther}
 use Rattle.ib_plans.proofs.LevelLaws.{AllByRecursion-both, below-le_weight, kind-visit, level-le_weight, level-visit}
-use Rattle.ib_plans.proofs.LinkLaws.{AreLinked-append, AreLinked-left, AreLinked-right, first_page-met}
+use Rattle.ib_plans.proofs.LinkLaws.{AreLinked-append, AreLinked-left, first_page-met}
 use Rattle.ib_plans.proofs.MetLaws.{bit-none, clear-some, clear-unmet, met-apart, met-few, met-some, root-times_met, weight_all-plus, zero-unmet}
 use Rattle.ib_plans.proofs.RecordLaws.{Rises-from, first_rank-above}
 use Rattle.ib_plans.proofs.SplitWalkLaws.{ChildRecord, ChildRecord-of, IsSplit, IsSplitTree, IsSplitTree-split, first-high, first-low, new-records}

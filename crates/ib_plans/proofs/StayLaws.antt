@@ -10,7 +10,7 @@ use Rattle.ib_plans.specs.declared.TheConstants.{FEWEST_RECORDS}
 use Rattle.ib_plans.specs.Marks.{mark, untouched}
 use Rattle.ib_plans.specs.Moves.{Move, Stays, Puts, Takes, Fills, Frees, unmoved, with_move}
 use Rattle.ib_plans.specs.Split.{right_part, first_key, next_or}
-use Rattle.ib_plans.specs.Insert.{Growth, first_of, rest_of, split, split_long, insert_below, raised, raise_long, planned_insert}
+use Rattle.ib_plans.specs.Insert.{Growth, first_fresh, other_fresh, split, split_long, insert_below, raised, raise_long, planned_insert}
 use Rattle.ib_plans.specs.Merge.{Siblings, siblings_of, fit_one, first_child}
 use Rattle.ib_plans.specs.Delete.{Shrinkage, settled, merged, merge_left, merge_right, merge, merge_short, delete_below, lifted, lift_single, planned_delete}
 use Rattle.ib_plans.proofs.MoveLaws.{with_move-other}
@@ -27,9 +27,9 @@ one-touched page touched moves n off stays = stays (mark-off page touched n off)
 module _ (n : ℕ) where
   split-stays : (parent child : ℕ) (g : Growth) → (g.touched n ≡ false → g.moves n ≡ Stays) → (split parent child g).touched n ≡ false → (split parent child g).moves n ≡ Stays
   split-stays parent child g stays off =
-      let next = next_or (first_of g.fresh) (g.memory child) in
-      let others = mark-off 0 (mark (first_of g.fresh) (mark child (mark parent (mark next g.touched)))) n off in
-      one-more (first_of g.fresh) Fills (mark child (mark parent (mark next g.touched))) (with_move child Fills (with_move parent (Puts (first_key (right_part (g.memory child).records))) g.moves)) n others.1
+      let next = next_or (first_fresh g.fresh) (g.memory child) in
+      let others = mark-off 0 (mark (first_fresh g.fresh) (mark child (mark parent (mark next g.touched)))) n off in
+      one-more (first_fresh g.fresh) Fills (mark child (mark parent (mark next g.touched))) (with_move child Fills (with_move parent (Puts (first_key (right_part (g.memory child).records))) g.moves)) n others.1
       (λ off. one-more child Fills (mark parent (mark next g.touched)) (with_move parent (Puts (first_key (right_part (g.memory child).records))) g.moves) n off
       (λ off. one-more parent (Puts (first_key (right_part (g.memory child).records))) (mark next g.touched) g.moves n off (λ off. one-touched next g.touched g.moves n off stays)))
 
@@ -42,8 +42,8 @@ module _ (n : ℕ) where
 
   raised-stays : (root : ℕ) (g : Growth) → (g.touched n ≡ false → g.moves n ≡ Stays) → (raised root g).touched n ≡ false → (raised root g).moves n ≡ Stays
   raised-stays root g stays off =
-      let left = first_of g.fresh in
-      let right = first_of (rest_of g.fresh) in
+      let left = first_fresh g.fresh in
+      let right = first_fresh (other_fresh g.fresh) in
       let others = mark-off 0 (mark left (mark right (mark root g.touched))) n off in
       one-more left Fills (mark right (mark root g.touched)) (with_move right Fills (with_move root Fills g.moves)) n others.1
       (λ off. one-more right Fills (mark root g.touched) (with_move root Fills g.moves) n off (λ off. one-more root Fills g.touched g.moves n off stays))

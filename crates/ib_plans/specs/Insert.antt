@@ -21,13 +21,13 @@ pub record Growth : Type 0 where
   pub fresh : List ℕ
 
 -- the first of the fresh pages, and the others
-abbrev pub first_of : List ℕ → ℕ
-first_of [] = 0
-first_of (x ∷ xs) = x
+abbrev pub first_fresh : List ℕ → ℕ
+first_fresh [] = 0
+first_fresh (x ∷ xs) = x
 
-abbrev pub rest_of : List ℕ → List ℕ
-rest_of [] = []
-rest_of (x ∷ xs) = xs
+abbrev pub other_fresh : List ℕ → List ℕ
+other_fresh [] = []
+other_fresh (x ∷ xs) = xs
 
 -- the pair stands in the page
 abbrev pub put_at : PageMemory → ℕ → MapKey → ℕ → PageMemory
@@ -36,11 +36,11 @@ put_at memory page key value = with_page memory page (with_records (put key valu
 -- the child is split
 abbrev pub split : ℕ → ℕ → Growth → Growth
 split parent child g = record {
-  memory = split_page g.memory parent child (first_of g.fresh);
-  bits = with_bit (first_of g.fresh) 1 g.bits;
-  touched = mark 0 (mark (first_of g.fresh) (mark child (mark parent (mark (next_or (first_of g.fresh) (g.memory child)) g.touched))));
-  moves = with_move (first_of g.fresh) Fills (with_move child Fills (with_move parent (Puts (first_key (right_part (g.memory child).records))) g.moves));
-  fresh = rest_of g.fresh;
+  memory = split_page g.memory parent child (first_fresh g.fresh);
+  bits = with_bit (first_fresh g.fresh) 1 g.bits;
+  touched = mark 0 (mark (first_fresh g.fresh) (mark child (mark parent (mark (next_or (first_fresh g.fresh) (g.memory child)) g.touched))));
+  moves = with_move (first_fresh g.fresh) Fills (with_move child Fills (with_move parent (Puts (first_key (right_part (g.memory child).records))) g.moves));
+  fresh = other_fresh g.fresh;
 }
 
 -- .. where it has one record too many
@@ -56,11 +56,11 @@ insert_below memory bits fresh key value (suc height) page =
 -- the root is raised: the left page is taken before the right one
 abbrev pub raised : ℕ → Growth → Growth
 raised root g = record {
-  memory = raise_page g.memory root (first_of g.fresh) (first_of (rest_of g.fresh));
-  bits = with_bit (first_of (rest_of g.fresh)) 1 (with_bit (first_of g.fresh) 1 g.bits);
-  touched = mark 0 (mark (first_of g.fresh) (mark (first_of (rest_of g.fresh)) (mark root g.touched)));
-  moves = with_move (first_of g.fresh) Fills (with_move (first_of (rest_of g.fresh)) Fills (with_move root Fills g.moves));
-  fresh = rest_of (rest_of g.fresh);
+  memory = raise_page g.memory root (first_fresh g.fresh) (first_fresh (other_fresh g.fresh));
+  bits = with_bit (first_fresh (other_fresh g.fresh)) 1 (with_bit (first_fresh g.fresh) 1 g.bits);
+  touched = mark 0 (mark (first_fresh g.fresh) (mark (first_fresh (other_fresh g.fresh)) (mark root g.touched)));
+  moves = with_move (first_fresh g.fresh) Fills (with_move (first_fresh (other_fresh g.fresh)) Fills (with_move root Fills g.moves));
+  fresh = other_fresh (other_fresh g.fresh);
 }
 
 -- .. where it has one record too many

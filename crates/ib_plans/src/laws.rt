@@ -1,4 +1,4 @@
-//! What planned changes lead to, as contracts.
+//! What planned changes lead to, as contracts (`btr_cur_pessimistic_insert`, `btr_cur_pessimistic_delete`).
 
 ghost use Rattle.std.specs.Prelude.{◌≡◌, ℕ, ◌<◌, ◌≤◌, None, true};
 ghost use Rattle.ib_map.specs.Keys.{MapKey, IsKey};

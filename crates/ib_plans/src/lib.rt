@@ -1,4 +1,5 @@
-//! What an insert and a delete make of the pages of a tree: splits and the raise of a root, merges and the lift of one.
+//! What an insert and a delete make of the pages of a tree: splits and the raise of a root, merges and the lift of one
+//! (btr0btr, btr0cur).
 #![tactic(auto)]
 
 mod fault;
@@ -8,7 +9,7 @@ mod pages;
 pub use fault::TreeFault;
 use ib_page::MOST_RECORDS;
 pub use laws::{delete_law, insert_law};
-pub use pages::{empty_page, image_of, link_back};
+pub use pages::{image_of, link_back};
 
 /// How many of the records of a page that has one too many stay in it at a split, one half of them: the others go to a page
 /// to its right (btr0btr, `btr_page_get_split_rec`).

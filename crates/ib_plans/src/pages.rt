@@ -1,10 +1,7 @@
 //! What both plans do with a page of a work set.
 
-ghost use Rattle.std.specs.Prelude.{◌≡◌, ◌<◌, ◌≤◌, ◌^◌, [], Some, IsSomeAnd};
-ghost use Rattle.ib_heap.specs.declared.TheConstants.{MOST_LEVEL};
-ghost use Rattle.ib_page.specs.Form.{page_of};
+ghost use Rattle.std.specs.Prelude.{◌≡◌, ◌<◌, ◌^◌, Some, IsSomeAnd};
 ghost use Rattle.ib_page.specs.Image.{IsTreePage};
-ghost use Rattle.ib_page.specs.Page.PageValue.{Tree};
 ghost use Rattle.ib_page.specs.Work.{changed_of};
 ghost use Rattle.ib_plans.specs.Agreement.{IsThere, Sets, memory_in, tick};
 ghost use Rattle.ib_plans.specs.Moves.{HasMoved, Stays};
@@ -20,19 +17,8 @@ pub fn image_of(work: &WorkSet, page: u32) -> &Image
     work.image(page).unwrap()
 }
 
-/// An empty page at a level.
-pub fn empty_page(level: u32, clock: u64) -> Image
-    requires { level ≤ MOST_LEVEL }
-    ensures { page_of result ≡ Tree (record { level = level; prev = 0; next = 0; clock = clock; records = [] }) }
-{
-    if level == 0 {
-        Image::leaf(clock)
-    } else {
-        Image::node(level, clock)
-    }
-}
-
-/// Links a leaf back to another one, 0 for none. Its clock, which is below 2^63, ticks.
+/// Links a leaf back to another one, 0 for none (`btr_attach_half_pages`, `btr_level_list_remove`). Its clock, which is below
+/// 2^63, ticks.
 pub fn link_back(work: &mut WorkSet, page: u32, prev: u32)
     requires tree { IsSomeAnd (changed_of page work.old) IsTreePage }
     requires leaf { (memory_in work.old page).level ≡ 0 }

@@ -1,6 +1,6 @@
 //! A log as a file: 64-bit numbers, the highest byte first.
 
-ghost use Rattle.std.specs.Prelude.{◌≡◌, ◌+◌, ◌*◌, ◌%◌, ℕ, List, None, true, length, IfOk, IfErr, OnOk, MatchResult};
+ghost use Rattle.std.specs.Prelude.{◌≡◌, ◌+◌, ◌*◌, ◌%◌, ℕ, List, None, Err, true, length, IfOk, IfErr, OnOk, MatchResult};
 ghost use Rattle.ib_map.specs.Space.{has_pages};
 ghost use Rattle.ib_logrec.specs.Grammar.{IsFault};
 ghost use Rattle.ib_replay.specs.Files.{LogFile, AreWords, word_bytes, file_of, file_fault};
@@ -14,6 +14,8 @@ use std::marker::Model;
 /// What a log file begins with: the text `IBLOG57` and the digit of its version, 1. In files of version 0 pages were
 /// sorted records, and no heaps.
 pub const FILE_FORM: u64 = 0x4942_4c4f_4735_3731;
+
+const _: () = prove!(FILE_FORM == 0x4942_4c4f_4735_3731);
 
 /// A log as a file has it: the number of pages of its space, and its words.
 #[derive(Debug, Drop)]
@@ -59,9 +61,10 @@ pub fn read_log(alloc: Global, bytes: &[u8]) -> Result<RawLog, LogFault>
         → bytes.now ≡ file_of pages words
         → MatchResult result (λ log. log ≡ record { pages = pages; words = words }) (λ fault. fault ≡ LogFault.OutOfMemory) }
 
-    // Which fault it is.
+    // Which fault it is: memory may be wanting only where the file has none.
     ensures no_fault { OnOk result (file_fault bytes.now ≡ None) }
     ensures fault { IfErr result (IsFault (file_fault bytes.now)) }
+    ensures memory { result ≡ Err LogFault.OutOfMemory → file_fault bytes.now ≡ None }
 {
     log_of(alloc, bytes)
 }
@@ -74,6 +77,7 @@ fn log_of(alloc: Global, bytes: &[u8]) -> Result<RawLog, LogFault>
     ensures fits { IfOk result (λ log. AreWords log.words) }
     ensures no_fault { OnOk result (file_fault bytes.now ≡ None) }
     ensures fault { IfErr result (IsFault (file_fault bytes.now)) }
+    ensures memory { result ≡ Err LogFault.OutOfMemory → file_fault bytes.now ≡ None }
 {
     if bytes.len() % 8 != 0 {
         return Err(LogFault::OddLength { bytes: bytes.len() });

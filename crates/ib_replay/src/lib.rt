@@ -10,8 +10,3 @@ pub use file::{FILE_FORM, RawLog, read_log, write_log};
 pub use log_replay::{Replayed, replay};
 pub use memory::Memory;
 pub use raw_log_replay::replay_file;
-
-#[cfg(test)]
-mod tests;
-#[cfg(test)]
-mod tree_tests;

@@ -25,7 +25,7 @@ use Rattle.ib_rule.specs.declared.view.View.{View}
 use Rattle.std.specs.List.{AllByRecursion}
 use Rattle.ib_rule.specs.Memory.{IsAppending}
 use Rattle.ib_rule.specs.Roles.{live, bears, is_drawn, drawn_in, ended_in, number_in}
-use Rattle.ib_rule.specs.Views.{role_of, session_of}
+use Rattle.ib_rule.specs.Views.{role_of, session_in_view}
 use Rattle.ib_rule.specs.Rule.{RuleHolds}
 
 bears_own : (r : Role) → 0 < number_in r → bears (number_in r) r ≡ 1
@@ -56,7 +56,7 @@ module _ (lawful : ℕ → List Entry → Type 0) (opening : ℕ → ℕ → ℕ
   -- nobody else holds a latch whose X is owned
   pub alone : (i j : ℕ) (u v : View) → get_elem? s.views i ≡ some u → get_elem? s.views j ≡ some v → i ≢ j → u.session.phase ≡ Free → (l : ℕ) → 0 < x_grants l u.session → holdings l v.session ≡ 0
   alone i j u v d e n free l x =
-      let u_at = at_map session_of s.views i u d in let v_at = at_map session_of s.views j v e in
+      let u_at = at_map session_in_view s.views i u d in let v_at = at_map session_in_view s.views j v e in
       let beside = kept.latches.good.beside i j u.session v.session u_at v_at n l in
       let cu = counted l u.session ((kept.latches.good.proper i u.session u_at).single l) in
       let cv = counted l v.session ((kept.latches.good.proper j v.session v_at).single l) in
@@ -66,7 +66,7 @@ module _ (lawful : ℕ → List Entry → Type 0) (opening : ℕ → ℕ → ℕ
 
   -- nobody else claims a latch that one claims
   pub one_claims : (i j : ℕ) (u v : View) → get_elem? s.views i ≡ some u → get_elem? s.views j ≡ some v → i ≢ j → (l : ℕ) → 0 < claims l u.session → claims l v.session ≡ 0
-  one_claims i j u v d e n l c = (kept.latches.good.beside i j u.session v.session (at_map session_of s.views i u d) (at_map session_of s.views j v e) n l).one_claim c
+  one_claims i j u v d e n l c = (kept.latches.good.beside i j u.session v.session (at_map session_in_view s.views i u d) (at_map session_in_view s.views j v e) n l).one_claim c
 
   -- who owns X holds the latch
   pub holds : (i : ℕ) (u : View) → get_elem? s.views i ≡ some u → (l : ℕ) → 0 < x_grants l u.session → 0 < holdings l u.session

@@ -18,7 +18,7 @@ use Rattle.ib_rule.specs.declared.memory.Memory.{Memory}
 use Rattle.ib_rule.specs.declared.view.View.{View}
 use Rattle.ib_rule.specs.Memory.{SinceFact, stored_in, Follows}
 use Rattle.std.specs.List.{AllByRecursion}
-use Rattle.ib_rule.specs.Views.{total, role_of, session_of, with_looks, with_memory}
+use Rattle.ib_rule.specs.Views.{total, role_of, session_in_view, with_looks, with_memory}
 use Rattle.ib_rule.specs.Roles.{sessions_in, SessionsPart, number_in}
 use Rattle.ib_rule.specs.Rule.{LatchPart, PaidPart, WriterPart, IsWriter, IsIdle, RuleHolds}
 use Rattle.ib_core.specs.Debts.{debt}
@@ -34,7 +34,7 @@ module _ (lawful : ℕ → List Entry → Type 0) (opening : ℕ → ℕ → ℕ
       let w : View = with_looks looks (with_memory m v) in record {
         sized = subst (λ z. length z ≡ words_of key) (sym same) kept.sized;
         sessions = subst (λ (z : List ℕ × List Role). SessionsPart (slice_index z.0 drawn_place) z.1) (λ j. (sym same j, sym (map_same role_of s.views id v w at refl) j)) kept.sessions;
-        latches = subst (λ (z : List ℕ × List Session). LatchPart (latches_of key) z.0 z.1) (λ j. (sym same j, sym (map_same session_of s.views id v w at refl) j)) kept.latches;
+        latches = subst (λ (z : List ℕ × List Session). LatchPart (latches_of key) z.0 z.1) (λ j. (sym same j, sym (map_same session_in_view s.views id v w at refl) j)) kept.latches;
         idles = at_set (λ _ u. IsIdle u) s.views id w (kept.idles id v at) (λ j b e _. kept.idles j b e);
         paid = subst (λ z. PaidPart (latches_of key) z (set s.views id w)) (sym same) record {
           paid = λ k h.

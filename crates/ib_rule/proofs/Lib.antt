@@ -22,7 +22,7 @@ mod HeldNow
 mod Closing
 mod Wishing
 pub mod Lists
-mod Storing
+pub mod Storing
 mod Seeing
 mod Stored
 mod Looking

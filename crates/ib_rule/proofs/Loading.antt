@@ -9,7 +9,7 @@ use Rattle.ib_logrec.specs.Log.{memory_after}
 use Rattle.ib_rule.specs.declared.memory.Loaded.{Loaded}
 use Rattle.ib_rule.specs.declared.view.View.{View}
 use Rattle.ib_rule.specs.Views.{is_watched, loading, with_memory}
-use Rattle.ib_rule.specs.Told.{IsSettled}
+use Rattle.ib_rule.specs.Told.{IsWatchedWord}
 use Rattle.ib_rule.specs.Loads.{AreSettled, HasLoaded, loads_below, with_loaded}
 use Rattle.ib_rule.proofs.Seeing.{page_latch}
 
@@ -42,17 +42,17 @@ module _ (start now next : View) (page i x : ℕ) (out : List ℕ) (room : i < l
       more = loads_more page (slice_set out i x) i ∙ (λ j. record { place = word_place page i; value = get_or-set_same out i x 0 room j; is_fresh = true } ∷ loads_same page out i x i (omega arith) j)
 
   -- .. and is that of the page, where its latch is watched
-  settled_more : (opening : ℕ → ℕ) → i < PAGE_WORDS → IsSettled opening now (word_place page i) x → AreSettled opening page out i start → AreSettled opening page (slice_set out i x) (i + 1) start
+  settled_more : (opening : ℕ → ℕ) → i < PAGE_WORDS → IsWatchedWord opening now (word_place page i) x → AreSettled opening page out i start → AreSettled opening page (slice_set out i x) (i + 1) start
   settled_more opening small is before watched k h = dite (ℕ_discrete i k)
       (λ here. subst (λ (k : ℕ). slice_index (slice_set out i x) k ≡ memory_after opening start.memory.seen (word_place page k)) here
-      (get_or-set_same out i x 0 room ∙ subst (λ (v : View). IsSettled opening v (word_place page i) x) same is (subst (λ (l : ℕ). is_watched l start.memory.since ≡ true) (sym (page_latch page i small)) watched)))
+      (get_or-set_same out i x 0 room ∙ subst (λ (v : View). IsWatchedWord opening v (word_place page i) x) same is (subst (λ (l : ℕ). is_watched l start.memory.since ≡ true) (sym (page_latch page i small)) watched)))
       (λ away. get_or-set_other out i k x 0 (λ e. away (sym e)) ∙ before watched k (omega arith))
 
 module _ (opening : ℕ → ℕ) (page : ℕ) (start : View) where
   pub has_none : (out : List ℕ) → HasLoaded opening page start out 0 start
   has_none out = record { view = loaded_none page out start; settled = λ watched k h. absurd (omega arith) }
 
-  pub has_more : (now next : View) (i x : ℕ) (out : List ℕ) → i < length out → i < PAGE_WORDS → next ≡ loading (word_place page i) x now → IsSettled opening now (word_place page i) x → HasLoaded opening page start out i now
+  pub has_more : (now next : View) (i x : ℕ) (out : List ℕ) → i < length out → i < PAGE_WORDS → next ≡ loading (word_place page i) x now → IsWatchedWord opening now (word_place page i) x → HasLoaded opening page start out i now
       → HasLoaded opening page start (slice_set out i x) (i + 1) next
   has_more now next i x out room small is settled has = record {
     view = loaded_more start now next page i x out room has.view is;

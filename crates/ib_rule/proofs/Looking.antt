@@ -8,7 +8,7 @@ use Rattle.ib_rule.specs.declared.memory.Since.{Since}
 use Rattle.ib_rule.specs.declared.view.View.{View}
 use Rattle.ib_rule.specs.Memory.{conflicts, entries_of, SinceFact}
 use Rattle.ib_rule.specs.Roles.{number_in}
-use Rattle.ib_rule.specs.Stores.{IsHarmless, IsLook, IsWhole}
+use Rattle.ib_rule.specs.Stores.{IsHarmless, IsLook, ShowsWholeLog}
 use Rattle.ib_rule.proofs.Lists.{each_all, each_both, each_right, drop_front, nil_rest}
 
 of_others : (n : ℕ) (es : List Entry) → entries_of n es ≡ [] → AllByRecursion (λ e. e.session ≢ n) es
@@ -19,7 +19,7 @@ of_others n (e ∷ es) none = pick (eqb e.session n) refl none (λ z. of_others 
     pick true z none rest = absurd (cc)
     pick false z none rest = ((λ q. let y : true ≡ false = sym (eq-eqb e.session n q) ∙ z in absurd (cc)), rest none)
 
-module _ (key : Sizes) (lawful : List Entry → Type 0) (opening : ℕ → ℕ) (v : View) (found : ℕ) (log : List Entry) (w : IsWhole key lawful opening v found log) where
+module _ (key : Sizes) (lawful : List Entry → Type 0) (opening : ℕ → ℕ) (v : View) (found : ℕ) (log : List Entry) (w : ShowsWholeLog key lawful opening v found log) where
   nobody : entries_of (number_in v.role) w.longer.0 ≡ []
   nobody =
       let n : ℕ = number_in v.role in

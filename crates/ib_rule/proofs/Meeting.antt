@@ -1,6 +1,6 @@
 -- One session tells another what it has seen.
 use Rattle.std.proofs.Common.{◌≡◌, ℕ, ◌*◌, ◌^◌, ◌<◌, ◌≤◌, Bool, true, false, cond, List, [], ◌∷◌, ◌++◌, map, set, length, refl, sym, ap, ◌∙◌, subst, arith, length-append}
-use Rattle.std.specs.Prelude.{◌==◌, nat_lt, slice_index, filter, sum_by, if◌then◌else◌, Option, Some, None}
+use Rattle.std.specs.Prelude.{◌==◌, nat_lt, slice_index, sum_by, if◌then◌else◌, Option, Some, None}
 use Rattle.std.proofs.lemmas.List.{nil_from_length}
 use Rattle.std.proofs.lemmas.List.Sums.{sum_by_push}
 use Rattle.std.proofs.lemmas.Bool.Decides.{nat_tests}
@@ -24,7 +24,7 @@ use Rattle.ib_rule.specs.declared.view.Role.TheVariants.{Note, Spent}
 use Rattle.ib_rule.specs.declared.view.View.{View}
 use Rattle.std.specs.List.{AllByRecursion}
 use Rattle.ib_rule.specs.Memory.{entries_of, stored_in, IsAppending}
-use Rattle.ib_rule.specs.Views.{total, role_of, session_of, nothing_seen, with_memory, longer, forgets, note_of, with_note, nobody}
+use Rattle.ib_rule.specs.Views.{total, role_of, session_in_view, nothing_seen, with_memory, longer, forgets, note_of, with_note, nobody}
 use Rattle.ib_rule.specs.Roles.{sessions_in, uncounted, drawn_in, is_space, bears, is_drawn, SessionsPart, number_in}
 use Rattle.ib_rule.specs.Rule.{LatchPart, IsWriter, IsIdle, RuleHolds}
 use Rattle.ib_core.specs.Debts.{debt}
@@ -35,6 +35,7 @@ use Rattle.ib_rule.proofs.Sessions.{split_step, map_twice}
 use Rattle.ib_rule.proofs.Turning.{map_same}
 use Rattle.ib_rule.proofs.Words.{set_same}
 use Rattle.ib_rule.proofs.Moves.{proper_now, known_now, few_now, taken_now}
+use Rattle.ib_rule.proofs.Lists.{nil_append}
 
 -- of two beginnings of one list the shorter begins the longer
 prefix_of : {A : Type 0} (xs ys log : List A) → IsPrefix xs log → IsPrefix ys log → length xs ≤ length ys → IsPrefix xs ys
@@ -59,11 +60,11 @@ longest xs ys = choose (λ ms. AllByRecursion (λ zs. length zs ≤ length ms) (
 whole_front : (xs log : List Entry) → IsPrefix xs log → length log ≤ length xs → xs ≡ log
 whole_front xs log p long =
     let n = length-append xs p.0 in let e = ap (λ (ys : List Entry). length ys) p.1 in
-    let none : p.0 ≡ [] = nil_from_length p.0 (omega arith) in sym (append_nil xs) ∙ (ap (λ ys. xs ++ ys) (sym none) ∙ p.1)
+    let none : p.0 ≡ [] = nil_from_length p.0 (omega arith) in sym (nil_append xs) ∙ (ap (λ ys. xs ++ ys) (sym none) ∙ p.1)
   where
-    append_nil : (xs : List Entry) → xs ++ [] ≡ xs
-    append_nil [] = refl
-    append_nil (x ∷ xs) = ap (λ ys. x ∷ ys) (append_nil xs)
+    nil_append : (xs : List Entry) → xs ++ [] ≡ xs
+    nil_append [] = refl
+    nil_append (x ∷ xs) = ap (λ ys. x ∷ ys) (nil_append xs)
 
 -- a session's entries in a list
 entries_append : (n : ℕ) (xs ys : List Entry) → entries_of n (xs ++ ys) ≡ entries_of n xs ++ entries_of n ys
@@ -74,10 +75,6 @@ entries_append n (x ∷ xs) ys = by_test (x.session == n) (entries_of n (xs ++ y
     by_test true all front back is = ap (λ zs. x ∷ zs) is
     by_test false all front back is = is
 
-append_nil : {A : Type 0} (xs : List A) → xs ++ [] ≡ xs
-append_nil [] = refl
-append_nil (x ∷ xs) = ap (λ ys. x ∷ ys) (append_nil xs)
-
 -- what stands between two lists with the same entries of a session has them too
 between : (n : ℕ) (own a b c : List Entry) → IsPrefix a b → IsPrefix b c → entries_of n a ≡ own → entries_of n c ≡ own → entries_of n b ≡ own
 between n own a b c p q first last =
@@ -86,7 +83,7 @@ between n own a b c p q first last =
     let l = ap length whole in let m = length-append (entries_of n a ++ entries_of n p.0) (entries_of n q.0) in let k = length-append (entries_of n a) (entries_of n p.0) in
     let f = ap length first in let g = ap length last in
     let empty : entries_of n p.0 ≡ [] = nil_from_length (entries_of n p.0) (omega arith) in
-    ap (entries_of n) (sym p.1) ∙ (entries_append n a p.0 ∙ (ap (λ zs. entries_of n a ++ zs) empty ∙ (append_nil (entries_of n a) ∙ first)))
+    ap (entries_of n) (sym p.1) ∙ (entries_append n a p.0 ∙ (ap (λ zs. entries_of n a ++ zs) empty ∙ (nil_append (entries_of n a) ∙ first)))
 
 -- a change of role that leaves each sum
 noted : (word : ℕ) (roles : List Role) → SessionsPart word roles → SessionsPart word (roles ++ Note ∷ [])
@@ -133,7 +130,7 @@ module _ (lawful : ℕ → List Entry → Type 0) (opening : ℕ → ℕ → ℕ
       let far = prefix_short v.memory.seen (longer v.memory.seen w.memory.seen) in
       let seen : IsPrefix (longer v.memory.seen w.memory.seen) k.log = longer_by (λ xs. IsPrefix xs k.log) v.memory.seen w.memory.seen f.seen g.seen in
       let mine : IsPrefix v.memory.seen (longer v.memory.seen w.memory.seen) = prefix_of v.memory.seen (longer v.memory.seen w.memory.seen) k.log f.seen seen (longest v.memory.seen w.memory.seen).0 in
-      let sessions : map session_of (set (set s.views id (with_note v w)) other nobody) ≡ map session_of s.views = map_same session_of (set s.views id (with_note v w)) other w nobody there (sym still) ∙ map_same session_of s.views id v (with_note v w) at refl in record {
+      let sessions : map session_in_view (set (set s.views id (with_note v w)) other nobody) ≡ map session_in_view s.views = map_same session_in_view (set s.views id (with_note v w)) other w nobody there (sym still) ∙ map_same session_in_view s.views id v (with_note v w) at refl in record {
         sized = k.sized;
         sessions = subst (λ z. SessionsPart (slice_index s.words drawn_place) z) (sym (map_twice role_of s.views id other (with_note v w) nobody ∙ ap (λ rs. set rs other Spent) (set_again roles id v.role (at_map role_of s.views id v at))))
             (spent (slice_index s.words drawn_place) roles other r k.sessions);

@@ -36,10 +36,10 @@ use Rattle.ib_rule.specs.declared.kind.Kind.TheVariants.{Turn as Turns, Try, Rec
 use Rattle.ib_rule.specs.declared.view.Role.{Role}
 use Rattle.ib_rule.specs.declared.looks.Looks.{Looks}
 use Rattle.ib_rule.specs.declared.view.View.{View}
-use Rattle.ib_rule.specs.Steps.{place_of, refuses, looks_after, view_after}
+use Rattle.ib_rule.specs.Steps.{latch_word_place, refuses, looks_after, view_after}
 use Rattle.ib_core.specs.Turns.{word_for, turn_at, Leaves}
 use Rattle.ib_core.specs.Debts.{wish_of, won, grants_won, debt}
-use Rattle.ib_rule.specs.Views.{KnowsHeld, total, role_of, session_of, turned_by, with_looks, signed}
+use Rattle.ib_rule.specs.Views.{KnowsHeld, total, role_of, session_in_view, turned_by, with_looks, signed}
 use Rattle.ib_rule.specs.declared.memory.Since.{Since}
 use Rattle.ib_rule.specs.declared.memory.Loaded.{Loaded}
 use Rattle.ib_rule.specs.Rule.{IsWriter, marks_in, LatchPart, IsIdle, RuleHolds}
@@ -56,22 +56,22 @@ use Rattle.ib_rule.proofs.Turning.{map_same, raises_few, readers_few, turn_keeps
 
 module _ (lawful : ℕ → List Entry → Type 0) (opening : ℕ → ℕ → ℕ → ℕ) (key : Sizes) (s : State (Unit {0}) View) (kept : RuleHolds lawful opening key s) (id : ℕ) (v : View) (at : get_elem? s.views id ≡ some v) (l : ℕ) (inside : l < latches_of key) where
   ss : List Session
-  ss = map session_of s.views
+  ss = map session_in_view s.views
 
   -- what the words can be
-  pub found_in : (c : LatchWord) → CanBe c l v.session (slice_index s.words (place_of c l))
+  pub found_in : (c : LatchWord) → CanBe c l v.session (slice_index s.words (latch_word_place c l))
   found_in Waiters = kept.latches.flags l inside
   found_in Writer = tt
   found_in Generation = let r = raises_few lawful opening key s kept l inside in omega arith
   found_in ExGeneration = let r = raises_few lawful opening key s kept l inside in omega arith
   found_in Lock =
-      let good = kept.latches.good in let ss : List Session = map session_of s.views in
+      let good = kept.latches.good in let ss : List Session = map session_in_view s.views in
       let bound = taken_bound l (X_LOCK_HALF_DECR + 2 * X_LOCK_DECR + 8192) ss good.proper (λ i j a b e d n. (good.beside i j a b e d n l).one_claim)
       (λ j a e.
       let c = counted l a ((good.proper j a e).single l) in let g = kept.latches.few j a e l in
       let p = sx_weight_cases (sx_grants l a) in let q = x_weight_cases (x_grants l a) in grind arith) in
       let r = readers_few lawful opening key s kept l in let k = kept.latches.counted l inside in
-      let t = one_of (taken l) ss id v.session (at_map session_of s.views id v at) in
+      let t = one_of (taken l) ss id v.session (at_map session_in_view s.views id v at) in
       (omega arith, omega arith, subst (λ w. IsCounted w) (sym (tells_by (latches_of key) s.words l inside ss kept.latches Lock)) (counted_word (marks_in (latches_of key) s.words) ss l good r (λ j a e. kept.latches.few j a e l)))
 
   -- a step that changes no word of which the rule speaks, and no more than the looks of its session
@@ -93,8 +93,8 @@ known_in lawful opening key s kept id v at = let f = kept.memory.follows id v at
 -- what the state after a step says of the session
 module _ (lawful : ℕ → List Entry → Type 0) (opening : ℕ → ℕ → ℕ → ℕ) (key : Sizes) (s : State (Unit {0}) View) (p n id : ℕ) (cs : List (ℕ × Unit {0})) (v w : View) (at : get_elem? s.views id ≡ some v)
     (kept : RuleHolds lawful opening key (stepped s p n id cs w keeps)) where
-  here : Stands (map session_of (set s.views id w)) id w.session
-  here = at_map session_of (set s.views id w) id w (set_here s.views id v w at)
+  here : Stands (map session_in_view (set s.views id w)) id w.session
+  here = at_map session_in_view (set s.views id w) id w (set_here s.views id v w at)
 
   pub proper_now : IsProper w.session
   proper_now = kept.latches.good.proper id w.session here
@@ -112,9 +112,9 @@ module _ (lawful : ℕ → List Entry → Type 0) (opening : ℕ → ℕ → ℕ
   -- a step that is this event, whatever it finds
   pub turn_allowed : (e : Event) (f : ℕ → ℕ) → latch_of e < latches_of key → (live me.0.role ≡ 0 → ⊥) → me.0.memory.append ≡ None
       → ((n : ℕ) → CanBe (word_for e me.0.session) (latch_of e) me.0.session n → CanTake e me.0 n × Leaves (word_for e me.0.session) e me.0.session n (f n))
-      → Allows (RuleHolds lawful opening key) slots id me (place_of (word_for e me.0.session) (latch_of e)) f (tells lawful opening key entry (Turns e) me)
+      → Allows (RuleHolds lawful opening key) slots id me (latch_word_place (word_for e me.0.session) (latch_of e)) f (tells lawful opening key entry (Turns e) me)
   turn_allowed e f inside alive closed leaves s kept sized at fits =
-      let n : ℕ = slice_index s.words (place_of (word_for e me.0.session) (latch_of e)) in
+      let n : ℕ = slice_index s.words (latch_word_place (word_for e me.0.session) (latch_of e)) in
       let found = found_in lawful opening key s kept id me.0 at (latch_of e) inside (word_for e me.0.session) in
       let after = turn_keeps lawful opening key s kept id me.0 at alive e inside (f n) (leaves n found).1 (leaves n found).0 (looks_after (Turns e) me.0.session n me.0.looks) closed me.1 in
       let is = turn_is lawful opening key s kept id me.0 at alive e inside (f n) (leaves n found).1 in (
@@ -128,16 +128,16 @@ module _ (lawful : ℕ → List Entry → Type 0) (opening : ℕ → ℕ → ℕ
   -- an exchange from the word expected
   pub try_allowed : (e : Event) (expected new : ℕ) → latch_of e < latches_of key → (live me.0.role ≡ 0 → ⊥) → me.0.memory.append ≡ None
       → (CanBe (word_for e me.0.session) (latch_of e) me.0.session expected → CanTake e me.0 expected × Leaves (word_for e me.0.session) e me.0.session expected new)
-      → Allows (RuleHolds lawful opening key) slots id me (place_of (word_for e me.0.session) (latch_of e)) (λ n. either (n == expected) new n) (tells lawful opening key entry (Try e expected) me)
+      → Allows (RuleHolds lawful opening key) slots id me (latch_word_place (word_for e me.0.session) (latch_of e)) (λ n. either (n == expected) new n) (tells lawful opening key entry (Try e expected) me)
   try_allowed e expected new inside alive closed leaves s kept sized at fits =
       let a : Session = me.0.session in
-      let p : ℕ = place_of (word_for e a) (latch_of e) in
+      let p : ℕ = latch_word_place (word_for e a) (latch_of e) in
       let n : ℕ = slice_index s.words p in
       let found = found_in lawful opening key s kept id me.0 at (latch_of e) inside (word_for e a) in
       let looks : Looks = looks_after (Try e expected) a n me.0.looks in
-      let both = by_equal (λ b. RuleHolds lawful opening key (stepped s (place_of (word_for e me.0.session) (latch_of e)) (either b new (slice_index s.words (place_of (word_for e me.0.session) (latch_of e)))) id me.1
-      (with_looks (looks_after (Try e expected) me.0.session (slice_index s.words (place_of (word_for e me.0.session) (latch_of e))) me.0.looks) (turned_by (if b then Some e else None) (slice_index s.words (place_of (word_for e me.0.session) (latch_of e))) me.0)) keeps)
-      × Happens (if b then Some e else None) me.0.session (slice_index s.words (place_of (word_for e me.0.session) (latch_of e))) (turned_by (if b then Some e else None) (slice_index s.words (place_of (word_for e me.0.session) (latch_of e))) me.0).session) n expected
+      let both = by_equal (λ b. RuleHolds lawful opening key (stepped s (latch_word_place (word_for e me.0.session) (latch_of e)) (either b new (slice_index s.words (latch_word_place (word_for e me.0.session) (latch_of e)))) id me.1
+      (with_looks (looks_after (Try e expected) me.0.session (slice_index s.words (latch_word_place (word_for e me.0.session) (latch_of e))) me.0.looks) (turned_by (if b then Some e else None) (slice_index s.words (latch_word_place (word_for e me.0.session) (latch_of e))) me.0)) keeps)
+      × Happens (if b then Some e else None) me.0.session (slice_index s.words (latch_word_place (word_for e me.0.session) (latch_of e))) (turned_by (if b then Some e else None) (slice_index s.words (latch_word_place (word_for e me.0.session) (latch_of e))) me.0).session) n expected
       (λ hit.
       let can : CanTake e me.0 n = subst (λ n. CanTake e me.0 n) (sym hit) (leaves (subst (λ n. CanBe (word_for e me.0.session) (latch_of e) me.0.session n) hit found)).0 in
       let left : Leaves (word_for e a) e a n new = subst (λ n. Leaves (word_for e me.0.session) e me.0.session n new) (sym hit) (leaves (subst (λ n. CanBe (word_for e me.0.session) (latch_of e) me.0.session n) hit found)).1 in
@@ -159,7 +159,7 @@ module _ (lawful : ℕ → List Entry → Type 0) (opening : ℕ → ℕ → ℕ
         keeps,
         tt,
         aside_keeps lawful opening key s kept id me.0 at l inside (lock_place l) n (looks_after (Looked l) me.0.session n me.0.looks) me.1 (set_same s.words (lock_place l) (place_fits key s.words l Lock kept.sized inside)),
-        (record { view = refl; event = refl; proper = kept.latches.good.proper id me.0.session (at_map session_of s.views id me.0 at); known = (let k = known_in lawful opening key s kept id me.0 at in record { since = k.since; loaded = k.loaded; written = k.written }); range = found_in lawful opening key s kept id me.0 at l inside Lock; few = kept.latches.few id me.0.session (at_map session_of s.views id me.0 at); taken = kept.paid.bound id me.0 at }, refl),
+        (record { view = refl; event = refl; proper = kept.latches.good.proper id me.0.session (at_map session_in_view s.views id me.0 at); known = (let k = known_in lawful opening key s kept id me.0 at in record { since = k.since; loaded = k.loaded; written = k.written }); range = found_in lawful opening key s kept id me.0 at l inside Lock; few = kept.latches.few id me.0.session (at_map session_in_view s.views id me.0 at); taken = kept.paid.bound id me.0 at }, refl),
       )
 
   -- the wish that is refused is_drawn more takes nothing
@@ -207,17 +207,17 @@ module _ (lawful : ℕ → List Entry → Type 0) (opening : ℕ → ℕ → ℕ
       → Allows (RuleHolds lawful opening key) slots id me (writer_place l) (λ _. number) (tells lawful opening key entry (StoreWriter l) me)
   store_allowed l number inside alive closed claims' mine s kept sized at fits =
       let w : View = signed l me.0 in
-      let ss : List Session = map session_of s.views in
+      let ss : List Session = map session_in_view s.views in
       let latches : ℕ = latches_of key in
       let words : List ℕ = set s.words (writer_place l) number in
       let fit : writer_place l < length s.words = place_fits key s.words l Writer kept.sized inside in
-      let at' : Stands ss id me.0.session = at_map session_of s.views id me.0 at in
+      let at' : Stands ss id me.0.session = at_map session_in_view s.views id me.0 at in
       let marks : marks_in latches s.words ≡ marks_in latches (set s.words (writer_place l) number) = same_marks s.words (length s.words) l number latches inside fit in
       let after : RuleHolds lawful opening key (stepped s (writer_place l) number id me.1 (signed l me.0) keeps) = record {
         sized = length-set s.words (writer_place l) number ∙ kept.sized;
         sessions = subst (λ (z : ℕ × List Role). SessionsPart z.0 z.1) (λ j. (sym (front latches s.words l number Writer drawn_place (omega arith)) j, sym (map_same role_of s.views id me.0 w at refl) j)) kept.sessions;
-        latches = subst (λ z. LatchPart (latches_of key) (set s.words (writer_place l) number) z) (sym (map_same session_of s.views id me.0 w at refl)) record {
-          good = subst (λ m. IsGood (map session_of s.views) m) marks kept.latches.good;
+        latches = subst (λ z. LatchPart (latches_of key) (set s.words (writer_place l) number) z) (sym (map_same session_in_view s.views id me.0 w at refl)) record {
+          good = subst (λ m. IsGood (map session_in_view s.views) m) marks kept.latches.good;
           counted = λ k h. let c = kept.latches.counted k h in let e = dite (ℕ_discrete l k)
               (λ q. subst (λ k. slice_index (set s.words (writer_place l) number) (lock_place k) ≡ slice_index s.words (lock_place k)) q (lock_else latches s.words l number Writer (λ z. absurd (cc))))
               (λ d. lock_away latches s.words l number Writer k d) in omega arith;
@@ -265,7 +265,7 @@ module _ (lawful : ℕ → List Entry → Type 0) (opening : ℕ → ℕ → ℕ
       )
 
       good_one : (s : State (Unit {0}) View) → RuleHolds lawful opening key s → get_elem? s.views id ≡ some me.0 → (l : ℕ) → 0 < claims l me.0.session → (j : ℕ) (u : View) → get_elem? s.views j ≡ some u → id ≢ j → claims l u.session ≡ 0
-      good_one s kept at l claims' j u q d = (kept.latches.good.beside id j me.0.session u.session (at_map session_of s.views id me.0 at) (at_map session_of s.views j u q) d l).one_claim claims'
+      good_one s kept at l claims' j u q d = (kept.latches.good.beside id j me.0.session u.session (at_map session_in_view s.views id me.0 at) (at_map session_in_view s.views j u q) d l).one_claim claims'
 
       others_write : (s : State (Unit {0}) View) (l number : ℕ) (u : View) → claims l u.session ≡ 0 → (xs : List ℕ) → AllByRecursion (IsWriter (latches_of key) s.words u) xs → AllByRecursion (IsWriter (latches_of key) (set s.words (writer_place l) number) u) xs
       others_write s l number u none [] each = tt
@@ -280,18 +280,18 @@ module _ (lawful : ℕ → List Entry → Type 0) (opening : ℕ → ℕ → ℕ
       )
 
   -- .. on a word and at a place that are named
-  pub turn_allowed_at : (c : LatchWord) (p : ℕ) (e : Event) (f : ℕ → ℕ) → word_for e me.0.session ≡ c → p ≡ place_of c (latch_of e) → latch_of e < latches_of key → (live me.0.role ≡ 0 → ⊥) → me.0.memory.append ≡ None
+  pub turn_allowed_at : (c : LatchWord) (p : ℕ) (e : Event) (f : ℕ → ℕ) → word_for e me.0.session ≡ c → p ≡ latch_word_place c (latch_of e) → latch_of e < latches_of key → (live me.0.role ≡ 0 → ⊥) → me.0.memory.append ≡ None
       → ((n : ℕ) → CanBe c (latch_of e) me.0.session n → CanTake e me.0 n × Leaves c e me.0.session n (f n))
       → Allows (RuleHolds lawful opening key) slots id me p f (tells lawful opening key entry (Turns e) me)
   turn_allowed_at c p e f is at inside alive closed leaves =
-      subst (λ p. Allows (RuleHolds lawful opening key) slots id me p f (tells lawful opening key entry (Turns e) me)) (ap (λ c. place_of c (latch_of e)) is ∙ sym at)
+      subst (λ p. Allows (RuleHolds lawful opening key) slots id me p f (tells lawful opening key entry (Turns e) me)) (ap (λ c. latch_word_place c (latch_of e)) is ∙ sym at)
       (turn_allowed e f inside alive closed (subst (λ c. (n : ℕ) → CanBe c (latch_of e) me.0.session n → CanTake e me.0 n × Leaves c e me.0.session n (f n)) (sym is) leaves))
 
   pub try_allowed_at : (p : ℕ) (e : Event) (expected new : ℕ) → word_for e me.0.session ≡ Lock → p ≡ lock_place (latch_of e) → latch_of e < latches_of key → (live me.0.role ≡ 0 → ⊥) → me.0.memory.append ≡ None
       → (CanBe Lock (latch_of e) me.0.session expected → CanTake e me.0 expected × Leaves Lock e me.0.session expected new)
       → Allows (RuleHolds lawful opening key) slots id me p (λ n. either (n == expected) new n) (tells lawful opening key entry (Try e expected) me)
   try_allowed_at p e expected new is at inside alive closed leaves =
-      subst (λ p. Allows (RuleHolds lawful opening key) slots id me p (λ n. either (n == expected) new n) (tells lawful opening key entry (Try e expected) me)) (ap (λ c. place_of c (latch_of e)) is ∙ sym at)
+      subst (λ p. Allows (RuleHolds lawful opening key) slots id me p (λ n. either (n == expected) new n) (tells lawful opening key entry (Try e expected) me)) (ap (λ c. latch_word_place c (latch_of e)) is ∙ sym at)
       (try_allowed e expected new inside alive closed (subst (λ c. CanBe c (latch_of e) me.0.session expected → CanTake e me.0 expected × Leaves c e me.0.session expected new) (sym is) leaves))
 
   pub look_allowed_at : (p l : ℕ) → p ≡ lock_place l → l < latches_of key → Allows (RuleHolds lawful opening key) slots id me p (λ n. n) (tells lawful opening key entry (Looked l) me)

@@ -24,7 +24,7 @@ use Rattle.ib_rule.specs.declared.view.Ended.{Ended}
 use Rattle.ib_rule.specs.declared.memory.Memory.{Memory}
 use Rattle.ib_rule.specs.declared.view.View.{View}
 use Rattle.ib_rule.specs.declared.kind.Kind.TheVariants.{Enter, Count}
-use Rattle.ib_rule.specs.Views.{total, with_memory, nothing_seen, with_role, seated, space_view, role_of, session_of, memory_of, one_drawn, newcomer, ended_as, with_ended, nobody}
+use Rattle.ib_rule.specs.Views.{total, with_memory, nothing_seen, with_role, seated, space_view, role_of, session_in_view, memory_of, one_drawn, newcomer, ended_as, with_ended, nobody}
 use Rattle.std.specs.List.{AllByRecursion}
 use Rattle.ib_rule.specs.Memory.{EndedFact, Follows, stored_in}
 use Rattle.ib_rule.proofs.Stays.{view_part, far_from}
@@ -119,7 +119,7 @@ renamed : (key : Sizes) (words : List ℕ) (v w : View) → number_in w.role ≡
 renamed key words v w number same [] each = tt
 renamed key words v w number same (x ∷ xs) each = ((subst (λ a. 0 < Rattle.ib_core.specs.Sessions.claims x a) (sym same) each.0.0, each.0.1 ∙ sym number, each.0.2), renamed key words v w number same xs each.1)
 
-same_length : (views : List View) → length (map session_of views) ≡ length (map memory_of views)
+same_length : (views : List View) → length (map session_in_view views) ≡ length (map memory_of views)
 same_length [] = refl
 same_length (v ∷ views) = ap suc (same_length views)
 
@@ -170,7 +170,7 @@ opens lawful opening key words empty o = record {
     alone (suc i) v e = absurd (some-ne-none v (sym e))
 
     one : (i : ℕ) (v : View) → get_elem? (space_view 0 [] ∷ []) i ≡ some v → IsIdle v
-    one i v e _ = ap session_of (only i v e)
+    one i v e _ = ap session_in_view (only i v e)
 
     small : (i : ℕ) (v : View) → get_elem? (space_view 0 [] ∷ []) i ≡ some v → total v.grants ≤ 2 ^ 52 * sessions_in v.role
     small i v e = subst (λ (v : View). total v.grants ≤ 2 ^ 52 * sessions_in v.role) (sym (only i v e)) (omega arith)
@@ -214,10 +214,10 @@ module _ (lawful : ℕ → List Entry → Type 0) (opening : ℕ → ℕ → ℕ
   split_step s id v q r m k at still crowds number roles more ended fresh none =
       let w : View = with_role q v in
       let new : View = with_memory m (seated r) in
-      let sessions : map session_of (set s.views id w ++ new ∷ []) ≡ map session_of s.views ++ idle ∷ [] = map-append session_of (set s.views id w) (new ∷ []) ∙ ap (λ ss. ss ++ idle ∷ []) (map_same session_of s.views id v w at refl) in record {
+      let sessions : map session_in_view (set s.views id w ++ new ∷ []) ≡ map session_in_view s.views ++ idle ∷ [] = map-append session_in_view (set s.views id w) (new ∷ []) ∙ ap (λ ss. ss ++ idle ∷ []) (map_same session_in_view s.views id v w at refl) in record {
         sized = k.sized;
         sessions = subst (λ z. SessionsPart (slice_index s.words drawn_place) z) (sym (map_grown role_of s.views id w new)) roles;
-        latches = subst (λ z. LatchPart (latches_of key) s.words z) (sym sessions) (latch_push s.words (map session_of s.views) k.latches);
+        latches = subst (λ z. LatchPart (latches_of key) s.words z) (sym sessions) (latch_push s.words (map session_in_view s.views) k.latches);
         idles = at_snoc (λ _ u. IsIdle u) (set s.views id w) new (λ _. refl) (at_set (λ _ u. IsIdle u) s.views id w still (λ j b e _. k.idles j b e));
         paid = record {
           paid = λ l h.
@@ -258,11 +258,11 @@ module _ (lawful : ℕ → List Entry → Type 0) (opening : ℕ → ℕ → ℕ
   count_step s n id cs v q k at still crowds number roles more ended =
       let w : View = with_role q v in
       let words : List ℕ = set s.words drawn_place n in
-      let sessions = map_same session_of s.views id v w at refl in record {
+      let sessions = map_same session_in_view s.views id v w at refl in record {
         sized = length-set s.words drawn_place n ∙ k.sized;
         sessions = subst (λ (z : ℕ × List Role). SessionsPart z.0 z.1) (λ j. (sym (get_or-set_same s.words drawn_place n 0 (let z = k.sized in omega arith)) j, sym (map-set role_of s.views id w) j)) roles;
         latches = subst (λ z. LatchPart (latches_of key) (set s.words drawn_place n) z) (sym sessions) record {
-          good = subst (λ m. IsGood (map session_of s.views) m) (same_marks s.words n) k.latches.good;
+          good = subst (λ m. IsGood (map session_in_view s.views) m) (same_marks s.words n) k.latches.good;
           counted = λ l h. let e = get_or-set_other s.words drawn_place (lock_place l) n 0 (λ e. omega arith) in let c = k.latches.counted l h in omega arith;
           flags = λ l h. let e = get_or-set_other s.words drawn_place (waiters_place l) n 0 (λ e. omega arith) in let c = k.latches.flags l h in omega arith;
           few = k.latches.few;
@@ -301,7 +301,7 @@ module _ (lawful : ℕ → List Entry → Type 0) (opening : ℕ → ℕ → ℕ
       let e : Ended = ended_as w in
       let a : get_elem? roles id ≡ some (Space d ended) = at_map role_of s.views id v at ∙ ap (λ (r : Role). some r) space in
       let b : get_elem? roles other ≡ some (Seated n) = at_map role_of s.views other w there' ∙ ap (λ (r : Role). some r) seated_n in
-      let sessions : map session_of (set (set s.views id (with_ended v w)) other nobody) ≡ map session_of s.views = map_same session_of (set s.views id (with_ended v w)) other w nobody there (sym still) ∙ map_same session_of s.views id v (with_ended v w) at refl in
+      let sessions : map session_in_view (set (set s.views id (with_ended v w)) other nobody) ≡ map session_in_view s.views = map_same session_in_view (set s.views id (with_ended v w)) other w nobody there (sym still) ∙ map_same session_in_view s.views id v (with_ended v w) at refl in
       let role : ended_more e v.role ≡ Space d (e ∷ ended) = ap (ended_more e) space in
       let counted : 0 < number_in w.role = let z = ap number_in seated_n in let p = numbered_from_one roles other n (slice_index s.words drawn_place) k.sessions b in omega arith in record {
         sized = k.sized;

@@ -1,5 +1,5 @@
 -- The memory part after a step of one view that is no step of the memory.
-use Rattle.std.proofs.Common.{◌≡◌, ◌≢◌, ◌⊎◌, ⊎_elim, inl, inr, ℕ, ◌+◌, ◌<◌, ◌≤◌, true, false, cond, List, [], ◌∷◌, map, set, length, refl, sym, ap, ◌∙◌, subst, arith, get_or-set_other}
+use Rattle.std.proofs.Common.{◌≡◌, ◌≢◌, ◌⊎◌, ⊎_elim, inl, inr, ℕ, ◌+◌, ◌<◌, ◌≤◌, false, cond, List, [], ◌∷◌, map, set, length, refl, sym, ap, ◌∙◌, subst, arith, get_or-set_other}
 use Rattle.std.specs.Prelude.{◌==◌, ◌||◌, not, nat_lt, filter, slice_index, sum_by, Option, Some, None}
 use Rattle.std.proofs.lemmas.Bool.Decides.{nat_tests}
 use mathlib.Core.Logic.{dite}
@@ -24,12 +24,13 @@ use Rattle.ib_core.proofs.Turned.{choose}
 use Rattle.ib_core.proofs.Weighs.{reads_none}
 use Rattle.ib_core.specs.declared.latch_word.LatchWord.{LatchWord}
 use Rattle.ib_core.specs.declared.latch_word.LatchWord.TheVariants.{Lock, Waiters, Writer, Generation, ExGeneration}
+use Rattle.ib_core.proofs.NumberTests.{some_by}
 use Rattle.ib_rule.specs.declared.memory.Since.{Since}
 use Rattle.ib_rule.specs.declared.memory.Loaded.{Loaded}
 use Rattle.ib_rule.specs.declared.memory.OpenAppend.{OpenAppend}
 use Rattle.ib_rule.specs.declared.memory.Memory.{Memory}
 use Rattle.ib_rule.specs.declared.view.View.{View}
-use Rattle.ib_rule.specs.Steps.{place_of}
+use Rattle.ib_rule.specs.Steps.{latch_word_place}
 use Rattle.std.specs.List.{AllByRecursion}
 use Rattle.ib_rule.specs.Memory.{base, latch_at, Watches, SinceFact, LoadedFact, IsAppending, stored_in, EndedFact, Follows}
 use Rattle.ib_rule.specs.Rule.{MemoryPart}
@@ -43,12 +44,12 @@ SameMemory key words ws = (q : ℕ) → (q ≡ end_place) ⊎ (base key ≤ q) �
 pub far_from : (key : Sizes) (words : List ℕ) (p n : ℕ) → p ≢ end_place → p < base key → SameMemory key words (set words p n)
 far_from key words p n here below q far = get_or-set_other words p q n 0 (λ e. ⊎_elim (λ (one : q ≡ end_place). here (omega arith)) (λ (up : base key ≤ q). omega arith) far)
 
-pub latch_far : (key : Sizes) (words : List ℕ) (c : LatchWord) (l n : ℕ) → l < latches_of key → SameMemory key words (set words (place_of c l) n)
-latch_far key words Lock l n inside = far_from key words (place_of Lock l) n (λ e. omega arith) (omega arith)
-latch_far key words Waiters l n inside = far_from key words (place_of Waiters l) n (λ e. omega arith) (omega arith)
-latch_far key words Writer l n inside = far_from key words (place_of Writer l) n (λ e. omega arith) (omega arith)
-latch_far key words Generation l n inside = far_from key words (place_of Generation l) n (λ e. omega arith) (omega arith)
-latch_far key words ExGeneration l n inside = far_from key words (place_of ExGeneration l) n (λ e. omega arith) (omega arith)
+pub latch_far : (key : Sizes) (words : List ℕ) (c : LatchWord) (l n : ℕ) → l < latches_of key → SameMemory key words (set words (latch_word_place c l) n)
+latch_far key words Lock l n inside = far_from key words (latch_word_place Lock l) n (λ e. omega arith) (omega arith)
+latch_far key words Waiters l n inside = far_from key words (latch_word_place Waiters l) n (λ e. omega arith) (omega arith)
+latch_far key words Writer l n inside = far_from key words (latch_word_place Writer l) n (λ e. omega arith) (omega arith)
+latch_far key words Generation l n inside = far_from key words (latch_word_place Generation l) n (λ e. omega arith) (omega arith)
+latch_far key words ExGeneration l n inside = far_from key words (latch_word_place ExGeneration l) n (λ e. omega arith) (omega arith)
 
 module _ (key : Sizes) (lawful : List Entry → Type 0) (opening : ℕ → ℕ) (words ws : List ℕ) (same : SameMemory key words ws) (log : List Entry) where
   -- what follows the log does so with other words of latches
@@ -94,9 +95,6 @@ pub record Moves (l : ℕ) (a b : Session) : Type 0 where
   pub away : (k : ℕ) → l ≢ k → (f : Holding → ℕ) → on k f b.held ≡ on k f a.held
   pub class : 0 < holdings l a → 0 < holdings l b → reads l b ≡ reads l a
 
-more : (n : ℕ) → nat_lt 0 n ≡ true → 0 < n
-more n is = grind (arith, nat_tests)
-
 same_test : (m n : ℕ) → (0 < m → 0 < n) → (0 < n → 0 < m) → nat_lt 0 m ≡ nat_lt 0 n
 same_test m n to from = dite (ℕ_discrete m 0)
     (λ z. let z' : n ≡ 0 = dite (ℕ_discrete n 0) (λ q. q) (λ q. let p : 0 < m = from (omega arith) in absurd (omega arith)) in grind (arith, nat_tests))
@@ -126,7 +124,7 @@ module _ (l : ℕ) (a b : Session) (proper : IsProper a) (proper' : IsProper b) 
   still_since n k log (x ∷ xs) each =
       by_equal (λ t. AllByRecursion (SinceFact n b k log) (cond (not t || nat_lt 0 (holdings l b)) (x ∷ filter (λ since. not (since.latch == l) || nat_lt 0 (holdings l b)) xs) (filter (λ since. not (since.latch == l) || nat_lt 0 (holdings l b)) xs))) x.latch l
       (λ here. choose (λ ys. AllByRecursion (SinceFact n b k log) ys) (nat_lt 0 (holdings l b)) _ _
-      (λ held. ((watches x (λ _. more (holdings l b) held) each.0.0, each.0.1, each.0.2), still_since n k log xs each.1))
+      (λ held. ((watches x (λ _. some_by (holdings l b) held) each.0.0, each.0.1, each.0.2), still_since n k log xs each.1))
       (λ _. still_since n k log xs each.1))
       (λ away. ((watches x (λ q. absurd (away q)) each.0.0, each.0.1, each.0.2), still_since n k log xs each.1))
 
@@ -135,7 +133,7 @@ module _ (l : ℕ) (a b : Session) (proper : IsProper a) (proper' : IsProper b) 
   still_loaded opening log (x ∷ xs) each =
       by_equal (λ t. AllByRecursion (LoadedFact opening b log) (cond (not t || nat_lt 0 (holdings l b)) (x ∷ filter (λ x. not (latch_at x.place == l) || nat_lt 0 (holdings l b)) xs) (filter (λ x. not (latch_at x.place == l) || nat_lt 0 (holdings l b)) xs))) (latch_at x.place) l
       (λ here. choose (λ ys. AllByRecursion (LoadedFact opening b log) ys) (nat_lt 0 (holdings l b)) _ _
-      (λ held. ((subst (λ k. 0 < holdings k b) (sym here) (more (holdings l b) held), each.0.1), still_loaded opening log xs each.1))
+      (λ held. ((subst (λ k. 0 < holdings k b) (sym here) (some_by (holdings l b) held), each.0.1), still_loaded opening log xs each.1))
       (λ _. still_loaded opening log xs each.1))
       (λ away. ((let e = moves.away (latch_at x.place) (λ q. away (sym q)) (λ h. 1) in let h = each.0.0 in omega arith, each.0.1), still_loaded opening log xs each.1))
 

@@ -34,16 +34,16 @@ use Rattle.ib_rule.specs.declared.memory.Since.{Since}
 use Rattle.ib_rule.specs.declared.memory.Loaded.{Loaded}
 use Rattle.ib_rule.specs.declared.memory.OpenAppend.{OpenAppend}
 use Rattle.ib_rule.specs.declared.memory.Memory.{Memory}
-use Rattle.ib_rule.specs.Memory.{conflicts, entries_of, base, page_places, latch_at, Watches, IsStable, SinceFact, LoadedFact, MayFollow, has, IsWriting, IsAppending, stored_in, EndedFact, Follows}
+use Rattle.ib_rule.specs.Memory.{conflicts, entries_of, base, page_places, latch_at, Watches, IsStable, SinceFact, LoadedFact, MayComeBehind, has, IsWriting, IsAppending, stored_in, EndedFact, Follows}
 use Rattle.ib_rule.specs.Roles.{SessionsPart, sessions_in, drawn_in, ended_in, number_in}
-use Rattle.ib_rule.specs.Views.{total, role_of, session_of, with_memory, is_watched}
+use Rattle.ib_rule.specs.Views.{total, role_of, session_in_view, with_memory, is_watched}
 use Rattle.ib_rule.specs.Rule.{marks_in, LatchPart, IsWriter, IsIdle, MemoryPart, RuleHolds}
 use Rattle.ib_rule.specs.Stores.{stale, begun, Begins, storing_page, storing_word, appending, IsReady, AllStored}
 use Rattle.ib_rule.proofs.Turning.{map_same}
 use Rattle.ib_rule.proofs.Alone.{alone, one_claims, holds, closed, apart, apart_ended, drawn, numbered}
 use Rattle.ib_rule.proofs.Lists.{eqb_says, eqb_denies, or_says, or_denies, and_says, either_way, both_ways, nil_append, each_map, each_both, each_push, each_right, drop_front, nil_rest}
 
-grammar_push : (pages : ℕ) (log : List Entry) (e : Entry) → AreInGrammar pages log → IsInGrammar pages e → AreInGrammar pages (log ++ e ∷ [])
+pub grammar_push : (pages : ℕ) (log : List Entry) (e : Entry) → AreInGrammar pages log → IsInGrammar pages e → AreInGrammar pages (log ++ e ∷ [])
 grammar_push pages [] e all one = (one, tt)
 grammar_push pages (x ∷ xs) e all one = (all.0, grammar_push pages xs e all.1 one)
 
@@ -87,8 +87,8 @@ module _ (lawful : ℕ → List Entry → Type 0) (opening : ℕ → ℕ → ℕ
       let w : View = with_memory m v in record {
         sized = length-set s.words p n ∙ kept.sized;
         sessions = subst (λ (z : ℕ × List Role). SessionsPart z.0 z.1) (λ j. (sym (other drawn_place (λ e. omega arith) (omega arith)) j, sym (map_same role_of s.views id v w at refl) j)) kept.sessions;
-        latches = subst (λ z. LatchPart (latches_of key) (set s.words p n) z) (sym (map_same session_of s.views id v w at refl)) record {
-          good = subst (λ m. IsGood (map session_of s.views) m) (λ j k. sym (marks_at k) j) kept.latches.good;
+        latches = subst (λ z. LatchPart (latches_of key) (set s.words p n) z) (sym (map_same session_in_view s.views id v w at refl)) record {
+          good = subst (λ m. IsGood (map session_in_view s.views) m) (λ j k. sym (marks_at k) j) kept.latches.good;
           counted = λ l h. let e = other (lock_place l) (λ e. omega arith) (omega arith) in let c = kept.latches.counted l h in omega arith;
           flags = λ l h. let e = other (waiters_place l) (λ e. omega arith) (omega arith) in let c = kept.latches.flags l h in omega arith;
           few = kept.latches.few;
@@ -163,8 +163,8 @@ module _ (lawful : ℕ → List Entry → Type 0) (opening : ℕ → ℕ → ℕ
     held : 0 < holdings 0 v.session
     held = holds lawful opening key s kept id v at 0 ready.fits.log_x
 
-    fits_log : MayFollow key (lawful key.pages) (number_in v.role) (length v.memory.own) v.session kept.log e
-    fits_log = subst (λ l. MayFollow key (lawful key.pages) (number_in v.role) (length v.memory.own) v.session l e) whole ready.fits
+    fits_log : MayComeBehind key (lawful key.pages) (number_in v.role) (length v.memory.own) v.session kept.log e
+    fits_log = subst (λ l. MayComeBehind key (lawful key.pages) (number_in v.role) (length v.memory.own) v.session l e) whole ready.fits
 
     -- the open append as it stands, or one in which nothing is stored
     already : IsWriting key (lawful key.pages) s.words kept.log (number_in v.role) v.session v.memory (begun e v.memory.append)

@@ -1,6 +1,5 @@
 -- The one lemma: a step on one word of a latch that is the turn of an event keeps the rule.
 use Rattle.std.proofs.Common.{◌≡◌, ◌≢◌, inl, ⊎_elim, ℕ, ◌+◌, ◌*◌, ◌^◌, ◌<◌, ◌≤◌, Bool, true, false, cond, List, [], ◌∷◌, map, set, length, refl, sym, ap, ◌∙◌, subst, arith, length-set, get_or-set_same, mul-add, mul-zero}
-use Rattle.std.proofs.lemmas.Bool.Decides.{nat_tests}
 use Rattle.ib_levels.proofs.Counts.{by_equal}
 use Rattle.ib_core.proofs.Turned.{choose}
 use Rattle.std.specs.Prelude.{slice_index, filter, not, ◌||◌, ◌==◌, nat_lt, sum_by, Option, Some, None}
@@ -37,10 +36,10 @@ use Rattle.ib_rule.specs.declared.view.Role.TheVariants.{Space, Fresh, Session a
 use Rattle.ib_rule.specs.declared.looks.Grants.{Grants}
 use Rattle.ib_rule.specs.declared.looks.Looks.{Looks}
 use Rattle.ib_rule.specs.declared.view.View.{View}
-use Rattle.ib_rule.specs.Steps.{place_of}
+use Rattle.ib_rule.specs.Steps.{latch_word_place}
 use Rattle.ib_core.specs.Turns.{word_for, marks_found, turn_at, flag_word, Leaves, Tells, with_mark, mark_in}
 use Rattle.ib_core.specs.Debts.{wish_of, won, grants_won, debt}
-use Rattle.ib_rule.specs.Views.{total, with_grant, role_of, session_of, turned, with_looks}
+use Rattle.ib_rule.specs.Views.{total, with_grant, role_of, session_in_view, turned, with_looks}
 use Rattle.std.specs.List.{AllByRecursion}
 use Rattle.ib_rule.specs.Rule.{IsWriter, WriterPart, marks_in, LatchPart, PaidPart, raises_in, IsIdle, RuleHolds}
 use Rattle.ib_rule.specs.Roles.{live, sessions_in, SessionsPart, number_in}
@@ -50,6 +49,7 @@ use Rattle.ib_logrec.specs.declared.entry.Entry.{Entry}
 use Rattle.ib_logrec.specs.Log.{by_place}
 use Rattle.ib_core.proofs.OneWord.{response_same, marks_with, response_weighs}
 use Rattle.ib_core.proofs.Pays.{Grows, response_pays, spent_by, marks_pay}
+use Rattle.ib_core.proofs.NumberTests.{some_by}
 use Rattle.ib_rule.proofs.Words.{place_fits, set_same, tells_by, raises_are, marks_away, marks_here, lock_away, lock_else, flag_after, writer_kept, front}
 use Rattle.ib_rule.proofs.Stays.{Moves, view_part, latch_far, follows_left}
 
@@ -95,12 +95,12 @@ small_flag c e a n n' leaves is = let l : Leaves Waiters e a n n' = subst (λ c.
 
 module _ (lawful : ℕ → List Entry → Type 0) (opening : ℕ → ℕ → ℕ → ℕ) (key : Sizes) (s : State (Unit {0}) View) (kept : RuleHolds lawful opening key s) where
   -- there are few readers, and few grants ever
-  pub readers_few : (l : ℕ) → readers_of l (map session_of s.views) ≤ 1024
+  pub readers_few : (l : ℕ) → readers_of l (map session_in_view s.views) ≤ 1024
   readers_few l =
       let each = sum_more (λ (v : View). reads l v.session) (λ v. sessions_in v.role) s.views (λ i v at. dite (ℕ_discrete (live v.role) 0)
       (λ none. let q : reads l v.session ≡ 0 = ap (reads l) (kept.idles i v at none) in omega arith)
-      (λ alive. let one = alive_crowd v.role alive in let p = (kept.latches.good.proper i v.session (at_map session_of s.views i v at)).once l in omega arith)) in
-      let a = mapped session_of (reads l) s.views in let b = mapped role_of sessions_in s.views in
+      (λ alive. let one = alive_crowd v.role alive in let p = (kept.latches.good.proper i v.session (at_map session_in_view s.views i v at)).once l in omega arith)) in
+      let a = mapped session_in_view (reads l) s.views in let b = mapped role_of sessions_in s.views in
       let c = kept.sessions.all_stand in let d = kept.sessions.few in omega arith
 
   pub grants_few : sum_by (λ v. total v.grants) s.views ≤ 2 ^ 62
@@ -125,9 +125,6 @@ got_small : (o : Option Mode) → grants_won o ≤ 1
 got_small None = omega arith
 got_small (Some mode) = omega arith
 
-more : (n : ℕ) → nat_lt 0 n ≡ true → 0 < n
-more n is = grind (arith, nat_tests)
-
 -- .. so an event that takes none can
 pub takes_none : (e : Event) (v : View) (n : ℕ) → wish_of v.session.phase e ≡ None → CanTake e v n
 takes_none e v n none = inl (none_got (turn_at e n v.session).answer (wish_of v.session.phase e) none)
@@ -144,19 +141,19 @@ module _ (lawful : ℕ → List Entry → Type 0) (opening : ℕ → ℕ → ℕ
   c = word_for e v.session
 
   abbrev p : ℕ
-  p = place_of (word_for e v.session) (latch_of e)
+  p = latch_word_place (word_for e v.session) (latch_of e)
 
   abbrev n : ℕ
-  n = slice_index s.words (place_of (word_for e v.session) (latch_of e))
+  n = slice_index s.words (latch_word_place (word_for e v.session) (latch_of e))
 
   abbrev ss : List Session
-  ss = map session_of s.views
+  ss = map session_in_view s.views
 
   abbrev m : ℕ → Marks
   m = marks_in (latches_of key) s.words
 
   abbrev words : List ℕ
-  words = set s.words (place_of (word_for e v.session) (latch_of e)) n'
+  words = set s.words (latch_word_place (word_for e v.session) (latch_of e)) n'
 
   abbrev r : Response
   r = response_of (word_in n) (marks_found n) e v.session
@@ -165,7 +162,7 @@ module _ (lawful : ℕ → List Entry → Type 0) (opening : ℕ → ℕ → ℕ
   o = won r.answer (wish_of v.session.phase e)
 
   at' : Stands ss id a
-  at' = at_map session_of s.views id v at
+  at' = at_map session_in_view s.views id v at
 
   proper : IsProper a
   proper = kept.latches.good.proper id a at'
@@ -197,16 +194,16 @@ module _ (lawful : ℕ → List Entry → Type 0) (opening : ℕ → ℕ → ℕ
         (turn_kept m (marks_in (latches_of key) words) ss id a e (readers_few lawful opening key s kept) kept.latches.good at' marks_are away)
 
     -- the lock word moves by what the session takes off it
-    off_lock : (d : LatchWord) → c ≡ d → d ≢ Lock → slice_index (set s.words (place_of d l) n') (lock_place l) + taken l r.session ≡ slice_index s.words (lock_place l) + taken l a
+    off_lock : (d : LatchWord) → c ≡ d → d ≢ Lock → slice_index (set s.words (latch_word_place d l) n') (lock_place l) + taken l r.session ≡ slice_index s.words (lock_place l) + taken l a
     off_lock d is off =
         let w = lock_else (latches_of key) s.words l n' d off in
         let t : taken l r.session ≡ taken l a = response_weighs (word_in n) a.held a.phase (marks_found n) e proper (λ q. off (sym is ∙ q)) in omega arith
 
-    lock_moves : (d : LatchWord) → c ≡ d → slice_index (set s.words (place_of d l) n') (lock_place l) + taken l r.session ≡ slice_index s.words (lock_place l) + taken l a
+    lock_moves : (d : LatchWord) → c ≡ d → slice_index (set s.words (latch_word_place d l) n') (lock_place l) + taken l r.session ≡ slice_index s.words (lock_place l) + taken l a
     lock_moves Lock is =
-        let at_lock : Leaves Lock e a (slice_index s.words (place_of Lock l)) n' = subst (λ d. Leaves d e a (slice_index s.words (place_of d l)) n') is leaves in
-        let q : taken l r.session ≡ taken l (turn_at e (slice_index s.words (lock_place l)) a).session = ap (λ d. taken l (turn_at e (slice_index s.words (place_of d l)) a).session) is in
-        let f : lock_place l < length s.words = subst (λ d. place_of d l < length s.words) is fits in
+        let at_lock : Leaves Lock e a (slice_index s.words (latch_word_place Lock l)) n' = subst (λ d. Leaves d e a (slice_index s.words (latch_word_place d l)) n') is leaves in
+        let q : taken l r.session ≡ taken l (turn_at e (slice_index s.words (lock_place l)) a).session = ap (λ d. taken l (turn_at e (slice_index s.words (latch_word_place d l)) a).session) is in
+        let f : lock_place l < length s.words = subst (λ d. latch_word_place d l < length s.words) is fits in
         let w = get_or-set_same s.words (lock_place l) n' 0 f in omega arith
     lock_moves Waiters is = off_lock Waiters is (λ z. absurd (cc))
     lock_moves Writer is = off_lock Writer is (λ z. absurd (cc))
@@ -282,10 +279,10 @@ module _ (lawful : ℕ → List Entry → Type 0) (opening : ℕ → ℕ → ℕ
         }
 
         -- the writer words stay
-        same_writers : (d : LatchWord) → c ≡ d → (k : ℕ) → slice_index (set s.words (place_of d l) n') (writer_place k) ≡ slice_index s.words (writer_place k)
+        same_writers : (d : LatchWord) → c ≡ d → (k : ℕ) → slice_index (set s.words (latch_word_place d l) n') (writer_place k) ≡ slice_index s.words (writer_place k)
         same_writers Writer is k =
-            let left : Leaves Writer e a (slice_index s.words (writer_place l)) n' = subst (λ d. Leaves d e a (slice_index s.words (place_of d l)) n') is leaves in
-            let f : writer_place l < length s.words = subst (λ d. place_of d l < length s.words) is fits in
+            let left : Leaves Writer e a (slice_index s.words (writer_place l)) n' = subst (λ d. Leaves d e a (slice_index s.words (latch_word_place d l)) n') is leaves in
+            let f : writer_place l < length s.words = subst (λ d. latch_word_place d l < length s.words) is fits in
             ap (λ (ws : List ℕ). slice_index ws (writer_place k)) (ap (λ (z : ℕ). set s.words (writer_place l) z) left ∙ set_same s.words (writer_place l) f)
         same_writers Lock is k = writer_kept (latches_of key) s.words l n' Lock k (λ z. absurd (cc))
         same_writers Waiters is k = writer_kept (latches_of key) s.words l n' Waiters k (λ z. absurd (cc))
@@ -301,7 +298,7 @@ module _ (lawful : ℕ → List Entry → Type 0) (opening : ℕ → ℕ → ℕ
         still_writes (x ∷ xs) each =
             by_equal (λ t. AllByRecursion (IsWriter (latches_of key) words (with_looks looks (turned e n v))) (cond (not t || nat_lt 0 (claims (latch_of e) r.session)) (x ∷ filter (λ k. not (k == latch_of e) || nat_lt 0 (claims (latch_of e) r.session)) xs) (filter (λ k. not (k == latch_of e) || nat_lt 0 (claims (latch_of e) r.session)) xs))) x l
             (λ here. choose (λ ys. AllByRecursion (IsWriter (latches_of key) words (with_looks looks (turned e n v))) ys) (nat_lt 0 (claims l r.session)) _ _
-            (λ has. ((subst (λ k. 0 < claims k r.session) (sym here) (more (claims l r.session) has), same_writers c refl x ∙ each.0.1, each.0.2), still_writes xs each.1))
+            (λ has. ((subst (λ k. 0 < claims k r.session) (sym here) (some_by (claims l r.session) has), same_writers c refl x ∙ each.0.1, each.0.2), still_writes xs each.1))
             (λ _. still_writes xs each.1))
             (λ d. ((let q = near.away x (λ z. d (sym z)) (λ h. h.sx + h.x) in let o = each.0.0 in omega arith, same_writers c refl x ∙ each.0.1, each.0.2), still_writes xs each.1))
 
@@ -314,11 +311,11 @@ module _ (lawful : ℕ → List Entry → Type 0) (opening : ℕ → ℕ → ℕ
         proper_after : IsProper r.session
         proper_after = good_after.proper id r.session (set_here ss id a r.session at')
 
-        pub turn_keeps : v.memory.append ≡ None → (cs : List (ℕ × Unit {0})) → RuleHolds lawful opening key (stepped s (place_of (word_for e v.session) (latch_of e)) n' id cs (with_looks looks (turned e n v)) keeps)
+        pub turn_keeps : v.memory.append ≡ None → (cs : List (ℕ × Unit {0})) → RuleHolds lawful opening key (stepped s (latch_word_place (word_for e v.session) (latch_of e)) n' id cs (with_looks looks (turned e n v)) keeps)
         turn_keeps closed cs = record {
           sized = length-set s.words p n' ∙ kept.sized;
           sessions = subst (λ (z : ℕ × List Role). SessionsPart z.0 z.1) (λ j. (sym (front (latches_of key) s.words l n' c drawn_place (omega arith)) j, sym (map_same role_of s.views id v w at refl) j)) kept.sessions;
-          latches = subst (λ z. LatchPart (latches_of key) words z) (sym (map-set session_of s.views id w)) latches_after;
+          latches = subst (λ z. LatchPart (latches_of key) words z) (sym (map-set session_in_view s.views id w)) latches_after;
           idles = at_set (λ _ u. IsIdle u) s.views id w (λ z. absurd (alive z)) (λ j b e _. kept.idles j b e);
           paid = paid_after;
           writers = writers_after;

@@ -20,7 +20,7 @@ use Rattle.ib_rule.specs.Stores.{IsHarmless}
 use Rattle.ib_rule.specs.Views.{is_watched, reaching, starts}
 use Rattle.ib_rule.proofs.Lists.{or_says}
 
-either_true : {c : Bool} (b : Bool) → c ≡ true → (b || c) ≡ true
+pub either_true : {c : Bool} (b : Bool) → c ≡ true → (b || c) ≡ true
 either_true true is = refl
 either_true false is = is
 

@@ -14,14 +14,14 @@ use Rattle.ib_core.specs.Sessions.{word_on}
 use Rattle.ib_core.proofs.Places.{set_again}
 use Rattle.ib_core.specs.declared.latch_word.LatchWord.{LatchWord}
 use Rattle.ib_core.specs.declared.latch_word.LatchWord.TheVariants.{Lock, Waiters, Writer, Generation, ExGeneration}
-use Rattle.ib_rule.specs.Steps.{place_of}
+use Rattle.ib_rule.specs.Steps.{latch_word_place}
 use Rattle.ib_rule.specs.Rule.{marks_in, LatchPart, raises_in}
 use Rattle.ib_core.specs.Turns.{Tells, with_mark}
 
 pub is_inside : (l latches : ℕ) → l < latches → nat_lt l latches ≡ true
 is_inside l latches h = grind (arith, nat_tests)
 
-pub place_fits : (key : Sizes) (words : List ℕ) (l : ℕ) (c : LatchWord) → length words ≡ words_of key → l < latches_of key → place_of c l < length words
+pub place_fits : (key : Sizes) (words : List ℕ) (l : ℕ) (c : LatchWord) → length words ≡ words_of key → l < latches_of key → latch_word_place c l < length words
 place_fits key words l Lock sized inside = omega arith
 place_fits key words l Waiters sized inside = omega arith
 place_fits key words l Writer sized inside = omega arith
@@ -38,7 +38,7 @@ set_same words p h = set_again words p (slice_index words p) (at_get words p h)
 
 module _ (latches : ℕ) (words : List ℕ) (l : ℕ) (inside : l < latches) where
   -- the word found tells what the machine has there
-  pub tells_by : (ss : List Session) → LatchPart latches words ss → (c : LatchWord) → Tells c (slice_index words (place_of c l)) (word_on l ss) (marks_in latches words l)
+  pub tells_by : (ss : List Session) → LatchPart latches words ss → (c : LatchWord) → Tells c (slice_index words (latch_word_place c l)) (word_on l ss) (marks_in latches words l)
   tells_by ss part Lock = let k = part.counted l inside in omega (arith, ints)
   tells_by ss part Waiters = sym (ap (λ b. cond b (nat_lt 0 (slice_index words (waiters_place l))) false) (is_inside l latches inside))
   tells_by ss part Writer = tt
@@ -59,16 +59,16 @@ module _ (latches : ℕ) (words : List ℕ) (l n : ℕ) where
     ex_generation = cond (nat_lt k latches) (get_or-set_other words p (ex_gen_place k) n 0 c j) 0;
   }
 
-  pub marks_away : (c : LatchWord) (k : ℕ) → l ≢ k → marks_in latches (set words (place_of c l) n) k ≡ marks_in latches words k
-  marks_away Lock k d = apart (place_of Lock l) k (λ e. omega arith) (λ e. omega arith) (λ e. omega arith)
-  marks_away Waiters k d = apart (place_of Waiters l) k (λ e. d (omega arith)) (λ e. omega arith) (λ e. omega arith)
-  marks_away Writer k d = apart (place_of Writer l) k (λ e. omega arith) (λ e. omega arith) (λ e. omega arith)
-  marks_away Generation k d = apart (place_of Generation l) k (λ e. omega arith) (λ e. d (omega arith)) (λ e. omega arith)
-  marks_away ExGeneration k d = apart (place_of ExGeneration l) k (λ e. omega arith) (λ e. omega arith) (λ e. d (omega arith))
+  pub marks_away : (c : LatchWord) (k : ℕ) → l ≢ k → marks_in latches (set words (latch_word_place c l) n) k ≡ marks_in latches words k
+  marks_away Lock k d = apart (latch_word_place Lock l) k (λ e. omega arith) (λ e. omega arith) (λ e. omega arith)
+  marks_away Waiters k d = apart (latch_word_place Waiters l) k (λ e. d (omega arith)) (λ e. omega arith) (λ e. omega arith)
+  marks_away Writer k d = apart (latch_word_place Writer l) k (λ e. omega arith) (λ e. omega arith) (λ e. omega arith)
+  marks_away Generation k d = apart (latch_word_place Generation l) k (λ e. omega arith) (λ e. d (omega arith)) (λ e. omega arith)
+  marks_away ExGeneration k d = apart (latch_word_place ExGeneration l) k (λ e. omega arith) (λ e. omega arith) (λ e. d (omega arith))
 
-  pub marks_here : (c : LatchWord) → l < latches → place_of c l < length words → marks_in latches (set words (place_of c l) n) l ≡ with_mark c n (marks_in latches words l)
-  marks_here Lock inside fits = apart (place_of Lock l) l (λ e. omega arith) (λ e. omega arith) (λ e. omega arith)
-  marks_here Writer inside fits = apart (place_of Writer l) l (λ e. omega arith) (λ e. omega arith) (λ e. omega arith)
+  pub marks_here : (c : LatchWord) → l < latches → latch_word_place c l < length words → marks_in latches (set words (latch_word_place c l) n) l ≡ with_mark c n (marks_in latches words l)
+  marks_here Lock inside fits = apart (latch_word_place Lock l) l (λ e. omega arith) (λ e. omega arith) (λ e. omega arith)
+  marks_here Writer inside fits = apart (latch_word_place Writer l) l (λ e. omega arith) (λ e. omega arith) (λ e. omega arith)
   marks_here Waiters inside fits = λ j. record {
     waiters = cond (is_inside l latches inside j) (nat_lt 0 (get_or-set_same words (waiters_place l) n 0 fits j)) false;
     generation = cond (nat_lt l latches) (get_or-set_other words (waiters_place l) (gen_place l) n 0 (λ e. omega arith) j) 0;
@@ -86,41 +86,41 @@ module _ (latches : ℕ) (words : List ℕ) (l n : ℕ) where
   }
 
   -- the lock word of another latch, and its flag
-  pub lock_away : (c : LatchWord) (k : ℕ) → l ≢ k → slice_index (set words (place_of c l) n) (lock_place k) ≡ slice_index words (lock_place k)
-  lock_away Lock k d = get_or-set_other words (place_of Lock l) (lock_place k) n 0 (λ e. d (omega arith))
-  lock_away Waiters k d = get_or-set_other words (place_of Waiters l) (lock_place k) n 0 (λ e. omega arith)
-  lock_away Writer k d = get_or-set_other words (place_of Writer l) (lock_place k) n 0 (λ e. omega arith)
-  lock_away Generation k d = get_or-set_other words (place_of Generation l) (lock_place k) n 0 (λ e. omega arith)
-  lock_away ExGeneration k d = get_or-set_other words (place_of ExGeneration l) (lock_place k) n 0 (λ e. omega arith)
+  pub lock_away : (c : LatchWord) (k : ℕ) → l ≢ k → slice_index (set words (latch_word_place c l) n) (lock_place k) ≡ slice_index words (lock_place k)
+  lock_away Lock k d = get_or-set_other words (latch_word_place Lock l) (lock_place k) n 0 (λ e. d (omega arith))
+  lock_away Waiters k d = get_or-set_other words (latch_word_place Waiters l) (lock_place k) n 0 (λ e. omega arith)
+  lock_away Writer k d = get_or-set_other words (latch_word_place Writer l) (lock_place k) n 0 (λ e. omega arith)
+  lock_away Generation k d = get_or-set_other words (latch_word_place Generation l) (lock_place k) n 0 (λ e. omega arith)
+  lock_away ExGeneration k d = get_or-set_other words (latch_word_place ExGeneration l) (lock_place k) n 0 (λ e. omega arith)
 
-  pub lock_else : (c : LatchWord) → c ≢ Lock → slice_index (set words (place_of c l) n) (lock_place l) ≡ slice_index words (lock_place l)
+  pub lock_else : (c : LatchWord) → c ≢ Lock → slice_index (set words (latch_word_place c l) n) (lock_place l) ≡ slice_index words (lock_place l)
   lock_else Lock d = absurd (d refl)
-  lock_else Waiters d = get_or-set_other words (place_of Waiters l) (lock_place l) n 0 (λ e. omega arith)
-  lock_else Writer d = get_or-set_other words (place_of Writer l) (lock_place l) n 0 (λ e. omega arith)
-  lock_else Generation d = get_or-set_other words (place_of Generation l) (lock_place l) n 0 (λ e. omega arith)
-  lock_else ExGeneration d = get_or-set_other words (place_of ExGeneration l) (lock_place l) n 0 (λ e. omega arith)
+  lock_else Waiters d = get_or-set_other words (latch_word_place Waiters l) (lock_place l) n 0 (λ e. omega arith)
+  lock_else Writer d = get_or-set_other words (latch_word_place Writer l) (lock_place l) n 0 (λ e. omega arith)
+  lock_else Generation d = get_or-set_other words (latch_word_place Generation l) (lock_place l) n 0 (λ e. omega arith)
+  lock_else ExGeneration d = get_or-set_other words (latch_word_place ExGeneration l) (lock_place l) n 0 (λ e. omega arith)
 
-  pub flag_after : (c : LatchWord) → (c ≡ Waiters → n ≤ 1) → place_of c l < length words → ((k : ℕ) → k < latches → slice_index words (waiters_place k) ≤ 1) → (k : ℕ) → k < latches → slice_index (set words (place_of c l) n) (waiters_place k) ≤ 1
-  flag_after Lock small fits flags k h = let e = get_or-set_other words (place_of Lock l) (waiters_place k) n 0 (λ e. omega arith) in let f = flags k h in omega arith
-  flag_after Writer small fits flags k h = let e = get_or-set_other words (place_of Writer l) (waiters_place k) n 0 (λ e. omega arith) in let f = flags k h in omega arith
-  flag_after Generation small fits flags k h = let e = get_or-set_other words (place_of Generation l) (waiters_place k) n 0 (λ e. omega arith) in let f = flags k h in omega arith
-  flag_after ExGeneration small fits flags k h = let e = get_or-set_other words (place_of ExGeneration l) (waiters_place k) n 0 (λ e. omega arith) in let f = flags k h in omega arith
+  pub flag_after : (c : LatchWord) → (c ≡ Waiters → n ≤ 1) → latch_word_place c l < length words → ((k : ℕ) → k < latches → slice_index words (waiters_place k) ≤ 1) → (k : ℕ) → k < latches → slice_index (set words (latch_word_place c l) n) (waiters_place k) ≤ 1
+  flag_after Lock small fits flags k h = let e = get_or-set_other words (latch_word_place Lock l) (waiters_place k) n 0 (λ e. omega arith) in let f = flags k h in omega arith
+  flag_after Writer small fits flags k h = let e = get_or-set_other words (latch_word_place Writer l) (waiters_place k) n 0 (λ e. omega arith) in let f = flags k h in omega arith
+  flag_after Generation small fits flags k h = let e = get_or-set_other words (latch_word_place Generation l) (waiters_place k) n 0 (λ e. omega arith) in let f = flags k h in omega arith
+  flag_after ExGeneration small fits flags k h = let e = get_or-set_other words (latch_word_place ExGeneration l) (waiters_place k) n 0 (λ e. omega arith) in let f = flags k h in omega arith
   flag_after Waiters small fits flags k h = dite (ℕ_discrete l k)
       (λ q. subst (λ k. slice_index (set words (waiters_place l) n) (waiters_place k) ≤ 1) q (let e = get_or-set_same words (waiters_place l) n 0 fits in let f = small refl in omega arith))
       (λ d. let e = get_or-set_other words (waiters_place l) (waiters_place k) n 0 (λ e. d (omega arith)) in let f = flags k h in omega arith)
 
   -- the writers
-  pub writer_kept : (c : LatchWord) (k : ℕ) → c ≢ Writer → slice_index (set words (place_of c l) n) (writer_place k) ≡ slice_index words (writer_place k)
-  writer_kept Lock k d = get_or-set_other words (place_of Lock l) (writer_place k) n 0 (λ e. omega arith)
-  writer_kept Waiters k d = get_or-set_other words (place_of Waiters l) (writer_place k) n 0 (λ e. omega arith)
+  pub writer_kept : (c : LatchWord) (k : ℕ) → c ≢ Writer → slice_index (set words (latch_word_place c l) n) (writer_place k) ≡ slice_index words (writer_place k)
+  writer_kept Lock k d = get_or-set_other words (latch_word_place Lock l) (writer_place k) n 0 (λ e. omega arith)
+  writer_kept Waiters k d = get_or-set_other words (latch_word_place Waiters l) (writer_place k) n 0 (λ e. omega arith)
   writer_kept Writer k d = absurd (d refl)
-  writer_kept Generation k d = get_or-set_other words (place_of Generation l) (writer_place k) n 0 (λ e. omega arith)
-  writer_kept ExGeneration k d = get_or-set_other words (place_of ExGeneration l) (writer_place k) n 0 (λ e. omega arith)
+  writer_kept Generation k d = get_or-set_other words (latch_word_place Generation l) (writer_place k) n 0 (λ e. omega arith)
+  writer_kept ExGeneration k d = get_or-set_other words (latch_word_place ExGeneration l) (writer_place k) n 0 (λ e. omega arith)
 
   -- the two words that stand before those of the latches
-  pub front : (c : LatchWord) (q : ℕ) → q < 2 → slice_index (set words (place_of c l) n) q ≡ slice_index words q
-  front Lock q h = get_or-set_other words (place_of Lock l) q n 0 (λ e. omega arith)
-  front Waiters q h = get_or-set_other words (place_of Waiters l) q n 0 (λ e. omega arith)
-  front Writer q h = get_or-set_other words (place_of Writer l) q n 0 (λ e. omega arith)
-  front Generation q h = get_or-set_other words (place_of Generation l) q n 0 (λ e. omega arith)
-  front ExGeneration q h = get_or-set_other words (place_of ExGeneration l) q n 0 (λ e. omega arith)
+  pub front : (c : LatchWord) (q : ℕ) → q < 2 → slice_index (set words (latch_word_place c l) n) q ≡ slice_index words q
+  front Lock q h = get_or-set_other words (latch_word_place Lock l) q n 0 (λ e. omega arith)
+  front Waiters q h = get_or-set_other words (latch_word_place Waiters l) q n 0 (λ e. omega arith)
+  front Writer q h = get_or-set_other words (latch_word_place Writer l) q n 0 (λ e. omega arith)
+  front Generation q h = get_or-set_other words (latch_word_place Generation l) q n 0 (λ e. omega arith)
+  front ExGeneration q h = get_or-set_other words (latch_word_place ExGeneration l) q n 0 (λ e. omega arith)

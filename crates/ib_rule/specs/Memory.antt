@@ -58,7 +58,7 @@ abbrev pub LoadedFact : (ℕ → ℕ) → Session → List Entry → Loaded → 
 LoadedFact opening a log x = (0 < holdings (latch_at x.place) a) × IsRight opening log x
 
 -- what an entry must be to be appended by a session that holds this
-pub record MayFollow (key : Sizes) (lawful : List Entry → Type 0) (number made : ℕ) (a : Session) (log : List Entry) (e : Entry) : Type 0 where
+pub record MayComeBehind (key : Sizes) (lawful : List Entry → Type 0) (number made : ℕ) (a : Session) (log : List Entry) (e : Entry) : Type 0 where
   pub named : e.session ≡ number
   pub counted : e.number ≡ made + 1
   pub grammar : IsInGrammar key.pages e
@@ -76,7 +76,7 @@ has q (x ∷ xs) = (x == q) || has q xs
 
 -- an open append: its entry may follow the log, all of which is seen, and what it has stored stands
 pub record IsWriting (key : Sizes) (lawful : List Entry → Type 0) (words : List ℕ) (log : List Entry) (number : ℕ) (a : Session) (m : Memory) (o : OpenAppend) : Type 0 where
-  pub fits : MayFollow key lawful number (length m.own) a log o.entry
+  pub fits : MayComeBehind key lawful number (length m.own) a log o.entry
   pub whole : m.seen ≡ log
   pub pages_done : (q : ℕ) → has q o.places ≡ true → (writes_at q o.entry.writes ≡ true) × (slice_index words (base key + q) ≡ stored o.entry.writes q 0)
   pub words_done : (j : ℕ) → has j o.words ≡ true → (j < length (words_of_entry o.entry)) × (slice_index words (log_place key (used log + j)) ≡ slice_index_or (words_of_entry o.entry) j 0)

@@ -18,7 +18,7 @@ use Rattle.ib_logrec.specs.Law.{AreInGrammar}
 use Rattle.ib_logrec.specs.Log.{log_words, used, memory_after, by_place}
 use Rattle.ib_rule.specs.declared.view.View.{View}
 use Rattle.ib_rule.specs.Roles.{SessionsPart, live, number_in, drawn_in, ended_in, sessions_in}
-use Rattle.ib_rule.specs.Views.{role_of, session_of, total}
+use Rattle.ib_rule.specs.Views.{role_of, session_in_view, total}
 use Rattle.ib_rule.specs.Memory.{base, page_places, entries_of, stored_in, EndedFact, Follows}
 
 -- the marks of a latch that there is, read off the words
@@ -76,7 +76,7 @@ pub record MemoryPart (key : Sizes) (lawful : List Entry → Type 0) (opening : 
 pub record RuleHolds (lawful : ℕ → List Entry → Type 0) (opening : ℕ → ℕ → ℕ → ℕ) (key : Sizes) (s : State (Unit {0}) View) : Type 0 where
   pub sized : length s.words ≡ words_of key
   pub sessions : SessionsPart (slice_index s.words drawn_place) (map role_of s.views)
-  pub latches : LatchPart (latches_of key) s.words (map session_of s.views)
+  pub latches : LatchPart (latches_of key) s.words (map session_in_view s.views)
   pub idles : Idles s.views
   pub paid : PaidPart (latches_of key) s.words s.views
   pub writers : WriterPart (latches_of key) s.words s.views

@@ -22,12 +22,12 @@ use Rattle.ib_rule.specs.Roles.{entered}
 use Rattle.ib_rule.specs.Views.{with_role, with_looks, with_memory, turned_by, signed, loading, forgets}
 
 -- the place of a word of a latch
-abbrev pub place_of : LatchWord → ℕ → ℕ
-place_of Lock l = lock_place l
-place_of Waiters l = waiters_place l
-place_of Writer l = writer_place l
-place_of Generation l = gen_place l
-place_of ExGeneration l = ex_gen_place l
+abbrev pub latch_word_place : LatchWord → ℕ → ℕ
+latch_word_place Lock l = lock_place l
+latch_word_place Waiters l = waiters_place l
+latch_word_place Writer l = writer_place l
+latch_word_place Generation l = gen_place l
+latch_word_place ExGeneration l = ex_gen_place l
 
 -- the word that a step leaves where it found n
 abbrev pub run : Op → ℕ → ℕ

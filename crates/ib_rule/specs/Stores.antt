@@ -15,7 +15,7 @@ use Rattle.ib_rule.specs.declared.memory.OpenAppend.{OpenAppend}
 use Rattle.ib_rule.specs.declared.view.View.{View}
 use Rattle.ib_rule.specs.Roles.{number_in}
 use Rattle.ib_rule.specs.Views.{with_memory, is_watched}
-use Rattle.ib_rule.specs.Memory.{conflicts, entries_of, has, SinceFact, LoadedFact, MayFollow}
+use Rattle.ib_rule.specs.Memory.{conflicts, entries_of, has, SinceFact, LoadedFact, MayComeBehind}
 
 -- the entry that is named where none is written
 abbrev pub no_entry : Entry
@@ -57,7 +57,7 @@ appending e v = with_memory (record v.memory { seen = v.memory.seen ++ e ∷ [];
 
 -- words of the entry may be stored: it may follow all that is seen, which is the whole log, since the log latch has a since
 pub record IsReady (key : Sizes) (lawful : List Entry → Type 0) (v : View) (e : Entry) : Type 0 where
-  pub fits : MayFollow key lawful (number_in v.role) (length v.memory.own) v.session v.memory.seen e
+  pub fits : MayComeBehind key lawful (number_in v.role) (length v.memory.own) v.session v.memory.seen e
   pub watch : is_watched 0 v.memory.since ≡ true
   pub begins : Begins e v.memory.append
 
@@ -67,7 +67,7 @@ AllStored e None = ⊥
 AllStored e (Some o) = ((q : ℕ) → writes_at q e.writes ≡ true → has q o.places ≡ true) × ((j : ℕ) → j < length (words_of_entry e) → has j o.words ≡ true)
 
 -- what a look at the log's end tells of the log, and of what the session knew before it
-pub record IsWhole (key : Sizes) (lawful : List Entry → Type 0) (opening : ℕ → ℕ) (v : View) (found : ℕ) (log : List Entry) : Type 0 where
+pub record ShowsWholeLog (key : Sizes) (lawful : List Entry → Type 0) (opening : ℕ → ℕ) (v : View) (found : ℕ) (log : List Entry) : Type 0 where
   pub longer : IsPrefix v.memory.seen log
   pub legal : lawful log
   pub end : found ≡ length log * 2 ^ 32 + used log

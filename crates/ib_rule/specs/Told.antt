@@ -25,7 +25,7 @@ use Rattle.ib_rule.specs.declared.view.View.{View}
 use Rattle.ib_rule.specs.Roles.{drawn_in, ended_in, sessions_in}
 use Rattle.ib_rule.specs.Memory.{latch_at}
 use Rattle.ib_rule.specs.Views.{total, loading, is_watched, reaching, KnowsHeld}
-use Rattle.ib_rule.specs.Stores.{IsWhole, storing_page, storing_word, appending}
+use Rattle.ib_rule.specs.Stores.{ShowsWholeLog, storing_page, storing_word, appending}
 use Rattle.ib_rule.specs.Steps.{event_at, view_after}
 
 -- a step is an event of the latch machine: in some good state the session stands as it did before it, the event comes to this answer there, and the state after it, in which the session stands as it does now, is good
@@ -64,13 +64,13 @@ CanFind Count v n = (length (ended_in v.role) ≤ drawn_in v.role) × (drawn_in 
 CanFind kind v n = Unit {0}
 
 -- a word of a page whose latch is watched is that of the page after all that is seen, since nothing later conflicts with the latch
-abbrev pub IsSettled : (ℕ → ℕ) → View → ℕ → ℕ → Type 0
-IsSettled opening v q n = is_watched (latch_at q) v.memory.since ≡ true → n ≡ memory_after opening v.memory.seen q
+abbrev pub IsWatchedWord : (ℕ → ℕ) → View → ℕ → ℕ → Type 0
+IsWatchedWord opening v q n = is_watched (latch_at q) v.memory.since ≡ true → n ≡ memory_after opening v.memory.seen q
 
 -- the view after a step. A load of the log's end shows all of the log, which the word alone does not tell
 abbrev pub After : (ℕ → List Entry → Type 0) → (ℕ → ℕ → ℕ → ℕ) → Sizes → Entry → Kind → View → ℕ → View → Type 0
-After lawful opening key e LoadEnd v n w = (w ≡ reaching w.memory.seen v) × IsWhole key (lawful key.pages) (by_place opening key.pages) v n w.memory.seen
-After lawful opening key e (LoadPage q) v n w = (w ≡ loading q n v) × IsSettled (by_place opening key.pages) v q n
+After lawful opening key e LoadEnd v n w = (w ≡ reaching w.memory.seen v) × ShowsWholeLog key (lawful key.pages) (by_place opening key.pages) v n w.memory.seen
+After lawful opening key e (LoadPage q) v n w = (w ≡ loading q n v) × IsWatchedWord (by_place opening key.pages) v q n
 After lawful opening key e Meet v n w = (w ≡ view_after Meet n v) × AllByRecursion (λ xs. IsPrefix xs v.memory.seen) v.memory.met × lawful key.pages v.memory.seen
 After lawful opening key e (LoadLog k) v n w = (w ≡ v) × (n ≡ slice_index_or (log_words v.memory.seen) k 0)
 After lawful opening key e (StorePage q x) v n w = w ≡ storing_page e q v

@@ -26,8 +26,8 @@ use Rattle.ib_rule.specs.Memory.{latch_at}
 abbrev pub role_of : View → Role
 role_of v = v.role
 
-abbrev pub session_of : View → CoreSession
-session_of v = v.session
+abbrev pub session_in_view : View → CoreSession
+session_in_view v = v.session
 
 abbrev pub memory_of : View → Memory
 memory_of v = v.memory
@@ -54,10 +54,11 @@ nothing_seen = record { met = []; seen = []; own = []; ends = []; since = []; lo
 abbrev pub seated : Role → View
 seated r = record { role = r; session = idle; grants = no_grants; written = []; looks = no_looks; memory = nothing_seen }
 
--- the space's own view. Its grants are those of the sessions that have ended
+-- the space's own view: its grants are those of the sessions that have ended
 abbrev pub space_at : ℕ → List Ended → Grants → View
 space_at drawn ended grants = record (seated (Space drawn ended)) { grants = grants }
 
+-- .. where no session has ended with grants yet
 abbrev pub space_view : ℕ → List Ended → View
 space_view drawn ended = seated (Space drawn ended)
 

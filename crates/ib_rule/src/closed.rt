@@ -57,6 +57,7 @@ impl Drop for Closed {
 
 /// There was no memory for the words of the log. The space comes back as it was.
 pub struct CloseRefused<L: Law> {
+    /// The space, with all that it had.
     pub space: Space<L>,
 }
 

@@ -27,8 +27,9 @@ use ib_logrec::Law;
 use ib_word::{LockWord, from_cell, give_x};
 
 impl<L: Law> Space<L> {
-    /// Gives S back: adds 1 to the lock word. Where 0 or minus HALF is left, a next writer waits
-    /// for the raise of the ex generation that is owed then. It answers the word after the step.
+    /// Gives S back: adds 1 to the lock word. Where 0 or minus `X_LOCK_HALF_DECR` is left, a next
+    /// writer waits for the raise of the ex generation that is owed then (sync0rw,
+    /// `rw_lock_s_unlock_func`). It answers the word after the step.
     pub fn s_on(&self, pass: &mut Pass, latch: Latch) -> LockWord
         requires own { IsOf self.now pass.old }
         requires latch { latch.0 < latches_of self.now.sizes }
@@ -45,8 +46,9 @@ impl<L: Law> Space<L> {
         from_cell(found + 1)
     }
 
-    /// Gives the last SX back, with no X of one's own: adds HALF to the lock word. A look at the
-    /// waiters flag is owed then. It answers the word after the step.
+    /// Gives the last SX back, with no X of one's own: adds `X_LOCK_HALF_DECR` to the lock word. A
+    /// look at the waiters flag is owed then (`rw_lock_sx_unlock_func`). It answers the word after the
+    /// step.
     pub fn sx_on(&self, pass: &mut Pass, latch: Latch) -> LockWord
         requires own { IsOf self.now pass.old }
         requires latch { latch.0 < latches_of self.now.sizes }
@@ -63,8 +65,8 @@ impl<L: Law> Space<L> {
         self.last_sx_on(pass, latch)
     }
 
-    /// Gives the last SX back beside one's own X: adds HALF to the lock word, and nothing is owed.
-    /// It answers the word after the step.
+    /// Gives the last SX back beside one's own X: adds `X_LOCK_HALF_DECR` to the lock word, and nothing
+    /// is owed. It answers the word after the step.
     pub fn sx_on_under_x(&self, pass: &mut Pass, latch: Latch) -> LockWord
         requires own { IsOf self.now pass.old }
         requires latch { latch.0 < latches_of self.now.sizes }
@@ -82,7 +84,7 @@ impl<L: Law> Space<L> {
     }
 
     /// Gives the last X back: adds `X_LOCK_DECR` to the lock word. A look at the waiters flag is
-    /// owed then, also where SX is left. It answers the word after the step.
+    /// owed then, also where SX is left (`rw_lock_x_unlock_func`). It answers the word after the step.
     pub fn x_on(&self, pass: &mut Pass, latch: Latch) -> LockWord
         requires own { IsOf self.now pass.old }
         requires latch { latch.0 < latches_of self.now.sizes }

@@ -22,7 +22,8 @@ use ib_logrec::Law;
 impl<L: Law> Space<L> {
     /// Loads the generation. With a wish it is `arm`: the session records the generation and what
     /// it waits for. Without one it is `sleep`: the session sleeps on where the generation is the
-    /// one that it recorded, and is awake where it is not. It answers the word.
+    /// one that it recorded, and is awake where it is not (sync0arr, `sync_array_wait_event`). It
+    /// answers the word.
     pub fn load_gen(&self, pass: &mut Pass, latch: Latch, wish: Option<(Mode, Level)>) -> u64
         requires own { IsOf self.now pass.old }
         requires latch { latch.0 < latches_of self.now.sizes }
@@ -92,8 +93,8 @@ impl<L: Law> Space<L> {
         self.turn(pass, event, LatchWord::Waiters, Op::Swap(0)).0
     }
 
-    /// Raises the generation, which wakes who sleeps on the one before. It answers the word after
-    /// the step.
+    /// Raises the generation: who sleeps on the one before finds another, once it is woken, which is
+    /// not done here (`os_event_set`). It answers the word after the step.
     pub fn raise_gen(&self, pass: &mut Pass, latch: Latch) -> u64
         requires own { IsOf self.now pass.old }
         requires latch { latch.0 < latches_of self.now.sizes }
@@ -106,8 +107,8 @@ impl<L: Law> Space<L> {
         self.turn(pass, event, LatchWord::Generation, Op::Add(1)).0 + 1
     }
 
-    /// Raises the ex generation, which wakes the next writer that sleeps on the one before. It
-    /// answers the word after the step.
+    /// Raises the ex generation: the next writer that sleeps on the one before finds another, once it is
+    /// woken, which is not done here. It answers the word after the step.
     pub fn raise_ex_gen(&self, pass: &mut Pass, latch: Latch) -> u64
         requires own { IsOf self.now pass.old }
         requires latch { latch.0 < latches_of self.now.sizes }

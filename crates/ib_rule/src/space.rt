@@ -31,6 +31,9 @@ use thiserror::Error;
 /// There was no memory.
 pub type OutOfMemory = AllocError;
 
+// As many sessions as the latch machine takes have a number that an entry takes.
+const _: () = prove!(MOST_SESSIONS == ib_core::MOST_SESSIONS);
+
 /// The words that the sessions of a space share, under the rule of the law `L`. It is
 /// not dropped but closed.
 pub struct Space<L: Law> {
@@ -131,7 +134,8 @@ fn open_pages<L: Law>(geometry: Geometry, words: &mut [u64])
 }
 
 impl<L: Law> Space<L> {
-    /// The opening memory of the law, an empty log, and no sessions.
+    /// A space of these sizes: the opening pages of the law, an empty log, and no sessions (fsp0fsp,
+    /// `fsp_header_init`). Refused only where memory lacks.
     pub fn open(alloc: Global, geometry: Geometry) -> Result<Space<L>, OutOfMemory>
         ensures { IfOk result (λ s. s
             ≡ record { table = s.table; sizes = geometry; drawn = 0; ended = [] }) }
@@ -171,7 +175,7 @@ impl<L: Law> Space<L> {
     }
 
     /// Draws the next number, and gives its session's pass: nothing seen, held or granted, the phase
-    /// free, and the scratch in it. Refused as `TooManySessions` exactly where 1,024 were drawn.
+    /// free, and the scratch in it. Refused as `TooManySessions`, with 1,024, exactly where so many were drawn.
     /// Where memory lacks, no number is drawn.
     pub fn connect(&mut self, alloc: Global) -> Result<Pass, ConnectFault>
         ensures pass { IfOk result (λ p. IsOf self.old p × (p.number ≡ self.old.drawn + 1)
@@ -181,6 +185,7 @@ impl<L: Law> Space<L> {
         ensures err { IfErr result (λ e. self.new ≡ self.old) }
         ensures full { (result ≡ Err (ConnectFault.TooManySessions 1024))
             ↔ (self.old.drawn ≡ 1024) }
+        ensures told { (n : ℕ) → result ≡ Err (ConnectFault.TooManySessions n) → n ≡ 1024 }
         ensures few { self.old.drawn ≤ 1024 }
     {
         if self.drawn >= MOST_SESSIONS {

@@ -17,7 +17,7 @@ use ib_layout::Geometry;
 use ib_logrec::Law;
 use std::marker::{Brand, PhantomData};
 
-/// What a step is: its kind, the sizes of its space, and the entry of which it stores a word.
+/// What contracts say of a step: its kind, the sizes of its space, and the entry of which it stores a word.
 pub trait Naming {
     ghost use Rattle.ib_layout.specs.Geometry.{Sizes};
     ghost use Rattle.ib_logrec.specs.declared.entry.Entry.{Entry};
@@ -41,7 +41,7 @@ impl Naming for Brand {
     ghost entry = { no_entry };
 }
 
-/// What a step tells its caller.
+/// What a step tells its caller. It holds no value: it is a type by which the proof says that.
 pub struct Tells<T, L> {
     kind: PhantomData<(T, L)>,
 }

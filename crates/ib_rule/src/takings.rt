@@ -54,7 +54,7 @@ impl<L: Law> Space<L> {
     }
 
     /// Takes S: one exchange that takes 1 off the lock word, where it is the expected one. Else it
-    /// answers the word found, and nothing is changed but the looks.
+    /// answers the word found, and nothing is changed but the looks (sync0rw, `rw_lock_s_lock_low`).
     pub fn s_off(
         &self,
         pass: &mut Pass,
@@ -80,9 +80,9 @@ impl<L: Law> Space<L> {
         self.first_off(pass, Mode::S, latch, level, expected)
     }
 
-    /// Takes SX, with nothing held on the latch: one exchange that takes HALF off the lock word,
-    /// where it is the expected one. Else it answers the word found, and nothing is changed but the
-    /// looks.
+    /// Takes SX, with nothing held on the latch: one exchange that takes `X_LOCK_HALF_DECR` off the
+    /// lock word, where it is the expected one. Else it answers the word found, and nothing is
+    /// changed but the looks (WL#6363, `rw_lock_sx_lock_low`).
     pub fn sx_off(
         &self,
         pass: &mut Pass,
@@ -111,7 +111,7 @@ impl<L: Law> Space<L> {
     /// Takes or reserves X, with nothing held on the latch: one exchange that takes `X_LOCK_DECR`
     /// off the lock word, where it is the expected one. X is owned where 0 is left, and else the
     /// session is the next writer. Where the word is another, it answers that, and nothing is
-    /// changed but the looks.
+    /// changed but the looks (sync0rw, `rw_lock_x_lock_low`).
     pub fn x_off(
         &self,
         pass: &mut Pass,
@@ -138,8 +138,8 @@ impl<L: Law> Space<L> {
     }
 
     /// Takes or reserves X beside one's own SX: one exchange that takes `X_LOCK_DECR` off the lock
-    /// word, where it is the expected one. X is owned where minus HALF is left, and else the session
-    /// is the next writer. The latch keeps the level of its first grant.
+    /// word, where it is the expected one. X is owned where minus `X_LOCK_HALF_DECR` is left, and else
+    /// the session is the next writer. The latch keeps the level of its first grant.
     pub fn upgrade(&self, pass: &mut Pass, latch: Latch, expected: LockWord) -> Result<(), LockWord>
         requires own { IsOf self.now pass.old }
         requires latch { latch.0 < latches_of self.now.sizes }
@@ -167,8 +167,8 @@ impl<L: Law> Space<L> {
         }
     }
 
-    /// Takes X once more: `X_LOCK_DECR` off the lock word where it was owned once, and else 1. It
-    /// answers the word after the step.
+    /// Takes X once more: `X_LOCK_DECR` off the lock word where it was owned once, and else 1
+    /// (`rw_lock_x_lock_low`). It answers the word after the step.
     pub fn x_off_again(&self, pass: &mut Pass, latch: Latch) -> LockWord
         requires own { IsOf self.now pass.old }
         requires latch { latch.0 < latches_of self.now.sizes }
@@ -192,8 +192,8 @@ impl<L: Law> Space<L> {
         from_cell(found - weight)
     }
 
-    /// Takes a first SX beside one's own X: HALF off the lock word. It answers the word after the
-    /// step.
+    /// Takes a first SX beside one's own X: `X_LOCK_HALF_DECR` off the lock word
+    /// (`rw_lock_sx_lock_low`). It answers the word after the step.
     pub fn sx_off_under_x(&self, pass: &mut Pass, latch: Latch) -> LockWord
         requires own { IsOf self.now pass.old }
         requires latch { latch.0 < latches_of self.now.sizes }

@@ -13,7 +13,7 @@ ghost use Rattle.ib_rule.specs.declared.kind.Kind.TheVariants.{Look, Recheck, Tr
 ghost use Rattle.ib_rule.specs.Pass.{IsOf, with_view};
 ghost use Rattle.ib_rule.specs.Afterwards.{granted, looked_on, tried_on};
 ghost use Rattle.ib_rule.specs.Views.{KnowsHeld, signed};
-ghost use Rattle.ib_rule.specs.Steps.{event_at, place_of, run, view_after};
+ghost use Rattle.ib_rule.specs.Steps.{event_at, latch_word_place, run, view_after};
 ghost use Rattle.ib_rule.specs.Told.{CanBe, Happens, IsEvent};
 ghost use Rattle.ib_rule.specs.Conditions.{CanTake, MayGrow, MayTry, found_by, try_event};
 
@@ -37,7 +37,7 @@ pub(crate) const WHOLE: u64 = X_LOCK_DECR as u64;
 // The place of a word of a latch.
 fn place(geometry: &Geometry, word: LatchWord, latch: Latch) -> usize
     requires { latch.0 < latches_of geometry.now }
-    ensures place { result ≡ place_of word latch.0 }
+    ensures place { result ≡ latch_word_place word latch.0 }
     ensures in_range { result < words_of geometry.now }
 {
     match word {

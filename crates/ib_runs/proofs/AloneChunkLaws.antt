@@ -1,8 +1,6 @@
 -- The chunks of a scan that all stand at one place are determined by the leaves there.
 use Rattle.std.proofs.Common.{◌≡◌, ◌⊎◌, ◌∙◌, ℕ, ◌<◌, ◌≤◌, List, [], ◌∷◌, ◌++◌, length, refl, sym, ap, subst, arith, inl, inr, length-append}
 use Rattle.std.specs.List.{AllByRecursion}
-use Rattle.std.proofs.Math.Seq.{get_or-append_seam}
-use Rattle.std.specs.Prelude.{slice_index_or}
 use Rattle.ib_map.specs.Keys.{MapKey, rank, key_after}
 use Rattle.ib_map.specs.Pairs.{Pairs, cut}
 use Rattle.ib_map.specs.History.{History}
@@ -13,21 +11,8 @@ use Rattle.ib_walk.specs.Walk.{Visit}
 use Rattle.ib_walk.specs.Trees.{content_of}
 use Rattle.ib_walk.specs.Chunk.{IsLastKey, AreBelow, EndsAt, IsChunk}
 use Rattle.ib_walk.proofs.ChoiceLaws.{Some-same}
+use Rattle.ib_tree.proofs.FitLaws.{last-same}
 use Rattle.ib_walk.proofs.WalkLaws.{AllByRecursion-right}
-
--- records have one last key
-last-one : (records : Pairs) (a b : MapKey) → IsLastKey records a → IsLastKey records b → a ≡ b
-last-one records a b one two =
-    let same : one.0 ++ (a, one.1) ∷ [] ≡ two.0 ++ (b, two.1) ∷ [] = sym one.2 ∙ two.2 in
-    let first = length-append one.0 ((a, one.1) ∷ []) in
-    let second = length-append two.0 ((b, two.1) ∷ []) in
-    let long = ap length same in
-    let size : length one.0 ≡ length two.0 = omega arith in
-    let pair : (a, one.1) ≡ (b, two.1) =
-    sym (get_or-append_seam one.0 (a, one.1) [] (a, one.1))
-    ∙ (ap (λ (xs : Pairs). slice_index_or xs (length one.0) (a, one.1)) same
-    ∙ (ap (λ n. slice_index_or (two.0 ++ (b, two.1) ∷ []) n (a, one.1)) size ∙ get_or-append_seam two.0 (b, two.1) [] (a, one.1))) in
-    ap (λ (x : MapKey × ℕ). x.0) pair
 
 -- of records that are below a key, the last is
 last-below : (start last : MapKey) (records : Pairs) → AreBelow start records → IsLastKey records last → rank last < rank start
@@ -38,7 +23,7 @@ last-below start last records below is =
 ends-one : (records : Pairs) (back : List Visit) (high a b : MapKey) → EndsAt records back high a → EndsAt records back high b → a ≡ b
 ends-one records [] high a b one two = one ∙ sym two
 ends-one records (next ∷ back) high a b one two =
-    let last : one.0 ≡ two.0 = last-one records one.0 two.0 one.1 two.1 in
+    let last : one.0 ≡ two.0 = last-same records one.0 two.0 one.1 two.1 in
     let ranks : rank one.0 ≡ rank two.0 = ap rank last in
     elim one.2 [
       | inl up ↦ elim two.2 [

@@ -3,7 +3,7 @@ use Rattle.std.proofs.Common.{◌≡◌, ◌∙◌, ℕ, ◌<◌, ◌≤◌, Boo
 use Rattle.std.proofs.lemmas.Bool.{lt-ltb, le-ltb}
 use Rattle.ib_map.specs.Keys.{MapKey}
 use Rattle.ib_map.specs.Pairs.{Pairs, value_at}
-use Rattle.ib_map.specs.Map.{answer_of, delete_answer, is_made, lookup_answer, lookup_of}
+use Rattle.ib_map.specs.Map.{answer_of, delete_answer, is_made, lookup_of}
 use Rattle.ib_map.specs.History.{map_after}
 use Rattle.ib_map.specs.Replies.{FitsCall, FitsChange, Span, change_of, pair_count}
 use Rattle.ib_map.specs.Runs.{first_span_place}
@@ -24,6 +24,7 @@ use Rattle.ib_runs.specs.Alone.{IsNotFull}
 use Rattle.ib_runs.specs.Sessions.{index_space}
 use Rattle.ib_runs.proofs.AloneChunkLaws.{scan-one}
 use Rattle.ib_runs.proofs.AlonePageLaws.{HasChange, SaySame, change-at, map-same}
+use Rattle.ib_index.proofs.LookupLaws.{lookup-made}
 
 -- the answer to an insert, by the map's and by the tree: it is refused where the map would make it and the tree cannot
 abbrev with_tree : Reply → Bool → ℕ → ℕ → Reply
@@ -48,10 +49,6 @@ change-entry log session change place (Found value) fits done_so = absurd (cc)
 change-entry log session change place NotFound fits done_so = absurd (cc)
 change-entry log session change place (Scanned chunks pairs) fits done_so = absurd (cc)
 
-lookup-not_made : (o : Option ℕ) → is_made (lookup_answer o) ≡ false
-lookup-not_made (Some value) = refl
-lookup-not_made None = refl
-
 -- a call that made a change has it in the log
 pub record HasMade (log : List Entry) (session : ℕ) (call : Call) (place : ℕ) : Type 0 where
   pub change : Change
@@ -68,7 +65,7 @@ call-entry log session reach (Get key) reply place spans fits done_so =
     let not_so : is_made reply ≡ false = ap is_made fits.0 ∙ look (map_after (history_of log) place) key in absurd (cc)
   where
     look : (m : Pairs) (k : MapKey) → is_made (lookup_of m k) ≡ false
-    look m k = lookup-not_made _
+    look m k = lookup-made _
 call-entry log session reach (Scan low high) reply place spans fits done_so =
     let not_so : is_made reply ≡ false = ap is_made fits.0 in absurd (cc)
 

@@ -1,9 +1,10 @@
 -- A session's calls, one after another: what each adds to what the session was answered.
-use Rattle.std.specs.List.{AllByRecursion, filter_map}
+use Rattle.std.specs.List.{AllByRecursion, concat, filter_map}
 use Rattle.std.proofs.Common.{◌≡◌, inl, inr, ℕ, ◌+◌, ◌-◌, ◌*◌, ◌^◌, ◌<◌, ◌≤◌, Bool, true, false, List, [], ◌∷◌, ◌++◌, Option, Some, None, cond, map, length, refl, sym, ap, subst, ◌∙◌, arith, append_assoc, append-nil, length-append, length-drop, drop, take, take-append-drop, slice_get}
-use Rattle.std.specs.Prelude.{slice_index_or, sum_by}
-use Rattle.std.proofs.lemmas.List.{map-append, length-map, length-take-le, take_more}
+use Rattle.std.specs.Prelude.{sum_by}
+use Rattle.std.proofs.lemmas.List.{map-append, length-map, length-take-le}
 use Rattle.std.proofs.lemmas.List.Elements.{filter_map-append}
+use Rattle.std.proofs.lemmas.List.Folds.{concat-append}
 use Rattle.std.proofs.lemmas.List.Sums.{sum_by-append, sum_by-cons}
 use Rattle.ib_map.specs.Keys.{MapKey, IsKey, rank}
 use Rattle.ib_map.specs.Pairs.{Pairs, value_at}
@@ -30,6 +31,7 @@ use Rattle.ib_layout.specs.Geometry.{Sizes}
 use Rattle.ib_logrec.specs.declared.entry.Entry.{Entry}
 use Rattle.ib_logrec.specs.Log.{by_place, history_of, logged, used}
 use Rattle.ib_logrec.proofs.LogLaws.{history_of-push, length-history_of}
+use Rattle.ib_walk.proofs.ChoiceLaws.{Some-same}
 use Rattle.ib_tree.specs.Fits.{FitsLog}
 use Rattle.ib_tree.specs.Scans.{AreFront, AreWhole}
 use Rattle.ib_tree.specs.TreeLog.{opening}
@@ -41,10 +43,12 @@ use Rattle.ib_script.specs.Script.{asks_scan, scan_count}
 use Rattle.ib_rule.specs.Pass.{PassState}
 use Rattle.ib_rule.specs.Views.{total}
 use Rattle.ib_cursor.specs.Going.{IsKnown}
+use Rattle.ib_cursor.proofs.StandLaws.{bounds-append}
 use Rattle.ib_index.specs.Calls.{HasCalled, MakesOwn}
+use Rattle.ib_index.proofs.LookupLaws.{lookup-made}
 use Rattle.ib_runs.specs.Answers.{KeptAnswers, answers_of}
-use Rattle.ib_runs.specs.Sessions.{AreBehind, AreFew, HasAnswered, IsBehind, IsEmptyScan, changes_in, index_space, places_in}
-use Rattle.ib_runs.specs.Steps.{HasFound, HasOneMore, HasReadAll, HasReadKeys, IsAnswered, KeptLaws, most_grants, most_scan_grants}
+use Rattle.ib_runs.specs.Sessions.{AreBehind, AreFew, EachIsBehind, HasAnswered, IsBehind, changes_in, index_space, most_grants, most_scan_grants}
+use Rattle.ib_runs.specs.Steps.{HasOneMore, HasReadAll, HasReadKeys, IsAnswered, KeptLaws}
 use Rattle.ib_runs.proofs.ReadLaws.{content_at}
 
 -- the change that a record made stands in the history at its place
@@ -60,10 +64,6 @@ made-entry h session change (Found value) place made fits = cc
 made-entry h session change NotFound place made fits = cc
 made-entry h session change (Scanned chunks pairs) place made fits = cc
 
-lookup-unmade : (o : Option ℕ) → is_made (lookup_answer o) ≡ false
-lookup-unmade (Some value) = refl
-lookup-unmade None = refl
-
 record HasMade (h : History) (session : ℕ) (call : Call) (place : ℕ) : Type 0 where
   pub change : Change
   pub is : change_of call ≡ Some change
@@ -72,7 +72,7 @@ record HasMade (h : History) (session : ℕ) (call : Call) (place : ℕ) : Type 
 call-made : (h : History) (session reach : ℕ) (call : Call) (reply : Reply) (place : ℕ) (spans : List Span) → is_made reply ≡ true → FitsCall h session reach call reply place spans → HasMade h session call place
 call-made h session reach (Insert key value) reply place spans made fits = record { change = InsertChange key value; is = refl; entry = made-entry h session (InsertChange key value) reply place made fits.0 }
 call-made h session reach (Delete key) reply place spans made fits = record { change = DeleteChange key; is = refl; entry = made-entry h session (DeleteChange key) reply place made fits.0 }
-call-made h session reach (Get key) reply place spans made fits = let none = ap is_made fits.0 ∙ lookup-unmade (value_at key (map_after h place)) in let bad = sym made ∙ none in cc
+call-made h session reach (Get key) reply place spans made fits = let none = ap is_made fits.0 ∙ lookup-made (value_at key (map_after h place)) in let bad = sym made ∙ none in cc
 call-made h session reach (Scan low high) reply place spans made fits = let bad = sym made ∙ ap is_made fits.0 in cc
 
 -- what a record made, as a list
@@ -82,15 +82,12 @@ made-none r none = rw none refl
 made-one : (r : FullRecord) (change : Change) → is_made r.reply ≡ true → change_of r.call ≡ Some change → filter_map change_made (r ∷ []) ≡ change ∷ []
 made-one r change made is = rw (made, is) refl
 
-some-same : {A : Type 0} (a b : A) → Some a ≡ Some b → a ≡ b
-some-same a b e = cc
-
 -- the last entry of a log has the change that stands at its place
 last-change : (front : List Entry) (e : Entry) (session place : ℕ) (change : Change) → place ≡ length front → IsEntryOf (history_of (front ++ e ∷ [])) place session change → change ≡ e.change
 last-change front e session place change at entry =
     let l : slice_get (history_of (front ++ e ∷ [])) place ≡ Some (logged e) =
     ap (λ h. slice_get h place) (history_of-push front e) ∙ (ap (slice_get (history_of front ++ logged e ∷ [])) (at ∙ sym (length-history_of front)) ∙ slice_get-last (history_of front) (logged e)) in
-    let same : entry.0 ≡ logged e = some-same entry.0 (logged e) (sym entry.1 ∙ l) in
+    let same : entry.0 ≡ logged e = Some-same entry.0 (logged e) (sym entry.1 ∙ l) in
     sym entry.3 ∙ ap (λ (x : LoggedChange). x.change) same
 
 module _ (sizes : Sizes) (call : Call) (answer : Record) (p q : PassState) (h : HasCalled sizes (IsKeptLog sizes.pages) (by_place opening sizes.pages) call answer p q) where
@@ -199,16 +196,12 @@ front-places start log low high floor least (span ∷ spans) next last le are =
     let rest = front-places start log are.2.0 high span.place least spans next last here are.2.2 in
     ((here, rest.0), rest.1)
 
-all-join : (P : ℕ → Type 0) (xs ys : List ℕ) → AllByRecursion P xs → AllByRecursion P ys → AllByRecursion P (xs ++ ys)
-all-join P [] ys a b = b
-all-join P (x ∷ xs) ys a b = (a.0, all-join P xs ys a.1 b)
-
 whole-places : (start : ℕ → ℕ) (log : List Entry) (low high : MapKey) (floor : ℕ) (spans : List Span) (end : ℕ) → AreWhole start log 1 low high floor spans end → AllByRecursion (λ n. floor ≤ n) (map (λ (s : Span). s.place) spans)
 whole-places start log low high floor spans end w =
     let f = front-places start log low high floor floor w.front w.next w.before_place (omega arith) w.before in
     let last : floor ≤ w.last.place = (let a = f.1 in let b = w.read.placed in omega arith) in
     subst (λ xs. AllByRecursion (λ n. floor ≤ n) (map (λ (s : Span). s.place) xs)) (sym w.are)
-    (subst (AllByRecursion (λ n. floor ≤ n)) (sym (map-append (λ (s : Span). s.place) w.front (w.last ∷ []))) (all-join (λ n. floor ≤ n) (map (λ (s : Span). s.place) w.front) (w.last.place ∷ []) f.0 (last, tt)))
+    (subst (AllByRecursion (λ n. floor ≤ n)) (sym (map-append (λ (s : Span). s.place) w.front (w.last ∷ []))) (bounds-append (λ n. floor ≤ n) (map (λ (s : Span). s.place) w.front) (w.last.place ∷ []) f.0 (last, tt)))
 
 first-least : (least floor : ℕ) (spans : List Span) (place : ℕ) → least ≤ floor → least ≤ place → AllByRecursion (λ n. floor ≤ n) (map (λ (s : Span). s.place) spans) → least ≤ first_span_place spans place
 first-least least floor [] place le at all = at
@@ -345,7 +338,7 @@ call_more_as sizes call asked answer given old new p q r call_is answer_is pass_
     (call_more sizes asked given old new p r plain whole (records ∙ ap (λ (a : Record). old.records ++ a ∷ []) answer_is) chunks h grants))
 
 -- what the calls of a session may take
-most-grants : (calls : List Call) → sum_by most_grants calls ≤ 16384 * length calls + most_scan_grants * scan_count calls
+most-grants : (calls : List Call) → sum_by most_grants calls ≤ 128 * length calls + most_scan_grants * scan_count calls
 most-grants [] = omega arith
 most-grants (call ∷ calls) =
     let rest = most-grants calls in
@@ -354,29 +347,22 @@ most-grants (call ∷ calls) =
     one call all scans rest
   where
     one : (k : Call) → sum_by most_grants (call ∷ calls) ≡ most_grants call + sum_by most_grants calls → scan_count (call ∷ calls) ≡ cond {A = ℕ} (asks_scan call) 1 0 + scan_count calls
-        → sum_by most_grants calls ≤ 16384 * length calls + most_scan_grants * scan_count calls → sum_by most_grants (call ∷ calls) ≤ 16384 * length (call ∷ calls) + most_scan_grants * scan_count (call ∷ calls)
+        → sum_by most_grants calls ≤ 128 * length calls + most_scan_grants * scan_count calls → sum_by most_grants (call ∷ calls) ≤ 128 * length (call ∷ calls) + most_scan_grants * scan_count (call ∷ calls)
     one k all scans rest = let w = one-call call in omega arith
       where
-        one-call : (k : Call) → most_grants k ≤ 16384 + most_scan_grants * cond {A = ℕ} (asks_scan k) 1 0
+        one-call : (k : Call) → most_grants k ≤ 128 + most_scan_grants * cond {A = ℕ} (asks_scan k) 1 0
         one-call (Insert key value) = omega arith
         one-call (Delete key) = omega arith
         one-call (Get key) = omega arith
         one-call (Scan low high) = omega arith
 
--- .. so each of them may take its grants
-pub grants_fit : (calls : List Call) (i : ℕ) (d : Call) (taken : ℕ) → AreFew calls → i < length calls → taken ≤ sum_by most_grants (take i calls) → taken + most_grants (slice_index_or calls i d) ≤ 2 ^ 52
-grants_fit calls i d taken few lt le =
-    let next = ap (sum_by most_grants) (take_more calls i d lt) ∙ sum_by-append most_grants (take i calls) (slice_index_or calls i d ∷ []) in
-    let one = sum_by-cons most_grants (slice_index_or calls i d) [] in
-    let all = ap (sum_by most_grants) (sym (take-append-drop (i + 1) calls)) ∙ sum_by-append most_grants (take (i + 1) calls) (drop (i + 1) calls) in
+-- .. so after some of them there is room for any call's
+pub grants_fit : (calls : List Call) (i taken : ℕ) → AreFew calls → taken ≤ sum_by most_grants (take i calls) → taken + most_scan_grants ≤ 2 ^ 52
+grants_fit calls i taken few le =
+    let all = ap (sum_by most_grants) (sym (take-append-drop i calls)) ∙ sum_by-append most_grants (take i calls) (drop i calls) in
     let most = most-grants calls in
     let a = few.commands in
     let b = few.scans in omega arith
-
-pub grants_more : (calls : List Call) (i : ℕ) (d : Call) (taken more : ℕ) → i < length calls → taken ≤ sum_by most_grants (take i calls) → more ≤ taken + most_grants (slice_index_or calls i d) → more ≤ sum_by most_grants (take (i + 1) calls)
-grants_more calls i d taken more lt le up =
-    let next = ap (sum_by most_grants) (take_more calls i d lt) ∙ sum_by-append most_grants (take i calls) (slice_index_or calls i d ∷ []) in
-    let one = sum_by-cons most_grants (slice_index_or calls i d) [] in omega arith
 
 -- a session that has seen nothing knows that
 pub known_none : (sizes : Sizes) (p : PassState) → p.view.memory.seen ≡ [] → p.view.memory.own ≡ [] → IsKnown sizes (IsKeptLog sizes.pages) p
@@ -398,63 +384,36 @@ bounds-up : (a b : ℕ) (ns : List ℕ) → AllByRecursion (λ n. (a ≤ n) × (
 bounds-up a b [] all = tt
 bounds-up a b (n ∷ ns) all = (all.0.1, bounds-up a b ns all.1)
 
-least-wider : (a b : ℕ) (ns : List ℕ) → a ≤ b → AllByRecursion (λ n. b ≤ n) ns → AllByRecursion (λ n. a ≤ n) ns
-least-wider a b [] le all = tt
-least-wider a b (n ∷ ns) le all = ((let x = all.0 in omega arith), least-wider a b ns le all.1)
-
-behind-join : (added : List ℕ) (rs : List FullRecord) (r : FullRecord) → AllByRecursion (IsBehind added) rs → IsBehind added r → AllByRecursion (IsBehind added) (rs ++ r ∷ [])
-behind-join added [] r all one = (one, tt)
-behind-join added (x ∷ rs) r all one = (all.0, behind-join added rs r all.1 one)
-
--- records that found no end are scans with low above high
-behind-first : (n : ℕ) (ns : List ℕ) (rs : List FullRecord) → AllByRecursion (IsBehind []) rs → AllByRecursion (IsBehind (n ∷ ns)) rs
-behind-first n ns [] all = tt
-behind-first n ns (r ∷ rs) all = (inl all.0, behind-first n ns rs all.1)
-
-behind-more : (n : ℕ) (ns ms : List ℕ) (rs : List FullRecord) → AllByRecursion (IsBehind (n ∷ ns)) rs → AllByRecursion (IsBehind (n ∷ ms)) rs
-behind-more n ns ms [] all = tt
-behind-more n ns ms (r ∷ rs) all = (all.0, behind-more n ns ms rs all.1)
-
-empty-behind : (added : List ℕ) (r : FullRecord) → IsEmptyScan r.call → IsBehind added r
-empty-behind [] r empty = empty
-empty-behind (n ∷ ns) r empty = inl empty
+each-push : (found : List (List ℕ)) (ends : List ℕ) (rs : List FullRecord) (r : FullRecord) → EachIsBehind found rs → IsBehind ends r → EachIsBehind (found ++ ends ∷ []) (rs ++ r ∷ [])
+each-push [] ends [] r are one = (one, tt)
+each-push [] ends (x ∷ rs) r are one = absurd are
+each-push (ns ∷ found) ends [] r are one = absurd are
+each-push (ns ∷ found) ends (x ∷ rs) r are one = (are.0, each-push found ends rs r are.1 one)
 
 module _ (sizes : Sizes) (call : Call) (r : FullRecord) (p q u : PassState) (a : IsAnswered sizes call r q u) where
   longer : length q.view.memory.seen ≤ length u.view.memory.seen
   longer = let e = ap length a.seen in let l = length-append q.view.memory.seen a.more in omega arith
 
-  found-more : (rs : List FullRecord) (added : List ℕ) → q.view.memory.ends ≡ p.view.memory.ends ++ added → up_to (length q.view.memory.seen) added → AllByRecursion (IsBehind added) rs → HasFound (places_in r) q u → AreBehind (rs ++ r ∷ []) p u
-  found-more rs [] ends within behind f = record {
-    added = f.first ∷ f.rest;
-    ends = f.ends ∙ ap (λ ns. ns ++ f.first ∷ f.rest) (ends ∙ append-nil p.view.memory.ends);
-    within = bounds-up (length q.view.memory.seen) (length u.view.memory.seen) (f.first ∷ f.rest) f.bounds;
-    behind = behind-join (f.first ∷ f.rest) rs r (behind-first f.first f.rest rs behind) (inr f.at);
-  }
-  found-more rs (n ∷ ns) ends within behind f =
-      let up : up_to (length u.view.memory.seen) (f.first ∷ f.rest) = bounds-up (length q.view.memory.seen) (length u.view.memory.seen) (f.first ∷ f.rest) f.bounds in
-      let down : up_to (length u.view.memory.seen) (n ∷ ns) = up_to-wider (length q.view.memory.seen) (length u.view.memory.seen) (n ∷ ns) longer within in
+  found-more : (rs : List FullRecord) (ns : List ℕ) → AreBehind rs p q → u.view.memory.ends ≡ q.view.memory.ends ++ ns → up_to (length u.view.memory.seen) ns → IsBehind ns r → AreBehind (rs ++ r ∷ []) p u
+  found-more rs ns b more up one =
+      let all : concat (b.found ++ ns ∷ []) ≡ concat b.found ++ ns = concat-append b.found (ns ∷ []) ∙ ap (λ ms. concat b.found ++ ms) (append-nil ns) in
       record {
-        added = n ∷ (ns ++ f.first ∷ f.rest);
-        ends = f.ends ∙ (ap (λ ms. ms ++ f.first ∷ f.rest) ends ∙ append_assoc p.view.memory.ends (n ∷ ns) (f.first ∷ f.rest));
-        within = all-join (λ k. k ≤ length u.view.memory.seen) (n ∷ ns) (f.first ∷ f.rest) down up;
-        behind = behind-join (n ∷ (ns ++ f.first ∷ f.rest)) rs r (behind-more n ns (ns ++ f.first ∷ f.rest) rs behind)
-            (inr (least-wider n f.first (places_in r) (let x = within.0 in let y = f.bounds.0.0 in omega arith) f.at));
+        found = b.found ++ ns ∷ [];
+        ends = more ∙ (ap (λ ms. ms ++ ns) b.ends ∙ (append_assoc p.view.memory.ends (concat b.found) ns ∙ ap (λ ms. p.view.memory.ends ++ ms) (sym all)));
+        within = subst (up_to (length u.view.memory.seen)) (sym all)
+            (bounds-append (λ n. n ≤ length u.view.memory.seen) (concat b.found) ns (up_to-wider (length q.view.memory.seen) (length u.view.memory.seen) (concat b.found) longer b.within) up);
+        behind = each-push b.found ns rs r b.behind one;
       }
 
   behind-push : (rs : List FullRecord) → AreBehind rs p q → AreBehind (rs ++ r ∷ []) p u
   behind-push rs b = elim a.looks [
-    | inl none ↦ record {
-      added = b.added;
-      ends = none.0 ∙ b.ends;
-      within = up_to-wider (length q.view.memory.seen) (length u.view.memory.seen) b.added longer b.within;
-      behind = behind-join b.added rs r b.behind (empty-behind b.added r none.1);
-    }
-    | inr f ↦ found-more rs b.added b.ends b.within b.behind f
+    | inl none ↦ found-more rs [] b (none.0 ∙ sym (append-nil q.view.memory.ends)) tt none.1
+    | inr f ↦ found-more rs (f.first ∷ f.rest) b f.ends (bounds-up (length q.view.memory.seen) (length u.view.memory.seen) (f.first ∷ f.rest) f.bounds) (inr f.at)
   ]
 
   -- one record more
-  pub answered_more : (calls : List Call) (rs : List FullRecord) → HasAnswered sizes calls rs p q → HasAnswered sizes (calls ++ call ∷ []) (rs ++ r ∷ []) p u
-  answered_more calls rs h =
+  pub answered_more : (calls : List Call) (rs : List FullRecord) → total u.view.grants ≤ total q.view.grants + most_grants call → HasAnswered sizes calls rs p q → HasAnswered sizes (calls ++ call ∷ []) (rs ++ r ∷ []) p u
+  answered_more calls rs few h =
       let fits = subst (λ n. FitsLog (index_space sizes) u.view.memory.seen u.number n r) (sym h.reach) a.fits in
       let old = subst (λ log. AreAnswers (FitsLog (index_space sizes) log u.number) 0 rs) (sym a.seen)
       (answers_longer (index_space sizes) q.view.memory.seen a.more u.number 0 rs (subst (λ n. AreAnswers (FitsLog (index_space sizes) q.view.memory.seen n) 0 rs) (sym a.number) h.answers)) in
@@ -465,6 +424,7 @@ module _ (sizes : Sizes) (call : Call) (r : FullRecord) (p q u : PassState) (a :
         reach = reach_of-push 0 rs r ∙ sym a.reach;
         made = a.made ∙ (ap (λ cs. cs ++ filter_map change_made (r ∷ [])) h.made ∙ sym (filter_map-append change_made rs (r ∷ [])));
         behind = behind-push rs h.behind;
+        grants = (let all = sum_by-append most_grants calls (call ∷ []) in let last = sum_by-cons most_grants call [] in let before = h.grants in omega arith);
       }
 
 -- nothing was answered yet
@@ -475,5 +435,6 @@ answered_none sizes p known seen own = record {
   answers = tt;
   reach = sym (ap length seen);
   made = ap changes_in own;
-  behind = record { added = []; ends = sym (append-nil p.view.memory.ends); within = tt; behind = tt };
+  behind = record { found = []; ends = sym (append-nil p.view.memory.ends); within = tt; behind = tt };
+  grants = omega arith;
 }

@@ -1,12 +1,13 @@
 -- A chunk has no more pairs than a page has records, and where it ends below the scan's last key, the tree has the key at its end.
-use Rattle.std.proofs.Common.{◌≡◌, ◌≢◌, inl, inr, ℕ, ◌<◌, ◌≤◌, List, [], ◌∷◌, ◌++◌, Bool, true, false, None, length, cond, append_assoc, refl, sym, ap, subst, ◌∙◌, arith, append-nil}
+use Rattle.std.proofs.Common.{◌≡◌, ◌≢◌, inl, inr, ℕ, ◌<◌, ◌≤◌, List, [], ◌∷◌, ◌++◌, None, length, append_assoc, refl, sym, ap, subst, ◌∙◌, arith, append-nil}
 use Rattle.std.specs.List.{AllByRecursion}
 use Rattle.std.proofs.lemmas.Bool.{cases_eq, eq-eqb, ne_eqb}
 use Rattle.ib_map.specs.Keys.{MapKey, rank, end_rank}
 use Rattle.ib_map.specs.Pairs.{Pairs, cut, value_at}
-use Rattle.ib_map.proofs.CutLaws.{is_within, cut-append, cut-above}
+use Rattle.ib_map.proofs.CutLaws.{cut-append, cut-above}
 use Rattle.ib_heap.specs.declared.TheConstants.{MOST_RECORDS}
 use Rattle.ib_page.specs.Page.{PageValue}
+use Rattle.ib_heap.proofs.CopyLaws.{length-cut}
 use Rattle.ib_heap.proofs.FormLaws.{kinds_of, Kinds}
 use Rattle.ib_heap.proofs.FormLaws.Kinds.{tree, free, neither}
 use Rattle.ib_walk.specs.Pages.{PageMemory}
@@ -14,11 +15,12 @@ use Rattle.ib_walk.specs.Walk.{Visit, records_in, IsLeafAt, IsTiled}
 use Rattle.ib_walk.specs.Trees.{height_of, content_of, IsTreeOf}
 use Rattle.ib_walk.specs.Words.{state_of, image_of, pages_of}
 use Rattle.ib_page.specs.Form.{page_of}
-use Rattle.ib_walk.specs.Chunk.{IsLastKey, AreBelow, EndsAt, IsChunk}
+use Rattle.ib_walk.specs.Chunk.{IsLastKey, EndsAt, IsChunk}
 use Rattle.ib_walk.proofs.SearchLaws.{IsTiled-right, Rises-records_in}
 use Rattle.ib_walk.proofs.TreeLaws.{IsTiled-leaves}
 use Rattle.ib_walk.proofs.WalkLaws.{AllByRecursion-right, records_in-append}
-use Rattle.ib_scan.proofs.KeyLaws.{cut_below, last_between}
+use Rattle.ib_scan.proofs.ChunkLaws.{cut-passed}
+use Rattle.ib_scan.proofs.KeyLaws.{last_between}
 
 -- no page has more records
 pub pages_short : (words : ℕ → ℕ) (page : ℕ) → length (pages_of words page).records ≤ MOST_RECORDS
@@ -29,20 +31,6 @@ pages_short words page = short (kinds_of (image_of words page))
     short (tree h) = subst (λ (v : PageValue). length (state_of v).records ≤ MOST_RECORDS) (sym h.holds) h.fits.few
     short (free h) = subst (λ (v : PageValue). length (state_of v).records ≤ MOST_RECORDS) (sym h.holds) (omega arith)
     short (neither h) = subst (λ (v : PageValue). length (state_of v).records ≤ MOST_RECORDS) (sym h) (omega arith)
-
-cut-one : (b : Bool) (x : MapKey × ℕ) (ys zs : Pairs) → length ys ≤ length zs → length (cond b (x ∷ ys) ys) ≤ length (x ∷ zs)
-cut-one true x ys zs le = omega arith
-cut-one false x ys zs le = omega arith
-
-cut-short : (xs : Pairs) (low high : MapKey) → length (cut xs low high) ≤ length xs
-cut-short [] low high = omega arith
-cut-short (x ∷ xs) low high = cut-one (is_within low high x) x (cut xs low high) xs (cut-short xs low high)
-
-cut-passed : (m : PageMemory) (vs : List Visit) (start end : MapKey) → AllByRecursion (λ v. AreBelow start (m v.page).records) vs → cut (records_in m vs) start end ≡ []
-cut-passed m [] start end below = refl
-cut-passed m (v ∷ vs) start end below =
-    cut-append (m v.page).records (records_in m vs) start end
-    ∙ (ap (λ xs. xs ++ cut (records_in m vs) start end) (cut_below (m v.page).records start end below.0) ∙ cut-passed m vs start end below.1)
 
 -- a key that stands among pairs is found there
 value_at-among : (key : MapKey) (xs : Pairs) (value : ℕ) (ys : Pairs) → value_at key (xs ++ (key, value) ∷ ys) ≢ None
@@ -100,5 +88,5 @@ module _ (m : PageMemory) (root : ℕ) (start high end : MapKey) (pairs : Pairs)
         ∙ (ap (λ xs. xs ++ cut ((m c.leaf.page).records ++ records_in m c.back) start end) (cut-passed m c.front start end c.at.passed)
         ∙ (cut-append (m c.leaf.page).records (records_in m c.back) start end
         ∙ (ap (λ xs. cut (m c.leaf.page).records start end ++ xs) none ∙ append-nil (cut (m c.leaf.page).records start end)))))) in
-        let few = cut-short (m c.leaf.page).records start end in
+        let few = length-cut (m c.leaf.page).records start end in
         let e : length pairs ≡ length (cut (m c.leaf.page).records start end) = ap length is in omega arith

@@ -1,6 +1,6 @@
 -- Runs in which no reply tells of a full log: how they are told apart, and that they could have come of a longer log.
 use Rattle.std.specs.List.{AllByRecursion, list_any}
-use Rattle.std.proofs.Common.{◌≡◌, ◌∙◌, ◌↔◌, ℕ, zero, suc, ◌≤◌, Bool, true, false, ◌||◌, List, [], ◌∷◌, map, drop, get_or, refl, subst, arith}
+use Rattle.std.proofs.Common.{◌≡◌, ◌∙◌, ◌↔◌, ℕ, zero, suc, ◌≤◌, false, List, [], ◌∷◌, map, drop, get_or, refl, subst, arith}
 use Rattle.ib_map.specs.FullRecords.{chunk_count, full_records}
 use Rattle.ib_map.specs.Keys.{MapKey}
 use Rattle.ib_map.specs.Replies.{FullRecord, Span}
@@ -23,6 +23,7 @@ use Rattle.ib_runs.specs.Answers.{KeptAnswers, answers_of}
 use Rattle.ib_runs.specs.Outcomes.{HasRan, IsOutcome}
 use Rattle.ib_runs.specs.Sessions.{index_space}
 use Rattle.ib_runs.specs.declared.ran.Ran.{Ran}
+use Rattle.ib_rule.proofs.Lists.{or_denies}
 
 -- the test of one reply
 not-full : (reply : Reply) → tells_full reply ≡ false → IsNotFull reply
@@ -33,15 +34,11 @@ tells-none : (reply : Reply) → IsNotFull reply → tells_full reply ≡ false
 tells-none (LogFull words cap) room = absurd room
 tells-none reply room = refl
 
-neither : (a b : Bool) → (a || b) ≡ false → (a ≡ false) × (b ≡ false)
-neither true b never = absurd (cc)
-neither false b never = (refl, never)
-
 -- .. of a session's records, whose chunks do not count
 records-not : (rs : List Record) (spans : List Span) → list_any (λ r. tells_full r.reply) rs ≡ false → AllByRecursion (λ r. IsNotFull r.reply) (full_records rs spans)
 records-not [] spans never = tt
 records-not (r ∷ rs) spans never =
-    let both = neither (tells_full r.reply) (list_any (λ (q : Record). tells_full q.reply) rs) never in
+    let both = or_denies (tells_full r.reply) (list_any (λ (q : Record). tells_full q.reply) rs) never in
     (not-full r.reply both.0, records-not rs (drop (chunk_count r.reply) spans) both.1)
 
 records-tell : (rs : List Record) (spans : List Span) → AllByRecursion (λ r. IsNotFull r.reply) (full_records rs spans) → list_any (λ r. tells_full r.reply) rs ≡ false
@@ -52,7 +49,7 @@ records-tell (r ∷ rs) spans room = rw (tells-none r.reply room.0) (records-tel
 sessions-not : (outs : List KeptAnswers) → list_any (λ out. list_any (λ r. tells_full r.reply) out.records) outs ≡ false → AreNeverFull (map answers_of outs)
 sessions-not [] never = tt
 sessions-not (out ∷ outs) never =
-    let both = neither (list_any (λ (r : Record). tells_full r.reply) out.records) (list_any (λ (o : KeptAnswers). list_any (λ r. tells_full r.reply) o.records) outs) never in
+    let both = or_denies (list_any (λ (r : Record). tells_full r.reply) out.records) (list_any (λ (o : KeptAnswers). list_any (λ r. tells_full r.reply) o.records) outs) never in
     (records-not out.records _ both.0, sessions-not outs both.1)
 
 sessions-tell : (outs : List KeptAnswers) → AreNeverFull (map answers_of outs) → list_any (λ out. list_any (λ r. tells_full r.reply) out.records) outs ≡ false

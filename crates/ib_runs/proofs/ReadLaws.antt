@@ -26,7 +26,8 @@ use Rattle.ib_cursor.specs.Going.{IsKnown, WentOn}
 use Rattle.ib_cursor.proofs.StandLaws.{went_both, added_both}
 use Rattle.ib_scan.specs.Scanning.{HasGone, HasScanned, HasStopped}
 use Rattle.ib_scan.proofs.FrontLaws.{front_longer, front_lower, whole_lower}
-use Rattle.ib_runs.specs.Steps.{KeptLaws, HasRead, HasReadTo, HasReadAll, IsSoFar, most_scan_grants}
+use Rattle.ib_runs.specs.Sessions.{most_scan_grants}
+use Rattle.ib_runs.specs.Steps.{KeptLaws, HasReadChunks, HasReadTo, HasReadAll, IsSoFar}
 use Rattle.ib_runs.proofs.ChunkLaws.{pages_short, chunk_short}
 use Rattle.ib_runs.proofs.EndLaws.{front_few}
 
@@ -111,7 +112,7 @@ module _ (sizes : Sizes) (laws : KeptLaws sizes) where
 
     -- a call takes few grants
     call-grants : (now new : HeldChunks) (q r : PassState) → now.chunk_room ≡ 64 → HasGone sizes (IsKeptLog sizes.pages) now new q r → total r.view.grants ≤ total q.view.grants + 532480
-    call-grants now new q r room h = let a = h.s in let b = h.sx in let c = h.x in omega arith
+    call-grants now new q r room h = let a = h.s in let b = h.sx in let c = h.x in let d = h.appends.chunk_room in omega arith
 
     module _ (old : HeldChunks) (p : PassState) where
       -- the first call of a scan
@@ -156,7 +157,7 @@ module _ (sizes : Sizes) (laws : KeptLaws sizes) where
         abbrev both : WentOn p r
         both = went_both p q r a.read.went g.went
 
-        joined : HasRead sizes old new p r
+        joined : HasReadChunks sizes old new p r
         joined = record {
           spans = a.read.spans ++ g.spans;
           more = g.appends.spans_are ∙ (ap (λ xs. xs ++ g.spans) (same ∙ a.read.more) ∙ append_assoc (spans_of old.list old.pairs) a.read.spans g.spans);

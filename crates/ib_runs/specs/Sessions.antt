@@ -1,11 +1,11 @@
 -- What a session's run leaves.
-use Rattle.std.specs.Prelude.{◌≡◌, ◌⊎◌, ℕ, ◌<◌, ◌≤◌, true, List, [], ◌∷◌, ◌++◌, length, map}
-use Rattle.std.specs.List.{AllByRecursion, filter_map}
+use Rattle.std.specs.Prelude.{◌≡◌, ◌⊎◌, ℕ, ◌+◌, ◌<◌, ◌≤◌, true, List, [], ◌∷◌, ◌++◌, length, map, sum_by}
+use Rattle.std.specs.List.{AllByRecursion, concat, filter_map}
 use Rattle.ib_map.specs.Keys.{rank}
 use Rattle.ib_map.specs.Replies.{FullRecord}
 use Rattle.ib_map.specs.Runs.{reach_of, AreAnswers, change_made}
 use Rattle.ib_map.specs.declared.call.Call.{Call}
-use Rattle.ib_map.specs.declared.call.Call.TheVariants.{Scan}
+use Rattle.ib_map.specs.declared.call.Call.TheVariants.{Get, Scan}
 use Rattle.ib_map.specs.declared.call.Change.{Change}
 use Rattle.ib_layout.specs.Geometry.{Sizes}
 use Rattle.ib_logrec.specs.declared.entry.Entry.{Entry}
@@ -16,6 +16,7 @@ use Rattle.ib_kept.specs.Kept.{IsKeptLog}
 use Rattle.ib_core.specs.Sessions.{idle}
 use Rattle.ib_rule.specs.Pass.{PassState, IsOf}
 use Rattle.ib_rule.specs.Space.{SpaceState}
+use Rattle.ib_rule.specs.Views.{total}
 use Rattle.ib_cursor.specs.Going.{IsKnown}
 use Rattle.ib_cursor.specs.Spaces.{space_of}
 use Rattle.ib_script.specs.Script.{scan_count}
@@ -41,6 +42,16 @@ pub record AreFew (calls : List Call) : Type 0 where
   pub commands : length calls ≤ MOST_COMMANDS
   pub scans : scan_count calls ≤ MOST_SCANS
 
+-- a scan takes fewer grants than these: 8,320 for each chunk, of which there are no more than a log can have entries, and those of one call more
+abbrev pub most_scan_grants : ℕ
+most_scan_grants = 35000000000
+
+-- the most grants that a call may take
+abbrev pub most_grants : Call → ℕ
+most_grants (Get key) = 9
+most_grants (Scan low high) = most_scan_grants
+most_grants _ = 128
+
 -- a scan with its low key above its high one
 abbrev pub IsEmptyScan : Call → Type 0
 IsEmptyScan (Scan low high) = rank high < rank low
@@ -55,15 +66,23 @@ abbrev pub IsBehind : List ℕ → FullRecord → Type 0
 IsBehind [] r = IsEmptyScan r.call
 IsBehind (first ∷ rest) r = IsEmptyScan r.call ⊎ AllByRecursion (λ n. first ≤ n) (places_in r)
 
--- the ends of the log that were found from one state to another: none lies beyond what is seen, and no record's place is before the first
+-- each record stands with the ends of the log that its own call found
+abbrev pub EachIsBehind : List (List ℕ) → List FullRecord → Type 0
+EachIsBehind [] [] = Unit {0}
+EachIsBehind (ends ∷ found) (r ∷ rs) = IsBehind ends r × EachIsBehind found rs
+EachIsBehind _ _ = ⊥
+
+-- the ends of the log that were found from one state to another, in order, are those of each record's own call: none lies beyond what is
+-- seen, and no place of a record is before the first that its call found
 pub record AreBehind (rs : List FullRecord) (p q : PassState) : Type 0 where
-  pub added : List ℕ
-  pub ends : q.view.memory.ends ≡ p.view.memory.ends ++ added
-  pub within : AllByRecursion (λ n. n ≤ length q.view.memory.seen) added
-  pub behind : AllByRecursion (IsBehind added) rs
+  pub found : List (List ℕ)
+  pub ends : q.view.memory.ends ≡ p.view.memory.ends ++ concat found
+  pub within : AllByRecursion (λ n. n ≤ length q.view.memory.seen) (concat found)
+  pub behind : EachIsBehind found rs
 
 -- A session that had seen nothing was answered: the records are of these calls, in order; each fits what is seen now, which is a kept
--- log within its words, and ends where the records do; and what the session made is what they say was made, in order.
+-- log within its words, and ends where the records do; what the session made is what they say was made, in order; no record is older than
+-- what its own call found; and no more grants were taken than the calls may take.
 pub record HasAnswered (sizes : Sizes) (calls : List Call) (rs : List FullRecord) (p q : PassState) : Type 0 where
   pub known : IsKnown sizes (IsKeptLog sizes.pages) q
   pub same_calls : calls_in rs ≡ calls
@@ -71,3 +90,4 @@ pub record HasAnswered (sizes : Sizes) (calls : List Call) (rs : List FullRecord
   pub reach : reach_of 0 rs ≡ length q.view.memory.seen
   pub made : changes_in q.view.memory.own ≡ filter_map change_made rs
   pub behind : AreBehind rs p q
+  pub grants : total q.view.grants ≤ total p.view.grants + sum_by most_grants calls

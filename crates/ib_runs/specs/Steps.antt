@@ -6,7 +6,6 @@ use Rattle.ib_map.specs.Chunks.{HeldChunks, spans_of}
 use Rattle.ib_map.specs.Replies.{Span, FullRecord}
 use Rattle.ib_map.specs.Runs.{reach_after, first_place, change_made}
 use Rattle.ib_map.specs.declared.call.Call.{Call}
-use Rattle.ib_map.specs.declared.call.Call.TheVariants.{Scan}
 use Rattle.ib_layout.specs.Geometry.{Sizes}
 use Rattle.ib_layout.specs.declared.geometry.TheConstants.{MOST_LOG_WORDS}
 use Rattle.ib_logrec.specs.declared.entry.Entry.{Entry}
@@ -22,16 +21,7 @@ use Rattle.ib_rule.specs.Pass.{PassState}
 use Rattle.ib_rule.specs.Views.{total}
 use Rattle.ib_cursor.specs.Going.{IsKnown, WentOn}
 use Rattle.ib_runs.specs.Answers.{KeptAnswers, IsWhole, answers_of}
-use Rattle.ib_runs.specs.Sessions.{index_space, changes_in, places_in, IsEmptyScan}
-
--- a scan takes fewer grants than these: 8,320 for each chunk, of which there are no more than a log can have entries, and those of one call more
-abbrev pub most_scan_grants : ℕ
-most_scan_grants = 35000000000
-
--- the most grants that a call may take
-abbrev pub most_grants : Call → ℕ
-most_grants (Scan low high) = most_scan_grants
-most_grants _ = 16384
+use Rattle.ib_runs.specs.Sessions.{index_space, changes_in, places_in, IsEmptyScan, most_grants, most_scan_grants}
 
 -- what kept logs say of the tree, in a space of these sizes
 pub record KeptLaws (sizes : Sizes) : Type 0 where
@@ -44,7 +34,7 @@ abbrev pub HasMore : HeldChunks → HeldChunks → List Span → Type 0
 HasMore old new spans = spans_of new.list new.pairs ≡ spans_of old.list old.pairs ++ spans
 
 -- how a scan went so far, by one call or several
-pub record HasRead (sizes : Sizes) (old new : HeldChunks) (p q : PassState) : Type 0 where
+pub record HasReadChunks (sizes : Sizes) (old new : HeldChunks) (p q : PassState) : Type 0 where
   pub spans : List Span
   pub more : HasMore old new spans
   pub went : WentOn p q
@@ -55,7 +45,7 @@ pub record HasRead (sizes : Sizes) (old new : HeldChunks) (p q : PassState) : Ty
 
 -- .. up to what is before `next`: it took 8,320 grants at most for each chunk
 pub record HasReadTo (sizes : Sizes) (low high next : MapKey) (old new : HeldChunks) (p q : PassState) : Type 0 where
-  pub read : HasRead sizes old new p q
+  pub read : HasReadChunks sizes old new p q
   pub last : ℕ
   pub chunks : AreFront (by_place opening sizes.pages) q.view.memory.seen 1 low high read.first read.spans next last
   pub within : last ≤ length q.view.memory.seen
@@ -72,7 +62,7 @@ IsSoFar sizes low high next old new p q = IsAtStart low next old new p q ⊎ Has
 
 -- .. or all was
 pub record HasReadAll (sizes : Sizes) (low high : MapKey) (old new : HeldChunks) (p q : PassState) : Type 0 where
-  pub read : HasRead sizes old new p q
+  pub read : HasReadChunks sizes old new p q
   pub ascends : rank low ≤ rank high
   pub chunks : AreWhole (by_place opening sizes.pages) q.view.memory.seen 1 low high read.first read.spans (length q.view.memory.seen)
   pub grants : total q.view.grants ≤ total p.view.grants + most_scan_grants
@@ -87,7 +77,7 @@ abbrev pub HasReadKeys : Sizes → MapKey → MapKey → HeldChunks → HeldChun
 HasReadKeys sizes low high old new p q = HasReadNone low high old new p q ⊎ HasReadAll sizes low high old new p q
 
 -- ends of the log were found, each from what was seen before on and up to what is seen now, and the first is not behind these places
-pub record HasFound (places : List ℕ) (p q : PassState) : Type 0 where
+pub record HasFoundEnds (places : List ℕ) (p q : PassState) : Type 0 where
   pub first : ℕ
   pub rest : List ℕ
   pub ends : q.view.memory.ends ≡ p.view.memory.ends ++ first ∷ rest
@@ -107,7 +97,7 @@ pub record IsAnswered (sizes : Sizes) (call : Call) (r : FullRecord) (p q : Pass
   pub first : length p.view.memory.seen ≤ first_place r
   pub reach : length q.view.memory.seen ≡ reach_after r
   pub made : changes_in q.view.memory.own ≡ changes_in p.view.memory.own ++ filter_map change_made (r ∷ [])
-  pub looks : ((q.view.memory.ends ≡ p.view.memory.ends) × IsEmptyScan r.call) ⊎ HasFound (places_in r) p q
+  pub looks : ((q.view.memory.ends ≡ p.view.memory.ends) × IsEmptyScan r.call) ⊎ HasFoundEnds (places_in r) p q
 
 -- .. and the record stands behind the others, with its chunks
 pub record HasOneMore (sizes : Sizes) (call : Call) (old new : KeptAnswers) (p q : PassState) : Type 0 where

@@ -11,7 +11,7 @@ use Rattle.ib_runs.specs.Answers.{KeptAnswers, IsWhole, answers_of}
 use Rattle.ib_runs.specs.Sessions.{HasAnswered, IsAtRest}
 
 -- a session that has done nothing yet, one of so many
-pub record IsReady (space : SpaceState) (sessions : ℕ) (p : PassState) : Type 0 where
+pub record HasNotBegun (space : SpaceState) (sessions : ℕ) (p : PassState) : Type 0 where
   pub rest : IsAtRest space p
   pub some : 1 ≤ p.number
   pub most : p.number ≤ sessions

@@ -1,6 +1,6 @@
 //! How long a log a script is run on first, and whether that was too short.
 
-ghost use Rattle.std.specs.Prelude.{◌≡◌, ◌≤◌, ◌↔◌, List, false, map, true};
+ghost use Rattle.std.specs.Prelude.{◌≡◌, ◌<◌, ◌≤◌, ◌↔◌, List, false, map, true};
 ghost use Rattle.std.specs.List.{list_any};
 ghost use Rattle.ib_map.specs.declared.call.Call.{Call};
 ghost use Rattle.ib_runs.specs.Alone.{AreNeverFull, tells_full};
@@ -70,11 +70,12 @@ pub(crate) fn met_full_log(sessions: &[SessionOut]) -> bool
 }
 
 // Whether what came of a run in the first sizes may come of one in the script's: they are the same, or no log got
-// full.
+// full. Where the first log was shorter, and got full, it is not settled.
 pub(crate) fn is_settled(ran: &Ran, first: Geometry, sizes: Geometry) -> bool
     requires pages { first.pages ≡ sizes.pages }
     requires log { first.log_words ≤ sizes.log_words }
-    ensures { result ≡ true → (commands : List (List Call)) → HasRan first commands ran.now → HasRan sizes commands ran.now }
+    ensures settled { result ≡ true → (commands : List (List Call)) → HasRan first commands ran.now → HasRan sizes commands ran.now }
+    ensures again { result ≡ false → (first.log_words < sizes.log_words) × (AreNeverFull (map answers_of ran.now.sessions.items) → ⊥) }
 {
     first.log_words() == sizes.log_words() || !met_full_log(&ran.sessions)
 }

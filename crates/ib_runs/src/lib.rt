@@ -8,8 +8,6 @@ mod ran;
 mod script_run;
 mod session;
 mod session_out;
-#[cfg(test)]
-mod tests;
 mod turns;
 
 pub use gate::{Gate, OpenGate};

@@ -71,9 +71,9 @@ fn run_in<G: Gate + Sync, R: Threads + Wait + Sync>(
 /// threads, with the gate before each command. When all have ended the index is closed, and what it holds is read off
 /// its words: the history off its log, and the map off the leaves of its tree.
 ///
-/// The log is first as long as the script's changes mostly need, where the script's own is longer. If a reply tells that
-/// it got full, what came of that run is dropped, and all sessions run again, on a new index with the script's whole log;
-/// so the gate is called anew for each of their commands.
+/// The log is first as long as the script's changes mostly need, where the script's own is longer. Only if a reply tells
+/// that it got full is what came of that run dropped: then all sessions run again, on a new index with the script's whole
+/// log, and the gate is called anew for each of their commands.
 ///
 /// Refused for want of memory alone, anywhere, and then all is given back.
 pub fn run_script<G: Gate + Sync, R: Threads + Wait + Sync>(

@@ -7,8 +7,8 @@ ghost use Rattle.ib_rule.specs.Pass.{IsOf};
 ghost use Rattle.ib_rule.specs.Views.{no_grants, total};
 ghost use Rattle.ib_cursor.specs.Going.{IsKnown};
 ghost use Rattle.ib_runs.specs.Answers.{IsWhole, answers_of, no_answers};
-ghost use Rattle.ib_runs.specs.Sessions.{AreFew, HasAnswered, IsAtRest};
-ghost use Rattle.ib_runs.specs.Steps.{HasOneMore, HasReadKeys, KeptLaws, most_grants, most_scan_grants};
+ghost use Rattle.ib_runs.specs.Sessions.{AreFew, HasAnswered, IsAtRest, most_scan_grants};
+ghost use Rattle.ib_runs.specs.Steps.{HasOneMore, HasReadKeys, KeptLaws};
 
 use crate::gate::Gate;
 use crate::session_out::SessionOut;
@@ -117,7 +117,7 @@ fn answer<R: Wait>(
 ) -> Result<(), OutOfMemory>
     requires rest { IsAtRest index.now pass.old }
     requires known { IsKnown index.now.sizes (IsKeptLog index.now.sizes.pages) pass.old }
-    requires few { total pass.old.view.grants + most_grants call ≤ 2 ^ 52 }
+    requires few { total pass.old.view.grants + most_scan_grants ≤ 2 ^ 52 }
     requires room { out.old.chunks.chunk_room ≤ SCAN_CHUNKS }
     requires whole { IsWhole out.old }
     ensures rest { IsAtRest index.now pass.new }
@@ -135,10 +135,11 @@ fn answer<R: Wait>(
     Ok(())
 }
 
-/// Answers the commands of a session, one after another, with the gate before each and after the last. Each call is one
-/// on the shared index, and a scan takes as many as its chunks need, each with room for `SCAN_CHUNKS` chunks and
-/// `SCAN_PAIRS` pairs: it goes on where the last one had no room (row0sel, `row_search_mvcc`). No call is refused for the
-/// count of grants.
+/// Answers the commands of a session, one after another, with the gate before each and after the last, where the
+/// session holds nothing. Each call is one on the shared index, and a scan takes as many as its chunks need, each with
+/// room for `SCAN_CHUNKS` chunks and `SCAN_PAIRS` pairs: it goes on where the last one had no room (row0sel,
+/// `row_search_mvcc`). No answer is older than what its own call found. All together take no more grants than nine for
+/// each lookup, 128 for each change and what a scan may take for each scan, so no call is refused for their count.
 ///
 /// Refused for want of memory alone. Then too the session holds nothing, but nothing is said of `out`.
 pub fn run_session<G: Gate, R: Wait>(

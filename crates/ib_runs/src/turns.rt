@@ -4,7 +4,7 @@ ghost use Rattle.std.specs.Prelude.{◌≡◌, ◌≤◌, ◌<◌, ◌+◌, ◌�
 ghost use Rattle.ib_script.specs.Script.{IsSmall};
 ghost use Rattle.ib_rule.specs.Views.{ended_as};
 ghost use Rattle.ib_runs.specs.Sessions.{IsAtRest};
-ghost use Rattle.ib_runs.specs.Turns.{AllDone, AreNumbered, HasTurned, IsReady};
+ghost use Rattle.ib_runs.specs.Turns.{AllDone, AreNumbered, HasTurned, HasNotBegun};
 
 use crate::gate::Gate;
 use crate::session::run_session;
@@ -31,7 +31,7 @@ fn take_turn<G: Gate, R: Wait>(
     turn: &mut Turn,
 )
     requires small { IsSmall script.now }
-    requires ready { IsReady index.now (length script.now.commands) turn.old.pass }
+    requires ready { HasNotBegun index.now (length script.now.commands) turn.old.pass }
     ensures { HasTurned index.now script.now.commands turn.old turn.new }
 {
     let commands = script.commands(turn.pass.number());
@@ -53,7 +53,7 @@ fn take_turns<G: Gate + Sync, R: Threads + Wait + Sync>(
     turns: &mut [Turn],
 )
     requires small { IsSmall script.now }
-    requires ready { All (λ t. IsReady index.now (length script.now.commands) t.pass) turns.old }
+    requires ready { All (λ t. HasNotBegun index.now (length script.now.commands) t.pass) turns.old }
     ensures { (i : ℕ) (d : Turn) → i < length turns.old → HasTurned index.now script.now.commands (slice_index_or turns.old i d) (slice_index_or turns.new i d) }
 {
     thread::for_each_mut(
@@ -61,7 +61,7 @@ fn take_turns<G: Gate + Sync, R: Threads + Wait + Sync>(
         turns,
         64,
         &|_: usize, turn: &mut Turn|
-            requires { IsSmall script.now × IsReady index.now (length script.now.commands) turn.old.pass }
+            requires { IsSmall script.now × HasNotBegun index.now (length script.now.commands) turn.old.pass }
             ensures { HasTurned index.entry.now script.entry.now.commands turn.old turn.new }
         { take_turn(rt, alloc, index, script, gate, turn) },
     );
@@ -77,7 +77,7 @@ fn turn_all<G: Gate + Sync, R: Threads + Wait + Sync>(
     turns: &mut Vec<Turn>,
 )
     requires small { IsSmall script.now }
-    requires ready { All (λ t. IsReady index.now (length script.now.commands) t.pass) turns.old.items }
+    requires ready { All (λ t. HasNotBegun index.now (length script.now.commands) t.pass) turns.old.items }
     ensures len { length turns.new.items ≡ length turns.old.items }
     ensures turned { (i : ℕ) (d : Turn) → i < length turns.old.items → HasTurned index.now script.now.commands (slice_index_or turns.old.items i d) (slice_index_or turns.new.items i d) }
 {
@@ -91,7 +91,7 @@ fn come_all(alloc: Global, index: &mut Index, count: u32) -> Vec<Turn>
     ensures space { index.new ≡ record index.old { drawn = length result.items } }
     ensures few { length result.items ≤ count }
     ensures numbered { AreNumbered 1 (map (λ t. t.pass) result.items) }
-    ensures ready { All (λ t. IsReady index.old count t.pass) result.items }
+    ensures ready { All (λ t. HasNotBegun index.old count t.pass) result.items }
 {
     let mut turns = Vec::new(alloc);
     for before in 0..count {

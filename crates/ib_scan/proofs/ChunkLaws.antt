@@ -18,7 +18,7 @@ use Rattle.ib_scan.proofs.KeyLaws.{last_between, cut_below}
 use Rattle.ib_scan.proofs.StandLaws.{AreMetOnce, Stands, IsSameLeaf, link_behind, stands_leaf}
 
 -- leaves whose keys are below the start have nothing of the chunk
-cut-passed : (m : PageMemory) (vs : List Visit) (start end : MapKey) → AllByRecursion (λ v. AreBelow start (m v.page).records) vs → cut (records_in m vs) start end ≡ []
+pub cut-passed : (m : PageMemory) (vs : List Visit) (start end : MapKey) → AllByRecursion (λ v. AreBelow start (m v.page).records) vs → cut (records_in m vs) start end ≡ []
 cut-passed m [] start end below = refl
 cut-passed m (v ∷ vs) start end below =
     cut-append (m v.page).records (records_in m vs) start end

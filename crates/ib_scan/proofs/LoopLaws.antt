@@ -1,14 +1,14 @@
 -- From leaf to leaf, and from chunk to chunk.
 use Rattle.std.specs.List.{AllByRecursion}
 use Rattle.std.specs.Prelude.{is_some}
-use Rattle.std.proofs.Common.{Option, None, Bool, true, false, cond, ◌≡◌, ◌⊎◌, inl, inr, ℕ, ◌+◌, ◌<◌, ◌≤◌, ◌^◌, List, [], ◌∷◌, ◌++◌, Some, length, refl, sym, ap, subst, ◌∙◌, arith, length-append}
+use Rattle.std.proofs.Common.{Option, None, true, ◌≡◌, ◌⊎◌, inl, inr, ℕ, ◌+◌, ◌<◌, ◌≤◌, ◌^◌, List, [], ◌∷◌, ◌++◌, Some, length, refl, sym, ap, subst, ◌∙◌, arith, length-append}
 use Rattle.std.proofs.Math.Seq.{take-length}
 use Rattle.std.proofs.lemmas.List.{length-map}
 use Rattle.ib_map.specs.Keys.{MapKey, IsKey, rank, end_rank, key_after}
-use Rattle.ib_map.specs.Pairs.{Pairs, cut}
+use Rattle.ib_map.specs.Pairs.{cut}
+use Rattle.ib_heap.proofs.CopyLaws.{length-cut}
 use Rattle.ib_map.specs.Chunks.{HeldChunks}
 use Rattle.ib_map.specs.Replies.{Span}
-use Rattle.ib_map.proofs.CutLaws.{is_within}
 use Rattle.ib_map.proofs.KeyLaws.{after-least_above, after-above, after-none}
 use Rattle.ib_levels.specs.declared.level.Mode.TheVariants.{S}
 use Rattle.ib_layout.specs.Geometry.{Sizes}
@@ -27,20 +27,17 @@ use Rattle.ib_tree.specs.Logs.{pages_after}
 use Rattle.ib_tree.specs.Scans.{IsReadAt, AreFront, AreWhole}
 use Rattle.ib_cursor.specs.Grants.{Grant, page_grant, HasGrants}
 use Rattle.ib_cursor.specs.Going.{IsKnown, WentOn}
-use Rattle.ib_cursor.proofs.StandLaws.{went_beside, went_both, known_beside, seen_longer}
+use Rattle.ib_cursor.proofs.StandLaws.{went_beside, went_both, went_none, known_beside, seen_longer}
 use Rattle.ib_cursor.specs.Laws.{Laws}
 use Rattle.ib_scan.specs.declared.walk.Found.{Found}
-use Rattle.ib_scan.specs.Walked.{ReadLeaf, grants_of, IsSkipped, EndsBy, IsWalked}
+use Rattle.ib_scan.specs.Walked.{ReadLeaf, leaf_grants, IsSkipped, EndsBy, IsWalked}
 use Rattle.ib_scan.specs.Scanning.{Appends}
-use Rattle.ib_scan.specs.Steps.{MayPass, HasPassed, IsOnLeaf, IsAlong, HasCome, HasFront, HasSomeFront, IsAside, IsScannedTo, HasRun, HasEnded, HasHalted}
+use Rattle.ib_scan.specs.Steps.{MayPass, HasPassed, IsOnLeaf, IsAlong, HasComeToEnd, HasFront, HasSomeFront, IsAside, IsScannedTo, HasRun, HasRunToEnd, HasRunToStop}
 use Rattle.ib_scan.proofs.FrontLaws.{front_longer, front_push, appends_more}
 use Rattle.ib_scan.proofs.LeaveLaws.{beside_aside}
 use Rattle.ib_scan.proofs.PassLaws.{loaded_there}
 use Rattle.ib_scan.proofs.StandLaws.{held_apart}
 use Rattle.ib_scan.proofs.WalkedLaws.{tree_at_log, tree_is, leaves_met, walked_stands, walked_tree, walked_chunk, walked_on}
-
-pub went_none : (p : PassState) → WentOn p p
-went_none p = went_beside p p (record { table = refl; sizes = refl; number = refl; own = refl; seen = refl; ends = refl })
 
 -- the image of a page of the tree, loaded
 pub record IsLoaded (leaf : ℕ) (image : List ℕ) (p : PassState) : Type 0 where
@@ -106,7 +103,7 @@ module _ (sizes : Sizes) (roots : ℕ) (lawful : List Entry → Type 0) (opening
     -- the leaves in front
     pub front_at : HasFront passed a.last.page a.last.image q
     front_at = record {
-      front = grants_of a.ps;
+      front = leaf_grants a.ps;
       size = length-map a.ps (λ (l : ReadLeaf). page_grant l.page S) ∙ a.count;
       grants = a.scans.grants;
       apart = held_apart (tree_at_log sizes.pages roots lawful opening laws root q.view.memory.seen a.scans.known.legal) root (tree_is sizes.pages roots lawful opening laws root q.view.memory.seen a.scans.known.legal a.scans.walked.met.0 a.scans.walked.met.1) start
@@ -123,7 +120,7 @@ module _ (sizes : Sizes) (roots : ℕ) (lawful : List Entry → Type 0) (opening
     abbrev pub on_leaf : IsOnLeaf sizes lawful opening roots leaf start p
     on_leaf = record { root = root; image = i.image; scans = i.scans; room = let r = i.room in omega arith }
 
-    module _ (found : Found) (q : PassState) (come : HasCome sizes lawful opening roots root start high found p q) where
+    module _ (found : Found) (q : PassState) (come : HasComeToEnd sizes lawful opening roots root start high found p q) where
       abbrev image : List ℕ
       image = come.along.last.image
 
@@ -159,11 +156,12 @@ module _ (sizes : Sizes) (roots : ℕ) (lawful : List Entry → Type 0) (opening
         within : i.up_to.last ≤ length r.view.memory.seen
         within = let a = i.up_to.within in let b = seen_longer p q come.along.went in let c = ap length aside.seen in omega arith
 
-        run : (new : HeldChunks) (spans : List Span) → Appends out0 new spans → AllByRecursion (λ span. length span.pairs ≤ MOST_RECORDS) spans → HasRun sizes lawful out0 new spans p0 r
-        run new spans appends short =
+        run : (new : HeldChunks) (spans : List Span) → Appends out0 new spans → new.chunk_room ≤ out.chunk_room → AllByRecursion (λ span. length span.pairs ≤ MOST_RECORDS) spans → HasRun sizes lawful out0 new spans p0 r
+        run new spans appends less short =
             let gs = ap (λ (g : Grants). g.s) aside.grants in let gsx = ap (λ (g : Grants). g.sx) aside.grants in let gx = ap (λ (g : Grants). g.x) aside.grants in
             let cs = come.along.s in let csx = come.along.sx in let cx = come.along.x in let few = come.along.few in
             let is = i.up_to.s in let isx = i.up_to.sx in let ix = i.up_to.x in
+            let room = appends.chunk_room in
             record {
               appends = appends;
               short = short;
@@ -178,10 +176,10 @@ module _ (sizes : Sizes) (roots : ℕ) (lawful : List Entry → Type 0) (opening
             }
 
         -- the chunk does not fit
-        pub halted : (out.chunk_room ≡ 0) ⊎ (out.pair_room < length span_read.pairs) → length span_read.pairs ≤ MOST_RECORDS → HasHalted sizes lawful opening root low high start out0 out p0 r
+        pub halted : (out.chunk_room ≡ 0) ⊎ (out.pair_room < length span_read.pairs) → length span_read.pairs ≤ MOST_RECORDS → HasRunToStop sizes lawful opening root low high start out0 out p0 r
         halted none most = record {
           spans = i.up_to.spans;
-          run = run out i.up_to.spans i.up_to.appends i.up_to.short;
+          run = run out i.up_to.spans i.up_to.appends (omega arith) i.up_to.short;
           last = i.up_to.last;
           chunks = subst (λ es. AreFront opening es root low high (length p0.view.memory.seen) i.up_to.spans start i.up_to.last) (sym aside.seen) before;
           within = within;
@@ -211,10 +209,10 @@ module _ (sizes : Sizes) (roots : ℕ) (lawful : List Entry → Type 0) (opening
           all-short = AllByRecursion-append (λ (span : Span). length span.pairs ≤ MOST_RECORDS) i.up_to.spans (span_read ∷ []) i.up_to.short (most, tt)
 
           -- .. and is the last one
-          pub ended : found.end ≡ high → HasEnded sizes lawful opening root low high out0 new p0 r
+          pub ended : found.end ≡ high → HasRunToEnd sizes lawful opening root low high out0 new p0 r
           ended to = record {
             spans = i.up_to.spans ++ span_read ∷ [];
-            run = run new (i.up_to.spans ++ span_read ∷ []) all-appends all-short;
+            run = run new (i.up_to.spans ++ span_read ∷ []) all-appends (let room = put.chunk_room in omega arith) all-short;
             chunks = subst (λ es. AreWhole opening es root low high (length p0.view.memory.seen) (i.up_to.spans ++ span_read ∷ []) (length es)) (sym aside.seen) (record {
               front = i.up_to.spans;
               last = span_read;
@@ -297,16 +295,8 @@ some_after end high None e key lt top = absurd (let f = after-none end key (sym 
 some_after end high (Some next) e key lt top = refl
 
 -- a leaf has few records between any two keys
-cut-one : (b : Bool) (x : MapKey × ℕ) (ys zs : Pairs) → length ys ≤ length zs → length (cond b (x ∷ ys) ys) ≤ length (x ∷ zs)
-cut-one true x ys zs le = omega arith
-cut-one false x ys zs le = omega arith
-
-cut-short : (xs : Pairs) (low high : MapKey) → length (cut xs low high) ≤ length xs
-cut-short [] low high = omega arith
-cut-short (x ∷ xs) low high = cut-one (is_within low high x) x (cut xs low high) xs (cut-short xs low high)
-
 pub part_short : (image : List ℕ) (low high : MapKey) → IsTreePage image → length (cut (records_of image) low high) ≤ MOST_RECORDS
 part_short image low high tree =
     let h = tree_in image tree in
     let few : length (records_of image) ≤ MOST_RECORDS = subst (λ p. length (page_in p).records ≤ MOST_RECORDS) (sym h.holds) h.fits.few in
-    let short = cut-short (records_of image) low high in omega arith
+    let short = length-cut (records_of image) low high in omega arith

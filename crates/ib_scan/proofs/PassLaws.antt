@@ -25,6 +25,7 @@ use Rattle.ib_rule.specs.declared.memory.Since.{Since}
 use Rattle.ib_rule.specs.Conditions.{MayGrow}
 use Rattle.ib_rule.specs.Pass.{PassState}
 use Rattle.ib_rule.specs.Views.{is_watched, total}
+use Rattle.ib_rule.proofs.Lists.{each_push}
 use Rattle.ib_walk.proofs.ImageLaws.{image_of-list}
 use Rattle.ib_tree.specs.Logs.{HasRange, pages_after}
 use Rattle.ib_mtr.specs.Mtr.{with_work}
@@ -34,7 +35,7 @@ use Rattle.ib_cursor.specs.Descent.{HasPage}
 use Rattle.ib_cursor.proofs.StandLaws.{IsBeside, went_beside, went_both, beside_taken}
 use Rattle.ib_cursor.proofs.GrantLaws.{hold-latch, can_wish, may_grow, last_held, grants_more}
 use Rattle.ib_cursor.specs.Laws.{Laws}
-use Rattle.ib_scan.specs.Walked.{ReadLeaf, first_of, IsSkipped, ArePassed, grants_of, IsReadOf, IsWalked, IsScanning}
+use Rattle.ib_scan.specs.Walked.{ReadLeaf, first_read, IsSkipped, ArePassed, leaf_grants, IsReadOf, IsWalked, IsScanning}
 use Rattle.ib_scan.specs.Steps.{HasPassed}
 use Rattle.ib_scan.proofs.StandLaws.{IsFresh, behind_fresh}
 use Rattle.ib_scan.proofs.WalkedLaws.{AreCalm, walked_stays, tree_at_log, tree_is, leaves_met, walked_stands, walked_same}
@@ -48,12 +49,12 @@ held_among : (front : List Grant) (g : Grant) (back : List Grant) (p : PassState
 held_among front g back p has = subst (λ (a : Session). 0 < holdings g.latch a) (sym has.session) (held-among front g back)
 
 -- what is held is watched after a look
-watched-all : (front : List Grant) (ps : List ReadLeaf) (back : List Grant) (p : PassState) → HasGrants (front ++ (grants_of ps ++ back)) p → ((l : ℕ) → 0 < holdings l p.view.session → is_watched l p.view.memory.since ≡ true)
+watched-all : (front : List Grant) (ps : List ReadLeaf) (back : List Grant) (p : PassState) → HasGrants (front ++ (leaf_grants ps ++ back)) p → ((l : ℕ) → 0 < holdings l p.view.session → is_watched l p.view.memory.since ≡ true)
     → AllByRecursion (λ q. is_watched (q.page + 2) p.view.memory.since ≡ true) ps
 watched-all front [] back p has look = tt
 watched-all front (q ∷ qs) back p has look = (
-  look (q.page + 2) (held_among front (page_grant q.page S) (grants_of qs ++ back) p has),
-  watched-all (front ++ page_grant q.page S ∷ []) qs back p (subst (λ gs. HasGrants gs p) (sym (append_assoc front (page_grant q.page S ∷ []) (grants_of qs ++ back))) has) look,
+  look (q.page + 2) (held_among front (page_grant q.page S) (leaf_grants qs ++ back) p has),
+  watched-all (front ++ page_grant q.page S ∷ []) qs back p (subst (λ gs. HasGrants gs p) (sym (append_assoc front (page_grant q.page S ∷ []) (leaf_grants qs ++ back))) has) look,
 )
 
 -- entries first seen write no page that was watched
@@ -62,15 +63,11 @@ calm-all : (ps : List ReadLeaf) (since : List Since) (more : List Entry) → ((p
 calm-all [] since more steady w = tt
 calm-all (q ∷ qs) since more steady w = (steady q.page w.0, calm-all qs since more steady w.1)
 
-all-nodes : (ps : List ReadLeaf) (page : ℕ) → AllByRecursion (λ g. may_follow g.level TreeNode ≡ true) (grants_of ps ++ page_grant page S ∷ [])
+all-nodes : (ps : List ReadLeaf) (page : ℕ) → AllByRecursion (λ g. may_follow g.level TreeNode ≡ true) (leaf_grants ps ++ page_grant page S ∷ [])
 all-nodes [] page = (refl, tt)
 all-nodes (p ∷ ps) page = (refl, all-nodes ps page)
 
-each-push : {X : Type 0} (P : X → Type 0) (xs : List X) (x : X) → AllByRecursion P xs → P x → AllByRecursion P (xs ++ x ∷ [])
-each-push P [] x h p = (p, tt)
-each-push P (y ∷ xs) x h p = (h.0, each-push P xs x h.1 p)
-
-first-push : (ps : List ReadLeaf) (last next : ReadLeaf) → first_of (ps ++ last ∷ []) next ≡ first_of ps last
+first-push : (ps : List ReadLeaf) (last next : ReadLeaf) → first_read (ps ++ last ∷ []) next ≡ first_read ps last
 first-push [] last next = refl
 first-push (p ∷ ps) last next = refl
 
@@ -109,15 +106,15 @@ module _ (sizes : Sizes) (roots : ℕ) (lawful : List Entry → Type 0) (opening
   pub empty_now : (leaf : ℕ) → last.page ≡ leaf → with_work (without_page leaf p.work) p ≡ emptied
   empty_now leaf here = ap (λ ws. with_work ws p) (without-alone last.page leaf last.image p.work here s.work)
 
-  held : HasGrants (grants_of ps ++ page_grant last.page S ∷ []) emptied
+  held : HasGrants (leaf_grants ps ++ page_grant last.page S ∷ []) emptied
   held = record { memo = s.grants.memo; session = s.grants.session }
 
   pub may_take : next_of last.image ≢ 0 → CanWish (next_of last.image + 2) TreeNode emptied.view.session
-  may_take some = can_wish (grants_of ps ++ page_grant last.page S ∷ []) emptied held (next_of last.image + 2) TreeNode (fresh some).away (all-nodes ps last.page)
+  may_take some = can_wish (leaf_grants ps ++ page_grant last.page S ∷ []) emptied held (next_of last.image + 2) TreeNode (fresh some).away (all-nodes ps last.page)
 
   pub may_have : next_of last.image ≢ 0 → sizes.pages ≤ 4096 → total p.view.grants < 2 ^ 52 → MayGrow emptied.view
-  may_have some most room = may_grow (grants_of ps ++ page_grant last.page S ∷ []) emptied held room
-      (let a = (fresh some).few in let l = length-append (grants_of ps) (page_grant last.page S ∷ []) in let k = length-map ps (λ (q : ReadLeaf). page_grant q.page S) in omega arith)
+  may_have some most room = may_grow (leaf_grants ps ++ page_grant last.page S ∷ []) emptied held room
+      (let a = (fresh some).few in let l = length-append (leaf_grants ps) (page_grant last.page S ∷ []) in let k = length-map ps (λ (q : ReadLeaf). page_grant q.page S) in omega arith)
 
   module _ (skipped : IsSkipped start last.image) (q r : PassState) (taken : HasTaken (page_grant (next_of last.image) S) emptied q) (seen : HasSeen sizes lawful q r) (memo : r.memo ≡ q.memo) (session : r.view.session ≡ q.view.session)
       (grants : r.view.grants ≡ q.view.grants) (loaded : HasPage opening (next_of last.image) q r) where
@@ -141,7 +138,7 @@ module _ (sizes : Sizes) (roots : ℕ) (lawful : List Entry → Type 0) (opening
     walked =
         let w = subst (λ l. IsWalked roots opening l root start ps last) (sym log-is) stayed in
         record {
-          images = each-push (IsReadOf opening r.view.memory.seen) ps last w.images w.image;
+          images = each_push (IsReadOf opening r.view.memory.seen) ps last w.images w.image;
           image = read-there;
           passed = passed-push start ps last there w.passed skipped refl;
           low = w.low;
@@ -150,13 +147,13 @@ module _ (sizes : Sizes) (roots : ℕ) (lawful : List Entry → Type 0) (opening
           le = w.le;
         }
 
-    all-grants : HasGrants ((grants_of ps ++ page_grant last.page S ∷ []) ++ page_grant (next_of last.image) S ∷ []) r
-    all-grants = grants_more (grants_of ps ++ page_grant last.page S ∷ []) (page_grant (next_of last.image) S) emptied r held (memo ∙ ap (λ (u : PassState). u.memo) taken.pass) (session ∙ taken.taken.session)
+    all-grants : HasGrants ((leaf_grants ps ++ page_grant last.page S ∷ []) ++ page_grant (next_of last.image) S ∷ []) r
+    all-grants = grants_more (leaf_grants ps ++ page_grant last.page S ∷ []) (page_grant (next_of last.image) S) emptied r held (memo ∙ ap (λ (u : PassState). u.memo) taken.pass) (session ∙ taken.taken.session)
 
-    with-last : grants_of (ps ++ last ∷ []) ≡ grants_of ps ++ page_grant last.page S ∷ []
+    with-last : leaf_grants (ps ++ last ∷ []) ≡ leaf_grants ps ++ page_grant last.page S ∷ []
     with-last = map-append (λ (q : ReadLeaf). page_grant q.page S) ps (last ∷ [])
 
-    pushed : HasGrants (grants_of (ps ++ last ∷ []) ++ page_grant (next_of last.image) S ∷ []) r
+    pushed : HasGrants (leaf_grants (ps ++ last ∷ []) ++ page_grant (next_of last.image) S ∷ []) r
     pushed = subst (λ gs. HasGrants (gs ++ page_grant (next_of last.image) S ∷ []) r) (sym with-last) all-grants
 
     beside : IsBeside p q
@@ -168,7 +165,7 @@ module _ (sizes : Sizes) (roots : ℕ) (lawful : List Entry → Type 0) (opening
       scans = record {
         grants = pushed;
         watched = watched-all [] (ps ++ last ∷ []) (page_grant (next_of last.image) S ∷ []) r pushed seen.watched;
-        here = seen.watched (next_of last.image + 2) (last_held (grants_of (ps ++ last ∷ [])) (page_grant (next_of last.image) S) r pushed);
+        here = seen.watched (next_of last.image + 2) (last_held (leaf_grants (ps ++ last ∷ [])) (page_grant (next_of last.image) S) r pushed);
         work = loaded.work ∙ ap (with_read (next_of last.image) loaded.image) (ap (λ (u : PassState). u.work) taken.pass);
         known = seen.known;
         walked = walked;

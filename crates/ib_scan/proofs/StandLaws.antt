@@ -17,7 +17,7 @@ use Rattle.ib_walk.proofs.TreeLaws.{weight_of-le, IsTiled-leaves}
 use Rattle.ib_walk.proofs.WalkLaws.{AllByRecursion-append, AllByRecursion-left, sum_of-append}
 use Rattle.ib_cursor.specs.Grants.{Grant, page_grant, IsAway}
 use Rattle.ib_cursor.proofs.NextLaws.{leaf-met, linked-at}
-use Rattle.ib_scan.specs.Walked.{ReadLeaf, first_of, ArePassed, grants_of}
+use Rattle.ib_scan.specs.Walked.{ReadLeaf, first_read, ArePassed, leaf_grants}
 use Rattle.ib_scan.specs.Steps.{AreApart}
 use Rattle.ib_scan.proofs.KeyLaws.{rises_below}
 
@@ -90,7 +90,7 @@ pub record Stands (m : PageMemory) (root : ℕ) (start : MapKey) (ps : List Read
   pub visit : Visit
   pub behind : List Visit
   pub is : leaves_of m root ≡ (before ++ passed) ++ visit ∷ behind
-  pub grants : grants_of ps ≡ map grant_at passed
+  pub grants : leaf_grants ps ≡ map grant_at passed
   pub here : visit.page ≡ page
   pub below : AllByRecursion (λ v. AreBelow start (m v.page).records) (before ++ passed)
 
@@ -137,13 +137,13 @@ module _ (m : PageMemory) (root : ℕ) (t : IsTreeOf m (height_of m root) root) 
             (AllByRecursion-append (λ v. AreBelow start (m v.page).records) (s.before ++ s.passed) (s.visit ∷ []) s.below (subst (λ k. AreBelow start (m k).records) (sym s.here) below, tt));
       }
 
-  onward : (I : ReadLeaf → Type 0) → ((p : ReadLeaf) → (m p.page).kind ≡ Tree → I p → IsSameLeaf m p) → (qs ps : List ReadLeaf) (last : ReadLeaf) → Stands m root start qs (first_of ps last).page → ArePassed start ps last → AllByRecursion I ps
+  onward : (I : ReadLeaf → Type 0) → ((p : ReadLeaf) → (m p.page).kind ≡ Tree → I p → IsSameLeaf m p) → (qs ps : List ReadLeaf) (last : ReadLeaf) → Stands m root start qs (first_read ps last).page → ArePassed start ps last → AllByRecursion I ps
       → Stands m root start (qs ++ ps) last.page
   onward I read qs [] last s a e = subst (λ rs. Stands m root start rs last.page) (sym (append-nil qs)) s
   onward I read qs (p ∷ ps) last s a e =
       let l = read p (stands_kind qs p.page s) e.0 in
       subst (λ rs. Stands m root start rs last.page) (append_assoc qs (p ∷ []) ps)
-      (onward I read (qs ++ p ∷ []) ps last (further qs p (first_of ps last).page s (l.next ∙ a.1) (λ z. a.0.some (a.1 ∙ z)) (subst (AreBelow start) (sym l.records) a.0.below)) a.2 e.1)
+      (onward I read (qs ++ p ∷ []) ps last (further qs p (first_read ps last).page s (l.next ∙ a.1) (λ z. a.0.some (a.1 ∙ z)) (subst (AreBelow start) (sym l.records) a.0.below)) a.2 e.1)
 
   begins : (page low high : ℕ) → 0 < weight_of (is_visit 0 (record { page = page; low = low; high = high })) m root → low ≤ rank start → Stands m root start [] page
   begins page low high met le =
@@ -163,17 +163,17 @@ module _ (m : PageMemory) (root : ℕ) (t : IsTreeOf m (height_of m root) root) 
       }
 
   pub stands_at : (I : ReadLeaf → Type 0) → ((p : ReadLeaf) → (m p.page).kind ≡ Tree → I p → IsSameLeaf m p) → (ps : List ReadLeaf) (last : ReadLeaf) (low high : ℕ)
-      → 0 < weight_of (is_visit 0 (record { page = (first_of ps last).page; low = low; high = high })) m root → low ≤ rank start → ArePassed start ps last → AllByRecursion I ps → Stands m root start ps last.page
-  stands_at I read ps last low high met le a e = onward I read [] ps last (begins (first_of ps last).page low high met le) a e
+      → 0 < weight_of (is_visit 0 (record { page = (first_read ps last).page; low = low; high = high })) m root → low ≤ rank start → ArePassed start ps last → AllByRecursion I ps → Stands m root start ps last.page
+  stands_at I read ps last low high met le a e = onward I read [] ps last (begins (first_read ps last).page low high met le) a e
 
   -- the leaf behind is a page of the space, and none of those that are held
   pub record IsFresh (pages next : ℕ) (ps : List ReadLeaf) (page : ℕ) : Type 0 where
     pub inside : next < pages
-    pub away : IsAway (next + 2) (grants_of ps ++ page_grant page S ∷ [])
+    pub away : IsAway (next + 2) (leaf_grants ps ++ page_grant page S ∷ [])
     pub few : length ps + 2 ≤ pages
 
   module _ (pages : ℕ) (met : AreMetOnce pages m root) (ps : List ReadLeaf) (page : ℕ) (s : Stands m root start ps page) where
-    grants-are : grants_of ps ++ page_grant page S ∷ [] ≡ map grant_at (s.passed ++ s.visit ∷ [])
+    grants-are : leaf_grants ps ++ page_grant page S ∷ [] ≡ map grant_at (s.passed ++ s.visit ∷ [])
     grants-are = ap (λ gs. gs ++ page_grant page S ∷ []) s.grants ∙ (ap (λ n. map grant_at s.passed ++ page_grant n S ∷ []) (sym s.here) ∙ sym (map-append grant_at s.passed (s.visit ∷ [])))
 
     sum-is : (n : ℕ) → sum_of (is_page n 0) (leaves_of m root) ≡ sum_of (is_page n 0) s.before + sum_of (is_page n 0) (s.passed ++ s.visit ∷ []) + sum_of (is_page n 0) s.behind
@@ -184,7 +184,7 @@ module _ (m : PageMemory) (root : ℕ) (t : IsTreeOf m (height_of m root) root) 
         let d = sum_of-append (is_page n 0) s.passed (s.visit ∷ []) in omega arith
 
     -- the grants are on pages of their own
-    pub held_apart : AreApart (grants_of ps ++ page_grant page S ∷ [])
+    pub held_apart : AreApart (leaf_grants ps ++ page_grant page S ∷ [])
     held_apart = subst AreApart (sym grants-are) (apart_in (s.passed ++ s.visit ∷ []) (λ n. let a = sum-is n in let b = met.once n in omega arith))
 
     pub behind_fresh : (next : ℕ) → (m page).next ≡ next → next ≢ 0 → IsFresh pages next ps page

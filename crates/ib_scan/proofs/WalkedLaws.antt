@@ -22,7 +22,7 @@ use Rattle.ib_cursor.proofs.NextLaws.{leaf-counts}
 use Rattle.ib_cursor.proofs.PageLaws.{tree_image}
 use Rattle.ib_cursor.proofs.StepLaws.{image_stays}
 use Rattle.ib_cursor.proofs.WayLaws.{met_on-way}
-use Rattle.ib_scan.specs.Walked.{ReadLeaf, first_of, EndsBy, IsReadOf, IsWalked}
+use Rattle.ib_scan.specs.Walked.{ReadLeaf, first_read, EndsBy, IsReadOf, IsWalked}
 use Rattle.ib_scan.proofs.ChunkLaws.{chunk_read}
 use Rattle.ib_scan.proofs.KeyLaws.{last_between}
 use Rattle.ib_scan.proofs.StandLaws.{AreMetOnce, met_once, Stands, IsSameLeaf, stands_at, stands_kind, stands_leaf}
@@ -38,7 +38,7 @@ each-stays : (opening : ℕ → ℕ) (log es : List Entry) (ps : List ReadLeaf) 
 each-stays opening log es [] calm is = tt
 each-stays opening log es (p ∷ ps) calm is = (read-stays opening log es p calm.0 is.0, each-stays opening log es ps calm.1 is.1)
 
-first-calm : (es : List Entry) (ps : List ReadLeaf) (last : ReadLeaf) → AllByRecursion (λ p. AreCalm es p.page) ps → AreCalm es last.page → AreCalm es (first_of ps last).page
+first-calm : (es : List Entry) (ps : List ReadLeaf) (last : ReadLeaf) → AllByRecursion (λ p. AreCalm es p.page) ps → AreCalm es last.page → AreCalm es (first_read ps last).page
 first-calm es [] last calm one = one
 first-calm es (p ∷ ps) last calm one = calm.0
 
@@ -51,7 +51,7 @@ module _ (pages roots : ℕ) (lawful : List Entry → Type 0) (opening : ℕ →
     passed = w.passed;
     low = w.low;
     high = w.high;
-    met = range_stays pages roots lawful opening laws root w.met.0 w.met.1 log es (first_of ps last).page (record { root = root; low = w.low; end = w.high; level = 0 }) legal (first-calm es ps last calm one) w.met;
+    met = range_stays pages roots lawful opening laws root w.met.0 w.met.1 log es (first_read ps last).page (record { root = root; low = w.low; end = w.high; level = 0 }) legal (first-calm es ps last calm one) w.met;
     le = w.le;
   }
 

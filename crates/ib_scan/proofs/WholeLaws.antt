@@ -26,13 +26,12 @@ use Rattle.ib_mtr.specs.Mtr.{started, finished}
 use Rattle.ib_cursor.specs.Spaces.{space_of}
 use Rattle.ib_cursor.specs.Going.{WentOn}
 use Rattle.ib_cursor.specs.Descent.{HasDescended}
-use Rattle.ib_cursor.proofs.StandLaws.{IsBeside, went_beside, went_both, added_both, known_beside}
+use Rattle.ib_cursor.proofs.StandLaws.{IsBeside, went_beside, went_both, went_none, added_both, known_beside}
 use Rattle.ib_cursor.specs.Laws.{Laws}
 use Rattle.ib_scan.specs.Scanning.{HasGone, HasScanned, HasStopped, HasNoRoom}
 use Rattle.ib_scan.specs.Scans.{HasAll, FitsSeen, scan_answer}
-use Rattle.ib_scan.specs.Steps.{HasSomeFront, IsAside, IsScannedTo, HasRun, HasEnded, HasHalted}
+use Rattle.ib_scan.specs.Steps.{HasSomeFront, IsAside, IsScannedTo, HasRun, HasRunToEnd, HasRunToStop}
 use Rattle.ib_scan.proofs.FrontLaws.{appends_none, front_lower, whole_lower}
-use Rattle.ib_scan.proofs.LoopLaws.{went_none}
 use Rattle.ib_scan.proofs.WalkedLaws.{walked_first}
 
 -- a scan begins where the descent ends
@@ -121,7 +120,7 @@ module _ (sizes : Sizes) (lawful : List Entry → Type 0) (opening : ℕ → ℕ
         x = omega arith;
       }
 
-  pub gone_all : HasEnded sizes lawful opening root low high out new q r → HasAll sizes lawful opening root low high out new p end
+  pub gone_all : HasRunToEnd sizes lawful opening root low high out new q r → HasAll sizes lawful opening root low high out new p end
   unfolding gone
   gone_all h = record {
     gone = gone h.spans h.run;
@@ -129,7 +128,7 @@ module _ (sizes : Sizes) (lawful : List Entry → Type 0) (opening : ℕ → ℕ
         (whole_lower opening root high r.view.memory.seen low (length q.view.memory.seen) look.first h.spans (length r.view.memory.seen) look.le h.chunks);
   }
 
-  pub gone_part : (next : MapKey) → HasHalted sizes lawful opening root low high next out new q r → HasStopped sizes lawful opening root low high next out new p end
+  pub gone_part : (next : MapKey) → HasRunToStop sizes lawful opening root low high next out new q r → HasStopped sizes lawful opening root low high next out new p end
   unfolding gone
   gone_part next h =
       let f = front_lower opening root high r.view.memory.seen low (length q.view.memory.seen) look.first h.spans next h.last look.le h.chunks in
@@ -147,13 +146,13 @@ module _ (sizes : Sizes) (lawful : List Entry → Type 0) (opening : ℕ → ℕ
 
 -- the loop came to the end of the keys, or it found no room, and a leaf was held at its end
 pub leaf_left : (sizes : Sizes) (lawful : List Entry → Type 0) (opening : ℕ → ℕ) (root : ℕ) (low high : MapKey) (out new : HeldChunks) (p q : PassState) (stop : Option MapKey)
-    → MatchOption stop (HasEnded sizes lawful opening root low high out new p q) (λ next. HasHalted sizes lawful opening root low high next out new p q) → HasSomeFront 0 q
+    → MatchOption stop (HasRunToEnd sizes lawful opening root low high out new p q) (λ next. HasRunToStop sizes lawful opening root low high next out new p q) → HasSomeFront 0 q
 leaf_left sizes lawful opening root low high out new p q None h = record { leaf = h.run.leaf; image = h.run.image; front = h.run.front }
 leaf_left sizes lawful opening root low high out new p q (Some next) h = record { leaf = h.run.leaf; image = h.run.image; front = h.run.front }
 
 pub scanned_by : (sizes : Sizes) (lawful : List Entry → Type 0) (opening : ℕ → ℕ) (root : ℕ) (low high : MapKey) (path : List ℕ) (out new : HeldChunks) (p q r s t : PassState) → HasDescended sizes lawful opening root low false path (started p) q → IsAside r s
     → t ≡ finished s → (stop : Option MapKey)
-    → MatchOption stop (HasEnded sizes lawful opening root low high out new q r) (λ next. HasHalted sizes lawful opening root low high next out new q r)
+    → MatchOption stop (HasRunToEnd sizes lawful opening root low high out new q r) (λ next. HasRunToStop sizes lawful opening root low high next out new q r)
     → MatchOption stop (HasAll sizes lawful opening root low high out new p t) (λ next. HasStopped sizes lawful opening root low high next out new p t)
 scanned_by sizes lawful opening root low high path out new p q r s t d aside is None h =
     subst (HasAll sizes lawful opening root low high out new p) (sym is) (gone_all sizes lawful opening root low high path out new p q r s d aside h)

@@ -28,7 +28,7 @@ pub record Appends (old new : HeldChunks) (spans : List Span) : Type 0 where
   pub chunk_room : new.chunk_room + length spans ≡ old.chunk_room
   pub pair_room : new.pair_room + pair_count spans ≡ old.pair_room
 
--- how a scan went: it changed nothing but what is seen and the grants of S that were ever taken; `first` is the first end of the log that it found
+-- how a scan went: it changed nothing but what is seen and the grants of S that were ever taken, 8,192 more at most for each chunk that was appended, and 8,192; `first` is the first end of the log that it found
 pub record HasGone (sizes : Sizes) (lawful : List Entry → Type 0) (out new : HeldChunks) (p q : PassState) : Type 0 where
   pub spans : List Span
   pub appends : Appends out new spans
@@ -38,7 +38,7 @@ pub record HasGone (sizes : Sizes) (lawful : List Entry → Type 0) (out new : H
   pub rest : List ℕ
   pub looks : went.added ≡ first ∷ rest
   pub known : IsKnown sizes lawful q
-  pub s : q.view.grants.s ≤ p.view.grants.s + 8192 * out.chunk_room + 8192
+  pub s : q.view.grants.s ≤ p.view.grants.s + 8192 * length spans + 8192
   pub sx : q.view.grants.sx ≡ p.view.grants.sx
   pub x : q.view.grants.x ≡ p.view.grants.x
 

@@ -59,7 +59,7 @@ pub record IsAlong (sizes : Sizes) (lawful : List Entry → Type 0) (opening : �
   pub x : q.view.grants.x ≡ p.view.grants.x
 
 -- .. to the leaf that gives the chunk
-pub record HasCome (sizes : Sizes) (lawful : List Entry → Type 0) (opening : ℕ → ℕ) (roots root : ℕ) (start high : MapKey) (found : Found) (p q : PassState) : Type 0 where
+pub record HasComeToEnd (sizes : Sizes) (lawful : List Entry → Type 0) (opening : ℕ → ℕ) (roots root : ℕ) (start high : MapKey) (found : Found) (p q : PassState) : Type 0 where
   pub along : IsAlong sizes lawful opening roots root start found.leaf found.passed p q
   pub ends : EndsBy start high found.end along.last.image
 
@@ -116,13 +116,13 @@ pub record IsScannedTo (sizes : Sizes) (lawful : List Entry → Type 0) (opening
   pub scans : IsScanning sizes lawful opening roots root start [] (record { page = leaf; image = image }) q
   pub room : total q.view.grants + 8192 * new.chunk_room + 8183 ≤ 2 ^ 52
 
--- how the loop went: the chunks are appended, few grants more were taken, and one leaf alone is held
+-- how the loop went: the chunks are appended, few grants more were taken for each, and one leaf alone is held
 pub record HasRun (sizes : Sizes) (lawful : List Entry → Type 0) (out new : HeldChunks) (spans : List Span) (p q : PassState) : Type 0 where
   pub appends : Appends out new spans
   pub short : AllByRecursion (λ span. length span.pairs ≤ MOST_RECORDS) spans
   pub went : WentOn p q
   pub known : IsKnown sizes lawful q
-  pub s : q.view.grants.s ≤ p.view.grants.s + 8192 * out.chunk_room + 8183
+  pub s : q.view.grants.s ≤ p.view.grants.s + 8192 * length spans + 8183
   pub sx : q.view.grants.sx ≡ p.view.grants.sx
   pub x : q.view.grants.x ≡ p.view.grants.x
   pub leaf : ℕ
@@ -130,13 +130,13 @@ pub record HasRun (sizes : Sizes) (lawful : List Entry → Type 0) (out new : He
   pub front : HasFront 0 leaf image q
 
 -- .. to the end
-pub record HasEnded (sizes : Sizes) (lawful : List Entry → Type 0) (opening : ℕ → ℕ) (root : ℕ) (low high : MapKey) (out new : HeldChunks) (p q : PassState) : Type 0 where
+pub record HasRunToEnd (sizes : Sizes) (lawful : List Entry → Type 0) (opening : ℕ → ℕ) (root : ℕ) (low high : MapKey) (out new : HeldChunks) (p q : PassState) : Type 0 where
   pub spans : List Span
   pub run : HasRun sizes lawful out new spans p q
   pub chunks : AreWhole opening q.view.memory.seen root low high (length p.view.memory.seen) spans (length q.view.memory.seen)
 
 -- .. or up to a chunk that does not fit
-pub record HasHalted (sizes : Sizes) (lawful : List Entry → Type 0) (opening : ℕ → ℕ) (root : ℕ) (low high next : MapKey) (out new : HeldChunks) (p q : PassState) : Type 0 where
+pub record HasRunToStop (sizes : Sizes) (lawful : List Entry → Type 0) (opening : ℕ → ℕ) (root : ℕ) (low high next : MapKey) (out new : HeldChunks) (p q : PassState) : Type 0 where
   pub spans : List Span
   pub run : HasRun sizes lawful out new spans p q
   pub last : ℕ

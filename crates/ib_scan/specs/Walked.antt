@@ -20,9 +20,9 @@ pub record ReadLeaf : Type 0 where
   pub page : ℕ
   pub image : List ℕ
 
-abbrev pub first_of : List ReadLeaf → ReadLeaf → ReadLeaf
-first_of [] last = last
-first_of (p ∷ ps) last = p
+abbrev pub first_read : List ReadLeaf → ReadLeaf → ReadLeaf
+first_read [] last = last
+first_read (p ∷ ps) last = p
 
 -- a leaf gives no chunk from the start on: another is behind it, and its keys are all below the start
 pub record IsSkipped (start : MapKey) (image : List ℕ) : Type 0 where
@@ -32,7 +32,7 @@ pub record IsSkipped (start : MapKey) (image : List ℕ) : Type 0 where
 -- the leaves that were passed over give no chunk, and the link of each names the one behind it
 abbrev pub ArePassed : MapKey → List ReadLeaf → ReadLeaf → Type 0
 ArePassed start [] last = Unit {0}
-ArePassed start (p ∷ ps) last = IsSkipped start p.image × (next_of p.image ≡ (first_of ps last).page) × ArePassed start ps last
+ArePassed start (p ∷ ps) last = IsSkipped start p.image × (next_of p.image ≡ (first_read ps last).page) × ArePassed start ps last
 
 -- a leaf that is not the last one and ends at this key, none below the start
 pub record HasLastKey (start last : MapKey) (image : List ℕ) : Type 0 where
@@ -56,15 +56,15 @@ pub record IsWalked (roots : ℕ) (opening : ℕ → ℕ) (log : List Entry) (ro
   pub passed : ArePassed start ps last
   pub low : ℕ
   pub high : ℕ
-  pub met : HasRange roots (pages_after opening log) (first_of ps last).page (record { root = root; low = low; end = high; level = 0 })
+  pub met : HasRange roots (pages_after opening log) (first_read ps last).page (record { root = root; low = low; end = high; level = 0 })
   pub le : low ≤ rank start
 
-abbrev pub grants_of : List ReadLeaf → List Grant
-grants_of ps = map (λ p. page_grant p.page S) ps
+abbrev pub leaf_grants : List ReadLeaf → List Grant
+leaf_grants ps = map (λ p. page_grant p.page S) ps
 
 -- the leaves passed over and the one on which the scan stands are held in S, each with a look at the log's end since, and the last one alone is loaded, unchanged
 pub record IsScanning (sizes : Sizes) (lawful : List Entry → Type 0) (opening : ℕ → ℕ) (roots root : ℕ) (start : MapKey) (ps : List ReadLeaf) (last : ReadLeaf) (p : PassState) : Type 0 where
-  pub grants : HasGrants (grants_of ps ++ page_grant last.page S ∷ []) p
+  pub grants : HasGrants (leaf_grants ps ++ page_grant last.page S ∷ []) p
   pub watched : AllByRecursion (λ q. is_watched (q.page + 2) p.view.memory.since ≡ true) ps
   pub here : is_watched (last.page + 2) p.view.memory.since ≡ true
   pub work : p.work ≡ record { page = last.page; before = last.image; changed = last.image } ∷ []

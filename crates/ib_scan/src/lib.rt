@@ -6,8 +6,6 @@
 mod more;
 mod part;
 mod scans;
-#[cfg(test)]
-mod tests;
 mod walk;
 
 pub use more::More;

@@ -8,5 +8,6 @@ use thiserror::Error;
 #[derive(Clone, Copy, PartialEq, Eq, Debug, Error)]
 #[error("no room for the chunk from {next} on")]
 pub struct More {
+    /// The key at which the next chunk begins.
     pub next: Key,
 }

@@ -7,7 +7,7 @@ ghost use Rattle.ib_logrec.specs.Log.{by_place};
 ghost use Rattle.ib_rule.specs.Views.{total};
 ghost use Rattle.ib_mtr.specs.Mtr.{IsMtr};
 ghost use Rattle.ib_cursor.specs.Laws.{Laws};
-ghost use Rattle.ib_scan.specs.Steps.{HasCome, HasEnded, HasFront, HasHalted, HasPassed, HasSomeFront, IsAside, IsOnLeaf, IsScannedTo, MayPass};
+ghost use Rattle.ib_scan.specs.Steps.{HasComeToEnd, HasRunToEnd, HasFront, HasRunToStop, HasPassed, HasSomeFront, IsAside, IsOnLeaf, IsScannedTo, MayPass};
 
 use crate::part::{Part, part_of, put};
 use ib_cursor::{read, take};
@@ -86,7 +86,7 @@ fn come_to_end<L: Trees, R: Wait>(
     ensures come { (h : IsOnLeaf mtr.old.latches.now.sizes
         (L.lawful mtr.old.latches.now.sizes.pages)
         (by_place L.opening mtr.old.latches.now.sizes.pages) L.ROOTS leaf start mtr.old.pass.now)
-        → HasCome mtr.old.latches.now.sizes (L.lawful mtr.old.latches.now.sizes.pages)
+        → HasComeToEnd mtr.old.latches.now.sizes (L.lawful mtr.old.latches.now.sizes.pages)
         (by_place L.opening mtr.old.latches.now.sizes.pages) L.ROOTS h.root start high result
         mtr.old.pass.now mtr.new.pass.now }
 {
@@ -145,10 +145,10 @@ pub(crate) fn scan_from<L: Trees, R: Wait>(
     ensures latches { mtr.new.latches ≡ mtr.old.latches }
     ensures pass { mtr.new.pass.ghost_name ≡ mtr.old.pass.ghost_name }
     ensures scanned { MatchOption result
-        (HasEnded mtr.old.latches.now.sizes (L.lawful mtr.old.latches.now.sizes.pages)
+        (HasRunToEnd mtr.old.latches.now.sizes (L.lawful mtr.old.latches.now.sizes.pages)
         (by_place L.opening mtr.old.latches.now.sizes.pages) sought.root sought.low sought.high
         out.old out.new mtr.old.pass.now mtr.new.pass.now)
-        (λ next. HasHalted mtr.old.latches.now.sizes (L.lawful mtr.old.latches.now.sizes.pages)
+        (λ next. HasRunToStop mtr.old.latches.now.sizes (L.lawful mtr.old.latches.now.sizes.pages)
         (by_place L.opening mtr.old.latches.now.sizes.pages) sought.root sought.low sought.high
         next out.old out.new mtr.old.pass.now mtr.new.pass.now) }
 {

@@ -8,8 +8,6 @@ mod load;
 mod reader;
 mod script;
 mod script_line;
-#[cfg(test)]
-mod tests;
 
 pub use generated::generate;
 pub use load::{Load, MOST_GENERATED};

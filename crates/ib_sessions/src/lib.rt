@@ -12,6 +12,12 @@ mod pages;
 #[cfg(test)]
 mod rows;
 #[cfg(test)]
+mod runs;
+#[cfg(test)]
+mod scans;
+#[cfg(test)]
+mod scripts;
+#[cfg(test)]
 mod space;
 #[cfg(test)]
 mod threads;

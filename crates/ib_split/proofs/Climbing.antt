@@ -1,5 +1,5 @@
 -- The steps of a planned insert along the path, counted from its end.
-use Rattle.std.proofs.Common.{◌≡◌, ◌≢◌, ◌∙◌, ℕ, zero, suc, ◌+◌, ◌-◌, ◌<◌, ◌≤◌, ◌^◌, true, false, List, length, take, get_or, None, refl, sym, ap, subst, arith, inl, inr, Option}
+use Rattle.std.proofs.Common.{◌≡◌, ◌≢◌, ◌∙◌, ℕ, suc, ◌+◌, ◌-◌, ◌<◌, ◌≤◌, ◌^◌, true, false, List, length, take, get_or, None, refl, sym, ap, subst, arith, inl, inr, Option}
 use Rattle.std.specs.Prelude.{IsSomeAnd, ◌==◌}
 use Rattle.std.proofs.lemmas.Bool.{cases_eq, eq-eqb}
 use Rattle.std.proofs.lemmas.Bool.Decides.{nat_tests}
@@ -14,11 +14,12 @@ use Rattle.ib_walk.specs.Trees.{height_of}
 use Rattle.ib_walk.specs.Full.{need_of}
 use Rattle.ib_walk.proofs.SearchLaws.{above, above-zero}
 use Rattle.ib_walk.proofs.TreeLaws.{value_at-content_of}
-use Rattle.ib_plans.specs.Insert.{AreFresh, first_of, rest_of, insert_below, planned_insert}
+use Rattle.ib_plans.specs.Insert.{AreFresh, first_fresh, other_fresh, insert_below, planned_insert}
 use Rattle.ib_plans.specs.Moves.{Puts, HasMoved}
 use Rattle.ib_plans.specs.Agreement.{IsThere, state_or_free, memory_in, Agrees, MayTick, last_of, Sets, tick}
 use Rattle.ib_plans.proofs.ChosenLaws.{chosen-fresh, chosen-length}
 use Rattle.ib_plans.proofs.EditLaws.{IsSome-and}
+use Rattle.ib_plans.proofs.LevelLaws.{above-sum}
 use Rattle.ib_plans.proofs.PathLaws.{page_below-child}
 use Rattle.ib_split.specs.Inserts.{HasFresh, HasImages, with_record, CanPut, CanSplit, IsSplit, CanRaise, IsRaised, IsClimbed}
 use Rattle.ib_split.proofs.WayLaws.{in-range, path-length, path-last, path-at, path-tree, path-same}
@@ -26,11 +27,6 @@ use Rattle.ib_split.proofs.Pending.{IsPending, HasRoom, on-path, clean-here, kep
 use Rattle.ib_split.proofs.Putting.{put-climbed}
 use Rattle.ib_split.proofs.Splitting.{fresh-at, height-few, can-split, split-pending}
 use Rattle.ib_split.proofs.Raising.{left-at, right-at, two-few, can-raise, raise-climbed}
-
--- heights and depths add up
-above-plus : (depth height : ℕ) → above depth height ≡ depth + height
-above-plus zero height = omega arith
-above-plus (suc depth) height = let r = above-plus depth height in omega arith
 
 is-most : (n : ℕ) → (n == MOST_RECORDS) ≡ true → n ≡ MOST_RECORDS
 is-most n e = grind (arith, nat_tests)
@@ -69,7 +65,7 @@ module _ (path fresh : List ℕ) (key : MapKey) (value : ℕ) (old : List WorkPa
     depth = length path - 1 - height
 
     tall : height_of m root ≡ above (length path - 1 - height) height
-    tall = let p = above-plus (length path - 1 - height) height in let l = len in omega arith
+    tall = let p = above-sum (length path - 1 - height) height in let l = len in omega arith
 
     at : page_below m key (length path - 1 - height) root ≡ get_or path (length path - 1 - height) 0
     at = sym (path-at pages roots root key path old m bits agrees (length path - 1 - height) height tall)
@@ -141,7 +137,7 @@ module _ (path fresh : List ℕ) (key : MapKey) (value : ℕ) (old : List WorkPa
     parent = get_or path (length path - 1 - (height + 1)) 0
 
     tall-parent : height_of m root ≡ above (length path - 1 - (height + 1)) (suc height)
-    tall-parent = let q = above-plus (length path - 1 - (height + 1)) (suc height) in let l = len in omega arith
+    tall-parent = let q = above-sum (length path - 1 - (height + 1)) (suc height) in let l = len in omega arith
 
     at-parent : page_below m key (length path - 1 - (height + 1)) root ≡ parent
     at-parent = sym (path-at pages roots root key path old m bits agrees (length path - 1 - (height + 1)) (suc height) tall-parent)
@@ -157,7 +153,7 @@ module _ (path fresh : List ℕ) (key : MapKey) (value : ℕ) (old : List WorkPa
     full-child : length (m (child_for key 0 (m parent).records)).records ≡ MOST_RECORDS
     full-child = subst (λ q. length (m q).records ≡ MOST_RECORDS) child-is (full-old height (omega arith) k v work p full)
 
-    fresh-is : first_of (insert_below m bits fresh key value height (child_for key 0 (m parent).records)).fresh ≡ get_or fresh height 0
+    fresh-is : first_fresh (insert_below m bits fresh key value height (child_for key 0 (m parent).records)).fresh ≡ get_or fresh height 0
     fresh-is = fresh-at roots root key value fresh old m bits has-room height (length path - 1 - (height + 1)) parent tall-parent at-parent k v work pending-child full-child
 
     pub fresh-few : height < length fresh
@@ -166,7 +162,7 @@ module _ (path fresh : List ℕ) (key : MapKey) (value : ℕ) (old : List WorkPa
     tree-child : IsSomeAnd (changed_of (child_for key 0 (m parent).records) old) IsTreePage
     tree-child = subst (λ q. IsSomeAnd (changed_of q old) IsTreePage) child-is (tree-old height (omega arith))
 
-    free-there : IsThere old (first_of (insert_below m bits fresh key value height (child_for key 0 (m parent).records)).fresh)
+    free-there : IsThere old (first_fresh (insert_below m bits fresh key value height (child_for key 0 (m parent).records)).fresh)
     free-there = subst (IsThere old) (sym fresh-is) (images.fresh_there height 0 fresh-few)
 
     next-child : (m (child_for key 0 (m parent).records)).next ≢ 0 → IsThere old (m (child_for key 0 (m parent).records)).next
@@ -180,7 +176,7 @@ module _ (path fresh : List ℕ) (key : MapKey) (value : ℕ) (old : List WorkPa
         → IsPending key value fresh old m bits (height + 1) (get_or path (length path - 1 - (height + 1)) 0) first (get_or fresh height 0) new
     split-done first new is =
         let e : suc height ≡ height + 1 = omega arith in
-        let s = subst (λ q. IsSplit q (first_of (insert_below m bits fresh key value height (child_for key 0 (m parent).records)).fresh) k v work first new) child-is
+        let s = subst (λ q. IsSplit q (first_fresh (insert_below m bits fresh key value height (child_for key 0 (m parent).records)).fresh) k v work first new) child-is
         (subst (λ f. IsSplit (get_or path (length path - 1 - height) 0) f k v work first new) (sym fresh-is) is) in
         let q = split-pending roots root key value fresh old m bits has-room height (length path - 1 - (height + 1)) parent tall-parent at-parent k v work pending-child full-child tree-child free-there next-child clocks.0 agrees.same first new s in
         subst (λ h. IsPending key value fresh old m bits h (get_or path (length path - 1 - (height + 1)) 0) first (get_or fresh height 0) new) e
@@ -207,10 +203,10 @@ module _ (path fresh : List ℕ) (key : MapKey) (value : ℕ) (old : List WorkPa
         let f : (length (memory_in work (get_or path (length path - 1 - (length path - 1)) 0)).records == MOST_RECORDS) ≡ true = subst (λ d. (length (memory_in work (get_or path d 0)).records == MOST_RECORDS) ≡ true) (sym zero-depth) full in
         subst (λ n. length (m n).records ≡ MOST_RECORDS) (ap (λ d. get_or path d 0) zero-depth ∙ root-is) (full-old (length path - 1) (let l = len in omega arith) k v work q f)
 
-    left-is : first_of (insert_below m bits fresh key value (height_of m root) root).fresh ≡ get_or fresh (length path - 1) 0
+    left-is : first_fresh (insert_below m bits fresh key value (height_of m root) root).fresh ≡ get_or fresh (length path - 1) 0
     left-is = left-at roots root key value fresh old m bits has-room k v work pending-root full-root fits.low ∙ ap (λ h. get_or fresh h 0) (sym height-is)
 
-    right-is : first_of (rest_of (insert_below m bits fresh key value (height_of m root) root).fresh) ≡ get_or fresh (length path - 1 + 1) 0
+    right-is : first_fresh (other_fresh (insert_below m bits fresh key value (height_of m root) root).fresh) ≡ get_or fresh (length path - 1 + 1) 0
     right-is = right-at roots root key value fresh old m bits has-room k v work pending-root full-root fits.low ∙ (let e : suc (height_of m root) ≡ length path - 1 + 1 = (let h = height-is in omega arith) in ap (λ h. get_or fresh h 0) e)
 
     pub fresh-two : length path - 1 + 2 ≤ length fresh
@@ -219,23 +215,23 @@ module _ (path fresh : List ℕ) (key : MapKey) (value : ℕ) (old : List WorkPa
     tree-root : IsSomeAnd (changed_of root old) IsTreePage
     tree-root = path-tree pages roots root key path old m bits agrees 0 (height_of m root) refl images.path_there
 
-    left-there : IsThere old (first_of (insert_below m bits fresh key value (height_of m root) root).fresh)
+    left-there : IsThere old (first_fresh (insert_below m bits fresh key value (height_of m root) root).fresh)
     left-there = subst (IsThere old) (sym left-is) (images.fresh_there (length path - 1) 0 (let t = fresh-two in omega arith))
 
-    right-there : IsThere old (first_of (rest_of (insert_below m bits fresh key value (height_of m root) root).fresh))
+    right-there : IsThere old (first_fresh (other_fresh (insert_below m bits fresh key value (height_of m root) root).fresh))
     right-there = subst (IsThere old) (sym right-is) (images.fresh_there (length path - 1 + 1) 0 (let t = fresh-two in omega arith))
 
     pub raise-can : CanRaise (get_or path 0 0) (get_or fresh (length path - 1) 0) (get_or fresh (length path - 1 + 1) 0) k work
     raise-can =
         subst (λ q. CanRaise q (get_or fresh (length path - 1) 0) (get_or fresh (length path - 1 + 1) 0) k work) (sym root-is)
         (subst (λ a. CanRaise root a (get_or fresh (length path - 1 + 1) 0) k work) left-is
-        (subst (λ b. CanRaise root (first_of (insert_below m bits fresh key value (height_of m root) root).fresh) b k work) right-is
+        (subst (λ b. CanRaise root (first_fresh (insert_below m bits fresh key value (height_of m root) root).fresh) b k work) right-is
         (can-raise roots root key value fresh old m bits has-room k v work pending-root full-root fits.low tree-root left-there right-there clocks.0 agrees.same)))
 
     pub raise-done : (new : List WorkPage) → IsRaised (get_or path 0 0) (get_or fresh (length path - 1) 0) (get_or fresh (length path - 1 + 1) 0) k v work new
         → let g = planned_insert m bits fresh key value root in IsClimbed (take (length path - 1 + 2) fresh) m g.memory g.bits bits g.touched g.moves old new
     raise-done new is =
-        let s = subst (λ b. IsRaised root (first_of (insert_below m bits fresh key value (height_of m root) root).fresh) b k v work new) (sym right-is)
+        let s = subst (λ b. IsRaised root (first_fresh (insert_below m bits fresh key value (height_of m root) root).fresh) b k v work new) (sym right-is)
         (subst (λ a. IsRaised root a (get_or fresh (length path - 1 + 1) 0) k v work new) (sym left-is)
         (subst (λ q. IsRaised q (get_or fresh (length path - 1) 0) (get_or fresh (length path - 1 + 1) 0) k v work new) root-is is)) in
         let c = raise-climbed roots root key value fresh old m bits has-room k v work pending-root full-root fits.low tree-root left-there right-there clocks.0 agrees.same new s in

@@ -5,7 +5,7 @@ use Rattle.std.specs.List.{AllByRecursion}
 use Rattle.std.proofs.lemmas.Bool.{cases_eq, cases_lt, ne_eqb, lt-ltb, le-ltb}
 use Rattle.ib_map.specs.Keys.{MapKey, rank, end_rank}
 use Rattle.ib_map.specs.Pairs.{Pairs, Rises, put, value_at}
-use Rattle.ib_map.proofs.PairLaws.{length-put}
+use Rattle.ib_map.proofs.PairLaws.{length-put, value_at-below}
 use Rattle.ib_heap.specs.declared.TheConstants.{MOST_RECORDS}
 use Rattle.ib_page.specs.Work.{WorkPage, changed_of}
 use Rattle.ib_walk.specs.Pages.{Tree, PageState, PageMemory}
@@ -19,6 +19,7 @@ use Rattle.ib_plans.specs.Moves.{Move, Puts, unmoved, with_move, HasMoved}
 use Rattle.ib_plans.specs.Split.{with_records}
 use Rattle.ib_plans.specs.Insert.{Growth, AreFresh, insert_below, put_at}
 use Rattle.ib_plans.specs.Agreement.{IsThere, memory_in, reads_of, with_bits}
+use Rattle.ib_plans.proofs.ClockLaws.{ticked-untouched}
 use Rattle.ib_plans.proofs.InsertLaws.{IsInsertedBelow}
 use Rattle.ib_plans.proofs.MoveLaws.{still}
 use Rattle.ib_plans.proofs.NeedLaws.{IsInsertedBelow-need}
@@ -58,14 +59,8 @@ value_at-put_rises key value low (x ∷ xs) high rises = elim (cases_lt (rank x.
   | inr ge ↦
       let over = le-ltb (rank x.0) (rank key) ge in
       let r : Rises low ((key, value) ∷ x ∷ xs) high = rw over at rises in
-      behind key (rank key + 1) (x ∷ xs) high r.1 (omega arith)
+      value_at-below key (rank key + 1) (x ∷ xs) high r.1 (omega arith)
 ]
-  where
-    behind : (key : MapKey) (low : ℕ) (xs : Pairs) (high : ℕ) → Rises low xs high → rank key < low → value_at key xs ≡ None
-    behind key low [] high rises lt = refl
-    behind key low (x ∷ xs) high rises lt =
-        let l = rises.0 in
-        let no = ne_eqb (rank x.0) (rank key) (λ e. omega arith) in rw no (behind key (rank x.0 + 1) xs high rises.1 (omega arith))
 
 -- at the leaf nothing is done yet
 pub IsPending-leaf : (key : MapKey) (value : ℕ) (fresh : List ℕ) (old : List WorkPage) (m : PageMemory) (bits : ℕ → ℕ) (page : ℕ)
@@ -107,12 +102,6 @@ pub record HasRoom (roots root : ℕ) (key : MapKey) (fresh : List ℕ) (m : Pag
   pub room : need_of m key root ≤ length fresh
 
 -- a page that is not touched is as it was, and one that is has its clock ticked
-pub ticked-off : (m : PageMemory) (touched : ℕ → Bool) (planned : PageMemory) (n : ℕ) → touched n ≡ false → ticked m touched planned n ≡ planned n
-ticked-off m touched planned n off = ap (λ b. cond b (with_clock ((m n).clock + 1) (planned n)) (planned n)) off
-
-pub ticked-on : (m : PageMemory) (touched : ℕ → Bool) (planned : PageMemory) (n : ℕ) → touched n ≡ true → ticked m touched planned n ≡ with_clock ((m n).clock + 1) (planned n)
-ticked-on m touched planned n on = ap (λ b. cond b (with_clock ((m n).clock + 1) (planned n)) (planned n)) on
-
 pub ticked-same : (m : PageMemory) (a b : ℕ → Bool) (p q : PageMemory) (n : ℕ) → a n ≡ b n → p n ≡ q n → ticked m a p n ≡ ticked m b q n
 ticked-same m a b p q n touched planned =
     ap (λ c. cond c (with_clock ((m n).clock + 1) (p n)) (p n)) touched ∙ ap (λ x. cond (b n) (with_clock ((m n).clock + 1) x) x) planned
@@ -155,7 +144,7 @@ module _ (roots root : ℕ) (key : MapKey) (value : ℕ) (fresh : List ℕ) (old
   -- a page that is not touched is in the work set as it was
   pub now : (n : ℕ) → n ≢ 0 → p.touched n ≡ false → IsThere old n → memory_in work n ≡ m n
   now n some off there =
-      p.same n some (subst IsSome (sym (p.kept n some off)) there) ∙ (ticked-off m p.touched p.memory n off ∙ rest n some off)
+      p.same n some (subst IsSome (sym (p.kept n some off)) there) ∙ (ticked-untouched m p.touched p.memory n off ∙ rest n some off)
 
   -- the record's key is not in the page
   pub absent-here : value_at k (m page).records ≡ None

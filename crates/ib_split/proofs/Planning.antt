@@ -60,7 +60,7 @@ with_bits-beyond pages [] bits n below le = refl
 with_bits-beyond pages (x ∷ xs) bits n below le =
     let b = below.0 in with_bits-beyond pages xs (with_bit x 1 bits) n below.1 le ∙ cond-ne {X = ℕ} n x 1 (bits n) (λ e. omega arith)
 
-if-some : (P : List ℕ → Type 0) (o : Option (List ℕ)) (image : List ℕ) → IfSome o P → o ≡ Some image → P image
+pub if-some : (P : List ℕ → Type 0) (o : Option (List ℕ)) (image : List ℕ) → IfSome o P → o ≡ Some image → P image
 if-some P o image holds is = let Q : Option (List ℕ) → Type 0 = λ q. IfSome q P in subst Q is holds
 
 some-if : (P : List ℕ → Type 0) (o : Option (List ℕ)) (image : List ℕ) → o ≡ Some image → P image → IfSome o P

@@ -14,12 +14,13 @@ use Rattle.ib_plans.specs.Marks.{with_clock, ticked}
 use Rattle.ib_plans.specs.Insert.{Growth, insert_below, planned_insert}
 use Rattle.ib_plans.specs.Moves.{Move, Puts, HasMoved}
 use Rattle.ib_plans.specs.Agreement.{IsThere, memory_in, Sets, tick}
+use Rattle.ib_plans.proofs.ClockLaws.{ticked-touched}
 use Rattle.ib_plans.proofs.EditLaws.{set-reads, set-same, set-others, set-other, set-there, set-was}
 use Rattle.ib_plans.proofs.MoveLaws.{with_move-own, with_move-other}
 use Rattle.ib_plans.proofs.NeedLaws.{IsCounted-need}
 use Rattle.ib_plans.proofs.SettledLaws.{planned_insert-short}
 use Rattle.ib_split.specs.Inserts.{with_record, IsClimbed}
-use Rattle.ib_split.proofs.Pending.{IsPending, HasRoom, ticked-on, ticked-same, on-path, clean-here, kept-here, long-here, memory-other, now, length-here}
+use Rattle.ib_split.proofs.Pending.{IsPending, HasRoom, ticked-same, on-path, clean-here, kept-here, long-here, memory-other, now, length-here}
 
 module _ (roots root : ℕ) (key : MapKey) (value : ℕ) (fresh : List ℕ) (old : List WorkPage) (m : PageMemory) (bits : ℕ → ℕ) (x : HasRoom roots root key fresh m bits)
     (height depth page : ℕ) (tall : height_of m root ≡ above depth height) (at : page_below m key depth root ≡ page) (k : MapKey) (v : ℕ) (work : List WorkPage)
@@ -53,7 +54,7 @@ module _ (roots root : ℕ) (key : MapKey) (value : ℕ) (fresh : List ℕ) (old
     same-here =
         set-same page (tick (with_record k v (memory_in work page))) work new sets there-here
         ∙ (ap (λ (q : PageState). tick (with_record k v q)) page-now
-        ∙ sym (ticked-on m g.touched g.memory page touched-here ∙ ap (λ (q : PageState). with_clock ((m page).clock + 1) q) (long-here roots root key value fresh old m bits x height depth page tall at k v work p)))
+        ∙ sym (ticked-touched m g.touched g.memory page touched-here ∙ ap (λ (q : PageState). with_clock ((m page).clock + 1) q) (long-here roots root key value fresh old m bits x height depth page tall at k v work p)))
 
     same-other : (n : ℕ) → n ≢ 0 → n ≢ page → IsThere new n → memory_in new n ≡ ticked m g.touched g.memory n
     same-other n ns ne there =

@@ -5,7 +5,7 @@ use Rattle.std.specs.List.{AllByRecursion}
 use Rattle.std.proofs.lemmas.Bool.{cases_eq, cases_lt, eq-eqb, lt-ltb}
 use Rattle.ib_map.specs.Keys.{MapKey}
 use Rattle.ib_map.specs.Pairs.{put, value_at}
-use Rattle.ib_heap.specs.declared.TheConstants.{MOST_LEVEL, MOST_RECORDS}
+use Rattle.ib_heap.specs.declared.TheConstants.{MOST_RECORDS}
 use Rattle.ib_page.specs.Image.{IsTreePage, IsFormed}
 use Rattle.ib_page.specs.Work.{WorkPage, changed_of}
 use Rattle.ib_walk.specs.Pages.{Free, PageState, PageMemory}
@@ -13,11 +13,13 @@ use Rattle.ib_walk.specs.Walk.{AreLinked, below as level_below}
 use Rattle.ib_walk.specs.Trees.{height_of, most_height, top_of}
 use Rattle.ib_walk.specs.Full.{full_run, run_of, is_root_full}
 use Rattle.ib_walk.proofs.ChoiceLaws.{cond-eq, cond-ne}
+use Rattle.ib_walk.proofs.TreeLaws.{most_height-le}
 use Rattle.ib_plans.specs.Marks.{mark, with_bit, with_clock, ticked}
 use Rattle.ib_plans.specs.Moves.{Move, Puts, Fills, unmoved, with_move, HasMoved}
 use Rattle.ib_plans.specs.Split.{with_records, raise_page}
-use Rattle.ib_plans.specs.Insert.{Growth, AreFresh, first_of, rest_of, insert_below, planned_insert, raised}
+use Rattle.ib_plans.specs.Insert.{Growth, AreFresh, first_fresh, other_fresh, insert_below, planned_insert, raised}
 use Rattle.ib_plans.specs.Agreement.{IsThere, state_or_free, memory_in, tick, with_bits}
+use Rattle.ib_plans.proofs.ClockLaws.{ticked-touched}
 use Rattle.ib_plans.proofs.EditLaws.{IsSome-and, set-reads, set-same, set-others, set-other, set-there, set-was}
 use Rattle.ib_plans.proofs.InsertLaws.{IsInsertedBelow, one_over}
 use Rattle.ib_plans.proofs.InsertPlanLaws.{raise_long-long}
@@ -28,22 +30,18 @@ use Rattle.ib_plans.proofs.PageLaws.{mark-on, mark-own}
 use Rattle.ib_plans.proofs.PathLaws.{PathPage}
 use Rattle.ib_plans.proofs.PathListLaws.{pages_up, length-pages_up, path_of-pages}
 use Rattle.ib_split.specs.Inserts.{with_record, raised_left, raised_right, raised_root, CanRaise, IsRaised, IsClimbed}
-use Rattle.ib_split.proofs.Pending.{IsPending, HasRoom, ticked-on, ticked-same, below, on-path, clean-here, kept-here, long-here, memory-other, rest, now, absent-here, length-here}
-use Rattle.ib_split.proofs.Splitting.{first_of-drop, rest_of-drop, with_bits-more, formed-kind}
-
--- no tree is higher than the highest
-most_height-le : (roots : ℕ) → most_height roots ≤ MOST_LEVEL
-most_height-le roots = elim (eqb roots 1) as (λ b. cond b 7 3 ≤ MOST_LEVEL) [ true ↦ omega arith | false ↦ omega arith ]
+use Rattle.ib_split.proofs.Pending.{IsPending, HasRoom, ticked-same, below, on-path, clean-here, kept-here, long-here, memory-other, rest, now, absent-here, length-here}
+use Rattle.ib_split.proofs.Splitting.{first_fresh-drop, other_fresh-drop, with_bits-more, formed-kind}
 
 -- two pages that are free, one after the other
-two-fresh : (bits : ℕ → ℕ) (xs : List ℕ) → 1 < length xs → AreFresh bits xs → (bits (first_of xs) ≡ 0) × (bits (first_of (rest_of xs)) ≡ 0) × (first_of xs ≢ first_of (rest_of xs))
+two-fresh : (bits : ℕ → ℕ) (xs : List ℕ) → 1 < length xs → AreFresh bits xs → (bits (first_fresh xs) ≡ 0) × (bits (first_fresh (other_fresh xs)) ≡ 0) × (first_fresh xs ≢ first_fresh (other_fresh xs))
 two-fresh bits [] lt free = absurd (omega arith)
 two-fresh bits (x ∷ []) lt free = absurd (omega arith)
 two-fresh bits (x ∷ y ∷ xs) lt free =
     let ne : x ≢ y = λ e. (let z = cond-eq {X = ℕ} y x 1 (bits y) (sym e) in let w = free.2.0 in omega arith) in
     (free.0, sym (cond-ne {X = ℕ} y x 1 (bits y) (λ e. ne (sym e))) ∙ free.2.0, ne)
 
-all-two : (P : ℕ → Type 0) (xs : List ℕ) → 1 < length xs → AllByRecursion P xs → P (first_of xs) × P (first_of (rest_of xs))
+all-two : (P : ℕ → Type 0) (xs : List ℕ) → 1 < length xs → AllByRecursion P xs → P (first_fresh xs) × P (first_fresh (other_fresh xs))
 all-two P [] lt h = absurd (omega arith)
 all-two P (x ∷ []) lt h = absurd (omega arith)
 all-two P (x ∷ y ∷ xs) lt h = (h.0, h.1.0)
@@ -58,10 +56,10 @@ module _ (roots root : ℕ) (key : MapKey) (value : ℕ) (fresh : List ℕ) (old
   g = insert_below m bits fresh key value (height_of m root) root
 
   abbrev a : ℕ
-  a = first_of (insert_below m bits fresh key value (height_of m root) root).fresh
+  a = first_fresh (insert_below m bits fresh key value (height_of m root) root).fresh
 
   abbrev b : ℕ
-  b = first_of (rest_of (insert_below m bits fresh key value (height_of m root) root).fresh)
+  b = first_fresh (other_fresh (insert_below m bits fresh key value (height_of m root) root).fresh)
 
   over : MOST_RECORDS < length (g.memory root).records
   over = let l = length-here roots root key value fresh old m bits x height 0 root refl refl k v work p in omega arith
@@ -89,10 +87,10 @@ module _ (roots root : ℕ) (key : MapKey) (value : ℕ) (fresh : List ℕ) (old
   two-few = let h = has-two in let e = ap length p.fresh_is in let d = length-drop height fresh in omega arith
 
   pub left-at : a ≡ get_or fresh height 0
-  left-at = ap first_of p.fresh_is ∙ first_of-drop height fresh
+  left-at = ap first_fresh p.fresh_is ∙ first_fresh-drop height fresh
 
   pub right-at : b ≡ get_or fresh (suc height) 0
-  right-at = ap (λ xs. first_of (rest_of xs)) p.fresh_is ∙ (ap first_of (rest_of-drop height fresh) ∙ first_of-drop (suc height) fresh)
+  right-at = ap (λ xs. first_fresh (other_fresh xs)) p.fresh_is ∙ (ap first_fresh (other_fresh-drop height fresh) ∙ first_fresh-drop (suc height) fresh)
 
   under : IsInsertedBelow m roots key value root height root g
   under = below roots root key value fresh old m bits x height 0 root refl refl k v work p
@@ -317,16 +315,16 @@ module _ (roots root : ℕ) (key : MapKey) (value : ℕ) (fresh : List ℕ) (old
         | inl e ↦ subst (λ q. memory_in new q ≡ ticked m touched_after pages_after q) (sym e) (
             after-left ∙ (ap (λ (q : PageState). tick (raised_left (with_record k v q) b (memory_in work a).clock)) root-now
             ∙ (ap (λ (q : PageState). tick (raised_left (with_record k v (m root)) b q.clock)) (now-at a a-some unused.0 left_there)
-            ∙ sym (ticked-on m touched_after pages_after a on-left ∙ ap (with_clock ((m a).clock + 1)) pages-left))))
+            ∙ sym (ticked-touched m touched_after pages_after a on-left ∙ ap (with_clock ((m a).clock + 1)) pages-left))))
         | inr na ↦ elim (cases_eq n b) [
           | inl e ↦ subst (λ q. memory_in new q ≡ ticked m touched_after pages_after q) (sym e) (
               after-right ∙ (ap (λ (q : PageState). tick (raised_right (with_record k v q) a (memory_in work b).clock)) root-now
               ∙ (ap (λ (q : PageState). tick (raised_right (with_record k v (m root)) a q.clock)) (now-at b b-some unused.1 right_there)
-              ∙ sym (ticked-on m touched_after pages_after b on-right ∙ ap (with_clock ((m b).clock + 1)) pages-right))))
+              ∙ sym (ticked-touched m touched_after pages_after b on-right ∙ ap (with_clock ((m b).clock + 1)) pages-right))))
           | inr nb ↦ elim (cases_eq n root) [
             | inl e ↦ subst (λ q. memory_in new q ≡ ticked m touched_after pages_after q) (sym e) (
                 after-root ∙ (ap (λ (q : PageState). tick (raised_root (with_record k v q) a b)) root-now
-                ∙ sym (ticked-on m touched_after pages_after root on-root ∙ ap (with_clock ((m root).clock + 1)) pages-root)))
+                ∙ sym (ticked-touched m touched_after pages_after root on-root ∙ ap (with_clock ((m root).clock + 1)) pages-root)))
             | inr nr ↦
                 ap state_or_free (after-other n nr na nb) ∙ (p.same n ns (after-was n there)
                 ∙ ticked-same m p.touched touched_after p.memory pages_after n (sym (touched-other n ns nr na nb)) (sym (pages-other n nr na nb)))

@@ -20,8 +20,9 @@ use Rattle.ib_walk.proofs.SearchLaws.{above, above-zero}
 use Rattle.ib_plans.specs.Marks.{mark, with_bit, with_clock, ticked}
 use Rattle.ib_plans.specs.Moves.{Move, Puts, Fills, unmoved, with_move, HasMoved}
 use Rattle.ib_plans.specs.Split.{with_records, with_prev, right_part, first_key, next_or, split_page}
-use Rattle.ib_plans.specs.Insert.{Growth, first_of, rest_of, insert_below, put_at, split}
+use Rattle.ib_plans.specs.Insert.{Growth, first_fresh, other_fresh, insert_below, put_at, split}
 use Rattle.ib_plans.specs.Agreement.{IsThere, state_or_free, memory_in, tick, with_bits}
+use Rattle.ib_plans.proofs.ClockLaws.{ticked-touched}
 use Rattle.ib_plans.proofs.EditLaws.{IsSome-and}
 use Rattle.ib_plans.proofs.InsertLaws.{AreFresh-first, AreFresh-each, split_long-long, split-pages, page-after_split}
 use Rattle.ib_plans.proofs.LevelLaws.{above-suc}
@@ -32,21 +33,21 @@ use Rattle.ib_plans.proofs.PageLaws.{mark-off, mark-on, mark-own}
 use Rattle.ib_plans.proofs.PathLaws.{PathPage, PathPage-below, page_below-child}
 use Rattle.ib_plans.proofs.SplitPageLaws.{SplitPages, parent-not_child, parent-not_fresh, child-not_fresh, next-not_fresh, next-not_parent, child-after_split, fresh-after_split, next-after_split, split_page-other}
 use Rattle.ib_split.specs.Inserts.{with_record, lower_half, upper_half, HasNeighbour, CanSplit, IsSplit}
-use Rattle.ib_split.proofs.Pending.{IsPending, HasRoom, ticked-on, ticked-same, below, on-path, clean-here, kept-here, long-here, memory-other, rest, now, absent-here, length-here}
+use Rattle.ib_split.proofs.Pending.{IsPending, HasRoom, ticked-same, below, on-path, clean-here, kept-here, long-here, memory-other, rest, now, absent-here, length-here}
 use Rattle.ib_split.proofs.SplitEdits.{split-page, split-fresh, split-next, split-other, split-there, split-was, split-reads}
 
 -- the first of the fresh pages that are left, and the others
-pub first_of-drop : (i : ℕ) (xs : List ℕ) → first_of (drop i xs) ≡ get_or xs i 0
-first_of-drop zero [] = refl
-first_of-drop zero (x ∷ xs) = refl
-first_of-drop (suc i) [] = refl
-first_of-drop (suc i) (x ∷ xs) = first_of-drop i xs
+pub first_fresh-drop : (i : ℕ) (xs : List ℕ) → first_fresh (drop i xs) ≡ get_or xs i 0
+first_fresh-drop zero [] = refl
+first_fresh-drop zero (x ∷ xs) = refl
+first_fresh-drop (suc i) [] = refl
+first_fresh-drop (suc i) (x ∷ xs) = first_fresh-drop i xs
 
-pub rest_of-drop : (i : ℕ) (xs : List ℕ) → rest_of (drop i xs) ≡ drop (suc i) xs
-rest_of-drop zero [] = refl
-rest_of-drop zero (x ∷ xs) = refl
-rest_of-drop (suc i) [] = refl
-rest_of-drop (suc i) (x ∷ xs) = rest_of-drop i xs
+pub other_fresh-drop : (i : ℕ) (xs : List ℕ) → other_fresh (drop i xs) ≡ drop (suc i) xs
+other_fresh-drop zero [] = refl
+other_fresh-drop zero (x ∷ xs) = refl
+other_fresh-drop (suc i) [] = refl
+other_fresh-drop (suc i) (x ∷ xs) = other_fresh-drop i xs
 
 -- one page more of the front of a list is taken
 pub with_bits-more : (i : ℕ) (xs : List ℕ) (bits : ℕ → ℕ) (n : ℕ) → i < length xs → with_bits (take (suc i) xs) 1 bits n ≡ with_bit (get_or xs i 0) 1 (with_bits (take i xs) 1 bits) n
@@ -55,11 +56,11 @@ with_bits-more zero (x ∷ xs) bits n lt = refl
 with_bits-more (suc i) [] bits n lt = absurd (omega arith)
 with_bits-more (suc i) (x ∷ xs) bits n lt = with_bits-more i xs (with_bit x 1 bits) n (omega arith)
 
-all-first : (P : ℕ → Type 0) (xs : List ℕ) → 0 < length xs → AllByRecursion P xs → P (first_of xs)
+all-first : (P : ℕ → Type 0) (xs : List ℕ) → 0 < length xs → AllByRecursion P xs → P (first_fresh xs)
 all-first P [] some h = absurd (omega arith)
 all-first P (x ∷ xs) some h = h.0
 
-all-rest : (P : ℕ → Type 0) (xs : List ℕ) → AllByRecursion P xs → AllByRecursion P (rest_of xs)
+all-rest : (P : ℕ → Type 0) (xs : List ℕ) → AllByRecursion P xs → AllByRecursion P (other_fresh xs)
 all-rest P [] h = tt
 all-rest P (x ∷ xs) h = h.1
 
@@ -125,7 +126,7 @@ module _ (roots root : ℕ) (key : MapKey) (value : ℕ) (fresh : List ℕ) (old
   g = insert_below m bits fresh key value height (child_for key 0 (m parent).records)
 
   abbrev f : ℕ
-  f = first_of (insert_below m bits fresh key value height (child_for key 0 (m parent).records)).fresh
+  f = first_fresh (insert_below m bits fresh key value height (child_for key 0 (m parent).records)).fresh
 
   tall-page : height_of m root ≡ above (suc depth) height
   tall-page = tall ∙ above-suc depth height
@@ -143,7 +144,7 @@ module _ (roots root : ℕ) (key : MapKey) (value : ℕ) (fresh : List ℕ) (old
   height-few = let a = has-fresh in let b = ap length p.fresh_is in let c = length-drop height fresh in omega arith
 
   pub fresh-at : f ≡ get_or fresh height 0
-  fresh-at = ap first_of p.fresh_is ∙ first_of-drop height fresh
+  fresh-at = ap first_fresh p.fresh_is ∙ first_fresh-drop height fresh
 
   the-pages : SplitPages g.memory height parent page f
   the-pages = split-pages m bits roots x.law key value x.in_range root x.some x.le fresh x.free x.missing height depth parent tall at g
@@ -388,18 +389,18 @@ module _ (roots root : ℕ) (key : MapKey) (value : ℕ) (fresh : List ℕ) (old
 
       same-page : memory_in new page ≡ ticked m touched_after pages_after page
       same-page = after-page ∙ (ap (λ (q : PageState). tick (lower_half (with_record k v q) f)) page-now
-          ∙ sym (ticked-on m touched_after pages_after page on-page ∙ ap (with_clock ((m page).clock + 1)) pages-page))
+          ∙ sym (ticked-touched m touched_after pages_after page on-page ∙ ap (with_clock ((m page).clock + 1)) pages-page))
 
       same-fresh : memory_in new f ≡ ticked m touched_after pages_after f
       same-fresh = after-fresh ∙ (ap (λ (q : PageState). tick (upper_half (with_record k v q) page (memory_in work f).clock)) page-now
           ∙ (ap (λ (q : PageState). tick (upper_half (with_record k v (m page)) page q.clock)) fresh-now
-          ∙ sym (ticked-on m touched_after pages_after f on-fresh ∙ ap (with_clock ((m f).clock + 1)) pages-fresh)))
+          ∙ sym (ticked-touched m touched_after pages_after f on-fresh ∙ ap (with_clock ((m f).clock + 1)) pages-fresh)))
 
       same-next : (m page).next ≢ 0 → memory_in new (m page).next ≡ ticked m touched_after pages_after (m page).next
       same-next ne =
           let some : (memory_in work page).next ≢ 0 = λ z. ne (sym next-is ∙ z) in
           ap (memory_in new) (sym next-is) ∙ (after-next some ∙ (ap (λ n. tick (with_prev f (memory_in work n))) next-is ∙ (ap (λ (q : PageState). tick (with_prev f q)) (next-now ne)
-          ∙ sym (ticked-on m touched_after pages_after (m page).next (on-next ne) ∙ ap (with_clock ((m (m page).next).clock + 1)) (pages-next ne)))))
+          ∙ sym (ticked-touched m touched_after pages_after (m page).next (on-next ne) ∙ ap (with_clock ((m (m page).next).clock + 1)) (pages-next ne)))))
 
       same-after : (n : ℕ) → n ≢ 0 → IsThere new n → memory_in new n ≡ ticked m touched_after pages_after n
       same-after n ns there = elim (cases_eq n f) [
@@ -486,17 +487,17 @@ module _ (roots root : ℕ) (key : MapKey) (value : ℕ) (fresh : List ℕ) (old
       unused-after =
           let b = below roots root key value fresh old m bits x height (suc depth) page tall-page at-page k v work p in
           let ready = AreFresh-first g.bits g.fresh has-fresh b.free in
-          let clear = AreFresh-each (with_bit f 1 g.bits) (rest_of g.fresh) ready.2 (λ n. (n ≢ f) × (g.bits n ≡ 0)) (λ n none. elim (cases_eq n f) [
+          let clear = AreFresh-each (with_bit f 1 g.bits) (other_fresh g.fresh) ready.2 (λ n. (n ≢ f) × (g.bits n ≡ 0)) (λ n none. elim (cases_eq n f) [
             | inl e ↦ absurd (let one = cond-eq {X = ℕ} n f 1 (g.bits n) e in omega arith)
             | inr ne ↦ (ne, sym (cond-ne {X = ℕ} n f 1 (g.bits n) ne) ∙ none)
           ]) in
           let left = all-rest (λ q. p.touched q ≡ false) g.fresh (subst (AllByRecursion (λ q. p.touched q ≡ false)) (sym p.fresh_is) p.unused) in
-          let all = all-both (λ n. (n ≢ f) × (g.bits n ≡ 0)) (λ q. p.touched q ≡ false) (λ q. touched_after q ≡ false) (rest_of g.fresh) (λ n c off.
+          let all = all-both (λ n. (n ≢ f) × (g.bits n ≡ 0)) (λ q. p.touched q ≡ false) (λ q. touched_after q ≡ false) (other_fresh g.fresh) (λ n c off.
           let kind = b.lawful.unmet n c.1 in
           let not_page : n ≢ page = λ e. (let a = ap (λ i. (g.memory i).kind) e in let d = the-pages.child_kind in cc) in
           let not_next : n ≢ next_or f (g.memory page) = next_or-apart f (g.memory page) n c.0 (λ some e. let a = ap (λ i. (g.memory i).kind) e in let d = (the-pages.behind some).kind in cc) in
           mark-none f (mark page (mark (next_or f (g.memory page)) p.touched)) n c.0 (mark-none page (mark (next_or f (g.memory page)) p.touched) n not_page (mark-none (next_or f (g.memory page)) p.touched n not_next off))) clear left in
-          subst (AllByRecursion (λ q. touched_after q ≡ false)) (ap rest_of p.fresh_is ∙ rest_of-drop height fresh) all
+          subst (AllByRecursion (λ q. touched_after q ≡ false)) (ap other_fresh p.fresh_is ∙ other_fresh-drop height fresh) all
 
       space-after : changed_of 0 new ≡ changed_of 0 old
       space-after = after-other 0 (λ e. page-some (sym e)) (λ e. the-pages.fresh_some (sym e)) (λ some e. some (sym e)) ∙ p.space
@@ -509,7 +510,7 @@ module _ (roots root : ℕ) (key : MapKey) (value : ℕ) (fresh : List ℕ) (old
         (λ n ns. ap (λ (q : Growth). q.touched n) e ∙ (ap (λ b. cond (eqb n 0) true (cond (eqb n f) true (cond (eqb n page) true (cond (eqb n parent) true (cond (eqb n (next_or f (g.memory page))) true b))))) (p.touched_is n ns)
             ∙ marks-turn page f parent (next_or f (g.memory page)) p.touched n ns)),
         ap (λ (q : Growth). q.touched 0) e ∙ sym (lt-ltb 0 (suc height) (omega arith)),
-        ap (λ (q : Growth). q.fresh) e ∙ (ap rest_of p.fresh_is ∙ rest_of-drop height fresh),
+        ap (λ (q : Growth). q.fresh) e ∙ (ap other_fresh p.fresh_is ∙ other_fresh-drop height fresh),
         (λ n. ap (λ (q : Growth). q.bits n) e ∙ (ap (λ b. cond (eqb n f) 1 b) (p.bits_is n) ∙ (ap (λ q. with_bit q 1 (with_bits (take height fresh) 1 bits) n) fresh-at ∙ sym (with_bits-more height fresh bits n height-few)))),
         (λ n. ap (λ (q : Growth). q.moves n) e ∙ (ap (λ j. with_move f Fills (with_move page Fills (with_move parent (Puts j) g.moves)) n) (sym first-is) ∙ moves-turn n)),
       )

@@ -18,7 +18,7 @@ use Rattle.ib_plans.specs.Agreement.{IsThere, memory_in, way_down, Agrees, HasTr
 use Rattle.ib_plans.proofs.EditLaws.{IsSome-and}
 use Rattle.ib_plans.proofs.LevelLaws.{above-suc}
 use Rattle.ib_plans.proofs.PathLaws.{PathPage, PathPage-below, page_below-child}
-use Rattle.ib_plans.proofs.PathListLaws.{pages_up, path_of-pages}
+use Rattle.ib_plans.proofs.PathListLaws.{length-way_down, pages_up, path_of-pages}
 
 -- from the root down is from the leaf up, turned
 pub way_down-reverse : (m : PageMemory) (key : MapKey) (height page : ℕ) → reverse (way_down m key height page) ≡ pages_up m key height page
@@ -26,10 +26,6 @@ way_down-reverse m key zero page = refl
 way_down-reverse m key (suc height) page =
     reverse-append (page ∷ []) (way_down m key height (child_for key 0 (m page).records))
     ∙ ap (λ ps. ps ++ page ∷ []) (way_down-reverse m key height (child_for key 0 (m page).records))
-
-pub length-way_down : (m : PageMemory) (key : MapKey) (height page : ℕ) → length (way_down m key height page) ≡ suc height
-length-way_down m key zero page = refl
-length-way_down m key (suc height) page = let r = length-way_down m key height (child_for key 0 (m page).records) in ap suc r
 
 -- the page so many levels below the first one
 pub way_down-at : (m : PageMemory) (key : MapKey) (depth height page : ℕ) → get_or (way_down m key (above depth height) page) depth 0 ≡ page_below m key depth page

@@ -10,8 +10,8 @@ ghost use Rattle.ib_split.specs.Inserts.{with_record, CanPut, CanSplit, IsSplit,
 
 use crate::halves::{raise_images, split_images};
 use ib_map::Key;
-use ib_page::{SpaceImage, WorkSet};
-use ib_plans::{empty_page, image_of, link_back};
+use ib_page::{Image, SpaceImage, WorkSet};
+use ib_plans::{image_of, link_back};
 
 // Puts a record into a page of the tree that has room for it.
 pub(crate) fn put_record(work: &mut WorkSet, page: u32, key: Key, value: u64)
@@ -32,7 +32,7 @@ pub(crate) fn split(work: &mut WorkSet, page: u32, fresh: u32, key: Key, value: 
 {
     let clock = image_of(work, fresh).clock();
     let next = image_of(work, page).next();
-    let mut right = empty_page(image_of(work, page).level(), clock);
+    let mut right = Image::empty(image_of(work, page).level(), clock);
     let first = split_images(work.edit(page), &mut right, page, fresh, key, value);
     *work.edit(fresh) = right;
     if next != 0 {
@@ -47,8 +47,8 @@ pub(crate) fn raise(work: &mut WorkSet, root: u32, left: u32, right: u32, key: K
     ensures { IsRaised root left right key value work.old work.new }
 {
     let level = image_of(work, root).level();
-    let mut low = empty_page(level, image_of(work, left).clock());
-    let mut high = empty_page(level, image_of(work, right).clock());
+    let mut low = Image::empty(level, image_of(work, left).clock());
+    let mut high = Image::empty(level, image_of(work, right).clock());
     raise_images(
         work.edit(root),
         &mut low,

@@ -1,4 +1,4 @@
-//! A page that has one record too many, as two halves.
+//! A page that has one record too many, as two halves (`btr_page_get_split_rec`, `btr_attach_half_pages`).
 
 ghost use Rattle.std.specs.Prelude.{◌≡◌, ◌≢◌, ◌<◌, ◌^◌, ◌+◌, ◌-◌, ◌==◌, ◌↔◌, if◌then◌else◌, [], ◌∷◌, length, None, IsNone, IsSome, OnOk};
 ghost use Rattle.ib_map.specs.Keys.{rank};

@@ -1,4 +1,4 @@
-//! The planned insert.
+//! The planned insert (btr0cur, `btr_cur_pessimistic_insert`).
 
 ghost use Rattle.std.specs.Prelude.{◌≡◌, ◌↔◌, ◌<◌, ◌≤◌, length, None, IsSome, IsErr, OnOk, OnErr, IfErr};
 ghost use Rattle.ib_map.specs.Pairs.{value_at};

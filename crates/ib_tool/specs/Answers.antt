@@ -3,16 +3,17 @@ use Rattle.std.specs.Prelude.{◌≡◌, ◌⊎◌, ℕ, List, [], ◌≤◌, le
 use Rattle.std.specs.declared.option.Option.{Option}
 use Rattle.std.specs.Io.KnownBytes.{Keeps}
 use Rattle.ib_edge.specs.Input.{ReadsAll, ConsumesMore, ConsumesAtMost}
-use Rattle.ib_edge.specs.Lines.{readings_by}
+use Rattle.ib_edge.specs.Lines.{MayEndForMemory, readings_by}
 use Rattle.ib_edge.specs.Told.{Ending, OwesLines, ends}
 use Rattle.ib_edge.specs.declared.read.TheConstants.{INPUT_BYTES}
 use Rattle.ib_edge.specs.declared.status.Status.{Status}
 use Rattle.ib_edge.specs.declared.status.Status.TheVariants.{Done, Usage, ReadFault, Memory, TooLarge}
-use Rattle.ib_script.specs.Script.{ScriptValue, IsScript, first_fault, reading_of}
-use Rattle.ib_events.specs.Answers.{AnswersEvents}
+use Rattle.ib_script.specs.Script.{ScriptValue, IsScript, fault_behind, first_fault, is_command, reading_of}
+use Rattle.ib_events.specs.Answers.{AnswersEvents, MayLackEvents}
 use Rattle.ib_events.specs.Events.{event_fault}
 use Rattle.ib_logrec.specs.declared.entry.Entry.{Entry}
 use Rattle.ib_logs.specs.Answers.{AnswersLog}
+use Rattle.ib_replay.specs.Files.{file_fault}
 use Rattle.ib_replay.specs.RawLogs.{IsRawLog}
 use Rattle.ib_tool.specs.Texts.{IsCountText, IsWrittenRun}
 use Rattle.ib_tool.specs.Words.{form_of, usage_line, too_large_line}
@@ -29,6 +30,10 @@ IsScriptText shape input text = (script : ScriptValue) × IsScript (readings_by 
 abbrev pub AnswersScript : Shape → List ℕ → Ending → Type 0
 AnswersScript shape input e = OwesLines (first_fault (readings_by reading_of input)) (IsScriptText shape input) e
 
+-- memory may be wanting for a script: before its first bad line, or where no line is bad
+abbrev pub MayLackScript : List ℕ → Type 0
+MayLackScript input = MayEndForMemory fault_behind is_command (readings_by reading_of input)
+
 -- The ending that is owed for an input. A generated script takes nothing of it.
 abbrev pub AnswersInput : Form → List ℕ → Ending → Type 0
 AnswersInput Run input e = AnswersScript Text input e
@@ -36,6 +41,14 @@ AnswersInput Raw input e = AnswersScript File input e
 AnswersInput Latch input e = AnswersEvents input e
 AnswersInput Replay input e = AnswersLog input e
 AnswersInput (Gen load) input e = (e.status ≡ Done) × IsCountText load e.text
+
+-- memory may be wanting for an input: of lines where the first bad one does not come before, of a log where the file itself has no fault
+abbrev pub MayLackInput : Form → List ℕ → Type 0
+MayLackInput Run input = MayLackScript input
+MayLackInput Raw input = MayLackScript input
+MayLackInput Latch input = MayLackEvents input
+MayLackInput Replay input = file_fault input ≡ None
+MayLackInput (Gen load) input = Unit {0}
 
 -- The ending that is owed by a form that reads: that more was read than the limit, or an answer to an input that was read to its end.
 abbrev pub OwesInput : Form → Option (List ℕ) → Option (List ℕ) → Ending → Type 0
@@ -68,17 +81,17 @@ abbrev pub IsSilent : List (List ℕ) → Option (List ℕ) → Option (List ℕ
 IsSilent words old new status = (form : Form) × (form_of words ≡ Some form) × IsSilentAt form old new status
 
 -- nothing is wrong with the input: each line is good, or the bytes are the file of a lawful log
-abbrev pub IsGood : Form → List ℕ → Type 0
-IsGood Run input = first_fault (readings_by reading_of input) ≡ None
-IsGood Raw input = first_fault (readings_by reading_of input) ≡ None
-IsGood Latch input = event_fault input ≡ None
-IsGood Replay input = (pages : ℕ) × (log : List Entry) × IsRawLog input pages log
-IsGood (Gen load) input = Unit {0}
+abbrev pub IsGoodInput : Form → List ℕ → Type 0
+IsGoodInput Run input = first_fault (readings_by reading_of input) ≡ None
+IsGoodInput Raw input = first_fault (readings_by reading_of input) ≡ None
+IsGoodInput Latch input = event_fault input ≡ None
+IsGoodInput Replay input = (pages : ℕ) × (log : List Entry) × IsRawLog input pages log
+IsGoodInput (Gen load) input = Unit {0}
 
 -- all that a source has left is known, not too long, and good
 abbrev pub HasGood : Form → Option (List ℕ) → Type 0
 HasGood form None = ⊥
-HasGood form (Some input) = (length input ≤ INPUT_BYTES) × IsGood form input
+HasGood form (Some input) = (length input ≤ INPUT_BYTES) × IsGoodInput form input
 
 -- The form gets what it needs of a source. `gen` needs nothing.
 abbrev pub IsServed : Form → Option (List ℕ) → Type 0

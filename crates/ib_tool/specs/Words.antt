@@ -29,9 +29,9 @@ form_of (word ∷ commands ∷ seed ∷ sessions ∷ []) =
 form_of _ = None
 
 -- what a script is generated from may be
-abbrev pub IsLawful : Form → Type 0
-IsLawful (Gen load) = is_load load.commands load.seed load.sessions ≡ true
-IsLawful _ = Unit {0}
+abbrev pub IsLawfulForm : Form → Type 0
+IsLawfulForm (Gen load) = is_load load.commands load.seed load.sessions ≡ true
+IsLawfulForm _ = Unit {0}
 
 -- whether a form reads its source
 abbrev pub reads : Form → Bool

@@ -1,20 +1,20 @@
 //! What the program answers to an input that was read.
 
-ghost use Rattle.std.specs.Prelude.{◌≡◌, ◌<◌, ◌≤◌, ◌^◌, IfOk, length, true};
+ghost use Rattle.std.specs.Prelude.{◌≡◌, ◌≢◌, ◌<◌, ◌≤◌, ◌^◌, IfOk, length, true};
 ghost use Rattle.ib_edge.specs.Faults.{Rose};
-ghost use Rattle.ib_edge.specs.Told.{IsMemory, Told};
+ghost use Rattle.ib_edge.specs.Told.{IsMemory, IsMemoryWhere, Told};
 ghost use Rattle.ib_replay.specs.Files.{file_of};
 ghost use Rattle.ib_runs.specs.Outcomes.{HasRan};
 ghost use Rattle.ib_script.specs.Loads.{is_load};
 ghost use Rattle.ib_script.specs.Script.{IsSmall};
-ghost use Rattle.ib_tool.specs.Answers.{AnswersInput, AnswersScript};
+ghost use Rattle.ib_tool.specs.Answers.{AnswersInput, AnswersScript, MayLackInput, MayLackScript};
 ghost use Rattle.ib_tool.specs.Texts.{IsCountText, IsRawText, IsWrittenRun};
-ghost use Rattle.ib_tool.specs.Words.{IsLawful};
+ghost use Rattle.ib_tool.specs.Words.{IsLawfulForm};
 
 use crate::form::Form;
 use crate::print::{Bytes, CountText, RunText};
 use crate::shape::Shape;
-use ib_edge::{BadLine, INPUT_BYTES, ScriptFault, Sink, Status, tell};
+use ib_edge::{INPUT_BYTES, Sink, Status, refuse, tell};
 use ib_events::answer_events;
 use ib_logs::answer_log;
 use ib_replay::write_log;
@@ -38,6 +38,7 @@ fn file_of(alloc: Global, pages: u32, words: &[u64]) -> Result<Vec<u8>, AllocErr
 fn write_file<K: Sink>(alloc: Global, script: &Script, ran: &Ran, sink: &mut K) -> Status
     requires { HasRan script.now.sizes script.now.commands ran.now }
     ensures told { Told (λ e. (e.status ≡ Status.Done) × IsRawText script.now e.text) IsMemory (K.written sink.old) (K.written sink.new) result }
+    ensures calm { result ≢ Status.WriteFault → K.faults sink.new ≡ K.faults sink.old }
     ensures write { result ≡ Status.WriteFault → Rose (K.faults sink.old) (K.faults sink.new) }
 {
     let geometry = script.geometry();
@@ -60,6 +61,7 @@ fn run<K: Sink, G: Gate + Sync, R: Threads + Wait + Sync>(
 ) -> Status
     requires { IsSmall script.now }
     ensures told { Told (λ e. (e.status ≡ Status.Done) × IsWrittenRun shape script.now e.text) IsMemory (K.written sink.old) (K.written sink.new) result }
+    ensures calm { result ≢ Status.WriteFault → K.faults sink.new ≡ K.faults sink.old }
     ensures write { result ≡ Status.WriteFault → Rose (K.faults sink.old) (K.faults sink.new) }
 {
     let Ok(ran) = run_script(rt, alloc, script, gate) else {
@@ -81,15 +83,13 @@ fn answer_script<K: Sink, G: Gate + Sync, R: Threads + Wait + Sync>(
     gate: &G,
 ) -> Status
     requires { length input.now ≤ INPUT_BYTES }
-    ensures told { Told (AnswersScript shape input.now) IsMemory (K.written sink.old) (K.written sink.new) result }
+    ensures told { Told (AnswersScript shape input.now) (IsMemoryWhere (MayLackScript input.now)) (K.written sink.old) (K.written sink.new) result }
+    ensures calm { result ≢ Status.WriteFault → K.faults sink.new ≡ K.faults sink.old }
     ensures write { result ≡ Status.WriteFault → Rose (K.faults sink.old) (K.faults sink.new) }
 {
     match read_script::<PlainLines>(alloc, input) {
         Ok(script) => run(rt, alloc, shape, &script, sink, gate),
-        Err(ScriptFault::OutOfMemory) => Status::Memory,
-        Err(ScriptFault::BadLine { line, kind }) => {
-            tell(sink, BadLine { line, kind }, Status::Script)
-        }
+        Err(fault) => refuse(sink, fault),
     }
 }
 
@@ -103,6 +103,7 @@ fn answer_load<K: Sink, G: Gate + Sync, R: Threads + Wait + Sync>(
 ) -> Status
     requires { is_load load.commands load.seed load.sessions ≡ true }
     ensures told { Told (λ e. (e.status ≡ Status.Done) × IsCountText load e.text) IsMemory (K.written sink.old) (K.written sink.new) result }
+    ensures calm { result ≢ Status.WriteFault → K.faults sink.new ≡ K.faults sink.old }
     ensures write { result ≡ Status.WriteFault → Rose (K.faults sink.old) (K.faults sink.new) }
 {
     let Ok(script) = generate(alloc, load) else {
@@ -124,8 +125,9 @@ pub fn answer<K: Sink, G: Gate + Sync, R: Threads + Wait + Sync>(
     gate: &G,
 ) -> Status
     requires few { length input.now ≤ INPUT_BYTES }
-    requires lawful { IsLawful form }
-    ensures told { Told (AnswersInput form input.now) IsMemory (K.written sink.old) (K.written sink.new) result }
+    requires lawful { IsLawfulForm form }
+    ensures told { Told (AnswersInput form input.now) (IsMemoryWhere (MayLackInput form input.now)) (K.written sink.old) (K.written sink.new) result }
+    ensures calm { result ≢ Status.WriteFault → K.faults sink.new ≡ K.faults sink.old }
     ensures write { result ≡ Status.WriteFault → Rose (K.faults sink.old) (K.faults sink.new) }
 {
     match form {

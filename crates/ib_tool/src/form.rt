@@ -2,7 +2,7 @@
 
 ghost use Rattle.std.specs.Prelude.{◌≡◌, IfSome, map, string_bytes};
 ghost use Rattle.ib_edge.specs.Numbers.{number_of};
-ghost use Rattle.ib_tool.specs.Words.{IsLawful, form_named, form_of, gen_by, reads};
+ghost use Rattle.ib_tool.specs.Words.{IsLawfulForm, form_named, form_of, gen_by, reads};
 
 use ib_edge::number_in;
 use ib_script::Load;
@@ -50,7 +50,7 @@ fn form_named(word: &[u8]) -> Option<Form>
 // `gen` with these words, where they are numbers from which a script may be generated.
 fn gen_by(commands: &[u8], seed: &[u8], sessions: &[u8]) -> Option<Form>
     ensures form { result ≡ gen_by (number_of commands.now) (number_of seed.now) (number_of sessions.now) }
-    ensures lawful { IfSome result IsLawful }
+    ensures lawful { IfSome result IsLawfulForm }
 {
     let commands = number_in(commands).ok()?;
     let seed = number_in(seed).ok()?;
@@ -62,7 +62,7 @@ fn gen_by(commands: &[u8], seed: &[u8], sessions: &[u8]) -> Option<Form>
 /// The form that these words name, where they are one.
 pub fn form_of(words: &[String]) -> Option<Form>
     ensures form { result ≡ form_of (map (λ w. string_bytes w) words.now) }
-    ensures lawful { IfSome result IsLawful }
+    ensures lawful { IfSome result IsLawfulForm }
 {
     match words {
         [word] => form_named(word.as_bytes()),

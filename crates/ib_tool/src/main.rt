@@ -15,7 +15,8 @@ mod top;
 
 use args::words;
 pub use ib_edge::{
-    Failed, INPUT_BYTES, MemSink, MemSource, PIECE_BYTES, ReadError, Sink, Source, Status, read_all,
+    Failed, INPUT_BYTES, MemorySink, MemorySource, PIECE_BYTES, ReadError, Sink, Source, Status,
+    read_all,
 };
 pub use ib_runs::{Gate, OpenGate, SessionOut, run_session};
 pub use laws::text_law;

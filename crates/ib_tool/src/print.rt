@@ -29,6 +29,7 @@ fn print_sessions<K: Sink>(writer: &mut Writer<'_, K>, sessions: &[SessionOut])
 /// A run of a script. Its text is what each session was answered, the log and the map in the end.
 #[derive(Drop)]
 pub struct RunText {
+    /// What its sessions came to.
     pub ran: Ran,
     ghost few: { vec_len ran.sessions ≤ MOST_SCRIPT_SESSIONS },
     ghost whole: { All IsWhole ran.sessions.items },
@@ -85,6 +86,7 @@ fn print_kind<K: Sink>(
 /// A run of a script. Its text is how often each reply came, and how many pairs the map has in the end.
 #[derive(Drop)]
 pub struct CountText {
+    /// What its sessions came to.
     pub ran: Ran,
     ghost few: { sum_by (λ out. length out.records) ran.sessions.items ≤ MOST_COMMANDS },
 }

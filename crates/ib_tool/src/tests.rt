@@ -21,13 +21,13 @@ fn told(
     alloc: Global,
     words: &[&str],
     input: &[u8],
-) -> Result<(Status, MemSink), Fail> {
+) -> Result<(Status, MemorySink), Fail> {
     let mut given = Vec::new(alloc);
     for word in words {
         given.push(String::from_str(alloc, word)?)?;
     }
-    let mut source = MemSource::new(Vec::from_slice(alloc, input)?, 1000, Vec::new(alloc));
-    let mut sink = MemSink::new(alloc, 1000, Vec::new(alloc));
+    let mut source = MemorySource::new(Vec::from_slice(alloc, input)?, 1000, Vec::new(alloc));
+    let mut sink = MemorySink::new(alloc, 1000, Vec::new(alloc));
     let status = top(rt, alloc, &given, &mut source, &mut sink, &OpenGate);
     Ok((status, sink))
 }

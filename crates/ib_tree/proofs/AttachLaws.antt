@@ -6,7 +6,8 @@ use Rattle.ib_walk.specs.Walk.{Visit, sum_of}
 use Rattle.ib_patch.specs.PatchTest.{Position, Positions, at_page, positions_over, set_at, position_of, same_position, is_none, attach}
 use Rattle.ib_walk.proofs.ChoiceLaws.{Some-same, cond-eq, cond-ne}
 use Rattle.ib_tree.proofs.DetachLaws.{in_tree, in_tree-plus}
-use Rattle.ib_tree.proofs.PositionLaws.{is_none-None, positions_over-set_at, same_position-Some}
+use Rattle.ib_patch.proofs.RestLaws.{same_position-is}
+use Rattle.ib_tree.proofs.PositionLaws.{is_none-None, positions_over-set_at}
 
 -- the children that are met
 module _ (written : ℕ → Bool) (old : Positions) (n : ℕ) (few : (p : ℕ) → written p ≡ true → p < n) (old_few : (p : ℕ) → n ≤ p → old p ≡ None) where
@@ -76,7 +77,7 @@ module _ (written : ℕ → Bool) (old : Positions) (n : ℕ) (few : (p : ℕ) �
               | inr o ↦ inr o
               | inl same ↦ elim (cases_eq p k.page) [
                 | inr ne ↦ inl (same ∙ cond-ne p k.page (Some (position_of tree h k)) (now p) ne)
-                | inl s ↦ inr (same ∙ (cond-eq p k.page (Some (position_of tree h k)) (now p) s ∙ sym (ap old s ∙ same_position-Some (old k.page) (position_of tree h k) (right (written k.page) (same_position (old k.page) (position_of tree h k)) (ap written (sym s) ∙ w) a.1))))
+                | inl s ↦ inr (same ∙ (cond-eq p k.page (Some (position_of tree h k)) (now p) s ∙ sym (ap old s ∙ same_position-is (old k.page) (position_of tree h k) (right (written k.page) (same_position (old k.page) (position_of tree h k)) (ap written (sym s) ∙ w) a.1))))
               ]
             ];
           }

@@ -14,7 +14,8 @@ use Rattle.ib_patch.specs.PatchTest.{Position, Positions, visit_of, at_page, pos
 use Rattle.ib_walk.proofs.ChoiceLaws.{Some-same, cond-eq, cond-ne}
 use Rattle.ib_walk.proofs.MeetLaws.{is_page-own}
 use Rattle.ib_walk.proofs.TreeLaws.{times_met-le, weight_of-le, weight_of-two_le}
-use Rattle.ib_tree.proofs.DetachLaws.{detach_pages-cases, in_tree, in_tree-own, in_tree-plus, sum_of-children_at}
+use Rattle.ib_patch.proofs.RestLaws.{detach_pages-each}
+use Rattle.ib_tree.proofs.DetachLaws.{in_tree, in_tree-own, in_tree-plus, sum_of-children_at}
 use Rattle.ib_tree.proofs.PatchLaws.{IsGoodAt-tree, is_visit-own, weight-off_other}
 use Rattle.ib_tree.proofs.PatchedLaws.{AreKept, most_height-lt, written-cases}
 use Rattle.ib_tree.proofs.PositionLaws.{Stands, Stands-counted, at_page-le, counted-Stands, is_none-None, list_over-plus, list_over-same, list_over-weights, positions_over-set_at}
@@ -321,14 +322,14 @@ module _ (written : ℕ → Bool) (m new : PageMemory) (same : (p : ℕ) → wri
       valid = record {
         trees = λ p e at. elim (set_roots-cases written new end_rank roots (detach_pages m old ps old) p) [
           | inr q ↦ let x = ap (λ (d : Position). d.tree) (Some-same (root_at new p end_rank) e (sym q.2 ∙ at)) in let y = q.0 in let z = q.1 in (omega arith, omega arith)
-          | inl s ↦ elim (detach_pages-cases m old ps old p) [
+          | inl s ↦ elim (detach_pages-each m old ps old p) [
             | inl t ↦ kept.trees p e (sym t ∙ (sym s ∙ at))
             | inr z ↦ absurd (let x = sym z ∙ (sym s ∙ at) in cc)
           ]
         ];
         within = λ p e at. elim (set_roots-cases written new end_rank roots (detach_pages m old ps old) p) [
           | inr q ↦ written-cases written p (p < n) (few p) (λ w. root-in p q.0 q.1)
-          | inl s ↦ elim (detach_pages-cases m old ps old p) [
+          | inl s ↦ elim (detach_pages-each m old ps old p) [
             | inl t ↦ old-in p e (sym t ∙ (sym s ∙ at))
             | inr z ↦ absurd (let x = sym z ∙ (sym s ∙ at) in cc)
           ]

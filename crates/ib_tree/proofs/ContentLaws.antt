@@ -10,10 +10,11 @@ use Rattle.ib_map.proofs.RiseLaws.{Rises-le, Rises-higher, Rises-left, Rises-rig
 use Rattle.ib_page.specs.Page.{PageValue, HoldsTree}
 use Rattle.ib_page.specs.Page.PageValue.{Malformed as MalformedValue, Free as FreeValue, Tree as TreeValue}
 use Rattle.ib_walk.specs.Pages.{Tree, PageMemory}
-use Rattle.ib_walk.specs.Walk.{Visit, children_of, children, below, records_in, sum_of, weight, is_page, IsNodeAt, AreNodes, AreLinked, first_page, last_page}
+use Rattle.ib_walk.specs.Walk.{Visit, children_of, children, below, records_in, sum_of, weight, is_page, IsNodeAt, AreNodes, AreLinked, first_page}
 use Rattle.ib_walk.specs.Trees.{top_of, height_of, leaves_of, content_of, weight_of, IsTreeOf}
 use Rattle.ib_walk.specs.Words.{memory_of, state_of}
-use Rattle.ib_walk.proofs.MeetLaws.{is_page-own, lowest-le_weight}
+use Rattle.ib_walk.proofs.ChoiceLaws.{Some-same}
+use Rattle.ib_walk.proofs.MeetLaws.{AreLinked-right, is_page-own, lowest-le_weight}
 use Rattle.ib_walk.proofs.TreeLaws.{weight_of-le, Rises-content_of}
 use Rattle.ib_walk.proofs.WalkLaws.{records_in-append}
 use Rattle.ib_patch.specs.PatchTest.{Position, Positions, at_page, positions_over}
@@ -21,9 +22,6 @@ use Rattle.ib_patch.proofs.ChildLaws.{drop-slice_get}
 use Rattle.ib_patch.proofs.PassLaws.{bits_in-past}
 use Rattle.ib_tree.specs.Roots.{HasRoot}
 use Rattle.ib_tree.proofs.WholeTestLaws.{lawful-positions}
-
-some-same : (a b : MapKey × ℕ) → Some a ≡ Some b → a ≡ b
-some-same a b e = cc
 
 -- a key above all keys goes behind them
 pub put-last : (xs : Pairs) (x : MapKey × ℕ) (ys : Pairs) → Rises 0 (xs ++ x ∷ ys) end_rank → put x.0 x.1 xs ≡ xs ++ x ∷ []
@@ -40,7 +38,7 @@ put-next old records i x at rises =
   where
     take-next : (xs : Pairs) (k : ℕ) (y : MapKey × ℕ) → slice_get xs k ≡ Some y → take (k + 1) xs ≡ take k xs ++ y ∷ []
     take-next [] k y found = absurd (let e = found in cc)
-    take-next (z ∷ zs) zero y found = ap (λ w. w ∷ []) (some-same z y found)
+    take-next (z ∷ zs) zero y found = ap (λ w. w ∷ []) (Some-same z y found)
     take-next (z ∷ zs) (suc k) y found = ap (λ n. take n (z ∷ zs)) (add-one (suc k)) ∙ ap (λ ws. z ∷ ws) (ap (λ n. take n zs) (sym (add-one k)) ∙ take-next zs k y found)
 
 -- a page with records is one of a tree
@@ -50,7 +48,7 @@ tree-held (FreeValue clock) lt = absurd (omega arith)
 tree-held MalformedValue lt = absurd (omega arith)
 
 -- the level below a level, and what its pages weigh
-below-children : (m : PageMemory) (depth : ℕ) (vs : List Visit) → below m (suc depth) vs ≡ children m (below m depth vs)
+pub below-children : (m : PageMemory) (depth : ℕ) (vs : List Visit) → below m (suc depth) vs ≡ children m (below m depth vs)
 below-children m zero vs = refl
 below-children m (suc depth) vs = below-children m depth (children m vs)
 
@@ -87,7 +85,7 @@ children_of-first (y ∷ ys) x high more at = record {
   visit = record { page = y.1; low = rank y.0; high = first_rank ys high };
   rest = children_of ys high ++ more;
   is = refl;
-  here = let same : y ≡ x = some-same y x at in ap (λ (z : MapKey × ℕ). z.1) same;
+  here = let same : y ≡ x = Some-same y x at in ap (λ (z : MapKey × ℕ). z.1) same;
 }
 
 -- the first of some leaves
@@ -97,11 +95,6 @@ first-visit (v ∷ vs) page at ne = record { visit = v; rest = vs; is = refl; he
 
 page-first : (vs : List Visit) (page : ℕ) → BeginsWith vs page → page ≡ first_page vs 0
 page-first vs page begins = sym (ap (λ (xs : List Visit). first_page xs 0) begins.is ∙ begins.here)
-
--- the links behind some leaves
-AreLinked-behind : (m : PageMemory) (prev : ℕ) (xs ys : List Visit) (next : ℕ) → AreLinked m prev (xs ++ ys) next → AreLinked m (last_page prev xs) ys next
-AreLinked-behind m prev [] ys next linked = linked
-AreLinked-behind m prev (x ∷ xs) ys next linked = AreLinked-behind m x.page xs ys next linked.2
 
 -- no more leaves than pages
 each-one : (vs : List Visit) → sum_of (λ v. 1) vs ≡ length vs
@@ -244,7 +237,7 @@ module _ (images : List (List ℕ)) (root : ℕ) (has : HasRoot images root) whe
   walked-next count page map walked ne =
       let begins = first-visit walked.back page walked.here ne in
       let back = walked.is ∙ ap (λ vs. walked.front ++ vs) begins.is in
-      let links = AreLinked-behind (memory_of images) 0 walked.front (begins.visit ∷ begins.rest) 0 (subst (λ vs. AreLinked (memory_of images) 0 vs 0) back tree.linked) in
+      let links = AreLinked-right (memory_of images) 0 walked.front (begins.visit ∷ begins.rest) 0 (subst (λ vs. AreLinked (memory_of images) 0 vs 0) back tree.linked) in
       record {
         front = walked.front ++ begins.visit ∷ [];
         back = begins.rest;

@@ -114,22 +114,3 @@ detach_pages-unwritten written m old (q ∷ ps) now end p w b =
     at-one : (o : Option Position) → back_at written m q o end ≡ true → (detach_at m q o now p ≡ now p) ⊎ (is_none (end p) ≡ false)
     at-one None e = inl refl
     at-one (Some d) e = detach-unwritten written (children_at m d.height (visit_of q d)) now end p w e
-
--- a page stands as it stood, or is met no more
-pub detach-cases : (ks : List Visit) (now : Positions) (p : ℕ) → (detach ks now p ≡ now p) ⊎ (detach ks now p ≡ None)
-detach-cases [] now p = inl refl
-detach-cases (k ∷ ks) now p = elim (detach-cases ks (set_at now k.page None) p) [
-  | inr z ↦ inr z
-  | inl s ↦ elim (cases_eq p k.page) [ inl e ↦ inr (s ∙ cond-eq p k.page None (now p) e) | inr ne ↦ inl (s ∙ cond-ne p k.page None (now p) ne) ]
-]
-
-pub detach_pages-cases : (m : PageMemory) (old : Positions) (ps : List ℕ) (now : Positions) (p : ℕ) → (detach_pages m old ps now p ≡ now p) ⊎ (detach_pages m old ps now p ≡ None)
-detach_pages-cases m old [] now p = inl refl
-detach_pages-cases m old (q ∷ ps) now p = elim (detach_pages-cases m old ps (detach_at m q (old q) now) p) [
-  | inr z ↦ inr z
-  | inl s ↦ elim (one (old q)) [ inl e ↦ inl (s ∙ e) | inr z ↦ inr (s ∙ z) ]
-]
-  where
-    one : (o : Option Position) → (detach_at m q o now p ≡ now p) ⊎ (detach_at m q o now p ≡ None)
-    one None = inl refl
-    one (Some d) = detach-cases (children_at m d.height (visit_of q d)) now p

@@ -1,6 +1,5 @@
 -- A record that fits a log fits each longer one; and chunks of the first tree, each read at its place, are what the map has.
 use Rattle.std.proofs.Common.{◌≡◌, ℕ, ◌<◌, ◌≤◌, List, [], ◌∷◌, ◌++◌, Some, take, length, ap, sym, subst, ◌∙◌, arith, inl, inr, refl}
-use Rattle.std.specs.Prelude.{sum_by}
 use Rattle.std.specs.List.{AllByRecursion}
 use Rattle.std.proofs.lemmas.List.{take-append-le}
 use Rattle.ib_map.specs.Keys.{MapKey, IsKey, rank, key_after}
@@ -25,7 +24,7 @@ use Rattle.ib_walk.specs.Chunk.{IsChunk, IsChunkLeaf, EndsAt, IsLastKey}
 use Rattle.ib_walk.proofs.WalkLaws.{AllByRecursion-append}
 use Rattle.ib_tree.specs.Logs.{pages_after}
 use Rattle.ib_tree.specs.Scans.{IsReadAt, AreFront, AreWhole}
-use Rattle.ib_tree.specs.Fits.{TreeSpace, tree_at, free_at, IsLogFull, FitsInsert, FitsDelete, FitsLeaves, FitsTree, FitsLog}
+use Rattle.ib_tree.specs.Fits.{TreeSpace, tree_at, IsLogFull, FitsInsert, FitsDelete, FitsLeaves, FitsTree, FitsLog}
 
 -- a memory at a place is that of a longer log
 module _ (space : TreeSpace) (log more : List Entry) where
@@ -111,7 +110,7 @@ last-cons : (x y : MapKey × ℕ) (xs : Pairs) (a : MapKey) → IsLastKey (x ∷
 last-cons x y xs a ([], value, is) = cc
 last-cons x y xs a (z ∷ front, value, is) = (front, value, cc)
 
-last-same : (xs : Pairs) (a b : MapKey) → IsLastKey xs a → IsLastKey xs b → a ≡ b
+pub last-same : (xs : Pairs) (a b : MapKey) → IsLastKey xs a → IsLastKey xs b → a ≡ b
 last-same [] a b ([], value, is) two = cc
 last-same [] a b (y ∷ ys, value, is) two = cc
 last-same (x ∷ []) a b one two = sym (last-alone x a one) ∙ last-alone x b two

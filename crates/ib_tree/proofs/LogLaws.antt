@@ -12,7 +12,7 @@ use Rattle.ib_map.specs.declared.call.Change.TheVariants.{Insert, Delete}
 use Rattle.ib_map.specs.declared.write.Write.{Write}
 use Rattle.ib_map.proofs.HistoryLaws.{map_with-push, map_after-append, map_after-length, slice_get-last}
 use Rattle.ib_map.proofs.PairLaws.{value_at-put, value_at-without}
-use Rattle.ib_map.proofs.WriteLaws.{written-touches, writes_at-range}
+use Rattle.ib_map.proofs.WriteLaws.{page_at-word, written-touches, writes_at-range}
 use Rattle.ib_logrec.specs.declared.entry.Entry.{Entry}
 use Rattle.ib_logrec.specs.Grammar.{IsInGrammar}
 use Rattle.ib_logrec.specs.Log.{memory_after, history_of, logged, map_of}
@@ -21,7 +21,7 @@ use Rattle.ib_walk.specs.Trees.{content_of}
 use Rattle.ib_walk.specs.Words.{image_of, pages_of, IsLawfulMemory}
 use Rattle.ib_patch.specs.Patch.{slice}
 use Rattle.ib_tree.specs.Logs.{pages_after, IsTreeEntry, IsLawfulLog}
-use Rattle.ib_walk.proofs.ImageLaws.{page_at-word, image_of-same, pages_of-same}
+use Rattle.ib_walk.proofs.ImageLaws.{image_of-same, pages_of-same}
 use Rattle.ib_walk.proofs.WalkLaws.{AllByRecursion-append}
 use Rattle.ib_tree.proofs.SliceLaws.{IsOutside, slice-put, slice-without}
 

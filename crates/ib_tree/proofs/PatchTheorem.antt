@@ -11,7 +11,7 @@ use Rattle.ib_walk.specs.Walk.{is_visit}
 use Rattle.ib_patch.specs.PatchTest.{Position, Positions, visit_of, at_page, positions_over, position_of, is_none, detach_pages, root_at, set_roots, fresh_of, visited, IsListed, IsKeptBeside, IsLinkedBy, PassesTest}
 use Rattle.ib_walk.proofs.ChoiceLaws.{Some-same, cond-eq, cond-ne}
 use Rattle.ib_tree.proofs.CompleteLaws.{Reached, all_back-reached, visited-some}
-use Rattle.ib_tree.proofs.DetachLaws.{detach_pages-cases}
+use Rattle.ib_patch.proofs.RestLaws.{detach_pages-each}
 use Rattle.ib_tree.proofs.PatchLaws.{AreNeighbours-linked, HasWidth, IsAmong, IsAmong-counted, IsTiled-within, counted-IsAmong, next-last, prev-first}
 use Rattle.ib_tree.proofs.PatchedLaws.{AreKept, AreKept-patched, HasWidth-leaves_of, IsLawful-patched, IsTiled-leaves_of, IsTree-after, most_height-lt, weight_of-after, weight_of-leaf, weight_of-off_other, written-cases}
 use Rattle.ib_tree.proofs.PositionLaws.{Stands-counted, counted-Stands}
@@ -137,7 +137,7 @@ module _ (written : ℕ → Bool) (m new : PageMemory) (same : (p : ℕ) → wri
         before : (p : ℕ) (e : Position) → set_roots written new end_rank roots (detach_pages m old ps old) p ≡ Some e → (0 < e.tree) × (e.tree ≤ roots)
         before p e at = elim (set_roots-cases written new end_rank roots (detach_pages m old ps old) p) [
           | inr q ↦ let x = ap (λ (d : Position). d.tree) (Some-same (root_at new p end_rank) e (sym q.2 ∙ at)) in let y = q.0 in let z = q.1 in (omega arith, omega arith)
-          | inl s ↦ elim (detach_pages-cases m old ps old p) [
+          | inl s ↦ elim (detach_pages-each m old ps old p) [
             | inl u ↦ kept.trees p e (sym u ∙ (sym s ∙ at))
             | inr z ↦ absurd (let x = sym z ∙ (sym s ∙ at) in cc)
           ]

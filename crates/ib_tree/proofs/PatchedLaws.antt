@@ -11,7 +11,7 @@ use Rattle.ib_patch.specs.Patch.{LevelVisit, over, on_written, off_written, old_
 use Rattle.ib_walk.specs.Walk.{is_visit}
 use Rattle.ib_walk.proofs.ChoiceLaws.{cond-ne}
 use Rattle.ib_walk.proofs.SearchLaws.{IsTiled-below}
-use Rattle.ib_walk.proofs.TreeLaws.{AreNodes-above}
+use Rattle.ib_walk.proofs.TreeLaws.{most_height-le, AreNodes-above}
 use Rattle.ib_walk.proofs.WalkLaws.{IsAlike-same, IsLeafAt-same, IsNodeAt-same}
 use Rattle.ib_tree.proofs.PatchLaws.{AllByRecursion-over, AreLinked-neighbours, AreNeighbours-linked, HasWidth, HasWidth-below, IsAmong, IsAmong-counted, IsGoodAt-tree, IsTree-good, counted-IsAmong, end_rank-some, is_visit-height, is_visit-other, is_visit-same, next-last, over-holds, over-other, prev-first, weight-lowest, weight-off_other, weight-off_written}
 use Rattle.ib_tree.proofs.WeightLaws.{IsBalanced-kept, over-written_below, weight-same, weight-split, weight-zero, weight_of-patched}
@@ -201,7 +201,7 @@ times_met-kept m new (suc roots) n e =
     let a = e (suc roots) (omega arith) (omega arith) in let r = times_met-kept m new roots n (λ q s l. e q s (omega arith)) in omega arith
 
 pub most_height-lt : (roots : ℕ) → most_height roots < 8
-most_height-lt roots = elim (eqb roots 1) as (λ b. cond b 7 3 < 8) [ true ↦ omega arith | false ↦ omega arith ]
+most_height-lt roots = let e = most_height-le roots in omega arith
 
 -- the pages that aren't written keep range and level in each tree
 abbrev pub AreKept : (ℕ → Bool) → PageMemory → PageMemory → ℕ → Type 0

@@ -1,10 +1,9 @@
 -- Sums over positions.
 use Rattle.std.proofs.Common.{◌≡◌, ℕ, zero, suc, ◌+◌, ◌<◌, ◌≤◌, inl, inr, true, false, cond, List, [], ◌∷◌, Option, Some, None, refl, sym, ap, subst, ◌∙◌, arith, eqb, ◌≢◌}
-use Rattle.std.specs.Prelude.{◌&&◌}
-use Rattle.std.proofs.lemmas.Bool.{cases_lt, cases_eq, eqb-true, and_parts}
+use Rattle.std.proofs.lemmas.Bool.{cases_lt, cases_eq}
 use Rattle.ib_walk.specs.Walk.{Visit, is_page}
 use Rattle.ib_walk.specs.Walk.{is_visit}
-use Rattle.ib_patch.specs.PatchTest.{Position, Positions, visit_of, at_page, positions_over, set_at, position_of, list_over, same_position, is_none}
+use Rattle.ib_patch.specs.PatchTest.{Position, Positions, visit_of, at_page, positions_over, set_at, position_of, list_over, is_none}
 use Rattle.ib_walk.proofs.ChoiceLaws.{cond-eq, cond-ne}
 use Rattle.ib_tree.proofs.PatchLaws.{is_visit-own, is_visit-same}
 
@@ -110,16 +109,7 @@ list_over-weights f g root (p ∷ ps) t e = let r = list_over-weights f g root p
     one None = refl
     one (Some d) = let x = e d.height (visit_of p d) in elim (eqb d.tree root) as (λ c. cond c (f d.height (visit_of p d)) 0 ≡ cond c (g d.height (visit_of p d)) 0) [ true ↦ x | false ↦ refl ]
 
--- what the tests of single positions say
+-- what the test of a position says
 pub is_none-None : (o : Option Position) → is_none o ≡ true → o ≡ None
 is_none-None None e = refl
 is_none-None (Some d) e = absurd (let x = e in cc)
-
-pub same_position-Some : (o : Option Position) (e : Position) → same_position o e ≡ true → o ≡ Some e
-same_position-Some None e t = absurd (let x = t in cc)
-same_position-Some (Some d) e t =
-    let a = and_parts ((eqb d.tree e.tree && eqb d.height e.height) && eqb d.low e.low) (eqb d.high e.high) t in
-    let b = and_parts (eqb d.tree e.tree && eqb d.height e.height) (eqb d.low e.low) a.0 in
-    let c = and_parts (eqb d.tree e.tree) (eqb d.height e.height) b.0 in
-    let p = eqb-true d.tree e.tree c.0 in let q = eqb-true d.height e.height c.1 in let r = eqb-true d.low e.low b.1 in let s = eqb-true d.high e.high a.1 in
-    ap Some (λ i. record { tree = p i; height = q i; low = r i; high = s i })

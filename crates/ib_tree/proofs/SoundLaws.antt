@@ -12,7 +12,8 @@ use Rattle.ib_patch.specs.Patch.{LevelVisit, over, on_written, off_written, old_
 use Rattle.ib_walk.specs.Walk.{is_visit}
 use Rattle.ib_patch.specs.PatchTest.{Position, Positions, visit_of, at_page, positions_over, is_none, detach_pages, root_at, set_roots, all_back, list_over, visit_in, fresh_of, visited, IsListed, IsKeptBeside}
 use Rattle.ib_walk.proofs.ChoiceLaws.{Some-same, cond-eq, cond-ne}
-use Rattle.ib_tree.proofs.DetachLaws.{DetachedPages-detach, detach_pages-cases, detach_pages-unwritten}
+use Rattle.ib_patch.proofs.RestLaws.{detach_pages-each}
+use Rattle.ib_tree.proofs.DetachLaws.{DetachedPages-detach, detach_pages-unwritten}
 use Rattle.ib_tree.proofs.PatchLaws.{is_visit-height, is_visit-own}
 use Rattle.ib_tree.proofs.PatchedLaws.{most_height-lt, written-cases}
 use Rattle.ib_tree.proofs.PositionLaws.{Stands-counted, counted-Stands}
@@ -151,7 +152,7 @@ module _ (written : ℕ → Bool) (m new : PageMemory) (same : (p : ℕ) → wri
               let a = s ∙ set_roots-unwritten written new end_rank n roots (detach_pages m old ps old) p w in
               elim (detach_pages-unwritten written m old ps old after p w back) [
                 | inl e ↦ a ∙ e
-                | inr met ↦ elim (detach_pages-cases m old ps old p) [
+                | inr met ↦ elim (detach_pages-each m old ps old p) [
                   | inl e ↦ a ∙ e
                   | inr z ↦ absurd (let x = ap is_none (a ∙ z) in let y = sym met ∙ x in cc)
                 ]
@@ -164,7 +165,7 @@ module _ (written : ℕ → Bool) (m new : PageMemory) (same : (p : ℕ) → wri
           | inr q ↦ let x = ap (λ (d : Position). d.height) (Some-same q.1.0 e (sym q.1.1 ∙ at)) in let y = q.1.2 in omega arith
           | inl s ↦ elim (set_roots-cases written new end_rank roots (detach_pages m old ps old) p) [
             | inr q ↦ let x = ap (λ (d : Position). d.height) (Some-same (root_at new p end_rank) e (sym q.2 ∙ (sym s ∙ at))) in let y = levels p q.0 q.1 in omega arith
-            | inl t ↦ elim (detach_pages-cases m old ps old p) [
+            | inl t ↦ elim (detach_pages-each m old ps old p) [
               | inr z ↦ absurd (let x = sym z ∙ (sym t ∙ (sym s ∙ at)) in cc)
               | inl u ↦ old-height p e (sym u ∙ (sym t ∙ (sym s ∙ at)))
             ]

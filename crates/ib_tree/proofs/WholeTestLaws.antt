@@ -18,6 +18,7 @@ use Rattle.ib_patch.specs.Positions.{is_good_at, marks_of, positions_of, IsStep}
 use Rattle.ib_tree.specs.PageLists.{is_below, pages_below}
 use Rattle.ib_tree.specs.Tests.{TellsGood, opening_positions, PassesWhole}
 use Rattle.ib_tree.specs.WholeTest.{AreLow, PassesAllPages}
+use Rattle.ib_walk.proofs.ChoiceLaws.{Some-same}
 use Rattle.ib_walk.proofs.ImageLaws.{image_of-images, memory_of-beyond}
 use Rattle.ib_patch.proofs.PositionLaws.{positions-same}
 use Rattle.ib_patch.proofs.PassLaws.{bits_in-there, bits_in-past, bit-once, low-level}
@@ -200,9 +201,6 @@ module _ (images : List (List ℕ)) (least : LEAST_PAGES ≤ length images) (mos
           λ t. lawful-passes table (PassesWhole-all table visits (tells_all.0 t)),
           λ lawful.
               let found = passes-lawful lawful in
-              let same : found.0 ≡ table = some-same found.0 table (sym found.1.patch.visited_as ∙ visits) in
+              let same : found.0 ≡ table = Some-same found.0 table (sym found.1.patch.visited_as ∙ visits) in
               tells_all.1 (subst (PassesAllPages images roots) same (all-PassesWhole found.0 found.1)),
         )
-      where
-        some-same : (a b : Positions) → Some a ≡ Some b → a ≡ b
-        some-same a b e = cc

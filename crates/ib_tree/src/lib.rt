@@ -4,10 +4,6 @@
 
 mod content;
 mod laws;
-#[cfg(test)]
-mod memory_tests;
-#[cfg(test)]
-mod tests;
 mod tree_law;
 mod whole;
 

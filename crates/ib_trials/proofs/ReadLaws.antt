@@ -1,5 +1,5 @@
 -- Work sets read from one memory, and lists of their pages.
-use Rattle.std.proofs.Common.{◌≡◌, ℕ, zero, suc, ◌+◌, ◌<◌, ◌≤◌, List, [], ◌∷◌, length, get_or, refl, sym, subst, inl, inr, ltb, arith}
+use Rattle.std.proofs.Common.{◌≡◌, ℕ, ◌+◌, ◌<◌, ◌≤◌, List, [], ◌∷◌, length, get_or, sym, subst, inl, inr, ltb, arith}
 use Rattle.std.specs.Prelude.{IfSome, IsSomeAnd, slice_get}
 use Rattle.std.specs.List.{All}
 use Rattle.std.proofs.lemmas.Bool.{cases_eq, cases_Bool, eq-eqb, ne_eqb}
@@ -9,6 +9,7 @@ use Rattle.ib_map.specs.Pairs.{Pairs}
 use Rattle.ib_map.specs.Pairs.{first_rank}
 use Rattle.ib_page.specs.Work.{WorkPage, changed_of, with_page}
 use Rattle.ib_merge.specs.Deletes.{nodes_of}
+use Rattle.ib_merge.proofs.WayLaws.{nodes-few, nodes-same}
 
 -- what holds of the image of a page holds where another page is put in
 pub put-at : (P : List ℕ → Type 0) (q : WorkPage) (work : List WorkPage) (n : ℕ) → (q.page ≡ n → P q.changed) → IfSome (changed_of n work) P → IfSome (changed_of n (with_page q work)) P
@@ -40,19 +41,7 @@ all-at P xs k long at = All-from_get_or P xs 0 (λ i lt. at i (omega arith))
 
 -- what holds of each page of a path but the last
 pub nodes-all : (P : ℕ → Type 0) (path : List ℕ) (k : ℕ) → length path ≤ k + 1 → ((i : ℕ) → i < k → P (get_or path i 0)) → All P (nodes_of path)
-nodes-all P path k long at = All-from_get_or P (nodes_of path) 0 (λ i lt. subst P (sym (same path i (count path i lt))) (at i (let c = count path i lt in omega arith)))
-  where
-    count : (path : List ℕ) (i : ℕ) → i < length (nodes_of path) → i + 1 < length path
-    count [] i lt = absurd (omega arith)
-    count (x ∷ []) i lt = absurd (omega arith)
-    count (x ∷ y ∷ ys) zero lt = omega arith
-    count (x ∷ y ∷ ys) (suc i) lt = let r = count (y ∷ ys) i (omega arith) in omega arith
-
-    same : (path : List ℕ) (i : ℕ) → i + 1 < length path → get_or (nodes_of path) i 0 ≡ get_or path i 0
-    same [] i lt = absurd (omega arith)
-    same (x ∷ []) i lt = absurd (omega arith)
-    same (x ∷ y ∷ ys) zero lt = refl
-    same (x ∷ y ∷ ys) (suc i) lt = same (y ∷ ys) i (omega arith)
+nodes-all P path k long at = All-from_get_or P (nodes_of path) 0 (λ i lt. subst P (sym (nodes-same path i (nodes-few path i lt))) (at i (let c = nodes-few path i lt in omega arith)))
 
 -- a node's first key is its first rank
 pub first-le : (key : MapKey) (xs : Pairs) → 0 < length xs → IsSomeAnd (slice_get xs 0) (λ r. rank r.0 ≤ rank key) → first_rank xs end_rank ≤ rank key

@@ -95,11 +95,7 @@ fn full_page(level: u32) -> Image
     requires { level ≤ MOST_LEVEL }
     ensures { IsTreePage result }
 {
-    let mut image = if level == 0 {
-        Image::leaf(0)
-    } else {
-        Image::node(level, 0)
-    };
+    let mut image = Image::empty(level, 0);
     for place in 0..MOST_RECORDS {
         let _ = image.insert(place as u64, 2);
     }

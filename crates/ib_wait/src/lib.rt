@@ -5,8 +5,6 @@
 mod array;
 mod cells;
 mod sleepers;
-#[cfg(test)]
-mod tests;
 
 pub use array::WaitArray;
 pub use cells::{Cell, Cells, NoCell, Wish};

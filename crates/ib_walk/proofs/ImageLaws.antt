@@ -3,6 +3,7 @@ use Rattle.std.proofs.Common.{◌≡◌, ℕ, zero, suc, ◌+◌, ◌*◌, ◌-�
 use Rattle.std.proofs.lemmas.List.{get_or_past}
 use Rattle.ib_map.specs.declared.TheConstants.{PAGE_WORDS}
 use Rattle.ib_map.specs.Writes.{word_place, page_at, index_at}
+use Rattle.ib_map.proofs.WriteLaws.{page_at-word, index_at-word}
 use Rattle.ib_page.specs.Form.{page_of}
 use Rattle.ib_page.specs.Memory.{image_at, word_at}
 use Rattle.ib_page.specs.Page.{HoldsPage}
@@ -11,12 +12,6 @@ use Rattle.ib_heap.proofs.FormLaws.{length-formed, page_of-free_page_words}
 use Rattle.ib_heap.proofs.FreeLaws.{free_word}
 use Rattle.ib_walk.specs.Trees.{free_page}
 use Rattle.ib_walk.specs.Words.{state_of, words_at, image_of, pages_of, memory_of}
-
-pub page_at-word : (page index : ℕ) → index < PAGE_WORDS → page_at (word_place page index) ≡ page
-page_at-word page index lt = omega arith
-
-pub index_at-word : (page index : ℕ) → index < PAGE_WORDS → index_at (word_place page index) ≡ index
-index_at-word page index lt = omega arith
 
 pub words_at-list : (words : ℕ → ℕ) (place : ℕ) (xs : List ℕ) → ((i : ℕ) → i < length xs → words (place + i) ≡ get_or xs i 0) → words_at words place (length xs) ≡ xs
 words_at-list words place [] same = refl
@@ -44,6 +39,16 @@ pub image_of-same : (words new : ℕ → ℕ) (page : ℕ) → ((index : ℕ) �
 unfolding image_of
 image_of-same words new page same =
     words_at-same words new (page * PAGE_WORDS) PAGE_WORDS (λ q low high. subst (λ n. new n ≡ words n) (omega arith) (same (q - page * PAGE_WORDS) (omega arith)))
+
+-- a word of an image
+word-at : (words : ℕ → ℕ) (place n i : ℕ) → i < n → get_or (words_at words place n) i 0 ≡ words (place + i)
+word-at words place zero i lt = absurd (omega arith)
+word-at words place (suc n) zero lt = ap words (let e : place ≡ place + 0 = omega arith in e)
+word-at words place (suc n) (suc i) lt = word-at words (place + 1) n i (omega arith) ∙ ap words (let e : place + 1 + i ≡ place + suc i = omega arith in e)
+
+pub word_of_image : (words : ℕ → ℕ) (page index : ℕ) → index < PAGE_WORDS → get_or (image_of words page) index 0 ≡ words (word_place page index)
+unfolding image_of
+word_of_image words page index lt = word-at words (page * PAGE_WORDS) PAGE_WORDS index lt
 
 pub pages_of-image : (words : ℕ → ℕ) (page : ℕ) → pages_of words page ≡ state_of (page_of (image_of words page))
 unfolding pages_of

@@ -4,7 +4,7 @@ use Rattle.std.proofs.Common.{◌≡◌, ℕ, zero, suc, ◌+◌, ◌<◌, ◌�
 use Rattle.std.proofs.lemmas.Bool.{eq-eqb}
 use Rattle.std.proofs.lemmas.Bool.Decides.{nat_tests}
 use Rattle.ib_walk.specs.Pages.{PageState, PageMemory}
-use Rattle.ib_walk.specs.Walk.{Visit, children, below, sum_of, weight, is_page, IsTree, AreLinked}
+use Rattle.ib_walk.specs.Walk.{Visit, children, below, sum_of, weight, is_page, last_page, IsTree, AreLinked}
 use Rattle.ib_walk.proofs.WalkLaws.{sum_of-append, IsAlike, IsSameTree, children-same, records_in-same, nodes-same, leaves-same}
 
 pub is_page-own : (p height : ℕ) (v : Visit) → v.page ≡ p → is_page p height v ≡ 1
@@ -61,6 +61,11 @@ IsSameTree-met m new (suc height) vs same t =
 pub record HasLinks (new old : PageState) : Type 0 where
   pub prev : new.prev ≡ old.prev
   pub next : new.next ≡ old.next
+
+-- the links behind some leaves
+pub AreLinked-right : (m : PageMemory) (prev : ℕ) (xs ys : List Visit) (next : ℕ) → AreLinked m prev (xs ++ ys) next → AreLinked m (last_page prev xs) ys next
+AreLinked-right m prev [] ys next h = h
+AreLinked-right m prev (x ∷ xs) ys next h = AreLinked-right m x.page xs ys next h.2
 
 pub AreLinked-same : (m new : PageMemory) (prev : ℕ) (vs : List Visit) (next : ℕ) → AllByRecursion (λ v. HasLinks (new v.page) (m v.page)) vs → AreLinked m prev vs next → AreLinked new prev vs next
 AreLinked-same m new prev [] next a h = tt

@@ -20,7 +20,8 @@ use Rattle.ib_walk.specs.Pages.{PageState, PageMemory, IsSound}
 use Rattle.ib_walk.specs.Walk.{below, records_in}
 use Rattle.ib_walk.specs.Trees.{top_of, height_of, content_of, times_met, most_height, IsTreeOf, IsLawful, opening, opening_bits, free_page, empty_leaf}
 use Rattle.ib_walk.specs.Words.{state_of, image_of, pages_of, bits_of, IsLawfulMemory}
-use Rattle.ib_walk.proofs.ImageLaws.{length-free_page_words, page_at-word, index_at-word, image_of-list, pages_of-image}
+use Rattle.ib_map.proofs.WriteLaws.{page_at-word, index_at-word}
+use Rattle.ib_walk.proofs.ImageLaws.{length-free_page_words, image_of-list, pages_of-image}
 use Rattle.ib_walk.proofs.OpeningLaws.{IsLawful-opening}
 
 length-leaf : length (empty_leaf_words 0) ≡ PAGE_WORDS

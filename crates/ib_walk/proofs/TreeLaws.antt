@@ -1,11 +1,12 @@
 -- Lawful trees together: what they weigh, the leaf of a key, and what a tree has.
-use Rattle.std.proofs.Common.{◌≡◌, ℕ, zero, suc, ◌+◌, ◌<◌, ◌≤◌, inl, inr, List, [], refl, sym, ap, subst, arith, ◌≢◌}
+use Rattle.std.proofs.Common.{◌≡◌, ℕ, zero, suc, ◌+◌, ◌<◌, ◌≤◌, inl, inr, List, [], refl, sym, ap, subst, arith, ◌≢◌, cond, eqb, true, false}
 use Rattle.std.proofs.lemmas.Bool.{cases_eq}
 use Rattle.ib_map.specs.Keys.{MapKey, rank, end_rank}
 use Rattle.ib_map.specs.Pairs.{Rises, value_at}
+use Rattle.ib_heap.specs.declared.TheConstants.{MOST_LEVEL}
 use Rattle.ib_walk.specs.Pages.{PageMemory}
 use Rattle.ib_walk.specs.Walk.{Visit, AreNodes, IsTiled}
-use Rattle.ib_walk.specs.Trees.{top_of, height_of, leaves_of, content_of, weight_of, weight_all, times_met, IsTreeOf, IsLawfulUpTo}
+use Rattle.ib_walk.specs.Trees.{top_of, height_of, leaves_of, content_of, weight_of, weight_all, times_met, most_height, IsTreeOf, IsLawfulUpTo}
 use Rattle.ib_walk.specs.Search.{leaf_for, IsPageFor}
 use Rattle.ib_walk.proofs.SearchLaws.{above, above-zero, IsPageFor-below, IsTiled-below, value_at-records_in, Rises-records_in}
 
@@ -70,3 +71,7 @@ value_at-content_of m key root lt t =
 -- a page is met at most once
 pub times_met-le : (most : ℕ → ℕ) (m : PageMemory) (bits : ℕ → ℕ) (roots : ℕ) (n : ℕ) → IsLawfulUpTo most m bits roots → times_met m roots n ≤ 1
 times_met-le most m bits roots n law = let e = law.met n in let b = law.bit n in omega arith
+
+-- no root may be higher than the highest page
+pub most_height-le : (roots : ℕ) → most_height roots ≤ MOST_LEVEL
+most_height-le roots = elim (eqb roots 1) as (λ b. cond b MOST_LEVEL 3 ≤ MOST_LEVEL) [ true ↦ omega arith | false ↦ omega arith ]

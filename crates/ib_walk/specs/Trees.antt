@@ -2,7 +2,7 @@
 use Rattle.std.specs.Prelude.{◌≡◌, ◌≢◌, ℕ, zero, suc, ◌+◌, ◌<◌, ◌≤◌, List, [], ◌∷◌, ◌==◌, nat_lt, if◌then◌else◌}
 use Rattle.ib_map.specs.Keys.{end_rank}
 use Rattle.ib_map.specs.Pairs.{Pairs}
-use Rattle.ib_heap.specs.declared.TheConstants.{MOST_RECORDS}
+use Rattle.ib_heap.specs.declared.TheConstants.{MOST_LEVEL, MOST_RECORDS}
 use Rattle.ib_page.specs.declared.space.TheConstants.{MAPPED_PAGES}
 use Rattle.ib_walk.specs.Pages.{Free, Tree, PageState, PageMemory, IsSound}
 use Rattle.ib_walk.specs.Walk.{Visit, below, records_in, weight, is_page, IsTree, AreLinked}
@@ -39,9 +39,9 @@ pub record IsTreeOf (memory : PageMemory) (height root : ℕ) : Type 0 where
   pub tree : IsTree memory height (top_of root)
   pub linked : AreLinked memory 0 (below memory height (top_of root)) 0
 
--- one tree has levels up to 7, each of two trees up to 3
+-- the highest level that a root may have: where there is one tree `MOST_LEVEL`, else 3
 abbrev pub most_height : ℕ → ℕ
-most_height roots = if roots == 1 then 7 else 3
+most_height roots = if roots == 1 then MOST_LEVEL else 3
 
 -- Lawful trees, whose pages have a limit of records each. `bits` are those of page 0: 0 or 1 for each page, and 0 for those that the space doesn't have
 pub record IsLawfulUpTo (most : ℕ → ℕ) (memory : PageMemory) (bits : ℕ → ℕ) (roots : ℕ) : Type 0 where
@@ -64,7 +64,7 @@ empty_leaf = record { kind = Tree; level = 0; prev = 0; next = 0; clock = 0; rec
 abbrev pub free_page : PageState
 free_page = record { kind = Free; level = 0; prev = 0; next = 0; clock = 0; records = [] }
 
--- the roots are empty leaves, and all pages behind them are free. Page 0 is none of the tree's
+-- pages 0 to `roots` are empty leaves, and all pages behind them are free. What stands for page 0 counts for nothing
 abbrev pub opening : ℕ → PageMemory
 opening roots n = if nat_lt roots n then free_page else empty_leaf
 

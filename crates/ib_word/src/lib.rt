@@ -4,8 +4,6 @@
 #![tactic(auto)]
 
 mod state;
-#[cfg(test)]
-mod tests;
 mod word;
 
 pub use state::{WordState, classify, owes_ex};

@@ -57,8 +57,8 @@ fn one_session_between_the_calls_of_another(rt: HostRuntime) -> Result<(), Fail>
     };
     let input = b"session 1\ninsert 7 1\nget 7\nsession 2\ndelete 7\n";
     let words = vec![in alloc; String::from_str(alloc, "run")?]?;
-    let mut source = MemSource::new(Vec::from_slice(alloc, input)?, 1000, Vec::new(alloc));
-    let mut sink = MemSink::new(alloc, 1000, Vec::new(alloc));
+    let mut source = MemorySource::new(Vec::from_slice(alloc, input)?, 1000, Vec::new(alloc));
+    let mut sink = MemorySink::new(alloc, 1000, Vec::new(alloc));
     let status = top(&rt, alloc, &words, &mut source, &mut sink, &gate);
     assert_eq!(rt; status, Status::Done);
     assert_eq!(rt;

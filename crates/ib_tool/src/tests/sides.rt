@@ -50,13 +50,13 @@ fn run_between(
     input: Vec<u8>,
     source: Side,
     sink: Side,
-) -> Result<(Status, MemSink), Fail>
+) -> Result<(Status, MemorySink), Fail>
     requires source { 0 < source.most }
     requires sink { 0 < sink.most }
 {
     let words = vec![in alloc; String::from_str(alloc, form)?]?;
-    let mut given = MemSource::new(input, source.most, vec![in alloc; source.failing]?);
-    let mut taken = MemSink::new(alloc, sink.most, vec![in alloc; sink.failing]?);
+    let mut given = MemorySource::new(input, source.most, vec![in alloc; source.failing]?);
+    let mut taken = MemorySink::new(alloc, sink.most, vec![in alloc; sink.failing]?);
     let status = top(rt, alloc, &words, &mut given, &mut taken, &OpenGate);
     Ok((status, taken))
 }
@@ -190,7 +190,7 @@ fn an_input_too_large(rt: HostRuntime) -> Result<(), Fail> {
 fn a_text_longer_than_the_buffer(rt: HostRuntime) -> Result<(), Fail> {
     let alloc = rt.alloc();
     let text = vec![in alloc; b'x'; BUFFER_BYTES + 1]?;
-    let mut sink = MemSink::new(alloc, 5000, Vec::new(alloc));
+    let mut sink = MemorySink::new(alloc, 5000, Vec::new(alloc));
     let mut writer = Writer::new(&mut sink);
     writer.text(&text);
     writer.finish().map_err(|_| Failed)?;

@@ -8,7 +8,7 @@ use Rattle.ib_cursor.specs.Claims.{claim_grant}
 use Rattle.ib_page.specs.Image.{IsTreePage, level_of}
 use Rattle.ib_walk.specs.Words.{image_of}
 use Rattle.ib_cursor.specs.Descent.{IsAt}
-use Rattle.ib_cursor.specs.Shapes.{IsLinkedAt, HasPeeked, is_claimed}
+use Rattle.ib_cursor.specs.Shapes.{NamesLink, HasPeeked, is_claimed}
 use Rattle.ib_cursor.proofs.GrantLaws.{may_grow}
 use Rattle.ib_cursor.proofs.StepLaws.{at_held, at_read}
 use Rattle.ib_cursor.proofs.PeekLaws.{page_image, peek_inside, peek_may, peek_at, peeked, peek_linked}
@@ -95,8 +95,8 @@ returns-clause-peeked g c =
     (subst (λ k. IsAt key (g.L.Law.lawful key.pages) (by_place g.L.Law.opening key.pages) c.args.sought.root c.args.sought.key (claim_grant ∷ []) c.args.page k S q) (sym image.height ∙ sym level) at) c.level_of-level.ensures.read in
     let both = ap (λ m. m.now.sizes) (c.level_of-level.ensures.latches ∙ c.stand.ensures.latches) in
     let s : PassState = c.link_here-link.new.mtr.pass.now in
-    let linked = subst (λ (k : Sizes). IsLinkedAt k (g.L.Law.lawful k.pages) (by_place g.L.Law.opening k.pages) c.args.sought.root c.args.sought.key c.args.page c.level_of-level.result c.link_here-link.result r s) both c.link_here-link.ensures.linked in
-    let here = subst (λ k. (IsLinkedAt key (g.L.Law.lawful key.pages) (by_place g.L.Law.opening key.pages) c.args.sought.root c.args.sought.key c.args.page k c.link_here-link.result q s)) (level ∙ image.height)
+    let linked = subst (λ (k : Sizes). NamesLink k (g.L.Law.lawful k.pages) (by_place g.L.Law.opening k.pages) c.args.sought.root c.args.sought.key c.args.page c.level_of-level.result c.link_here-link.result r s) both c.link_here-link.ensures.linked in
+    let here = subst (λ k. (NamesLink key (g.L.Law.lawful key.pages) (by_place g.L.Law.opening key.pages) c.args.sought.root c.args.sought.key c.args.page k c.link_here-link.result q s)) (level ∙ image.height)
     (peek_linked key (g.L.Law.lawful key.pages) (by_place g.L.Law.opening key.pages) c.args.sought.root c.args.sought.key c.args.page c.level_of-level.result c.link_here-link.result q r s keeps.claimed c.level_of-level.ensures.read linked) in
     subst (λ k. HasPeeked key (g.L.Law.lawful key.pages) (by_place g.L.Law.opening key.pages) c.args.sought.root c.args.sought.key c.args.page k c.link_here-link.result p c.release_at.new.self.pass.now) (sym image.height ∙ sym level)
     (peeked key g.L.Trees.ROOTS (g.L.Law.lawful key.pages) (by_place g.L.Law.opening key.pages) c.shape_of.ensures.shapes c.args.sought.root c.requires.some c.requires.root c.args.sought.key c.requires.key c.args.page n p c.requires.index c.requires.way.1 q c.stand.ensures.stood keeps c.link_here-link.result s c.release_at.new.self.pass.now here c.release_at.ensures.released)

@@ -13,7 +13,7 @@ use Rattle.ib_mtr.specs.Mtr.{IsReleasedAt}
 use Rattle.ib_cursor.specs.Grants.{memo_of, page_grant, HasTaken}
 use Rattle.ib_cursor.specs.Going.{HasSeen}
 use Rattle.ib_cursor.specs.Descent.{HasPage}
-use Rattle.ib_cursor.specs.Nexts.{HasNext}
+use Rattle.ib_cursor.specs.Nexts.{HoldsNext}
 use Rattle.ib_cursor.proofs.PageLaws.{few_pages}
 use Rattle.ib_cursor.proofs.LogLaws.{laws_of}
 use Rattle.ib_cursor.proofs.NextLaws.{held_formed, held_inside, next_inside, next_other, absent_in, there_in, last_there, place_is, memo_length, stepped}
@@ -124,6 +124,6 @@ returns-clause-next g c = λ h.
     let taken = subst (λ (l : Latch). HasTaken (record { latch = l.0; mode = S; level = TreeNode }) p q) (c.page-2.ensures ∙ ap (λ (n : ℕ). let l : Latch = record { 0 = n + 2 } in l) link) c.take.ensures.taken in
     let seen = subst (λ (k : Sizes). HasSeen k (g.L.Law.lawful k.pages) q s) same c.read.ensures.glanced.seen in
     let page = subst (λ (n : ℕ). HasPage (by_place g.L.Law.opening key.pages) n q s) link (subst (λ (k : Sizes). HasPage (by_place g.L.Law.opening k.pages) c.right_of-next.result q s) same c.read.ensures.loaded) in
-    subst (λ (n : ℕ). HasNext key (g.L.Law.lawful key.pages) (by_place g.L.Law.opening key.pages) g.L.Trees.ROOTS h.front c.args.leaf h.image h.range n p t) (sym link)
+    subst (λ (n : ℕ). HoldsNext key (g.L.Law.lawful key.pages) (by_place g.L.Law.opening key.pages) g.L.Trees.ROOTS h.front c.args.leaf h.image h.range n p t) (sym link)
     (stepped key g.L.Trees.ROOTS (g.L.Law.lawful key.pages) (by_place g.L.Law.opening key.pages) laws h.front c.args.leaf h.image h.range p h.holds some (h.may some) q s t taken seen c.read.ensures.memo c.read.ensures.session c.read.ensures.grants page
     (subst (λ (n : ℕ). IsReleasedAt n s t) at c.release_at.ensures.released))

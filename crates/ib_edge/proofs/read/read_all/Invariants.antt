@@ -7,7 +7,7 @@ abbrev pub invariant-loop-source : goal.invariant-loop-source
 invariant-loop-source g l = record {
   all : Consumes (g.S.Source.left l.fn.source) (g.S.Source.left l.source) l.bytes.items;
   within : vec_len l.bytes ≤ l.limit + PIECE_BYTES;
-  later : g.S.Source.faults l.fn.source ≤ g.S.Source.faults l.source;
+  calm : g.S.Source.faults l.source ≡ g.S.Source.faults l.fn.source;
   piece : vec_len l.piece ≡ PIECE_BYTES;
 }
 

@@ -1,6 +1,6 @@
 -- One more slot's records.
 use Rattle.std.proofs.Common.{arith, suc, ◌∙◌, ◌≡◌, ◌+◌, ◌/◌, ap, get_or, List, ℕ}
-use Rattle.ib_heap.specs.Heap.{nodes_of, upto}
+use Rattle.ib_heap.specs.Heap.{nodes_of, up_to}
 use Rattle.ib_heap.proofs.SeekLaws.{known}
 use Rattle.ib_heap.proofs.IndexLaws.{index-step, index-low}
 use Rattle.ib_heap.proofs.directory.index_behind.Goals as goal
@@ -16,7 +16,7 @@ overflow_add-index g c =
     let same = c.owner-place.ensures.same ∙ c.loop-j.invariant.same in
     let owned : c.owned_at-index.result ≡ get_or ws (get_or ws (8 + (c.loop-j.j + 1)) 0) 0 / 256 = c.owned_at-index.ensures.owned ∙ (ap (λ (xs : List ℕ). get_or xs c.owner-place.result 0 / 256) same ∙ ap (λ n. get_or ws n 0 / 256) place) in
     let i = c.loop-j.invariant.index in
-    let next : upto (suc c.loop-j.j) (nodes_of ws) ≡ upto (c.loop-j.j + 1) (nodes_of ws) = ap (λ n. upto n (nodes_of ws)) (let e : suc c.loop-j.j ≡ c.loop-j.j + 1 = omega arith in e) in
+    let next : up_to (suc c.loop-j.j) (nodes_of ws) ≡ up_to (c.loop-j.j + 1) (nodes_of ws) = ap (λ n. up_to n (nodes_of ws)) (let e : suc c.loop-j.j ≡ c.loop-j.j + 1 = omega arith in e) in
     let word : get_or ws (get_or ws (8 + suc c.loop-j.j) 0) 0 ≡ get_or ws (get_or ws (8 + (c.loop-j.j + 1)) 0) 0 = ap (λ n. get_or ws (get_or ws (8 + n) 0) 0) (let e : suc c.loop-j.j ≡ c.loop-j.j + 1 = omega arith in e) in
     omega arith
 
@@ -30,6 +30,6 @@ loop-j-preserved g c =
     let same = c.owner-place.ensures.same ∙ c.loop-j.invariant.same in
     let owned : c.owned_at-index.result ≡ get_or ws (get_or ws (8 + (c.loop-j.j + 1)) 0) 0 / 256 = c.owned_at-index.ensures.owned ∙ (ap (λ (xs : List ℕ). get_or xs c.owner-place.result 0 / 256) same ∙ ap (λ n. get_or ws n 0 / 256) place) in
     let i = c.loop-j.invariant.index in
-    let next : upto (suc c.loop-j.j) (nodes_of ws) ≡ upto (c.loop-j.j + 1) (nodes_of ws) = ap (λ n. upto n (nodes_of ws)) (let e : suc c.loop-j.j ≡ c.loop-j.j + 1 = omega arith in e) in
+    let next : up_to (suc c.loop-j.j) (nodes_of ws) ≡ up_to (c.loop-j.j + 1) (nodes_of ws) = ap (λ n. up_to n (nodes_of ws)) (let e : suc c.loop-j.j ≡ c.loop-j.j + 1 = omega arith in e) in
     let word : get_or ws (get_or ws (8 + suc c.loop-j.j) 0) 0 ≡ get_or ws (get_or ws (8 + (c.loop-j.j + 1)) 0) 0 = ap (λ n. get_or ws (get_or ws (8 + n) 0) 0) (let e : suc c.loop-j.j ≡ c.loop-j.j + 1 = omega arith in e) in
     record { same = c.owned_at-index.ensures.same ∙ same; can = c.owned_at-index.ensures.can; read = g.met.W.PageWords.read_more _ _ _ c.loop-j.invariant.read (g.met.W.PageWords.read_more _ _ _ c.owner-place.ensures.read c.owned_at-index.ensures.read); index = omega arith }

@@ -13,12 +13,12 @@ loop-high-preserved-then-is_below g c =
     let range = c.loop-high.invariant.in_range in
     let place = rw c.loop-high.invariant.same at c.owner-place.ensures.place in
     let same = c.owner-place.ensures.same ∙ c.loop-high.invariant.same in
-    let key = rw same at c.key_at.ensures.key in
+    let key = rw same at c.key_word.ensures.key in
     let lower = rw key at (c.is_below.ensures.below.0 c.if-is_below.true) in
     record {
-      same = c.key_at.ensures.same ∙ same;
-      can = c.key_at.ensures.can;
-      read = g.met.W.PageWords.read_more _ _ _ c.loop-high.invariant.read (g.met.W.PageWords.read_more _ _ _ c.owner-place.ensures.read c.key_at.ensures.read);
+      same = c.key_word.ensures.same ∙ same;
+      can = c.key_word.ensures.can;
+      read = g.met.W.PageWords.read_more _ _ _ c.loop-high.invariant.read (g.met.W.PageWords.read_more _ _ _ c.owner-place.ensures.read c.key_word.ensures.read);
       between = omega arith;
       in_range = range;
       low = slot-below ws middle c.owner-place.result c.args.key (known ws c.requires.tree) (omega arith) (omega arith) (place (omega arith)) lower;
@@ -33,16 +33,16 @@ loop-high-preserved g c =
     let range = c.loop-high.invariant.in_range in
     let place = rw c.loop-high.invariant.same at c.owner-place.ensures.place in
     let same = c.owner-place.ensures.same ∙ c.loop-high.invariant.same in
-    let key = rw same at c.key_at.ensures.key in
-    let above : rank c.args.key ≤ rank c.key_at.result = elim (cases_lt (rank c.key_at.result) (rank c.args.key)) [
+    let key = rw same at c.key_word.ensures.key in
+    let above : rank c.args.key ≤ rank c.key_word.result = elim (cases_lt (rank c.key_word.result) (rank c.args.key)) [
       | inl lt ↦ absurd (let yes = c.is_below.ensures.below.1 lt in let no = c.if-is_below.false in cc)
       | inr ge ↦ ge
     ] in
     let higher = rw key at above in
     record {
-      same = c.key_at.ensures.same ∙ same;
-      can = c.key_at.ensures.can;
-      read = g.met.W.PageWords.read_more _ _ _ c.loop-high.invariant.read (g.met.W.PageWords.read_more _ _ _ c.owner-place.ensures.read c.key_at.ensures.read);
+      same = c.key_word.ensures.same ∙ same;
+      can = c.key_word.ensures.can;
+      read = g.met.W.PageWords.read_more _ _ _ c.loop-high.invariant.read (g.met.W.PageWords.read_more _ _ _ c.owner-place.ensures.read c.key_word.ensures.read);
       between = omega arith;
       in_range = omega arith;
       low = c.loop-high.invariant.low;

@@ -37,8 +37,8 @@ fourth_behind-middle-requires c =
     let test = c.if-owned_word-gt-MOST_OWNED.true in
     rw c.slot_word-first.ensures (fourth-read _ _ _ _ _ c.requires.tree c.requires.few c.locate-cursor.ensures _ _ c.take_place-place.ensures _ _ linked c.requires.absent (rank-lt_end _ c.ranges.key.fits) (omega arith))
 
-pub split-requires : goal.split-requires
-split-requires c =
+pub split_slot-requires : goal.split_slot-requires
+split_slot-requires c =
     let linked = rw c.slot_word-owner.ensures at c.link.ensures in
     let owned = rw c.slot_word-owner.ensures at c.owned_word.ensures in
     let test = c.if-owned_word-gt-MOST_OWNED.true in
@@ -51,7 +51,7 @@ returns-then-owned_word-gt-MOST_OWNED c =
     let owned = rw c.slot_word-owner.ensures at c.owned_word.ensures in
     let test = c.if-owned_word-gt-MOST_OWNED.true in
     let middle = rw c.slot_word-first.ensures at c.fourth_behind-middle.ensures in
-    let split = rw c.slot_word-owner.ensures at c.split.ensures in
+    let split = rw c.slot_word-owner.ensures at c.split_slot.ensures in
     let put = put-split _ _ _ _ _ c.requires.tree c.requires.few c.locate-cursor.ensures _ _ c.take_place-place.ensures _ _ linked c.requires.absent (rank-lt_end _ c.ranges.key.fits) (omega arith) _ middle _ split in
     record { page = put.page; heap = put.heap; kept = put.kept }
 

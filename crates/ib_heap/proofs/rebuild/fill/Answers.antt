@@ -1,6 +1,6 @@
 -- The next record stands behind all so far, and its place is the number of these.
 use Rattle.std.proofs.Common.{◌≡◌, ◌<◌, ◌+◌, ◌∙◌, ◌*◌, ap, sym, subst, arith, length, take, get_or, List, ℕ, None}
-use Rattle.std.proofs.lemmas.List.{length-take-le}
+use Rattle.std.proofs.lemmas.List.{length-take-le, take_more}
 use Rattle.ib_map.specs.Keys.{end_rank}
 use Rattle.ib_map.specs.Pairs.{Pairs, Rises, put, value_at, place_of}
 use Rattle.ib_heap.specs.Page.{HoldsTree, page_in}
@@ -10,7 +10,7 @@ use Rattle.ib_heap.specs.Heap.{read_heap}
 use Rattle.ib_heap.specs.Put.{put_in, place_for}
 use Rattle.ib_heap.specs.Filled.{filled}
 use Rattle.ib_heap.proofs.FilledLaws.{filled-none, filled-more, filled-place, behind-kept}
-use Rattle.ib_heap.proofs.FillLaws.{is-absent, is-put-last, is-last-place, take-rises, take-more}
+use Rattle.ib_heap.proofs.FillLaws.{is-absent, is-put-last, is-last-place, take-rises}
 use Rattle.ib_heap.proofs.RecordsLaws.{holds-with, records-with, with-with, with-same}
 use Rattle.ib_heap.proofs.rebuild.fill.Goals as goal
 
@@ -29,7 +29,7 @@ module _ (ws vs : List ℕ) (rs : Pairs) (i : ℕ) (holds : HoldsTree (page_of w
   next-put : Rises 0 rs end_rank → i < length rs → with_records (put (get_or rs i (0, 0)).0 (get_or rs i (0, 0)).1 (records_of vs)) (page_of vs) ≡ with_records (take (i + 1) rs) (page_of ws)
   next-put rises lt =
       let r = get_or rs i (0, 0) in
-      let all : put r.0 r.1 (records_of vs) ≡ take (i + 1) rs = ap (λ (xs : Pairs). put r.0 r.1 xs) so-far ∙ (is-put-last (take i rs) r (take-rises 0 rs end_rank i (0, 0) rises lt) ∙ sym (take-more rs i (0, 0) lt)) in
+      let all : put r.0 r.1 (records_of vs) ≡ take (i + 1) rs = ap (λ (xs : Pairs). put r.0 r.1 xs) so-far ∙ (is-put-last (take i rs) r (take-rises 0 rs end_rank i (0, 0) rises lt) ∙ sym (take_more rs i (0, 0) lt)) in
       ap (λ (xs : Pairs). with_records xs (page_of vs)) all ∙ (ap (λ v. with_records (take (i + 1) rs) v) is ∙ with-with (take (i + 1) rs) (take i rs) (page_of ws))
 
   next-place : Rises 0 rs end_rank → i < length rs → place_of (get_or rs i (0, 0)).0 (records_of vs) ≡ i

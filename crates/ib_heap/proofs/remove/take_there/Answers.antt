@@ -93,8 +93,8 @@ returns-then-owned_word-gt-FEWEST_OWNED c =
     let done = removed-lent _ _ _ _ _ c.requires.tree c.requires.found c.locate-cursor.ensures _ out ne three five _ lent in
     record { value = value-there _ _ _ _ _ c.requires.tree c.requires.found c.locate-cursor.ensures ∙ ap (λ (v : ℕ). Some v) (sym (ap (λ (r : ℕ × ℕ). r.1) c.record_of-value.ensures)); page = done.page; heap = done.heap; kept = done.kept }
 
-pub join-requires : goal.join-requires
-join-requires c =
+pub join_slots-requires : goal.join_slots-requires
+join_slots-requires c =
     let out : IsOut c.args.words.now c.take_out.new.words c.args.key = record { shaped = c.take_out.ensures.shaped; page = c.take_out.ensures.page; kept = c.take_out.ensures.kept } in
     let ne = rw c.slot_word-short.ensures at c.if-short-eq-SUPREMUM.false in
     let owned = rw c.slot_word-short.ensures at c.owned_word.ensures in
@@ -115,6 +115,6 @@ returns c =
     let more = rw after at c.owned_word-2.ensures in
     let test = c.if-owned_word-gt-FEWEST_OWNED.false in
     let few : get_or c.take_out.new.words (get_or c.take_out.new.words (9 + c.locate-cursor.result.slot) 0) 0 / 256 < 5 = omega arith in
-    let joined = rw (after, c.slot_word-short.ensures) at c.join.ensures in
+    let joined = rw (after, c.slot_word-short.ensures) at c.join_slots.ensures in
     let done = removed-joined _ _ _ _ _ c.requires.tree c.requires.found c.locate-cursor.ensures _ out ne three few _ joined in
     record { value = value-there _ _ _ _ _ c.requires.tree c.requires.found c.locate-cursor.ensures ∙ ap (λ (v : ℕ). Some v) (sym (ap (λ (r : ℕ × ℕ). r.1) c.record_of-value.ensures)); page = done.page; heap = done.heap; kept = done.kept }

@@ -2,10 +2,10 @@
 use Rattle.std.proofs.Common.{arith, ◌≡◌, ◌∙◌, ◌+◌, ◌-◌, ap, sym, subst, List, ℕ, Some, Option, slice_get, IsSomeAnd}
 use Rattle.ib_map.specs.Keys.{MapKey, rank}
 use Rattle.ib_map.specs.Pairs.{place_of, value_at}
-use Rattle.ib_heap.specs.Heap.{nodes_of, upto}
+use Rattle.ib_heap.specs.Heap.{nodes_of, up_to}
 use Rattle.ib_heap.specs.Image.{records_of}
 use Rattle.ib_heap.proofs.SeekLaws.{known}
-use Rattle.ib_heap.proofs.FindLaws.{at-low, found, absent-at, has-record, within-records, upto-records}
+use Rattle.ib_heap.proofs.FindLaws.{at-low, found, absent-at, has-record, within-records, up_to-records}
 use Rattle.ib_heap.proofs.search.find_in.Goals as goal
 
 pub has_key-requires-clause-in_page : goal.has_key-requires-clause-in_page
@@ -14,7 +14,7 @@ has_key-requires-clause-in_page g c =
     at-low ws c.args.key c.seek-cursor.result.before c.seek-cursor.result.at (known ws c.requires.tree) se.before se.at
 
 -- the index is the key's place
-is-place : (steps index : ℕ) (ws : List ℕ) (slot key : ℕ) → upto slot (nodes_of ws) + steps ≡ place_of key (records_of ws) → index ≡ upto slot (nodes_of ws) → index + steps ≡ place_of key (records_of ws)
+is-place : (steps index : ℕ) (ws : List ℕ) (slot key : ℕ) → up_to slot (nodes_of ws) + steps ≡ place_of key (records_of ws) → index ≡ up_to slot (nodes_of ws) → index + steps ≡ place_of key (records_of ws)
 is-place steps index ws slot key one two = omega arith
 
 pub overflow_add-index : goal.overflow_add-index
@@ -22,7 +22,7 @@ overflow_add-index g c =
     let ws = g.W.PageWords.words c.args.page.now in let kn = known ws c.requires.tree in let se = c.seek-cursor.ensures in
     let behind = rw se.same at c.index_behind.ensures.index in
     let e = is-place c.seek-cursor.result.steps c.index_behind.result ws (c.seek-cursor.result.slot - 1) c.args.key se.steps behind in
-    let few = upto-records ws c.args.key c.seek-cursor.result.before c.seek-cursor.result.at kn se.before se.at in
+    let few = up_to-records ws c.args.key c.seek-cursor.result.before c.seek-cursor.result.at kn se.before se.at in
     let long = kn.long in let most = kn.few in omega arith
 
 pub returns-then-has_key-clause-in_range : goal.returns-then-has_key-clause-in_range
@@ -60,7 +60,7 @@ returns-else-has_key-clause-in_range g c =
     let ws = g.W.PageWords.words c.args.page.now in let kn = known ws c.requires.tree in let se = c.seek-cursor.ensures in
     let behind = rw se.same at c.index_behind.ensures.index in
     let e = is-place c.seek-cursor.result.steps c.index_behind.result ws (c.seek-cursor.result.slot - 1) c.args.key se.steps behind in
-    let few = upto-records ws c.args.key c.seek-cursor.result.before c.seek-cursor.result.at kn se.before se.at in
+    let few = up_to-records ws c.args.key c.seek-cursor.result.before c.seek-cursor.result.at kn se.before se.at in
     omega arith
 
 pub returns-else-has_key-clause-absent : goal.returns-else-has_key-clause-absent

@@ -10,8 +10,8 @@ has_key-requires-clause-in_page g c =
     let ws = g.W.PageWords.words c.args.page.now in let se = c.seek-cursor.ensures in
     at-low ws c.args.key c.seek-cursor.result.before c.seek-cursor.result.at (known ws c.requires.tree) se.before se.at
 
-pub value_at-requires-clause-in_page : goal.value_at-requires-clause-in_page
-value_at-requires-clause-in_page g c =
+pub value_word-requires-clause-in_page : goal.value_word-requires-clause-in_page
+value_word-requires-clause-in_page g c =
     let ws = g.W.PageWords.words c.args.page.now in let se = c.seek-cursor.ensures in
     at-low ws c.args.key c.seek-cursor.result.before c.seek-cursor.result.at (known ws c.requires.tree) se.before se.at
 
@@ -21,7 +21,7 @@ returns-then-has_key-clause-value g c =
     let same = c.has_key.ensures.same ∙ se.same in
     let has = rw se.same at c.has_key.ensures.yes in
     let there = has c.if-has_key.true in
-    ap (λ n. Some n) (c.value_at.ensures.value ∙ ap (λ (xs : List ℕ). get_or xs (c.seek-cursor.result.at + 2) 0) same)
+    ap (λ n. Some n) (c.value_word.ensures.value ∙ ap (λ (xs : List ℕ). get_or xs (c.seek-cursor.result.at + 2) 0) same)
     ∙ sym (found ws c.args.key c.seek-cursor.result.before c.seek-cursor.result.at kn se.before se.at there.0 (ap rank there.1))
 
 pub returns-clause-value : goal.returns-clause-value

@@ -19,5 +19,5 @@ pub returns-in-None-clause-grants : goal.returns-in-None-clause-grants
 returns-in-None-clause-grants g c =
     let sizes : Sizes = c.args.latches.now.sizes in let p : PassState = c.args.pass.now in let q : PassState = c.optimistic_delete.new.pass in let r : PassState = c.pessimistic_delete.new.pass in
     let called = c.pessimistic_delete.ensures.called in
-    few-again sizes (IsKeptLog sizes.pages) (by_place opening sizes.pages) (IsShortFor c.args.key) c.args.key p q r
-    c.in-None.ensures.called c.optimistic_delete.ensures.grants c.pessimistic_delete.ensures.grants called.more called.seen
+    few-again sizes (IsKeptLog sizes.pages) (by_place opening sizes.pages) (IsShortFor c.args.key) c.args.key p q r c.pessimistic_delete.result.reply
+    c.in-None.ensures.called c.in-None.ensures.grants c.pessimistic_delete.ensures.grants called.more called.seen

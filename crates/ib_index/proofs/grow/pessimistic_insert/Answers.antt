@@ -8,11 +8,12 @@ use Rattle.ib_map.specs.declared.call.Reply.TheVariants.{Duplicate, LogFull as L
 use Rattle.ib_layout.specs.Geometry.{Sizes}
 use Rattle.ib_logrec.specs.Log.{by_place}
 use Rattle.ib_plans.specs.Agreement.{last_of, memory_in}
-use Rattle.ib_split.proofs.WayLaws.{length-way_down}
+use Rattle.ib_plans.proofs.PathListLaws.{length-way_down}
 use Rattle.ib_tree.specs.TreeLog.{opening}
 use Rattle.ib_walk.specs.Trees.{height_of}
 use Rattle.ib_kept.specs.Kept.{IsKeptLog}
 use Rattle.ib_kept.specs.LeafChange.{kept_pages}
+use Rattle.ib_rule.specs.declared.looks.Grants.{Grants}
 use Rattle.ib_rule.specs.Pass.{PassState}
 use Rattle.ib_rule.specs.Space.{SpaceState}
 use Rattle.ib_mtr.specs.Commits.{HasCommitted, HasRead, IsFull, MayCommit}
@@ -24,9 +25,9 @@ use Rattle.ib_index.proofs.SpaceTicks.{may-tick}
 use Rattle.ib_index.proofs.GrowMay.{may-grow}
 use Rattle.ib_index.specs.Calls.{HasCalled}
 use Rattle.ib_index.specs.Leaf.{IsSeated}
-use Rattle.ib_index.specs.Grows.{HasComeToWay, IsReady, IsShort, NeedsPages, TakesAtMost, tree_pages}
+use Rattle.ib_index.specs.Grows.{HasComeToWay, HoldsAllPages, IsShort, NeedsPages, TakesAtMost, tree_pages}
 use Rattle.ib_index.proofs.GrowCalls.{called-duplicate, called-ended, called-high, called-short}
-use Rattle.ib_index.proofs.GrowWhole.{can-insert, ended-grants, no-value, some-value, value-kept, way-started}
+use Rattle.ib_index.proofs.GrowWhole.{can-insert, ended-claims, ended-grants, no-value, some-value, value-kept, way-started}
 use Rattle.ib_index.proofs.grow.pessimistic_insert.Goals as goal
 
 moved : (P : PassState → Type 0) (r u : PassState) → r ≡ u → P r → P u
@@ -129,9 +130,10 @@ returns-in-Err-clause-grants g c =
     let missing = value-kept key (last_of path) q.work t.work (short.same (last_of path) come.growing.leaf) ∙ absent in
     let r : PassState = c.commit_read-place-in-Err.new.self.1.0 in let place = c.commit_read-place-in-Err.result in
     let read : HasRead sizes (IsKeptLog sizes.pages) t place r = subst (λ (s : Sizes). HasRead s (IsKeptLog s.pages) t place r) taken-by c.commit_read-place-in-Err.ensures in
-    let same = ap total read.ended.grants in
+    let same = ap total read.ended.grants in let one = ap (λ (v : Grants). v.sx) read.ended.grants in
+    let claims : r.view.grants.sx ≤ p.view.grants.sx + 1 = (let a = short.claims in let b = come.claims in omega arith) in
     let most : total r.view.grants ≤ total p.view.grants + 64 = (let a = short.grants in let b = come.grants in omega arith) in
-    let wrapped : TakesAtMost 64 p r = record { all = most } in wrapped)
+    let wrapped : TakesAtMost 64 p r = record { claims = claims; all = most } in wrapped)
 
 pub commit-committed-requires-clause-may : goal.commit-committed-requires-clause-may
 commit-committed-requires-clause-may g c =
@@ -145,9 +147,9 @@ commit-committed-requires-clause-may g c =
     let needs : NeedsPages sizes.pages key path c.in-Ok.need q.work = λ memory bits a. c.in-Ok.ensures.needed sizes.pages 1 1 key memory bits a in
     let absent = sym c.value_in.ensures ∙ no-value c.value_in.result (sym c.is_some.ensures ∙ c.if-is_some.false) in
     let fresh : List ℕ = c.in-Ok-take_fresh.fresh in
-    let ready : IsReady sizes key path fresh q t =
-    subst (λ (u : PassState). (key : MapKey) → IsKey key → (p : PassState) → HasComeToWay sizes key path p u → NeedsPages sizes.pages key path c.in-Ok.need u.work → IsReady sizes key path fresh u t) pass
-    (subst (λ (s : Sizes). (key : MapKey) → IsKey key → (p : PassState) → HasComeToWay s key path p c.needed.new.mtr.pass.now → NeedsPages s.pages key path c.in-Ok.need c.needed.new.mtr.pass.now.work → IsReady s key path fresh c.needed.new.mtr.pass.now t) then c.in-Ok-take_fresh.ensures.taken)
+    let ready : HoldsAllPages sizes key path fresh q t =
+    subst (λ (u : PassState). (key : MapKey) → IsKey key → (p : PassState) → HasComeToWay sizes key path p u → NeedsPages sizes.pages key path c.in-Ok.need u.work → HoldsAllPages sizes key path fresh u t) pass
+    (subst (λ (s : Sizes). (key : MapKey) → IsKey key → (p : PassState) → HasComeToWay s key path p c.needed.new.mtr.pass.now → NeedsPages s.pages key path c.in-Ok.need c.needed.new.mtr.pass.now.work → HoldsAllPages s key path fresh c.needed.new.mtr.pass.now t) then c.in-Ok-take_fresh.ensures.taken)
     key c.ranges.key.fits p come needs in
     let seated : IsSeated sizes t = subst (λ (s : Sizes). IsSeated s t) taken-by c.be_seated-2.ensures in
     let missing = value-kept key (last_of path) q.work t.work (ready.same (last_of path) come.growing.leaf) ∙ absent in
@@ -172,9 +174,9 @@ returns-clause-called g c =
     let needs : NeedsPages sizes.pages key path c.in-Ok.need q.work = λ memory bits a. c.in-Ok.ensures.needed sizes.pages 1 1 key memory bits a in
     let absent = sym c.value_in.ensures ∙ no-value c.value_in.result (sym c.is_some.ensures ∙ c.if-is_some.false) in
     let fresh : List ℕ = c.in-Ok-take_fresh.fresh in
-    let ready : IsReady sizes key path fresh q t =
-    subst (λ (u : PassState). (key : MapKey) → IsKey key → (p : PassState) → HasComeToWay sizes key path p u → NeedsPages sizes.pages key path c.in-Ok.need u.work → IsReady sizes key path fresh u t) pass
-    (subst (λ (s : Sizes). (key : MapKey) → IsKey key → (p : PassState) → HasComeToWay s key path p c.needed.new.mtr.pass.now → NeedsPages s.pages key path c.in-Ok.need c.needed.new.mtr.pass.now.work → IsReady s key path fresh c.needed.new.mtr.pass.now t) then c.in-Ok-take_fresh.ensures.taken)
+    let ready : HoldsAllPages sizes key path fresh q t =
+    subst (λ (u : PassState). (key : MapKey) → IsKey key → (p : PassState) → HasComeToWay sizes key path p u → NeedsPages sizes.pages key path c.in-Ok.need u.work → HoldsAllPages sizes key path fresh u t) pass
+    (subst (λ (s : Sizes). (key : MapKey) → IsKey key → (p : PassState) → HasComeToWay s key path p c.needed.new.mtr.pass.now → NeedsPages s.pages key path c.in-Ok.need c.needed.new.mtr.pass.now.work → HoldsAllPages s key path fresh c.needed.new.mtr.pass.now t) then c.in-Ok-take_fresh.ensures.taken)
     key c.ranges.key.fits p come needs in
     let seated : IsSeated sizes t = subst (λ (s : Sizes). IsSeated s t) taken-by c.be_seated-2.ensures in
     let missing = value-kept key (last_of path) q.work t.work (ready.same (last_of path) come.growing.leaf) ∙ absent in
@@ -206,9 +208,9 @@ returns-clause-grants g c =
     let needs : NeedsPages sizes.pages key path c.in-Ok.need q.work = λ memory bits a. c.in-Ok.ensures.needed sizes.pages 1 1 key memory bits a in
     let absent = sym c.value_in.ensures ∙ no-value c.value_in.result (sym c.is_some.ensures ∙ c.if-is_some.false) in
     let fresh : List ℕ = c.in-Ok-take_fresh.fresh in
-    let ready : IsReady sizes key path fresh q t =
-    subst (λ (u : PassState). (key : MapKey) → IsKey key → (p : PassState) → HasComeToWay sizes key path p u → NeedsPages sizes.pages key path c.in-Ok.need u.work → IsReady sizes key path fresh u t) pass
-    (subst (λ (s : Sizes). (key : MapKey) → IsKey key → (p : PassState) → HasComeToWay s key path p c.needed.new.mtr.pass.now → NeedsPages s.pages key path c.in-Ok.need c.needed.new.mtr.pass.now.work → IsReady s key path fresh c.needed.new.mtr.pass.now t) then c.in-Ok-take_fresh.ensures.taken)
+    let ready : HoldsAllPages sizes key path fresh q t =
+    subst (λ (u : PassState). (key : MapKey) → IsKey key → (p : PassState) → HasComeToWay sizes key path p u → NeedsPages sizes.pages key path c.in-Ok.need u.work → HoldsAllPages sizes key path fresh u t) pass
+    (subst (λ (s : Sizes). (key : MapKey) → IsKey key → (p : PassState) → HasComeToWay s key path p c.needed.new.mtr.pass.now → NeedsPages s.pages key path c.in-Ok.need c.needed.new.mtr.pass.now.work → HoldsAllPages s key path fresh c.needed.new.mtr.pass.now t) then c.in-Ok-take_fresh.ensures.taken)
     key c.ranges.key.fits p come needs in
     let seated : IsSeated sizes t = subst (λ (s : Sizes). IsSeated s t) taken-by c.be_seated-2.ensures in
     let missing = value-kept key (last_of path) q.work t.work (ready.same (last_of path) come.growing.leaf) ∙ absent in
@@ -222,7 +224,9 @@ returns-clause-grants g c =
     (subst (λ (k : Sizes). IfErr c.commit-committed.result (λ full. IsFull k (IsKeptLog k.pages) c.plan_in.new.mtr.pass.now full r)) last c.commit-committed.ensures.full) in
     let most : total r.view.grants ≤ total t.view.grants + 1 = ended-grants sizes t planned.0 (Insert key c.args.value) c.commit-committed.result r committed refused in
     let all : total r.view.grants ≤ total p.view.grants + 64 = (let a = ready.grants in let b = come.grants in omega arith) in
-    let wrapped : TakesAtMost 64 p r = record { all = all } in wrapped)
+    let one = ended-claims sizes t planned.0 (Insert key c.args.value) c.commit-committed.result r committed refused in
+    let claims : r.view.grants.sx ≤ p.view.grants.sx + 1 = (let a = ready.claims in let b = come.claims in omega arith) in
+    let wrapped : TakesAtMost 64 p r = record { claims = claims; all = all } in wrapped)
 
 pub returns-then-is_some-clause-grants : goal.returns-then-is_some-clause-grants
 returns-then-is_some-clause-grants g c =
@@ -231,9 +235,10 @@ returns-then-is_some-clause-grants g c =
     let key = c.args.key in let path : List ℕ = c.come_to_way-path.result in
     let at = c.come_to_way-path.ensures.come in
     let come : HasComeToWay sizes key path p q = way-started sizes key path p q (search (rules, at)) in
-    let same = ap total c.commit_read-place.ensures.ended.grants in
+    let same = ap total c.commit_read-place.ensures.ended.grants in let one = ap (λ (v : Grants). v.sx) c.commit_read-place.ensures.ended.grants in
     let all : total r.view.grants ≤ total p.view.grants + 64 = (let b = come.grants in omega arith) in
-    let wrapped : TakesAtMost 64 p r = record { all = all } in wrapped)
+    let claims : r.view.grants.sx ≤ p.view.grants.sx + 1 = (let b = come.claims in omega arith) in
+    let wrapped : TakesAtMost 64 p r = record { claims = claims; all = all } in wrapped)
 
 pub returns-in_default-clause-grants : goal.returns-in_default-clause-grants
 returns-in_default-clause-grants g c =
@@ -242,10 +247,11 @@ returns-in_default-clause-grants g c =
     let key = c.args.key in let path : List ℕ = c.come_to_way-path.result in
     let at = c.come_to_way-path.ensures.come in
     let come : HasComeToWay sizes key path p q = way-started sizes key path p q (search (rules, at)) in
-    let pass : c.needed.new.mtr.pass.now ≡ q = ap (λ m. m.now) c.needed.ensures.pass in let gone = ap (λ (u : PassState). total u.view.grants) pass in
-    let same = ap total c.commit_read-place-in_default.ensures.ended.grants in
+    let pass : c.needed.new.mtr.pass.now ≡ q = ap (λ m. m.now) c.needed.ensures.pass in let gone = ap (λ (u : PassState). total u.view.grants) pass in let had = ap (λ (u : PassState). u.view.grants.sx) pass in
+    let same = ap total c.commit_read-place-in_default.ensures.ended.grants in let one = ap (λ (v : Grants). v.sx) c.commit_read-place-in_default.ensures.ended.grants in
     let all : total r.view.grants ≤ total p.view.grants + 64 = (let b = come.grants in omega arith) in
-    let wrapped : TakesAtMost 64 p r = record { all = all } in wrapped)
+    let claims : r.view.grants.sx ≤ p.view.grants.sx + 1 = (let b = come.claims in omega arith) in
+    let wrapped : TakesAtMost 64 p r = record { claims = claims; all = all } in wrapped)
 
 pub plan_in-requires-clause-can : goal.plan_in-requires-clause-can
 plan_in-requires-clause-can g c =
@@ -259,9 +265,9 @@ plan_in-requires-clause-can g c =
     let needs : NeedsPages sizes.pages key path c.in-Ok.need q.work = λ memory bits a. c.in-Ok.ensures.needed sizes.pages 1 1 key memory bits a in
     let absent = sym c.value_in.ensures ∙ no-value c.value_in.result (sym c.is_some.ensures ∙ c.if-is_some.false) in
     let fresh : List ℕ = c.in-Ok-take_fresh.fresh in
-    let ready : IsReady sizes key path fresh q t =
-    subst (λ (u : PassState). (key : MapKey) → IsKey key → (p : PassState) → HasComeToWay sizes key path p u → NeedsPages sizes.pages key path c.in-Ok.need u.work → IsReady sizes key path fresh u t) pass
-    (subst (λ (s : Sizes). (key : MapKey) → IsKey key → (p : PassState) → HasComeToWay s key path p c.needed.new.mtr.pass.now → NeedsPages s.pages key path c.in-Ok.need c.needed.new.mtr.pass.now.work → IsReady s key path fresh c.needed.new.mtr.pass.now t) then c.in-Ok-take_fresh.ensures.taken)
+    let ready : HoldsAllPages sizes key path fresh q t =
+    subst (λ (u : PassState). (key : MapKey) → IsKey key → (p : PassState) → HasComeToWay sizes key path p u → NeedsPages sizes.pages key path c.in-Ok.need u.work → HoldsAllPages sizes key path fresh u t) pass
+    (subst (λ (s : Sizes). (key : MapKey) → IsKey key → (p : PassState) → HasComeToWay s key path p c.needed.new.mtr.pass.now → NeedsPages s.pages key path c.in-Ok.need c.needed.new.mtr.pass.now.work → HoldsAllPages s key path fresh c.needed.new.mtr.pass.now t) then c.in-Ok-take_fresh.ensures.taken)
     key c.ranges.key.fits p come needs in
     let seated : IsSeated sizes t = subst (λ (s : Sizes). IsSeated s t) taken-by c.be_seated-2.ensures in
     let missing = value-kept key (last_of path) q.work t.work (ready.same (last_of path) come.growing.leaf) ∙ absent in

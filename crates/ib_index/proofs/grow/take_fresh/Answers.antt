@@ -11,14 +11,14 @@ use Rattle.ib_walk.specs.Full.{chosen, free_of}
 use Rattle.ib_tree.specs.PageLists.{AreOnce}
 use Rattle.ib_rule.specs.declared.looks.Grants.{Grants}
 use Rattle.ib_rule.specs.Pass.{PassState}
-use Rattle.ib_index.specs.Grows.{HasTakenNew, IsGrowing, IsReady, IsShort, space_pages}
+use Rattle.ib_index.specs.Grows.{HasTakenNew, IsGrowing, HoldsAllPages, IsShort, space_pages}
 use Rattle.ib_index.proofs.ReadyLaws.{image, image-there, ready-none, ready-some, short-some, space-once}
 use Rattle.ib_index.proofs.grow.take_fresh.Goals as goal
 
 pub returns-then-need-eq0-clause-taken : goal.returns-then-need-eq0-clause-taken
 returns-then-need-eq0-clause-taken g c = λ key is p come needs.
     let sizes : Sizes = c.args.mtr.now.latches.now.sizes in let q : PassState = c.args.mtr.now.pass.now in
-    subst (λ (fresh : List ℕ). IsReady sizes key c.args.path.now fresh q q) (sym c.new.ensures) (ready-none sizes key c.args.path.now c.args.need p q come needs c.if-need-eq0.true)
+    subst (λ (fresh : List ℕ). HoldsAllPages sizes key c.args.path.now fresh q q) (sym c.new.ensures) (ready-none sizes key c.args.path.now c.args.need p q come needs c.if-need-eq0.true)
 
 pub choose-requires-clause-space : goal.choose-requires-clause-space
 choose-requires-clause-space g c =

@@ -1,6 +1,5 @@
 -- Page 0 may be taken: it is none of the tree's, and its level is below theirs.
-use Rattle.std.proofs.Common.{◌≡◌, ◌∙◌, ◌<◌, ℕ, ◌∷◌, true, map, refl, subst, arith}
-use Rattle.std.proofs.lemmas.Bool.Decides.{nat_tests}
+use Rattle.std.proofs.Common.{◌≡◌, ◌∙◌, ◌∷◌, true, map, refl, subst, arith}
 use Rattle.std.proofs.lemmas.List.{length-map}
 use Rattle.ib_map.specs.Space.{has_pages}
 use Rattle.ib_layout.specs.Geometry.{Sizes}
@@ -10,9 +9,7 @@ use Rattle.ib_cursor.proofs.GrantLaws.{may_grow}
 use Rattle.ib_index.specs.Grows.{held_grant, tree_pages}
 use Rattle.ib_index.proofs.GrowLaws.{among-tree, follow-space, grow-absent, grow-may, length-tree}
 use Rattle.ib_index.proofs.grow.take_space.Goals as goal
-
-some-pages : (n : ℕ) → has_pages n ≡ true → 0 < n
-some-pages n has = grind (arith, nat_tests, has)
+use Rattle.ib_index.proofs.ReadyLaws.{some-pages}
 
 pub take_at-requires-clause-page : goal.take_at-requires-clause-page
 take_at-requires-clause-page g c = some-pages c.args.mtr.now.latches.now.sizes.pages

@@ -15,8 +15,8 @@ use Rattle.ib_rule.specs.Space.{SpaceState}
 use Rattle.ib_mtr.specs.Commits.{HasCommitted, HasRead, IsFull}
 use Rattle.ib_mtr.specs.Mtr.{with_work}
 use Rattle.ib_index.specs.Calls.{HasCalled}
-use Rattle.ib_index.specs.Leaf.{HasCome, IsShortFor, NeededLeaf, NeedsTree, TakesFew, leaf_page}
-use Rattle.ib_index.proofs.LeafCalls.{alone-ended, alone-read, answered-delete, called-missing, come-started, needs-read, takes-ended}
+use Rattle.ib_index.specs.Leaf.{HasComeToLeaf, IsShortFor, NeededLeaf, NeedsTree, TakesFew, TakesFor, leaf_page}
+use Rattle.ib_index.proofs.LeafCalls.{alone-ended, alone-read, answered-delete, called-missing, come-started, needs-read, takes-ended, takes-read}
 use Rattle.ib_index.proofs.leaf.optimistic_delete.Goals as goal
 
 pub returns-in_default-clause-called : goal.returns-in_default-clause-called
@@ -24,7 +24,7 @@ returns-in_default-clause-called g c =
     let space : SpaceState = c.args.latches.now in let p : PassState = c.args.pass.now in let q : PassState = c.come_to_leaf-leaf.new.mtr.pass.now in let r : PassState = c.commit_read-place.new.self.1.0 in
     let key = c.args.key in
     let at = c.come_to_leaf-leaf.ensures.come in
-    let come : HasCome space.sizes key c.come_to_leaf-leaf.result p q = come-started space.sizes key c.come_to_leaf-leaf.result p q (search (rules, at)) in
+    let come : HasComeToLeaf space.sizes key c.come_to_leaf-leaf.result p q = come-started space.sizes key c.come_to_leaf-leaf.result p q (search (rules, at)) in
     let same : c.come_to_leaf-leaf.new.mtr.latches.now.sizes ≡ space.sizes = ap (λ m. m.now.sizes) (c.come_to_leaf-leaf.ensures.latches ∙ c.start-mtr.ensures.latches) in
     let value : c.look_in-looked.result.value ≡ value_at key (leaf_page space.sizes key q).records =
     subst (λ (s : Sizes). c.look_in-looked.result.value ≡ value_at key (leaf_page s key q).records) same c.look_in-looked.ensures.value in
@@ -38,7 +38,7 @@ returns-then-looked-le-FEWEST_RECORDS-clause-called g c =
     let space : SpaceState = c.args.latches.now in let p : PassState = c.args.pass.now in let q : PassState = c.come_to_leaf-leaf.new.mtr.pass.now in let r : PassState = c.commit_read.new.self.1.0 in
     let key = c.args.key in
     let at = c.come_to_leaf-leaf.ensures.come in
-    let come : HasCome space.sizes key c.come_to_leaf-leaf.result p q = come-started space.sizes key c.come_to_leaf-leaf.result p q (search (rules, at)) in
+    let come : HasComeToLeaf space.sizes key c.come_to_leaf-leaf.result p q = come-started space.sizes key c.come_to_leaf-leaf.result p q (search (rules, at)) in
     let same : c.come_to_leaf-leaf.new.mtr.latches.now.sizes ≡ space.sizes = ap (λ m. m.now.sizes) (c.come_to_leaf-leaf.ensures.latches ∙ c.start-mtr.ensures.latches) in
     let value : c.look_in-looked.result.value ≡ value_at key (leaf_page space.sizes key q).records =
     subst (λ (s : Sizes). c.look_in-looked.result.value ≡ value_at key (leaf_page s key q).records) same c.look_in-looked.ensures.value in
@@ -56,7 +56,7 @@ returns-clause-called g c =
     let space : SpaceState = c.args.latches.now in let p : PassState = c.args.pass.now in let q : PassState = c.come_to_leaf-leaf.new.mtr.pass.now in let r : PassState = c.commit-committed.new.self.1.0 in
     let key = c.args.key in
     let at = c.come_to_leaf-leaf.ensures.come in
-    let come : HasCome space.sizes key c.come_to_leaf-leaf.result p q = come-started space.sizes key c.come_to_leaf-leaf.result p q (search (rules, at)) in
+    let come : HasComeToLeaf space.sizes key c.come_to_leaf-leaf.result p q = come-started space.sizes key c.come_to_leaf-leaf.result p q (search (rules, at)) in
     let same : c.come_to_leaf-leaf.new.mtr.latches.now.sizes ≡ space.sizes = ap (λ m. m.now.sizes) (c.come_to_leaf-leaf.ensures.latches ∙ c.start-mtr.ensures.latches) in
     let value : c.look_in-looked.result.value ≡ value_at key (leaf_page space.sizes key q).records =
     subst (λ (s : Sizes). c.look_in-looked.result.value ≡ value_at key (leaf_page s key q).records) same c.look_in-looked.ensures.value in
@@ -80,7 +80,7 @@ returns-in_default-clause-alone g c =
     let space : SpaceState = c.args.latches.now in let p : PassState = c.args.pass.now in let q : PassState = c.come_to_leaf-leaf.new.mtr.pass.now in let r : PassState = c.commit_read-place.new.self.1.0 in
     let key = c.args.key in
     let at = c.come_to_leaf-leaf.ensures.come in
-    let come : HasCome space.sizes key c.come_to_leaf-leaf.result p q = come-started space.sizes key c.come_to_leaf-leaf.result p q (search (rules, at)) in
+    let come : HasComeToLeaf space.sizes key c.come_to_leaf-leaf.result p q = come-started space.sizes key c.come_to_leaf-leaf.result p q (search (rules, at)) in
     let same : c.come_to_leaf-leaf.new.mtr.latches.now.sizes ≡ space.sizes = ap (λ m. m.now.sizes) (c.come_to_leaf-leaf.ensures.latches ∙ c.start-mtr.ensures.latches) in
     let value : c.look_in-looked.result.value ≡ value_at key (leaf_page space.sizes key q).records =
     subst (λ (s : Sizes). c.look_in-looked.result.value ≡ value_at key (leaf_page s key q).records) same c.look_in-looked.ensures.value in
@@ -95,7 +95,7 @@ returns-clause-alone g c =
     let space : SpaceState = c.args.latches.now in let p : PassState = c.args.pass.now in let q : PassState = c.come_to_leaf-leaf.new.mtr.pass.now in let r : PassState = c.commit-committed.new.self.1.0 in
     let key = c.args.key in
     let at = c.come_to_leaf-leaf.ensures.come in
-    let come : HasCome space.sizes key c.come_to_leaf-leaf.result p q = come-started space.sizes key c.come_to_leaf-leaf.result p q (search (rules, at)) in
+    let come : HasComeToLeaf space.sizes key c.come_to_leaf-leaf.result p q = come-started space.sizes key c.come_to_leaf-leaf.result p q (search (rules, at)) in
     let same : c.come_to_leaf-leaf.new.mtr.latches.now.sizes ≡ space.sizes = ap (λ m. m.now.sizes) (c.come_to_leaf-leaf.ensures.latches ∙ c.start-mtr.ensures.latches) in
     let count : c.look_in-looked.result.count ≡ length (leaf_page space.sizes key q).records =
     subst (λ (s : Sizes). c.look_in-looked.result.count ≡ length (leaf_page s key q).records) same c.look_in-looked.ensures.count in
@@ -121,7 +121,7 @@ returns-clause-grants g c =
     let space : SpaceState = c.args.latches.now in let p : PassState = c.args.pass.now in let q : PassState = c.come_to_leaf-leaf.new.mtr.pass.now in let r : PassState = c.commit-committed.new.self.1.0 in
     let key = c.args.key in
     let at = c.come_to_leaf-leaf.ensures.come in
-    let come : HasCome space.sizes key c.come_to_leaf-leaf.result p q = come-started space.sizes key c.come_to_leaf-leaf.result p q (search (rules, at)) in
+    let come : HasComeToLeaf space.sizes key c.come_to_leaf-leaf.result p q = come-started space.sizes key c.come_to_leaf-leaf.result p q (search (rules, at)) in
     let same : c.come_to_leaf-leaf.new.mtr.latches.now.sizes ≡ space.sizes = ap (λ m. m.now.sizes) (c.come_to_leaf-leaf.ensures.latches ∙ c.start-mtr.ensures.latches) in
     let end : c.take_out.new.mtr.latches.now.sizes ≡ space.sizes = ap (λ m. m.now.sizes) c.take_out.ensures.latches ∙ same in
     let taken = c.take_out.ensures.taken in
@@ -131,5 +131,32 @@ returns-clause-grants g c =
     let refused : IfErr c.commit-committed.result (λ full. IsFull space.sizes (IsKeptLog space.sizes.pages) (with_work taken.0 q) full r) =
     subst (λ (s : PassState). IfErr c.commit-committed.result (λ full. IsFull space.sizes (IsKeptLog space.sizes.pages) s full r)) taken.1
     (subst (λ (k : Sizes). IfErr c.commit-committed.result (λ full. IsFull k (IsKeptLog k.pages) c.take_out.new.mtr.pass.now full r)) end c.commit-committed.ensures.full) in
-    subst (TakesFew space.sizes 2 p) (search rules)
-    (takes-ended space key c.ranges.key.fits c.come_to_leaf-leaf.result p q c.requires.own come c.commit-committed.result taken.0 (Delete key) r committed refused)
+    let call = DeleteCall key in
+    let seen : c.place.result ≡ length r.view.memory.seen = search rules in
+    let full : IfErr c.commit-committed.result (λ full. c.changed.result ≡ record { call = call; reply = LogFullReply full.used full.cap; place = length r.view.memory.seen }) =
+    subst (λ (n : ℕ). IfErr c.commit-committed.result (λ full. c.changed.result ≡ record { call = call; reply = LogFullReply full.used full.cap; place = n })) seen c.changed.ensures.full in
+    let takes = takes-ended space key c.ranges.key.fits c.come_to_leaf-leaf.result p q c.requires.own come c.commit-committed.result taken.0 (Delete key) c.changed.result call (Deleted c.in-Some.value) r refl
+    c.changed.ensures.made full committed refused in
+    subst (TakesFor space.sizes c.changed.result.reply p) (search rules) takes
+
+pub returns-in_default-clause-grants : goal.returns-in_default-clause-grants
+returns-in_default-clause-grants g c =
+    let space : SpaceState = c.args.latches.now in let p : PassState = c.args.pass.now in let q : PassState = c.come_to_leaf-leaf.new.mtr.pass.now in let r : PassState = c.commit_read-place.new.self.1.0 in
+    let key = c.args.key in
+    let at = c.come_to_leaf-leaf.ensures.come in
+    let come : HasComeToLeaf space.sizes key c.come_to_leaf-leaf.result p q = come-started space.sizes key c.come_to_leaf-leaf.result p q (search (rules, at)) in
+    let same : c.come_to_leaf-leaf.new.mtr.latches.now.sizes ≡ space.sizes = ap (λ m. m.now.sizes) (c.come_to_leaf-leaf.ensures.latches ∙ c.start-mtr.ensures.latches) in
+    let read : HasRead space.sizes (IsKeptLog space.sizes.pages) q c.commit_read-place.result r = subst (λ (s : Sizes). HasRead s (IsKeptLog s.pages) q c.commit_read-place.result r) same c.commit_read-place.ensures in
+    let takes : TakesFor space.sizes Missing p r = takes-read space key c.ranges.key.fits c.come_to_leaf-leaf.result p q c.requires.own come c.commit_read-place.result r read in
+    subst (TakesFor space.sizes Missing p) (search rules) takes
+
+pub returns-then-looked-le-FEWEST_RECORDS-clause-grants : goal.returns-then-looked-le-FEWEST_RECORDS-clause-grants
+returns-then-looked-le-FEWEST_RECORDS-clause-grants g c =
+    let space : SpaceState = c.args.latches.now in let p : PassState = c.args.pass.now in let q : PassState = c.come_to_leaf-leaf.new.mtr.pass.now in let r : PassState = c.commit_read.new.self.1.0 in
+    let key = c.args.key in
+    let at = c.come_to_leaf-leaf.ensures.come in
+    let come : HasComeToLeaf space.sizes key c.come_to_leaf-leaf.result p q = come-started space.sizes key c.come_to_leaf-leaf.result p q (search (rules, at)) in
+    let same : c.come_to_leaf-leaf.new.mtr.latches.now.sizes ≡ space.sizes = ap (λ m. m.now.sizes) (c.come_to_leaf-leaf.ensures.latches ∙ c.start-mtr.ensures.latches) in
+    let read : HasRead space.sizes (IsKeptLog space.sizes.pages) q c.commit_read.result r = subst (λ (s : Sizes). HasRead s (IsKeptLog s.pages) q c.commit_read.result r) same c.commit_read.ensures in
+    let takes : TakesFew space.sizes 1 p r = takes-read space key c.ranges.key.fits c.come_to_leaf-leaf.result p q c.requires.own come c.commit_read.result r read in
+    subst (TakesFew space.sizes 1 p) (search rules) takes

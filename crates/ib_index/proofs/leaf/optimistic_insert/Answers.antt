@@ -1,6 +1,6 @@
 -- The call was answered, or needs more than the leaf.
-use Rattle.std.proofs.Common.{rules, ◌≡◌, ℕ, ◌<◌, ◌∙◌, true, false, length, Option, None, Some, refl, sym, ap, subst, arith}
-use Rattle.std.specs.Prelude.{is_some, IfOk, IfErr}
+use Rattle.std.proofs.Common.{rules, ◌≡◌, ℕ, ◌<◌, ◌∙◌, length, None, Some, refl, sym, ap, subst, arith}
+use Rattle.std.specs.Prelude.{IfOk, IfErr}
 use Rattle.ib_layout.specs.Geometry.{Sizes}
 use Rattle.ib_logrec.specs.Log.{by_place}
 use Rattle.ib_tree.specs.TreeLog.{opening}
@@ -15,24 +15,17 @@ use Rattle.ib_rule.specs.Space.{SpaceState}
 use Rattle.ib_mtr.specs.Commits.{HasCommitted, HasRead, IsFull}
 use Rattle.ib_mtr.specs.Mtr.{with_work}
 use Rattle.ib_index.specs.Calls.{HasCalled}
-use Rattle.ib_index.specs.Leaf.{HasCome, IsFullFor, NeededLeaf, NeedsTree, TakesFew, leaf_page}
-use Rattle.ib_index.proofs.LeafCalls.{alone-ended, alone-read, answered-insert, called-duplicate, come-started, needs-read, takes-ended}
+use Rattle.ib_index.specs.Leaf.{HasComeToLeaf, IsFullFor, NeededLeaf, NeedsTree, TakesFew, TakesFor, leaf_page}
+use Rattle.ib_index.proofs.LeafCalls.{alone-ended, alone-read, answered-insert, called-duplicate, come-started, needs-read, takes-ended, takes-read}
 use Rattle.ib_index.proofs.leaf.optimistic_insert.Goals as goal
-
-some-value : (o : Option ℕ) → is_some o ≡ true → (v : ℕ) × (o ≡ Some v)
-some-value None is = absurd (let z : false ≡ true = is in cc)
-some-value (Some v) is = (v, refl)
-
-no-value : (o : Option ℕ) → is_some o ≡ false → o ≡ None
-no-value None is = refl
-no-value (Some v) is = absurd (let z : true ≡ false = is in cc)
+use Rattle.ib_index.proofs.GrowWhole.{some-value, no-value}
 
 pub returns-then-is_some-clause-called : goal.returns-then-is_some-clause-called
 returns-then-is_some-clause-called g c =
     let space : SpaceState = c.args.latches.now in let p : PassState = c.args.pass.now in let q : PassState = c.come_to_leaf-leaf.new.mtr.pass.now in let r : PassState = c.commit_read-place.new.self.1.0 in
     let key = c.args.key in
     let at = c.come_to_leaf-leaf.ensures.come in
-    let come : HasCome space.sizes key c.come_to_leaf-leaf.result p q = come-started space.sizes key c.come_to_leaf-leaf.result p q (search (rules, at)) in
+    let come : HasComeToLeaf space.sizes key c.come_to_leaf-leaf.result p q = come-started space.sizes key c.come_to_leaf-leaf.result p q (search (rules, at)) in
     let same : c.come_to_leaf-leaf.new.mtr.latches.now.sizes ≡ space.sizes = ap (λ m. m.now.sizes) (c.come_to_leaf-leaf.ensures.latches ∙ c.start-mtr.ensures.latches) in
     let read : HasRead space.sizes (IsKeptLog space.sizes.pages) q c.commit_read-place.result r = subst (λ (s : Sizes). HasRead s (IsKeptLog s.pages) q c.commit_read-place.result r) same c.commit_read-place.ensures in
     let value : c.look_in-looked.result.value ≡ value_at key (leaf_page space.sizes key q).records =
@@ -47,7 +40,7 @@ returns-then-looked-eq-MOST_RECORDS-clause-called g c =
     let space : SpaceState = c.args.latches.now in let p : PassState = c.args.pass.now in let q : PassState = c.come_to_leaf-leaf.new.mtr.pass.now in let r : PassState = c.commit_read.new.self.1.0 in
     let key = c.args.key in
     let at = c.come_to_leaf-leaf.ensures.come in
-    let come : HasCome space.sizes key c.come_to_leaf-leaf.result p q = come-started space.sizes key c.come_to_leaf-leaf.result p q (search (rules, at)) in
+    let come : HasComeToLeaf space.sizes key c.come_to_leaf-leaf.result p q = come-started space.sizes key c.come_to_leaf-leaf.result p q (search (rules, at)) in
     let same : c.come_to_leaf-leaf.new.mtr.latches.now.sizes ≡ space.sizes = ap (λ m. m.now.sizes) (c.come_to_leaf-leaf.ensures.latches ∙ c.start-mtr.ensures.latches) in
     let read : HasRead space.sizes (IsKeptLog space.sizes.pages) q c.commit_read.result r = subst (λ (s : Sizes). HasRead s (IsKeptLog s.pages) q c.commit_read.result r) same c.commit_read.ensures in
     let value : c.look_in-looked.result.value ≡ value_at key (leaf_page space.sizes key q).records =
@@ -64,7 +57,7 @@ returns-clause-called g c =
     let space : SpaceState = c.args.latches.now in let p : PassState = c.args.pass.now in let q : PassState = c.come_to_leaf-leaf.new.mtr.pass.now in let r : PassState = c.commit-committed.new.self.1.0 in
     let key = c.args.key in
     let at = c.come_to_leaf-leaf.ensures.come in
-    let come : HasCome space.sizes key c.come_to_leaf-leaf.result p q = come-started space.sizes key c.come_to_leaf-leaf.result p q (search (rules, at)) in
+    let come : HasComeToLeaf space.sizes key c.come_to_leaf-leaf.result p q = come-started space.sizes key c.come_to_leaf-leaf.result p q (search (rules, at)) in
     let same : c.come_to_leaf-leaf.new.mtr.latches.now.sizes ≡ space.sizes = ap (λ m. m.now.sizes) (c.come_to_leaf-leaf.ensures.latches ∙ c.start-mtr.ensures.latches) in
     let end : c.put_in.new.mtr.latches.now.sizes ≡ space.sizes = ap (λ m. m.now.sizes) c.put_in.ensures.latches ∙ same in
     let value : c.look_in-looked.result.value ≡ value_at key (leaf_page space.sizes key q).records =
@@ -92,7 +85,7 @@ returns-then-is_some-clause-alone g c =
     let space : SpaceState = c.args.latches.now in let p : PassState = c.args.pass.now in let q : PassState = c.come_to_leaf-leaf.new.mtr.pass.now in let r : PassState = c.commit_read-place.new.self.1.0 in
     let key = c.args.key in
     let at = c.come_to_leaf-leaf.ensures.come in
-    let come : HasCome space.sizes key c.come_to_leaf-leaf.result p q = come-started space.sizes key c.come_to_leaf-leaf.result p q (search (rules, at)) in
+    let come : HasComeToLeaf space.sizes key c.come_to_leaf-leaf.result p q = come-started space.sizes key c.come_to_leaf-leaf.result p q (search (rules, at)) in
     let same : c.come_to_leaf-leaf.new.mtr.latches.now.sizes ≡ space.sizes = ap (λ m. m.now.sizes) (c.come_to_leaf-leaf.ensures.latches ∙ c.start-mtr.ensures.latches) in
     let read : HasRead space.sizes (IsKeptLog space.sizes.pages) q c.commit_read-place.result r = subst (λ (s : Sizes). HasRead s (IsKeptLog s.pages) q c.commit_read-place.result r) same c.commit_read-place.ensures in
     let value : c.look_in-looked.result.value ≡ value_at key (leaf_page space.sizes key q).records =
@@ -107,7 +100,7 @@ returns-clause-alone g c =
     let space : SpaceState = c.args.latches.now in let p : PassState = c.args.pass.now in let q : PassState = c.come_to_leaf-leaf.new.mtr.pass.now in let r : PassState = c.commit-committed.new.self.1.0 in
     let key = c.args.key in
     let at = c.come_to_leaf-leaf.ensures.come in
-    let come : HasCome space.sizes key c.come_to_leaf-leaf.result p q = come-started space.sizes key c.come_to_leaf-leaf.result p q (search (rules, at)) in
+    let come : HasComeToLeaf space.sizes key c.come_to_leaf-leaf.result p q = come-started space.sizes key c.come_to_leaf-leaf.result p q (search (rules, at)) in
     let same : c.come_to_leaf-leaf.new.mtr.latches.now.sizes ≡ space.sizes = ap (λ m. m.now.sizes) (c.come_to_leaf-leaf.ensures.latches ∙ c.start-mtr.ensures.latches) in
     let end : c.put_in.new.mtr.latches.now.sizes ≡ space.sizes = ap (λ m. m.now.sizes) c.put_in.ensures.latches ∙ same in
     let count : c.look_in-looked.result.count ≡ length (leaf_page space.sizes key q).records =
@@ -133,7 +126,7 @@ returns-clause-grants g c =
     let space : SpaceState = c.args.latches.now in let p : PassState = c.args.pass.now in let q : PassState = c.come_to_leaf-leaf.new.mtr.pass.now in let r : PassState = c.commit-committed.new.self.1.0 in
     let key = c.args.key in
     let at = c.come_to_leaf-leaf.ensures.come in
-    let come : HasCome space.sizes key c.come_to_leaf-leaf.result p q = come-started space.sizes key c.come_to_leaf-leaf.result p q (search (rules, at)) in
+    let come : HasComeToLeaf space.sizes key c.come_to_leaf-leaf.result p q = come-started space.sizes key c.come_to_leaf-leaf.result p q (search (rules, at)) in
     let same : c.come_to_leaf-leaf.new.mtr.latches.now.sizes ≡ space.sizes = ap (λ m. m.now.sizes) (c.come_to_leaf-leaf.ensures.latches ∙ c.start-mtr.ensures.latches) in
     let end : c.put_in.new.mtr.latches.now.sizes ≡ space.sizes = ap (λ m. m.now.sizes) c.put_in.ensures.latches ∙ same in
     let put = c.put_in.ensures.put in
@@ -143,5 +136,32 @@ returns-clause-grants g c =
     let refused : IfErr c.commit-committed.result (λ full. IsFull space.sizes (IsKeptLog space.sizes.pages) (with_work put.0 q) full r) =
     subst (λ (s : PassState). IfErr c.commit-committed.result (λ full. IsFull space.sizes (IsKeptLog space.sizes.pages) s full r)) put.1
     (subst (λ (k : Sizes). IfErr c.commit-committed.result (λ full. IsFull k (IsKeptLog k.pages) c.put_in.new.mtr.pass.now full r)) end c.commit-committed.ensures.full) in
-    subst (TakesFew space.sizes 2 p) (search rules)
-    (takes-ended space key c.ranges.key.fits c.come_to_leaf-leaf.result p q c.requires.own come c.commit-committed.result put.0 (Insert key c.args.value) r committed refused)
+    let call = InsertCall key c.args.value in
+    let seen : c.place.result ≡ length r.view.memory.seen = search rules in
+    let full : IfErr c.commit-committed.result (λ full. c.changed.result ≡ record { call = call; reply = LogFullReply full.used full.cap; place = length r.view.memory.seen }) =
+    subst (λ (n : ℕ). IfErr c.commit-committed.result (λ full. c.changed.result ≡ record { call = call; reply = LogFullReply full.used full.cap; place = n })) seen c.changed.ensures.full in
+    let takes = takes-ended space key c.ranges.key.fits c.come_to_leaf-leaf.result p q c.requires.own come c.commit-committed.result put.0 (Insert key c.args.value) c.changed.result call Inserted r refl
+    c.changed.ensures.made full committed refused in
+    subst (TakesFor space.sizes c.changed.result.reply p) (search rules) takes
+
+pub returns-then-is_some-clause-grants : goal.returns-then-is_some-clause-grants
+returns-then-is_some-clause-grants g c =
+    let space : SpaceState = c.args.latches.now in let p : PassState = c.args.pass.now in let q : PassState = c.come_to_leaf-leaf.new.mtr.pass.now in let r : PassState = c.commit_read-place.new.self.1.0 in
+    let key = c.args.key in
+    let at = c.come_to_leaf-leaf.ensures.come in
+    let come : HasComeToLeaf space.sizes key c.come_to_leaf-leaf.result p q = come-started space.sizes key c.come_to_leaf-leaf.result p q (search (rules, at)) in
+    let same : c.come_to_leaf-leaf.new.mtr.latches.now.sizes ≡ space.sizes = ap (λ m. m.now.sizes) (c.come_to_leaf-leaf.ensures.latches ∙ c.start-mtr.ensures.latches) in
+    let read : HasRead space.sizes (IsKeptLog space.sizes.pages) q c.commit_read-place.result r = subst (λ (s : Sizes). HasRead s (IsKeptLog s.pages) q c.commit_read-place.result r) same c.commit_read-place.ensures in
+    let takes : TakesFor space.sizes Duplicate p r = takes-read space key c.ranges.key.fits c.come_to_leaf-leaf.result p q c.requires.own come c.commit_read-place.result r read in
+    subst (TakesFor space.sizes Duplicate p) (search rules) takes
+
+pub returns-then-looked-eq-MOST_RECORDS-clause-grants : goal.returns-then-looked-eq-MOST_RECORDS-clause-grants
+returns-then-looked-eq-MOST_RECORDS-clause-grants g c =
+    let space : SpaceState = c.args.latches.now in let p : PassState = c.args.pass.now in let q : PassState = c.come_to_leaf-leaf.new.mtr.pass.now in let r : PassState = c.commit_read.new.self.1.0 in
+    let key = c.args.key in
+    let at = c.come_to_leaf-leaf.ensures.come in
+    let come : HasComeToLeaf space.sizes key c.come_to_leaf-leaf.result p q = come-started space.sizes key c.come_to_leaf-leaf.result p q (search (rules, at)) in
+    let same : c.come_to_leaf-leaf.new.mtr.latches.now.sizes ≡ space.sizes = ap (λ m. m.now.sizes) (c.come_to_leaf-leaf.ensures.latches ∙ c.start-mtr.ensures.latches) in
+    let read : HasRead space.sizes (IsKeptLog space.sizes.pages) q c.commit_read.result r = subst (λ (s : Sizes). HasRead s (IsKeptLog s.pages) q c.commit_read.result r) same c.commit_read.ensures in
+    let takes : TakesFew space.sizes 1 p r = takes-read space key c.ranges.key.fits c.come_to_leaf-leaf.result p q c.requires.own come c.commit_read.result r read in
+    subst (TakesFew space.sizes 1 p) (search rules) takes

@@ -16,7 +16,7 @@ use Rattle.ib_index.specs.Calls.{HasCalled}
 use Rattle.ib_index.specs.Grows.{TakesAtMost, tree_pages}
 use Rattle.ib_index.specs.Leaf.{IsSeated}
 use Rattle.ib_index.specs.Shrinks.{HasComeToSiblings}
-use Rattle.ib_index.proofs.GrowWhole.{ended-grants}
+use Rattle.ib_index.proofs.GrowWhole.{ended-claims, ended-grants}
 use Rattle.ib_index.proofs.ShrinkCalls.{called-missing, called-shrunk}
 use Rattle.ib_index.proofs.ShrinkMay.{may-shrink}
 use Rattle.ib_index.proofs.ShrinkWhole.{IsReadyToShrink, ready-to-shrink, siblings-started}
@@ -128,4 +128,6 @@ returns-clause-grants g c =
     (subst (λ (k : Sizes). IfErr c.commit-committed.result (λ full. IsFull k (IsKeptLog k.pages) c.plan_in.new.mtr.pass.now full r)) last c.commit-committed.ensures.full) in
     let one : total r.view.grants ≤ total t.view.grants + 1 = ended-grants sizes t planned.0 (Delete key) c.commit-committed.result r committed refused in
     let all : total r.view.grants ≤ total p.view.grants + 64 = (let a = ready.grants in omega arith) in
-    let wrapped : TakesAtMost 64 p r = record { all = all } in wrapped)
+    let same = ended-claims sizes t planned.0 (Delete key) c.commit-committed.result r committed refused in
+    let claims : r.view.grants.sx ≤ p.view.grants.sx + 1 = (let a = ready.claims in omega arith) in
+    let wrapped : TakesAtMost 64 p r = record { claims = claims; all = all } in wrapped)

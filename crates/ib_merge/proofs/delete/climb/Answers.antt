@@ -6,9 +6,8 @@ use Rattle.ib_page.specs.Form.{page_of}
 use Rattle.ib_page.specs.Image.{IsTreePage, records_of, level_of}
 use Rattle.ib_plans.specs.declared.TheConstants.{FEWEST_RECORDS}
 use Rattle.ib_plans.specs.Agreement.{state_or_free}
-use Rattle.ib_plans.proofs.EditLaws.{IsSome-and, state-records, state-level}
+use Rattle.ib_plans.proofs.EditLaws.{IsSome-and, state-records, state-level, there-is}
 use Rattle.ib_merge.specs.Deletes.{IsClimbedForAll}
-use Rattle.ib_merge.proofs.ImageLaws.{there-is}
 use Rattle.ib_merge.proofs.ClimbLaws.{IsAtForAll, path-some, path-tree, starts, below-tree, node-chooses, node-stops_long, node-stops_none, node-merges, node-steps, root-of_tree, root-can_lift, root-ends, root-ends_lifted}
 use Rattle.ib_merge.proofs.delete.climb.Goals as goal
 

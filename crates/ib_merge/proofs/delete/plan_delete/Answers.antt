@@ -6,12 +6,11 @@ use Rattle.ib_page.specs.Form.{page_of}
 use Rattle.ib_page.specs.Image.{IsTreePage, records_of}
 use Rattle.ib_page.specs.Work.{WorkPage, changed_of}
 use Rattle.ib_plans.specs.Agreement.{state_or_free, memory_in, last_of}
-use Rattle.ib_plans.proofs.EditLaws.{state-records}
+use Rattle.ib_plans.proofs.EditLaws.{state-records, there-is}
 use Rattle.ib_merge.specs.Deletes.{CanDelete, IsClimbedForAll, MayGivePages, GivesPages}
-use Rattle.ib_merge.proofs.ImageLaws.{there-is}
 use Rattle.ib_merge.proofs.ClimbLaws.{path-some, path-tree}
 use Rattle.ib_merge.proofs.FinishLaws.{may-give, given-reads, planned-all}
-use Rattle.ib_merge.proofs.WayLaws.{last_of-at}
+use Rattle.ib_plans.proofs.PathListLaws.{last_of-at}
 use Rattle.ib_merge.proofs.delete.plan_delete.Goals as goal
 
 -- the leaf's image

@@ -5,7 +5,8 @@ use Rattle.ib_page.specs.Work.{changed_of, with_changed}
 use Rattle.ib_plans.specs.Moves.{Stays}
 use Rattle.ib_plans.proofs.EditLaws.{changed_of-same, IsSome-and}
 use Rattle.ib_plans.proofs.MoveLaws.{moved-some}
-use Rattle.ib_merge.proofs.ImageLaws.{next-there, clock-there, formed-is, touched-sets}
+use Rattle.ib_plans.proofs.EditLaws.{next-there, clock-there}
+use Rattle.ib_merge.proofs.ImageLaws.{formed-is, touched-sets}
 use Rattle.ib_merge.proofs.MergeEdits.{parent-tree, parent-clock, next-tree, next-level, next-clock, beside-formed, beside-clock, merged-is}
 use Rattle.ib_merge.proofs.edits.merge.Goals as goal
 

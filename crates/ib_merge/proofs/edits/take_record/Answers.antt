@@ -3,9 +3,9 @@ use Rattle.std.proofs.Common.{◌∙◌}
 use Rattle.ib_page.specs.Image.{IsTreePage}
 use Rattle.ib_page.specs.Work.{changed_of, with_changed}
 use Rattle.ib_plans.specs.Moves.{Takes}
-use Rattle.ib_plans.proofs.EditLaws.{changed_of-same, IsSome-and}
+use Rattle.ib_plans.proofs.EditLaws.{changed_of-same, IsSome-and, there-is}
 use Rattle.ib_plans.proofs.MoveLaws.{moved-some}
-use Rattle.ib_merge.proofs.ImageLaws.{removed-is, removed-heap, state-removed, there-is, ticked-formed}
+use Rattle.ib_merge.proofs.ImageLaws.{removed-is, removed-heap, state-removed, ticked-formed}
 use Rattle.ib_merge.proofs.edits.take_record.Goals as goal
 
 pub returns-clause-set : goal.returns-clause-set

@@ -1,4 +1,5 @@
 use Rattle.std.proofs.Common.{◌≡◌, ◌∙◌, sym, subst, length}
+use Rattle.ib_walk.proofs.ChoiceLaws.{Some-same}
 use Rattle.ib_patch.specs.PatchTest.{Positions}
 use Rattle.ib_patch.specs.Positions.{positions_of}
 use Rattle.ib_patch.specs.TreeMemory.{TreeMemory, IsTreePatch}
@@ -6,7 +7,7 @@ use Rattle.ib_patch.proofs.StepLaws.{visits-true}
 use Rattle.ib_patch.proofs.PassLaws.{passes-sound, passes-complete}
 use Rattle.ib_patch.proofs.ListedLaws.{listed-within}
 use Rattle.ib_patch.proofs.patch.leaves_tree.Goals as goal
-use Rattle.std.proofs.Common.{refl, Some}
+use Rattle.std.proofs.Common.{refl}
 
 pub visit_patch-requires-clause-in_range : goal.visit_patch-requires-clause-in_range
 visit_patch-requires-clause-in_range c = listed-within _ c.requires.memory c.args.pages.now (length c.args.old.now) refl c.requires.memory.met_before
@@ -22,10 +23,7 @@ returns-then-visit_patch-clause-sound c t =
 pub returns-then-visit_patch-clause-complete : goal.returns-then-visit_patch-clause-complete
 returns-then-visit_patch-clause-complete c met h =
     let went = visits-true _ _ c.visit_patch.result (positions_of c.visit_patch.new.table) c.visit_patch.ensures.visits c.if-visit_patch.true in
-    let same : met ≡ positions_of c.visit_patch.new.table = some-same met (positions_of c.visit_patch.new.table) (sym h.passes.visited_as ∙ went.0) in
+    let same : met ≡ positions_of c.visit_patch.new.table = Some-same met (positions_of c.visit_patch.new.table) (sym h.passes.visited_as ∙ went.0) in
     let memory : TreeMemory = record { before = c.args.before.now; after = c.args.after.now; met_before = c.args.old.now; met_after = c.args.table.now; written = c.args.written.now; pages = c.args.pages.now } in
     c.passes_at_all.ensures.passes.1 (passes-complete memory c.requires.memory c.passes_at_all.ensures.before c.passes_at_all.ensures.after (positions_of c.visit_patch.new.table) c.args.key c.args.map.now
     (subst (λ (table : Positions). IsTreePatch memory table c.args.key c.args.map.now) same h))
-  where
-    some-same : (a b : Positions) → Some a ≡ Some b → a ≡ b
-    some-same a b e = cc

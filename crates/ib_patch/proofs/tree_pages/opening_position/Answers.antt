@@ -4,7 +4,7 @@ use Rattle.ib_map.proofs.KeyLaws.{rank-least}
 use Rattle.ib_patch.specs.declared.position.PagePosition.{PagePosition}
 use Rattle.ib_patch.specs.PatchTest.{Position}
 use Rattle.ib_patch.specs.Positions.{position_in}
-use Rattle.ib_patch.proofs.PositionLaws.{cond-eq}
+use Rattle.ib_walk.proofs.ChoiceLaws.{cond-eq}
 use Rattle.ib_patch.proofs.tree_pages.opening_position.Goals as goal
 
 pub returns : goal.returns

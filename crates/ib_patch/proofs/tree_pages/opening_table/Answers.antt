@@ -6,7 +6,8 @@ use Rattle.ib_patch.specs.declared.position.PagePosition.{PagePosition}
 use Rattle.ib_patch.specs.PatchTest.{Position}
 use Rattle.ib_patch.specs.Positions.{positions_of}
 use Rattle.ib_patch.specs.TreeMemory.{opening_positions}
-use Rattle.ib_patch.proofs.PositionLaws.{positions-same, positions_of-past, positions_of-push_before, positions_of-push_at, cond-ne}
+use Rattle.ib_walk.proofs.ChoiceLaws.{cond-ne}
+use Rattle.ib_patch.proofs.PositionLaws.{positions-same, positions_of-past, positions_of-push_before, positions_of-push_at}
 use Rattle.ib_patch.proofs.tree_pages.opening_table.Goals as goal
 
 pub loop-page-preserved : goal.loop-page-preserved

@@ -1,4 +1,4 @@
-use Rattle.std.proofs.Common.{◌≡◌, Bool, true, false, List, map, not, refl, subst}
+use Rattle.std.proofs.Common.{◌≡◌, ◌∙◌, Bool, true, false, List, map, not, refl, subst, sym, arith}
 use Rattle.ib_runs.specs.Alone.{AreNeverFull}
 use Rattle.ib_runs.specs.Answers.{KeptAnswers, answers_of}
 use Rattle.ib_runs.proofs.FullLogLaws.{ran_wider}
@@ -8,8 +8,21 @@ not-so : (b : Bool) → not b ≡ true → b ≡ false
 not-so true is = absurd (cc)
 not-so false is = refl
 
-pub returns-else-log_words : goal.returns-else-log_words
-returns-else-log_words c = λ is commands h.
+is-so : (b : Bool) → not b ≡ false → b ≡ true
+is-so true is = refl
+is-so false is = absurd (cc)
+
+pub returns-else-log_words-clause-settled : goal.returns-else-log_words-clause-settled
+returns-else-log_words-clause-settled c = λ is commands h.
     let room : AreNeverFull (map answers_of c.args.ran.now.sessions.items) =
     subst (λ (outs : List KeptAnswers). AreNeverFull (map answers_of outs)) c.deref.ensures.value (c.met_full_log.ensures.0 (not-so c.met_full_log.result is)) in
     ran_wider c.args.first c.args.sizes c.requires.pages c.requires.log commands c.args.ran.now room h
+
+pub returns-else-log_words-clause-again : goal.returns-else-log_words-clause-again
+returns-else-log_words-clause-again c = λ is.
+    let met = is-so c.met_full_log.result is in (
+      omega arith,
+      λ room.
+          let never = c.met_full_log.ensures.1 (subst (λ (outs : List KeptAnswers). AreNeverFull (map answers_of outs)) (sym c.deref.ensures.value) room) in
+          let bad = sym met ∙ never in cc,
+    )

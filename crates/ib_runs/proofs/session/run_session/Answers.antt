@@ -9,7 +9,7 @@ use Rattle.ib_rule.specs.Views.{total}
 use Rattle.ib_runs.specs.Answers.{KeptAnswers, answers_of}
 use Rattle.ib_runs.specs.Sessions.{HasAnswered}
 use Rattle.ib_runs.specs.Steps.{HasOneMore}
-use Rattle.ib_runs.proofs.AnswerLaws.{answered_more, answered_none, grants_fit, grants_more, known_none}
+use Rattle.ib_runs.proofs.AnswerLaws.{answered_more, answered_none, grants_fit, known_none}
 use Rattle.ib_runs.proofs.session.run_session.Goals as goal
 
 pub loop-call-init : goal.loop-call-init
@@ -24,13 +24,13 @@ loop-call-init g c =
       answered = subst (λ (o : KeptAnswers). HasAnswered sizes [] (answers_of o) c.args.pass.now c.args.pass.now) (sym c.requires.empty) (answered_none sizes c.args.pass.now known c.requires.nothing_seen made);
       whole = subst (λ (o : KeptAnswers). total_chunks o.records ≡ length o.chunks.list) (sym c.requires.empty) refl;
       room = let e = ap (λ (o : KeptAnswers). o.chunks.chunk_room) c.requires.empty in omega arith;
-      grants = let e = ap total c.requires.no_grants in omega arith;
       number = refl;
     }
 
 pub answer-requires-clause-few : goal.answer-requires-clause-few
 answer-requires-clause-few g c =
-    grants_fit c.args.commands.now c.loop-call.call-index (Insert 0 0) (total c.loop-call.pass.view.grants) c.requires.few c.loop-call-test.true c.loop-call.invariant.grants
+    let taken = c.loop-call.invariant.answered.grants in let none = ap total c.requires.no_grants in
+    grants_fit c.args.commands.now c.loop-call.call-index (total c.loop-call.pass.view.grants) c.requires.few (omega arith)
 
 pub loop-call-preserved : goal.loop-call-preserved
 loop-call-preserved g c =
@@ -40,7 +40,7 @@ loop-call-preserved g c =
     let at = c.loop-call.call-index in
     let call : Call = get_or calls at (Insert 0 0) in
     let a : HasOneMore sizes call c.loop-call.out c.answer.new.out c.loop-call.pass c.answer.new.pass = c.in_ok-answer.ensures.more in
-    let more = answered_more sizes call a.r c.args.pass.now c.loop-call.pass c.answer.new.pass a.answered (take at calls) (answers_of c.loop-call.out) i.answered in
+    let more = answered_more sizes call a.r c.args.pass.now c.loop-call.pass c.answer.new.pass a.answered (take at calls) (answers_of c.loop-call.out) a.grants i.answered in
     let next : take at calls ++ call ∷ [] ≡ take (at + 1) calls = sym (take_more calls at (Insert 0 0) c.loop-call-test.true) in
     record {
       rest = c.answer.ensures.rest;
@@ -49,6 +49,5 @@ loop-call-preserved g c =
           (subst (λ (ks : List Call). HasAnswered sizes ks (answers_of c.loop-call.out ++ a.r ∷ []) c.args.pass.now c.answer.new.pass) next more);
       whole = a.whole;
       room = c.answer.ensures.room;
-      grants = grants_more calls at (Insert 0 0) (total c.loop-call.pass.view.grants) (total c.answer.new.pass.view.grants) c.loop-call-test.true i.grants a.grants;
       number = let n = i.number in omega arith;
     }

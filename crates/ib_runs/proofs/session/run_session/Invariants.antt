@@ -1,9 +1,6 @@
 use Rattle.std.proofs.Common.{◌≡◌, ◌≤◌, take}
-use Rattle.std.specs.Prelude.{sum_by}
-use Rattle.ib_rule.specs.Views.{total}
 use Rattle.ib_runs.specs.Answers.{IsWhole, answers_of}
 use Rattle.ib_runs.specs.Sessions.{HasAnswered, IsAtRest}
-use Rattle.ib_runs.specs.Steps.{most_grants}
 use Rattle.ib_runs.proofs.session.run_session.Given as goal
 
 abbrev pub invariant-loop-call : goal.invariant-loop-call
@@ -13,6 +10,5 @@ invariant-loop-call g l = record {
   answered : HasAnswered l.index.sizes (take l.call-index l.commands) (answers_of l.out) l.fn.pass l.pass;
   whole : IsWhole l.out;
   room : l.out.chunks.chunk_room ≤ 64;
-  grants : total l.pass.view.grants ≤ sum_by most_grants (take l.call-index l.commands);
   number : l.number ≡ l.call-index;
 }

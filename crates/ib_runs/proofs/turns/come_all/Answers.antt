@@ -6,7 +6,7 @@ use Rattle.ib_rule.specs.Views.{seated}
 use Rattle.ib_rule.specs.declared.view.Role.TheVariants.{Session}
 use Rattle.ib_rule.specs.declared.view.View.{View}
 use Rattle.ib_runs.specs.declared.turns.Turn.{Turn}
-use Rattle.ib_runs.specs.Turns.{AreNumbered, IsReady}
+use Rattle.ib_runs.specs.Turns.{AreNumbered, HasNotBegun}
 use Rattle.ib_runs.proofs.TurnLaws.{numbered_push}
 use Rattle.ib_runs.proofs.turns.come_all.Goals as goal
 
@@ -29,8 +29,8 @@ loop-before-preserved c =
       few = omega arith;
       numbered = subst (AreNumbered 1) (sym (ap (map (λ (u : Turn). u.pass)) items ∙ map-append (λ (u : Turn). u.pass) old (t ∷ [])))
           (numbered_push 1 (map (λ (u : Turn). u.pass) old) c.in-Ok.pass i.numbered (let l = length-map old (λ (u : Turn). u.pass) in omega arith));
-      ready = subst (All (λ (u : Turn). IsReady start c.args.count u.pass)) (sym items)
-          (All-push (λ (u : Turn). IsReady start c.args.count u.pass) old t i.ready
+      ready = subst (All (λ (u : Turn). HasNotBegun start c.args.count u.pass)) (sym items)
+          (All-push (λ (u : Turn). HasNotBegun start c.args.count u.pass) old t i.ready
           (record {
             rest = record {
               own = record { table = pass.0.table ∙ ap (λ (s : SpaceState). s.table) i.space; sizes = pass.0.sizes ∙ ap (λ (s : SpaceState). s.sizes) i.space; closed = pass.0.closed };

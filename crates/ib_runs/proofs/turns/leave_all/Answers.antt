@@ -1,14 +1,10 @@
-use Rattle.std.proofs.Common.{◌≡◌, ◌∙◌, Bool, true, false, ◌&&◌, [], ◌∷◌, ap, refl}
+use Rattle.std.proofs.Common.{◌∙◌, [], ◌∷◌, ap}
 use Rattle.ib_rule.specs.Space.{SpaceState}
+use Rattle.ib_rule.proofs.Lists.{and_says}
 use Rattle.ib_runs.specs.declared.turns.Turn.{Turn}
 use Rattle.ib_runs.specs.Sessions.{IsAtRest}
 use Rattle.ib_runs.proofs.TurnLaws.{all_left, outs_left, space_left}
 use Rattle.ib_runs.proofs.turns.leave_all.Goals as goal
-
-both : (a b : Bool) → (a && b) ≡ true → (a ≡ true) × (b ≡ true)
-both true true h = (refl, refl)
-both true false h = cc
-both false b h = cc
 
 pub loop-turn-preserved : goal.loop-turn-preserved
 loop-turn-preserved c =
@@ -22,5 +18,5 @@ loop-turn-preserved c =
       sizes = ap (λ (s : SpaceState). s.sizes) c.disconnect.ensures ∙ i.sizes;
       space = space_left c.loop-turn.index all front t c.disconnect.new.self is c.disconnect.ensures ∙ i.space;
       rest = all_left (λ (u : Turn). IsAtRest c.args.index.now u.pass) all front (t ∷ []) is i.rest;
-      outs = λ whole. outs_left all front t c.loop-turn.outs.items c.put_first-whole.new.outs.items _ is (c.put_first-whole.ensures (both c.loop-turn.whole c.put_first-whole.result whole).1) (i.outs (both c.loop-turn.whole c.put_first-whole.result whole).0);
+      outs = λ whole. outs_left all front t c.loop-turn.outs.items c.put_first-whole.new.outs.items _ is (c.put_first-whole.ensures (and_says c.loop-turn.whole c.put_first-whole.result whole).1) (i.outs (and_says c.loop-turn.whole c.put_first-whole.result whole).0);
     }

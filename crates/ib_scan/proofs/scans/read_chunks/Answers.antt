@@ -7,7 +7,7 @@ use Rattle.ib_rule.specs.Pass.{PassState}
 use Rattle.ib_mtr.specs.Mtr.{started}
 use Rattle.ib_cursor.specs.Descent.{HasDescended}
 use Rattle.ib_cursor.specs.Laws.{Laws}
-use Rattle.ib_scan.specs.Steps.{IsScannedTo, HasEnded, HasHalted}
+use Rattle.ib_scan.specs.Steps.{IsScannedTo, HasRunToEnd, HasRunToStop}
 use Rattle.ib_scan.proofs.LeaveLaws.{last_step}
 use Rattle.ib_scan.proofs.WholeLaws.{begins, leaf_left, scanned_by, path_last}
 use Rattle.ib_scan.proofs.scans.read_chunks.Goals as goal
@@ -36,8 +36,8 @@ returns-clause-scanned g c =
     let on = subst (λ (k : Sizes). HasDescended k (g.L.Law.lawful k.pages) (by_place g.L.Law.opening k.pages) c.args.sought.root c.args.sought.low false c.descend_at-path.result c.start-mtr.result.pass.now q) first c.descend_at-path.ensures.descended in
     let d = subst (λ (o : PassState). HasDescended key (g.L.Law.lawful key.pages) (by_place g.L.Law.opening key.pages) c.args.sought.root c.args.sought.low false c.descend_at-path.result o q) c.start-mtr.ensures.started on in
     let ran = subst (λ (k : Sizes). MatchOption c.scan_from-stop.result
-    (HasEnded k (g.L.Law.lawful k.pages) (by_place g.L.Law.opening k.pages) c.args.sought.root c.args.sought.low c.args.sought.high c.args.out.now c.scan_from-stop.new.out q r)
-    (λ next. HasHalted k (g.L.Law.lawful k.pages) (by_place g.L.Law.opening k.pages) c.args.sought.root c.args.sought.low c.args.sought.high next c.args.out.now c.scan_from-stop.new.out q r)) same c.scan_from-stop.ensures.scanned in
+    (HasRunToEnd k (g.L.Law.lawful k.pages) (by_place g.L.Law.opening k.pages) c.args.sought.root c.args.sought.low c.args.sought.high c.args.out.now c.scan_from-stop.new.out q r)
+    (λ next. HasRunToStop k (g.L.Law.lawful k.pages) (by_place g.L.Law.opening k.pages) c.args.sought.root c.args.sought.low c.args.sought.high next c.args.out.now c.scan_from-stop.new.out q r)) same c.scan_from-stop.ensures.scanned in
     let h = leaf_left key (g.L.Law.lawful key.pages) (by_place g.L.Law.opening key.pages) c.args.sought.root c.args.sought.low c.args.sought.high c.args.out.now c.scan_from-stop.new.out q r c.scan_from-stop.result ran in
     let left = last_step h.leaf h.image r s h.front c.release_at.ensures.released in
     scanned_by key (g.L.Law.lawful key.pages) (by_place g.L.Law.opening key.pages) c.args.sought.root c.args.sought.low c.args.sought.high c.descend_at-path.result c.args.out.now c.scan_from-stop.new.out p q r s _ d left.aside

@@ -7,7 +7,7 @@ use Rattle.ib_layout.specs.Geometry.{Sizes}
 use Rattle.ib_logrec.specs.Log.{by_place}
 use Rattle.ib_rule.specs.Pass.{PassState}
 use Rattle.ib_scan.specs.Parts.{HasPut}
-use Rattle.ib_scan.specs.Steps.{IsOnLeaf, HasCome, HasHalted}
+use Rattle.ib_scan.specs.Steps.{IsOnLeaf, HasComeToEnd, HasRunToStop}
 use Rattle.ib_scan.proofs.LoopLaws.{along_loaded, some_front, on_leaf, span_read, halted, ended, again, ends_within, some_after, part_short}
 use Rattle.ib_scan.proofs.walk.scan_from.Goals as goal
 
@@ -16,7 +16,7 @@ put-fits-requires-clause-loaded g c =
     let key : Sizes = c.args.mtr.now.latches.now.sizes in let p : PassState = c.loop-sought.mtr.pass.now in let q : PassState = c.come_to_end-found.new.mtr.pass.now in
     let found = c.come_to_end-found.result in
     let come = subst (λ (k : Sizes). (h : IsOnLeaf k (g.L.Law.lawful k.pages) (by_place g.L.Law.opening k.pages) g.L.Trees.ROOTS c.loop-sought.leaf c.loop-sought.start p)
-    → HasCome k (g.L.Law.lawful k.pages) (by_place g.L.Law.opening k.pages) g.L.Trees.ROOTS h.root c.loop-sought.start c.args.sought.high found p q) (ap (λ m. m.now.sizes) c.loop-sought.invariant.latches) c.come_to_end-found.ensures.come
+    → HasComeToEnd k (g.L.Law.lawful k.pages) (by_place g.L.Law.opening k.pages) g.L.Trees.ROOTS h.root c.loop-sought.start c.args.sought.high found p q) (ap (λ m. m.now.sizes) c.loop-sought.invariant.latches) c.come_to_end-found.ensures.come
     (on_leaf key g.L.Trees.ROOTS (g.L.Law.lawful key.pages) (by_place g.L.Law.opening key.pages) c.trees_of.ensures.laws c.args.sought.root c.loop-sought.leaf c.args.sought.low c.loop-sought.start c.args.sought.high c.args.out.now c.loop-sought.out c.args.mtr.now.pass.now p c.loop-sought.invariant.to) in
     let l = along_loaded key g.L.Trees.ROOTS (g.L.Law.lawful key.pages) (by_place g.L.Law.opening key.pages) c.trees_of.ensures.laws c.args.sought.root c.loop-sought.start found.leaf found.passed p q come.along in
     (come.along.last.image, l.is, l.tree)
@@ -26,7 +26,7 @@ leave_front-requires-clause-front g c =
     let key : Sizes = c.args.mtr.now.latches.now.sizes in let p : PassState = c.loop-sought.mtr.pass.now in let q : PassState = c.come_to_end-found.new.mtr.pass.now in
     let found = c.come_to_end-found.result in
     let come = subst (λ (k : Sizes). (h : IsOnLeaf k (g.L.Law.lawful k.pages) (by_place g.L.Law.opening k.pages) g.L.Trees.ROOTS c.loop-sought.leaf c.loop-sought.start p)
-    → HasCome k (g.L.Law.lawful k.pages) (by_place g.L.Law.opening k.pages) g.L.Trees.ROOTS h.root c.loop-sought.start c.args.sought.high found p q) (ap (λ m. m.now.sizes) c.loop-sought.invariant.latches) c.come_to_end-found.ensures.come
+    → HasComeToEnd k (g.L.Law.lawful k.pages) (by_place g.L.Law.opening k.pages) g.L.Trees.ROOTS h.root c.loop-sought.start c.args.sought.high found p q) (ap (λ m. m.now.sizes) c.loop-sought.invariant.latches) c.come_to_end-found.ensures.come
     (on_leaf key g.L.Trees.ROOTS (g.L.Law.lawful key.pages) (by_place g.L.Law.opening key.pages) c.trees_of.ensures.laws c.args.sought.root c.loop-sought.leaf c.args.sought.low c.loop-sought.start c.args.sought.high c.args.out.now c.loop-sought.out c.args.mtr.now.pass.now p c.loop-sought.invariant.to) in
     some_front key g.L.Trees.ROOTS (g.L.Law.lawful key.pages) (by_place g.L.Law.opening key.pages) c.trees_of.ensures.laws c.args.sought.root c.loop-sought.start found.leaf found.passed p q come.along
 
@@ -37,13 +37,13 @@ returns-then-not-fits-clause-scanned g c =
     let found = c.come_to_end-found.result in
     let i = c.loop-sought.invariant.to in
     let come = subst (λ (k : Sizes). (h : IsOnLeaf k (g.L.Law.lawful k.pages) (by_place g.L.Law.opening k.pages) g.L.Trees.ROOTS c.loop-sought.leaf c.loop-sought.start p)
-    → HasCome k (g.L.Law.lawful k.pages) (by_place g.L.Law.opening k.pages) g.L.Trees.ROOTS h.root c.loop-sought.start c.args.sought.high found p q) (ap (λ m. m.now.sizes) c.loop-sought.invariant.latches) c.come_to_end-found.ensures.come
+    → HasComeToEnd k (g.L.Law.lawful k.pages) (by_place g.L.Law.opening k.pages) g.L.Trees.ROOTS h.root c.loop-sought.start c.args.sought.high found p q) (ap (λ m. m.now.sizes) c.loop-sought.invariant.latches) c.come_to_end-found.ensures.come
     (on_leaf key g.L.Trees.ROOTS (g.L.Law.lawful key.pages) (by_place g.L.Law.opening key.pages) c.trees_of.ensures.laws c.args.sought.root c.loop-sought.leaf c.args.sought.low c.loop-sought.start c.args.sought.high c.args.out.now c.loop-sought.out p0 p i) in
     let l = along_loaded key g.L.Trees.ROOTS (g.L.Law.lawful key.pages) (by_place g.L.Law.opening key.pages) c.trees_of.ensures.laws c.args.sought.root c.loop-sought.start found.leaf found.passed p q come.along in
     let front = some_front key g.L.Trees.ROOTS (g.L.Law.lawful key.pages) (by_place g.L.Law.opening key.pages) c.trees_of.ensures.laws c.args.sought.root c.loop-sought.start found.leaf found.passed p q come.along in
     let span = span_read key g.L.Trees.ROOTS (g.L.Law.lawful key.pages) (by_place g.L.Law.opening key.pages) c.trees_of.ensures.laws c.args.sought.root c.loop-sought.leaf c.args.sought.low c.loop-sought.start c.args.sought.high c.args.out.now c.loop-sought.out p0 p i found q come in
     let put = subst (λ (b : Bool). HasPut span b c.loop-sought.out c.put-fits.new.out) c.if-not-fits.true (subst (λ (n : ℕ). HasPut (record span { place = n }) c.put-fits.result c.loop-sought.out c.put-fits.new.out) c.place-place.ensures (c.put-fits.ensures come.along.last.image l.is)) in
-    subst (λ (o : HeldChunks). HasHalted key (g.L.Law.lawful key.pages) (by_place g.L.Law.opening key.pages) c.args.sought.root c.args.sought.low c.args.sought.high c.loop-sought.start c.args.out.now o p0 r) (sym put.0)
+    subst (λ (o : HeldChunks). HasRunToStop key (g.L.Law.lawful key.pages) (by_place g.L.Law.opening key.pages) c.args.sought.root c.args.sought.low c.args.sought.high c.loop-sought.start c.args.out.now o p0 r) (sym put.0)
     (halted key g.L.Trees.ROOTS (g.L.Law.lawful key.pages) (by_place g.L.Law.opening key.pages) c.trees_of.ensures.laws c.args.sought.root c.loop-sought.leaf c.args.sought.low c.loop-sought.start c.args.sought.high c.args.out.now c.loop-sought.out p0 p i found q come
     r (c.leave_front.ensures.left front) c.leave_front.ensures.aside put.1 (part_short come.along.last.image c.loop-sought.start found.end l.tree))
 
@@ -54,7 +54,7 @@ returns-then-is_same-clause-scanned g c =
     let found = c.come_to_end-found.result in
     let i = c.loop-sought.invariant.to in
     let come = subst (λ (k : Sizes). (h : IsOnLeaf k (g.L.Law.lawful k.pages) (by_place g.L.Law.opening k.pages) g.L.Trees.ROOTS c.loop-sought.leaf c.loop-sought.start p)
-    → HasCome k (g.L.Law.lawful k.pages) (by_place g.L.Law.opening k.pages) g.L.Trees.ROOTS h.root c.loop-sought.start c.args.sought.high found p q) (ap (λ m. m.now.sizes) c.loop-sought.invariant.latches) c.come_to_end-found.ensures.come
+    → HasComeToEnd k (g.L.Law.lawful k.pages) (by_place g.L.Law.opening k.pages) g.L.Trees.ROOTS h.root c.loop-sought.start c.args.sought.high found p q) (ap (λ m. m.now.sizes) c.loop-sought.invariant.latches) c.come_to_end-found.ensures.come
     (on_leaf key g.L.Trees.ROOTS (g.L.Law.lawful key.pages) (by_place g.L.Law.opening key.pages) c.trees_of.ensures.laws c.args.sought.root c.loop-sought.leaf c.args.sought.low c.loop-sought.start c.args.sought.high c.args.out.now c.loop-sought.out p0 p i) in
     let l = along_loaded key g.L.Trees.ROOTS (g.L.Law.lawful key.pages) (by_place g.L.Law.opening key.pages) c.trees_of.ensures.laws c.args.sought.root c.loop-sought.start found.leaf found.passed p q come.along in
     let front = some_front key g.L.Trees.ROOTS (g.L.Law.lawful key.pages) (by_place g.L.Law.opening key.pages) c.trees_of.ensures.laws c.args.sought.root c.loop-sought.start found.leaf found.passed p q come.along in
@@ -69,7 +69,7 @@ unwrap-start-requires g c =
     let key : Sizes = c.args.mtr.now.latches.now.sizes in let p0 : PassState = c.args.mtr.now.pass.now in let p : PassState = c.loop-sought.mtr.pass.now in let q : PassState = c.come_to_end-found.new.mtr.pass.now in
     let found = c.come_to_end-found.result in
     let come = subst (λ (k : Sizes). (h : IsOnLeaf k (g.L.Law.lawful k.pages) (by_place g.L.Law.opening k.pages) g.L.Trees.ROOTS c.loop-sought.leaf c.loop-sought.start p)
-    → HasCome k (g.L.Law.lawful k.pages) (by_place g.L.Law.opening k.pages) g.L.Trees.ROOTS h.root c.loop-sought.start c.args.sought.high found p q) (ap (λ m. m.now.sizes) c.loop-sought.invariant.latches) c.come_to_end-found.ensures.come
+    → HasComeToEnd k (g.L.Law.lawful k.pages) (by_place g.L.Law.opening k.pages) g.L.Trees.ROOTS h.root c.loop-sought.start c.args.sought.high found p q) (ap (λ m. m.now.sizes) c.loop-sought.invariant.latches) c.come_to_end-found.ensures.come
     (on_leaf key g.L.Trees.ROOTS (g.L.Law.lawful key.pages) (by_place g.L.Law.opening key.pages) c.trees_of.ensures.laws c.args.sought.root c.loop-sought.leaf c.args.sought.low c.loop-sought.start c.args.sought.high c.args.out.now c.loop-sought.out p0 p c.loop-sought.invariant.to) in
     let le = ends_within c.loop-sought.start c.args.sought.high found.end come.along.last.image come.ends in
     let ne : rank found.end ≢ rank c.args.sought.high = λ e. (let t : c.is_same.result ≡ true = c.is_same.ensures.same.1 e in let f : c.is_same.result ≡ false = c.if-is_same.false in cc) in
@@ -82,7 +82,7 @@ loop-sought-smaller g c =
     let found = c.come_to_end-found.result in
     let i = c.loop-sought.invariant.to in
     let come = subst (λ (k : Sizes). (h : IsOnLeaf k (g.L.Law.lawful k.pages) (by_place g.L.Law.opening k.pages) g.L.Trees.ROOTS c.loop-sought.leaf c.loop-sought.start p)
-    → HasCome k (g.L.Law.lawful k.pages) (by_place g.L.Law.opening k.pages) g.L.Trees.ROOTS h.root c.loop-sought.start c.args.sought.high found p q) (ap (λ m. m.now.sizes) c.loop-sought.invariant.latches) c.come_to_end-found.ensures.come
+    → HasComeToEnd k (g.L.Law.lawful k.pages) (by_place g.L.Law.opening k.pages) g.L.Trees.ROOTS h.root c.loop-sought.start c.args.sought.high found p q) (ap (λ m. m.now.sizes) c.loop-sought.invariant.latches) c.come_to_end-found.ensures.come
     (on_leaf key g.L.Trees.ROOTS (g.L.Law.lawful key.pages) (by_place g.L.Law.opening key.pages) c.trees_of.ensures.laws c.args.sought.root c.loop-sought.leaf c.args.sought.low c.loop-sought.start c.args.sought.high c.args.out.now c.loop-sought.out p0 p i) in
     let l = along_loaded key g.L.Trees.ROOTS (g.L.Law.lawful key.pages) (by_place g.L.Law.opening key.pages) c.trees_of.ensures.laws c.args.sought.root c.loop-sought.start found.leaf found.passed p q come.along in
     let span = span_read key g.L.Trees.ROOTS (g.L.Law.lawful key.pages) (by_place g.L.Law.opening key.pages) c.trees_of.ensures.laws c.args.sought.root c.loop-sought.leaf c.args.sought.low c.loop-sought.start c.args.sought.high c.args.out.now c.loop-sought.out p0 p i found q come in
@@ -96,7 +96,7 @@ loop-sought-preserved g c =
     let found = c.come_to_end-found.result in
     let i = c.loop-sought.invariant.to in
     let come = subst (λ (k : Sizes). (h : IsOnLeaf k (g.L.Law.lawful k.pages) (by_place g.L.Law.opening k.pages) g.L.Trees.ROOTS c.loop-sought.leaf c.loop-sought.start p)
-    → HasCome k (g.L.Law.lawful k.pages) (by_place g.L.Law.opening k.pages) g.L.Trees.ROOTS h.root c.loop-sought.start c.args.sought.high found p q) (ap (λ m. m.now.sizes) c.loop-sought.invariant.latches) c.come_to_end-found.ensures.come
+    → HasComeToEnd k (g.L.Law.lawful k.pages) (by_place g.L.Law.opening k.pages) g.L.Trees.ROOTS h.root c.loop-sought.start c.args.sought.high found p q) (ap (λ m. m.now.sizes) c.loop-sought.invariant.latches) c.come_to_end-found.ensures.come
     (on_leaf key g.L.Trees.ROOTS (g.L.Law.lawful key.pages) (by_place g.L.Law.opening key.pages) c.trees_of.ensures.laws c.args.sought.root c.loop-sought.leaf c.args.sought.low c.loop-sought.start c.args.sought.high c.args.out.now c.loop-sought.out p0 p i) in
     let l = along_loaded key g.L.Trees.ROOTS (g.L.Law.lawful key.pages) (by_place g.L.Law.opening key.pages) c.trees_of.ensures.laws c.args.sought.root c.loop-sought.start found.leaf found.passed p q come.along in
     let span = span_read key g.L.Trees.ROOTS (g.L.Law.lawful key.pages) (by_place g.L.Law.opening key.pages) c.trees_of.ensures.laws c.args.sought.root c.loop-sought.leaf c.args.sought.low c.loop-sought.start c.args.sought.high c.args.out.now c.loop-sought.out p0 p i found q come in

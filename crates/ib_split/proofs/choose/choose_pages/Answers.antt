@@ -1,19 +1,15 @@
 -- The space page is the image of page 0, and it counts the free pages.
-use Rattle.std.proofs.Common.{◌≡◌, ◌∙◌, ℕ, List, Option, Some, ap, sym, arith}
-use Rattle.std.specs.Option.{unwrap_or}
-use Rattle.ib_page.specs.Work.{changed_of}
+use Rattle.std.proofs.Common.{◌≡◌, ◌∙◌, ap, sym, arith}
 use Rattle.ib_walk.specs.Full.{chosen, free_of}
+use Rattle.ib_walk.proofs.ChoiceLaws.{Some-same}
 use Rattle.ib_plans.specs.Agreement.{bits_in}
 use Rattle.ib_plans.specs.declared.fault.TreeFault.TheVariants.{NeedPages}
 use Rattle.ib_split.proofs.FreeLaws.{free_below-of}
 use Rattle.ib_split.proofs.choose.choose_pages.Goals as goal
 
-some-same : (a b : List ℕ) (o : Option (List ℕ)) → o ≡ Some a → o ≡ Some b → a ≡ b
-some-same a b o is too = ap (λ q. unwrap_or q a) (sym is ∙ too)
-
 pub returns-then-free-need-clause-short : goal.returns-then-free-need-clause-short
 returns-then-free-need-clause-short c image is =
-    let same : c.from_image-space.result ≡ image = c.from_image-space.ensures ∙ some-same c.image_of.result.now image (changed_of 0 c.args.work.now) c.image_of.ensures is in
+    let same : c.from_image-space.result ≡ image = c.from_image-space.ensures ∙ Some-same c.image_of.result.now image (sym c.image_of.ensures ∙ is) in
     let free : c.free_count-free.result ≡ free_of (bits_in c.args.pages image) c.args.pages = c.free_count-free.ensures.count ∙ (free_below-of c.args.pages c.from_image-space.result ∙ ap (λ ws. free_of (bits_in c.args.pages ws) c.args.pages) same) in
     (ap (λ n. NeedPages n c.args.need) free, let lt = c.if-free-need.true in omega arith)
 
@@ -23,6 +19,6 @@ lowest-requires-clause-free c =
 
 pub returns-clause-chosen : goal.returns-clause-chosen
 returns-clause-chosen c image is =
-    let same : c.from_image-space.result ≡ image = c.from_image-space.ensures ∙ some-same c.image_of.result.now image (changed_of 0 c.args.work.now) c.image_of.ensures is in
+    let same : c.from_image-space.result ≡ image = c.from_image-space.ensures ∙ Some-same c.image_of.result.now image (sym c.image_of.ensures ∙ is) in
     let free : c.free_count-free.result ≡ free_of (bits_in c.args.pages image) c.args.pages = c.free_count-free.ensures.count ∙ (free_below-of c.args.pages c.from_image-space.result ∙ ap (λ ws. free_of (bits_in c.args.pages ws) c.args.pages) same) in
     (c.lowest.ensures ∙ ap (λ ws. chosen (bits_in c.args.pages ws) c.args.pages c.args.need) same, let ge = c.if-free-need.false in omega arith)

@@ -1,4 +1,4 @@
-use Rattle.std.proofs.Common.{◌≡◌, ℕ, ◌+◌, ◌-◌, List, arith, ap, get_or, length, take}
+use Rattle.std.proofs.Common.{◌≡◌, ℕ, ◌+◌, ◌-◌, List, refl, arith, ap, get_or, length, take}
 use Rattle.ib_map.specs.Replies.{Span}
 use Rattle.ib_map.specs.Chunks.{spans_of}
 use Rattle.ib_map.specs.FullRecords.{chunk_count, total_chunks}
@@ -7,7 +7,7 @@ use Rattle.ib_map.specs.declared.call.Record.{Record}
 use Rattle.ib_map.specs.declared.call.Reply.TheVariants.{Inserted}
 use Rattle.ib_text.proofs.Neighbours.{AreNeighbours-within, spans_of-within}
 use Rattle.ib_text.proofs.Records.{records_text-more, total_chunks-more, total_chunks-within}
-use Rattle.ib_edge.proofs.Writing.{puts_on}
+use Rattle.ib_edge.proofs.Writing.{puts_none, puts_on}
 use Rattle.ib_text.proofs.session_part.print_record_lines.Goals as goal
 
 pub slice_bounds-print_chunk_lines-end : goal.slice_bounds-print_chunk_lines-end
@@ -18,6 +18,9 @@ slice_bounds-print_chunk_lines-end g c =
 
 pub print_chunk_lines-requires : goal.print_chunk_lines-requires
 print_chunk_lines-requires g c = rw (c.list-list.ensures.list, c.pairs.ensures.pairs) (AreNeighbours-within _ c.loop-answered.next c.args.chunks.now.list c.args.chunks.now.pairs c.list-list.ensures.adjacent)
+
+pub loop-answered-init : goal.loop-answered-init
+loop-answered-init g c = (refl, puts_none _)
 
 pub loop-answered-preserved : goal.loop-answered-preserved
 loop-answered-preserved g c =

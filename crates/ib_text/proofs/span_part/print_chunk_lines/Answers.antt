@@ -1,13 +1,22 @@
-use Rattle.std.proofs.Common.{◌≡◌, ◌+◌, ◌∷◌, [], ◌++◌, get_or, drop, add-one}
+use Rattle.std.proofs.Common.{◌≡◌, ◌+◌, List, ◌∷◌, [], ◌++◌, arith, flat_map, get_or, drop, add-one, length, refl}
 use Rattle.std.proofs.Math.Seq.{drop-cons}
 use Rattle.std.proofs.lemmas.List.{drop_all}
+use Rattle.ib_map.specs.Chunks.{spans_of}
+use Rattle.ib_map.specs.Pairs.{Pairs}
 use Rattle.ib_map.specs.declared.chunks.Chunk.{Chunk}
-use Rattle.ib_text.specs.Output.{span_text}
+use Rattle.ib_text.specs.Output.{joined_spans, span_text}
 use Rattle.ib_text.specs.Spans.{span_between}
 use Rattle.ib_text.proofs.ChunkLines.{printed_none, printed_together, printed_apart, printed_all, within_pairs}
 use Rattle.ib_edge.proofs.Writing.{puts_on, puts_none}
 use Rattle.ib_text.proofs.span_part.print_chunk_lines.Goals as goal
 use Rattle.ib_text.proofs.span_part.print_chunk_lines.Goals.{then-chunk-first, else-chunk-first}
+
+no-chunks : (list : List Chunk) (pairs : Pairs) → length list ≡ 0 → flat_map span_text (joined_spans (spans_of list pairs)) ≡ []
+no-chunks [] pairs none = refl
+no-chunks (chunk ∷ list) pairs none = absurd (omega arith)
+
+pub returns-in_default : goal.returns-in_default
+returns-in_default g c = record { puts = rw (no-chunks c.args.list.now c.args.pairs.now c.in_default.ensures.cases) (puts_none _) }
 
 pub loop-chunk-init : goal.loop-chunk-init
 loop-chunk-init g c =

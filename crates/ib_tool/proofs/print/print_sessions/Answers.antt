@@ -2,9 +2,12 @@ use Rattle.std.proofs.Common.{ℕ, List, get_or, sym, subst, arith}
 use Rattle.ib_runs.specs.Answers.{KeptAnswers, answers_of}
 use Rattle.ib_text.specs.Output.{session_text}
 use Rattle.ib_edge.specs.Writer.{Puts}
-use Rattle.ib_edge.proofs.Writing.{puts_on}
+use Rattle.ib_edge.proofs.Writing.{puts_none, puts_on}
 use Rattle.ib_tool.proofs.Printing.{sessions_from-more}
 use Rattle.ib_tool.proofs.print.print_sessions.Goals as goal
+
+pub loop-out-init : goal.loop-out-init
+loop-out-init g c = record { puts = puts_none _; count = omega arith }
 
 pub loop-out-preserved : goal.loop-out-preserved
 loop-out-preserved g c =

@@ -3,7 +3,7 @@ use Rattle.std.proofs.Common.{◌-◌, length, subst, arith}
 use Rattle.ib_page.specs.Memory.{word_at}
 use Rattle.ib_walk.specs.Words.{memory_of, bits_of}
 use Rattle.ib_merge.specs.Deletes.{HasNext}
-use Rattle.ib_merge.proofs.WayLaws.{last_of-at}
+use Rattle.ib_plans.proofs.PathListLaws.{last_of-at}
 use Rattle.ib_trials.specs.Reads.{IsRead}
 use Rattle.ib_trials.proofs.Agreeing.{agrees-read, may_tick-read}
 use Rattle.ib_trials.proofs.changes.insert.Goals as goal

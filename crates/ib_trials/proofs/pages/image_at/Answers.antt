@@ -1,7 +1,7 @@
 -- An image has all words.
 use Rattle.std.proofs.Common.{◌≡◌, ◌∙◌, List, ℕ, [], length, get_or, sym, ap, arith}
 use Rattle.std.proofs.lemmas.List.{get_or_default}
-use Rattle.ib_patch.proofs.MemoryLaws.{image_of-whole}
+use Rattle.ib_walk.proofs.ImageLaws.{image_of-images}
 use Rattle.ib_trials.proofs.pages.image_at.Goals as goal
 
 pub returns-clause-words : goal.returns-clause-words
@@ -11,4 +11,4 @@ returns-clause-words g c =
     let lt = c.place_of.ensures.in_range in
     let is : image ≡ get_or c.args.memory.now c.args.page [] =
     c.index-memory-place_of.is ∙ (ap (λ i. get_or c.args.memory.now i image) place ∙ get_or_default c.args.memory.now c.args.page image [] (omega arith)) in
-    image_of-whole c.args.memory.now c.args.page (sym (ap length is) ∙ c.word-first.ensures.size) ∙ sym is
+    image_of-images c.args.memory.now c.args.page (sym (ap length is) ∙ c.word-first.ensures.size) ∙ sym is

@@ -1,7 +1,7 @@
 -- A word of the image is the word at its place.
 use Rattle.std.proofs.Common.{◌∙◌, sym}
 use Rattle.ib_logrec.specs.Log.{by_place, memory_after}
-use Rattle.ib_cursor.proofs.PageLaws.{word_of_image}
+use Rattle.ib_walk.proofs.ImageLaws.{word_of_image}
 use Rattle.ib_cursor.proofs.held_page.HeldPagePageWords.word.Goals as goal
 
 pub returns-clause-word : goal.returns-clause-word

@@ -2,7 +2,7 @@
 use Rattle.std.proofs.Common.{◌≡◌, ◌∙◌, ℕ, List, [], ◌∷◌, ◌++◌, true, is_ok, ap, sym, subst, arith, length, length-append}
 use Rattle.std.specs.Option.{option_to_list}
 use Rattle.ib_page.specs.Work.{IsWork}
-use Rattle.ib_page.specs.Rooms.{IsKept}
+use Rattle.ib_page.specs.Rooms.{IsRoomed}
 use Rattle.ib_page.proofs.RoomLaws.{is_work, kept_popped}
 use Rattle.ib_page.proofs.work.WorkSet.clear.Goals as goal
 
@@ -15,7 +15,7 @@ loop-slot-preserved c =
     let pushed : is_ok c.push.result ≡ true = c.push.ensures.succeeds (omega (arith, inside.spare.ok, c.loop-slot.invariant.kept.rooms, c.loop-slot.invariant.spare_room)) in
     let spare : c.push.new.self.items ≡ inside.spare.items ++ c.in-Some.slot.room ∷ [] = rw pushed at c.push.ensures.items in
     record {
-      kept = subst (λ (ns : List ℕ). IsKept c.pop.new.self.items inside.before.items inside.changed.items ns) (sym spare) (kept_popped inside.slots.items c.pop.new.self.items inside.before.items inside.changed.items inside.spare.items c.in-Some.slot c.loop-slot.invariant.kept popped);
+      kept = subst (λ (ns : List ℕ). IsRoomed c.pop.new.self.items inside.before.items inside.changed.items ns) (sym spare) (kept_popped inside.slots.items c.pop.new.self.items inside.before.items inside.changed.items inside.spare.items c.in-Some.slot c.loop-slot.invariant.kept popped);
       slots_room = omega (arith, c.pop.ensures.capacity, c.loop-slot.invariant.slots_room);
       spare_room = omega (arith, c.push.ensures.capacity, c.loop-slot.invariant.spare_room);
     }

@@ -2,12 +2,12 @@
 use Rattle.std.proofs.Common.{◌≤◌, length}
 use Rattle.std.specs.Vec.{vec_capacity}
 use Rattle.ib_page.specs.declared.work.TheConstants.{MOST_WORK_PAGES}
-use Rattle.ib_page.specs.Rooms.{IsKept}
+use Rattle.ib_page.specs.Rooms.{IsRoomed}
 use Rattle.ib_page.proofs.work.WorkSet.clear.Given as goal
 
 abbrev pub invariant-loop-slot : goal.invariant-loop-slot
 invariant-loop-slot l = record {
-  kept : IsKept l.self-inside.slots.items l.self-inside.before.items l.self-inside.changed.items l.self-inside.spare.items;
+  kept : IsRoomed l.self-inside.slots.items l.self-inside.before.items l.self-inside.changed.items l.self-inside.spare.items;
   slots_room : MOST_WORK_PAGES ≤ vec_capacity l.self-inside.slots;
   spare_room : MOST_WORK_PAGES ≤ vec_capacity l.self-inside.spare;
 }

@@ -4,7 +4,7 @@ use Rattle.std.specs.Prelude.{IfSome}
 use Rattle.std.specs.List.{All, remove}
 use Rattle.ib_page.specs.declared.work.Slot.{Slot}
 use Rattle.ib_page.specs.Work.{IsWork}
-use Rattle.ib_page.specs.Rooms.{IsKept, pages_in}
+use Rattle.ib_page.specs.Rooms.{IsRoomed, pages_in}
 use Rattle.ib_page.proofs.RoomLaws.{is_work, is_found, found_slot-lt, remove_kept, remove_gives}
 use Rattle.ib_page.proofs.work.WorkSet.remove.Goals as goal
 
@@ -25,8 +25,8 @@ invariant_of-self c =
     let pushed : is_ok c.push.result ≡ true = c.push.ensures.succeeds (omega (arith, found_slot-lt c.self.inside.slots.items c.unwrap-place.result c.args.page found, c.self.inside.spare.ok, c.self.invariant.kept.rooms, c.self.invariant.spare_room)) in
     let spare : c.push.new.self.items ≡ c.self.inside.spare.items ++ c.remove-slot.result.room ∷ [] = rw pushed at c.push.ensures.items in
     record {
-      kept = subst (λ (ss : List Slot). IsKept ss c.self.inside.before.items c.self.inside.changed.items c.push.new.self.items) (sym c.remove-slot.ensures.items)
-          (subst (λ (ns : List ℕ). IsKept (remove c.self.inside.slots.items c.unwrap-place.result) c.self.inside.before.items c.self.inside.changed.items ns) (sym spare) (remove_kept _ _ _ _ _ c.unwrap-place.result c.args.page c.remove-slot.result c.self.invariant.kept c.self.view_is found c.remove-slot.ensures.value));
+      kept = subst (λ (ss : List Slot). IsRoomed ss c.self.inside.before.items c.self.inside.changed.items c.push.new.self.items) (sym c.remove-slot.ensures.items)
+          (subst (λ (ns : List ℕ). IsRoomed (remove c.self.inside.slots.items c.unwrap-place.result) c.self.inside.before.items c.self.inside.changed.items ns) (sym spare) (remove_kept _ _ _ _ _ c.unwrap-place.result c.args.page c.remove-slot.result c.self.invariant.kept c.self.view_is found c.remove-slot.ensures.value));
       slots_room = omega (arith, c.remove-slot.ensures.capacity, c.self.invariant.slots_room);
       spare_room = omega (arith, c.push.ensures.capacity, c.self.invariant.spare_room);
     }

@@ -2,7 +2,7 @@
 use Rattle.std.proofs.Common.{◌≡◌, ◌+◌, ◌∷◌, ◌++◌, [], true, is_ok, ap, arith, ◌∙◌, ℕ, cond, ltb, map}
 use Rattle.ib_page.specs.declared.work.TheConstants.{MOST_WORK_PAGES}
 use Rattle.std.proofs.lemmas.List.{length_push}
-use Rattle.ib_page.specs.Rooms.{page_in}
+use Rattle.ib_page.specs.Rooms.{work_page_in}
 use Rattle.ib_page.proofs.RoomLaws.{once_more, kept_new}
 use Rattle.ib_page.proofs.work.WorkSet.with_room.Goals as goal
 
@@ -30,4 +30,4 @@ invariant_of-result c =
     }
 
 pub returns : goal.returns
-returns c = ap (λ ss. map (page_in c.in_ok-before.before.items c.in_ok-changed.changed.items) ss) c.in_ok-slots.ensures.items
+returns c = ap (λ ss. map (work_page_in c.in_ok-before.before.items c.in_ok-changed.changed.items) ss) c.in_ok-slots.ensures.items

@@ -5,7 +5,7 @@ use Rattle.ib_map.specs.declared.TheConstants.{PAGE_WORDS}
 use Rattle.ib_map.specs.Writes.{write_words, spans_pages}
 use Rattle.ib_page.specs.declared.work.Slot.{Slot}
 use Rattle.ib_page.specs.Work.{IsWork, WorkPage}
-use Rattle.ib_page.specs.Rooms.{pages_in, page_in}
+use Rattle.ib_page.specs.Rooms.{pages_in, work_page_in}
 use Rattle.ib_page.specs.Writes.{writes_of, page_writes}
 use Rattle.ib_page.proofs.RoomLaws.{is_work, room-lt}
 use Rattle.ib_page.proofs.BufferLaws.{writes_of-more, writes_of-le, writes_on, writes_before, spans_more, buffer_more}
@@ -29,11 +29,11 @@ pub write_page-end-requires-clause-room : goal.write_page-end-requires-clause-ro
 write_page-end-requires-clause-room c =
     let d : Slot = record { page = 0; room = 0; edited = false } in
     let lt : c.loop-slot.slot-index < length c.self.inside.slots.items = omega (arith, ap length c.deref-slot-items.ensures.value) in
-    let page : WorkPage = page_in c.self.inside.before.items c.self.inside.changed.items (get_or c.self.inside.slots.items c.loop-slot.slot-index d) in
-    let same : page_in c.deref.result.now c.deref-in-loop-slot.result.now (get_or c.deref-slot-items.result.now c.loop-slot.slot-index d) ≡ page =
-    ap (λ v. page_in v c.deref-in-loop-slot.result.now (get_or c.deref-slot-items.result.now c.loop-slot.slot-index d)) c.deref.ensures.value
-    ∙ (ap (λ v. page_in c.self.inside.before.items v (get_or c.deref-slot-items.result.now c.loop-slot.slot-index d)) c.deref-in-loop-slot.ensures.value
-    ∙ ap (λ ss. page_in c.self.inside.before.items c.self.inside.changed.items (get_or ss c.loop-slot.slot-index d)) c.deref-slot-items.ensures.value) in
+    let page : WorkPage = work_page_in c.self.inside.before.items c.self.inside.changed.items (get_or c.self.inside.slots.items c.loop-slot.slot-index d) in
+    let same : work_page_in c.deref.result.now c.deref-in-loop-slot.result.now (get_or c.deref-slot-items.result.now c.loop-slot.slot-index d) ≡ page =
+    ap (λ v. work_page_in v c.deref-in-loop-slot.result.now (get_or c.deref-slot-items.result.now c.loop-slot.slot-index d)) c.deref.ensures.value
+    ∙ (ap (λ v. work_page_in c.self.inside.before.items v (get_or c.deref-slot-items.result.now c.loop-slot.slot-index d)) c.deref-in-loop-slot.ensures.value
+    ∙ ap (λ ss. work_page_in c.self.inside.before.items c.self.inside.changed.items (get_or ss c.loop-slot.slot-index d)) c.deref-slot-items.ensures.value) in
     let ws = writes_of (pages_in c.self.inside.before.items c.self.inside.changed.items (take c.loop-slot.slot-index c.self.inside.slots.items)) in
     let more = writes_of-more c.self.inside.before.items c.self.inside.changed.items c.self.inside.slots.items c.loop-slot.slot-index d lt in
     let most = writes_of-le c.self.inside.before.items c.self.inside.changed.items c.self.inside.slots.items (c.loop-slot.slot-index + 1) in
@@ -43,11 +43,11 @@ pub loop-slot-preserved : goal.loop-slot-preserved
 loop-slot-preserved c =
     let d : Slot = record { page = 0; room = 0; edited = false } in
     let lt : c.loop-slot.slot-index < length c.self.inside.slots.items = omega (arith, ap length c.deref-slot-items.ensures.value) in
-    let page : WorkPage = page_in c.self.inside.before.items c.self.inside.changed.items (get_or c.self.inside.slots.items c.loop-slot.slot-index d) in
-    let same : page_in c.deref.result.now c.deref-in-loop-slot.result.now (get_or c.deref-slot-items.result.now c.loop-slot.slot-index d) ≡ page =
-    ap (λ v. page_in v c.deref-in-loop-slot.result.now (get_or c.deref-slot-items.result.now c.loop-slot.slot-index d)) c.deref.ensures.value
-    ∙ (ap (λ v. page_in c.self.inside.before.items v (get_or c.deref-slot-items.result.now c.loop-slot.slot-index d)) c.deref-in-loop-slot.ensures.value
-    ∙ ap (λ ss. page_in c.self.inside.before.items c.self.inside.changed.items (get_or ss c.loop-slot.slot-index d)) c.deref-slot-items.ensures.value) in
+    let page : WorkPage = work_page_in c.self.inside.before.items c.self.inside.changed.items (get_or c.self.inside.slots.items c.loop-slot.slot-index d) in
+    let same : work_page_in c.deref.result.now c.deref-in-loop-slot.result.now (get_or c.deref-slot-items.result.now c.loop-slot.slot-index d) ≡ page =
+    ap (λ v. work_page_in v c.deref-in-loop-slot.result.now (get_or c.deref-slot-items.result.now c.loop-slot.slot-index d)) c.deref.ensures.value
+    ∙ (ap (λ v. work_page_in c.self.inside.before.items v (get_or c.deref-slot-items.result.now c.loop-slot.slot-index d)) c.deref-in-loop-slot.ensures.value
+    ∙ ap (λ ss. work_page_in c.self.inside.before.items c.self.inside.changed.items (get_or ss c.loop-slot.slot-index d)) c.deref-slot-items.ensures.value) in
     let ws = writes_of (pages_in c.self.inside.before.items c.self.inside.changed.items (take c.loop-slot.slot-index c.self.inside.slots.items)) in
     let more = writes_of-more c.self.inside.before.items c.self.inside.changed.items c.self.inside.slots.items c.loop-slot.slot-index d lt in
     let vs = page_writes page in

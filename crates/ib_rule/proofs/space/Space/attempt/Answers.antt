@@ -12,7 +12,7 @@ use Rattle.ib_rule.specs.declared.view.View.{View}
 use Rattle.ib_rule.specs.Space.{SpaceState}
 use Rattle.ib_rule.specs.Pass.{PassState}
 use Rattle.ib_rule.specs.Views.{with_looks, turned_by}
-use Rattle.ib_rule.specs.Steps.{looked, place_of}
+use Rattle.ib_rule.specs.Steps.{looked, latch_word_place}
 use Rattle.ib_rule.specs.Told.{CanBe}
 use Rattle.ib_rule.specs.Conditions.{CanTake}
 use Rattle.ib_rule.proofs.Moves.{try_allowed_at}
@@ -23,7 +23,7 @@ pub exchange-found-requires-clause-allowed : goal.exchange-found-requires-clause
 exchange-found-requires-clause-allowed g c =
     let mine = ap (λ (p : PassState). p.view) c.pass.view_is in
     try_allowed_at g.L.Law.lawful g.L.Law.opening _ _ _ _ _ _ c.args.event _ _
-    (rw mine c.requires.word) (c.place-place.ensures.place ∙ ap (place_of Lock) c.latch.ensures)
+    (rw mine c.requires.word) (c.place-place.ensures.place ∙ ap (latch_word_place Lock) c.latch.ensures)
     (rw (c.self.invariant.key, ap (λ (o : SpaceState). o.sizes) c.self.view_is) c.requires.latch)
     (rw c.pass.invariant.role (λ e. absurd (cc)))
     (rw mine c.requires.own.closed)

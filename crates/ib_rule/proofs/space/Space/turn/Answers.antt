@@ -8,7 +8,7 @@ use Rattle.ib_rule.specs.declared.pass.TheConstants.{MOST_HELD}
 use Rattle.ib_rule.specs.declared.view.View.{View}
 use Rattle.ib_rule.specs.Space.{SpaceState}
 use Rattle.ib_rule.specs.Pass.{PassState}
-use Rattle.ib_rule.specs.Steps.{place_of, run}
+use Rattle.ib_rule.specs.Steps.{latch_word_place, run}
 use Rattle.ib_rule.specs.Told.{CanBe}
 use Rattle.ib_rule.specs.Conditions.{CanTake}
 use Rattle.ib_rule.proofs.Moves.{turn_allowed_at}
@@ -19,7 +19,7 @@ pub act-found-requires-clause-allowed : goal.act-found-requires-clause-allowed
 act-found-requires-clause-allowed g c =
     let mine = ap (λ (p : PassState). p.view) c.pass.view_is in
     turn_allowed_at g.L.Law.lawful g.L.Law.opening _ _ _ _ _ c.args.word _ c.args.event (λ n. run c.args.op n)
-    (rw mine c.requires.word) (c.place-place.ensures.place ∙ ap (place_of c.args.word) c.latch.ensures)
+    (rw mine c.requires.word) (c.place-place.ensures.place ∙ ap (latch_word_place c.args.word) c.latch.ensures)
     (rw (c.self.invariant.key, ap (λ (o : SpaceState). o.sizes) c.self.view_is) c.requires.latch)
     (rw c.pass.invariant.role (λ e. absurd (cc)))
     (rw mine c.requires.own.closed)

@@ -1,0 +1,361 @@
+//! Mini-transactions that commit: a log that takes two entries, and four threads whose closed pages are
+//! those that their log gives.
+
+ghost use Rattle.std.specs.Prelude.{◌≡◌, ◌+◌, ◌<◌, ◌≤◌, true, false, [], None, length, slice_get, IsSomeAnd};
+ghost use Rattle.ib_core.specs.Holders.{CanWish};
+ghost use Rattle.ib_core.specs.Sessions.{idle, x_grants};
+ghost use Rattle.ib_levels.specs.declared.level.Level.TheVariants.{Log};
+ghost use Rattle.ib_map.specs.Writes.{spans_pages};
+ghost use Rattle.ib_page.specs.Work.{changed_of};
+ghost use Rattle.ib_page.specs.Writes.{writes_of};
+ghost use Rattle.ib_rule.specs.Conditions.{MayGrow};
+ghost use Rattle.ib_logrec.specs.Law.{AreInGrammar};
+ghost use Rattle.ib_map.specs.declared.call.Change.TheVariants.{Insert};
+ghost use Rattle.ib_rule.specs.Pass.{IsOf};
+ghost use Rattle.ib_mtr.specs.Commits.{MayCommit};
+ghost use Rattle.ib_mtr.specs.Mtr.{IsMtr};
+
+use crate::locks::may_claim;
+use crate::memos::come;
+use ib_frames::LogFull;
+use ib_latch::Latches;
+use ib_layout::Geometry;
+use ib_levels::{Latch, Level};
+use ib_logrec::{AnyLaw, decode_at};
+use ib_map::{Change, PAGE_WORDS};
+use ib_mtr::Mtr;
+use ib_page::{Image, MOST_WORK_PAGES, WorkSet};
+use ib_rule::{Closed, Pass};
+use ib_word::LockWord;
+use std::alloc::Global;
+use std::process::Abort;
+use std::sync::Wait;
+use std::thread::{Threads, join_mut};
+
+type Table = Latches<AnyLaw>;
+
+type Work<'a> = Mtr<'a, AnyLaw>;
+
+const PAGES: u32 = 16;
+
+// A table of 16 pages.
+fn small(rt: &impl Abort, alloc: Global, log_words: u32) -> Table
+    ensures ended { result.ended ≡ [] }
+    ensures pages { result.sizes.pages ≡ PAGES }
+{
+    let sizes = Geometry::new(PAGES, log_words).expect(rt, "there are such sizes");
+    Latches::open(alloc, sizes).expect(rt, "there is memory")
+}
+
+// X on a page.
+fn take_x<R: Abort + Wait>(rt: &R, mtr: &mut Work<'_>, page: u32)
+    requires mtr { IsMtr mtr.old.latches.now mtr.old.pass.now }
+    requires page { page < 4096 }
+    ensures mtr { IsMtr mtr.new.latches.now mtr.new.pass.now }
+    ensures latches { mtr.new.latches ≡ mtr.old.latches }
+    ensures pass { mtr.new.pass.ghost_name ≡ mtr.old.pass.ghost_name }
+{
+    let latch = Latch::page(page);
+    may_claim(rt, mtr, latch, Level::TreeNode);
+    mtr.x_latch(rt, latch, Level::TreeNode);
+}
+
+// The page, of which it owns X, as it is now.
+fn load_owned(rt: &impl Abort, mtr: &mut Work<'_>, page: u32)
+    requires mtr { IsMtr mtr.old.latches.now mtr.old.pass.now }
+    requires page { page < 4096 }
+    ensures mtr { IsMtr mtr.new.latches.now mtr.new.pass.now }
+    ensures latches { mtr.new.latches ≡ mtr.old.latches }
+    ensures pass { mtr.new.pass.ghost_name ≡ mtr.old.pass.ghost_name }
+{
+    assert!(rt; page < mtr.geometry().pages());
+    assert!(rt; mtr.pass().counts(Latch::page(page)).x > 0);
+    assert!(rt; mtr.image(page).is_none());
+    assert!(rt; mtr.pass().work().len() < MOST_WORK_PAGES);
+    load(mtr, page);
+}
+
+fn load(mtr: &mut Work<'_>, page: u32)
+    requires mtr { IsMtr mtr.old.latches.now mtr.old.pass.now }
+    requires page { page < mtr.old.latches.now.sizes.pages }
+    requires owned { 0 < x_grants (page + 2) mtr.old.pass.now.view.session }
+    requires absent { changed_of page mtr.old.pass.now.work ≡ None }
+    requires few { length mtr.old.pass.now.work < MOST_WORK_PAGES }
+    ensures mtr { IsMtr mtr.new.latches.now mtr.new.pass.now }
+    ensures latches { mtr.new.latches ≡ mtr.old.latches }
+    ensures pass { mtr.new.pass.ghost_name ≡ mtr.old.pass.ghost_name }
+{
+    mtr.load(page);
+}
+
+// A word of the page is changed.
+fn set_word(rt: &impl Abort, mtr: &mut Work<'_>, page: u32, index: usize, word: u64)
+    requires mtr { IsMtr mtr.old.latches.now mtr.old.pass.now }
+    requires page { page < 4096 }
+    requires index { index < 128 }
+    ensures mtr { IsMtr mtr.new.latches.now mtr.new.pass.now }
+    ensures latches { mtr.new.latches ≡ mtr.old.latches }
+    ensures pass { mtr.new.pass.ghost_name ≡ mtr.old.pass.ghost_name }
+{
+    assert!(rt; mtr.pass().counts(Latch::page(page)).x > 0);
+    assert!(rt; mtr.image(page).is_some());
+    mtr.edit(page).set_word(index, word);
+}
+
+// The clock of the page goes on.
+fn touch(rt: &impl Abort, mtr: &mut Work<'_>, page: u32)
+    requires mtr { IsMtr mtr.old.latches.now mtr.old.pass.now }
+    requires page { page < 4096 }
+    ensures mtr { IsMtr mtr.new.latches.now mtr.new.pass.now }
+    ensures latches { mtr.new.latches ≡ mtr.old.latches }
+    ensures pass { mtr.new.pass.ghost_name ≡ mtr.old.pass.ghost_name }
+{
+    assert!(rt; mtr.pass().counts(Latch::page(page)).x > 0);
+    assert!(rt; mtr.image(page).is_some());
+    let image = mtr.edit(page);
+    assert!(rt; image.is_formed());
+    assert!(rt; image.clock() < 1 << 62);
+    image.touch();
+}
+
+// The one page that it changed may be committed.
+fn may_commit(rt: &impl Abort, mtr: &Work<'_>, key: u64, value: u64)
+    requires { IsMtr mtr.now.latches.now mtr.now.pass.now }
+    ensures { MayCommit (AreInGrammar mtr.now.latches.now.sizes.pages) mtr.now.pass.now
+        (Insert key value) }
+{
+    let pass = mtr.pass();
+    let work = pass.work();
+    assert!(rt; work.len() == 1);
+    let page = work.page_at(0).page;
+    assert!(rt; page < mtr.geometry().pages());
+    assert!(rt; page < 4096);
+    assert!(rt; pass.counts(Latch::page(page)).x > 0);
+    let changed = work.difference_count();
+    assert!(rt; changed > 0);
+    assert!(rt; changed <= PAGE_WORDS);
+    let structural = work.write_into(&mut [0; 256]).structural;
+    assert!(rt; !structural);
+    assert!(rt; pass.made() < 1_000_000);
+    assert!(rt; pass.may_grow());
+    assert!(rt; pass.can_wish(Latch::LOG, Level::Log));
+    is_ready(mtr, work, page, key, value);
+}
+
+fn is_ready(mtr: &Work<'_>, work: &WorkSet, page: u32, key: u64, value: u64)
+    requires work { work.now ≡ mtr.now.pass.now.work }
+    requires one { length work.now ≡ 1 }
+    requires first { IsSomeAnd (slice_get work.now 0) (λ w. w.page ≡ page) }
+    requires inside { page < mtr.now.latches.now.sizes.pages }
+    requires owned { 0 < x_grants (page + 2) mtr.now.pass.now.view.session }
+    requires some { 0 < length (writes_of work.now) }
+    requires few { length (writes_of work.now) ≤ 128 }
+    requires whole { spans_pages (writes_of work.now) ≡ false }
+    requires made { length mtr.now.pass.now.view.memory.own < 1000000 }
+    requires grows { MayGrow mtr.now.pass.now.view }
+    requires log { CanWish 0 Log mtr.now.pass.now.view.session }
+    ensures { MayCommit (AreInGrammar mtr.now.latches.now.sizes.pages) mtr.now.pass.now
+        (Insert key value) }
+{
+    let _ = work;
+    let _ = (page, key, value);
+    // A session's number fits an entry.
+    let _ = mtr.pass().number();
+}
+
+// A mini-transaction that touches the page.
+fn commit_touch<R: Abort + Wait>(
+    rt: &R,
+    table: &Table,
+    pass: &mut Pass,
+    page: u32,
+    key: u64,
+    value: u64,
+) -> Result<u32, LogFull>
+    requires own { IsOf table.now pass.old }
+    requires idle { pass.old.view.session ≡ idle }
+    requires scratch { pass.old.has_scratch ≡ true }
+    requires page { page < 4096 }
+    ensures own { IsOf table.now pass.new }
+    ensures idle { pass.new.view.session ≡ idle }
+    ensures scratch { pass.new.has_scratch ≡ true }
+{
+    let mut mtr = Mtr::start(table, pass);
+    take_x(rt, &mut mtr, page);
+    load_owned(rt, &mut mtr, page);
+    touch(rt, &mut mtr, page);
+    may_commit(rt, &mtr, key, value);
+    mtr.commit(rt, Change::Insert { key, value })
+}
+
+// The lock word of a latch, read by a session that holds nothing.
+fn word(rt: &impl Abort, table: &Table, pass: &mut Pass, latch: Latch) -> LockWord
+    requires own { IsOf table.now pass.old }
+    requires idle { pass.old.view.session ≡ idle }
+    ensures own { IsOf table.now pass.new }
+    ensures idle { pass.new.view.session ≡ idle }
+    ensures scratch { pass.new.has_scratch ≡ pass.old.has_scratch }
+{
+    assert!(rt; latch.0 < table.space().geometry().pages() + 2);
+    table.word_of(pass, latch)
+}
+
+// A session that holds nothing ends.
+fn leave(table: &mut Table, pass: Pass)
+    requires own { IsOf table.old pass }
+    requires idle { pass.view.session ≡ idle }
+    requires scratch { pass.has_scratch ≡ true }
+    ensures table { table.new.table ≡ table.old.table }
+    ensures sizes { table.new.sizes ≡ table.old.sizes }
+{
+    table.disconnect(pass);
+}
+
+fn close(rt: &impl Abort, alloc: Global, table: Table) -> Closed
+    ensures { result.sizes ≡ table.sizes }
+{
+    assert_eq!(rt; table.connected(), 0);
+    match table.close(alloc) {
+        Ok(closed) => closed,
+        Err(refused) => {
+            refused.latches.discard();
+            panic!(rt; "there is memory")
+        }
+    }
+}
+
+#[test]
+fn a_log_has_room_for_two_entries(rt: HostRuntime) {
+    let mut table = small(&rt, rt.alloc(), 8202);
+    let mut one = come(&rt, rt.alloc(), &mut table);
+    assert_eq!(rt; commit_touch(&rt, &table, &mut one, 3, 10, 100), Ok(0));
+    assert_eq!(rt; commit_touch(&rt, &table, &mut one, 3, 11, 1), Ok(1));
+    let full = LogFull {
+        used: 12,
+        cap: 8202,
+    };
+    assert_eq!(rt; commit_touch(&rt, &table, &mut one, 3, 12, 1), Err(full));
+    assert_eq!(rt; (one.held(), one.made(), one.place()), (0, 2, 2));
+    assert_eq!(rt; word(&rt, &table, &mut one, Latch::LOG), LockWord::FREE);
+    assert_eq!(rt; word(&rt, &table, &mut one, Latch(5)), LockWord::FREE);
+    table.disconnect(one);
+    table.discard();
+}
+
+// A mini-transaction that changes two words of a page: it counts in one, and signs in another.
+fn commit_two_words<R: Abort + Wait>(
+    rt: &R,
+    table: &Table,
+    pass: &mut Pass,
+    page: u32,
+    round: u64,
+) -> Result<u32, LogFull>
+    requires own { IsOf table.now pass.old }
+    requires idle { pass.old.view.session ≡ idle }
+    requires scratch { pass.old.has_scratch ≡ true }
+    requires page { page < 4096 }
+    ensures own { IsOf table.now pass.new }
+    ensures idle { pass.new.view.session ≡ idle }
+    ensures scratch { pass.new.has_scratch ≡ true }
+{
+    let number = pass.number() as usize;
+    let mut mtr = Mtr::start(table, pass);
+    take_x(rt, &mut mtr, page);
+    load_owned(rt, &mut mtr, page);
+    let count = mtr.image(page).expect(rt, "it is loaded").word(5);
+    assert!(rt; count < 1 << 62);
+    set_word(rt, &mut mtr, page, 5, count + 1);
+    set_word(rt, &mut mtr, page, 64 + number % 64, count + 1);
+    may_commit(rt, &mtr, round, count);
+    mtr.commit(
+        rt,
+        Change::Insert {
+            key: round,
+            value: count,
+        },
+    )
+}
+
+// How often each thread commits, and the pages that they share.
+const ROUNDS: u64 = 2_500;
+
+const SHARED: u32 = 4;
+
+// What one thread does.
+fn work<R: Abort + Wait>(rt: &R, table: &Table, pass: &mut Pass)
+    requires own { IsOf table.now pass.old }
+    requires idle { pass.old.view.session ≡ idle }
+    requires scratch { pass.old.has_scratch ≡ true }
+    ensures own { IsOf table.now pass.new }
+    ensures idle { pass.new.view.session ≡ idle }
+    ensures scratch { pass.new.has_scratch ≡ true }
+{
+    let number = pass.number();
+    for round in 0..ROUNDS {
+        let page = 3 + (number + (round % 64) as u32) % SHARED;
+        let committed = commit_two_words(rt, table, pass, page, round).is_ok();
+        assert!(rt; committed);
+    }
+}
+
+// Two threads.
+fn pair<R: Abort + Wait + Threads + Sync>(rt: &R, table: &Table, one: &mut Pass, two: &mut Pass)
+    requires one { IsOf table.now one.old × (one.old.view.session ≡ idle) × (one.old.has_scratch ≡ true) }
+    requires two { IsOf table.now two.old × (two.old.view.session ≡ idle) × (two.old.has_scratch ≡ true) }
+    ensures one { IsOf table.now one.new × (one.new.view.session ≡ idle) × (one.new.has_scratch ≡ true) }
+    ensures two { IsOf table.now two.new × (two.new.view.session ≡ idle) × (two.new.has_scratch ≡ true) }
+{
+    join_mut(
+        rt,
+        &mut || work(rt, table, one),
+        &mut || work(rt, table, two),
+    );
+}
+
+// The pages that the words of a log give, entry by entry, where each is 0 at first.
+fn replayed(rt: &impl Abort, alloc: Global, words: &[u64], entries: u64) -> Vec<Image> {
+    let mut images = vec![in alloc; Image::free(0); PAGES as usize].expect(rt, "there is memory");
+    let mut place = 0;
+    for _ in 0..entries {
+        assert!(rt; words.len() < 1 << 30);
+        assert!(rt; place as usize <= words.len());
+        let Ok((entry, next)) = decode_at(alloc, words, place, PAGES) else {
+            panic!(rt; "an entry stands there")
+        };
+        for write in entry.writes.as_slice() {
+            assert!(rt; (write.page() as usize) < images.len());
+            images[write.page() as usize].set_word(write.index(), write.value);
+        }
+        place = next;
+    }
+    assert!(rt; place as usize == words.len());
+    images
+}
+
+#[test]
+fn four_threads_commit_on_shared_pages(rt: HostRuntime) {
+    let mut table = small(&rt, rt.alloc(), 100_000);
+    let mut one = come(&rt, rt.alloc(), &mut table);
+    let mut two = come(&rt, rt.alloc(), &mut table);
+    let mut three = come(&rt, rt.alloc(), &mut table);
+    let mut four = come(&rt, rt.alloc(), &mut table);
+    join_mut(
+        &rt,
+        &mut || pair(&rt, &table, &mut one, &mut two),
+        &mut || pair(&rt, &table, &mut three, &mut four),
+    );
+    leave(&mut table, one);
+    leave(&mut table, two);
+    leave(&mut table, three);
+    leave(&mut table, four);
+    let closed = close(&rt, rt.alloc(), table);
+    let images = replayed(&rt, rt.alloc(), closed.log(), 4 * ROUNDS);
+    let mut counted = 0;
+    for page in 0..PAGES {
+        let image = closed.page(page);
+        let given = images.as_slice().get(page as usize).expect(&rt, "a page");
+        assert!(rt; (0..PAGE_WORDS).all(|i| image.word(i) == given.word(i)));
+        counted = u64::checked_add(counted, image.word(5)).expect(&rt, "few");
+    }
+    assert_eq!(rt; counted, 4 * ROUNDS);
+}

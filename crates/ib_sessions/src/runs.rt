@@ -1,0 +1,133 @@
+//! A session on a new index, and the sessions of a script.
+
+ghost use Rattle.std.specs.Prelude.{◌≡◌, ◌<◌, ◌-◌, ◌^◌, true, length};
+ghost use Rattle.ib_core.specs.Sessions.{idle};
+ghost use Rattle.ib_rule.specs.Pass.{IsOf};
+ghost use Rattle.ib_rule.specs.Views.{nothing_seen, no_grants};
+ghost use Rattle.ib_script.specs.Script.{IsSmall};
+
+use ib_index::Index;
+use ib_layout::Geometry;
+use ib_map::{Call, Record, Reply};
+use ib_rule::Pass;
+use ib_runs::{OpenGate, SessionOut, run_script, run_session};
+use ib_script::{PlainLines, Script, read_script};
+use std::alloc::Global;
+use std::process::Abort;
+
+fn come(rt: &impl Abort, alloc: Global, index: &mut Index) -> Pass
+    ensures own { IsOf index.new result }
+    ensures idle { result.view.session ≡ idle }
+    ensures scratch { result.has_scratch ≡ true }
+    ensures memory { result.view.memory ≡ nothing_seen }
+    ensures grants { result.view.grants ≡ no_grants }
+    ensures table { index.new.table ≡ index.old.table }
+    ensures sizes { index.new.sizes ≡ index.old.sizes }
+{
+    index.connect(alloc).expect(rt, "a session")
+}
+
+fn record(call: Call, reply: Reply, place: u32) -> Record {
+    Record { call, reply, place }
+}
+
+#[test]
+fn a_session_sees_its_own_changes(rt: HostRuntime) {
+    let sizes = Geometry::new(16, 16384).expect(&rt, "there are such sizes");
+    let mut index = Index::open(rt.alloc(), sizes).expect(&rt, "there is memory");
+    let mut pass = come(&rt, rt.alloc(), &mut index);
+    let mut out = SessionOut::new(rt.alloc());
+    let insert = Call::Insert {
+        key: 10,
+        value: 100,
+    };
+    let get = Call::Get { key: 10 };
+    let delete = Call::Delete { key: 10 };
+    let back = Call::Scan { low: 5, high: 3 };
+    run_session(
+        &rt,
+        &index,
+        &mut pass,
+        &[insert, get, delete, get, back],
+        &OpenGate,
+        &mut out,
+    )
+    .expect(&rt, "there is memory");
+    let none = Reply::Scanned {
+        chunks: 0,
+        pairs: 0,
+    };
+    let records = [
+        record(insert, Reply::Inserted, 0),
+        record(get, Reply::Found { value: 100 }, 1),
+        record(delete, Reply::Deleted { value: 100 }, 1),
+        record(get, Reply::NotFound, 2),
+        record(back, none, 2),
+    ];
+    assert_eq!(rt; out.records(), records.as_slice());
+    assert!(rt; out.chunks().list().is_empty());
+    index.disconnect(pass);
+    index.discard();
+}
+
+fn script(rt: &impl Abort, alloc: Global, text: &[u8]) -> Script
+    requires { length text.now < 2 ^ 32 - 1 }
+    ensures { IsSmall result }
+{
+    match read_script::<PlainLines>(alloc, text) {
+        Ok(script) => script,
+        Err(_) => panic!(rt; "it is a script"),
+    }
+}
+
+#[test]
+fn sessions_share_an_index(rt: HostRuntime) {
+    let text = b"space 16 16384\ninsert 1 10\nsession 3\ninsert 3 30\nscan 3 3\n";
+    let script = script(&rt, rt.alloc(), text);
+    let ran = run_script(&rt, rt.alloc(), &script, &OpenGate).expect(&rt, "there is memory");
+    assert_eq!(rt; ran.sessions.len(), 3);
+    assert_eq!(rt; ran.history.len(), 2);
+    assert_eq!(rt; ran.map.get(1), Some(10));
+    assert_eq!(rt; ran.map.get(3), Some(30));
+    let third = ran.sessions[2].chunks();
+    assert_eq!(rt; third.pairs(), [(3, 30)].as_slice());
+    assert!(rt; ran.sessions[1].records().is_empty());
+}
+
+// Inserts up to one more than a leaf has room for, and then deletes that merge the two leaves again and inserts that
+// split them again, in turn: half of these changes have entries of hundreds of words.
+fn splits_and_merges(rt: &impl Abort, alloc: Global, log_words: u32) -> Script
+    ensures { IsSmall result }
+{
+    let mut text = format!(in alloc; "space 16 {log_words}\n").expect(rt, "there is memory");
+    for key in 1..37 {
+        let line = format!(in alloc; "insert {key} {key}\n").expect(rt, "there is memory");
+        text.push_str(line.as_str()).expect(rt, "there is memory");
+    }
+    for _ in 0..4 {
+        text.push_str("delete 1\ndelete 2\ninsert 1 1\ninsert 2 2\n")
+            .expect(rt, "there is memory");
+    }
+    let bytes = text.as_bytes();
+    assert!(rt; bytes.len() < 10_000);
+    script(rt, alloc, bytes)
+}
+
+// Whether one of these records tells of a full log.
+fn tells_full(records: &[Record]) -> bool {
+    records
+        .iter()
+        .any(|record| matches!(record.reply, Reply::LogFull { .. }))
+}
+
+#[test]
+fn a_first_log_that_gets_full(rt: HostRuntime) {
+    // Both are run on a log of 10,692 words first, which gets full. The first script has a longer one.
+    for (log_words, is_full) in [(20_000, false), (10_692, true)] {
+        let script = splits_and_merges(&rt, rt.alloc(), log_words);
+        let ran = run_script(&rt, rt.alloc(), &script, &OpenGate).expect(&rt, "there is memory");
+        assert_eq!(rt; ran.sessions.len(), 1);
+        assert_eq!(rt; tells_full(ran.sessions[0].records()), is_full);
+        assert_eq!(rt; ran.history.len() == 52, !is_full);
+    }
+}
