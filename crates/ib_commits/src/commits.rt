@@ -235,7 +235,7 @@ fn a_log_has_room_for_two_entries(rt: HostRuntime) {
         cap: 8202,
     };
     assert_eq!(rt; commit_touch(&rt, &table, &mut one, 3, 12, 1), Err(full));
-    assert_eq!(rt; (one.held(), one.made(), one.place()), (0, 2, 2));
+    assert_eq!(rt; (one.grants_held(), one.made(), one.place()), (0, 2, 2));
     assert_eq!(rt; word(&rt, &table, &mut one, Latch::LOG), LockWord::FREE);
     assert_eq!(rt; word(&rt, &table, &mut one, Latch(5)), LockWord::FREE);
     table.disconnect(one);

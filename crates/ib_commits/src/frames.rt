@@ -44,7 +44,7 @@ fn take(rt: &impl Abort, space: &Space<AnyLaw>, pass: &mut Pass, latch: Latch, l
     assert!(rt; latch.0 < space.geometry().pages() + 2);
     assert!(rt; pass.can_wish(latch, level));
     assert!(rt; pass.may_grow());
-    let taken = space.x_off(pass, latch, level, LockWord::FREE).is_ok();
+    let taken = space.take_x(pass, latch, level, LockWord::FREE).is_ok();
     assert!(rt; taken);
 }
 
@@ -57,7 +57,7 @@ fn give(rt: &impl Abort, space: &Space<AnyLaw>, pass: &mut Pass, latch: Latch)
     assert!(rt; latch.0 < space.geometry().pages() + 2);
     assert!(rt; pass.phase() == Phase::Free);
     assert!(rt; pass.counts(latch).x == 1);
-    let _ = space.x_on(pass, latch);
+    let _ = space.give_x(pass, latch);
     let _ = space.load_waiters(pass, latch);
 }
 

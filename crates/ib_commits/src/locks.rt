@@ -61,7 +61,7 @@ fn each_mode_is_waited_for(rt: HostRuntime) {
     give(&rt, &mut mtr, 0);
     assert_eq!(rt; mtr.savepoint(), 0);
     mtr.finish();
-    assert_eq!(rt; one.held(), 0);
+    assert_eq!(rt; one.grants_held(), 0);
     table.disconnect(one);
     table.discard();
 }

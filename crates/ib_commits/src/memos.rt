@@ -106,7 +106,7 @@ fn a_memo_in_order_of_taking(rt: HostRuntime) {
     give(&rt, &mut mtr, 0);
     assert_eq!(rt; mtr.savepoint(), 0);
     mtr.finish();
-    assert_eq!(rt; (one.held(), one.grants().s), (0, 3));
+    assert_eq!(rt; (one.grants_held(), one.grants_taken().s), (0, 3));
     table.disconnect(one);
     table.discard();
 }

@@ -5,7 +5,7 @@ use Rattle.ib_word.specs.declared.word.TheConstants.{X_LOCK_DECR}
 use Rattle.ib_levels.specs.declared.level.Level.{Level}
 use Rattle.ib_levels.specs.declared.level.Mode.{Mode}
 use Rattle.ib_levels.specs.declared.level.Mode.TheVariants.{Sx, X}
-use Rattle.ib_levels.specs.Holding.{changed, without}
+use Rattle.ib_levels.specs.Holding.{changed_on, without_latch}
 use Rattle.ib_core.specs.declared.phase.Phase.TheVariants.{Free, Flagged, OwesLook}
 use Rattle.ib_core.specs.declared.event.Event.{Event}
 use Rattle.ib_core.specs.declared.event.Event.TheVariants.{Again, Us, Usx, Ux}
@@ -37,7 +37,7 @@ module _ (w : ℤ) (m : Marks) (l : ℕ) (a : Session) where
       → response_of w m (Again l) a ≡ first_response mode l v (w -ℤ pos (first_weight mode)) (holding_too mode l v a.held)
   after_again mode v g is given = flagged_response w m l a mode v g is ∙ if_true (is_given_at mode w) _ _ given
 
-  pub after_s_back : a.phase ≡ Free → 0 < reads l a → response_of w m (Us l) a ≡ response Released (without l a.held) (owed_by_s l (w +ℤ pos 1))
+  pub after_s_back : a.phase ≡ Free → 0 < reads l a → response_of w m (Us l) a ≡ response Released (without_latch l a.held) (owed_by_s l (w +ℤ pos 1))
   after_s_back free has = in_free free (Us l) _ (if_true (nat_lt 0 (reads l a)) _ _ (lt_some _ has))
 
   module _ (proper : IsProper a) (free : a.phase ≡ Free) where
@@ -45,13 +45,13 @@ module _ (w : ℤ) (m : Marks) (l : ℕ) (a : Session) where
     as_free = subst IsProper (at_free a free) proper
 
     pub after_upgrade : (v : Level) → 0 < sx_grants l a → x_grants l a ≡ 0 → is_above_0 w ≡ true
-        → response_of w m (wish X l v) a ≡ reserving l (level_on l v a.held) (w -ℤ pos X_LOCK_DECR) (changed l (one_more X) a.held)
+        → response_of w m (wish X l v) a ≡ reserving l (level_on l v a.held) (w -ℤ pos X_LOCK_DECR) (changed_on l (one_more X) a.held)
     after_upgrade v has no_x up = in_free free (wish X l v) _ (x_upgrade l a.held w as_free v has no_x up)
 
-    pub after_further_x : (v : Level) → 0 < x_grants l a → response_of w m (wish X l v) a ≡ response Granted (changed l (one_more X) a.held) Free
+    pub after_further_x : (v : Level) → 0 < x_grants l a → response_of w m (wish X l v) a ≡ response Granted (changed_on l (one_more X) a.held) Free
     after_further_x v has = in_free free (wish X l v) _ (x_further l a.held w as_free v has)
 
-    pub after_further_sx : (v : Level) → 0 < claims l a → response_of w m (wish Sx l v) a ≡ response Granted (changed l (one_more Sx) a.held) Free
+    pub after_further_sx : (v : Level) → 0 < claims l a → response_of w m (wish Sx l v) a ≡ response Granted (changed_on l (one_more Sx) a.held) Free
     after_further_sx v has = in_free free (wish Sx l v) _ (sx_further l a.held w as_free v has)
 
     sx_given : 0 < sx_grants l a → response_of w m (Usx l) a ≡ response Released (given_back Sx l a) (owed_where (claims l a == 1) l)
@@ -60,31 +60,31 @@ module _ (w : ℤ) (m : Marks) (l : ℕ) (a : Session) where
     x_given : 0 < x_grants l a → response_of w m (Ux l) a ≡ response Released (given_back X l a) (owed_where (x_grants l a == 1) l)
     x_given has = in_free free (Ux l) _ (if_true (nat_lt 0 (x_grants l a)) _ _ (lt_some _ has))
 
-    pub after_last_sx_back : sx_grants l a ≡ 1 → x_grants l a ≡ 0 → response_of w m (Usx l) a ≡ response Released (without l a.held) (OwesLook l)
+    pub after_last_sx_back : sx_grants l a ≡ 1 → x_grants l a ≡ 0 → response_of w m (Usx l) a ≡ response Released (without_latch l a.held) (OwesLook l)
     after_last_sx_back sx x =
         let c = counted l a (proper.single l) in let one : claims l a ≡ 1 = omega arith in
-        sx_given (omega arith) ∙ ap (λ b. response Released (if b then without l a.held else changed l (one_fewer Sx) a.held) (owed_where b l)) (eq-eqb (claims l a) 1 one)
+        sx_given (omega arith) ∙ ap (λ b. response Released (if b then without_latch l a.held else changed_on l (one_fewer Sx) a.held) (owed_where b l)) (eq-eqb (claims l a) 1 one)
 
-    pub after_sx_back : 0 < sx_grants l a → 1 < claims l a → response_of w m (Usx l) a ≡ response Released (changed l (one_fewer Sx) a.held) Free
+    pub after_sx_back : 0 < sx_grants l a → 1 < claims l a → response_of w m (Usx l) a ≡ response Released (changed_on l (one_fewer Sx) a.held) Free
     after_sx_back sx more =
-        sx_given sx ∙ ap (λ b. response Released (if b then without l a.held else changed l (one_fewer Sx) a.held) (owed_where b l)) (ne_eqb (claims l a) 1 (λ e. omega arith))
+        sx_given sx ∙ ap (λ b. response Released (if b then without_latch l a.held else changed_on l (one_fewer Sx) a.held) (owed_where b l)) (ne_eqb (claims l a) 1 (λ e. omega arith))
 
     -- an X by whether it is the last grant on the latch, and the last X
     x_given_by : (gone last : Bool) → 0 < x_grants l a → (claims l a == 1) ≡ gone → (x_grants l a == 1) ≡ last
-        → response_of w m (Ux l) a ≡ response Released (if gone then without l a.held else changed l (one_fewer X) a.held) (owed_where last l)
-    x_given_by gone last has is_gone is_last = x_given has ∙ (λ j. response Released (if is_gone j then without l a.held else changed l (one_fewer X) a.held) (owed_where (is_last j) l))
+        → response_of w m (Ux l) a ≡ response Released (if gone then without_latch l a.held else changed_on l (one_fewer X) a.held) (owed_where last l)
+    x_given_by gone last has is_gone is_last = x_given has ∙ (λ j. response Released (if is_gone j then without_latch l a.held else changed_on l (one_fewer X) a.held) (owed_where (is_last j) l))
 
-    pub after_last_x_back : x_grants l a ≡ 1 → sx_grants l a ≡ 0 → response_of w m (Ux l) a ≡ response Released (without l a.held) (OwesLook l)
+    pub after_last_x_back : x_grants l a ≡ 1 → sx_grants l a ≡ 0 → response_of w m (Ux l) a ≡ response Released (without_latch l a.held) (OwesLook l)
     after_last_x_back x sx =
         let c = counted l a (proper.single l) in let one : claims l a ≡ 1 = omega arith in
         x_given_by true true (omega arith) (eq-eqb (claims l a) 1 one) (eq-eqb (x_grants l a) 1 x)
 
-    pub after_last_x_beside_sx : x_grants l a ≡ 1 → 0 < sx_grants l a → response_of w m (Ux l) a ≡ response Released (changed l (one_fewer X) a.held) (OwesLook l)
+    pub after_last_x_beside_sx : x_grants l a ≡ 1 → 0 < sx_grants l a → response_of w m (Ux l) a ≡ response Released (changed_on l (one_fewer X) a.held) (OwesLook l)
     after_last_x_beside_sx x sx =
         let c = counted l a (proper.single l) in
         x_given_by false true (omega arith) (ne_eqb (claims l a) 1 (λ e. omega arith)) (eq-eqb (x_grants l a) 1 x)
 
-    pub after_x_back : 1 < x_grants l a → response_of w m (Ux l) a ≡ response Released (changed l (one_fewer X) a.held) Free
+    pub after_x_back : 1 < x_grants l a → response_of w m (Ux l) a ≡ response Released (changed_on l (one_fewer X) a.held) Free
     after_x_back more =
         let c = counted l a (proper.single l) in
         x_given_by false false (omega arith) (ne_eqb (claims l a) 1 (λ e. omega arith)) (ne_eqb (x_grants l a) 1 (λ e. omega arith))

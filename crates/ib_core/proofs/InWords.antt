@@ -21,7 +21,7 @@ use Rattle.ib_core.specs.Responses.{latch_of}
 use Rattle.ib_core.specs.Good.{IsProper, IsGood, IsOwed, Heard, against, owes_signal, owes_raise_ex, WillRaise}
 use Rattle.ib_core.specs.Sleepers.{MaySleep, HasFlagged, NextMaySleep}
 use Rattle.ib_core.specs.Holders.{OwnsSx, OwnsX, IsNextWriter, HoldersAreCompatible, IsFreeOfClaims, IsGrantable}
-use Rattle.ib_core.specs.Machine.{CoreState, marks_at, fresh, opening, session_at, outcome_of, turn_in, IsGoodState}
+use Rattle.ib_core.specs.Machine.{CoreState, marks_at, fresh, opening_state, session_at, outcome_of, turn_in, IsGoodState}
 use Rattle.ib_core.specs.Actions.{Action, IsAmong, AllAmong, state_after}
 use Rattle.ib_core.proofs.OnLatch.{counted}
 use Rattle.ib_core.proofs.Places.{all_zero, at_below}
@@ -207,5 +207,5 @@ run_kept state (action ∷ actions) few among good =
     (let n = length-set state.sessions action.place (turn_in state action.place action.event).session in omega arith)
     (all_among_after state action actions among.1) (event_kept state action (λ l. let r = readers_few l state.sessions good.proper in omega arith) among.0 good)
 
-pub opening_good : (sessions latches : ℕ) → IsGoodState (opening sessions latches)
-opening_good sessions latches = good_idle sessions (marks_at (opening sessions latches).marks)
+pub opening_good : (sessions latches : ℕ) → IsGoodState (opening_state sessions latches)
+opening_good sessions latches = good_idle sessions (marks_at (opening_state sessions latches).marks)

@@ -8,7 +8,7 @@ use Rattle.ib_levels.specs.declared.level.Mode.TheVariants.{S as ModeS, Sx as Mo
 use Rattle.ib_levels.specs.declared.listed.Against.{Against as LevelsAgainst}
 use Rattle.std.specs.Prelude.{Result, Ok, Err}
 use Rattle.ib_levels.specs.Listed.{answer_to}
-use Rattle.ib_levels.specs.Holding.{on, is_held, levels_of, changed, without}
+use Rattle.ib_levels.specs.Holding.{on, is_held, levels_of, changed_on, without_latch}
 use Rattle.ib_levels.proofs.Counts.{on-push_here, on-push_away, on-without, on-without_away, on-changed, on-changed_away, on-add, on_le}
 use Rattle.ib_core.specs.declared.phase.Phase.{Phase}
 use Rattle.ib_core.specs.declared.phase.Phase.TheVariants.{Free, Armed, Flagged, Checked, Asleep, Next, NextArmed, NextChecked, NextAsleep, OwesLook, OwesClear, OwesRaise, OwesRaiseEx}
@@ -18,7 +18,8 @@ use Rattle.ib_core.specs.declared.session.Session.{Session}
 use Rattle.ib_core.specs.declared.session.Marks.{Marks}
 use Rattle.ib_core.specs.Sessions.{holdings, reads, claims, x_grants, sx_grants}
 use Rattle.ib_core.specs.Takings.{is_given_at, first_holding, holding_too, one_more, one_fewer, reserving, first, upgrade, if_allowed, level_on, first_weight}
-use Rattle.ib_core.specs.Responses.{Response, latch_of, is_elsewhere, is_drained, is_above_0}
+use Rattle.ib_word.specs.Word.{is_drained}
+use Rattle.ib_core.specs.Responses.{Response, latch_of, is_elsewhere, is_above_0}
 use Rattle.ib_core.specs.Table.{owns_x_at, free_row, armed_row, flagged_row, checked_row, asleep_row, next_row, next_armed_row, next_waits_row, owes_look_row, owes_clear_row, owes_raise_row, row_of, response_of}
 use Rattle.ib_core.proofs.OnLatch.{one_more-latch, one_fewer-latch}
 use Rattle.ib_core.proofs.Turned.{choose}
@@ -48,7 +49,7 @@ one_fewer_grant ModeS h = omega arith
 one_fewer_grant ModeSx h = omega arith
 one_fewer_grant ModeX h = omega arith
 
-near_more : (l : ℕ) (mode : Mode) (held : List Holding) → on l (λ h. 1) held ≤ 1 → Near l held (changed l (one_more mode) held)
+near_more : (l : ℕ) (mode : Mode) (held : List Holding) → on l (λ h. 1) held ≤ 1 → Near l held (changed_on l (one_more mode) held)
 near_more l mode held single = record {
   away = λ k n f. on-changed_away l k (one_more mode) f held (one_more-latch mode) n;
   one_more =
@@ -57,7 +58,7 @@ near_more l mode held single = record {
       let c = on-add l all_grants (λ h. 1) held in omega arith;
 }
 
-near_fewer : (l : ℕ) (mode : Mode) (held : List Holding) → Near l held (changed l (one_fewer mode) held)
+near_fewer : (l : ℕ) (mode : Mode) (held : List Holding) → Near l held (changed_on l (one_fewer mode) held)
 near_fewer l mode held = record {
   away = λ k n f. on-changed_away l k (one_fewer mode) f held (one_fewer-latch mode) n;
   one_more =
@@ -65,7 +66,7 @@ near_fewer l mode held = record {
       let b = on_le l (λ h. all_grants (one_fewer mode h)) all_grants held (one_fewer_grant mode) in omega arith;
 }
 
-near_without : (l : ℕ) (held : List Holding) → Near l held (without l held)
+near_without : (l : ℕ) (held : List Holding) → Near l held (without_latch l held)
 near_without l held = record { away = λ k n f. on-without_away l k f held n; one_more = let z = on-without l all_grants held in omega arith }
 
 module _ (a : Session) (single : (l : ℕ) → holdings l a ≤ 1) where
@@ -87,7 +88,7 @@ module _ (a : Session) (single : (l : ℕ) → holdings l a ≤ 1) where
 
   near_upgrade : (l : ℕ) (v : Level) (w : ℤ) → Near l a.held (upgrade l v w a.held).session.held
   near_upgrade l v w = by_test l (is_above_0 w) _ _
-      (near_reserving l l (level_on l v a.held) (w -ℤ pos (first_weight ModeX)) (changed l (one_more ModeX) a.held) (near_more l ModeX a.held (single l))) (near_same l a.held)
+      (near_reserving l l (level_on l v a.held) (w -ℤ pos (first_weight ModeX)) (changed_on l (one_more ModeX) a.held) (near_more l ModeX a.held (single l))) (near_same l a.held)
 
   near_free : (w : ℤ) (now : ℕ) (e : Event) → Near (latch_of e) a.held (free_row w now e a).session.held
   near_free w now (S l v) = by_test l (is_held l a.held) _ _ (near_same l a.held) (near_allowed l (answer_to (is_held l a.held) v (levels_of a.held)) _ (near_first_wish l ModeS v Free w))

@@ -6,7 +6,7 @@ use native.Mathlib.Decide.{ℕ_discrete}
 use Rattle.ib_levels.specs.declared.holding.Holding.{Holding}
 use Rattle.ib_levels.specs.declared.level.Mode.{Mode}
 use Rattle.ib_levels.specs.declared.level.Mode.TheVariants.{S, Sx, X}
-use Rattle.ib_levels.specs.Holding.{on, changed}
+use Rattle.ib_levels.specs.Holding.{on, changed_on}
 use Rattle.ib_levels.proofs.Counts.{on-cons, on-none, on-changed, part-here, part-away, by_equal}
 use Rattle.ib_word.specs.Weight.{weight, sx_weight, x_weight}
 use Rattle.ib_core.specs.declared.session.Session.{Session}
@@ -74,7 +74,7 @@ held_by_grant l f held has = dite (ℕ_discrete (on l (λ h. 1) held) 0) (λ non
 
 -- the counts on the latch after a change of the one holding there
 pub counts_changed : (l : ℕ) (f : Holding → Holding) (held : List Holding) → ((h : Holding) → (f h).latch.0 ≡ h.latch.0) → on l (λ h. 1) held ≡ 1
-    → (h : Holding) × ((g : Holding → ℕ) → on l g held ≡ g h) × ((g : Holding → ℕ) → on l g (changed l f held) ≡ g (f h))
+    → (h : Holding) × ((g : Holding → ℕ) → on l g held ≡ g h) × ((g : Holding → ℕ) → on l g (changed_on l f held) ≡ g (f h))
 counts_changed l f held keeps one = ⊎_elim
     (λ (none : (g : Holding → ℕ) → on l g held ≡ 0). let z = none (λ h. 1) in absurd (omega arith))
     (λ (only : (h : Holding) × ((g : Holding → ℕ) → on l g held ≡ g h)). (only.0, only.1, λ g. on-changed l f g held keeps ∙ only.1 (λ h. g (f h))))
@@ -95,35 +95,35 @@ one_fewer-latch X h = refl
 abbrev pub weighs : Holding → ℕ
 weighs h = weight h.s h.sx h.x
 
-pub one_more-weighs : (l : ℕ) (mode : Mode) (a : Session) → holdings l a ≡ 1 → (h : Holding) × (reads l a ≡ h.s) × (sx_grants l a ≡ h.sx) × (x_grants l a ≡ h.x) × (on l weighs (changed l (one_more mode) a.held) ≡ weighs (one_more mode h))
+pub one_more-weighs : (l : ℕ) (mode : Mode) (a : Session) → holdings l a ≡ 1 → (h : Holding) × (reads l a ≡ h.s) × (sx_grants l a ≡ h.sx) × (x_grants l a ≡ h.x) × (on l weighs (changed_on l (one_more mode) a.held) ≡ weighs (one_more mode h))
 one_more-weighs l mode a one =
     let k = counts_changed l (one_more mode) a.held (one_more-latch mode) one in
     (k.0, k.1 (λ h. h.s), k.1 (λ h. h.sx), k.1 (λ h. h.x), k.2 weighs)
 
-pub one_fewer-weighs : (l : ℕ) (mode : Mode) (a : Session) → holdings l a ≡ 1 → (h : Holding) × (reads l a ≡ h.s) × (sx_grants l a ≡ h.sx) × (x_grants l a ≡ h.x) × (on l weighs (changed l (one_fewer mode) a.held) ≡ weighs (one_fewer mode h))
+pub one_fewer-weighs : (l : ℕ) (mode : Mode) (a : Session) → holdings l a ≡ 1 → (h : Holding) × (reads l a ≡ h.s) × (sx_grants l a ≡ h.sx) × (x_grants l a ≡ h.x) × (on l weighs (changed_on l (one_fewer mode) a.held) ≡ weighs (one_fewer mode h))
 one_fewer-weighs l mode a one =
     let k = counts_changed l (one_fewer mode) a.held (one_fewer-latch mode) one in
     (k.0, k.1 (λ h. h.s), k.1 (λ h. h.sx), k.1 (λ h. h.x), k.2 weighs)
 
 -- a further X takes off what the count tells
-pub more_x_taken : (l : ℕ) (a : Session) → holdings l a ≤ 1 → 0 < claims l a → on l weighs (changed l (one_more X) a.held) ≡ reads l a + sx_weight (sx_grants l a) + x_weight (x_grants l a + 1)
+pub more_x_taken : (l : ℕ) (a : Session) → holdings l a ≤ 1 → 0 < claims l a → on l weighs (changed_on l (one_more X) a.held) ≡ reads l a + sx_weight (sx_grants l a) + x_weight (x_grants l a + 1)
 more_x_taken l a single has =
     let p = held_by_grant l (λ h. h.sx + h.x) a.held has in
     let k = one_more-weighs l X a (omega arith) in let x = ap (λ (n : ℕ). x_weight (n + 1)) k.3 in let y = ap sx_weight k.2 in omega arith
 
 -- a further SX takes off HALF where it is the first
-pub more_sx_taken : (l : ℕ) (a : Session) → holdings l a ≤ 1 → 0 < claims l a → on l weighs (changed l (one_more Sx) a.held) ≡ reads l a + sx_weight (sx_grants l a + 1) + x_weight (x_grants l a)
+pub more_sx_taken : (l : ℕ) (a : Session) → holdings l a ≤ 1 → 0 < claims l a → on l weighs (changed_on l (one_more Sx) a.held) ≡ reads l a + sx_weight (sx_grants l a + 1) + x_weight (x_grants l a)
 more_sx_taken l a single has =
     let p = held_by_grant l (λ h. h.sx + h.x) a.held has in
     let k = one_more-weighs l Sx a (omega arith) in let x = ap x_weight k.3 in let y = ap (λ (n : ℕ). sx_weight (n + 1)) k.2 in omega arith
 
 -- what stays taken off after one X, or one SX, of several grants is given back
-pub fewer_x_taken : (l : ℕ) (a : Session) → holdings l a ≤ 1 → 0 < claims l a → on l weighs (changed l (one_fewer X) a.held) ≡ reads l a + sx_weight (sx_grants l a) + x_weight (x_grants l a - 1)
+pub fewer_x_taken : (l : ℕ) (a : Session) → holdings l a ≤ 1 → 0 < claims l a → on l weighs (changed_on l (one_fewer X) a.held) ≡ reads l a + sx_weight (sx_grants l a) + x_weight (x_grants l a - 1)
 fewer_x_taken l a single has =
     let p = held_by_grant l (λ h. h.sx + h.x) a.held has in
     let k = one_fewer-weighs l X a (omega arith) in let x = ap (λ (n : ℕ). x_weight (n - 1)) k.3 in let y = ap sx_weight k.2 in omega arith
 
-pub fewer_sx_taken : (l : ℕ) (a : Session) → holdings l a ≤ 1 → 0 < claims l a → on l weighs (changed l (one_fewer Sx) a.held) ≡ reads l a + sx_weight (sx_grants l a - 1) + x_weight (x_grants l a)
+pub fewer_sx_taken : (l : ℕ) (a : Session) → holdings l a ≤ 1 → 0 < claims l a → on l weighs (changed_on l (one_fewer Sx) a.held) ≡ reads l a + sx_weight (sx_grants l a - 1) + x_weight (x_grants l a)
 fewer_sx_taken l a single has =
     let p = held_by_grant l (λ h. h.sx + h.x) a.held has in
     let k = one_fewer-weighs l Sx a (omega arith) in let x = ap x_weight k.3 in let y = ap (λ (n : ℕ). sx_weight (n - 1)) k.2 in omega arith

@@ -8,7 +8,7 @@ use Rattle.ib_levels.specs.declared.level.Mode.TheVariants.{Sx as ModeSx}
 use Rattle.ib_levels.specs.declared.holding.Holding.{Holding}
 use Rattle.ib_levels.specs.declared.listed.Against.{Against as LevelsAgainst}
 use Rattle.ib_levels.specs.Listed.{answer_to}
-use Rattle.ib_levels.specs.Holding.{is_held, levels_of, changed}
+use Rattle.ib_levels.specs.Holding.{is_held, levels_of, changed_on}
 use Rattle.ib_core.specs.declared.phase.Phase.{Phase}
 use Rattle.ib_core.specs.declared.phase.Phase.TheVariants.{Free, Armed, Flagged, Checked, Asleep, Next, NextArmed, NextChecked, NextAsleep, OwesLook, OwesClear, OwesRaise, OwesRaiseEx}
 use Rattle.ib_core.specs.declared.event.Event.{Event}
@@ -39,8 +39,8 @@ module _ (n : ℕ) (w : ℤ) (m : Marks) (held : List Holding) (single : (l : �
       by_claim true e = by_true (nat_lt 0 (claims l (with_phase Free held))) e
         where
           by_true : (b : Bool) → b ≡ true
-              → (if nat_lt 0 (reads l (with_phase Free held)) then refused HeldAlready (with_phase Free held) else where_allowed l v (with_phase Free held) (if b then response Granted (changed l (one_more ModeSx) held) Free else first ModeSx l v Free (word_in n) held))
-              ≡ (if nat_lt 0 (reads l (with_phase Free held)) then refused HeldAlready (with_phase Free held) else where_allowed l v (with_phase Free held) (if b then response Granted (changed l (one_more ModeSx) held) Free else first ModeSx l v Free w held))
+              → (if nat_lt 0 (reads l (with_phase Free held)) then refused HeldAlready (with_phase Free held) else where_allowed l v (with_phase Free held) (if b then response Granted (changed_on l (one_more ModeSx) held) Free else first ModeSx l v Free (word_in n) held))
+              ≡ (if nat_lt 0 (reads l (with_phase Free held)) then refused HeldAlready (with_phase Free held) else where_allowed l v (with_phase Free held) (if b then response Granted (changed_on l (one_more ModeSx) held) Free else first ModeSx l v Free w held))
           by_true true q = refl
           by_true false q = absurd (cc)
       by_claim false e =

@@ -8,7 +8,7 @@ use Rattle.ib_levels.specs.declared.level.Mode.TheVariants.{S as ModeS, Sx as Mo
 use Rattle.ib_levels.specs.declared.holding.Holding.{Holding}
 use Rattle.ib_levels.specs.declared.listed.Against.{Against as LevelsAgainst}
 use Rattle.ib_levels.specs.Listed.{answer_to}
-use Rattle.ib_levels.specs.Holding.{is_held, levels_of, changed, without}
+use Rattle.ib_levels.specs.Holding.{is_held, levels_of, changed_on, without_latch}
 use Rattle.ib_levels.proofs.Counts.{by_equal, none_from_unheld, on-push_here, on-without}
 use Rattle.ib_core.specs.declared.phase.Phase.{Phase}
 use Rattle.ib_core.specs.declared.phase.Phase.TheVariants.{Free, Armed, Flagged, Checked, Asleep, Next, NextArmed, NextChecked, NextAsleep, OwesLook, OwesClear, OwesRaise, OwesRaiseEx}
@@ -21,7 +21,8 @@ use Rattle.ib_core.specs.declared.session.Session.{Session}
 use Rattle.ib_core.specs.declared.session.Marks.{Marks}
 use Rattle.ib_core.specs.Sessions.{reads, claims, sx_grants, x_grants, holdings, grants}
 use Rattle.ib_core.specs.Takings.{first, holding_too, first_holding, first_weight, is_given_at, if_allowed, taking_s, taking_sx, taking_x, giving_s, giving_sx, giving_x, one_more, one_fewer, level_on}
-use Rattle.ib_core.specs.Responses.{Response, response, refused, latch_of, is_elsewhere, is_drained, is_above_0}
+use Rattle.ib_word.specs.Word.{is_drained}
+use Rattle.ib_core.specs.Responses.{Response, response, refused, latch_of, is_elsewhere, is_above_0}
 use Rattle.ib_core.specs.Table.{owns_x_at, free_row, armed_row, flagged_row, checked_row, asleep_row, next_row, next_armed_row, next_waits_row, owes_look_row, owes_clear_row, owes_raise_row, row_of, response_of, marks_by, marks_after}
 use Rattle.ib_core.specs.Good.{IsProper}
 use Rattle.ib_core.proofs.NumberTests.{none_by, some_by}
@@ -86,7 +87,7 @@ module _ (held : List Holding) (p : Phase) (proper : IsProper (with_phase p held
 
   -- a further grant
   further : (l : ℕ) (mode : Mode) (p' : Phase) → 0 < claims l (with_phase p held) → (mode ≡ ModeS → ⊥) → ((k : ℕ) → owing k p' ≤ owing k p) → (answer : Answer) → grants_won (won answer (Some mode)) ≡ 1
-      → Grows l held p (Some mode) 0 (response answer (changed l (one_more mode) held) p')
+      → Grows l held p (Some mode) 0 (response answer (changed_on l (one_more mode) held) p')
   further l ModeS p' has no_s quiet answer one = absurd (no_s refl)
   further l ModeSx p' has no_s quiet answer one =
       let b = held_by_grant l (λ h. h.sx + h.x) held has in let s = proper.single l in
@@ -143,7 +144,7 @@ module _ (held : List Holding) (proper : IsProper (with_phase Free held)) (w : �
       first_grows held Free proper l ModeX v Free w (free_of held Free proper l (none_by (reads l (with_phase Free held)) unread) (omega arith)) (λ k. omega arith)))))
 
   -- the last grant goes
-  gone : (l : ℕ) (p' : Phase) (answer : Answer) → 0 < grants l (with_phase Free held) → owing l p' ≤ 1 → ((k : ℕ) → l ≢ k → owing k p' ≡ 0) → Grows l held Free None 0 (response answer (without l held) p')
+  gone : (l : ℕ) (p' : Phase) (answer : Answer) → 0 < grants l (with_phase Free held) → owing l p' ≤ 1 → ((k : ℕ) → l ≢ k → owing k p' ≡ 0) → Grows l held Free None 0 (response answer (without_latch l held) p')
   gone l p' answer has one away =
       let z = on-without l (λ h. h.s + h.sx + h.x) held in let y = on-without l (λ h. 1) held in record {
         here = omega arith;
@@ -156,7 +157,7 @@ module _ (held : List Holding) (proper : IsProper (with_phase Free held)) (w : �
   us_grows l = choose (λ (r : Response). Grows l held Free None 0 r) (nat_lt 0 (reads l (with_phase Free held))) _ _
       (λ has.
       let c = counted l (with_phase Free held) (proper.single l) in let r = some_by (reads l (with_phase Free held)) has in
-      choose (λ (p' : Phase). Grows l held Free None 0 (response Released (without l held) p')) (is_drained (w +ℤ pos 1)) (OwesRaiseEx l) Free
+      choose (λ (p' : Phase). Grows l held Free None 0 (response Released (without_latch l held) p')) (is_drained (w +ℤ pos 1)) (OwesRaiseEx l) Free
       (λ _. gone l (OwesRaiseEx l) _ (omega arith) (let q = at_it l in omega arith) (λ k n. at_other l k n))
       (λ _. gone l Free _ (omega arith) (omega arith) (λ k n. refl)))
       (λ _. as_before l held Free None _)
@@ -164,7 +165,7 @@ module _ (held : List Holding) (proper : IsProper (with_phase Free held)) (w : �
   -- one of several goes
   one_gone : (l : ℕ) (mode : Mode) (p' : Phase) (answer : Answer) → 0 < claims l (with_phase Free held) → (mode ≡ ModeS → ⊥)
       → (mode ≡ ModeSx → 0 < sx_grants l (with_phase Free held)) → (mode ≡ ModeX → 0 < x_grants l (with_phase Free held)) → owing l p' ≤ 1 → ((k : ℕ) → l ≢ k → owing k p' ≡ 0)
-      → Grows l held Free None 0 (response answer (changed l (one_fewer mode) held) p')
+      → Grows l held Free None 0 (response answer (changed_on l (one_fewer mode) held) p')
   one_gone l ModeS p' answer has no_s sx x one away = absurd (no_s refl)
   one_gone l ModeSx p' answer has no_s sx x one away =
       let b = held_by_grant l (λ h. h.sx + h.x) held has in let s = proper.single l in
@@ -187,7 +188,7 @@ module _ (held : List Holding) (proper : IsProper (with_phase Free held)) (w : �
       choose (λ (r : Response). Grows l held Free None 0 r) (nat_lt 0 (sx_grants l (with_phase Free held))) _ _
       (λ has.
       let sx = some_by (sx_grants l (with_phase Free held)) has in let f = look_or_free l (claims l (with_phase Free held) == 1) in
-      choose (λ (now : List Holding). Grows l held Free None 0 (response Released now (cond (claims l (with_phase Free held) == 1) (OwesLook l) Free))) (claims l (with_phase Free held) == 1) (without l held) (changed l (one_fewer ModeSx) held)
+      choose (λ (now : List Holding). Grows l held Free None 0 (response Released now (cond (claims l (with_phase Free held) == 1) (OwesLook l) Free))) (claims l (with_phase Free held) == 1) (without_latch l held) (changed_on l (one_fewer ModeSx) held)
       (λ _. gone l _ _ (omega arith) f.0 f.1)
       (λ _. one_gone l ModeSx _ _ (omega arith) (λ z. absurd (cc)) (λ _. sx) (λ z. absurd (cc)) f.0 f.1))
       (λ _. as_before l held Free None _)
@@ -198,7 +199,7 @@ module _ (held : List Holding) (proper : IsProper (with_phase Free held)) (w : �
       choose (λ (r : Response). Grows l held Free None 0 r) (nat_lt 0 (x_grants l (with_phase Free held))) _ _
       (λ has.
       let x = some_by (x_grants l (with_phase Free held)) has in let f = look_or_free l (x_grants l (with_phase Free held) == 1) in
-      choose (λ (now : List Holding). Grows l held Free None 0 (response Released now (cond (x_grants l (with_phase Free held) == 1) (OwesLook l) Free))) (claims l (with_phase Free held) == 1) (without l held) (changed l (one_fewer ModeX) held)
+      choose (λ (now : List Holding). Grows l held Free None 0 (response Released now (cond (x_grants l (with_phase Free held) == 1) (OwesLook l) Free))) (claims l (with_phase Free held) == 1) (without_latch l held) (changed_on l (one_fewer ModeX) held)
       (λ _. gone l _ _ (omega arith) f.0 f.1)
       (λ _. one_gone l ModeX _ _ (omega arith) (λ z. absurd (cc)) (λ z. absurd (cc)) (λ _. x) f.0 f.1))
       (λ _. as_before l held Free None _)

@@ -10,7 +10,7 @@ use Rattle.ib_levels.specs.declared.holding.Holding.{Holding}
 use Rattle.ib_levels.specs.declared.level.Mode.{Mode}
 use Rattle.ib_levels.specs.declared.level.Mode.TheVariants.{S, Sx, X}
 use Rattle.ib_levels.specs.Level.{IsOrderly}
-use Rattle.ib_levels.specs.Holding.{on, levels_of, changed, without}
+use Rattle.ib_levels.specs.Holding.{on, levels_of, changed_on, without_latch}
 use Rattle.ib_levels.proofs.Counts.{on-without, on-without_away, on-changed_away}
 use Rattle.ib_levels.proofs.Holdings.{levels_of-changed, orderly_without}
 use Rattle.ib_core.specs.declared.phase.Phase.{Phase}
@@ -77,42 +77,42 @@ module _ (m : ℕ → Marks) (ss : List Session) (i : ℕ) (l : ℕ) (a a' : Ses
       (λ o. inr (free_owes (owes_raise_ex l) refl o)) d
 
 module _ (m : ℕ → Marks) (ss : List Session) (i : ℕ) (held : List Holding) (l : ℕ) (good : IsGood ss m) (at : Stands ss i (with_phase Free held)) where
-  pub local_without : (p' : Phase) → is_elsewhere l p' ≡ false → IsLocal l (with_phase Free held) (with_phase p' (without l held))
+  pub local_without : (p' : Phase) → is_elsewhere l p' ≡ false → IsLocal l (with_phase Free held) (with_phase p' (without_latch l held))
   local_without p' after = record { before = refl; after = after; away = λ k n f. on-without_away l k f held n }
 
-  pub proper_without : (p' : Phase) → ProperOn l (with_phase p' (without l held))
+  pub proper_without : (p' : Phase) → ProperOn l (with_phase p' (without_latch l held))
   proper_without p' =
       let o = on-without l (λ h. 1) held in let r = on-without l (λ h. h.s) held in
       record { single = omega arith; solid = omega arith; once = omega arith; apart = λ z. absurd (omega arith) }
 
-  shrinks_without : (p' : Phase) → Shrinks l (with_phase Free held) (with_phase p' (without l held))
+  shrinks_without : (p' : Phase) → Shrinks l (with_phase Free held) (with_phase p' (without_latch l held))
   shrinks_without p' =
       let r = on-without l (λ h. h.s) held in let c = on-without l (λ h. h.sx + h.x) held in let x = on-without l (λ h. h.x) held in
-      record { fewer_reads = omega arith; fewer_claims = omega arith; fewer_owned = let z : owned l (with_phase p' (without l held)) ≤ x_grants l (with_phase p' (without l held)) = cond_le (is_next l p') (x_grants l (with_phase p' (without l held))) in omega arith }
+      record { fewer_reads = omega arith; fewer_claims = omega arith; fewer_owned = let z : owned l (with_phase p' (without_latch l held)) ≤ x_grants l (with_phase p' (without_latch l held)) = cond_le (is_next l p') (x_grants l (with_phase p' (without_latch l held))) in omega arith }
     where
       cond_le : (c : Bool) (n : ℕ) → cond c 0 n ≤ n
       cond_le true n = omega arith
       cond_le false n = omega arith
 
   -- S goes. Where a next writer's last reader is gone with it, the raise of the ex generation is owed
-  pub gives_s : (p' : Phase) → 0 < reads l (with_phase Free held) → is_elsewhere l p' ≡ false → Suits p' (with_phase p' (without l held)) → ((s : List Session) → Heard m s p')
-      → ((all_taken l (set ss i (with_phase p' (without l held))) ≡ X_LOCK_DECR) ⊎ (all_taken l (set ss i (with_phase p' (without l held))) ≡ X_LOCK_DECR + X_LOCK_HALF_DECR) → owes_raise_ex l p' ≡ true)
-      → IsGood (set ss i (with_phase p' (without l held))) m
+  pub gives_s : (p' : Phase) → 0 < reads l (with_phase Free held) → is_elsewhere l p' ≡ false → Suits p' (with_phase p' (without_latch l held)) → ((s : List Session) → Heard m s p')
+      → ((all_taken l (set ss i (with_phase p' (without_latch l held))) ≡ X_LOCK_DECR) ⊎ (all_taken l (set ss i (with_phase p' (without_latch l held))) ≡ X_LOCK_DECR + X_LOCK_HALF_DECR) → owes_raise_ex l p' ≡ true)
+      → IsGood (set ss i (with_phase p' (without_latch l held))) m
   gives_s p' has after suits own owes =
-      let a : Session = with_phase Free held in let a' : Session = with_phase p' (without l held) in
+      let a : Session = with_phase Free held in let a' : Session = with_phase p' (without_latch l held) in
       let none = (good.proper i a at).apart l has in
       shrunk m ss i l a a' good at refl (local_without p' after) (proper_without p') (orderly_without l held (good.proper i a at).orderly) suits (shrinks_without p')
       (λ mode. inl (nothing mode none)) (own (set ss i a'))
       (λ j c e n one _ _. signal j c e n one)
     where
-      nothing : (mode : Mode) → claims l (with_phase Free held) ≡ 0 → against mode l (with_phase Free held) ≤ against mode l (with_phase p' (without l held))
+      nothing : (mode : Mode) → claims l (with_phase Free held) ≡ 0 → against mode l (with_phase Free held) ≤ against mode l (with_phase p' (without_latch l held))
       nothing S none = let c = counted l (with_phase Free held) ((good.proper i (with_phase Free held) at).single l) in omega arith
       nothing Sx none = omega arith
       nothing X none = omega arith
 
-      signal : (j : ℕ) (c : Session) → Stands ss j c → i ≢ j → x_grants l c ≡ 1 → Rattle.ib_core.specs.Good.MustDrain l (set ss i (with_phase p' (without l held)))
+      signal : (j : ℕ) (c : Session) → Stands ss j c → i ≢ j → x_grants l c ≡ 1 → Rattle.ib_core.specs.Good.MustDrain l (set ss i (with_phase p' (without_latch l held)))
       signal j c e n one =
-          let a : Session = with_phase Free held in let a' : Session = with_phase p' (without l held) in let ss' : List Session = set ss i a' in
+          let a : Session = with_phase Free held in let a' : Session = with_phase p' (without_latch l held) in let ss' : List Session = set ss i a' in
           let proper = good.proper j c e in let k = counted l c (proper.single l) in
           let e' : Stands ss' j c = set_else ss i j a' n ∙ e in
           dite (ℕ_discrete (readers_of l ss') 0)
@@ -128,18 +128,18 @@ module _ (m : ℕ → Marks) (ss : List Session) (i : ℕ) (held : List Holding)
           inr (owed_now (owes_raise_ex l) ss i a a' at (owes both)))
           (λ some. inl (omega arith))
         where
-          pairs : (a' : Session) → (j k : ℕ) (b c : Session) → Stands (set ss i (with_phase p' (without l held))) j b → Stands (set ss i (with_phase p' (without l held))) k c → j ≢ k → 0 < claims l b → claims l c ≡ 0
+          pairs : (a' : Session) → (j k : ℕ) (b c : Session) → Stands (set ss i (with_phase p' (without_latch l held))) j b → Stands (set ss i (with_phase p' (without_latch l held))) k c → j ≢ k → 0 < claims l b → claims l c ≡ 0
           pairs a' j k b c d e n has' =
-              at_set (λ j b. j ≢ k → 0 < claims l b → claims l c ≡ 0) ss i (with_phase p' (without l held))
+              at_set (λ j b. j ≢ k → 0 < claims l b → claims l c ≡ 0) ss i (with_phase p' (without_latch l held))
               (λ _ z. let y = on-without l (λ h. h.sx + h.x) held in absurd (omega arith))
-              (λ j b d' _ n' z. at_set (λ k c. j ≢ k → claims l c ≡ 0) ss i (with_phase p' (without l held)) (λ _. on-without l (λ h. h.sx + h.x) held)
+              (λ j b d' _ n' z. at_set (λ k c. j ≢ k → claims l c ≡ 0) ss i (with_phase p' (without_latch l held)) (λ _. on-without l (λ h. h.sx + h.x) held)
               (λ k c e' _ n''. (good.beside j k b c d' e' n'' l).one_claim z) k c e n')
               j b d n has'
 
   -- the last grant of SX or X goes
-  pub gives_last : 0 < claims l (with_phase Free held) → IsGood (set ss i (with_phase (OwesLook l) (without l held))) m
+  pub gives_last : 0 < claims l (with_phase Free held) → IsGood (set ss i (with_phase (OwesLook l) (without_latch l held))) m
   gives_last has =
-      let a : Session = with_phase Free held in let a' : Session = with_phase (OwesLook l) (without l held) in
+      let a : Session = with_phase Free held in let a' : Session = with_phase (OwesLook l) (without_latch l held) in
       let unread = reads_none l a (good.proper i a at) has in
       shrunk m ss i l a a' good at refl (local_without (OwesLook l) (at_itself l)) (proper_without (OwesLook l)) (orderly_without l held (good.proper i a at).orderly) tt (shrinks_without (OwesLook l))
       (λ mode. inr (inr (eq-eqb l l refl))) tt (λ j c e n one. drains_unread m ss i l a a' good at refl unread)
@@ -150,15 +150,15 @@ module _ (m : ℕ → Marks) (ss : List Session) (i : ℕ) (held : List Holding)
   one_fewer-level Sx h = refl
   one_fewer-level X h = refl
 
-  fewer : (mode : Mode) (p' : Phase) → 1 < claims l (with_phase Free held) → is_elsewhere l p' ≡ false → Suits p' (with_phase p' (changed l (one_fewer mode) held)) → ((s : List Session) → Heard m s p')
-      → on l (λ h. 1) (changed l (one_fewer mode) held) ≡ on l (λ h. 1) held → on l (λ h. h.s) (changed l (one_fewer mode) held) ≡ on l (λ h. h.s) held
-      → on l (λ h. h.sx + h.x) (changed l (one_fewer mode) held) + 1 ≡ on l (λ h. h.sx + h.x) held
-      → on l (λ h. h.s + h.sx + h.x) (changed l (one_fewer mode) held) + 1 ≡ on l (λ h. h.s + h.sx + h.x) held
-      → owned l (with_phase p' (changed l (one_fewer mode) held)) ≤ x_grants l (with_phase Free held)
-      → ((x_grants l (with_phase Free held) ≤ x_grants l (with_phase p' (changed l (one_fewer mode) held))) ⊎ ((0 < x_grants l (with_phase p' (changed l (one_fewer mode) held))) ⊎ (owes_signal l p' ≡ true)))
-      → IsGood (set ss i (with_phase p' (changed l (one_fewer mode) held))) m
+  fewer : (mode : Mode) (p' : Phase) → 1 < claims l (with_phase Free held) → is_elsewhere l p' ≡ false → Suits p' (with_phase p' (changed_on l (one_fewer mode) held)) → ((s : List Session) → Heard m s p')
+      → on l (λ h. 1) (changed_on l (one_fewer mode) held) ≡ on l (λ h. 1) held → on l (λ h. h.s) (changed_on l (one_fewer mode) held) ≡ on l (λ h. h.s) held
+      → on l (λ h. h.sx + h.x) (changed_on l (one_fewer mode) held) + 1 ≡ on l (λ h. h.sx + h.x) held
+      → on l (λ h. h.s + h.sx + h.x) (changed_on l (one_fewer mode) held) + 1 ≡ on l (λ h. h.s + h.sx + h.x) held
+      → owned l (with_phase p' (changed_on l (one_fewer mode) held)) ≤ x_grants l (with_phase Free held)
+      → ((x_grants l (with_phase Free held) ≤ x_grants l (with_phase p' (changed_on l (one_fewer mode) held))) ⊎ ((0 < x_grants l (with_phase p' (changed_on l (one_fewer mode) held))) ⊎ (owes_signal l p' ≡ true)))
+      → IsGood (set ss i (with_phase p' (changed_on l (one_fewer mode) held))) m
   fewer mode p' several after suits own places read claimed granted owns x =
-      let a : Session = with_phase Free held in let a' : Session = with_phase p' (changed l (one_fewer mode) held) in
+      let a : Session = with_phase Free held in let a' : Session = with_phase p' (changed_on l (one_fewer mode) held) in
       let proper = good.proper i a at in let unread = reads_none l a proper (omega arith) in let single = proper.single l in
       let c = counted l a single in
       shrunk m ss i l a a' good at refl record { before = refl; after = after; away = λ k n f. on-changed_away l k (one_fewer mode) f held (one_fewer-latch mode) n }
@@ -167,13 +167,13 @@ module _ (m : ℕ → Marks) (ss : List Session) (i : ℕ) (held : List Holding)
       suits record { fewer_reads = omega arith; fewer_claims = omega arith; fewer_owned = owns }
       (keeps claimed several) (own (set ss i a')) (λ j c e n one. drains_unread m ss i l a a' good at refl unread)
     where
-      keeps : on l (λ h. h.sx + h.x) (changed l (one_fewer mode) held) + 1 ≡ on l (λ h. h.sx + h.x) held → 1 < claims l (with_phase Free held)
-          → (mode' : Mode) → (against mode' l (with_phase Free held) ≤ against mode' l (with_phase p' (changed l (one_fewer mode) held))) ⊎ ((0 < against mode' l (with_phase p' (changed l (one_fewer mode) held))) ⊎ (owes_signal l p' ≡ true))
+      keeps : on l (λ h. h.sx + h.x) (changed_on l (one_fewer mode) held) + 1 ≡ on l (λ h. h.sx + h.x) held → 1 < claims l (with_phase Free held)
+          → (mode' : Mode) → (against mode' l (with_phase Free held) ≤ against mode' l (with_phase p' (changed_on l (one_fewer mode) held))) ⊎ ((0 < against mode' l (with_phase p' (changed_on l (one_fewer mode) held))) ⊎ (owes_signal l p' ≡ true))
       keeps claimed several S = x
       keeps claimed several Sx = inr (inl (omega arith))
       keeps claimed several X = inr (inl (omega arith))
 
-  pub gives_one_sx : 0 < sx_grants l (with_phase Free held) → 1 < claims l (with_phase Free held) → IsGood (set ss i (with_phase Free (changed l (one_fewer Sx) held))) m
+  pub gives_one_sx : 0 < sx_grants l (with_phase Free held) → 1 < claims l (with_phase Free held) → IsGood (set ss i (with_phase Free (changed_on l (one_fewer Sx) held))) m
   gives_one_sx has several =
       let single = (good.proper i (with_phase Free held) at).single l in let p = held_by_grant l (λ h. h.sx + h.x) held (omega arith) in
       let k = counts_changed l (one_fewer Sx) held (one_fewer-latch Sx) (omega arith) in
@@ -184,7 +184,7 @@ module _ (m : ℕ → Marks) (ss : List Session) (i : ℕ) (held : List Holding)
   -- an X goes that is not the last grant: with the last X a look is owed
   pub gives_one_x : 0 < x_grants l (with_phase Free held) → 1 < claims l (with_phase Free held)
       → (p' : Phase) → ((x_grants l (with_phase Free held) ≡ 1) × (p' ≡ OwesLook l)) ⊎ ((1 < x_grants l (with_phase Free held)) × (p' ≡ Free))
-      → IsGood (set ss i (with_phase p' (changed l (one_fewer X) held))) m
+      → IsGood (set ss i (with_phase p' (changed_on l (one_fewer X) held))) m
   gives_one_x has several p' cases =
       let single = (good.proper i (with_phase Free held) at).single l in let p = held_by_grant l (λ h. h.sx + h.x) held (omega arith) in
       let k = counts_changed l (one_fewer X) held (one_fewer-latch X) (omega arith) in
@@ -192,10 +192,10 @@ module _ (m : ℕ → Marks) (ss : List Session) (i : ℕ) (held : List Holding)
       let o' = k.2 (λ h. 1) in let r' = k.2 (λ h. h.s) in let c' = k.2 (λ h. h.sx + h.x) in let x' = k.2 (λ h. h.x) in let g' = k.2 (λ h. h.s + h.sx + h.x) in
       ⊎_elim
       (λ (z : (x_grants l (with_phase Free held) ≡ 1) × (p' ≡ OwesLook l)).
-      subst (λ p'. IsGood (set ss i (with_phase p' (changed l (one_fewer X) held))) m) (sym z.1)
+      subst (λ p'. IsGood (set ss i (with_phase p' (changed_on l (one_fewer X) held))) m) (sym z.1)
       (fewer X (OwesLook l) several (at_itself l) tt (λ s. tt) (omega arith) (omega arith) (omega arith) (omega arith) (omega arith) (inr (inr (eq-eqb l l refl)))))
       (λ (z : (1 < x_grants l (with_phase Free held)) × (p' ≡ Free)).
       let more = z.0 in
-      subst (λ p'. IsGood (set ss i (with_phase p' (changed l (one_fewer X) held))) m) (sym z.1)
+      subst (λ p'. IsGood (set ss i (with_phase p' (changed_on l (one_fewer X) held))) m) (sym z.1)
       (fewer X Free several refl tt (λ s. tt) (omega arith) (omega arith) (omega arith) (omega arith) (omega arith) (inr (inl (omega arith)))))
       cases

@@ -11,7 +11,7 @@ use Rattle.ib_levels.specs.declared.level.Mode.{Mode}
 use Rattle.ib_levels.specs.declared.level.Mode.TheVariants.{S as ModeS, Sx as ModeSx, X as ModeX}
 use Rattle.ib_levels.specs.Level.{MayTake, first_against}
 use Rattle.ib_levels.specs.Listed.{answer_to, refused_by}
-use Rattle.ib_levels.specs.Holding.{is_held, levels_of, changed, without}
+use Rattle.ib_levels.specs.Holding.{is_held, levels_of, changed_on, without_latch}
 use Rattle.ib_levels.proofs.Counts.{none_from_unheld, unheld_from_none, on-without, by_equal}
 use Rattle.ib_levels.proofs.Orderly.{may_from_none}
 use Rattle.ib_core.specs.declared.phase.Phase.{Phase}
@@ -20,7 +20,8 @@ use Rattle.ib_core.specs.declared.session.Session.{Session}
 use Rattle.ib_core.specs.declared.session.Marks.{Marks}
 use Rattle.ib_core.specs.Sessions.{Stands, HasFewReaders, word_on, all_taken, taken, holdings, reads, claims, x_grants, sx_grants}
 use Rattle.ib_core.specs.Takings.{first, is_given_at, upgrade, taking_s, taking_sx, taking_x, giving_s, giving_sx, giving_x, if_allowed, one_fewer, level_on}
-use Rattle.ib_core.specs.Responses.{Response, is_drained, is_above_0}
+use Rattle.ib_word.specs.Word.{is_drained}
+use Rattle.ib_core.specs.Responses.{Response, is_above_0}
 use Rattle.ib_core.specs.Table.{arming}
 use Rattle.ib_core.specs.Good.{IsProper, IsGood}
 use Rattle.ib_core.proofs.Places.{sum_at, one_of, set_again}
@@ -141,27 +142,27 @@ module _ (m : ℕ → Marks) (ss : List Session) (i : ℕ) (held : List Holding)
         (λ reads'. let has = some_by (reads l (with_phase Free held)) reads' in by_word has (is_drained (word_on l ss +ℤ pos 1)) refl)
         (λ _. unchanged)
       where
-        gone : (p' : Phase) → 0 < reads l (with_phase Free held) → all_taken l (set ss i (with_phase p' (without l held))) + 1 ≡ all_taken l ss
+        gone : (p' : Phase) → 0 < reads l (with_phase Free held) → all_taken l (set ss i (with_phase p' (without_latch l held))) + 1 ≡ all_taken l ss
         gone p' has =
-            let t = sum_at (taken l) ss i (with_phase Free held) (with_phase p' (without l held)) at in
+            let t = sum_at (taken l) ss i (with_phase Free held) (with_phase p' (without_latch l held)) at in
             let z = on-without l (λ h. weight h.s h.sx h.x) held in let r = read_weighs l (with_phase Free held) proper has in omega arith
 
         -- the word that the release leaves
-        left : (p' : Phase) → 0 < reads l (with_phase Free held) → (word_on l ss +ℤ pos 1) ≡ word_on l (set ss i (with_phase p' (without l held)))
+        left : (p' : Phase) → 0 < reads l (with_phase Free held) → (word_on l ss +ℤ pos 1) ≡ word_on l (set ss i (with_phase p' (without_latch l held)))
         left p' has = let g = gone p' has in omega (arith, ints)
 
         by_word : 0 < reads l (with_phase Free held) → (b : Bool) → is_drained (word_on l ss +ℤ pos 1) ≡ b
-            → IsGood (set ss i (with_phase (cond b (OwesRaiseEx l) Free) (without l held))) m
+            → IsGood (set ss i (with_phase (cond b (OwesRaiseEx l) Free) (without_latch l held))) m
         by_word has true is = gives_s m ss i held l good at (OwesRaiseEx l) has (at_itself l) tt (λ s. tt) (λ _. eq-eqb l l refl)
         by_word has false is = gives_s m ss i held l good at Free has refl tt (λ s. tt)
-            (λ whole. absurd (not_drained (all_taken l (set ss i (with_phase Free (without l held)))) (sym (ap is_drained (left Free has)) ∙ is) whole))
+            (λ whole. absurd (not_drained (all_taken l (set ss i (with_phase Free (without_latch l held)))) (sym (ap is_drained (left Free has)) ∙ is) whole))
 
     pub usx_kept : (l : ℕ) → IsGood (set ss i (giving_sx l (with_phase Free held)).session) m
     usx_kept l =
         let a : Session = with_phase Free held in let c = counted l a (proper.single l) in
         choose (λ (r : Response). IsGood (set ss i r.session) m) (nat_lt 0 (sx_grants l a)) _ _
         (λ sx. let has = some_by (sx_grants l a) sx in
-        by_equal (λ b. IsGood (set ss i (with_phase (cond b (OwesLook l) Free) (cond b (without l held) (changed l (one_fewer ModeSx) held)))) m) (claims l a) 1
+        by_equal (λ b. IsGood (set ss i (with_phase (cond b (OwesLook l) Free) (cond b (without_latch l held) (changed_on l (one_fewer ModeSx) held)))) m) (claims l a) 1
         (λ last. gives_last m ss i held l good at (omega arith))
         (λ n. gives_one_sx m ss i held l good at has (omega arith)))
         (λ _. unchanged)
@@ -171,8 +172,8 @@ module _ (m : ℕ → Marks) (ss : List Session) (i : ℕ) (held : List Holding)
         let a : Session = with_phase Free held in let c = counted l a (proper.single l) in
         choose (λ (r : Response). IsGood (set ss i r.session) m) (nat_lt 0 (x_grants l a)) _ _
         (λ x. let has = some_by (x_grants l a) x in
-        by_equal (λ b. IsGood (set ss i (with_phase (cond (x_grants l a == 1) (OwesLook l) Free) (cond b (without l held) (changed l (one_fewer ModeX) held)))) m) (claims l a) 1
-        (λ last. by_equal (λ b. IsGood (set ss i (with_phase (cond b (OwesLook l) Free) (without l held))) m) (x_grants l a) 1
+        by_equal (λ b. IsGood (set ss i (with_phase (cond (x_grants l a == 1) (OwesLook l) Free) (cond b (without_latch l held) (changed_on l (one_fewer ModeX) held)))) m) (claims l a) 1
+        (λ last. by_equal (λ b. IsGood (set ss i (with_phase (cond b (OwesLook l) Free) (without_latch l held))) m) (x_grants l a) 1
         (λ _. gives_last m ss i held l good at (omega arith))
         (λ n. absurd (n (omega arith))))
         (λ n. gives_one_x m ss i held l good at has (omega arith) (cond (x_grants l a == 1) (OwesLook l) Free)

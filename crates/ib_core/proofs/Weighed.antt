@@ -7,7 +7,7 @@ use Rattle.ib_levels.specs.declared.level.Level.{Level}
 use Rattle.ib_levels.specs.declared.level.Mode.{Mode}
 use Rattle.ib_levels.specs.declared.level.Mode.TheVariants.{S, Sx, X}
 use Rattle.ib_levels.specs.declared.holding.Holding.{Holding}
-use Rattle.ib_levels.specs.Holding.{on, changed, without}
+use Rattle.ib_levels.specs.Holding.{on, changed_on, without_latch}
 use Rattle.ib_levels.proofs.Counts.{on-push_here, on-without}
 use Rattle.ib_core.specs.declared.phase.Phase.{Phase}
 use Rattle.ib_core.specs.declared.phase.Phase.TheVariants.{Free, Flagged, Checked, Next, NextArmed}
@@ -19,7 +19,8 @@ use Rattle.ib_core.specs.declared.session.Marks.{Marks}
 use Rattle.ib_core.specs.Sessions.{reads, claims, sx_grants, x_grants, taken}
 use Rattle.ib_core.specs.Good.{IsProper}
 use Rattle.ib_core.specs.Holders.{CanWish}
-use Rattle.ib_core.specs.Responses.{Response, response, is_above_0, is_drained, is_elsewhere}
+use Rattle.ib_word.specs.Word.{is_drained}
+use Rattle.ib_core.specs.Responses.{Response, response, is_above_0, is_elsewhere}
 use Rattle.ib_core.specs.Takings.{first, first_holding, first_weight, given_back, holding_too, is_given_at, level_on, one_more, owed_by_s, owed_where, reserving, wish}
 use Rattle.ib_core.specs.Table.{owns_x_at, response_of, row_of}
 use Rattle.ib_core.specs.Member.{TakesMore}
@@ -80,7 +81,7 @@ module _ (w : ℤ) (m : Marks) (l : ℕ) (a : Session) where
     pub upgrade_weighs : (v : Level) → 0 < sx_grants l a → x_grants l a ≡ 0 → is_above_0 w ≡ true → TakesMore l X_LOCK_DECR (response_of w m (wish X l v) a).session a
     upgrade_weighs v has no_x up =
         in_free (wish X l v) _ (x_upgrade l a.held w as_free v has no_x up)
-        ∙ (reserving_taken l (level_on l v a.held) (w -ℤ pos X_LOCK_DECR) (changed l (one_more X) a.held) ∙ upgrade_taken l a (proper.single l) has no_x)
+        ∙ (reserving_taken l (level_on l v a.held) (w -ℤ pos X_LOCK_DECR) (changed_on l (one_more X) a.held) ∙ upgrade_taken l a (proper.single l) has no_x)
 
     pub further_x_weighs : (v : Level) (k : ℕ) → 0 < x_grants l a → x_weight (x_grants l a + 1) ≡ x_weight (x_grants l a) + k → TakesMore l k (response_of w m (wish X l v) a).session a
     further_x_weighs v k has is =
@@ -99,7 +100,7 @@ module _ (w : ℤ) (m : Marks) (l : ℕ) (a : Session) where
 
     pub s_back_weighs : 0 < reads l a → TakesMore l 1 a (response_of w m (Us l) a).session
     s_back_weighs has =
-        let t = in_free (Us l) (response Released (without l a.held) (owed_by_s l (w +ℤ pos 1))) (if_true (nat_lt 0 (reads l a)) _ _ (lt_some _ has)) in
+        let t = in_free (Us l) (response Released (without_latch l a.held) (owed_by_s l (w +ℤ pos 1))) (if_true (nat_lt 0 (reads l a)) _ _ (lt_some _ has)) in
         let z = on-without l weighs a.held in let r = read_weighs l a proper has in omega arith
 
     sx_given : 0 < sx_grants l a → taken l (response_of w m (Usx l) a).session ≡ on l weighs (given_back Sx l a)

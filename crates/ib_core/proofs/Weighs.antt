@@ -11,7 +11,7 @@ use mathlib.Core.Logic.{dite}
 use native.Mathlib.Decide.{ℕ_discrete}
 use Rattle.ib_levels.specs.declared.level.Mode.TheVariants.{Sx, X}
 use Rattle.ib_levels.specs.declared.holding.Holding.{Holding}
-use Rattle.ib_levels.specs.Holding.{on, without, changed}
+use Rattle.ib_levels.specs.Holding.{on, without_latch, changed_on}
 use Rattle.ib_levels.proofs.Counts.{on-without, by_equal}
 use Rattle.ib_core.specs.Takings.{given_back, one_fewer, one_more}
 use Rattle.ib_core.proofs.OnLatch.{counted, weighs, more_x_taken, more_sx_taken, fewer_x_taken, fewer_sx_taken}
@@ -30,14 +30,14 @@ reads_none l a proper has = let p = proper.apart l in let one = proper.once l in
 pub back_x_taken : (l : ℕ) (a : Session) → IsProper a → 0 < x_grants l a → on l weighs (given_back X l a) + x_weight (x_grants l a) ≡ taken l a + x_weight (x_grants l a - 1)
 back_x_taken l a proper has =
     let c = counted l a (proper.single l) in let none = reads_none l a proper (omega arith) in
-    by_equal (λ b. on l weighs (cond b (without l a.held) (changed l (one_fewer X) a.held)) + x_weight (x_grants l a) ≡ taken l a + x_weight (x_grants l a - 1)) (claims l a) 1
+    by_equal (λ b. on l weighs (cond b (without_latch l a.held) (changed_on l (one_fewer X) a.held)) + x_weight (x_grants l a) ≡ taken l a + x_weight (x_grants l a - 1)) (claims l a) 1
     (λ last. let gone = on-without l weighs a.held in let p = sx_weight_cases (sx_grants l a) in let q = x_weight_cases (x_grants l a - 1) in grind arith)
     (λ _. let f = fewer_x_taken l a (proper.single l) (omega arith) in omega arith)
 
 pub back_sx_taken : (l : ℕ) (a : Session) → IsProper a → 0 < sx_grants l a → on l weighs (given_back Sx l a) + sx_weight (sx_grants l a) ≡ taken l a + sx_weight (sx_grants l a - 1)
 back_sx_taken l a proper has =
     let c = counted l a (proper.single l) in let none = reads_none l a proper (omega arith) in
-    by_equal (λ b. on l weighs (cond b (without l a.held) (changed l (one_fewer Sx) a.held)) + sx_weight (sx_grants l a) ≡ taken l a + sx_weight (sx_grants l a - 1)) (claims l a) 1
+    by_equal (λ b. on l weighs (cond b (without_latch l a.held) (changed_on l (one_fewer Sx) a.held)) + sx_weight (sx_grants l a) ≡ taken l a + sx_weight (sx_grants l a - 1)) (claims l a) 1
     (λ last. let gone = on-without l weighs a.held in let p = sx_weight_cases (sx_grants l a - 1) in let q = x_weight_cases (x_grants l a) in grind arith)
     (λ _. let f = fewer_sx_taken l a (proper.single l) (omega arith) in omega arith)
 
@@ -49,16 +49,16 @@ pub back_more_sx_taken : (l : ℕ) (a : Session) → IsProper a → 1 < sx_grant
 back_more_sx_taken l a proper more = let b = back_sx_taken l a proper (omega arith) in let p = sx_weight_cases (sx_grants l a) in let q = sx_weight_cases (sx_grants l a - 1) in grind arith
 
 -- a further SX of the owner of X takes HALF off where it is the first, and else nothing
-pub first_sx_taken : (l : ℕ) (a : Session) → holdings l a ≤ 1 → 0 < claims l a → sx_grants l a ≡ 0 → on l weighs (changed l (one_more Sx) a.held) ≡ taken l a + X_LOCK_HALF_DECR
+pub first_sx_taken : (l : ℕ) (a : Session) → holdings l a ≤ 1 → 0 < claims l a → sx_grants l a ≡ 0 → on l weighs (changed_on l (one_more Sx) a.held) ≡ taken l a + X_LOCK_HALF_DECR
 first_sx_taken l a single has none =
     let b = more_sx_taken l a single has in let c = counted l a single in let p = sx_weight_cases (sx_grants l a) in let q = sx_weight_cases (sx_grants l a + 1) in grind arith
 
-pub further_sx_taken : (l : ℕ) (a : Session) → holdings l a ≤ 1 → 0 < claims l a → 0 < sx_grants l a → on l weighs (changed l (one_more Sx) a.held) ≡ taken l a
+pub further_sx_taken : (l : ℕ) (a : Session) → holdings l a ≤ 1 → 0 < claims l a → 0 < sx_grants l a → on l weighs (changed_on l (one_more Sx) a.held) ≡ taken l a
 further_sx_taken l a single has some =
     let b = more_sx_taken l a single has in let c = counted l a single in let p = sx_weight_cases (sx_grants l a) in let q = sx_weight_cases (sx_grants l a + 1) in grind arith
 
 -- a first X beside SX takes X_LOCK_DECR off
-pub upgrade_taken : (l : ℕ) (a : Session) → holdings l a ≤ 1 → 0 < sx_grants l a → x_grants l a ≡ 0 → on l weighs (changed l (one_more X) a.held) ≡ taken l a + X_LOCK_DECR
+pub upgrade_taken : (l : ℕ) (a : Session) → holdings l a ≤ 1 → 0 < sx_grants l a → x_grants l a ≡ 0 → on l weighs (changed_on l (one_more X) a.held) ≡ taken l a + X_LOCK_DECR
 upgrade_taken l a single has none =
     let c = counted l a single in let b = more_x_taken l a single (omega arith) in let p = x_weight_cases (x_grants l a) in let q = x_weight_cases (x_grants l a + 1) in grind arith
 

@@ -9,7 +9,7 @@ use Rattle.ib_levels.specs.declared.level.Level.{Level}
 use Rattle.ib_levels.specs.declared.level.Mode.{Mode}
 use Rattle.ib_levels.specs.declared.level.Mode.TheVariants.{S, Sx, X}
 use Rattle.ib_levels.specs.declared.holding.Holding.{Holding}
-use Rattle.ib_levels.specs.Holding.{changed}
+use Rattle.ib_levels.specs.Holding.{changed_on}
 use Rattle.ib_core.specs.declared.phase.Phase.TheVariants.{Free}
 use Rattle.ib_core.specs.declared.event.Answer.{Answer}
 use Rattle.ib_core.specs.declared.event.Answer.TheVariants.{Granted, Busy}
@@ -18,7 +18,8 @@ use Rattle.ib_core.specs.declared.session.Marks.{Marks}
 use Rattle.ib_core.specs.Sessions.{Stands, is_next, claims, sx_grants, x_grants, owned, all_taken, word_on, readers_of}
 use Rattle.ib_core.specs.Good.{IsProper, IsGood}
 use Rattle.ib_core.specs.Holders.{CanWish, IsFreeOfX, IsFreeOfClaims, IsGrantable, IsTaken, OwnsSx, OwnsX}
-use Rattle.ib_core.specs.Responses.{Response, is_above_0, is_drained}
+use Rattle.ib_word.specs.Word.{is_drained}
+use Rattle.ib_core.specs.Responses.{Response, is_above_0}
 use Rattle.ib_core.specs.Takings.{first, first_response, first_weight, holding_too, is_given_at, level_on, one_more, reserving, wish}
 use Rattle.ib_core.specs.Table.{response_of}
 use Rattle.ib_core.proofs.Grown.{owned_le}
@@ -141,5 +142,5 @@ module _ (m : ℕ → Marks) (ss : List Session) (good : IsGood ss m) (l : ℕ) 
         (dite (ℕ_discrete (x_grants l a) 0)
         (λ no_x.
         let has : 0 < sx_grants l a = omega arith in
-        subst (λ (r : Response). IsTaken r.answer) (sym (x_upgrade l a.held (word_on l ss) proper v has no_x (up few has no_x))) (reserving_taken l (level_on l v a.held) (word_on l ss -ℤ pos X_LOCK_DECR) (changed l (one_more X) a.held)))
+        subst (λ (r : Response). IsTaken r.answer) (sym (x_upgrade l a.held (word_on l ss) proper v has no_x (up few has no_x))) (reserving_taken l (level_on l v a.held) (word_on l ss -ℤ pos X_LOCK_DECR) (changed_on l (one_more X) a.held)))
         (λ n. subst (λ (r : Response). IsTaken r.answer) (sym (x_further l a.held (word_on l ss) proper v (omega arith))) (inl refl)))

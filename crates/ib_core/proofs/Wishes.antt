@@ -8,7 +8,7 @@ use Rattle.ib_levels.specs.declared.level.Mode.TheVariants.{S, Sx, X}
 use Rattle.ib_levels.specs.declared.holding.Holding.{Holding}
 use Rattle.ib_levels.specs.Listed.{answer_to, refused_by}
 use Rattle.ib_levels.specs.Level.{MayTake}
-use Rattle.ib_levels.specs.Holding.{on, is_held, levels_of, changed}
+use Rattle.ib_levels.specs.Holding.{on, is_held, levels_of, changed_on}
 use Rattle.ib_levels.proofs.Counts.{unheld_from_none, none_from_unheld, on-none}
 use Rattle.ib_levels.proofs.Orderly.{none_from_may}
 use Rattle.ib_core.specs.declared.phase.Phase.TheVariants.{Free}
@@ -78,16 +78,16 @@ module _ (l : ℕ) (held : List Holding) (w : ℤ) where
     held_by has = held_by_grant l (λ h. h.sx + h.x) held has
 
     -- a further SX, a further X, and X beside SX
-    pub sx_further : (v : Level) → 0 < claims l (with_phase Free held) → taking_sx l v w (with_phase Free held) ≡ response Granted (changed l (one_more Sx) held) Free
+    pub sx_further : (v : Level) → 0 < claims l (with_phase Free held) → taking_sx l v w (with_phase Free held) ≡ response Granted (changed_on l (one_more Sx) held) Free
     sx_further v has = if_false (nat_lt 0 (reads l (with_phase Free held))) _ _ (unread has) ∙ (allowed_held l v (with_phase Free held) _ (held_by has) ∙ if_true (nat_lt 0 (claims l (with_phase Free held))) _ _ (lt_some _ has))
 
-    pub x_further : (v : Level) → 0 < x_grants l (with_phase Free held) → taking_x l v w (with_phase Free held) ≡ response Granted (changed l (one_more X) held) Free
+    pub x_further : (v : Level) → 0 < x_grants l (with_phase Free held) → taking_x l v w (with_phase Free held) ≡ response Granted (changed_on l (one_more X) held) Free
     x_further v has =
         let c = counted l (with_phase Free held) (proper.single l) in let claim : 0 < claims l (with_phase Free held) = omega arith in
         if_false (nat_lt 0 (reads l (with_phase Free held))) _ _ (unread claim) ∙ (allowed_held l v (with_phase Free held) _ (held_by claim) ∙ if_true (nat_lt 0 (x_grants l (with_phase Free held))) _ _ (lt_some _ has))
 
     pub x_upgrade : (v : Level) → 0 < sx_grants l (with_phase Free held) → x_grants l (with_phase Free held) ≡ 0 → is_above_0 w ≡ true
-        → taking_x l v w (with_phase Free held) ≡ reserving l (level_on l v held) (w -ℤ pos X_LOCK_DECR) (changed l (one_more X) held)
+        → taking_x l v w (with_phase Free held) ≡ reserving l (level_on l v held) (w -ℤ pos X_LOCK_DECR) (changed_on l (one_more X) held)
     x_upgrade v has no_x up =
         let c = counted l (with_phase Free held) (proper.single l) in let claim : 0 < claims l (with_phase Free held) = omega arith in
         if_false (nat_lt 0 (reads l (with_phase Free held))) _ _ (unread claim) ∙ (allowed_held l v (with_phase Free held) _ (held_by claim) ∙

@@ -5,8 +5,8 @@ use Rattle.std.specs.Ordering.{int_eq}
 use Rattle.std.proofs.lemmas.Int.{ints}
 use Rattle.std.proofs.lemmas.Bool.Decides.{nat_tests}
 use Rattle.ib_word.specs.declared.word.TheConstants.{X_LOCK_DECR, X_LOCK_HALF_DECR}
-use Rattle.ib_word.specs.Word.{word_less}
-use Rattle.ib_core.specs.Responses.{is_above_0, is_above_half, is_drained}
+use Rattle.ib_word.specs.Word.{word_less, is_drained}
+use Rattle.ib_core.specs.Responses.{is_above_0, is_above_half}
 use Rattle.ib_core.specs.Table.{owns_x_at}
 use Rattle.ib_word.specs.Weight.{sx_weight}
 

@@ -12,13 +12,13 @@ use Rattle.ib_core.specs.declared.phase.Phase.TheVariants.{Free}
 use Rattle.ib_core.specs.Holders.{IsTaken}
 use Rattle.ib_core.specs.Responses.{latch_of}
 use Rattle.ib_core.specs.Sessions.{HasFewReaders, idle, reads}
-use Rattle.ib_core.specs.Machine.{CoreState, IsGoodState, fresh, opening, outcome_of}
+use Rattle.ib_core.specs.Machine.{CoreState, IsGoodState, fresh, opening_state, outcome_of}
 use Rattle.ib_core.proofs.Places.{all_zero}
 use Rattle.ib_core.proofs.Opened.{at_replicate}
 use Rattle.ib_core.proofs.InWords.{event_kept, opening_good}
 
 abbrev pub many_sessions : CoreState
-many_sessions = opening 2000 1
+many_sessions = opening_state 2000 1
 
 -- a bound on the number of sessions would leave this state out ..
 pub beyond_a_machine : ¬ (length many_sessions.sessions ≤ MOST_SESSIONS)

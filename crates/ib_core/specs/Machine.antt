@@ -33,8 +33,8 @@ abbrev pub marks_at : List Marks → ℕ → Marks
 marks_at marks l = slice_index_or marks l fresh
 
 -- all latches are free, and nobody holds or waits
-abbrev pub opening : ℕ → ℕ → CoreState
-opening sessions latches = record {
+abbrev pub opening_state : ℕ → ℕ → CoreState
+opening_state sessions latches = record {
   sessions = replicate sessions idle;
   marks = replicate latches fresh;
 }

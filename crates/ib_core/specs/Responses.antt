@@ -1,6 +1,5 @@
 -- What an event comes to, which latch it is about, and the tests of the word that it finds.
-use Rattle.std.specs.Prelude.{ℕ, Bool, false, ◌==◌, ◌||◌, not, List, ℤ, pos, neg_ℤ, int_lt}
-use Rattle.std.specs.Ordering.{int_eq}
+use Rattle.std.specs.Prelude.{ℕ, Bool, false, ◌==◌, not, List, ℤ, pos, int_lt}
 use Rattle.ib_word.specs.declared.word.TheConstants.{X_LOCK_HALF_DECR}
 use Rattle.ib_levels.specs.declared.holding.Holding.{Holding}
 use Rattle.ib_core.specs.declared.phase.Phase.{Phase}
@@ -72,12 +71,9 @@ is_elsewhere l (OwesClear k) = not (k == l)
 is_elsewhere l (OwesRaise k) = not (k == l)
 is_elsewhere l (OwesRaiseEx k) = not (k == l)
 
--- the word is above 0, above HALF, or one at which a next writer owns X: 0 or minus HALF
+-- the word is above 0, or above HALF
 abbrev pub is_above_0 : ℤ → Bool
 is_above_0 w = int_lt (pos 0) w
 
 abbrev pub is_above_half : ℤ → Bool
 is_above_half w = int_lt (pos X_LOCK_HALF_DECR) w
-
-abbrev pub is_drained : ℤ → Bool
-is_drained w = int_eq w (pos 0) || int_eq w (neg_ℤ (pos X_LOCK_HALF_DECR))

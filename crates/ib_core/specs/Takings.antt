@@ -8,7 +8,7 @@ use Rattle.ib_levels.specs.declared.level.Mode.TheVariants.{S as ModeS, Sx as Mo
 use Rattle.ib_levels.specs.declared.listed.Against.{Against as LevelsAgainst}
 use Rattle.ib_levels.specs.declared.holding.Holding.{Holding}
 use Rattle.ib_levels.specs.Listed.{answer_to}
-use Rattle.ib_levels.specs.Holding.{hold, is_held, levels_of, without, changed}
+use Rattle.ib_levels.specs.Holding.{hold, is_held, levels_of, without_latch, changed_on}
 use Rattle.ib_core.specs.declared.phase.Phase.{Phase}
 use Rattle.ib_core.specs.declared.phase.Phase.TheVariants.{Free, Next, OwesLook, OwesRaiseEx}
 use Rattle.ib_core.specs.declared.event.Event.{Event}
@@ -17,7 +17,8 @@ use Rattle.ib_core.specs.declared.event.Answer.TheVariants.{Granted, Reserved, B
 use Rattle.ib_core.specs.declared.event.Refusal.TheVariants.{HeldAlready, NotHeld, Against}
 use Rattle.ib_core.specs.declared.session.Session.{Session}
 use Rattle.ib_core.specs.Sessions.{reads, sx_grants, x_grants, claims}
-use Rattle.ib_core.specs.Responses.{Response, response, refused, is_above_0, is_above_half, is_drained}
+use Rattle.ib_word.specs.Word.{is_drained}
+use Rattle.ib_core.specs.Responses.{Response, response, refused, is_above_0, is_above_half}
 
 -- the response where the order of levels allows it
 abbrev pub if_allowed : Result (Unit {0}) LevelsAgainst → Session → Response → Response
@@ -54,8 +55,8 @@ holding_too mode l v held = held ++ first_holding mode l v ∷ []
 -- what is held after a grant of SX or X went: nothing on the latch, where it was the last one
 abbrev pub given_back : Mode → ℕ → Session → List Holding
 given_back mode l a =
-    if claims l a == 1 then without l a.held
-    else changed l (one_fewer mode) a.held
+    if claims l a == 1 then without_latch l a.held
+    else changed_on l (one_fewer mode) a.held
 
 -- the level at which the latch was taken first, and the level given where it is not held
 abbrev pub level_on : ℕ → Level → List Holding → Level
@@ -99,7 +100,7 @@ first mode l v waiting w held =
 abbrev pub upgrade : ℕ → Level → ℤ → List Holding → Response
 upgrade l v w held =
     if is_above_0 w then
-    reserving l (level_on l v held) (w -ℤ pos X_LOCK_DECR) (changed l (one_more ModeX) held)
+    reserving l (level_on l v held) (w -ℤ pos X_LOCK_DECR) (changed_on l (one_more ModeX) held)
     else busy w held Free
 
 -- the takings: of S where nothing is held on the latch, of SX and X where S is not
@@ -112,14 +113,14 @@ abbrev pub taking_sx : ℕ → Level → ℤ → Session → Response
 taking_sx l v w a =
     if nat_lt 0 (reads l a) then refused HeldAlready a
     else where_allowed l v a (
-    if nat_lt 0 (claims l a) then response Granted (changed l (one_more ModeSx) a.held) Free
+    if nat_lt 0 (claims l a) then response Granted (changed_on l (one_more ModeSx) a.held) Free
     else first ModeSx l v Free w a.held)
 
 abbrev pub taking_x : ℕ → Level → ℤ → Session → Response
 taking_x l v w a =
     if nat_lt 0 (reads l a) then refused HeldAlready a
     else where_allowed l v a (
-    if nat_lt 0 (x_grants l a) then response Granted (changed l (one_more ModeX) a.held) Free
+    if nat_lt 0 (x_grants l a) then response Granted (changed_on l (one_more ModeX) a.held) Free
     else if nat_lt 0 (sx_grants l a) then upgrade l v w a.held
     else first ModeX l v Free w a.held)
 
@@ -139,7 +140,7 @@ owed_where last l = if last then OwesLook l else Free
 -- the releases: of S, of SX, whose last owes a look where no X is left, and of X, whose last does
 abbrev pub giving_s : ℕ → ℤ → Session → Response
 giving_s l w a =
-    if nat_lt 0 (reads l a) then response Released (without l a.held) (owed_by_s l (w +ℤ pos 1))
+    if nat_lt 0 (reads l a) then response Released (without_latch l a.held) (owed_by_s l (w +ℤ pos 1))
     else refused NotHeld a
 
 abbrev pub giving_sx : ℕ → Session → Response

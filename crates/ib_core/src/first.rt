@@ -12,7 +12,17 @@ use crate::event::Answer;
 use crate::holdings::add;
 use crate::phase::Phase;
 use ib_levels::{Holding, Latch, Level, Mode};
-use ib_word::{LockWord, owes_ex, take_s, take_sx, take_x};
+use ib_word::{LockWord, X_LOCK_HALF_DECR, is_drained, take_s, take_sx, take_x};
+
+/// Whether a first grant of the mode is given at the word.
+pub fn is_given_at(mode: Mode, word: LockWord) -> bool
+    ensures { result ≡ is_given_at mode word.0 }
+{
+    match mode {
+        Mode::S => word.0 > 0,
+        Mode::Sx | Mode::X => word.0 > X_LOCK_HALF_DECR as i32,
+    }
+}
 
 // The word after a first grant of the mode, None where the word refuses it.
 fn word_after(word: LockWord, mode: Mode) -> Option<LockWord>
@@ -48,7 +58,7 @@ impl Actor {
         ensures held { self.new.held.items ≡ self.old.held.items }
         ensures capacity { vec_capacity self.old.held ≤ vec_capacity self.new.held }
     {
-        if owes_ex(word) {
+        if is_drained(word) {
             self.phase = Phase::Free;
             return Answer::Granted;
         }

@@ -1,7 +1,7 @@
 //! The list of what a session holds, in order of taking: reads and changes of what is on one latch.
 
 ghost use Rattle.std.specs.Prelude.{◌≡◌, ℕ, ◌+◌, ◌^◌, ◌<◌, ◌≤◌, ◌==◌, if◌then◌else◌, ◌∷◌, ◌++◌, [], find, vec_len, vec_capacity};
-ghost use Rattle.ib_levels.specs.Holding.{changed, on, without};
+ghost use Rattle.ib_levels.specs.Holding.{changed_on, on, without_latch};
 ghost use Rattle.ib_core.specs.Takings.{count_of, level_on, one_fewer, one_more};
 
 use ib_levels::{Holding, Latch, Level, Mode};
@@ -81,7 +81,7 @@ fn with_one_fewer(h: Holding, latch: Latch, mode: Mode) -> Holding
 // Each holding on the latch has one grant of the mode more.
 fn each_one_more(held: &mut [Holding], latch: Latch, mode: Mode)
     requires { on latch.0 (λ h. h.s + h.sx + h.x) held.old < 2 ^ 28 }
-    ensures { held.new ≡ changed latch.0 (one_more mode) held.old }
+    ensures { held.new ≡ changed_on latch.0 (one_more mode) held.old }
 {
     for h in held.iter_mut() {
         *h = with_one_more(*h, latch, mode);
@@ -92,7 +92,7 @@ fn each_one_more(held: &mut [Holding], latch: Latch, mode: Mode)
 fn each_one_fewer(held: &mut [Holding], latch: Latch, mode: Mode)
     requires single { on latch.0 (λ h. 1) held.old ≤ 1 }
     requires has { 0 < on latch.0 (count_of mode) held.old }
-    ensures { held.new ≡ changed latch.0 (one_fewer mode) held.old }
+    ensures { held.new ≡ changed_on latch.0 (one_fewer mode) held.old }
 {
     for h in held.iter_mut() {
         *h = with_one_fewer(*h, latch, mode);
@@ -102,7 +102,7 @@ fn each_one_fewer(held: &mut [Holding], latch: Latch, mode: Mode)
 // One grant of the mode more on the latch.
 pub(crate) fn add_one(held: &mut Vec<Holding>, latch: Latch, mode: Mode)
     requires { on latch.0 (λ h. h.s + h.sx + h.x) held.old.items < 2 ^ 28 }
-    ensures items { held.new.items ≡ changed latch.0 (one_more mode) held.old.items }
+    ensures items { held.new.items ≡ changed_on latch.0 (one_more mode) held.old.items }
     ensures capacity { vec_capacity held.old ≡ vec_capacity held.new }
 {
     each_one_more(held.as_mut_slice(), latch, mode);
@@ -112,7 +112,7 @@ pub(crate) fn add_one(held: &mut Vec<Holding>, latch: Latch, mode: Mode)
 pub(crate) fn take_one(held: &mut Vec<Holding>, latch: Latch, mode: Mode)
     requires single { on latch.0 (λ h. 1) held.old.items ≤ 1 }
     requires has { 0 < on latch.0 (count_of mode) held.old.items }
-    ensures items { held.new.items ≡ changed latch.0 (one_fewer mode) held.old.items }
+    ensures items { held.new.items ≡ changed_on latch.0 (one_fewer mode) held.old.items }
     ensures capacity { vec_capacity held.old ≡ vec_capacity held.new }
 {
     each_one_fewer(held.as_mut_slice(), latch, mode);
@@ -120,7 +120,7 @@ pub(crate) fn take_one(held: &mut Vec<Holding>, latch: Latch, mode: Mode)
 
 // Nothing is held on the latch any more.
 pub(crate) fn give_up(held: &mut Vec<Holding>, latch: Latch)
-    ensures items { held.new.items ≡ without latch.0 held.old.items }
+    ensures items { held.new.items ≡ without_latch latch.0 held.old.items }
     ensures capacity { vec_capacity held.new ≡ vec_capacity held.old }
 {
     held.retain(|h| h.latch != latch);

@@ -15,7 +15,7 @@ ghost use Rattle.ib_core.specs.Good.{IsOwed, owes_raise, owes_raise_ex, owes_sig
 ghost use Rattle.ib_core.specs.Holders.{CanWish, HoldersAreCompatible, IsGrantable, IsTaken, IsNextWriter, OwnsSx, OwnsX};
 ghost use Rattle.ib_core.specs.Sleepers.{HasFlagged, MaySleep, NextMaySleep};
 ghost use Rattle.ib_core.specs.Takings.{is_given_at, wish};
-ghost use Rattle.ib_core.specs.Machine.{CoreState, IsGoodState, marks_at, opening, outcome_of};
+ghost use Rattle.ib_core.specs.Machine.{CoreState, IsGoodState, marks_at, opening_state, outcome_of};
 ghost use Rattle.ib_core.specs.Actions.{AllAmong, Action, IsAmong, state_after};
 
 use crate::machine::MOST_SESSIONS;
@@ -29,8 +29,8 @@ pub fn core_law()
         → IsAmong state action → IsGoodState state
         → IsGoodState (outcome_of state action.place action.event).state }
     ensures runs { (sessions latches : ℕ) (actions : List Action) → sessions ≤ MOST_SESSIONS
-        → AllAmong (opening sessions latches) actions
-        → IsGoodState (state_after (opening sessions latches) actions) }
+        → AllAmong (opening_state sessions latches) actions
+        → IsGoodState (state_after (opening_state sessions latches) actions) }
     ensures readers { (state : CoreState) (latch : ℕ) → IsGoodState state
         → readers_of latch state.sessions ≤ length state.sessions }
     // Granted modes go together.

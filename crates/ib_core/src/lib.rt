@@ -20,6 +20,7 @@ mod turn_laws;
 mod waits;
 
 pub use event::{Answer, Event, Refusal};
+pub use first::is_given_at;
 pub use holdings::Counts;
 pub use latch_word::LatchWord;
 pub use laws::{core_law, grant_law, signal_law};
@@ -29,3 +30,4 @@ pub use phase::Phase;
 pub use session::{Marks, Session};
 pub use taking_laws::{session_law, weight_law};
 pub use turn_laws::{debt_law, leaves_law, turn_law};
+pub use waits::owns_x_at;

@@ -3,7 +3,7 @@
 ghost use Rattle.std.specs.Prelude.{◌≡◌, ℕ, ◌+◌, ◌-◌, ◌<◌, ◌≤◌, length, replicate, IfOk};
 ghost use Rattle.ib_core.specs.Sessions.{word_on};
 ghost use Rattle.ib_core.specs.Responses.{latch_of};
-ghost use Rattle.ib_core.specs.Machine.{IsGoodState, opening, outcome_of};
+ghost use Rattle.ib_core.specs.Machine.{IsGoodState, opening_state, outcome_of};
 ghost use Rattle.ib_core.specs.Member.{idle_among};
 
 use crate::event::{Answer, Event};
@@ -76,7 +76,7 @@ impl Core {
         requires sessions { (1 ≤ sessions) × (sessions ≤ MOST_SESSIONS) }
         requires latches { (1 ≤ latches) × (latches ≤ MOST_LATCHES) }
         ensures opens { IfOk result (λ core. core
-            ≡ record { state = opening sessions latches; steps = 0 }) }
+            ≡ record { state = opening_state sessions latches; steps = 0 }) }
         ensures good { IfOk result (λ core. IsGoodState core.state) }
     {
         Ok(Core {

@@ -14,7 +14,7 @@ use crate::event::{Answer, Refusal};
 use crate::holdings::{give_up, take_one};
 use crate::phase::Phase;
 use ib_levels::{Latch, Mode};
-use ib_word::{LockWord, X_LOCK_HALF_DECR, give_x, owes_ex};
+use ib_word::{LockWord, X_LOCK_HALF_DECR, give_x, is_drained};
 
 impl Actor {
     // One grant of SX or X goes, and with the last one the holding.
@@ -50,7 +50,7 @@ impl Actor {
         }
         *word = LockWord(word.0 + 1);
         give_up(&mut self.held, latch);
-        if owes_ex(*word) {
+        if is_drained(*word) {
             self.phase = Phase::OwesRaiseEx { latch: latch.0 };
         }
         Answer::Released

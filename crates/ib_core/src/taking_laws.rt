@@ -6,7 +6,7 @@ ghost use Rattle.ib_word.specs.Weight.{x_weight};
 ghost use Rattle.ib_levels.specs.declared.level.Level.{Level};
 ghost use Rattle.ib_levels.specs.declared.level.Mode.{Mode};
 ghost use Rattle.ib_levels.specs.declared.level.Mode.TheVariants.{Sx, X};
-ghost use Rattle.ib_levels.specs.Holding.{changed, without};
+ghost use Rattle.ib_levels.specs.Holding.{changed_on, without_latch};
 ghost use Rattle.ib_core.specs.declared.event.Event.TheVariants.{Again, Ready, Us, Usx, Ux};
 ghost use Rattle.ib_core.specs.declared.phase.Phase.TheVariants.{Flagged, Free, OwesLook};
 ghost use Rattle.ib_core.specs.declared.session.Session.{Session};
@@ -90,39 +90,39 @@ pub fn session_law()
         → IsProper a → a.phase ≡ Free → OwnsSx latch a → x_grants latch a ≡ 0
         → IsTrue (is_above_0 w) → response_of w m (wish X latch level) a
         ≡ reserving latch (level_on latch level a.held) (w -ℤ pos X_LOCK_DECR)
-        (changed latch (one_more X) a.held) }
+        (changed_on latch (one_more X) a.held) }
     ensures further_x { (w : ℤ) (m : Marks) (latch : ℕ) (level : Level) (a : Session)
         → IsProper a → a.phase ≡ Free → 0 < x_grants latch a
         → response_of w m (wish X latch level) a
-        ≡ response Granted (changed latch (one_more X) a.held) Free }
+        ≡ response Granted (changed_on latch (one_more X) a.held) Free }
     ensures further_sx { (w : ℤ) (m : Marks) (latch : ℕ) (level : Level) (a : Session)
         → IsProper a → a.phase ≡ Free → 0 < claims latch a
         → response_of w m (wish Sx latch level) a
-        ≡ response Granted (changed latch (one_more Sx) a.held) Free }
+        ≡ response Granted (changed_on latch (one_more Sx) a.held) Free }
     // S is the only grant of its holding, and the last reader before a next writer owes it a raise.
     ensures s_back { (w : ℤ) (m : Marks) (latch : ℕ) (a : Session) → a.phase ≡ Free
         → 0 < reads latch a → response_of w m (Us latch) a
-        ≡ response Released (without latch a.held) (owed_by_s latch (w +ℤ pos 1)) }
+        ≡ response Released (without_latch latch a.held) (owed_by_s latch (w +ℤ pos 1)) }
     // The last grant of SX and X goes with its holding, and a look is owed; so it is with the last
     // X beside SX.
     ensures last_sx_back { (w : ℤ) (m : Marks) (latch : ℕ) (a : Session) → IsProper a
         → a.phase ≡ Free → sx_grants latch a ≡ 1 → x_grants latch a ≡ 0
         → response_of w m (Usx latch) a
-        ≡ response Released (without latch a.held) (OwesLook latch) }
+        ≡ response Released (without_latch latch a.held) (OwesLook latch) }
     ensures last_x_back { (w : ℤ) (m : Marks) (latch : ℕ) (a : Session) → IsProper a
         → a.phase ≡ Free → x_grants latch a ≡ 1 → sx_grants latch a ≡ 0
         → response_of w m (Ux latch) a
-        ≡ response Released (without latch a.held) (OwesLook latch) }
+        ≡ response Released (without_latch latch a.held) (OwesLook latch) }
     ensures last_x_beside_sx { (w : ℤ) (m : Marks) (latch : ℕ) (a : Session) → IsProper a
         → a.phase ≡ Free → x_grants latch a ≡ 1 → 0 < sx_grants latch a
         → response_of w m (Ux latch) a
-        ≡ response Released (changed latch (one_fewer X) a.held) (OwesLook latch) }
+        ≡ response Released (changed_on latch (one_fewer X) a.held) (OwesLook latch) }
     // An earlier one leaves the holding with one fewer, and owes nothing.
     ensures sx_back { (w : ℤ) (m : Marks) (latch : ℕ) (a : Session) → IsProper a
         → a.phase ≡ Free → 0 < sx_grants latch a → 1 < claims latch a
         → response_of w m (Usx latch) a
-        ≡ response Released (changed latch (one_fewer Sx) a.held) Free }
+        ≡ response Released (changed_on latch (one_fewer Sx) a.held) Free }
     ensures x_back { (w : ℤ) (m : Marks) (latch : ℕ) (a : Session) → IsProper a
         → a.phase ≡ Free → 1 < x_grants latch a → response_of w m (Ux latch) a
-        ≡ response Released (changed latch (one_fewer X) a.held) Free }
+        ≡ response Released (changed_on latch (one_fewer X) a.held) Free }
 {}

@@ -10,17 +10,16 @@ ghost use Rattle.ib_core.specs.Table.{arming, owes_clear_row, owes_look_row, own
 
 use crate::actor::Actor;
 use crate::event::{Answer, Event, Refusal};
-use crate::holdings::Counts;
 use crate::phase::Phase;
 use crate::session::Marks;
 use ib_levels::{Latch, Level, Mode};
 use ib_word::{LockWord, X_LOCK_HALF_DECR};
 
-// Whether a next writer with these grants owns X at the word.
-fn owns_x(word: LockWord, mine: Counts) -> bool
-    ensures { result ≡ owns_x_at mine.sx word.0 }
+/// Whether a next writer with so many grants of SX owns X at the word.
+pub fn owns_x_at(sx: u64, word: LockWord) -> bool
+    ensures { result ≡ owns_x_at sx word.0 }
 {
-    if mine.sx > 0 {
+    if sx > 0 {
         word.0 == -(X_LOCK_HALF_DECR as i32)
     } else {
         word.0 == 0
@@ -74,7 +73,7 @@ impl Actor {
             ≡ readying latch.0 waiting word.0 (session_of self.old) }
         ensures held { self.new.held ≡ self.old.held }
     {
-        if owns_x(word, self.grants(latch)) {
+        if owns_x_at(u64::from(self.grants(latch).sx), word) {
             self.phase = Phase::Free;
             Answer::Granted
         } else {

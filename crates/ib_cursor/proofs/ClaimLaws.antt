@@ -10,7 +10,7 @@ use Rattle.ib_core.specs.Sessions.{claims, holdings}
 use Rattle.ib_levels.proofs.Counts.{by_equal}
 use Rattle.ib_logrec.specs.declared.entry.Entry.{Entry}
 use Rattle.ib_rule.specs.declared.memory.Since.{Since}
-use Rattle.ib_rule.specs.declared.memory.Memory.{Memory}
+use Rattle.ib_rule.specs.declared.memory.Knowledge.{Knowledge}
 use Rattle.ib_rule.specs.declared.view.Role.TheVariants.{Session as SessionRole}
 use Rattle.ib_rule.specs.Memory.{conflicts}
 use Rattle.ib_rule.specs.Pass.{PassState}
@@ -120,8 +120,8 @@ keeps_beside p q seen claimed = record { more = []; seen = seen ∙ sym (append-
 -- a look after what left the memory as it was
 pub keeps_after : (p q r : PassState) → q.view.memory ≡ p.view.memory → (is_claimed q.view.memory.since ≡ true → KeepsClaim q r) → is_claimed p.view.memory.since ≡ true → KeepsClaim p r
 keeps_after p q r same keeps is =
-    let k = keeps (ap (λ (m : Memory). is_claimed m.since) same ∙ is) in
-    record { more = k.more; seen = k.seen ∙ ap (λ (m : Memory). m.seen ++ k.more) same; single = k.single; claimed = k.claimed }
+    let k = keeps (ap (λ (m : Knowledge). is_claimed m.since) same ∙ is) in
+    record { more = k.more; seen = k.seen ∙ ap (λ (m : Knowledge). m.seen ++ k.more) same; single = k.single; claimed = k.claimed }
 
 -- a grant on another latch that is given back leaves the claim
 claimed-filter : (l : ℕ) (b : Bool) (ss : List Since) → l ≢ 1 → is_claimed (filter (λ (s : Since). not (s.latch == l) || b) ss) ≡ is_claimed ss

@@ -14,7 +14,7 @@ use Rattle.ib_rule.specs.declared.memory.Since.{Since}
 use Rattle.ib_rule.specs.Pass.{PassState}
 use Rattle.ib_rule.specs.Views.{is_watched, with_grant}
 use Rattle.ib_walk.specs.Pages.{PageMemory}
-use Rattle.ib_walk.specs.Walk.{Visit, is_page, is_visit}
+use Rattle.ib_walk.specs.Walk.{Visit, counts_page, counts_visit}
 use Rattle.ib_walk.specs.Search.{child_for}
 use Rattle.ib_walk.specs.Trees.{height_of, weight_of, IsTreeOf}
 use Rattle.ib_walk.specs.Words.{bits_of}
@@ -106,7 +106,7 @@ module _ (sizes : Sizes) (roots : ℕ) (lawful : List Entry → Type 0) (opening
       let a = met_on-way m root (tree_of-log sizes.pages roots lawful opening shape.laws root some le p.view.memory.seen (shape.laws.begins p.view.memory.seen k.more legal)) key lt leaf 0 o in
       let r : PageRange = record { root = root; low = a.visit.low; end = a.visit.high; level = 0 } in
       let same : a.visit ≡ record { page = leaf; low = a.visit.low; high = a.visit.high } = ap (λ (n : ℕ). let w : Visit = record { page = n; low = a.visit.low; high = a.visit.high } in w) a.here in
-      let met : HasRange roots m leaf r = (some, le, subst (λ u. 0 < weight_of (is_visit 0 u) m root) same a.met) in
+      let met : HasRange roots m leaf r = (some, le, subst (λ u. 0 < weight_of (counts_visit 0 u) m root) same a.met) in
       subst (λ l. HasLinks m (pages_after opening l) leaf) (sym k.seen) (single_links sizes.pages roots lawful opening shape p.view.memory.seen k.more leaf r legal k.single refl met)
 
   module _ (log : List Entry) (legal : lawful log) where
@@ -122,11 +122,11 @@ module _ (sizes : Sizes) (roots : ℕ) (lawful : List Entry → Type 0) (opening
     inside : (page level : ℕ) → IsOnWay m root key page level → page < sizes.pages
     inside page level o = (way_image sizes.pages roots lawful opening shape.laws root some le key lt log page level legal o).there
 
-    pub inside-met : (page : ℕ) → 1 ≤ weight_of (is_page page) m root → page < sizes.pages
+    pub inside-met : (page : ℕ) → 1 ≤ weight_of (counts_page page) m root → page < sizes.pages
     inside-met page one =
-        let all = weight_of-le (is_page page) m root roots some le in
+        let all = weight_of-le (counts_page page) m root roots some le in
         let law = (shape.laws.memory log legal).law.met page in
-        bit_inside sizes.pages (memory_after opening log) page (let e : weight_of (is_page page) m root ≡ weight_of (is_page page) (pages_after opening log) root = refl in omega (arith, one, all, law))
+        bit_inside sizes.pages (memory_after opening log) page (let e : weight_of (counts_page page) m root ≡ weight_of (counts_page page) (pages_after opening log) root = refl in omega (arith, one, all, law))
 
     pub beside-leaf : (leaf : ℕ) → IsOnWay m root key leaf 0 → AreBeside m root leaf
     beside-leaf leaf o =

@@ -9,7 +9,7 @@ use Rattle.ib_levels.specs.declared.holding.Holding.{Holding}
 use Rattle.ib_levels.specs.declared.level.Level.{Level}
 use Rattle.ib_levels.specs.declared.level.Mode.{Mode}
 use Rattle.ib_levels.specs.declared.level.Mode.TheVariants.{S, Sx, X}
-use Rattle.ib_levels.specs.Holding.{on, hold, without, levels_of, changed}
+use Rattle.ib_levels.specs.Holding.{on, hold, without_latch, levels_of, changed_on}
 use Rattle.ib_levels.specs.Level.{may_follow, MayFollow}
 use Rattle.ib_levels.proofs.Counts.{by_equal, on-cons, on-push_here, part-here, part-away}
 use Rattle.ib_core.specs.declared.phase.Phase.TheVariants.{Free}
@@ -81,21 +81,21 @@ grants_more gs g p q has memo session = record {
 }
 
 -- one fewer: what a grant's latch had is gone
-without-away : (l : ℕ) (gs : List Grant) → IsAway l gs → without l (map hold_of gs) ≡ map hold_of gs
+without-away : (l : ℕ) (gs : List Grant) → IsAway l gs → without_latch l (map hold_of gs) ≡ map hold_of gs
 without-away l [] away = refl
 without-away l (g ∷ gs) away =
     let no : ((hold_of g).latch.0 == l) ≡ false = ne_eqb (hold_of g).latch.0 l (λ e. away.0 (sym (hold-latch g) ∙ e)) in
     let r = without-away l gs away.1 in
-    ap (λ b. cond (not b) (hold_of g ∷ without l (map hold_of gs)) (without l (map hold_of gs))) no ∙ ap (λ hs. hold_of g ∷ hs) r
+    ap (λ b. cond (not b) (hold_of g ∷ without_latch l (map hold_of gs)) (without_latch l (map hold_of gs))) no ∙ ap (λ hs. hold_of g ∷ hs) r
 
-without-at : (g : Grant) (front back : List Grant) → IsAway g.latch front → IsAway g.latch back → without g.latch (map hold_of (front ++ g ∷ back)) ≡ map hold_of (front ++ back)
+without-at : (g : Grant) (front back : List Grant) → IsAway g.latch front → IsAway g.latch back → without_latch g.latch (map hold_of (front ++ g ∷ back)) ≡ map hold_of (front ++ back)
 without-at g [] back fa ba =
     let yes : ((hold_of g).latch.0 == g.latch) ≡ true = eq-eqb (hold_of g).latch.0 g.latch (hold-latch g) in
-    ap (λ b. cond (not b) (hold_of g ∷ without g.latch (map hold_of back)) (without g.latch (map hold_of back))) yes ∙ without-away g.latch back ba
+    ap (λ b. cond (not b) (hold_of g ∷ without_latch g.latch (map hold_of back)) (without_latch g.latch (map hold_of back))) yes ∙ without-away g.latch back ba
 without-at g (x ∷ xs) back fa ba =
     let no : ((hold_of x).latch.0 == g.latch) ≡ false = ne_eqb (hold_of x).latch.0 g.latch (λ e. fa.0 (sym (hold-latch x) ∙ e)) in
-    let rest = without g.latch (map hold_of (xs ++ g ∷ back)) in
-    ap (λ b. cond (not b) (hold_of x ∷ without g.latch (map hold_of (xs ++ g ∷ back))) (without g.latch (map hold_of (xs ++ g ∷ back)))) no ∙ ap (λ hs. hold_of x ∷ hs) (without-at g xs back fa.1 ba)
+    let rest = without_latch g.latch (map hold_of (xs ++ g ∷ back)) in
+    ap (λ b. cond (not b) (hold_of x ∷ without_latch g.latch (map hold_of (xs ++ g ∷ back))) (without_latch g.latch (map hold_of (xs ++ g ∷ back)))) no ∙ ap (λ hs. hold_of x ∷ hs) (without-at g xs back fa.1 ba)
 
 on-at : (g : Grant) (f : Holding → ℕ) (front back : List Grant) → IsAway g.latch front → IsAway g.latch back → on g.latch f (map hold_of (front ++ g ∷ back)) ≡ f (hold_of g)
 on-at g f [] back fa ba =
@@ -105,10 +105,10 @@ on-at g f (x ∷ xs) back fa ba =
     let r = on-at g f xs back fa.1 ba in omega arith
 
 -- what is left after the one grant of a latch went is what the others hold, whatever its mode
-given-one : (m : Mode) (l : ℕ) (a : Session) → claims l a ≡ 1 → given_back m l a ≡ without l a.held
-given-one m l a one = ap (λ b. cond b (without l a.held) (changed l (one_fewer m) a.held)) (eq-eqb (claims l a) 1 one)
+given-one : (m : Mode) (l : ℕ) (a : Session) → claims l a ≡ 1 → given_back m l a ≡ without_latch l a.held
+given-one m l a one = ap (λ b. cond b (without_latch l a.held) (changed_on l (one_fewer m) a.held)) (eq-eqb (claims l a) 1 one)
 
-after-one : (m : Mode) (l : ℕ) (v : Level) (a : Session) → claims l a ≡ (first_holding m l v).sx + (first_holding m l v).x → held_after m l a ≡ without l a.held
+after-one : (m : Mode) (l : ℕ) (v : Level) (a : Session) → claims l a ≡ (first_holding m l v).sx + (first_holding m l v).x → held_after m l a ≡ without_latch l a.held
 after-one S l v a is = refl
 after-one Sx l v a is = given-one Sx l a (omega arith)
 after-one X l v a is = given-one X l a (omega arith)
@@ -164,7 +164,7 @@ module _ (front : List Grant) (g : Grant) (back : List Grant) (p q : PassState) 
   held-left : held_after g.mode g.latch p.view.session ≡ map hold_of (front ++ back)
   held-left =
       let c : claims g.latch p.view.session ≡ (hold_of g).sx + (hold_of g).x = ap (claims g.latch) has.session ∙ on-at g (λ h. h.sx + h.x) front back fa ba in
-      after-one g.mode g.latch g.level p.view.session c ∙ (ap (λ (a : Session). without g.latch a.held) has.session ∙ without-at g front back fa ba)
+      after-one g.mode g.latch g.level p.view.session c ∙ (ap (λ (a : Session). without_latch g.latch a.held) has.session ∙ without-at g front back fa ba)
 
   pub grants_left : HasGrants (front ++ back) q
   grants_left = record {

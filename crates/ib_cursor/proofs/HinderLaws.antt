@@ -11,7 +11,7 @@ use Rattle.ib_tree.specs.Logs.{pages_after}
 use Rattle.ib_rule.specs.declared.looks.Grants.{Grants}
 use Rattle.ib_rule.specs.declared.looks.Looks.{Looks}
 use Rattle.ib_rule.specs.declared.memory.Loaded.{Loaded}
-use Rattle.ib_rule.specs.declared.memory.Memory.{Memory}
+use Rattle.ib_rule.specs.declared.memory.Knowledge.{Knowledge}
 use Rattle.ib_rule.specs.Pass.{PassState, with_view}
 use Rattle.ib_rule.specs.Views.{with_grant}
 use Rattle.ib_latch.specs.declared.tries.TryFault.{TryFault}
@@ -56,9 +56,9 @@ vain_try sizes lawful latch level fault p q r same un tried seen memo session gr
       table = ap (λ (s : PassState). s.table) same;
       sizes = ap (λ (s : PassState). s.sizes) same;
       number = ap (λ (s : PassState). s.number) same;
-      own = ap (λ (m : Memory). m.own) un.memory;
-      seen = ap (λ (m : Memory). m.seen) un.memory;
-      ends = ap (λ (m : Memory). m.ends) un.memory;
+      own = ap (λ (m : Knowledge). m.own) un.memory;
+      seen = ap (λ (m : Knowledge). m.seen) un.memory;
+      ends = ap (λ (m : Knowledge). m.ends) un.memory;
     } in
     record {
       seen = seen_after sizes lawful p q r beside un.memory seen;

@@ -8,7 +8,7 @@ use Rattle.ib_map.specs.Keys.{MapKey, rank, end_rank}
 use Rattle.ib_walk.specs.Pages.{PageMemory, Tree}
 use Rattle.ib_walk.specs.Search.{child_for}
 use Rattle.ib_walk.specs.Trees.{IsLawful, IsTreeOf, height_of, top_of, weight_of}
-use Rattle.ib_walk.specs.Walk.{AreLinked, below, is_page}
+use Rattle.ib_walk.specs.Walk.{AreLinked, below, counts_page}
 use Rattle.ib_walk.proofs.WalkLaws.{AllByRecursion-append}
 use Rattle.ib_plans.specs.Agreement.{last_of, way_down, way_of}
 use Rattle.ib_plans.proofs.MetLaws.{root-met}
@@ -109,7 +109,7 @@ ends_of (x ∷ xs) = elim (ends_of xs) [
   | inr h ↦ inr (record { front = x ∷ h.front; last = h.last; is = ap (λ ps. x ∷ ps) h.is })
 ]
 
-module _ (pages : ℕ) (m : PageMemory) (bits : ℕ → ℕ) (roots : ℕ) (law : IsLawful m bits roots) (root : ℕ) (some : 0 < root) (le : root ≤ roots) (within : (n : ℕ) → 1 ≤ weight_of (is_page n) m root → n < pages)
+module _ (pages : ℕ) (m : PageMemory) (bits : ℕ → ℕ) (roots : ℕ) (law : IsLawful m bits roots) (root : ℕ) (some : 0 < root) (le : root ≤ roots) (within : (n : ℕ) → 1 ≤ weight_of (counts_page n) m root → n < pages)
     (key : MapKey) (lt : rank key < end_rank) where
   tree : IsTreeOf m (height_of m root) root
   tree = (law.trees root some le).0

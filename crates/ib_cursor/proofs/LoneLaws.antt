@@ -8,12 +8,12 @@ use Rattle.ib_map.specs.Pairs.{Pairs, Rises, first_rank}
 use Rattle.ib_map.specs.Writes.{page_at, touches, spans_pages}
 use Rattle.ib_map.specs.declared.write.Write.{Write}
 use Rattle.ib_walk.specs.Pages.{PageMemory}
-use Rattle.ib_walk.specs.Walk.{Visit, children_of, children, below, sum_of, weight, is_visit, IsNodeAt, AreNodes, IsTree, IsTiled, AreLinked}
+use Rattle.ib_walk.specs.Walk.{Visit, children_of, children, below, sum_of, weight_along, counts_visit, IsNodeAt, AreNodes, IsTree, IsTiled, AreLinked}
 use Rattle.ib_walk.specs.Trees.{top_of, height_of, leaves_of, weight_of, IsTreeOf}
 use Rattle.ib_walk.proofs.SearchLaws.{above, IsTiled-below}
 use Rattle.ib_patch.specs.Patch.{IsGoodAt}
 use Rattle.ib_plans.proofs.LevelLaws.{above-sum, level-le_weight}
-use Rattle.ib_tree.proofs.PatchLaws.{is_visit-own, IsGoodAt-tree, end_rank-some}
+use Rattle.ib_tree.proofs.PatchLaws.{counts_visit-own, IsGoodAt-tree, end_rank-some}
 use Rattle.ib_tree.proofs.ContentLaws.{below-children}
 use Rattle.ib_cursor.proofs.WayLaws.{IsIn, stands}
 
@@ -37,9 +37,9 @@ in-each P v [] a h = absurd h
 in-each P v (x ∷ xs) a (inl e) = subst P (sym e) a.0
 in-each P v (x ∷ xs) a (inr h) = in-each P v xs a.1 h
 
-in-counts : (h : ℕ) (v : Visit) (vs : List Visit) → IsIn v vs → 0 < sum_of (is_visit h v h) vs
+in-counts : (h : ℕ) (v : Visit) (vs : List Visit) → IsIn v vs → 0 < sum_of (counts_visit h v h) vs
 in-counts h v [] i = absurd i
-in-counts h v (x ∷ xs) (inl e) = let o = is_visit-own h v in let s : is_visit h v h x ≡ 1 = subst (λ u. is_visit h v h u ≡ 1) e o in omega arith
+in-counts h v (x ∷ xs) (inl e) = let o = counts_visit-own h v in let s : counts_visit h v h x ≡ 1 = subst (λ u. counts_visit h v h u ≡ 1) e o in omega arith
 in-counts h v (x ∷ xs) (inr i) = let r = in-counts h v xs i in omega arith
 
 -- the visit above one
@@ -61,15 +61,15 @@ child-in m v x (y ∷ ys) (inl e) k = in-left v (children_of (m y.page).records 
 child-in m v x (y ∷ ys) (inr h) k = in-right v (children_of (m y.page).records y.high) (children m ys) (child-in m v x ys h k)
 
 -- what stands on a level is met
-weight-in : (f : ℕ → Visit → ℕ) (m : PageMemory) (depth level : ℕ) (vs : List Visit) → sum_of (f level) (below m depth vs) ≤ weight f m (above depth level) vs
+weight-in : (f : ℕ → Visit → ℕ) (m : PageMemory) (depth level : ℕ) (vs : List Visit) → sum_of (f level) (below m depth vs) ≤ weight_along f m (above depth level) vs
 weight-in f m zero level vs = level-le_weight f m level vs
 weight-in f m (suc depth) level vs = let r = weight-in f m depth level (children m vs) in omega arith
 
-in-met : (m : PageMemory) (root depth level : ℕ) (v : Visit) → depth + level ≡ height_of m root → IsIn v (below m depth (top_of root)) → 0 < weight_of (is_visit level v) m root
+in-met : (m : PageMemory) (root depth level : ℕ) (v : Visit) → depth + level ≡ height_of m root → IsIn v (below m depth (top_of root)) → 0 < weight_of (counts_visit level v) m root
 in-met m root depth level v h i =
     let c = in-counts level v (below m depth (top_of root)) i in
-    let w = weight-in (is_visit level v) m depth level (top_of root) in
-    let e = ap (λ n. weight (is_visit level v) m n (top_of root)) (above-sum depth level ∙ h) in omega arith
+    let w = weight-in (counts_visit level v) m depth level (top_of root) in
+    let e = ap (λ n. weight_along (counts_visit level v) m n (top_of root)) (above-sum depth level ∙ h) in omega arith
 
 -- ranges with something in them, side by side: a list of them is told by what is in it
 tiles-le : (low : ℕ) (vs : List Visit) (high : ℕ) → IsTiled low vs high → AllByRecursion (λ (v : Visit). v.low < v.high) vs → low ≤ high
@@ -145,8 +145,8 @@ pub record IsLone (m new : PageMemory) (root page : ℕ) : Type 0 where
   pub was : IsTreeOf m (height_of m root) root
   pub is : IsTreeOf new (height_of new root) root
   pub same : (n : ℕ) → n ≢ page → new n ≡ m n
-  pub stays : (level : ℕ) (v : Visit) → v.page ≢ page → 0 < weight_of (is_visit level v) m root → 0 < weight_of (is_visit level v) new root
-  pub stayed : (level : ℕ) (v : Visit) → v.page ≢ page → 0 < weight_of (is_visit level v) new root → 0 < weight_of (is_visit level v) m root
+  pub stays : (level : ℕ) (v : Visit) → v.page ≢ page → 0 < weight_of (counts_visit level v) m root → 0 < weight_of (counts_visit level v) new root
+  pub stayed : (level : ℕ) (v : Visit) → v.page ≢ page → 0 < weight_of (counts_visit level v) new root → 0 < weight_of (counts_visit level v) m root
 
 turned : (m new : PageMemory) (root page : ℕ) → IsLone m new root page → IsLone new m root page
 turned m new root page a = record { was = a.is; is = a.was; same = λ n ne. sym (a.same n ne); stays = a.stayed; stayed = a.stays }
@@ -211,7 +211,7 @@ lone_below m new root page a (suc depth) level h =
     ]
 
 -- so what is met stays met
-pub lone_met : (m new : PageMemory) (root page : ℕ) → IsLone m new root page → (level : ℕ) (v : Visit) → 0 < weight_of (is_visit level v) m root → 0 < weight_of (is_visit level v) new root
+pub lone_met : (m new : PageMemory) (root page : ℕ) → IsLone m new root page → (level : ℕ) (v : Visit) → 0 < weight_of (counts_visit level v) m root → 0 < weight_of (counts_visit level v) new root
 lone_met m new root page a level v met =
     let s = stands m (height_of m root) level v (top_of root) met in
     in-met new root s.depth level v (s.height ∙ sym (lone_height m new root page a)) (subst (IsIn v) (sym (lone_below m new root page a s.depth level s.height)) s.there)
@@ -223,7 +223,7 @@ links-same m new prev [] next a b v i = absurd i
 links-same m new prev (x ∷ xs) next a b v (inl e) = subst (λ (u : Visit). ((new u.page).prev ≡ (m u.page).prev) × ((new u.page).next ≡ (m u.page).next)) (sym e) (b.0 ∙ sym a.0, b.1 ∙ sym a.1)
 links-same m new prev (x ∷ xs) next a b v (inr i) = links-same m new x.page xs next a.2 b.2 v i
 
-pub lone_links : (m new : PageMemory) (root page : ℕ) → IsLone m new root page → (v : Visit) → 0 < weight_of (is_visit 0 v) m root
+pub lone_links : (m new : PageMemory) (root page : ℕ) → IsLone m new root page → (v : Visit) → 0 < weight_of (counts_visit 0 v) m root
     → ((new v.page).prev ≡ (m v.page).prev) × ((new v.page).next ≡ (m v.page).next)
 lone_links m new root page a v met =
     let s = stands m (height_of m root) 0 v (top_of root) met in

@@ -23,21 +23,21 @@ use Rattle.ib_logrec.specs.Log.{memory_after}
 use Rattle.ib_rule.specs.Pass.{PassState}
 use Rattle.ib_rule.specs.Views.{is_watched}
 use Rattle.ib_walk.specs.Pages.{PageMemory}
-use Rattle.ib_walk.specs.Walk.{Visit, below, sum_of, is_page, is_visit, AreLinked, IsTiled, first_page}
+use Rattle.ib_walk.specs.Walk.{Visit, below, sum_of, counts_page, counts_visit, AreLinked, IsTiled, first_page}
 use Rattle.ib_walk.specs.Trees.{top_of, height_of, leaves_of, weight_of, IsTreeOf}
 use Rattle.ib_walk.specs.Words.{image_of}
 use Rattle.ib_walk.proofs.ImageLaws.{image_of-list}
-use Rattle.ib_walk.proofs.MeetLaws.{is_page-own, lowest-le_weight}
+use Rattle.ib_walk.proofs.MeetLaws.{counts_page-own, lowest-le_weight}
 use Rattle.ib_walk.proofs.SearchLaws.{IsTiled-right}
 use Rattle.ib_walk.proofs.TreeLaws.{weight_of-le, IsTiled-leaves}
 use Rattle.ib_walk.proofs.WalkLaws.{sum_of-append}
 use Rattle.ib_patch.specs.Patch.{IsGoodAt}
 use Rattle.ib_tree.specs.Logs.{HasRange, pages_after}
-use Rattle.ib_tree.proofs.PatchLaws.{is_visit-own, IsGoodAt-tree}
+use Rattle.ib_tree.proofs.PatchLaws.{counts_visit-own, IsGoodAt-tree}
 use Rattle.ib_mtr.specs.Memo.{IsNewest}
 use Rattle.ib_mtr.specs.Loads.{IsPageAfter}
 use Rattle.ib_core.specs.declared.session.Session.{Session}
-use Rattle.ib_rule.specs.declared.memory.Memory.{Memory}
+use Rattle.ib_rule.specs.declared.memory.Knowledge.{Knowledge}
 use Rattle.ib_rule.proofs.Watching.{word_stays}
 use Rattle.ib_map.proofs.WriteLaws.{page_at-word}
 use Rattle.ib_mtr.specs.Mtr.{IsReleasedAt, released_at}
@@ -68,7 +68,7 @@ split v [] there = absurd there
 split v (x ∷ xs) (inl is) = record { before = []; behind = xs; is = ap (λ (u : Visit). u ∷ xs) (sym is) }
 split v (x ∷ xs) (inr later) = let r = split v xs later in record { before = x ∷ r.before; behind = r.behind; is = ap (λ vs. x ∷ vs) r.is }
 
-pub leaf-met : (m : PageMemory) (root : ℕ) (v : Visit) → 0 < weight_of (is_visit 0 v) m root → IsLeaf m root v
+pub leaf-met : (m : PageMemory) (root : ℕ) (v : Visit) → 0 < weight_of (counts_visit 0 v) m root → IsLeaf m root v
 leaf-met m root v met =
     let s = stands m (height_of m root) 0 v (top_of root) met in
     let deep : s.depth ≡ height_of m root = let h = s.height in omega arith in
@@ -126,8 +126,8 @@ module _ (pages roots : ℕ) (lawful : List Entry → Type 0) (opening : ℕ →
   image-is : image_of (memory_after opening log) leaf ≡ image
   image-is = image_of-list (memory_after opening log) leaf image size (λ index lt. sym (right index lt))
 
-  here : 0 < weight_of (is_visit 0 (record { page = leaf; low = r.low; high = r.end })) (pages_after opening log) r.root
-  here = subst (λ l. 0 < weight_of (is_visit l (record { page = leaf; low = r.low; high = r.end })) (pages_after opening log) r.root) lowest met.2
+  here : 0 < weight_of (counts_visit 0 (record { page = leaf; low = r.low; high = r.end })) (pages_after opening log) r.root
+  here = subst (λ l. 0 < weight_of (counts_visit l (record { page = leaf; low = r.low; high = r.end })) (pages_after opening log) r.root) lowest met.2
 
   good : IsGoodAt (pages_after opening log) 0 (record { page = leaf; low = r.low; high = r.end })
   good = IsGoodAt-tree (pages_after opening log) (height_of (pages_after opening log) r.root) (top_of r.root) tree.tree 0 (record { page = leaf; low = r.low; high = r.end }) here
@@ -143,9 +143,9 @@ module _ (pages roots : ℕ) (lawful : List Entry → Type 0) (opening : ℕ →
 
   inside-of : (page : ℕ) (v : Visit) → v.page ≡ page → IsLeaf (pages_after opening log) r.root v → page < pages
   inside-of page v at l =
-      let own = is_page-own page 0 v at in
-      let one = leaf-counts (pages_after opening log) r.root v l (is_page page) (omega arith) in
-      let all = weight_of-le (is_page page) (pages_after opening log) r.root roots met.0 met.1 in
+      let own = counts_page-own page 0 v at in
+      let one = leaf-counts (pages_after opening log) r.root v l (counts_page page) (omega arith) in
+      let all = weight_of-le (counts_page page) (pages_after opening log) r.root roots met.0 met.1 in
       let law = (laws.memory log legal).law.met page in
       bit_inside pages (memory_after opening log) page (omega (arith, one, all, law))
 
@@ -166,7 +166,7 @@ module _ (pages roots : ℕ) (lawful : List Entry → Type 0) (opening : ℕ →
           met.0,
           met.1,
           leaf-counts (pages_after opening log) r.root (record { page = (pages_after opening log leaf).next; low = r.end; high = b.end }) b.leaf
-              (is_visit 0 (record { page = (pages_after opening log leaf).next; low = r.end; high = b.end })) (let own = is_visit-own 0 (record { page = (pages_after opening log leaf).next; low = r.end; high = b.end }) in omega arith),
+              (counts_visit 0 (record { page = (pages_after opening log leaf).next; low = r.end; high = b.end })) (let own = counts_visit-own 0 (record { page = (pages_after opening log leaf).next; low = r.end; high = b.end }) in omega arith),
         );
         inside = inside-of (pages_after opening log leaf).next (record { page = (pages_after opening log leaf).next; low = r.end; high = b.end }) refl b.leaf;
       }
@@ -254,10 +254,10 @@ module _ (sizes : Sizes) (roots : ℕ) (lawful : List Entry → Type 0) (opening
       one = grants_left front (page_grant leaf S) (page_grant (next_of image) S ∷ []) s t both h.once ((λ e. next_other (omega arith)), tt) release
 
       calm : AllByRecursion (λ e. touches leaf e.writes ≡ false) seen.went.more
-      calm = seen.steady leaf (subst (λ (m : Memory). is_watched (leaf + 2) m.since ≡ true) (sym taken.taken.memory) h.watched)
+      calm = seen.steady leaf (subst (λ (m : Knowledge). is_watched (leaf + 2) m.since ≡ true) (sym taken.taken.memory) h.watched)
 
       log-is : s.view.memory.seen ≡ p.view.memory.seen ++ seen.went.more
-      log-is = seen.went.seen ∙ ap (λ (m : Memory). m.seen ++ seen.went.more) taken.taken.memory
+      log-is = seen.went.seen ∙ ap (λ (m : Knowledge). m.seen ++ seen.went.more) taken.taken.memory
 
       legal : lawful (p.view.memory.seen ++ seen.went.more)
       legal = subst lawful log-is seen.known.legal

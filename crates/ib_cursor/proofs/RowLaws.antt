@@ -10,8 +10,8 @@ use Rattle.ib_heap.specs.declared.TheConstants.{MOST_RECORDS}
 use Rattle.ib_walk.specs.Pages.{PageMemory, Tree}
 use Rattle.ib_walk.specs.Search.{IsPageFor, child_for}
 use Rattle.ib_walk.specs.Trees.{IsLawful, IsTreeOf, height_of, top_of, weight_of}
-use Rattle.ib_walk.specs.Walk.{AreLinked, IsLeafAt, IsNodeAt, IsTree, Visit, below, children, children_of, first_page, last_page, is_page, sum_of, weight}
-use Rattle.ib_walk.proofs.MeetLaws.{AreLinked-right, is_page-own}
+use Rattle.ib_walk.specs.Walk.{AreLinked, IsLeafAt, IsNodeAt, IsTree, Visit, below, children, children_of, first_page, last_page, counts_page, sum_of, weight_along}
+use Rattle.ib_walk.proofs.MeetLaws.{AreLinked-right, counts_page-own}
 use Rattle.ib_walk.proofs.SearchLaws.{AllByRecursion-at, IsPageFor-below, IsTree-below, above, below-above}
 use Rattle.ib_walk.proofs.TreeLaws.{IsPageFor-top, times_met-le, weight_of-le}
 use Rattle.ib_walk.proofs.WalkLaws.{AllByRecursion-left, AllByRecursion-right, children-append, children_of-append}
@@ -30,17 +30,17 @@ abbrev pub pages_in : List Visit → List ℕ
 pages_in vs = map (λ v. v.page) vs
 
 -- pages that are counted once at most are each there once
-none-counted : (n : ℕ) (vs : List Visit) → sum_of (is_page n 0) vs ≡ 0 → is_among (pages_in vs) n ≡ false
+none-counted : (n : ℕ) (vs : List Visit) → sum_of (counts_page n 0) vs ≡ 0 → is_among (pages_in vs) n ≡ false
 none-counted n [] z = refl
 none-counted n (v ∷ vs) z = elim (cases_eq v.page n) [
-  | inl e ↦ absurd (let o = is_page-own n 0 v e in omega arith)
+  | inl e ↦ absurd (let o = counts_page-own n 0 v e in omega arith)
   | inr ne ↦ ap (λ t. t || is_among (pages_in vs) n) (ne_eqb v.page n ne) ∙ none-counted n vs (omega (arith, z))
 ]
 
-once-counted : (pages : ℕ) (vs : List Visit) → ((n : ℕ) → sum_of (is_page n 0) vs ≤ 1) → AllByRecursion (λ v. v.page < pages) vs → AreOnce (pages_in vs) pages
+once-counted : (pages : ℕ) (vs : List Visit) → ((n : ℕ) → sum_of (counts_page n 0) vs ≤ 1) → AllByRecursion (λ v. v.page < pages) vs → AreOnce (pages_in vs) pages
 once-counted pages [] few inside = tt
 once-counted pages (v ∷ vs) few inside =
-    (inside.0, none-counted v.page vs (let o = is_page-own v.page 0 v refl in let f = few v.page in omega arith), once-counted pages vs (λ n. let f = few n in omega arith) inside.1)
+    (inside.0, none-counted v.page vs (let o = counts_page-own v.page 0 v refl in let f = few v.page in omega arith), once-counted pages vs (λ n. let f = few n in omega arith) inside.1)
 
 -- parts of such a list
 pub once_right : (xs ys : List ℕ) (pages : ℕ) → AreOnce (xs ++ ys) pages → AreOnce ys pages
@@ -92,9 +92,9 @@ tree-row m (suc level) vs t = nodes vs t.nodes.0
     nodes (v ∷ vs) a = ((a.0.kind, a.0.level), nodes vs a.1)
 
 -- each visit of a row is counted in it
-row-each : (P : ℕ → Type 0) (vs : List Visit) → ((n : ℕ) → 1 ≤ sum_of (is_page n 0) vs → P n) → AllByRecursion (λ v. P v.page) vs
+row-each : (P : ℕ → Type 0) (vs : List Visit) → ((n : ℕ) → 1 ≤ sum_of (counts_page n 0) vs → P n) → AllByRecursion (λ v. P v.page) vs
 row-each P [] f = tt
-row-each P (v ∷ vs) f = (f v.page (let o = is_page-own v.page 0 v refl in omega arith), row-each P vs (λ n some. f n (omega (arith, some))))
+row-each P (v ∷ vs) f = (f v.page (let o = counts_page-own v.page 0 v refl in omega arith), row-each P vs (λ n some. f n (omega (arith, some))))
 
 row-pages : (P : ℕ → Type 0) (vs : List Visit) → AllByRecursion (λ v. P v.page) vs → AllByRecursion P (pages_in vs)
 row-pages P [] a = tt
@@ -122,7 +122,7 @@ among-middle (x ∷ xs) page ys n e = by_first (x == n) (among-middle xs page ys
     by_first false r = r
 
 -- the pages at and beside the key's child under a node of the way
-module _ (pages : ℕ) (m : PageMemory) (bits : ℕ → ℕ) (roots : ℕ) (law : IsLawful m bits roots) (root : ℕ) (some : 0 < root) (le : root ≤ roots) (within : (n : ℕ) → 1 ≤ weight_of (is_page n) m root → n < pages)
+module _ (pages : ℕ) (m : PageMemory) (bits : ℕ → ℕ) (roots : ℕ) (law : IsLawful m bits roots) (root : ℕ) (some : 0 < root) (le : root ≤ roots) (within : (n : ℕ) → 1 ≤ weight_of (counts_page n) m root → n < pages)
     (key : MapKey) (lt : rank key < end_rank) (node level : ℕ) (o : IsOnWay m root key node (suc level)) where
   tall : height_of m root ≡ above o.depth (suc level)
   tall = sym (above-sum o.depth (suc level) ∙ o.height)
@@ -179,16 +179,16 @@ module _ (pages : ℕ) (m : PageMemory) (bits : ℕ → ℕ) (roots : ℕ) (law 
   row-tree : IsTree m level (front ++ (mids ++ back))
   row-tree = subst (IsTree m level) row-is (record { nodes = upper-tree.nodes.1; leaves = upper-tree.leaves })
 
-  row-le : (n : ℕ) → sum_of (is_page n 0) (front ++ (mids ++ back)) ≤ weight_of (is_page n) m root
+  row-le : (n : ℕ) → sum_of (counts_page n 0) (front ++ (mids ++ back)) ≤ weight_of (counts_page n) m root
   row-le n =
-      let a = below-le_weight (is_page n) m o.depth (suc level) (top_of root) in
-      let b = level-le_weight (is_page n) m level (children m (place.before ++ place.visit ∷ place.behind)) in
-      let c = ap (sum_of (is_page n 0)) row-is in
-      let d = ap (weight (is_page n) m (suc level)) place.is in
-      let f = ap (λ h. weight (is_page n) m h (top_of root)) tall in omega arith
+      let a = below-le_weight (counts_page n) m o.depth (suc level) (top_of root) in
+      let b = level-le_weight (counts_page n) m level (children m (place.before ++ place.visit ∷ place.behind)) in
+      let c = ap (sum_of (counts_page n 0)) row-is in
+      let d = ap (weight_along (counts_page n) m (suc level)) place.is in
+      let f = ap (λ h. weight_along (counts_page n) m h (top_of root)) tall in omega arith
 
-  row-few : (n : ℕ) → sum_of (is_page n 0) (front ++ (mids ++ back)) ≤ 1
-  row-few n = let a = row-le n in let b = weight_of-le (is_page n) m root roots some le in let c = times_met-le (λ n. MOST_RECORDS) m bits roots n law in omega arith
+  row-few : (n : ℕ) → sum_of (counts_page n 0) (front ++ (mids ++ back)) ≤ 1
+  row-few n = let a = row-le n in let b = weight_of-le (counts_page n) m root roots some le in let c = times_met-le (λ n. MOST_RECORDS) m bits roots n law in omega arith
 
   row-once : AreOnce (pages_in (front ++ (mids ++ back))) pages
   row-once = once-counted pages (front ++ (mids ++ back)) row-few (row-each (λ n. n < pages) (front ++ (mids ++ back)) (λ n one. within n (let a = row-le n in omega arith)))

@@ -14,7 +14,7 @@ use Rattle.ib_core.specs.Sessions.{claims, holdings}
 use Rattle.ib_core.specs.Takings.{holding_too}
 use Rattle.ib_logrec.specs.declared.entry.Entry.{Entry}
 use Rattle.ib_logrec.specs.Log.{used}
-use Rattle.ib_rule.specs.declared.memory.Memory.{Memory}
+use Rattle.ib_rule.specs.declared.memory.Knowledge.{Knowledge}
 use Rattle.ib_rule.specs.declared.view.Role.{Role}
 use Rattle.ib_rule.specs.declared.view.Role.TheVariants.{Session as SessionRole}
 use Rattle.ib_rule.specs.Memory.{entries_of}
@@ -107,9 +107,9 @@ beside_taken g p q t = record {
   table = ap (λ (r : PassState). r.table) t.pass;
   sizes = ap (λ (r : PassState). r.sizes) t.pass;
   number = ap (λ (r : PassState). r.number) t.pass;
-  own = ap (λ (m : Memory). m.own) t.taken.memory;
-  seen = ap (λ (m : Memory). m.seen) t.taken.memory;
-  ends = ap (λ (m : Memory). m.ends) t.taken.memory;
+  own = ap (λ (m : Knowledge). m.own) t.taken.memory;
+  seen = ap (λ (m : Knowledge). m.seen) t.taken.memory;
+  ends = ap (λ (m : Knowledge). m.ends) t.taken.memory;
 }
 
 -- a look
@@ -153,7 +153,7 @@ stood_by sizes lawful g p q r t s memo session grants work =
         went = went_both p q r (went_beside p q b) s.went;
         looked = s.looked;
         known = s.known;
-        steady = λ page watched. s.steady page (subst (λ (m : Memory). is_watched (page + 2) m.since ≡ true) (sym t.taken.memory) watched);
+        steady = λ page watched. s.steady page (subst (λ (m : Knowledge). is_watched (page + 2) m.since ≡ true) (sym t.taken.memory) watched);
         watched = s.watched;
       };
       memo = memo ∙ ap (λ (r : PassState). r.memo) t.pass;
@@ -211,6 +211,6 @@ seen_after sizes lawful p q r b memory s = record {
   went = went_both p q r (went_beside p q b) s.went;
   looked = s.looked;
   known = s.known;
-  steady = λ page watched. s.steady page (subst (λ (m : Memory). is_watched (page + 2) m.since ≡ true) (sym memory) watched);
+  steady = λ page watched. s.steady page (subst (λ (m : Knowledge). is_watched (page + 2) m.since ≡ true) (sym memory) watched);
   watched = s.watched;
 }

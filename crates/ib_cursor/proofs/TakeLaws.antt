@@ -18,7 +18,7 @@ use Rattle.ib_core.specs.declared.session.Session.{Session}
 use Rattle.ib_core.specs.Sessions.{holdings}
 use Rattle.ib_page.specs.Work.{WorkPage, changed_of, with_page, with_read}
 use Rattle.ib_logrec.specs.declared.entry.Entry.{Entry}
-use Rattle.ib_rule.specs.declared.memory.Memory.{Memory}
+use Rattle.ib_rule.specs.declared.memory.Knowledge.{Knowledge}
 use Rattle.ib_rule.specs.declared.looks.Grants.{Grants}
 use Rattle.ib_rule.specs.Pass.{PassState}
 use Rattle.ib_rule.specs.Views.{is_watched, total}
@@ -131,8 +131,8 @@ module _ (sizes : Sizes) (lawful : List Entry → Type 0) (opening : ℕ → ℕ
 
     still : (w : WorkPage) → IsHeldPage opening p w → 0 < holdings (w.page + 2) p.view.session → IsAsRead opening r.view.memory.seen w
     still w h some =
-        let calm = glanced.seen.steady w.page (ap (λ (m : Memory). is_watched (w.page + 2) m.since) taken.taken.memory ∙ h.watched) in
-        let log : r.view.memory.seen ≡ p.view.memory.seen ++ glanced.seen.went.more = glanced.seen.went.seen ∙ ap (λ (m : Memory). m.seen ++ glanced.seen.went.more) taken.taken.memory in
+        let calm = glanced.seen.steady w.page (ap (λ (m : Knowledge). is_watched (w.page + 2) m.since) taken.taken.memory ∙ h.watched) in
+        let log : r.view.memory.seen ≡ p.view.memory.seen ++ glanced.seen.went.more = glanced.seen.went.seen ∙ ap (λ (m : Knowledge). m.seen ++ glanced.seen.went.more) taken.taken.memory in
         record {
           size = h.read.size;
           is_page = subst (λ l. IsPageAfter opening l w.page w.before) (sym log) (λ index lt. h.read.is_page index lt ∙ sym (word_stays opening p.view.memory.seen glanced.seen.went.more (word_place w.page index)
@@ -150,8 +150,8 @@ module _ (sizes : Sizes) (lawful : List Entry → Type 0) (opening : ℕ → ℕ
 
     page-steady : (n : ℕ) → is_watched (n + 2) p.view.memory.since ≡ true → pages_after opening r.view.memory.seen n ≡ pages_after opening p.view.memory.seen n
     page-steady n watched =
-        let calm = glanced.seen.steady n (ap (λ (m : Memory). is_watched (n + 2) m.since) taken.taken.memory ∙ watched) in
-        let log : r.view.memory.seen ≡ p.view.memory.seen ++ glanced.seen.went.more = glanced.seen.went.seen ∙ ap (λ (m : Memory). m.seen ++ glanced.seen.went.more) taken.taken.memory in
+        let calm = glanced.seen.steady n (ap (λ (m : Knowledge). is_watched (n + 2) m.since) taken.taken.memory ∙ watched) in
+        let log : r.view.memory.seen ≡ p.view.memory.seen ++ glanced.seen.went.more = glanced.seen.went.seen ∙ ap (λ (m : Knowledge). m.seen ++ glanced.seen.went.more) taken.taken.memory in
         subst (λ l. pages_after opening l n ≡ pages_after opening p.view.memory.seen n) (sym log)
         (pages_of-same (memory_after opening p.view.memory.seen) (memory_after opening (p.view.memory.seen ++ glanced.seen.went.more)) n (λ index lt. word_stays opening p.view.memory.seen glanced.seen.went.more (word_place n index)
         (subst (λ (k : ℕ). AllByRecursion (λ (e : Entry). touches k e.writes ≡ false) glanced.seen.went.more) (sym (page_at-word n index lt)) calm)))

@@ -12,7 +12,7 @@ use Rattle.ib_rule.specs.Views.{total}
 use Rattle.ib_walk.specs.Pages.{PageMemory, Tree}
 use Rattle.ib_walk.specs.Search.{child_for}
 use Rattle.ib_walk.specs.Trees.{height_of, weight_of, IsLawful}
-use Rattle.ib_walk.specs.Walk.{is_page}
+use Rattle.ib_walk.specs.Walk.{counts_page}
 use Rattle.ib_walk.specs.Words.{bits_of}
 use Rattle.ib_walk.proofs.WalkLaws.{AllByRecursion-left}
 use Rattle.ib_plans.specs.Agreement.{last_of, way_down, way_of}
@@ -89,7 +89,7 @@ module _ (sizes : Sizes) (roots : ℕ) (lawful : List Entry → Type 0) (opening
     law : IsLawful m (bits_of sizes.pages (memory_after opening q.view.memory.seen)) roots
     law = (shape.laws.memory q.view.memory.seen known.legal).law
 
-    within : (n : ℕ) → 1 ≤ weight_of (is_page n) m root → n < sizes.pages
+    within : (n : ℕ) → 1 ≤ weight_of (counts_page n) m root → n < sizes.pages
     within n met = inside-met sizes roots lawful opening shape root some le key lt q.view.memory.seen known.legal n met
 
     among : AllByRecursion (λ n. is_among rows_held n ≡ true) (rows.above ++ rows.node ∷ [])

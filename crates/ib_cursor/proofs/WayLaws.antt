@@ -7,10 +7,10 @@ use Rattle.ib_map.specs.Pairs.{Pairs, first_rank}
 use Rattle.ib_map.proofs.RiseLaws.{Rises-le}
 use Rattle.ib_logrec.specs.Law.{PageRange}
 use Rattle.ib_walk.specs.Pages.{Tree, PageMemory}
-use Rattle.ib_walk.specs.Walk.{Visit, children, below, sum_of, weight, is_page, is_visit, IsTree, IsTiled}
+use Rattle.ib_walk.specs.Walk.{Visit, children, below, sum_of, weight_along, counts_page, counts_visit, IsTree, IsTiled}
 use Rattle.ib_walk.specs.Trees.{top_of, height_of, weight_of, times_met, IsTreeOf, IsLawful}
 use Rattle.ib_walk.specs.Search.{child_for, page_below, leaf_for, IsPageFor}
-use Rattle.ib_walk.proofs.MeetLaws.{is_page-own}
+use Rattle.ib_walk.proofs.MeetLaws.{counts_page-own}
 use Rattle.ib_walk.proofs.SearchLaws.{above, IsTree-below, IsPageFor-below, IsTiled-below}
 use Rattle.ib_walk.proofs.TreeLaws.{weight_of-le, IsPageFor-top}
 use Rattle.ib_walk.proofs.WalkLaws.{sum_of-append}
@@ -18,7 +18,7 @@ use Rattle.ib_plans.proofs.LevelLaws.{above-sum, below-le_weight, level-le_weigh
 use Rattle.ib_plans.proofs.PathLaws.{page_below-child}
 use Rattle.ib_patch.specs.Patch.{IsGoodAt}
 use Rattle.ib_tree.specs.Logs.{HasRange}
-use Rattle.ib_tree.proofs.PatchLaws.{is_visit-own, is_visit-same, IsGoodAt-tree}
+use Rattle.ib_tree.proofs.PatchLaws.{counts_visit-own, counts_visit-same, IsGoodAt-tree}
 use Rattle.ib_cursor.specs.Way.{IsOnWay}
 
 pub root_on-way : (m : PageMemory) (root : ℕ) (key : MapKey) → IsOnWay m root key root (height_of m root)
@@ -40,10 +40,10 @@ abbrev pub IsIn : Visit → List Visit → Type 0
 IsIn v [] = ⊥
 IsIn v (x ∷ xs) = (v ≡ x) ⊎ IsIn v xs
 
-in-counted : (h : ℕ) (v : Visit) (vs : List Visit) → 0 < sum_of (is_visit h v h) vs → IsIn v vs
+in-counted : (h : ℕ) (v : Visit) (vs : List Visit) → 0 < sum_of (counts_visit h v h) vs → IsIn v vs
 in-counted h v [] some = absurd (omega arith)
-in-counted h v (x ∷ xs) some = elim (cases_lt 0 (is_visit h v h x)) [
-  | inl pos ↦ inl (sym (is_visit-same h v h x pos).1)
+in-counted h v (x ∷ xs) some = elim (cases_lt 0 (counts_visit h v h x)) [
+  | inl pos ↦ inl (sym (counts_visit-same h v h x pos).1)
   | inr non ↦ inr (in-counted h v xs (omega arith))
 ]
 
@@ -84,30 +84,30 @@ pub record StandsOn (m : PageMemory) (h level : ℕ) (v : Visit) (vs : List Visi
   pub height : depth + level ≡ h
   pub there : IsIn v (below m depth vs)
 
-pub stands : (m : PageMemory) (h level : ℕ) (v : Visit) (vs : List Visit) → 0 < weight (is_visit level v) m h vs → StandsOn m h level v vs
+pub stands : (m : PageMemory) (h level : ℕ) (v : Visit) (vs : List Visit) → 0 < weight_along (counts_visit level v) m h vs → StandsOn m h level v vs
 stands m zero level v vs some =
     let e = level-is zero vs some in
-    record { depth = 0; height = omega arith; there = in-counted level v vs (subst (λ h. 0 < sum_of (is_visit level v h) vs) e some) }
+    record { depth = 0; height = omega arith; there = in-counted level v vs (subst (λ h. 0 < sum_of (counts_visit level v h) vs) e some) }
   where
-    level-is : (h : ℕ) (vs : List Visit) → 0 < sum_of (is_visit level v h) vs → h ≡ level
+    level-is : (h : ℕ) (vs : List Visit) → 0 < sum_of (counts_visit level v h) vs → h ≡ level
     level-is h [] some = absurd (omega arith)
-    level-is h (x ∷ xs) some = elim (cases_lt 0 (is_visit level v h x)) [
-      | inl pos ↦ (is_visit-same level v h x pos).0
+    level-is h (x ∷ xs) some = elim (cases_lt 0 (counts_visit level v h x)) [
+      | inl pos ↦ (counts_visit-same level v h x pos).0
       | inr non ↦ level-is h xs (omega arith)
     ]
-stands m (suc h) level v vs some = elim (cases_lt 0 (sum_of (is_visit level v (suc h)) vs)) [
+stands m (suc h) level v vs some = elim (cases_lt 0 (sum_of (counts_visit level v (suc h)) vs)) [
   | inl pos ↦
       let e = level-is (suc h) vs pos in
-      record { depth = 0; height = omega arith; there = in-counted level v vs (subst (λ h. 0 < sum_of (is_visit level v h) vs) e pos) }
+      record { depth = 0; height = omega arith; there = in-counted level v vs (subst (λ h. 0 < sum_of (counts_visit level v h) vs) e pos) }
   | inr non ↦
       let r = stands m h level v (children m vs) (omega arith) in
       record { depth = suc r.depth; height = let e = r.height in omega arith; there = r.there }
 ]
   where
-    level-is : (h : ℕ) (vs : List Visit) → 0 < sum_of (is_visit level v h) vs → h ≡ level
+    level-is : (h : ℕ) (vs : List Visit) → 0 < sum_of (counts_visit level v h) vs → h ≡ level
     level-is h [] some = absurd (omega arith)
-    level-is h (x ∷ xs) some = elim (cases_lt 0 (is_visit level v h x)) [
-      | inl pos ↦ (is_visit-same level v h x pos).0
+    level-is h (x ∷ xs) some = elim (cases_lt 0 (counts_visit level v h x)) [
+      | inl pos ↦ (counts_visit-same level v h x pos).0
       | inr non ↦ level-is h xs (omega arith)
     ]
 
@@ -117,8 +117,8 @@ pub record IsMetOn (m : PageMemory) (root : ℕ) (key : MapKey) (page level : �
   pub here : visit.page ≡ page
   pub low : visit.low ≤ rank key
   pub high : rank key < visit.high
-  pub met : 0 < weight_of (is_visit level visit) m root
-  pub met_page : 0 < weight_of (is_page page) m root
+  pub met : 0 < weight_of (counts_visit level visit) m root
+  pub met_page : 0 < weight_of (counts_page page) m root
   pub good : IsGoodAt m level visit
 
 module _ (m : PageMemory) (root : ℕ) (tree : IsTreeOf m (height_of m root) root) (key : MapKey) (lt : rank key < end_rank) where
@@ -129,27 +129,27 @@ module _ (m : PageMemory) (root : ℕ) (tree : IsTreeOf m (height_of m root) roo
   met_on-way page level o =
       let t = tree-at o.depth level o.height in
       let p = subst (IsPageFor key (below m o.depth (top_of root))) o.below (IsPageFor-below m o.depth level key (top_of root) root t.nodes (IsPageFor-top key root lt)) in
-      let own = is_visit-own level p.visit in
-      let own_page = is_page-own page level p.visit p.here in
+      let own = counts_visit-own level p.visit in
+      let own_page = counts_page-own page level p.visit p.here in
       let counted : (f : ℕ → Visit → ℕ) → 1 ≤ f level p.visit → 1 ≤ weight_of f m root = λ f one.
       let a = below-le_weight f m o.depth level (top_of root) in
       let b = level-le_weight f m level (below m o.depth (top_of root)) in
       let c = ap (sum_of (f level)) p.is in
       let d = sum_of-append (f level) p.before (p.visit ∷ p.behind) in
-      let e = ap (λ n. weight f m n (top_of root)) (above-sum o.depth level ∙ o.height) in omega arith in
-      let met = counted (is_visit level p.visit) (omega arith) in
+      let e = ap (λ n. weight_along f m n (top_of root)) (above-sum o.depth level ∙ o.height) in omega arith in
+      let met = counted (counts_visit level p.visit) (omega arith) in
       record {
         visit = p.visit;
         here = p.here;
         low = p.low;
         high = p.high;
         met = met;
-        met_page = counted (is_page page) (omega arith);
+        met_page = counted (counts_page page) (omega arith);
         good = IsGoodAt-tree m (height_of m root) (top_of root) tree.tree level p.visit met;
       }
 
   -- .. and the other way round
-  pub on-way_met : (level : ℕ) (v : Visit) → 0 < weight_of (is_visit level v) m root → v.low ≤ rank key → rank key < v.high → IsOnWay m root key v.page level
+  pub on-way_met : (level : ℕ) (v : Visit) → 0 < weight_of (counts_visit level v) m root → v.low ≤ rank key → rank key < v.high → IsOnWay m root key v.page level
   on-way_met level v met low high =
       let s = stands m (height_of m root) level v (top_of root) met in
       let t = tree-at s.depth level s.height in
@@ -174,7 +174,7 @@ stays_on-way roots m new root key page level some le lt tree later stays o =
     let r : PageRange = record { root = root; low = v.low; end = v.high; level = level } in
     let w : Visit = record { page = page; low = v.low; high = v.high } in
     let same : v ≡ w = ap (λ (p : ℕ). let w : Visit = record { page = p; low = v.low; high = v.high } in w) a.here in
-    let kept = stays r (some, le, subst (λ u. 0 < weight_of (is_visit level u) m root) same a.met) in
+    let kept = stays r (some, le, subst (λ u. 0 < weight_of (counts_visit level u) m root) same a.met) in
     on-way_met new root later key lt level w kept.2 a.low a.high
 
 -- what the page says
@@ -201,7 +201,7 @@ pub bit_on-way : (m : PageMemory) (bits : ℕ → ℕ) (roots root : ℕ) (key :
     → (page ≢ 0) × (0 < bits page)
 bit_on-way m bits roots root key page level law some le lt o =
     let a = met_on-way m root (law.trees root some le).0 key lt page level o in
-    let w = weight_of-le (is_page page) m root roots some le in
+    let w = weight_of-le (counts_page page) m root roots some le in
     let met : 0 < times_met m roots page = omega (arith, a.met_page) in
     let c = law.met page in let b = law.bit page in
     (λ z. let y = eq-eqb page 0 z in let d : bits page ≡ times_met m roots page + 1 = rw y at c in absurd (omega arith), omega arith)

@@ -3,7 +3,7 @@ use Rattle.std.proofs.Common.{◌≡◌, ◌∙◌, ℕ, ◌+◌, List, [], ◌�
 use Rattle.std.specs.Prelude.{Bool, Option, Some, None}
 use Rattle.std.proofs.lemmas.List.{length_push}
 use Rattle.ib_edge.specs.Lines.{MayLackMemory, lines_of, first_bad, readings_by}
-use Rattle.ib_edge.specs.BadLines.{IsFault, fault_at}
+use Rattle.ib_edge.specs.BadLines.{IsLineFault, line_fault_at}
 use Rattle.ib_edge.specs.declared.bad_line.LineFault.{LineFault}
 use Rattle.ib_edge.specs.declared.bad_line.LineFault.TheVariants.{Bad, OutOfMemory}
 use Rattle.ib_edge.specs.declared.bad_line.ScriptFault.TheVariants.{BadLine, OutOfMemory as NoMemory}
@@ -62,8 +62,8 @@ module _ {R B : Type 0} (wrong : List R → R → Option LineKind) (Built : List
 
   -- a fault that is told with this line and kind is the first
   pub reached-fault : {readings : List R} {count : ℕ} {builder : B} {rest : List R} (reading : R) (after : List R) (asks : Bool) (fault : LineFault) (line : ℕ) (kind : LineKind)
-      → rest ≡ reading ∷ after → Reached wrong Built readings count builder rest → ((before : List R) → Built before builder → IsFault (wrong before reading) asks fault)
-      → fault_at (count + 1) fault ≡ BadLine line kind → first_bad wrong [] readings ≡ Some (line, kind)
+      → rest ≡ reading ∷ after → Reached wrong Built readings count builder rest → ((before : List R) → Built before builder → IsLineFault (wrong before reading) asks fault)
+      → line_fault_at (count + 1) fault ≡ BadLine line kind → first_bad wrong [] readings ≡ Some (line, kind)
   reached-fault {readings} {count} reading after asks (Bad found) line kind cut reached bad told =
       let same : count + 1 ≡ line = cc in
       let also : found ≡ kind = cc in
@@ -72,8 +72,8 @@ module _ {R B : Type 0} (wrong : List R → R → Option LineKind) (Built : List
 
   -- want of memory is told at a line that asks for some, and no line up to it is bad
   pub reached-memory : {readings : List R} {count : ℕ} {builder : B} {rest : List R} (asks : R → Bool) (reading : R) (after : List R) (fault : LineFault)
-      → rest ≡ reading ∷ after → Reached wrong Built readings count builder rest → ((before : List R) → Built before builder → IsFault (wrong before reading) (asks reading) fault)
-      → fault_at (count + 1) fault ≡ NoMemory → MayLackMemory wrong asks readings
+      → rest ≡ reading ∷ after → Reached wrong Built readings count builder rest → ((before : List R) → Built before builder → IsLineFault (wrong before reading) (asks reading) fault)
+      → line_fault_at (count + 1) fault ≡ NoMemory → MayLackMemory wrong asks readings
   reached-memory asks reading after (Bad found) cut reached bad told = absurd (cc)
   reached-memory asks reading after OutOfMemory cut reached bad told =
       let found = bad reached.before reached.built in

@@ -1,7 +1,7 @@
 -- What is told of a part is told of the whole.
 use Rattle.std.proofs.Common.{◌≡◌, ◌⊎◌, ◌∙◌, ℕ, List, inl, inr, refl, subst, sym, Some, None, Option}
 use Rattle.ib_edge.specs.BadLines.{fault_text}
-use Rattle.ib_edge.specs.Told.{Ending, ends, IsComplete, IsMemoryWhere, OwesFault, OwesLines, Told}
+use Rattle.ib_edge.specs.Told.{Ending, ends, IsComplete, IsOutOfMemoryWhere, OwesFault, OwesLines, Told}
 use Rattle.ib_edge.specs.declared.bad_line.ScriptFault.{ScriptFault}
 use Rattle.ib_edge.specs.declared.bad_line.ScriptFault.TheVariants.{BadLine, OutOfMemory as NoMemory}
 use Rattle.ib_edge.specs.declared.line_kind.LineKind.{LineKind}
@@ -27,9 +27,9 @@ owed_good (Some bad) output e is owed = absurd (cc)
 -- what is told of a fault is told of its lines, where it is the first bad one, or memory may be wanting
 pub told_fault : (found : Option (ℕ × LineKind)) (output : List ℕ → Type 0) (may : Type 0) (fault : ScriptFault)
     → ((line : ℕ) (kind : LineKind) → fault ≡ BadLine line kind → found ≡ Some (line, kind)) → (fault ≡ NoMemory → may)
-    → (written now : Option (List ℕ)) (status : Status) → Told (OwesFault fault) (IsMemoryWhere (fault ≡ NoMemory)) written now status → Told (OwesLines found output) (IsMemoryWhere may) written now status
+    → (written now : Option (List ℕ)) (status : Status) → Told (OwesFault fault) (IsOutOfMemoryWhere (fault ≡ NoMemory)) written now status → Told (OwesLines found output) (IsOutOfMemoryWhere may) written now status
 told_fault found output may fault bad memory written now status told =
-    told_as (OwesFault fault) (OwesLines found output) (IsMemoryWhere (fault ≡ NoMemory)) (IsMemoryWhere may) (owed_fault fault bad) (λ s calm. (calm.0, memory calm.1)) written now status told
+    told_as (OwesFault fault) (OwesLines found output) (IsOutOfMemoryWhere (fault ≡ NoMemory)) (IsOutOfMemoryWhere may) (owed_fault fault bad) (λ s calm. (calm.0, memory calm.1)) written now status told
   where
     owed_fault : (fault : ScriptFault) → ((line : ℕ) (kind : LineKind) → fault ≡ BadLine line kind → found ≡ Some (line, kind)) → (e : Ending) → OwesFault fault e → OwesLines found output e
     owed_fault (BadLine line kind) is e owed = subst (OwesLines found output) (sym owed) (owed_bad found output line kind (is line kind refl))

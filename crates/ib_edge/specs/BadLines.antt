@@ -22,10 +22,10 @@ abbrev pub fault_text : ℕ → LineKind → List ℕ
 fault_text line kind = codes "script: line " ++ decimal line ++ codes ": " ++ kind_text kind ++ codes "\n"
 
 -- a fault is what is wrong with the line, or want of memory where nothing is wrong with it and it asks for some
-abbrev pub IsFault : Option LineKind → Bool → LineFault → Type 0
-IsFault found asks (Bad kind) = found ≡ Some kind
-IsFault found asks OutOfMemory = (found ≡ None) × (asks ≡ true)
+abbrev pub IsLineFault : Option LineKind → Bool → LineFault → Type 0
+IsLineFault found asks (Bad kind) = found ≡ Some kind
+IsLineFault found asks OutOfMemory = (found ≡ None) × (asks ≡ true)
 
-abbrev pub fault_at : ℕ → LineFault → ScriptFault
-fault_at line (Bad kind) = BadLine line kind
-fault_at line OutOfMemory = NoMemory
+abbrev pub line_fault_at : ℕ → LineFault → ScriptFault
+line_fault_at line (Bad kind) = BadLine line kind
+line_fault_at line OutOfMemory = NoMemory

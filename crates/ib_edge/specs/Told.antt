@@ -34,12 +34,12 @@ IsComplete owes written now status =
     ((status ≡ Done) × ((text : List ℕ) × owes (ends Done text) × Appends written now text)) ⊎ ((status ≡ Memory) × Appends written now [])
 
 -- where only want of memory may come with nothing written
-abbrev pub IsMemory : Status → Type 0
-IsMemory status = status ≡ Memory
+abbrev pub IsOutOfMemory : Status → Type 0
+IsOutOfMemory status = status ≡ Memory
 
 -- where it may come on a condition alone
-abbrev pub IsMemoryWhere : Type 0 → Status → Type 0
-IsMemoryWhere may status = (status ≡ Memory) × may
+abbrev pub IsOutOfMemoryWhere : Type 0 → Status → Type 0
+IsOutOfMemoryWhere may status = (status ≡ Memory) × may
 
 -- what is owed for an input that is not read: its bad line is told, and want of memory is no ending that writes
 abbrev pub OwesFault : ScriptFault → Ending → Type 0

@@ -1,9 +1,9 @@
 //! A bad line, and the one text that tells it.
 
 ghost use Rattle.std.specs.Prelude.{◌≡◌, ◌≢◌};
-ghost use Rattle.ib_edge.specs.BadLines.{fault_at, kind_text};
+ghost use Rattle.ib_edge.specs.BadLines.{line_fault_at, kind_text};
 ghost use Rattle.ib_edge.specs.Faults.{Rose};
-ghost use Rattle.ib_edge.specs.Told.{IsMemoryWhere, OwesFault, Told};
+ghost use Rattle.ib_edge.specs.Told.{IsOutOfMemoryWhere, OwesFault, Told};
 ghost use Rattle.ib_edge.specs.Writer.{Puts};
 
 use crate::line_kind::LineKind;
@@ -59,7 +59,7 @@ impl From<AllocError> for LineFault {
 impl LineFault {
     /// The fault, where the line has this number.
     pub fn at(self, line: u32) -> ScriptFault
-        ensures { result ≡ fault_at line self }
+        ensures { result ≡ line_fault_at line self }
     {
         match self {
             LineFault::Bad(kind) => ScriptFault::BadLine { line, kind },
@@ -105,7 +105,7 @@ impl Printed for BadLine {
 
 /// Ends for an input that is not read: writes its bad line, or nothing where memory ran out.
 pub fn refuse<K: Sink>(sink: &mut K, fault: ScriptFault) -> Status
-    ensures told { Told (OwesFault fault) (IsMemoryWhere (fault ≡ ScriptFault.OutOfMemory)) (K.written sink.old) (K.written sink.new) result }
+    ensures told { Told (OwesFault fault) (IsOutOfMemoryWhere (fault ≡ ScriptFault.OutOfMemory)) (K.written sink.old) (K.written sink.new) result }
     ensures calm { result ≢ Status.WriteFault → K.faults sink.new ≡ K.faults sink.old }
     ensures write { result ≡ Status.WriteFault → Rose (K.faults sink.old) (K.faults sink.new) }
 {

@@ -15,8 +15,8 @@ use Rattle.ib_events.specs.Events.{IsInRange, event_of, event_on_latch, event_re
 use Rattle.ib_events.specs.declared.event_line.EventLine.TheVariants.{Skipped, Event as EventOf}
 use Rattle.ib_events.specs.declared.event_line.EventWord.{EventWord}
 use Rattle.ib_events.specs.declared.event_line.EventWord.TheVariants.{S as WordS, Sx as WordSx, X as WordX, Arm as WordArm, OnLatch}
-use Rattle.ib_events.specs.declared.event_line.LatchWord.{LatchWord}
-use Rattle.ib_events.specs.declared.event_line.LatchWord.TheVariants.{Us as WordUs, Usx as WordUsx, Ux as WordUx, Flag as WordFlag, Again as WordAgain, Quit as WordQuit, Sleep as WordSleep, Ready as WordReady, Exarm as WordExarm, Look as WordLook, Clear as WordClear, Raise as WordRaise}
+use Rattle.ib_events.specs.declared.event_line.LatchEventWord.{LatchEventWord}
+use Rattle.ib_events.specs.declared.event_line.LatchEventWord.TheVariants.{Us as WordUs, Usx as WordUsx, Ux as WordUx, Flag as WordFlag, Again as WordAgain, Quit as WordQuit, Sleep as WordSleep, Ready as WordReady, Exarm as WordExarm, Look as WordLook, Clear as WordClear, Raise as WordRaise}
 use Rattle.ib_events.specs.declared.event_line.TheConstants.{MOST_LATCH}
 use Rattle.ib_levels.specs.declared.level.Level.{Level}
 use Rattle.ib_levels.specs.declared.level.Level.TheVariants.{Log, PageNew, Space, TreeNode, IndexTree}
@@ -75,7 +75,7 @@ module _ (first : List ℕ) (session : ℕ) (named : session_in first ≡ Ok ses
       ∙ ap (λ (r : Result EventWord LineKind). r >>= (λ step. event_of step fields >>= (λ event. Ok (EventOf session event)))) is
       ∙ ap (λ (r : Result Event LineKind). r >>= (λ event. Ok (EventOf session event))) made
 
-  on-latch : (name : List ℕ) (word : LatchWord) (latch : ℕ) → event_word name ≡ Ok (OnLatch word) → latch ≤ MOST_LATCH
+  on-latch : (name : List ℕ) (word : LatchEventWord) (latch : ℕ) → event_word name ≡ Ok (OnLatch word) → latch ≤ MOST_LATCH
       → event_reading_of_fields (first ∷ name ∷ fields_of (decimal latch)) ≡ Ok (EventOf session (event_on_latch word latch))
   on-latch name word latch is few =
       ap (λ (fields : List (List ℕ)). event_reading_of_fields (first ∷ name ∷ fields)) (fields-alone latch (omega arith))

@@ -16,8 +16,8 @@ use Rattle.ib_events.specs.declared.event_line.TheConstants.{MOST_LATCH}
 use Rattle.ib_events.specs.declared.event_line.EventLine.TheVariants.{Skipped, Event as EventOf}
 use Rattle.ib_events.specs.declared.event_line.EventWord.{EventWord}
 use Rattle.ib_events.specs.declared.event_line.EventWord.TheVariants.{S as WordS, Sx as WordSx, X as WordX, Arm as WordArm, OnLatch}
-use Rattle.ib_events.specs.declared.event_line.LatchWord.{LatchWord}
-use Rattle.ib_events.specs.declared.event_line.LatchWord.TheVariants.{Us as WordUs, Usx as WordUsx, Ux as WordUx, Flag as WordFlag, Again as WordAgain, Quit as WordQuit, Sleep as WordSleep, Ready as WordReady, Exarm as WordExarm, Look as WordLook, Clear as WordClear, Raise as WordRaise}
+use Rattle.ib_events.specs.declared.event_line.LatchEventWord.{LatchEventWord}
+use Rattle.ib_events.specs.declared.event_line.LatchEventWord.TheVariants.{Us as WordUs, Usx as WordUsx, Ux as WordUx, Flag as WordFlag, Again as WordAgain, Quit as WordQuit, Sleep as WordSleep, Ready as WordReady, Exarm as WordExarm, Look as WordLook, Clear as WordClear, Raise as WordRaise}
 use Rattle.ib_edge.specs.declared.line_kind.LineKind.{LineKind}
 use Rattle.ib_edge.specs.declared.line_kind.LineKind.TheVariants.{Session, Latch}
 use Rattle.ib_edge.specs.declared.line_kind.TheConstants.{MOST_SCRIPT_SESSIONS}
@@ -86,7 +86,7 @@ made-at-level make of fields event is =
     let same : latch_of event ≡ read.0.0 = let e : make read.0.0 read.0.1 ≡ event = cc in ap latch_of (sym e) ∙ of read.0.0 read.0.1 in
     rw (sym same) at (level-range fields read.0 read.1)
 
-latch-on : (word : LatchWord) (latch : ℕ) → latch_of (event_on_latch word latch) ≡ latch
+latch-on : (word : LatchEventWord) (latch : ℕ) → latch_of (event_on_latch word latch) ≡ latch
 latch-on WordUs latch = refl
 latch-on WordUsx latch = refl
 latch-on WordUx latch = refl

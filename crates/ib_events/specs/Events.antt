@@ -10,15 +10,15 @@ use Rattle.ib_core.specs.declared.event.Event.{Event}
 use Rattle.ib_core.specs.declared.event.Event.TheVariants.{S, Sx, X, Us, Usx, Ux, Arm, Flag, Again, Quit, Sleep, Ready, Exarm, Look, Clear, Raise}
 use Rattle.ib_edge.specs.Fields.{◌>>=◌, number_in, one_field, session_in, two_fields}
 use Rattle.ib_edge.specs.Lines.{fields_of, first_bad, is_skipped, readings_by}
-use Rattle.ib_edge.specs.BadLines.{IsFault}
+use Rattle.ib_edge.specs.BadLines.{IsLineFault}
 use Rattle.ib_edge.specs.declared.bad_line.LineFault.{LineFault}
 use Rattle.ib_events.specs.declared.event_line.TheConstants.{MOST_LATCH, MOST_EVENTS}
 use Rattle.ib_events.specs.declared.event_line.EventLine.{EventLine}
 use Rattle.ib_events.specs.declared.event_line.EventLine.TheVariants.{Skipped, Event as EventOf}
 use Rattle.ib_events.specs.declared.event_line.EventWord.{EventWord}
 use Rattle.ib_events.specs.declared.event_line.EventWord.TheVariants.{S as WordS, Sx as WordSx, X as WordX, Arm as WordArm, OnLatch}
-use Rattle.ib_events.specs.declared.event_line.LatchWord.{LatchWord}
-use Rattle.ib_events.specs.declared.event_line.LatchWord.TheVariants.{Us as WordUs, Usx as WordUsx, Ux as WordUx, Flag as WordFlag, Again as WordAgain, Quit as WordQuit, Sleep as WordSleep, Ready as WordReady, Exarm as WordExarm, Look as WordLook, Clear as WordClear, Raise as WordRaise}
+use Rattle.ib_events.specs.declared.event_line.LatchEventWord.{LatchEventWord}
+use Rattle.ib_events.specs.declared.event_line.LatchEventWord.TheVariants.{Us as WordUs, Usx as WordUsx, Ux as WordUx, Flag as WordFlag, Again as WordAgain, Quit as WordQuit, Sleep as WordSleep, Ready as WordReady, Exarm as WordExarm, Look as WordLook, Clear as WordClear, Raise as WordRaise}
 use Rattle.ib_edge.specs.declared.line_kind.TheConstants.{MOST_SCRIPT_SESSIONS}
 use Rattle.ib_edge.specs.declared.line_kind.LineKind.{LineKind}
 use Rattle.ib_edge.specs.declared.line_kind.LineKind.TheVariants.{Word, Fields, Many, Latch, Level as LevelKind}
@@ -52,7 +52,7 @@ mode_in field =
     else Err Word
 
 -- the words of the steps of waiting and signalling
-abbrev pub waiting_word : List ℕ → Result LatchWord LineKind
+abbrev pub waiting_word : List ℕ → Result LatchEventWord LineKind
 waiting_word word =
     if bytes_eq word (codes "flag") then Ok WordFlag
     else if bytes_eq word (codes "again") then Ok WordAgain
@@ -83,7 +83,7 @@ latch_in_mode (l ∷ m ∷ v ∷ []) = latch_in l >>= (λ latch. mode_in m >>= (
 latch_in_mode _ = Err Fields
 
 -- an event on a latch alone, by its word
-abbrev pub event_on_latch : LatchWord → ℕ → Event
+abbrev pub event_on_latch : LatchEventWord → ℕ → Event
 event_on_latch WordUs latch = Us latch
 event_on_latch WordUsx latch = Usx latch
 event_on_latch WordUx latch = Ux latch
@@ -150,4 +150,4 @@ AreEvents before events = events ≡ events_in before
 abbrev pub TakesEvent : {T : Type 0} → EventReading → List (ℕ × Event) → Result T LineFault → List (ℕ × Event) → Type 0
 TakesEvent reading old result new =
     (before : List EventReading) → AreEvents before old
-    → MatchResult result (λ _. (event_fault_behind before reading ≡ None) × AreEvents (before ++ reading ∷ []) new) (IsFault (event_fault_behind before reading) (is_event reading))
+    → MatchResult result (λ _. (event_fault_behind before reading ≡ None) × AreEvents (before ++ reading ∷ []) new) (IsLineFault (event_fault_behind before reading) (is_event reading))

@@ -1,6 +1,6 @@
 -- What is printed of events: each answered by the latch machine, from all latches free.
 use Rattle.std.specs.Prelude.{ℕ, ◌+◌, ◌-◌, List, [], ◌∷◌, ◌++◌}
-use Rattle.ib_core.specs.Machine.{CoreState, opening, outcome_of}
+use Rattle.ib_core.specs.Machine.{CoreState, opening_state, outcome_of}
 use Rattle.ib_core.specs.Sessions.{word_on}
 use Rattle.ib_core.specs.Responses.{latch_of}
 use Rattle.ib_core.specs.declared.event.Event.{Event}
@@ -18,4 +18,4 @@ lines_from state (at ∷ events) =
 
 -- the same, from the machine of 64 sessions and 16 latches where all latches are free
 abbrev pub latch_output : List (ℕ × Event) → List ℕ
-latch_output events = lines_from (opening MOST_SCRIPT_SESSIONS (MOST_LATCH + 1)) events
+latch_output events = lines_from (opening_state MOST_SCRIPT_SESSIONS (MOST_LATCH + 1)) events

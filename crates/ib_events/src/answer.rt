@@ -2,7 +2,7 @@
 
 ghost use Rattle.std.specs.Prelude.{◌≡◌, ◌≢◌, ◌≤◌, length};
 ghost use Rattle.ib_edge.specs.Faults.{Rose};
-ghost use Rattle.ib_edge.specs.Told.{IsMemoryWhere, Told};
+ghost use Rattle.ib_edge.specs.Told.{IsOutOfMemoryWhere, Told};
 ghost use Rattle.ib_events.specs.Answers.{AnswersEvents, MayLackEvents};
 
 use crate::events::read_events;
@@ -14,7 +14,7 @@ use std::alloc::Global;
 /// its latch's word afterwards, or tells where they are refused and why.
 pub fn answer_events<K: Sink>(alloc: Global, input: &[u8], sink: &mut K) -> Status
     requires { length input.now ≤ INPUT_BYTES }
-    ensures told { Told (AnswersEvents input.now) (IsMemoryWhere (MayLackEvents input.now)) (K.written sink.old) (K.written sink.new) result }
+    ensures told { Told (AnswersEvents input.now) (IsOutOfMemoryWhere (MayLackEvents input.now)) (K.written sink.old) (K.written sink.new) result }
     ensures calm { result ≢ Status.WriteFault → K.faults sink.new ≡ K.faults sink.old }
     ensures write { result ≡ Status.WriteFault → Rose (K.faults sink.old) (K.faults sink.new) }
 {

@@ -21,7 +21,7 @@ const _: () = prove!(MOST_EVENTS == 1_000_000);
 
 /// The word of an event that names a latch and nothing else.
 #[derive(Clone, Copy, Debug, PartialEq, Eq)]
-pub enum LatchWord {
+pub enum LatchEventWord {
     /// `us`: gives S back.
     Us,
     /// `usx`: gives one SX back.
@@ -60,7 +60,7 @@ pub enum EventWord {
     /// `arm`: records the generation, before it sleeps for a mode at a level.
     Arm,
     /// An event that names a latch and nothing else.
-    OnLatch(LatchWord),
+    OnLatch(LatchEventWord),
 }
 
 /// What one line of events says.
@@ -153,35 +153,35 @@ fn latch_in_mode(fields: Option<&[u8]>) -> Result<(u32, Mode, Level), LineKind>
 }
 
 // The words of the steps of waiting and signalling.
-fn waiting_word(word: &[u8]) -> Result<LatchWord, LineKind>
+fn waiting_word(word: &[u8]) -> Result<LatchEventWord, LineKind>
     ensures { result ≡ waiting_word word.now }
 {
     if word == b"flag".as_slice() {
-        return Ok(LatchWord::Flag);
+        return Ok(LatchEventWord::Flag);
     }
     if word == b"again".as_slice() {
-        return Ok(LatchWord::Again);
+        return Ok(LatchEventWord::Again);
     }
     if word == b"quit".as_slice() {
-        return Ok(LatchWord::Quit);
+        return Ok(LatchEventWord::Quit);
     }
     if word == b"sleep".as_slice() {
-        return Ok(LatchWord::Sleep);
+        return Ok(LatchEventWord::Sleep);
     }
     if word == b"ready".as_slice() {
-        return Ok(LatchWord::Ready);
+        return Ok(LatchEventWord::Ready);
     }
     if word == b"exarm".as_slice() {
-        return Ok(LatchWord::Exarm);
+        return Ok(LatchEventWord::Exarm);
     }
     if word == b"look".as_slice() {
-        return Ok(LatchWord::Look);
+        return Ok(LatchEventWord::Look);
     }
     if word == b"clear".as_slice() {
-        return Ok(LatchWord::Clear);
+        return Ok(LatchEventWord::Clear);
     }
     if word == b"raise".as_slice() {
-        return Ok(LatchWord::Raise);
+        return Ok(LatchEventWord::Raise);
     }
     Err(LineKind::Word)
 }
@@ -199,13 +199,13 @@ fn event_word(word: &[u8]) -> Result<EventWord, LineKind>
         return Ok(EventWord::X);
     }
     if word == b"us".as_slice() {
-        return Ok(EventWord::OnLatch(LatchWord::Us));
+        return Ok(EventWord::OnLatch(LatchEventWord::Us));
     }
     if word == b"usx".as_slice() {
-        return Ok(EventWord::OnLatch(LatchWord::Usx));
+        return Ok(EventWord::OnLatch(LatchEventWord::Usx));
     }
     if word == b"ux".as_slice() {
-        return Ok(EventWord::OnLatch(LatchWord::Ux));
+        return Ok(EventWord::OnLatch(LatchEventWord::Ux));
     }
     if word == b"arm".as_slice() {
         return Ok(EventWord::Arm);
@@ -214,22 +214,22 @@ fn event_word(word: &[u8]) -> Result<EventWord, LineKind>
 }
 
 // An event on a latch alone, by its word.
-fn event_on_latch(word: LatchWord, latch: u32) -> Event
+fn event_on_latch(word: LatchEventWord, latch: u32) -> Event
     ensures { result ≡ event_on_latch word latch }
 {
     match word {
-        LatchWord::Us => Event::Us { latch },
-        LatchWord::Usx => Event::Usx { latch },
-        LatchWord::Ux => Event::Ux { latch },
-        LatchWord::Flag => Event::Flag { latch },
-        LatchWord::Again => Event::Again { latch },
-        LatchWord::Quit => Event::Quit { latch },
-        LatchWord::Sleep => Event::Sleep { latch },
-        LatchWord::Ready => Event::Ready { latch },
-        LatchWord::Exarm => Event::Exarm { latch },
-        LatchWord::Look => Event::Look { latch },
-        LatchWord::Clear => Event::Clear { latch },
-        LatchWord::Raise => Event::Raise { latch },
+        LatchEventWord::Us => Event::Us { latch },
+        LatchEventWord::Usx => Event::Usx { latch },
+        LatchEventWord::Ux => Event::Ux { latch },
+        LatchEventWord::Flag => Event::Flag { latch },
+        LatchEventWord::Again => Event::Again { latch },
+        LatchEventWord::Quit => Event::Quit { latch },
+        LatchEventWord::Sleep => Event::Sleep { latch },
+        LatchEventWord::Ready => Event::Ready { latch },
+        LatchEventWord::Exarm => Event::Exarm { latch },
+        LatchEventWord::Look => Event::Look { latch },
+        LatchEventWord::Clear => Event::Clear { latch },
+        LatchEventWord::Raise => Event::Raise { latch },
     }
 }
 

@@ -3,7 +3,7 @@
 ghost use Rattle.std.specs.Prelude.{◌≡◌, ◌≢◌, ◌≤◌, ◌+◌, length};
 ghost use Rattle.std.specs.List.{AllByRecursion};
 ghost use Rattle.ib_edge.specs.Faults.{Rose};
-ghost use Rattle.ib_edge.specs.Told.{IsMemory, Told, ends};
+ghost use Rattle.ib_edge.specs.Told.{IsOutOfMemory, Told, ends};
 ghost use Rattle.ib_edge.specs.Writer.{Puts};
 ghost use Rattle.ib_edge.specs.declared.line_kind.TheConstants.{MOST_SCRIPT_SESSIONS as SESSIONS};
 ghost use Rattle.ib_events.specs.Events.{IsInRange};
@@ -54,7 +54,7 @@ impl Printed for Making {
 
 /// Makes events on the latch machine with all latches free, and writes what came of each.
 pub fn make_events<K: Sink>(alloc: Global, events: Events, sink: &mut K) -> Status
-    ensures told { Told (λ e. e ≡ ends Status.Done (latch_output events)) IsMemory (K.written sink.old) (K.written sink.new) result }
+    ensures told { Told (λ e. e ≡ ends Status.Done (latch_output events)) IsOutOfMemory (K.written sink.old) (K.written sink.new) result }
     ensures calm { result ≢ Status.WriteFault → K.faults sink.new ≡ K.faults sink.old }
     ensures write { result ≡ Status.WriteFault → Rose (K.faults sink.old) (K.faults sink.new) }
 {

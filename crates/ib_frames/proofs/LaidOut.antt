@@ -69,17 +69,17 @@ appended old start next e laid entry is =
     is ∙ (ap (λ (f : Entry). with_view start (appending f start.view)) entry ∙ ap (λ (p : PassState). with_view p (appending e p.view)) laid) in
     same ∙ ap (λ (ws : List ℕ). record (with_view old (appending e old.view)) { words = ws }) (sym (ap (λ (p : PassState). p.words) same))
 
-module _ (key : Sizes) (lawful : List Entry → Type 0) (p : PassState) (change : Change) (pages : List WorkPage) (may : MayAppend lawful p change pages) (grammar : (log : List Entry) → lawful log → AreInGrammar key.pages log) where
-  pub in_grammar : IsInGrammar key.pages (entry_for p change pages)
-  in_grammar = last_in_grammar key.pages p.view.memory.seen (entry_for p change pages) (grammar (p.view.memory.seen ++ entry_for p change pages ∷ []) may.legal)
+module _ (sizes : Sizes) (lawful : List Entry → Type 0) (p : PassState) (change : Change) (pages : List WorkPage) (may : MayAppend lawful p change pages) (grammar : (log : List Entry) → lawful log → AreInGrammar sizes.pages log) where
+  pub in_grammar : IsInGrammar sizes.pages (entry_for p change pages)
+  in_grammar = last_in_grammar sizes.pages p.view.memory.seen (entry_for p change pages) (grammar (p.view.memory.seen ++ entry_for p change pages ∷ []) may.legal)
 
   -- the entry that was laid out may be stored
-  pub may_store : (words : List ℕ) → p.view.role ≡ Session p.number → p.view.memory.append ≡ None → used p.view.memory.seen + ENTRY_WORDS ≤ key.log_words → IsPrefix (words_of_entry (entry_for p change pages)) words
-      → MayStore key lawful (record p { words = words })
+  pub may_store : (words : List ℕ) → p.view.role ≡ Session p.number → p.view.memory.append ≡ None → used p.view.memory.seen + ENTRY_WORDS ≤ sizes.log_words → IsPrefix (words_of_entry (entry_for p change pages)) words
+      → MayStore sizes lawful (record p { words = words })
   may_store words role closed room spelled =
       let is : entry_in words ≡ entry_for p change pages = spelled_entry (entry_for p change pages) words in_grammar.most_writes spelled in record {
         spelled = subst (λ (e : Entry). IsPrefix (words_of_entry e) words) (sym is) spelled;
-        ready = subst (λ (e : Entry). IsReady key lawful p.view e) (sym is) record {
+        ready = subst (λ (e : Entry). IsReady sizes lawful p.view e) (sym is) record {
           fits = record {
             named = sym (ap number_in role);
             counted = refl;
@@ -87,7 +87,7 @@ module _ (key : Sizes) (lawful : List Entry → Type 0) (p : PassState) (change 
             free = may.free;
             log_x = may.log_x;
             pages_x = λ q here.
-                let inside = writes_at-range 0 (writes_of pages) (key.pages * PAGE_WORDS) q in_grammar.places here in
+                let inside = writes_at-range 0 (writes_of pages) (sizes.pages * PAGE_WORDS) q in_grammar.places here in
                 (omega arith, may.pages_x (page_at q) (touches-written q (writes_of pages) here));
             index = λ spans. claimed p.view.session (may.index spans).0;
             legal = may.legal;

@@ -25,5 +25,5 @@ loaded_right opening a log page image rest (suc n) k h all = dite (ℕ_discrete 
     (λ before. loaded_right opening a log page image rest n k (omega arith) all.1)
 
 -- what a look tells does not depend on the words loaded
-pub looked_before : (key : Sizes) (lawful : List Entry → Type 0) (page : ℕ) (image : List ℕ) (n : ℕ) (v : View) (log : List Entry) → IsLook key lawful (with_loaded page image n v) log → IsLook key lawful v log
-looked_before key lawful page image n v log is = record { others = is.others; longer = is.longer; harmless = is.harmless; legal = is.legal; room = is.room; mine = is.mine }
+pub looked_before : (sizes : Sizes) (lawful : List Entry → Type 0) (page : ℕ) (image : List ℕ) (n : ℕ) (v : View) (log : List Entry) → IsLook sizes lawful (with_loaded page image n v) log → IsLook sizes lawful v log
+looked_before sizes lawful page image n v log is = record { others = is.others; longer = is.longer; harmless = is.harmless; legal = is.legal; room = is.room; mine = is.mine }

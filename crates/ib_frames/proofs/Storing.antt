@@ -74,12 +74,12 @@ module _ (e : Entry) (start now next : PassState) where
 pub during_entry : (e : Entry) (start now : PassState) → HasStored e start now → entry_of now ≡ entry_of start
 during_entry e start now d = ap (λ (p : PassState). entry_in p.words) d.same
 
-pub during_may : (key : Sizes) (lawful : List Entry → Type 0) (start now : PassState) → HasStored (entry_of start) start now → MayStore key lawful start → MayStore key lawful now
-during_may key lawful start now d may =
+pub during_may : (sizes : Sizes) (lawful : List Entry → Type 0) (start now : PassState) → HasStored (entry_of start) start now → MayStore sizes lawful start → MayStore sizes lawful now
+during_may sizes lawful start now d may =
     let words : now.words ≡ start.words = ap (λ (p : PassState). p.words) d.same in
     let view : now.view ≡ storing now.view.memory.loaded now.view.memory.append start.view = ap (λ (p : PassState). p.view) d.same in record {
       spelled = subst (λ (ws : List ℕ). IsPrefix (words_of_entry (entry_in ws)) ws) (sym words) may.spelled;
-      ready = subst (λ (z : View × List ℕ). IsReady key lawful z.0 (entry_in z.1)) (λ j. (sym view j, sym words j)) record { fits = may.ready.fits; watch = may.ready.watch; begins = d.begins };
+      ready = subst (λ (z : View × List ℕ). IsReady sizes lawful z.0 (entry_in z.1)) (λ j. (sym view j, sym words j)) record { fits = may.ready.fits; watch = may.ready.watch; begins = d.begins };
     }
 
 pub during_appends : (e : Entry) (start now : PassState) → HasStored e start now → with_view now (appending e now.view) ≡ with_view start (appending e start.view)

@@ -23,7 +23,7 @@ fn a_space_opens_and_closes_with_an_empty_log(rt: HostRuntime) {
     let mut one = space.connect(rt.alloc()).expect(&rt, "a session");
     let mut two = space.connect(rt.alloc()).expect(&rt, "a session");
     assert_eq!(rt; (one.number(), two.number(), space.connected()), (1, 2, 2));
-    assert_eq!(rt; (one.place(), one.made(), one.held()), (0, 0, 0));
+    assert_eq!(rt; (one.place(), one.made(), one.grants_held()), (0, 0, 0));
     space.meet(&mut one, &mut two);
     space.disconnect(one);
     space.disconnect(two);

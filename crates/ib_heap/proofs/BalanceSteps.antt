@@ -5,13 +5,13 @@ use Rattle.std.proofs.lemmas.List.{get_or_past}
 use Rattle.ib_map.specs.Pairs.{without, value_at, place_of}
 use Rattle.ib_map.specs.declared.TheConstants.{PAGE_WORDS}
 use Rattle.ib_heap.specs.Page.{Page, PageValue}
-use Rattle.ib_heap.specs.Heap.{Node, Heap, first_of, owners, times, places_of, records_in, used, page_with, nodes_of, read_heap}
+use Rattle.ib_heap.specs.Heap.{Node, Heap, first_of, owners, times, places_of, records_in, used_places, page_with, nodes_of, read_heap}
 use Rattle.ib_heap.specs.Form.{page_of}
-use Rattle.ib_heap.specs.Image.{with_records, records_of}
+use Rattle.ib_heap.specs.Image.{value_with_records, records_of}
 use Rattle.ib_heap.specs.Put.{owner_from, owned_by}
 use Rattle.ib_heap.specs.Take.{unlink_node, unlink_last, unlink_in, balance, balance_last, remove_in}
 use Rattle.ib_heap.specs.Kept.{IsKept}
-use Rattle.ib_heap.specs.Steps.{Stands, Lent, Joined}
+use Rattle.ib_heap.specs.Steps.{IsPlaceOfKey, IsLent, IsSlotJoined}
 use Rattle.ib_heap.proofs.KeptLaws.{kept-fixed, kept-place, kept-far}
 use Rattle.ib_heap.specs.Shape.{is_shaped}
 use Rattle.ib_heap.specs.Page.PageValue.{Tree}
@@ -29,7 +29,7 @@ use Rattle.ib_heap.proofs.SlotLaws.{count, owner-count, owner-skip, count-step, 
 use Rattle.ib_heap.proofs.ShapedDecides.{Shaped-Decides}
 use Rattle.ib_heap.proofs.UnlinkSteps.{lt, slot-is, apart, slot-range, used-unlink}
 
-module _ (ws w0 : List ℕ) (key slot before at : ℕ) (kn : Known ws) (st : Stands ws key slot before at) (found : value_at key (records_of ws) ≢ None)
+module _ (ws w0 : List ℕ) (key slot before at : ℕ) (kn : Known ws) (st : IsPlaceOfKey ws key slot before at) (found : value_at key (records_of ws) ≢ None)
     (shp : is_shaped w0 (unlink_in (place_of key (records_of ws)) (read_heap ws)) ≡ true)
     (pg : page_with w0 (records_in w0 (unlink_node (place_of key (records_of ws)) (nodes_of ws))) ≡ page_with ws (without key (records_of ws))) where
   abbrev k : ℕ
@@ -91,11 +91,11 @@ module _ (ws w0 : List ℕ) (key slot before at : ℕ) (kn : Known ws) (st : Sta
   pub short-range : (19 ≤ short) × (short ≤ 122)
   short-range = range-of short (owner-cases m0 short short-is)
 
-  places-ok : ArePlaces (used h1) (places_of ys)
+  places-ok : ArePlaces (used_places h1) (places_of ys)
   places-ok = ArePlaces-left _ _ _ sh.places
 
   short-word : OwnerWord (get_or w0 short 0) (owned_by (drop m0 ys) yl)
-  short-word = let o = owner-word w0 (used h1) m0 ys yl sh.few places-ok sh.chained cs.within in record { next = o.next; is = ap (λ n. get_or w0 n 0) short-is ∙ o.is; low = o.low }
+  short-word = let o = owner-word w0 (used_places h1) m0 ys yl sh.few places-ok sh.chained cs.within in record { next = o.next; is = ap (λ n. get_or w0 n 0) short-is ∙ o.is; low = o.low }
 
   pub well-from : ((short ≡ 19) ⊎ (get_or w0 short 0 / 256 ≢ 3)) → Owned 0 ys yl
   well-from c = elim cs.well [
@@ -103,10 +103,10 @@ module _ (ws w0 : List ℕ) (key slot before at : ℕ) (kn : Known ws) (st : Sta
     | inr r ↦ absurd (elim c [ inl e ↦ r.1 (sym short-is ∙ e) | inr ne ↦ (let w = short-word in let i = w.is in let b = w.low in let three = r.0 in ne (omega arith)) ])
   ]
 
-  wanted : with_records (without key (records_of ws)) (page_of ws) ≡ Tree (page_with ws (without key (records_of ws)))
-  wanted = ap (λ (v : PageValue). with_records (without key (records_of ws)) v) (page-from ws (read_heap ws) kn.is)
+  wanted : value_with_records (without key (records_of ws)) (page_of ws) ≡ Tree (page_with ws (without key (records_of ws)))
+  wanted = ap (λ (v : PageValue). value_with_records (without key (records_of ws)) v) (page-from ws (read_heap ws) kn.is)
 
-  pub well-page : Owned 0 ys yl → page_of w0 ≡ with_records (without key (records_of ws)) (page_of ws)
+  pub well-page : Owned 0 ys yl → page_of w0 ≡ value_with_records (without key (records_of ws)) (page_of ws)
   well-page owned = page-from w0 h1 (heap-shaped w0 h1 sh owned) ∙ (ap (λ (q : Page). Tree q) pg ∙ sym wanted)
 
   abbrev mk : List Node → ℕ → Heap
@@ -115,13 +115,13 @@ module _ (ws w0 : List ℕ) (key slot before at : ℕ) (kn : Known ws) (st : Sta
   pub well-heap : Owned 0 ys yl → read_heap w0 ≡ remove_in k (read_heap ws)
   well-heap owned = let s = balance-well 0 ys yl owned in heap-read w0 h1 (heap-shaped w0 h1 sh owned) ∙ (ap (λ (ns : List Node). mk ns yl) (sym s.0) ∙ ap (λ (n : ℕ). mk (balance ys yl) n) (sym s.1))
 
-  kept-here : (i : ℕ) → IsKept (used (read_heap ws)) i → IsKept (used h1) i
+  kept-here : (i : ℕ) → IsKept (used_places (read_heap ws)) i → IsKept (used_places h1) i
   kept-here i kept = subst (λ (n : ℕ). IsKept n i) (sym (used-unlink ws key slot before at kn st found)) kept
 
-  kept-low : (i q : ℕ) → IsKept (used (read_heap ws)) i → (q ≡ 19) ⊎ (0 < times q (places_of ys)) → i ≢ q
+  kept-low : (i q : ℕ) → IsKept (used_places (read_heap ws)) i → (q ≡ 19) ⊎ (0 < times q (places_of ys)) → i ≢ q
   kept-low i q kept c = elim c [
     | inl e ↦ kept-fixed _ i q kept (inr (omega arith, omega arith))
-    | inr m ↦ kept-place (used h1) i q (kept-here i kept) (places1.place q (omega arith))
+    | inr m ↦ kept-place (used_places h1) i q (kept-here i kept) (places1.place q (omega arith))
   ]
 
   not-in : (i q : ℕ) → times i (places_of ys) ≡ 0 → i ≢ 19 → (q ≡ 19) ⊎ (0 < times q (places_of ys)) → i ≢ q
@@ -180,7 +180,7 @@ module _ (ws w0 : List ℕ) (key slot before at : ℕ) (kn : Known ws) (st : Sta
     after-word : OwnerWord (get_or w0 after 0) (owned_by (drop (suc t) ys) yl)
     after-word =
         let l1 = lt1 in
-        let o = owner-word w0 (used h1) (suc t) ys yl sh.few places-ok sh.chained (omega arith) in let i = o.is in
+        let o = owner-word w0 (used_places h1) (suc t) ys yl sh.few places-ok sh.chained (omega arith) in let i = o.is in
         record { next = o.next; is = ap (λ n. get_or w0 n 0) after-is ∙ o.is; low = o.low }
 
     word-t : get_or w0 short 0 ≡ 3 * 256 + first_of (drop (suc t) ys)
@@ -235,12 +235,12 @@ module _ (ws w0 : List ℕ) (key slot before at : ℕ) (kn : Known ws) (st : Sta
           let lw = next-low (suc (suc t)) (let l1 = ls.0 in omega arith) in omega arith
         where
           next-low : (i : ℕ) → i ≤ length ys → first_of (drop i ys) < 256
-          next-low i le = elim (first-in (used h1) ys i sh.few places-ok le) [ inl e ↦ (let f = e.0 in omega arith) | inr e ↦ (let f = e.1.0 in omega arith) ]
+          next-low i le = elim (first-in (used_places h1) ys i sh.few places-ok le) [ inl e ↦ (let f = e.0 in omega arith) | inr e ↦ (let f = e.1.0 in omega arith) ]
 
       pub after-much : 256 ≤ get_or w0 after 0
       after-much = omega arith
 
-      module _ (w1 : List ℕ) (u : Lent w0 w1 slot short first after) (pos : 0 < slot) where
+      module _ (w1 : List ℕ) (u : IsLent w0 w1 slot short first after) (pos : 0 < slot) where
         set1 : SetAt (slot - 1) (first_of (drop (suc t) ys)) (owners ys) (owners (balance ys yl))
         set1 = slots-lend 0 t (slot - 1) ys yl under1 lt1 head3 five1 (count-pred pos)
 
@@ -264,7 +264,7 @@ module _ (ws w0 : List ℕ) (key slot before at : ℕ) (kn : Known ws) (st : Sta
         size2 : length w1 ≡ PAGE_WORDS
         size2 = u.size ∙ sh.size
 
-        top1 : get_or w1 7 0 ≡ (1 + length (owners (balance ys yl))) * 256 + (20 + 3 * used h1)
+        top1 : get_or w1 7 0 ≡ (1 + length (owners (balance ys yl))) * 256 + (20 + 3 * used_places h1)
         top1 =
             let a = short-range.0 in let b = after-range.0 in let d = first-range.0 in let l1 = set1.long in let t0 = sh.top in
             let e = u.other 7 (λ z. absurd (omega arith)) (λ z. absurd (omega arith)) (λ z. absurd (omega arith)) (λ z. absurd (omega arith)) in omega arith
@@ -272,13 +272,13 @@ module _ (ws w0 : List ℕ) (key slot before at : ℕ) (kn : Known ws) (st : Sta
         heap1 : IsHeap w1 (remove_in k (read_heap ws))
         heap1 = heap-shaped w1 (remove_in k (read_heap ws)) (other-shaped w0 w1 h1 (balance ys yl) (balance_last ys yl) sh (places-balance ys yl) size2 other1 chained1 directory1 top1) (owned-balance 0 ys yl under1)
 
-        pub lend-page : page_of w1 ≡ with_records (without key (records_of ws)) (page_of ws)
+        pub lend-page : page_of w1 ≡ value_with_records (without key (records_of ws)) (page_of ws)
         lend-page = page-from w1 (remove_in k (read_heap ws)) heap1 ∙ (ap (λ (q : Page). Tree q) (other-page w0 w1 h1 (balance ys yl) (balance_last ys yl) sh (places-balance ys yl) size2 other1 ∙ pg) ∙ sym wanted)
 
         pub lend-heap : read_heap w1 ≡ remove_in k (read_heap ws)
         lend-heap = heap-read w1 (remove_in k (read_heap ws)) heap1
 
-        pub lend-kept : (i : ℕ) → IsKept (used (read_heap ws)) i → get_or w1 i 0 ≡ get_or w0 i 0
+        pub lend-kept : (i : ℕ) → IsKept (used_places (read_heap ws)) i → get_or w1 i 0 ≡ get_or w0 i 0
         lend-kept i kept = let s = slot-few in u.other i (kept-low i short kept (inr short-in)) (kept-low i first kept (inr lent-in)) (kept-low i after kept after-cases) (λ z. elim (kept-far _ i kept) [ inl f ↦ absurd (omega arith) | inr f ↦ absurd (omega arith) ])
 
     -- it joins the slot after it
@@ -298,7 +298,7 @@ module _ (ws w0 : List ℕ) (key slot before at : ℕ) (kn : Known ws) (st : Sta
       pub top-few : get_or w0 7 0 / 256 ≤ 10
       top-few = let a = top-is in let b = slots-few in omega arith
 
-      module _ (w1 : List ℕ) (u : Joined w0 w1 slot short after) (pos : 0 < slot) where
+      module _ (w1 : List ℕ) (u : IsSlotJoined w0 w1 slot short after) (pos : 0 < slot) where
         gone1 : GoneAt (slot - 1) (owners ys) (owners (balance ys yl))
         gone1 = slots-join 0 t (slot - 1) ys yl under1 lt1 head3 few1 (count-pred pos)
 
@@ -332,17 +332,17 @@ module _ (ws w0 : List ℕ) (key slot before at : ℕ) (kn : Known ws) (st : Sta
         size3 : length w1 ≡ PAGE_WORDS
         size3 = u.size ∙ sh.size
 
-        top3 : get_or w1 7 0 ≡ (1 + length (owners (balance ys yl))) * 256 + (20 + 3 * used h1)
+        top3 : get_or w1 7 0 ≡ (1 + length (owners (balance ys yl))) * 256 + (20 + 3 * used_places h1)
         top3 = let l1 = gone1.long in let t0 = sh.top in let e = u.top in omega arith
 
         heap3 : IsHeap w1 (remove_in k (read_heap ws))
         heap3 = heap-shaped w1 (remove_in k (read_heap ws)) (other-shaped w0 w1 h1 (balance ys yl) (balance_last ys yl) sh (places-balance ys yl) size3 other3 chained3 directory3 top3) (owned-balance 0 ys yl under1)
 
-        pub join-page : page_of w1 ≡ with_records (without key (records_of ws)) (page_of ws)
+        pub join-page : page_of w1 ≡ value_with_records (without key (records_of ws)) (page_of ws)
         join-page = page-from w1 (remove_in k (read_heap ws)) heap3 ∙ (ap (λ (q : Page). Tree q) (other-page w0 w1 h1 (balance ys yl) (balance_last ys yl) sh (places-balance ys yl) size3 other3 ∙ pg) ∙ sym wanted)
 
         pub join-heap : read_heap w1 ≡ remove_in k (read_heap ws)
         join-heap = heap-read w1 (remove_in k (read_heap ws)) heap3
 
-        pub join-kept : (i : ℕ) → IsKept (used (read_heap ws)) i → get_or w1 i 0 ≡ get_or w0 i 0
+        pub join-kept : (i : ℕ) → IsKept (used_places (read_heap ws)) i → get_or w1 i 0 ≡ get_or w0 i 0
         join-kept i kept = let a = top-few in u.other i (elim (kept-far _ i kept) [ inl f ↦ inl f | inr f ↦ inr (omega arith) ]) (kept-low i short kept (inr short-in)) (kept-low i after kept after-cases)

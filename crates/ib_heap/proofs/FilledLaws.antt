@@ -1,6 +1,6 @@
 -- The heap of a page that was filled: its places in order, and none that is free.
 use Rattle.std.proofs.Common.{◌≡◌, ℕ, zero, suc, true, false, cond, ◌+◌, ◌-◌, ◌*◌, ◌≤◌, [], ◌∷◌, ◌∙◌, List, length, drop, take, refl, ap, arith, inr, leb}
-use Rattle.ib_heap.specs.Heap.{Node, Heap, used, read_heap, owners, up_to}
+use Rattle.ib_heap.specs.Heap.{Node, Heap, used_places, read_heap, owners, up_to}
 use Rattle.ib_heap.specs.Put.{owned_by, put_node, put_last, give_slot, give_slot_last, place_for, rest_of, put_in}
 use Rattle.ib_heap.specs.Filled.{filled, empty_heap}
 use Rattle.ib_heap.specs.Kept.{IsKept}
@@ -41,7 +41,7 @@ is-filled (suc n) =
     let more = put-long n (filled n) (omega arith) in
     record { long = omega arith; free = put-free n (filled n) ∙ ap rest_of h.free }
 
-pub filled-used : (n : ℕ) → used (filled n) ≡ n
+pub filled-used : (n : ℕ) → used_places (filled n) ≡ n
 filled-used n = let h = is-filled n in let a = h.long in let b = ap length h.free in omega arith
 
 place-without : (ns : List Node) (last : ℕ) (free : List ℕ) → free ≡ [] → place_for (record { nodes = ns; last = last; free = free }) ≡ 20 + 3 * length ns
@@ -52,7 +52,7 @@ pub filled-place : (n : ℕ) → place_for (filled n) ≡ 20 + 3 * n
 filled-place n = let h = is-filled n in place-without (filled n).nodes (filled n).last (filled n).free h.free ∙ ap (λ k. 20 + 3 * k) h.long
 
 -- what stands behind the records of a filled page is kept
-pub behind-kept : (ws : List ℕ) (n i : ℕ) → read_heap ws ≡ filled n → 20 + 3 * n ≤ i → IsKept (used (read_heap ws)) i
+pub behind-kept : (ws : List ℕ) (n i : ℕ) → read_heap ws ≡ filled n → 20 + 3 * n ≤ i → IsKept (used_places (read_heap ws)) i
 behind-kept ws n i is le =
-    let u : used (read_heap ws) ≡ n = ap used is ∙ filled-used n in
+    let u : used_places (read_heap ws) ≡ n = ap used_places is ∙ filled-used n in
     inr (inr (omega arith, inr (omega arith)))

@@ -3,7 +3,7 @@ use Rattle.std.proofs.Common.{inl, inr, ◌≡◌, ℕ, zero, suc, ◌+◌, ◌-
 use Rattle.std.proofs.lemmas.Bool.{cases_Bool, cases_eq, eq-eqb, eqb-true, and_from, and_parts}
 use Rattle.ib_map.specs.Keys.{end_rank}
 use Rattle.ib_heap.specs.Page.{rises, HasLimits}
-use Rattle.ib_heap.specs.Heap.{Heap, is_heap, read_heap, places_of, chain_from, free_from, is_directory, is_owned, owners, records_in, first_of, first_free, used}
+use Rattle.ib_heap.specs.Heap.{Heap, is_heap, read_heap, places_of, chain_from, free_from, is_directory, is_owned, owners, records_in, first_of, first_free, used_places}
 use Rattle.ib_heap.specs.Walks.{HasHead, HasSlots, IsUnmet, are_new, met_with, first_step, chain_holds, end_from, free_end}
 use Rattle.ib_heap.proofs.PageLaws.{rises-Decides}
 use Rattle.ib_heap.proofs.HeapLaws.{Chained, Freed, Directory, ArePlaces, EachOnce, IsHeap, IsHeap-Decides, Owned-Decides, Directory-Decides, ArePlaces-left, last-word}
@@ -38,14 +38,14 @@ module _ (ws : List ℕ) (k : IsHeap ws (read_heap ws)) where
   h = read_heap ws
 
   low : first_of h.nodes < 256
-  low = elim (first-in (used h) h.nodes 0 k.few (ArePlaces-left _ _ _ k.places) (omega arith)) [ inl e ↦ (let f = e.0 in omega arith) | inr e ↦ (let f = e.1.0 in omega arith) ]
+  low = elim (first-in (used_places h) h.nodes 0 k.few (ArePlaces-left _ _ _ k.places) (omega arith)) [ inl e ↦ (let f = e.0 in omega arith) | inr e ↦ (let f = e.1.0 in omega arith) ]
 
   pub head-of : HasHead ws
   head-of =
       let t = k.top in let c = k.count in let f = k.few in let s = k.start in let l = low in let w = last-word ws h.nodes h.last k.chained in
       (k.kind, (omega arith, (omega arith, (omega arith, (omega arith, (omega arith, (omega arith, (omega arith, (k.directory.0, (k.zero_125, (k.zero_126, k.zero_127)))))))))))
 
-  used-is : used h ≡ (get_or ws 7 0 % 256 - 20) / 3
+  used-is : used_places h ≡ (get_or ws 7 0 % 256 - 20) / 3
   used-is = let t = k.top in let f = k.few in omega arith
 
   pub end-of : end_from ws (get_or ws 2 0) (get_or ws 18 0 % 256) ≡ 19
@@ -79,10 +79,10 @@ module _ (ws : List ℕ) (k : IsHeap ws (read_heap ws)) where
 
   new-of : (met : List ℕ) → IsUnmet met → are_new ((get_or ws 7 0 % 256 - 20) / 3) met (places_of h.nodes ++ h.free) ≡ true
   new-of met unmet =
-      let few : used h ≤ 35 = k.few in
+      let few : used_places h ≤ 35 = k.few in
       subst (λ (n : ℕ). are_new n met (places_of h.nodes ++ h.free) ≡ true) used-is
-      (few-new (used h) met (places_of h.nodes ++ h.free) few unmet.size k.places
-      (λ r lt. let z = unmet.none r (omega arith) in let o = once-few (used h) (places_of h.nodes ++ h.free) k.once r lt in omega arith))
+      (few-new (used_places h) met (places_of h.nodes ++ h.free) few unmet.size k.places
+      (λ r lt. let z = unmet.none r (omega arith) in let o = once-few (used_places h) (places_of h.nodes ++ h.free) k.once r lt in omega arith))
 
   new-parts : (met : List ℕ) → IsUnmet met → (are_new ((get_or ws 7 0 % 256 - 20) / 3) met (places_of h.nodes) ≡ true) × (are_new ((get_or ws 7 0 % 256 - 20) / 3) (met_with met (places_of h.nodes)) h.free ≡ true)
   new-parts met unmet = and_parts (are_new ((get_or ws 7 0 % 256 - 20) / 3) met (places_of h.nodes)) (are_new ((get_or ws 7 0 % 256 - 20) / 3) (met_with met (places_of h.nodes)) h.free)
@@ -121,7 +121,7 @@ formed-from ws met unmet size hd lm sl chain rest =
     let hd2 = hd.1.0 in let hd3 = hd.1.1.0 in let hd4 = hd.1.1.1.0 in let hd5 = hd.1.1.1.1.0 in let hd6 = hd.1.1.1.1.1.0 in let hd7 = hd.1.1.1.1.1.1.0 in let hd8 = hd.1.1.1.1.1.1.1.0 in let hd9 = hd.1.1.1.1.1.1.1.1 in
     let ln = length-chain ws (get_or ws 2 0) (get_or ws 18 0 % 256) in
     let lf = length-free ws (top_n ws - get_or ws 2 0) (get_or ws 6 0) in
-    let us : top_n ws ≡ used g = omega arith in
+    let us : top_n ws ≡ used_places g = omega arith in
     let few : top_n ws ≤ 35 = omega arith in
     let pl : ArePlaces (top_n ws) (places_of g.nodes ++ g.free) = new-places (top_n ws) met (places_of g.nodes ++ g.free) new in
     let lp : length (places_of g.nodes ++ g.free) ≡ top_n ws = (let a = length-append (places_of g.nodes) g.free in let b = length-places g.nodes in omega arith) in

@@ -6,7 +6,7 @@ use Rattle.std.proofs.lemmas.List.{length-set, get_or-set_same, get_or-set_other
 use Rattle.ib_heap.specs.declared.TheConstants.{MOST_LEVEL}
 use Rattle.ib_heap.specs.Words.{zeros, free_page_words}
 use Rattle.ib_heap.specs.Page.{Page, PageValue, IsPage, HoldsTree, HoldsPage, page_in}
-use Rattle.ib_heap.specs.Image.{level_of, prev_of, next_of, with_links, with_level, with_clock}
+use Rattle.ib_heap.specs.Image.{level_of, prev_of, next_of, with_links, with_level, value_with_clock}
 use Rattle.ib_heap.proofs.FormLaws.{HasFree, kinds_of, tree, free, neither, page_of-free_page_words}
 use Rattle.ib_heap.specs.Heap.{owners, Heap, records_in, page_with, read_heap, nodes_of}
 use Rattle.ib_heap.specs.Form.{page_of}
@@ -110,7 +110,7 @@ level-set ws level holds low no_prev no_next =
     (record { level = low; prev = f.prev; next = f.next; no_prev = λ lt. sym prev ∙ no_prev lt; no_next = λ lt. sym next ∙ no_next lt; few = f.few; ascends = f.ascends }) in
     record { page = made.page ∙ ap (λ v. with_level level v) (sym h.holds); heap = made.heap }
 
-clock-tree : (ws : List ℕ) (clock : ℕ) → HasHeap ws → Headed ws (set ws 5 clock) (with_clock clock (page_of ws))
+clock-tree : (ws : List ℕ) (clock : ℕ) → HasHeap ws → Headed ws (set ws 5 clock) (value_with_clock clock (page_of ws))
 clock-tree ws clock h =
     let size = h.is.size in
     let vs = set ws 5 clock in
@@ -119,7 +119,7 @@ clock-tree ws clock h =
     let made = headed ws vs (get_or ws 1 0) (get_or ws 3 0) (get_or ws 4 0) clock h (simp length-set (omega arith)) (λ i no. other i (λ e. no (inr (inr (inr e)))))
     (other 1 (λ e. omega arith)) (other 3 (λ e. omega arith)) (other 4 (λ e. omega arith)) (get_or-set_same ws 5 clock 0 (omega arith))
     (record { level = f.level; prev = f.prev; next = f.next; no_prev = f.no_prev; no_next = f.no_next; few = f.few; ascends = f.ascends }) in
-    record { page = made.page ∙ ap (λ v. with_clock clock v) (sym h.holds); heap = made.heap }
+    record { page = made.page ∙ ap (λ v. value_with_clock clock v) (sym h.holds); heap = made.heap }
 
 free-clock : (old clock : ℕ) → set (free_page_words old) 5 clock ≡ free_page_words clock
 unfolding free_page_words
@@ -129,15 +129,15 @@ free-heap : (old clock : ℕ) → read_heap (free_page_words clock) ≡ read_hea
 unfolding free_page_words zeros
 free-heap old clock = refl
 
-clock-free : (ws : List ℕ) (clock : ℕ) → HasFree ws → Headed ws (set ws 5 clock) (with_clock clock (page_of ws))
+clock-free : (ws : List ℕ) (clock : ℕ) → HasFree ws → Headed ws (set ws 5 clock) (value_with_clock clock (page_of ws))
 clock-free ws clock h =
     let made : set ws 5 clock ≡ free_page_words clock = ap (λ (vs : List ℕ). set vs 5 clock) h.words ∙ free-clock h.clock clock in
     record {
-      page = ap page_of made ∙ (page_of-free_page_words clock ∙ ap (λ v. with_clock clock v) (sym h.holds));
+      page = ap page_of made ∙ (page_of-free_page_words clock ∙ ap (λ v. value_with_clock clock v) (sym h.holds));
       heap = ap read_heap made ∙ (free-heap h.clock clock ∙ ap read_heap (sym h.words));
     }
 
-pub clock-set : (ws : List ℕ) (clock : ℕ) → HoldsPage (page_of ws) → Headed ws (set ws 5 clock) (with_clock clock (page_of ws))
+pub clock-set : (ws : List ℕ) (clock : ℕ) → HoldsPage (page_of ws) → Headed ws (set ws 5 clock) (value_with_clock clock (page_of ws))
 clock-set ws clock holds = elim (kinds_of ws) [
   | tree h ↦ clock-tree ws clock (record { is = h.is; holds = page-from ws (read_heap ws) h.is })
   | free h ↦ clock-free ws clock h

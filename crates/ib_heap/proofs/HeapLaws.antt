@@ -7,10 +7,10 @@ use Rattle.std.proofs.lemmas.Bool.Decides.{Decides-and, Decides-like, Decides-eq
 use Rattle.ib_map.specs.declared.TheConstants.{PAGE_WORDS}
 use Rattle.ib_heap.specs.Words.{free_page_words}
 use Rattle.ib_heap.specs.Page.{IsPage, HoldsTree}
-use Rattle.ib_heap.specs.Heap.{Node, Heap, first_of, first_free, is_chained, is_freed, is_owned, owners, is_directory, times, is_place, are_places, each_once, places_of, records_in, used, page_with, is_heap, chain_from, free_from, read_heap}
+use Rattle.ib_heap.specs.Heap.{Node, Heap, first_of, first_free, is_chained, is_freed, is_owned, owners, is_directory, times, is_place, are_places, each_once, places_of, records_in, used_places, page_with, is_heap, chain_from, free_from, read_heap}
 use Rattle.ib_heap.specs.Form.{page_of}
 use Rattle.ib_heap.specs.Page.PageValue.{Tree}
-use Rattle.ib_heap.proofs.PageLaws.{Decides-leb, Decides-ltb, is_page-Decides}
+use Rattle.ib_heap.proofs.PageLaws.{Decides-leb, Decides-ltb, counts_page-Decides}
 
 abbrev pub Chained : List ℕ → List Node → ℕ → Type 0
 Chained ws [] last = get_or ws 19 0 ≡ last * 256
@@ -98,15 +98,15 @@ pub record IsHeap (ws : List ℕ) (h : Heap) : Type 0 where
   pub count : get_or ws 2 0 ≡ length h.nodes
   pub fits : IsPage (page_with ws (records_in ws h.nodes))
   pub front : get_or ws 6 0 ≡ first_free h.free
-  pub top : get_or ws 7 0 ≡ (1 + length (owners h.nodes)) * 256 + (20 + 3 * used h)
-  pub few : used h ≤ 35
+  pub top : get_or ws 7 0 ≡ (1 + length (owners h.nodes)) * 256 + (20 + 3 * used_places h)
+  pub few : used_places h ≤ 35
   pub start : get_or ws 18 0 ≡ 256 + first_of h.nodes
   pub chained : Chained ws h.nodes h.last
   pub freed : Freed ws h.free
   pub owned : Owned 0 h.nodes h.last
   pub directory : Directory ws 10 8 (18 ∷ owners h.nodes)
-  pub places : ArePlaces (used h) (places_of h.nodes ++ h.free)
-  pub once : EachOnce (used h) (places_of h.nodes ++ h.free)
+  pub places : ArePlaces (used_places h) (places_of h.nodes ++ h.free)
+  pub once : EachOnce (used_places h) (places_of h.nodes ++ h.free)
   pub zero_125 : get_or ws 125 0 ≡ 0
   pub zero_126 : get_or ws 126 0 ≡ 0
   pub zero_127 : get_or ws 127 0 ≡ 0
@@ -133,7 +133,7 @@ IsHeap-Decides ws h = Decides-like (is_heap ws h)
       zero_127 = k.1.1.1.1.1.1.1.1.1.1.1.1.1.1.1.1;
     })
     (λ k. (k.size, (k.kind, (k.count, (k.fits, (k.front, (k.top, (k.few, (k.start, (k.chained, (k.freed, (k.owned, (k.directory, (k.places, (k.once, (k.zero_125, (k.zero_126, k.zero_127)))))))))))))))))
-    (Decides-and _ _ (Decides-eqb _ _) (Decides-and _ _ (Decides-eqb _ _) (Decides-and _ _ (Decides-eqb _ _) (Decides-and _ _ (is_page-Decides _)
+    (Decides-and _ _ (Decides-eqb _ _) (Decides-and _ _ (Decides-eqb _ _) (Decides-and _ _ (Decides-eqb _ _) (Decides-and _ _ (counts_page-Decides _)
     (Decides-and _ _ (Decides-eqb _ _) (Decides-and _ _ (Decides-eqb _ _) (Decides-and _ _ (Decides-leb _ _) (Decides-and _ _ (Decides-eqb _ _)
     (Decides-and _ _ (Chained-Decides ws h.nodes h.last) (Decides-and _ _ (Freed-Decides ws h.free) (Decides-and _ _ (Owned-Decides 0 h.nodes h.last)
     (Decides-and _ _ (Directory-Decides ws 10 8 (18 ∷ owners h.nodes)) (Decides-and _ _ (ArePlaces-Decides _ _) (Decides-and _ _ (EachOnce-Decides _ _)
@@ -179,11 +179,11 @@ heap-read ws h k =
     let top = k.top in
     let count = k.count in
     let start = k.start in
-    let nodes_places = ArePlaces-left (used h) (places_of h.nodes) h.free k.places in
-    let low = first-low (used h) h.nodes few nodes_places in
+    let nodes_places = ArePlaces-left (used_places h) (places_of h.nodes) h.free k.places in
+    let low = first-low (used_places h) h.nodes few nodes_places in
     let first : get_or ws 18 0 % 256 ≡ first_of h.nodes = omega arith in
     let nodes : chain_from ws (get_or ws 2 0) (get_or ws 18 0 % 256) ≡ h.nodes =
-    ap (λ n. chain_from ws n (get_or ws 18 0 % 256)) count ∙ (ap (λ n. chain_from ws (length h.nodes) n) first ∙ chain-read ws (used h) h.nodes h.last few nodes_places k.chained) in
+    ap (λ n. chain_from ws n (get_or ws 18 0 % 256)) count ∙ (ap (λ n. chain_from ws (length h.nodes) n) first ∙ chain-read ws (used_places h) h.nodes h.last few nodes_places k.chained) in
     let last : get_or ws 19 0 / 256 ≡ h.last = let e = last-word ws h.nodes h.last k.chained in omega arith in
     let long : (get_or ws 7 0 % 256 - 20) / 3 - get_or ws 2 0 ≡ length h.free = omega arith in
     let free : free_from ws ((get_or ws 7 0 % 256 - 20) / 3 - get_or ws 2 0) (get_or ws 6 0) ≡ h.free =

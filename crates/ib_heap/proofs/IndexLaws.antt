@@ -1,7 +1,7 @@
 -- How many records stand before a slot, by what the slots before it own.
 use Rattle.std.proofs.Common.{◌≡◌, ℕ, zero, suc, ◌+◌, ◌/◌, ◌<◌, ◌≤◌, [], ◌∷◌, ◌∙◌, List, length, drop, get_or, refl, ap, sym, arith, inl, inr, subst}
 use Rattle.std.proofs.lemmas.Bool.{eq-eqb, ne_eqb}
-use Rattle.ib_heap.specs.Heap.{Node, owners, up_to, used, read_heap, nodes_of}
+use Rattle.ib_heap.specs.Heap.{Node, owners, up_to, used_places, read_heap, nodes_of}
 use Rattle.ib_heap.specs.Put.{owned_by, owner_from}
 use Rattle.ib_heap.proofs.HeapLaws.{Owned}
 use Rattle.ib_heap.proofs.SeekLaws.{Known, directory-at, up_to-le}
@@ -42,7 +42,7 @@ index-step ws j kn lt =
     let within : InSlot j (up_to j xs) xs = (omega arith, (inl (omega arith), omega arith)) in
     let slots = kn.slots in
     let place : get_or ws (8 + suc j) 0 ≡ owner_from (drop (up_to j xs) xs) = directory-at ws 10 8 (18 ∷ owners xs) (suc j) kn.is.directory (omega arith) ∙ owner-slot 18 j (up_to j xs) xs within le in
-    let o = owner-word ws (used (read_heap ws)) (up_to j xs) xs last kn.few kn.places kn.is.chained le in
+    let o = owner-word ws (used_places (read_heap ws)) (up_to j xs) xs last kn.few kn.places kn.is.chained le in
     let i = o.is in let l = o.low in
     let word : get_or ws (get_or ws (8 + suc j) 0) 0 ≡ get_or ws (owner_from (drop (up_to j xs) xs)) 0 = ap (λ n. get_or ws n 0) place in
     omega arith

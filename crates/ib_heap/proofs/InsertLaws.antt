@@ -4,12 +4,12 @@ use Rattle.ib_map.specs.Keys.{rank, end_rank}
 use Rattle.ib_map.specs.Pairs.{put, value_at, place_of}
 use Rattle.ib_heap.specs.Page.{Page, HoldsTree}
 use Rattle.ib_heap.specs.Page.PageValue.{Tree}
-use Rattle.ib_heap.specs.Heap.{Heap, first_of, nodes_of, read_heap, up_to, used}
+use Rattle.ib_heap.specs.Heap.{Heap, first_of, nodes_of, read_heap, up_to, used_places}
 use Rattle.ib_heap.specs.Form.{page_of}
-use Rattle.ib_heap.specs.Image.{records_of, with_records}
+use Rattle.ib_heap.specs.Image.{records_of, value_with_records}
 use Rattle.ib_heap.specs.Put.{owned_by, owner_from, place_for, rest_of, put_in}
 use Rattle.ib_heap.specs.Kept.{IsKept}
-use Rattle.ib_heap.specs.Steps.{Stands, IsHead, Taken, CanLink, Linked, CanSplit, Split}
+use Rattle.ib_heap.specs.Steps.{IsPlaceOfKey, IsHead, IsPlaceTaken, CanLink, IsLinkedIn, CanSplitSlot, IsSlotSplit}
 use Rattle.ib_heap.specs.Walks.{end_from}
 use Rattle.ib_heap.proofs.SeekLaws.{Known, known}
 use Rattle.ib_heap.proofs.PutPage.{owner_is, shaped1, page1, over1, within, within1, wanted, k_le, owner-drop, own-apart, kept1, heap1, Steps}
@@ -22,11 +22,11 @@ use Rattle.ib_heap.proofs.PutHeap.{put-in-split}
 
 -- what an insert leaves
 pub record IsPut (ws vs : List ℕ) (key value : ℕ) : Type 0 where
-  pub page : page_of vs ≡ with_records (put key value (records_of ws)) (page_of ws)
+  pub page : page_of vs ≡ value_with_records (put key value (records_of ws)) (page_of ws)
   pub heap : read_heap vs ≡ put_in (place_of key (records_of ws)) (read_heap ws)
-  pub kept : (i : ℕ) → IsKept (used (read_heap vs)) i → i ≢ place_for (read_heap ws) + 1 → i ≢ place_for (read_heap ws) + 2 → get_or vs i 0 ≡ get_or ws i 0
+  pub kept : (i : ℕ) → IsKept (used_places (read_heap vs)) i → i ≢ place_for (read_heap ws) + 1 → i ≢ place_for (read_heap ws) + 2 → get_or vs i 0 ≡ get_or ws i 0
 
-module _ (ws : List ℕ) (key slot before at : ℕ) (holds : HoldsTree (page_of ws)) (room35 : length (records_of ws) < 35) (st : Stands ws key slot before at) where
+module _ (ws : List ℕ) (key slot before at : ℕ) (holds : HoldsTree (page_of ws)) (room35 : length (records_of ws) < 35) (st : IsPlaceOfKey ws key slot before at) where
   kn : Known ws
   kn = known ws holds
 
@@ -43,7 +43,7 @@ module _ (ws : List ℕ) (key slot before at : ℕ) (holds : HoldsTree (page_of 
   slot-read = let s = kn.size in let few = kn.slots in let r = st.in_range in omega arith
 
   -- the place is taken
-  module _ (w1 : List ℕ) (p : ℕ) (tk : Taken ws w1 p) where
+  module _ (w1 : List ℕ) (p : ℕ) (tk : IsPlaceTaken ws w1 p) where
     pub can-link : CanLink w1 before at own p
     can-link =
         let b = before-range ws w1 key slot before at p kn st nodes-few tk in
@@ -65,7 +65,7 @@ module _ (ws : List ℕ) (key slot before at : ℕ) (holds : HoldsTree (page_of 
         }
 
     -- the record is linked in
-    module _ (vs : List ℕ) (value : ℕ) (lk : Linked w1 vs before at own p key value) (absent : value_at key (records_of ws) ≡ None) (below : rank key < end_rank) where
+    module _ (vs : List ℕ) (value : ℕ) (lk : IsLinkedIn w1 vs before at own p key value) (absent : value_at key (records_of ws) ≡ None) (below : rank key < end_rank) where
       size : length vs ≡ 128
       size = lk.size ∙ (tk.size ∙ kn.size)
 
@@ -84,7 +84,7 @@ module _ (ws : List ℕ) (key slot before at : ℕ) (holds : HoldsTree (page_of 
         heap = plain-heap ws w1 key slot before at p kn st nodes-few tk vs value lk absent below few;
         kept = λ i kept one two.
             kept1 ws key slot before at p kn st nodes-few gives vs value wr absent below i
-            (subst (λ (n : ℕ). IsKept n i) (ap used (plain-read ws w1 key slot before at p kn st nodes-few tk vs value lk absent below few)) kept)
+            (subst (λ (n : ℕ). IsKept n i) (ap used_places (plain-read ws w1 key slot before at p kn st nodes-few tk vs value lk absent below few)) kept)
             (λ z. one (z ∙ ap (λ q. q + 1) tk.place)) (λ z. two (z ∙ ap (λ q. q + 2) tk.place));
       }
 
@@ -134,7 +134,7 @@ module _ (ws : List ℕ) (key slot before at : ℕ) (holds : HoldsTree (page_of 
           owner-head : IsHead own
           owner-head = let o = owner-range ws w1 key slot before at p kn st nodes-few tk in record { low = o.0; high = o.1 }
 
-          pub can-split : CanSplit vs slot middle own
+          pub can-split : CanSplitSlot vs slot middle own
           can-split =
               let t = top-is vs h1 k slot own middle sh st.some ov nn wi oi mi in
               let r = room vs h1 k slot own middle sh st.some ov nn wi oi mi in
@@ -152,7 +152,7 @@ module _ (ws : List ℕ) (key slot before at : ℕ) (holds : HoldsTree (page_of 
                 owner_word = omega arith;
               }
 
-          pub put-split : (v2 : List ℕ) → Split vs v2 slot middle own → IsPut ws v2 key value
+          pub put-split : (v2 : List ℕ) → IsSlotSplit vs v2 slot middle own → IsPut ws v2 key value
           put-split v2 sp =
               let nine = nn in
               let after = split-heap-is vs h1 k slot own middle sh st.some ov nn wi oi mi v2 sp owner-head.low middle-head.low in
@@ -161,7 +161,7 @@ module _ (ws : List ℕ) (key slot before at : ℕ) (holds : HoldsTree (page_of 
                     ∙ (ap (λ (q : Page). Tree q) (page1 ws key slot before at p kn st nodes-few gives vs value wr absent below) ∙ sym (wanted ws key slot before at p kn st nodes-few gives vs value wr absent below));
                 heap = after ∙ put-in-split _ p slot (read_heap ws) tk.place (omega arith) (within ws key slot before at p kn st nodes-few gives) (k_le ws key slot before at p kn st nodes-few gives);
                 kept = λ i kept one two.
-                    let now = subst (λ (n : ℕ). IsKept n i) (ap used after ∙ used-split _ h1) kept in
+                    let now = subst (λ (n : ℕ). IsKept n i) (ap used_places after ∙ used-split _ h1) kept in
                     split-kept vs h1 k slot own middle sh st.some ov nn wi oi mi v2 sp i now (own-apart ws key slot before at p kn st nodes-few gives vs value wr absent below i now)
                     ∙ kept1 ws key slot before at p kn st nodes-few gives vs value wr absent below i now (λ z. one (z ∙ ap (λ q. q + 1) tk.place)) (λ z. two (z ∙ ap (λ q. q + 2) tk.place));
               }

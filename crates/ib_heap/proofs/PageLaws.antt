@@ -27,8 +27,8 @@ links_to : (level link other : ℕ) → (0 < level → link ≡ 0) → (0 < leve
 links_to zero link other h k = inl refl
 links_to (suc level) link other h k = inr (h (omega arith), k (omega arith))
 
-pub is_page-Decides : (p : Page) → Decides (is_page p) (IsPage p)
-is_page-Decides p = Decides-like (is_page p)
+pub counts_page-Decides : (p : Page) → Decides (is_page p) (IsPage p)
+counts_page-Decides p = Decides-like (is_page p)
     (λ h. let links = links_from p.level p.prev p.next h.1.1.1.0 in
     record { level = h.0; prev = h.1.0; next = h.1.1.0; no_prev = links.0; no_next = links.1; few = h.1.1.1.1.0; ascends = h.1.1.1.1.1 })
     (λ h. (h.level, (h.prev, (h.next, (links_to p.level p.prev p.next h.no_prev h.no_next, (h.few, h.ascends))))))

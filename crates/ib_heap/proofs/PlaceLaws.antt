@@ -1,6 +1,6 @@
 -- The place that a new record takes.
 use Rattle.std.proofs.Common.{◌≡◌, ℕ, ◌+◌, ◌*◌, ◌%◌, ◌≤◌, [], ◌∷◌, ◌∙◌, List, length, get_or, refl, ap, sym, arith, inl, inr}
-use Rattle.ib_heap.specs.Heap.{Node, Heap, first_free, used, read_heap, nodes_of}
+use Rattle.ib_heap.specs.Heap.{Node, Heap, first_free, used_places, read_heap, nodes_of}
 use Rattle.ib_heap.specs.Put.{place_for, rest_of}
 use Rattle.ib_heap.proofs.HeapLaws.{Freed, ArePlaces, ArePlaces-right}
 use Rattle.ib_heap.proofs.SeekLaws.{Known}
@@ -15,7 +15,7 @@ pub record FreePlace (ws : List ℕ) (h : Heap) (p : ℕ) : Type 0 where
   pub low : 20 ≤ p
   pub high : p ≤ 122
   pub next : get_or ws p 0 ≡ first_free (rest_of h.free)
-  pub same : length h.nodes + 1 + length (rest_of h.free) ≡ used h
+  pub same : length h.nodes + 1 + length (rest_of h.free) ≡ used_places h
   pub gives : Gives h p (rest_of h.free)
 
 pub free-place : (ws : List ℕ) (nodes : List Node) (last : ℕ) (free : List ℕ) (p : ℕ) → Freed ws free → ArePlaces (length nodes + length free) free → length nodes + length free ≤ 35 → p ≡ first_free free → (p ≡ 0 → ⊥) → FreePlace ws (heap nodes last free) p
@@ -28,7 +28,7 @@ free-place ws nodes last (q ∷ qs) p freed places few at some =
 pub record TopPlace (h : Heap) (p : ℕ) : Type 0 where
   pub place : p ≡ place_for h
   pub front : 0 ≡ first_free (rest_of h.free)
-  pub more : length h.nodes + 1 + length (rest_of h.free) ≡ used h + 1
+  pub more : length h.nodes + 1 + length (rest_of h.free) ≡ used_places h + 1
   pub none : length h.free ≡ 0
   pub gives : Gives h p (rest_of h.free)
 

@@ -5,12 +5,12 @@ use Rattle.ib_map.specs.Keys.{rank, end_rank}
 use Rattle.ib_map.specs.Pairs.{Pairs, put, value_at, place_of}
 use Rattle.ib_map.proofs.PlaceLaws.{place_of-le}
 use Rattle.ib_heap.specs.Page.{Page, PageValue}
-use Rattle.ib_heap.specs.Heap.{Node, Heap, first_of, owners, times, places_of, records_in, used, page_with, read_heap, last_from, up_to, nodes_of}
+use Rattle.ib_heap.specs.Heap.{Node, Heap, first_of, owners, times, places_of, records_in, used_places, page_with, read_heap, last_from, up_to, nodes_of}
 use Rattle.ib_heap.specs.Form.{page_of}
-use Rattle.ib_heap.specs.Image.{with_records, records_of}
+use Rattle.ib_heap.specs.Image.{value_with_records, records_of}
 use Rattle.ib_heap.specs.Put.{owned_by, owner_from, own_one_more, put_node, put_last, rest_of}
 use Rattle.ib_heap.specs.Page.PageValue.{Tree}
-use Rattle.ib_heap.specs.Steps.{Stands}
+use Rattle.ib_heap.specs.Steps.{IsPlaceOfKey}
 use Rattle.ib_heap.proofs.HeapLaws.{Chained, Owned, ArePlaces, ArePlaces-left, IsPlace, page-from}
 use Rattle.ib_heap.proofs.SeekLaws.{Known, directory-at, owner-at, link-at, last-first, last-in, first-in}
 use Rattle.ib_heap.proofs.PutLaws.{one-same, OverAt, Over, over-put, over_at-room, owner-in, times-drop, Apart, apart-owner, apart-rest, owners-put, length-put, times-put, times-apart}
@@ -126,7 +126,7 @@ owner-drop zero p xs le = go xs
 owner-drop (suc k) p [] le = absurd (omega arith)
 owner-drop (suc k) p (x ∷ xs) le = owner-drop k p xs (omega arith)
 
-module _ (ws : List ℕ) (key slot before at p : ℕ) (kn : Known ws) (st : Stands ws key slot before at) (few : length (nodes_of ws) < 35) (gives : Gives (read_heap ws) p (rest_of (read_heap ws).free)) where
+module _ (ws : List ℕ) (key slot before at p : ℕ) (kn : Known ws) (st : IsPlaceOfKey ws key slot before at) (few : length (nodes_of ws) < 35) (gives : Gives (read_heap ws) p (rest_of (read_heap ws).free)) where
   abbrev pub k : ℕ
   k = place_of key (records_of ws)
 
@@ -197,11 +197,11 @@ module _ (ws : List ℕ) (key slot before at p : ℕ) (kn : Known ws) (st : Stan
       record { owned = h.owned; is = ap (λ n. get_or ws n 0) st.before_is ∙ (h.is ∙ ap (λ n. h.owned * 256 + n) (sym st.at_is)); few = h.few }
 
   pub at_low : at < 256
-  at_low = let e = st.at_is in elim (first-in (used (read_heap ws)) nodes k kn.few kn.places k_le) [ inl z ↦ (let y = z.0 in omega arith) | inr z ↦ (let y = z.1.0 in omega arith) ]
+  at_low = let e = st.at_is in elim (first-in (used_places (read_heap ws)) nodes k kn.few kn.places k_le) [ inl z ↦ (let y = z.0 in omega arith) | inr z ↦ (let y = z.1.0 in omega arith) ]
 
   pub owner_head : get_or ws owner 0 < 65536
   owner_head =
-      let o = owner-word ws (used (read_heap ws)) k nodes (read_heap ws).last kn.few kn.places kn.is.chained k_le in
+      let o = owner-word ws (used_places (read_heap ws)) k nodes (read_heap ws).last kn.few kn.places kn.is.chained k_le in
       let f = owned-few 0 k nodes (read_heap ws).last kn.is.owned in
       let i = o.is in let l = o.low in
       let e : get_or ws owner 0 ≡ get_or ws (owner_from (drop k nodes)) 0 = ap (λ n. get_or ws n 0) owner_is in omega arith
@@ -229,13 +229,13 @@ module _ (ws : List ℕ) (key slot before at p : ℕ) (kn : Known ws) (st : Stan
     pub owner1 : OwnerWord (get_or vs owner 0) (owned_by (drop k nodes1) last1)
     owner1 =
         let l = long1 in let a = k_le in
-        let o = owner-word vs (used heap1) k nodes1 last1 shaped1.few (ArePlaces-left _ _ _ shaped1.places) shaped1.chained (omega arith) in
+        let o = owner-word vs (used_places heap1) k nodes1 last1 shaped1.few (ArePlaces-left _ _ _ shaped1.places) shaped1.chained (omega arith) in
         let e : owner ≡ owner_from (drop k nodes1) = owner_is ∙ sym (owner-drop k p nodes k_le) in
         record { next = o.next; is = ap (λ n. get_or vs n 0) e ∙ o.is; low = o.low }
 
     -- the words that are kept are no place of the chain
-    pub member-apart : (i q : ℕ) → IsKept (used heap1) i → 0 < times q (places_of nodes1) → i ≢ q
-    member-apart i q kept m = kept-place (used heap1) i q kept ((places-known heap1 shaped1.places shaped1.once).place q (omega arith))
+    pub member-apart : (i q : ℕ) → IsKept (used_places heap1) i → 0 < times q (places_of nodes1) → i ≢ q
+    member-apart i q kept m = kept-place (used_places heap1) i q kept ((places-known heap1 shaped1.places shaped1.once).place q (omega arith))
 
     in-nodes1 : (q : ℕ) → 0 < times q (places_of nodes) → 0 < times q (places_of nodes1)
     in-nodes1 q m = let t = times-put k p q nodes k_le in omega arith
@@ -243,31 +243,31 @@ module _ (ws : List ℕ) (key slot before at p : ℕ) (kn : Known ws) (st : Stan
     p-in : 0 < times p (places_of nodes1)
     p-in = let t = times-put k p p nodes k_le in let o = one-same p in omega arith
 
-    before-apart : (i : ℕ) → IsKept (used heap1) i → i ≢ before
+    before-apart : (i : ℕ) → IsKept (used_places heap1) i → i ≢ before
     before-apart i kept = elim (before-in k nodes k_le) [
       | inl e ↦ (let b = st.before_is ∙ e.1 in kept-fixed _ i before kept (inr (omega arith, omega arith)))
       | inr m ↦ member-apart i before kept (in-nodes1 before (subst (λ (q : ℕ). 0 < times q (places_of nodes)) (sym st.before_is) m.1))
     ]
 
-    pub own-apart : (i : ℕ) → IsKept (used heap1) i → i ≢ owner
+    pub own-apart : (i : ℕ) → IsKept (used_places heap1) i → i ≢ owner
     own-apart i kept = elim (owner-in (drop k nodes)) [
       | inl e ↦ (let o = owner_is ∙ e in kept-fixed _ i owner kept (inr (omega arith, omega arith)))
       | inr m ↦ (let d = times-drop k (owner_from (drop k nodes)) nodes in member-apart i owner kept (in-nodes1 owner (subst (λ (q : ℕ). 0 < times q (places_of nodes)) (sym owner_is) (omega arith))))
     ]
 
-    pub kept1 : (i : ℕ) → IsKept (used heap1) i → i ≢ p + 1 → i ≢ p + 2 → get_or vs i 0 ≡ get_or ws i 0
+    pub kept1 : (i : ℕ) → IsKept (used_places heap1) i → i ≢ p + 1 → i ≢ p + 2 → get_or vs i 0 ≡ get_or ws i 0
     kept1 i kept a b =
         w.other i (kept-fixed _ i 2 kept (inl refl)) (kept-fixed _ i 6 kept (inr (omega arith, omega arith))) (kept-fixed _ i 7 kept (inr (omega arith, omega arith)))
         (member-apart i p kept p-in) a b (λ z. before-apart i kept (z ∙ sym st.before_is)) (λ z. own-apart i kept (z ∙ sym owner_is))
 
     -- the page that is wanted
-    pub wanted : with_records (put key value (records_of ws)) (page_of ws) ≡ Tree (page_with ws (put key value (records_in ws nodes)))
+    pub wanted : value_with_records (put key value (records_of ws)) (page_of ws) ≡ Tree (page_with ws (put key value (records_in ws nodes)))
     wanted =
         let hh = page-from ws (read_heap ws) kn.is in
-        ap (λ (v : PageValue). with_records (put key value (records_of ws)) v) hh
+        ap (λ (v : PageValue). value_with_records (put key value (records_of ws)) v) hh
         ∙ ap (λ (rs : Pairs). Tree (page_with ws (put key value rs))) kn.records
 
-    pub done_plain : get_or vs owner 0 / 256 ≤ 8 → page_of vs ≡ with_records (put key value (records_of ws)) (page_of ws)
+    pub done_plain : get_or vs owner 0 / 256 ≤ 8 → page_of vs ≡ value_with_records (put key value (records_of ws)) (page_of ws)
     done_plain room =
         let o = owner1 in let i = o.is in let l = o.low in
         let owned : Owned 0 nodes1 last1 = over_at-room k 0 nodes1 last1 over1 (omega arith) in
@@ -290,17 +290,17 @@ module _ (ws : List ℕ) (key slot before at p : ℕ) (kn : Known ws) (st : Stan
     pub group1 : owned_by (drop k nodes1) last1 ≡ 9 → Group (slot - 1) k t nodes1 last1
     group1 full = group (slot - 1) k 0 nodes1 last1 (λ z. refl) over1 full within1
 
-    places1 : ArePlaces (used heap1) (places_of nodes1)
+    places1 : ArePlaces (used_places heap1) (places_of nodes1)
     places1 = ArePlaces-left _ _ _ shaped1.places
 
     next1 : (i q : ℕ) → i < length nodes1 → q ≡ last_from 18 (take i nodes1) → get_or vs q 0 % 256 ≡ last_from 18 (take (suc i) nodes1)
     next1 i q lt e =
         let s = shaped1.start in
-        let low : first_of nodes1 < 256 = elim (first-in (used heap1) nodes1 0 shaped1.few places1 (omega arith)) [ inl z ↦ (let y = z.0 in omega arith) | inr z ↦ (let y = z.1.0 in omega arith) ] in
-        ap (λ n. get_or vs n 0 % 256) e ∙ (link-at vs (used heap1) 18 nodes1 last1 i shaped1.few places1 (omega arith) shaped1.chained (omega arith) ∙ sym (last-first 18 nodes1 i lt))
+        let low : first_of nodes1 < 256 = elim (first-in (used_places heap1) nodes1 0 shaped1.few places1 (omega arith)) [ inl z ↦ (let y = z.0 in omega arith) | inr z ↦ (let y = z.1.0 in omega arith) ] in
+        ap (λ n. get_or vs n 0 % 256) e ∙ (link-at vs (used_places heap1) 18 nodes1 last1 i shaped1.few places1 (omega arith) shaped1.chained (omega arith) ∙ sym (last-first 18 nodes1 i lt))
 
     pub low1 : (i q : ℕ) → i ≤ length nodes1 → q ≡ last_from 18 (take i nodes1) → q ≤ 122
-    low1 i q le e = elim (last-in (used heap1) 18 nodes1 i shaped1.few places1 le) [ inl z ↦ (let y = z.1 in omega arith) | inr z ↦ (let y = z.1 in omega arith) ]
+    low1 i q le e = elim (last-in (used_places heap1) 18 nodes1 i shaped1.few places1 le) [ inl z ↦ (let y = z.1 in omega arith) | inr z ↦ (let y = z.1 in omega arith) ]
 
     pub first_is : get_or ws (8 + (slot - 1)) 0 ≡ last_from 18 (take (up_to (slot - 1) nodes1) nodes1)
     first_is =
@@ -335,6 +335,6 @@ module _ (ws : List ℕ) (key slot before at p : ℕ) (kn : Known ws) (st : Stan
           low2 = low1 (suc (suc u)) q2 (omega arith) p2;
           low3 = low1 (suc (suc (suc u))) q3 (omega arith) p3;
           low4 = low1 (suc (suc (suc (suc u)))) q4 (omega arith) p4;
-          high4 = elim (first-in (used heap1) nodes1 (suc (suc (suc u))) shaped1.few places1 (omega arith)) [ inl z ↦ absurd (let y = z.1 in omega arith) | inr z ↦ (let y = z.0 in omega arith) ];
+          high4 = elim (first-in (used_places heap1) nodes1 (suc (suc (suc u))) shaped1.few places1 (omega arith)) [ inl z ↦ absurd (let y = z.1 in omega arith) | inr z ↦ (let y = z.0 in omega arith) ];
           is = f4 ∙ ap (λ n. first_of (drop n nodes1)) e;
         }

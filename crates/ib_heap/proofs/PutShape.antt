@@ -7,7 +7,7 @@ use Rattle.ib_map.specs.Pairs.{Pairs, put, value_at, place_of}
 use Rattle.ib_map.proofs.PairLaws.{Rises-put, length-put as length-put-pairs}
 use Rattle.ib_map.proofs.PlaceLaws.{insert-place}
 use Rattle.ib_heap.specs.Page.{Page, IsPage}
-use Rattle.ib_heap.specs.Heap.{Node, Heap, first_of, owners, times, places_of, records_in, used, page_with, last_from, nodes_of, read_heap}
+use Rattle.ib_heap.specs.Heap.{Node, Heap, first_of, owners, times, places_of, records_in, used_places, page_with, last_from, nodes_of, read_heap}
 use Rattle.ib_heap.specs.Put.{owner_from, put_node, put_last}
 use Rattle.ib_heap.proofs.HeapLaws.{Chained, Freed, Directory, IsPlace, ArePlaces, EachOnce, IsHeap}
 use Rattle.ib_heap.proofs.SeekLaws.{length-records, Known}
@@ -16,7 +16,7 @@ use Rattle.ib_heap.proofs.ShapeLaws.{Shaped, Places, places-known, places-from, 
 
 -- what is known of the place that a record takes
 pub record NewPlace (h : Heap) (p : ℕ) (free : List ℕ) : Type 0 where
-  pub more : used h ≤ length h.nodes + 1 + length free
+  pub more : used_places h ≤ length h.nodes + 1 + length free
   pub few : length h.nodes < 35 → length h.nodes + 1 + length free ≤ 35
   pub not_node : times p (places_of h.nodes) ≡ 0
   pub not_free : times p free ≡ 0
@@ -27,23 +27,23 @@ pub record NewPlace (h : Heap) (p : ℕ) (free : List ℕ) : Type 0 where
 wider : (n m q : ℕ) → IsPlace n q → n ≤ m → IsPlace m q
 wider n m q h le = let b = h.below in record { number = h.number; is = h.is; below = omega arith }
 
-pub new-place : (h : Heap) (p : ℕ) (free : List ℕ) → Places h → used h ≤ 35 → Gives h p free → NewPlace h p free
+pub new-place : (h : Heap) (p : ℕ) (free : List ℕ) → Places h → used_places h ≤ 35 → Gives h p free → NewPlace h p free
 new-place h p free known few (inl e) =
     let times_is : (q : ℕ) → times q h.free ≡ one p q + times q free = λ q. ap (λ (ps : List ℕ). times q ps) e in
     let long : length h.free ≡ 1 + length free = ap length e ∙ (let l : length (p ∷ free) ≡ 1 + length free = omega arith in l) in
-    let same : length h.nodes + 1 + length free ≡ used h = omega arith in
+    let same : length h.nodes + 1 + length free ≡ used_places h = omega arith in
     record {
       more = omega arith;
       few = λ lt. omega arith;
       not_node = let o = known.once p in let t = times_is p in let s = one-same p in omega arith;
       not_free = let o = known.once p in let t = times_is p in let s = one-same p in omega arith;
       was_free = λ q. let t = times_is q in omega arith;
-      place = λ q lt. wider (used h) _ q (known.place q (let t = times_is q in omega arith)) (omega arith);
+      place = λ q lt. wider (used_places h) _ q (known.place q (let t = times_is q in omega arith)) (omega arith);
       each = λ r lt. let o = known.each r (omega arith) in let t = times_is (20 + 3 * r) in omega arith;
     }
 new-place h p free known few (inr e) =
     let none : h.free ≡ [] = e.0 in
-    let at : p ≡ 20 + 3 * used h = e.1.0 in
+    let at : p ≡ 20 + 3 * used_places h = e.1.0 in
     let empty : free ≡ [] = e.1.1 in
     let times_old : (q : ℕ) → times q h.free ≡ 0 = λ q. ap (λ (ps : List ℕ). times q ps) none in
     let times_new : (q : ℕ) → times q free ≡ 0 = λ q. ap (λ (ps : List ℕ). times q ps) empty in
@@ -60,8 +60,8 @@ new-place h p free known few (inr e) =
       not_free = times_new p;
       was_free = λ q. let t = times_new q in omega arith;
       place = λ q lt. elim (cases_eq p q) [
-        | inl same ↦ record { number = used h; is = sym same ∙ at; below = omega arith }
-        | inr ne ↦ wider (used h) _ q (known.place q (let o = one-other p q ne in let t = times_new q in omega arith)) (omega arith)
+        | inl same ↦ record { number = used_places h; is = sym same ∙ at; below = omega arith }
+        | inr ne ↦ wider (used_places h) _ q (known.place q (let o = one-other p q ne in let t = times_new q in omega arith)) (omega arith)
       ];
       each = λ r lt. elim (cases_eq p (20 + 3 * r)) [
         | inl same ↦ (let s = one-same p in let z : one p (20 + 3 * r) ≡ 1 = ap (λ n. one p n) (sym same) ∙ s in let m : times (20 + 3 * r) (places_of h.nodes) ≡ 0 = ap (λ n. times n (places_of h.nodes)) (sym same) ∙ not_node in let t = times_new (20 + 3 * r) in omega arith)
@@ -87,7 +87,7 @@ pub record Low (p : ℕ) : Type 0 where
   pub is : p ≡ 20 + 3 * number
   pub below : number < 35
 
-pub low-member : (h : Heap) → Places h → used h ≤ 35 → (q : ℕ) → 0 < times q (places_of h.nodes) + times q h.free → Low q
+pub low-member : (h : Heap) → Places h → used_places h ≤ 35 → (q : ℕ) → 0 < times q (places_of h.nodes) + times q h.free → Low q
 low-member h known few q m = let pl = known.place q m in let b = pl.below in record { number = pl.number; is = pl.is; below = omega arith }
 
 -- the same of an image of a page
@@ -102,14 +102,14 @@ pub off-low : (i q : ℕ) → Off i → Low q → i ≢ q
 off-low i q off l z = let a = l.is in let b = l.below in elim off [ inl f ↦ absurd (omega arith) | inr f ↦ elim f [ inl g ↦ absurd (omega arith) | inr g ↦ g l.number (z ∙ a) ] ]
 
 -- no record stands there
-pub off-none : (h : Heap) → Places h → used h ≤ 35 → (i : ℕ) → Off i → times i (places_of h.nodes) ≡ 0
+pub off-none : (h : Heap) → Places h → used_places h ≤ 35 → (i : ℕ) → Off i → times i (places_of h.nodes) ≡ 0
 off-none h known few i off = elim (cases_lt 0 (times i (places_of h.nodes))) [
   | inl lt ↦ absurd (off-low i i off (low-member h known few i (omega arith)) refl)
   | inr ge ↦ omega arith
 ]
 
 -- a record keeps its key and value where each word behind 20 that is no head stays as it is
-pub kept-pair : (ws vs : List ℕ) (h : Heap) → Places h → used h ≤ 35 → ((i : ℕ) → 20 < i → Off i → get_or vs i 0 ≡ get_or ws i 0) → (q : ℕ) → 0 < times q (places_of h.nodes)
+pub kept-pair : (ws vs : List ℕ) (h : Heap) → Places h → used_places h ≤ 35 → ((i : ℕ) → 20 < i → Off i → get_or vs i 0 ≡ get_or ws i 0) → (q : ℕ) → 0 < times q (places_of h.nodes)
     → (get_or vs (q + 1) 0 ≡ get_or ws (q + 1) 0) × (get_or vs (q + 2) 0 ≡ get_or ws (q + 2) 0)
 kept-pair ws vs h known few same q m =
     let l = low-member h known few q (omega arith) in let a = l.is in
@@ -199,7 +199,7 @@ module _ (ws vs : List ℕ) (h : Heap) (k p key value : ℕ) (free : List ℕ) (
   times_new : (q : ℕ) → times q (places_of (put_node k p h.nodes) ++ free) ≡ one p q + times q (places_of h.nodes) + times q free
   times_new q = let a = times-append q (places_of (put_node k p h.nodes)) free in let b = times-put k p q h.nodes le in omega arith
 
-  used_is : used (put_heap k p free h) ≡ length h.nodes + 1 + length free
+  used_is : used_places (put_heap k p free h) ≡ length h.nodes + 1 + length free
   used_is = let longer = length-put k p h.nodes le in omega arith
 
   same_at : SameAt ws vs h.nodes before owner
@@ -250,7 +250,7 @@ module _ (ws vs : List ℕ) (h : Heap) (k p key value : ℕ) (free : List ℕ) (
   new_count : get_or vs 2 0 ≡ length (put_node k p h.nodes)
   new_count = let longer = length-put k p h.nodes le in let a = w.count in let b = is.count in omega arith
 
-  new_top : get_or vs 7 0 ≡ (1 + length (owners (put_node k p h.nodes))) * 256 + (20 + 3 * used (put_heap k p free h))
+  new_top : get_or vs 7 0 ≡ (1 + length (owners (put_node k p h.nodes))) * 256 + (20 + 3 * used_places (put_heap k p free h))
   new_top =
       let longer = used_is in let a = w.top in let b = is.top in let m = new.more in
       let owners_long : length (owners (put_node k p h.nodes)) ≡ length (owners h.nodes) = ap length (owners-put k p h.nodes le) in omega arith
@@ -259,11 +259,11 @@ module _ (ws vs : List ℕ) (h : Heap) (k p key value : ℕ) (free : List ℕ) (
   new_directory = subst (λ (os : List ℕ). Directory vs 10 8 (18 ∷ os)) (sym (owners-put k p h.nodes le))
       (directory-same ws vs 10 8 (18 ∷ owners h.nodes) is.directory (λ j a b. far_word j (λ z. absurd (omega arith)) (λ z. absurd (omega arith)) (λ z. absurd (omega arith)) (inl (omega arith))))
 
-  new_places : ArePlaces (used (put_heap k p free h)) (places_of (put_node k p h.nodes) ++ free)
-  new_places = places-from (used (put_heap k p free h)) (places_of (put_node k p h.nodes) ++ free) (λ q m. wider _ _ q (new.place q (let t = times_new q in omega arith)) (let u = used_is in omega arith))
+  new_places : ArePlaces (used_places (put_heap k p free h)) (places_of (put_node k p h.nodes) ++ free)
+  new_places = places-from (used_places (put_heap k p free h)) (places_of (put_node k p h.nodes) ++ free) (λ q m. wider _ _ q (new.place q (let t = times_new q in omega arith)) (let u = used_is in omega arith))
 
-  new_once : EachOnce (used (put_heap k p free h)) (places_of (put_node k p h.nodes) ++ free)
-  new_once = once-from (used (put_heap k p free h)) (places_of (put_node k p h.nodes) ++ free) (λ r m. (let u = used_is in let t = times_new (20 + 3 * r) in let e = new.each r (omega arith) in omega arith))
+  new_once : EachOnce (used_places (put_heap k p free h)) (places_of (put_node k p h.nodes) ++ free)
+  new_once = once-from (used_places (put_heap k p free h)) (places_of (put_node k p h.nodes) ++ free) (λ r m. (let u = used_is in let t = times_new (20 + 3 * r) in let e = new.each r (omega arith) in omega arith))
 
   zero_end : (i : ℕ) → 124 < i → get_or ws i 0 ≡ 0 → get_or vs i 0 ≡ 0
   zero_end i far z = far_word i (λ e. absurd (omega arith)) (λ e. absurd (omega arith)) (λ e. absurd (omega arith)) (inr far) ∙ z

@@ -5,12 +5,12 @@ use Rattle.std.proofs.lemmas.List.{get_or_past}
 use Rattle.ib_map.specs.Keys.{rank, end_rank}
 use Rattle.ib_map.specs.Pairs.{put, value_at, place_of}
 use Rattle.ib_heap.specs.Page.{Page}
-use Rattle.ib_heap.specs.Heap.{Node, Heap, first_of, owners, used, page_with, read_heap, up_to, nodes_of, records_in, times, places_of}
+use Rattle.ib_heap.specs.Heap.{Node, Heap, first_of, owners, used_places, page_with, read_heap, up_to, nodes_of, records_in, times, places_of}
 use Rattle.ib_heap.specs.Form.{page_of}
-use Rattle.ib_heap.specs.Image.{with_records, records_of}
+use Rattle.ib_heap.specs.Image.{value_with_records, records_of}
 use Rattle.ib_heap.specs.Put.{owned_by, owner_from, give_slot, give_slot_last, place_for, rest_of, put_in}
 use Rattle.ib_heap.specs.Kept.{IsKept}
-use Rattle.ib_heap.specs.Steps.{Stands, Taken, Linked, Split}
+use Rattle.ib_heap.specs.Steps.{IsPlaceOfKey, IsPlaceTaken, IsLinkedIn, IsSlotSplit}
 use Rattle.ib_heap.proofs.KeptLaws.{kept-place, kept-far}
 use Rattle.ib_heap.specs.Page.PageValue.{Tree}
 use Rattle.ib_heap.proofs.PutHeap.{put-in-plain}
@@ -27,10 +27,10 @@ gives-from : (ns : List Node) (last : ℕ) (free : List ℕ) (p : ℕ) → p ≡
 gives-from ns last [] p e = inr (refl, (e, refl))
 gives-from ns last (q ∷ qs) p e = inl (ap (λ n. n ∷ qs) (sym e))
 
-pub taken-gives : (ws vs : List ℕ) (p : ℕ) → Taken ws vs p → Gives (read_heap ws) p (rest_of (read_heap ws).free)
+pub taken-gives : (ws vs : List ℕ) (p : ℕ) → IsPlaceTaken ws vs p → Gives (read_heap ws) p (rest_of (read_heap ws).free)
 taken-gives ws vs p h = gives-from (nodes_of ws) (read_heap ws).last (read_heap ws).free p h.place
 
-module _ (ws w1 : List ℕ) (key slot before at p : ℕ) (kn : Known ws) (st : Stands ws key slot before at) (few : length (nodes_of ws) < 35) (tk : Taken ws w1 p) where
+module _ (ws w1 : List ℕ) (key slot before at p : ℕ) (kn : Known ws) (st : IsPlaceOfKey ws key slot before at) (few : length (nodes_of ws) < 35) (tk : IsPlaceTaken ws w1 p) where
   abbrev pub gv : Gives (read_heap ws) p (rest_of (read_heap ws).free)
   gv = taken-gives ws w1 p tk
 
@@ -64,7 +64,7 @@ module _ (ws w1 : List ℕ) (key slot before at p : ℕ) (kn : Known ws) (st : S
   pub count-low : get_or w1 2 0 < 65536
   count-low = let c = kn.is.count in let o = tk.other 2 (λ z. absurd (omega arith)) (λ z. absurd (omega arith)) in omega arith
 
-  module _ (vs : List ℕ) (value : ℕ) (lk : Linked w1 vs before at own p key value) (absent : value_at key (records_of ws) ≡ None) (in_range : rank key < end_rank) where
+  module _ (vs : List ℕ) (value : ℕ) (lk : IsLinkedIn w1 vs before at own p key value) (absent : value_at key (records_of ws) ≡ None) (in_range : rank key < end_rank) where
     pub written : Written ws vs (read_heap ws) (place_of key (records_of ws)) p key value (rest_of (read_heap ws).free)
     written =
         let o_is = owner_is ws key slot before at p kn st few gv in
@@ -84,7 +84,7 @@ module _ (ws w1 : List ℕ) (key slot before at p : ℕ) (kn : Known ws) (st : S
           other = λ i two six seven a b c d e. lk.other i two a b c (λ z. d (z ∙ st.before_is)) (λ z. e (z ∙ o_is)) ∙ tk.other i six seven;
         }
 
-    pub plain : get_or vs own 0 / 256 ≤ 8 → page_of vs ≡ with_records (put key value (records_of ws)) (page_of ws)
+    pub plain : get_or vs own 0 / 256 ≤ 8 → page_of vs ≡ value_with_records (put key value (records_of ws)) (page_of ws)
     plain room = done_plain ws key slot before at p kn st few gv vs value written absent in_range room
 
     pub plain-read : get_or vs own 0 / 256 ≤ 8 → read_heap vs ≡ heap1 ws key slot before at p kn st few gv vs value written absent in_range
@@ -140,19 +140,19 @@ module _ (vs : List ℕ) (h : Heap) (kk slot own middle : ℕ) (sh : Shaped vs h
       let z = grp.head in
       let g = grp.in_range in
       let e : get_or vs middle 0 ≡ get_or vs (first_of (drop tt1 h.nodes)) 0 = ap (λ n. get_or vs n 0) middle_is in
-      let l = elim (first-in (used h) h.nodes (suc tt1) sh.few (ArePlaces-left _ _ _ sh.places) (omega arith)) as (λ u. first_of (drop (suc tt1) h.nodes) < 256) [ inl y ↦ (let x = y.0 in omega arith) | inr y ↦ (let x = y.1.0 in omega arith) ] in
+      let l = elim (first-in (used_places h) h.nodes (suc tt1) sh.few (ArePlaces-left _ _ _ sh.places) (omega arith)) as (λ u. first_of (drop (suc tt1) h.nodes) < 256) [ inl y ↦ (let x = y.0 in omega arith) | inr y ↦ (let x = y.1.0 in omega arith) ] in
       omega arith
 
   -- the record that owns the new slot is one of the chain
   middle-in : 0 < times middle (places_of h.nodes)
   middle-in = subst (λ (q : ℕ). 0 < times q (places_of h.nodes)) (sym middle_is) (first-member tt1 h.nodes grp.in_range)
 
-  pub split-kept : (v2 : List ℕ) → Split vs v2 slot middle own → (i : ℕ) → IsKept (used h) i → i ≢ own → get_or v2 i 0 ≡ get_or vs i 0
+  pub split-kept : (v2 : List ℕ) → IsSlotSplit vs v2 slot middle own → (i : ℕ) → IsKept (used_places h) i → i ≢ own → get_or v2 i 0 ≡ get_or vs i 0
   split-kept v2 sc i kept other =
       let ti = top-is in let rm = room in
-      sc.other i (elim (kept-far _ i kept) [ inl low ↦ inl low | inr high ↦ inr (omega arith) ]) (kept-place (used h) i middle kept (pl1.place middle (let a = times-append middle (places_of h.nodes) h.free in let m = middle-in in omega arith))) other
+      sc.other i (elim (kept-far _ i kept) [ inl low ↦ inl low | inr high ↦ inr (omega arith) ]) (kept-place (used_places h) i middle kept (pl1.place middle (let a = times-append middle (places_of h.nodes) h.free in let m = middle-in in omega arith))) other
 
-  pub split-done : (v2 : List ℕ) → Split vs v2 slot middle own → 18 ≤ own → 18 ≤ middle → (page_of v2 ≡ Tree (page_with vs (records_in vs h.nodes)))
+  pub split-done : (v2 : List ℕ) → IsSlotSplit vs v2 slot middle own → 18 ≤ own → 18 ≤ middle → (page_of v2 ≡ Tree (page_with vs (records_in vs h.nodes)))
   split-done v2 sc ol ml =
       let ti = top-is in let rm = room in
       let mi = middle_is in
@@ -174,7 +174,7 @@ module _ (vs : List ℕ) (h : Heap) (kk slot own middle : ℕ) (sh : Shaped vs h
       let owned2 : Owned 0 (give_slot tt1 h.nodes) (give_slot_last tt1 h.nodes h.last) = split-owned (slot - 1) kk 0 h.nodes h.last (λ z. refl) over nn within in
       page-from v2 (split_heap tt1 h) (heap-shaped v2 (split_heap tt1 h) shaped2 owned2) ∙ ap (λ (q : Page). Tree q) (split-page vs v2 h (slot - 1) kk sh over nn within sw few1)
 
-  pub split-heap-is : (v2 : List ℕ) → Split vs v2 slot middle own → 18 ≤ own → 18 ≤ middle → read_heap v2 ≡ split_heap tt1 h
+  pub split-heap-is : (v2 : List ℕ) → IsSlotSplit vs v2 slot middle own → 18 ≤ own → 18 ≤ middle → read_heap v2 ≡ split_heap tt1 h
   split-heap-is v2 sc ol ml =
       let ti = top-is in let rm = room in
       let mi = middle_is in

@@ -2,13 +2,13 @@
 use Rattle.std.proofs.Common.{◌≡◌, ◌≢◌, ℕ, ◌+◌, ◌/◌, ◌%◌, ◌<◌, ◌≤◌, ◌⊎◌, ◌∙◌, List, length, get_or, ap, arith, Some, None, true}
 use Rattle.ib_map.specs.Pairs.{without, value_at, place_of}
 use Rattle.ib_heap.specs.Page.{HoldsTree}
-use Rattle.ib_heap.specs.Heap.{nodes_of, read_heap, used, records_in, page_with}
+use Rattle.ib_heap.specs.Heap.{nodes_of, read_heap, used_places, records_in, page_with}
 use Rattle.ib_heap.specs.Form.{page_of}
-use Rattle.ib_heap.specs.Image.{records_of, with_records}
+use Rattle.ib_heap.specs.Image.{records_of, value_with_records}
 use Rattle.ib_heap.specs.Take.{unlink_node, unlink_in, remove_in}
 use Rattle.ib_heap.specs.Shape.{is_shaped}
 use Rattle.ib_heap.specs.Kept.{IsKept}
-use Rattle.ib_heap.specs.Steps.{Stands, IsHead, CanUnlink, Unlinked, CanHandOver, HandedOver, CanGiveBack, GivenBack, CanLend, Lent, CanJoin, Joined}
+use Rattle.ib_heap.specs.Steps.{IsPlaceOfKey, IsHead, CanUnlink, IsLinkedPast, CanHandOver, IsHandedOver, CanGiveBack, IsGivenBack, CanLend, IsLent, CanJoin, IsSlotJoined}
 use Rattle.ib_heap.proofs.SeekLaws.{Known, known}
 use Rattle.ib_heap.proofs.UnlinkSteps.{at-range, before-range, own-range, slot-range, at-le, before-few, own-word, two, count-some, plain, owning, plain-shaped, plain-page, plain-kept, owner-shaped, owner-page, owner-kept, value-is}
 use Rattle.ib_heap.proofs.BalanceSteps.{size1, short-range, well-from, well-page, well-heap, slot-small, after-range, short-much, short-after, first-range, apart-lend, first-few, after-much, lend-page, lend-heap, lend-kept, after-few, slot-below, top-few, join-page, join-heap, join-kept}
@@ -17,15 +17,15 @@ use Rattle.ib_heap.proofs.BalanceSteps.{size1, short-range, well-from, well-page
 pub record IsOut (ws vs : List ℕ) (key : ℕ) : Type 0 where
   pub shaped : is_shaped vs (unlink_in (place_of key (records_of ws)) (read_heap ws)) ≡ true
   pub page : page_with vs (records_in vs (unlink_node (place_of key (records_of ws)) (nodes_of ws))) ≡ page_with ws (without key (records_of ws))
-  pub kept : (i : ℕ) → IsKept (used (read_heap ws)) i → get_or vs i 0 ≡ get_or ws i 0
+  pub kept : (i : ℕ) → IsKept (used_places (read_heap ws)) i → get_or vs i 0 ≡ get_or ws i 0
 
 -- what a removal leaves
 pub record IsRemoved (ws vs : List ℕ) (key : ℕ) : Type 0 where
-  pub page : page_of vs ≡ with_records (without key (records_of ws)) (page_of ws)
+  pub page : page_of vs ≡ value_with_records (without key (records_of ws)) (page_of ws)
   pub heap : read_heap vs ≡ remove_in (place_of key (records_of ws)) (read_heap ws)
-  pub kept : (i : ℕ) → IsKept (used (read_heap ws)) i → get_or vs i 0 ≡ get_or ws i 0
+  pub kept : (i : ℕ) → IsKept (used_places (read_heap ws)) i → get_or vs i 0 ≡ get_or ws i 0
 
-module _ (ws : List ℕ) (key slot before at : ℕ) (holds : HoldsTree (page_of ws)) (found : value_at key (records_of ws) ≢ None) (st : Stands ws key slot before at) where
+module _ (ws : List ℕ) (key slot before at : ℕ) (holds : HoldsTree (page_of ws)) (found : value_at key (records_of ws) ≢ None) (st : IsPlaceOfKey ws key slot before at) where
   kn : Known ws
   kn = known ws holds
 
@@ -52,7 +52,7 @@ module _ (ws : List ℕ) (key slot before at : ℕ) (holds : HoldsTree (page_of 
         let e : get_or ws at 0 ≡ get_or ws own 0 = ap (λ n. get_or ws n 0) owns in
         record { size = kn.size; at_high = (at-range ws key slot before at kn st found).1; before_head = before-head; slot_few = slot-range ws key slot before at kn st found; at_word = omega arith }
 
-    module _ (w1 : List ℕ) (u : HandedOver ws w1 before at slot) where
+    module _ (w1 : List ℕ) (u : IsHandedOver ws w1 before at slot) where
       pub can-give-owner : CanGiveBack w1 at
       can-give-owner =
           let r = at-range ws key slot before at kn st found in let b = before-head.low in
@@ -60,7 +60,7 @@ module _ (ws : List ℕ) (key slot before at : ℕ) (holds : HoldsTree (page_of 
           let same = u.other 2 (λ z. absurd (omega arith)) (λ z. absurd (omega arith)) in
           record { size = u.size ∙ kn.size; low = r.0; high = r.1; some = omega arith }
 
-      pub owner-out : (w2 : List ℕ) → GivenBack w1 w2 at → IsOut ws w2 key
+      pub owner-out : (w2 : List ℕ) → IsGivenBack w1 w2 at → IsOut ws w2 key
       owner-out w2 g =
           let o = owning ws key slot before at kn st found owns in
           record { shaped = owner-shaped ws key slot before at kn st found w1 w2 o u g; page = owner-page ws key slot before at kn st found w1 w2 o u g; kept = owner-kept ws key slot before at kn st found w1 w2 o u g }
@@ -81,7 +81,7 @@ module _ (ws : List ℕ) (key slot before at : ℕ) (holds : HoldsTree (page_of 
           owner_word = own-word ws key slot before at kn st found;
         }
 
-    module _ (w1 : List ℕ) (u : Unlinked ws w1 before at own) where
+    module _ (w1 : List ℕ) (u : IsLinkedPast ws w1 before at own) where
       pub can-give-plain : CanGiveBack w1 at
       can-give-plain =
           let r = at-range ws key slot before at kn st found in let b = before-head.low in let o = (own-range ws key slot before at kn st found).0 in
@@ -89,7 +89,7 @@ module _ (ws : List ℕ) (key slot before at : ℕ) (holds : HoldsTree (page_of 
           let same = u.other 2 (λ z. absurd (omega arith)) (λ z. absurd (omega arith)) in
           record { size = u.size ∙ kn.size; low = r.0; high = r.1; some = omega arith }
 
-      pub plain-out : (w2 : List ℕ) → GivenBack w1 w2 at → IsOut ws w2 key
+      pub plain-out : (w2 : List ℕ) → IsGivenBack w1 w2 at → IsOut ws w2 key
       plain-out w2 g =
           let p = plain ws key slot before at kn st found other in
           record { shaped = plain-shaped ws key slot before at kn st found w1 w2 p u g; page = plain-page ws key slot before at kn st found w1 w2 p u g; kept = plain-kept ws key slot before at kn st found w1 w2 p u g }
@@ -158,7 +158,7 @@ module _ (ws : List ℕ) (key slot before at : ℕ) (holds : HoldsTree (page_of 
               after_word = after-much ws w0 key slot before at kn st found out.shaped out.page ne three five;
             }
 
-        pub removed-lent : (w1 : List ℕ) → Lent w0 w1 slot short first after → IsRemoved ws w1 key
+        pub removed-lent : (w1 : List ℕ) → IsLent w0 w1 slot short first after → IsRemoved ws w1 key
         removed-lent w1 u = record {
           page = lend-page ws w0 key slot before at kn st found out.shaped out.page ne three five w1 u st.some;
           heap = lend-heap ws w0 key slot before at kn st found out.shaped out.page ne three five w1 u st.some;
@@ -180,7 +180,7 @@ module _ (ws : List ℕ) (key slot before at : ℕ) (holds : HoldsTree (page_of 
           after_word = after-few ws w0 key slot before at kn st found out.shaped out.page ne three few;
         }
 
-        pub removed-joined : (w1 : List ℕ) → Joined w0 w1 slot short after → IsRemoved ws w1 key
+        pub removed-joined : (w1 : List ℕ) → IsSlotJoined w0 w1 slot short after → IsRemoved ws w1 key
         removed-joined w1 u = record {
           page = join-page ws w0 key slot before at kn st found out.shaped out.page ne three few w1 u st.some;
           heap = join-heap ws w0 key slot before at kn st found out.shaped out.page ne three few w1 u st.some;

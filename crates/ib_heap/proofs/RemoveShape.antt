@@ -7,7 +7,7 @@ use Rattle.ib_map.specs.Pairs.{Pairs, without, value_at}
 use Rattle.ib_map.proofs.PairLaws.{Rises-without, length-without}
 use Rattle.ib_map.specs.declared.TheConstants.{PAGE_WORDS}
 use Rattle.ib_heap.specs.Page.{Page, IsPage}
-use Rattle.ib_heap.specs.Heap.{Node, Heap, first_of, owners, times, places_of, records_in, used, page_with}
+use Rattle.ib_heap.specs.Heap.{Node, Heap, first_of, owners, times, places_of, records_in, used_places, page_with}
 use Rattle.ib_heap.specs.Take.{unlink_node, unlink_last}
 use Rattle.ib_heap.proofs.HeapLaws.{Chained, Directory, IsPlace, ArePlaces, EachOnce, IsHeap}
 use Rattle.ib_heap.proofs.SeekLaws.{directory-at, directory-few, length-places}
@@ -66,7 +66,7 @@ module _ (ws vs : List ℕ) (h : Heap) (ys : List Node) (l : ℕ) (is : Shaped w
       let l = low-member h known is.few q (omega arith) in let a = l.is in let o = known.once q in
       other q (inr (omega arith)) (omega arith) (λ z. absurd (omega arith))
 
-  pub other-shaped : Chained vs ys l → Directory vs 10 8 (18 ∷ owners ys) → get_or vs 7 0 ≡ (1 + length (owners ys)) * 256 + (20 + 3 * used h) → Shaped vs other_heap
+  pub other-shaped : Chained vs ys l → Directory vs 10 8 (18 ∷ owners ys) → get_or vs 7 0 ≡ (1 + length (owners ys)) * 256 + (20 + 3 * used_places h) → Shaped vs other_heap
   other-shaped chained directory top =
       let lo = long in let few = is.few in let c = is.count in let hc = head_word 2 (omega arith) in
       record {
@@ -81,8 +81,8 @@ module _ (ws vs : List ℕ) (h : Heap) (ys : List Node) (l : ℕ) (is : Shaped w
         chained = chained;
         freed = freed-same ws vs h.free is.freed free_word;
         directory = directory;
-        places = subst (λ (ps : List ℕ). ArePlaces (used other_heap) (ps ++ h.free)) (sym same) (subst (λ (n : ℕ). ArePlaces n (places_of h.nodes ++ h.free)) (let e : used h ≡ used other_heap = omega arith in e) is.places);
-        once = subst (λ (ps : List ℕ). EachOnce (used other_heap) (ps ++ h.free)) (sym same) (subst (λ (n : ℕ). EachOnce n (places_of h.nodes ++ h.free)) (let e : used h ≡ used other_heap = omega arith in e) is.once);
+        places = subst (λ (ps : List ℕ). ArePlaces (used_places other_heap) (ps ++ h.free)) (sym same) (subst (λ (n : ℕ). ArePlaces n (places_of h.nodes ++ h.free)) (let e : used_places h ≡ used_places other_heap = omega arith in e) is.places);
+        once = subst (λ (ps : List ℕ). EachOnce (used_places other_heap) (ps ++ h.free)) (sym same) (subst (λ (n : ℕ). EachOnce n (places_of h.nodes ++ h.free)) (let e : used_places h ≡ used_places other_heap = omega arith in e) is.once);
         zero_125 = other 125 (inr (omega arith)) (off-none h known is.few 125 (inr (inl (omega arith)))) (λ z. absurd (omega arith)) ∙ is.zero_125;
         zero_126 = other 126 (inr (omega arith)) (off-none h known is.few 126 (inr (inl (omega arith)))) (λ z. absurd (omega arith)) ∙ is.zero_126;
         zero_127 = other 127 (inr (omega arith)) (off-none h known is.few 127 (inr (inl (omega arith)))) (λ z. absurd (omega arith)) ∙ is.zero_127;
@@ -130,7 +130,7 @@ module _ (ws vs : List ℕ) (h : Heap) (k key value : ℕ) (is : IsHeap ws h) (l
   times_new : (q : ℕ) → times q (places_of (unlink_node k h.nodes) ++ (at ∷ h.free)) ≡ times q (places_of h.nodes) + times q h.free
   times_new q = let a = times-append q (places_of (unlink_node k h.nodes)) (at ∷ h.free) in let b = times-unlink k q h.nodes lt in omega arith
 
-  used_is : used unlink_heap ≡ used h
+  used_is : used_places unlink_heap ≡ used_places h
   used_is = let l = length-unlink k h.nodes lt in omega arith
 
   kept_free : (q : ℕ) → 0 < times q h.free → get_or vs q 0 ≡ get_or ws q 0
@@ -156,8 +156,8 @@ module _ (ws vs : List ℕ) (h : Heap) (k key value : ℕ) (is : IsHeap ws h) (l
         chained = chained;
         freed = (w.freed ∙ is.front, freed-same ws vs h.free is.freed kept_free);
         directory = directory;
-        places = places-from (used unlink_heap) (places_of (unlink_node k h.nodes) ++ (at ∷ h.free)) (λ q m. subst (λ (n : ℕ). IsPlace n q) (sym used_is) (known_before.place q (let t1 = times_new q in omega arith)));
-        once = once-from (used unlink_heap) (places_of (unlink_node k h.nodes) ++ (at ∷ h.free)) (λ r m. let t1 = times_new (20 + 3 * r) in let e = known_before.each r (omega arith) in omega arith);
+        places = places-from (used_places unlink_heap) (places_of (unlink_node k h.nodes) ++ (at ∷ h.free)) (λ q m. subst (λ (n : ℕ). IsPlace n q) (sym used_is) (known_before.place q (let t1 = times_new q in omega arith)));
+        once = once-from (used_places unlink_heap) (places_of (unlink_node k h.nodes) ++ (at ∷ h.free)) (λ r m. let t1 = times_new (20 + 3 * r) in let e = known_before.each r (omega arith) in omega arith);
         zero_125 = far 125 (omega arith) ∙ is.zero_125;
         zero_126 = far 126 (omega arith) ∙ is.zero_126;
         zero_127 = far 127 (omega arith) ∙ is.zero_127;

@@ -5,7 +5,7 @@ use Rattle.ib_map.specs.Keys.{rank, end_rank}
 use Rattle.ib_map.specs.Pairs.{Pairs, Rises, place_of}
 use Rattle.ib_map.specs.declared.TheConstants.{PAGE_WORDS}
 use Rattle.ib_heap.specs.Page.{HoldsTree, page_in}
-use Rattle.ib_heap.specs.Heap.{Node, first_of, owners, places_of, records_in, used, read_heap, last_from, up_to, nodes_of}
+use Rattle.ib_heap.specs.Heap.{Node, first_of, owners, places_of, records_in, used_places, read_heap, last_from, up_to, nodes_of}
 use Rattle.ib_heap.specs.Form.{page_of}
 use Rattle.ib_heap.specs.Image.{records_of}
 use Rattle.ib_map.proofs.PlaceLaws.{place_of-le}
@@ -138,8 +138,8 @@ length-places (x ∷ xs) = ap suc (length-places xs)
 pub record Known (ws : List ℕ) : Type 0 where
   pub is : IsHeap ws (read_heap ws)
   pub records : records_of ws ≡ records_in ws (nodes_of ws)
-  pub places : ArePlaces (used (read_heap ws)) (places_of (nodes_of ws))
-  pub few : used (read_heap ws) ≤ 35
+  pub places : ArePlaces (used_places (read_heap ws)) (places_of (nodes_of ws))
+  pub few : used_places (read_heap ws) ≤ 35
   pub slots : 1 + length (owners (nodes_of ws)) ≤ 10
   pub some : 0 < length (owners (nodes_of ws))
   pub size : length ws ≡ 128
@@ -186,7 +186,7 @@ owner-is ws slot k le =
     elim (cases_lt slot (length (owners (nodes_of ws)))) [
       | inl lt ↦
           let place : get_or ws (8 + slot) 0 ≡ last_from 18 (take (up_to slot (nodes_of ws)) (nodes_of ws)) = word ∙ owner-at 18 (nodes_of ws) slot lt in
-          elim (last-in (used (read_heap ws)) 18 (nodes_of ws) (up_to slot (nodes_of ws)) k.few k.places (up_to-le slot (nodes_of ws))) [
+          elim (last-in (used_places (read_heap ws)) 18 (nodes_of ws) (up_to slot (nodes_of ws)) k.few k.places (up_to-le slot (nodes_of ws))) [
             | inl e ↦ let f = e.1 in let z = e.0 in record { at = λ h. place; low = omega arith; high = omega arith; is_record = λ pos within. absurd (let s = up_to-some slot (nodes_of ws) pos within in omega arith) }
             | inr e ↦ let f = e.0 in let z = e.1 in record { at = λ h. place; low = omega arith; high = omega arith; is_record = λ pos within. omega arith }
           ]
@@ -200,8 +200,8 @@ owner-is ws slot k le =
 pub next-is : (ws : List ℕ) (k place : ℕ) → Known ws → k ≤ length (nodes_of ws) → place ≡ last_from 18 (take k (nodes_of ws)) → get_or ws place 0 % 256 ≡ first_of (drop k (nodes_of ws))
 next-is ws k place kn le at =
     let start = kn.is.start in
-    let low : first_of (nodes_of ws) < 256 = elim (first-in (used (read_heap ws)) (nodes_of ws) 0 kn.few kn.places (omega arith)) [ inl e ↦ (let f = e.0 in omega arith) | inr e ↦ (let f = e.1.0 in omega arith) ] in
-    ap (λ i. get_or ws i 0 % 256) at ∙ link-at ws (used (read_heap ws)) 18 (nodes_of ws) (read_heap ws).last k kn.few kn.places (omega arith) kn.is.chained le
+    let low : first_of (nodes_of ws) < 256 = elim (first-in (used_places (read_heap ws)) (nodes_of ws) 0 kn.few kn.places (omega arith)) [ inl e ↦ (let f = e.0 in omega arith) | inr e ↦ (let f = e.1.0 in omega arith) ] in
+    ap (λ i. get_or ws i 0 % 256) at ∙ link-at ws (used_places (read_heap ws)) 18 (nodes_of ws) (read_heap ws).last k kn.few kn.places (omega arith) kn.is.chained le
 
 -- the record at a place of the chain
 pub record-is : (ws : List ℕ) (k place : ℕ) → Known ws → k < length (nodes_of ws) → place ≡ first_of (drop k (nodes_of ws)) → slice_get (records_of ws) k ≡ Some (get_or ws (place + 1) 0, get_or ws (place + 2) 0)
@@ -239,14 +239,14 @@ pub record Walk (ws : List ℕ) (key first before at step : ℕ) : Type 0 where
   pub at_is : at ≡ first_of (drop number (nodes_of ws))
 
 pub walk-place : (ws : List ℕ) (key first before at step : ℕ) → Known ws → Walk ws key first before at step → (at ≡ 19 → ⊥) → (20 ≤ at) × ((at ≤ 122) × (0 < 1))
-walk-place ws key first before at step kn w ne = elim (first-in (used (read_heap ws)) (nodes_of ws) w.number kn.few kn.places w.within) [
+walk-place ws key first before at step kn w ne = elim (first-in (used_places (read_heap ws)) (nodes_of ws) w.number kn.few kn.places w.within) [
   | inl e ↦ absurd (ne (w.at_is ∙ e.0))
   | inr e ↦ let a = e.0 in let b = e.1.0 in let i = w.at_is in (omega arith, (omega arith, omega arith))
 ]
 
 pub walk-on : (ws : List ℕ) (key first before at step next : ℕ) → Known ws → Walk ws key first before at step → (at ≡ 19 → ⊥) → rank (get_or ws (at + 1) 0) < rank key
     → ((k : ℕ) → k ≤ length (nodes_of ws) → at ≡ last_from 18 (take k (nodes_of ws)) → next ≡ first_of (drop k (nodes_of ws))) → Walk ws key first at next (step + 1)
-walk-on ws key first before at step next kn w ne below reads = elim (first-in (used (read_heap ws)) (nodes_of ws) w.number kn.few kn.places w.within) [
+walk-on ws key first before at step next kn w ne below reads = elim (first-in (used_places (read_heap ws)) (nodes_of ws) w.number kn.few kn.places w.within) [
   | inl e ↦ absurd (ne (w.at_is ∙ e.0))
   | inr e ↦
       let lt = e.1.1 in
@@ -262,7 +262,7 @@ walk-end ws key first before at step kn w ends =
     let most = place_of-le key (records_of ws) in
     let long = kn.long in
     let low = w.low in
-    elim (first-in (used (read_heap ws)) (nodes_of ws) w.number kn.few kn.places w.within) [
+    elim (first-in (used_places (read_heap ws)) (nodes_of ws) w.number kn.few kn.places w.within) [
       | inl e ↦ let f = e.1 in omega arith
       | inr e ↦ elim ends [
         | inl is ↦ absurd (let a = w.at_is in let b = e.0 in omega arith)
@@ -271,7 +271,7 @@ walk-end ws key first before at step kn w ends =
     ]
 
 pub walk-full : (ws : List ℕ) (key first before at step : ℕ) → Known ws → Walk ws key first before at step → 35 ≤ step → at ≡ 19
-walk-full ws key first before at step kn w full = elim (first-in (used (read_heap ws)) (nodes_of ws) w.number kn.few kn.places w.within) [
+walk-full ws key first before at step kn w full = elim (first-in (used_places (read_heap ws)) (nodes_of ws) w.number kn.few kn.places w.within) [
   | inl e ↦ w.at_is ∙ e.0
   | inr e ↦ absurd (let lt = e.1.1 in let number = w.number_is in let few = kn.few in omega arith)
 ]
@@ -281,7 +281,7 @@ pub walk-start : (ws : List ℕ) (key slot before at : ℕ) → Known ws → up_
 walk-start ws key slot before at kn low is reads = record { number = up_to slot (nodes_of ws); number_is = omega arith; within = up_to-le slot (nodes_of ws); low = low; before_is = is; at_is = reads _ (up_to-le slot (nodes_of ws)) is }
 
 pub walk-low : (ws : List ℕ) (key first before at step : ℕ) → Known ws → Walk ws key first before at step → at ≤ 122
-walk-low ws key first before at step kn w = elim (first-in (used (read_heap ws)) (nodes_of ws) w.number kn.few kn.places w.within) [
+walk-low ws key first before at step kn w = elim (first-in (used_places (read_heap ws)) (nodes_of ws) w.number kn.few kn.places w.within) [
   | inl e ↦ let a = e.0 in let i = w.at_is in omega arith
   | inr e ↦ let a = e.1.0 in let i = w.at_is in omega arith
 ]
@@ -316,7 +316,7 @@ chain-on ws k at holds lt is =
 pub chain-within : (ws : List ℕ) (k at : ℕ) → HoldsTree (page_of ws) → k < length (nodes_of ws) → at ≡ first_of (drop k (nodes_of ws)) → at ≤ 122
 chain-within ws k at holds lt is =
     let kn = known ws holds in
-    elim (first-in (used (read_heap ws)) (nodes_of ws) k kn.few kn.places (omega arith)) [ inl e ↦ (let a = e.0 in omega arith) | inr e ↦ (let a = e.1.0 in omega arith) ]
+    elim (first-in (used_places (read_heap ws)) (nodes_of ws) k kn.few kn.places (omega arith)) [ inl e ↦ (let a = e.0 in omega arith) | inr e ↦ (let a = e.1.0 in omega arith) ]
 
 pub nodes-length : (ws : List ℕ) → HoldsTree (page_of ws) → length (records_of ws) ≡ length (nodes_of ws)
 nodes-length ws holds = (known ws holds).long

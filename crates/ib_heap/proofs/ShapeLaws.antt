@@ -5,7 +5,7 @@ use Rattle.std.proofs.lemmas.Bool.{cases_eq, cases_lt}
 use Rattle.ib_map.specs.Pairs.{Pairs}
 use Rattle.ib_map.specs.declared.TheConstants.{PAGE_WORDS}
 use Rattle.ib_heap.specs.Page.{IsPage, Page}
-use Rattle.ib_heap.specs.Heap.{Node, Heap, first_of, first_free, owners, times, places_of, records_in, used, page_with, last_from}
+use Rattle.ib_heap.specs.Heap.{Node, Heap, first_of, first_free, owners, times, places_of, records_in, used_places, page_with, last_from}
 use Rattle.ib_heap.specs.Put.{owner_from, own_one_more, put_node, put_last}
 use Rattle.ib_heap.proofs.HeapLaws.{Chained, Freed, Owned, Directory, IsPlace, ArePlaces, EachOnce, IsHeap}
 use Rattle.ib_heap.proofs.PutLaws.{one-same, one-other, places-own_one_more, times-append, Apart}
@@ -16,14 +16,14 @@ pub record Shaped (ws : List ℕ) (h : Heap) : Type 0 where
   pub count : get_or ws 2 0 ≡ length h.nodes
   pub fits : IsPage (page_with ws (records_in ws h.nodes))
   pub front : get_or ws 6 0 ≡ first_free h.free
-  pub top : get_or ws 7 0 ≡ (1 + length (owners h.nodes)) * 256 + (20 + 3 * used h)
-  pub few : used h ≤ 35
+  pub top : get_or ws 7 0 ≡ (1 + length (owners h.nodes)) * 256 + (20 + 3 * used_places h)
+  pub few : used_places h ≤ 35
   pub start : get_or ws 18 0 ≡ 256 + first_of h.nodes
   pub chained : Chained ws h.nodes h.last
   pub freed : Freed ws h.free
   pub directory : Directory ws 10 8 (18 ∷ owners h.nodes)
-  pub places : ArePlaces (used h) (places_of h.nodes ++ h.free)
-  pub once : EachOnce (used h) (places_of h.nodes ++ h.free)
+  pub places : ArePlaces (used_places h) (places_of h.nodes ++ h.free)
+  pub once : EachOnce (used_places h) (places_of h.nodes ++ h.free)
   pub zero_125 : get_or ws 125 0 ≡ 0
   pub zero_126 : get_or ws 126 0 ≡ 0
   pub zero_127 : get_or ws 127 0 ≡ 0
@@ -66,19 +66,19 @@ at_most_once n ps q places once = elim (cases_lt 0 (times q ps)) [
 -- what is known of the places of a heap
 pub record Places (h : Heap) : Type 0 where
   pub once : (q : ℕ) → times q (places_of h.nodes) + times q h.free ≤ 1
-  pub place : (q : ℕ) → 0 < times q (places_of h.nodes) + times q h.free → IsPlace (used h) q
-  pub each : (r : ℕ) → r < used h → times (20 + 3 * r) (places_of h.nodes) + times (20 + 3 * r) h.free ≡ 1
+  pub place : (q : ℕ) → 0 < times q (places_of h.nodes) + times q h.free → IsPlace (used_places h) q
+  pub each : (r : ℕ) → r < used_places h → times (20 + 3 * r) (places_of h.nodes) + times (20 + 3 * r) h.free ≡ 1
   pub apart : Apart h.nodes
 
-pub places-known : (h : Heap) → ArePlaces (used h) (places_of h.nodes ++ h.free) → EachOnce (used h) (places_of h.nodes ++ h.free) → Places h
+pub places-known : (h : Heap) → ArePlaces (used_places h) (places_of h.nodes ++ h.free) → EachOnce (used_places h) (places_of h.nodes ++ h.free) → Places h
 places-known h places once =
     let both : (q : ℕ) → times q (places_of h.nodes ++ h.free) ≡ times q (places_of h.nodes) + times q h.free = λ q. times-append q (places_of h.nodes) h.free in
-    let most : (q : ℕ) → times q (places_of h.nodes) + times q h.free ≤ 1 = λ q. let a = at_most_once (used h) (places_of h.nodes ++ h.free) q places once in let b = both q in omega arith in
-    let is : (q : ℕ) → 0 < times q (places_of h.nodes) + times q h.free → IsPlace (used h) q = λ q lt. place-member (used h) (places_of h.nodes ++ h.free) q places (let b = both q in omega arith) in
+    let most : (q : ℕ) → times q (places_of h.nodes) + times q h.free ≤ 1 = λ q. let a = at_most_once (used_places h) (places_of h.nodes ++ h.free) q places once in let b = both q in omega arith in
+    let is : (q : ℕ) → 0 < times q (places_of h.nodes) + times q h.free → IsPlace (used_places h) q = λ q lt. place-member (used_places h) (places_of h.nodes ++ h.free) q places (let b = both q in omega arith) in
     record {
       once = most;
       place = is;
-      each = λ r lt. let o = once-at (used h) (places_of h.nodes ++ h.free) r once lt in let b = both (20 + 3 * r) in omega arith;
+      each = λ r lt. let o = once-at (used_places h) (places_of h.nodes ++ h.free) r once lt in let b = both (20 + 3 * r) in omega arith;
       apart = record { once = λ q. let m = most q in omega arith; above = λ q lt. let p = is q (omega arith) in let e = p.is in omega arith };
     }
 
@@ -133,7 +133,7 @@ records-put ws vs (suc k) p (x ∷ xs) le same =
 
 -- a place for a record: the first free one, or where there is none the one at the top
 abbrev pub Gives : Heap → ℕ → List ℕ → Type 0
-Gives h p free = (h.free ≡ p ∷ free) ⊎ ((h.free ≡ []) × ((p ≡ 20 + 3 * used h) × (free ≡ [])))
+Gives h p free = (h.free ≡ p ∷ free) ⊎ ((h.free ≡ []) × ((p ≡ 20 + 3 * used_places h) × (free ≡ [])))
 
 -- what was written for a put
 pub record Written (ws vs : List ℕ) (h : Heap) (k p key value : ℕ) (free : List ℕ) : Type 0 where
@@ -145,7 +145,7 @@ pub record Written (ws vs : List ℕ) (h : Heap) (k p key value : ℕ) (free : L
   pub raised : get_or vs (owner_from (drop k h.nodes)) 0 ≡ get_or ws (owner_from (drop k h.nodes)) 0 + 256
   pub count : get_or vs 2 0 ≡ get_or ws 2 0 + 1
   pub front : get_or vs 6 0 ≡ first_free free
-  pub top : get_or vs 7 0 ≡ get_or ws 7 0 + 3 * (length h.nodes + 1 + length free - used h)
+  pub top : get_or vs 7 0 ≡ get_or ws 7 0 + 3 * (length h.nodes + 1 + length free - used_places h)
   pub other : (i : ℕ) → i ≢ 2 → i ≢ 6 → i ≢ 7 → i ≢ p → i ≢ p + 1 → i ≢ p + 2 → i ≢ last_from 18 (take k h.nodes) → i ≢ owner_from (drop k h.nodes) → get_or vs i 0 ≡ get_or ws i 0
 
 abbrev pub put_heap : ℕ → ℕ → List ℕ → Heap → Heap

@@ -2,7 +2,7 @@
 use Rattle.std.proofs.Common.{ℕ, List, ◌∷◌}
 use Rattle.std.specs.Bool.{Decides}
 use Rattle.std.proofs.lemmas.Bool.Decides.{Decides-and, Decides-like, Decides-eqb}
-use Rattle.ib_heap.proofs.PageLaws.{Decides-leb, is_page-Decides}
+use Rattle.ib_heap.proofs.PageLaws.{Decides-leb, counts_page-Decides}
 use Rattle.ib_heap.specs.Heap.{Heap, owners}
 use Rattle.ib_heap.specs.Shape.{is_shaped}
 use Rattle.ib_heap.proofs.HeapLaws.{Chained-Decides, Freed-Decides, Directory-Decides, ArePlaces-Decides, EachOnce-Decides}
@@ -29,7 +29,7 @@ Shaped-Decides ws h = Decides-like (is_shaped ws h)
       zero_127 = k.1.1.1.1.1.1.1.1.1.1.1.1.1.1.1;
     })
     (λ k. (k.size, (k.kind, (k.count, (k.fits, (k.front, (k.top, (k.few, (k.start, (k.chained, (k.freed, (k.directory, (k.places, (k.once, (k.zero_125, (k.zero_126, k.zero_127))))))))))))))))
-    (Decides-and _ _ (Decides-eqb _ _) (Decides-and _ _ (Decides-eqb _ _) (Decides-and _ _ (Decides-eqb _ _) (Decides-and _ _ (is_page-Decides _)
+    (Decides-and _ _ (Decides-eqb _ _) (Decides-and _ _ (Decides-eqb _ _) (Decides-and _ _ (Decides-eqb _ _) (Decides-and _ _ (counts_page-Decides _)
     (Decides-and _ _ (Decides-eqb _ _) (Decides-and _ _ (Decides-eqb _ _) (Decides-and _ _ (Decides-leb _ _) (Decides-and _ _ (Decides-eqb _ _)
     (Decides-and _ _ (Chained-Decides ws h.nodes h.last) (Decides-and _ _ (Freed-Decides ws h.free)
     (Decides-and _ _ (Directory-Decides ws 10 8 (18 ∷ owners h.nodes)) (Decides-and _ _ (ArePlaces-Decides _ _) (Decides-and _ _ (EachOnce-Decides _ _)

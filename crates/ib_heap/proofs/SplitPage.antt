@@ -4,7 +4,7 @@ use Rattle.std.proofs.lemmas.List.Edits.{length-insert}
 use Rattle.ib_map.specs.Pairs.{Pairs}
 use Rattle.ib_map.specs.declared.TheConstants.{PAGE_WORDS}
 use Rattle.ib_heap.specs.Page.{Page, IsPage}
-use Rattle.ib_heap.specs.Heap.{Node, Heap, first_of, owners, times, places_of, records_in, used, page_with, up_to}
+use Rattle.ib_heap.specs.Heap.{Node, Heap, first_of, owners, times, places_of, records_in, used_places, page_with, up_to}
 use Rattle.ib_heap.specs.Put.{owned_by, owner_from, give_slot, give_slot_last}
 use Rattle.ib_heap.proofs.HeapLaws.{Directory, ArePlaces, EachOnce}
 use Rattle.ib_heap.proofs.PutLaws.{OverAt, owner-in, times-drop, SameAt, first-member}
@@ -32,7 +32,7 @@ pub length-give_slot : (t : ℕ) (xs : List Node) → length (give_slot t xs) �
 length-give_slot t xs = sym (length-places (give_slot t xs)) ∙ (ap length (places-give_slot t xs) ∙ length-places xs)
 
 -- as many places are used as before
-pub used-split : (t : ℕ) (h : Heap) → used (split_heap t h) ≡ used h
+pub used-split : (t : ℕ) (h : Heap) → used_places (split_heap t h) ≡ used_places h
 used-split t h = let a = length-give_slot t h.nodes in omega arith
 
 module _ (ws vs : List ℕ) (h : Heap) (j k : ℕ) (is : Shaped ws h) (over : OverAt k 0 h.nodes h.last) (nine : owned_by (drop k h.nodes) h.last ≡ 9) (within : InSlot j k h.nodes) (w : SplitWords ws vs h.nodes j (up_to j h.nodes + 3)) (few : length h.nodes ≤ 35) where
@@ -108,8 +108,8 @@ module _ (ws vs : List ℕ) (h : Heap) (j k : ℕ) (is : Shaped ws h) (over : Ov
         freed = freed-same ws vs h.free is.freed free_word;
         directory = subst (λ (os : List ℕ). Directory vs 10 8 (18 ∷ os)) (sym g.slots) (directory-insert ws vs 10 8 (suc j) middle (18 ∷ owners h.nodes) is.directory (omega arith) (omega arith)
             (λ m lt. w.before m (omega arith)) (ap (λ i. get_or vs i 0) (let e : 8 + suc j ≡ 8 + (j + 1) = omega arith in e) ∙ w.here) (λ m le lt. w.behind m (omega arith) lt));
-        places = subst (λ (ps : List ℕ). ArePlaces (used (split_heap t h)) (ps ++ h.free)) (sym (places-give_slot t h.nodes)) (subst (λ (n : ℕ). ArePlaces n (places_of h.nodes ++ h.free)) (let e : used h ≡ used (split_heap t h) = omega arith in e) is.places);
-        once = subst (λ (ps : List ℕ). EachOnce (used (split_heap t h)) (ps ++ h.free)) (sym (places-give_slot t h.nodes)) (subst (λ (n : ℕ). EachOnce n (places_of h.nodes ++ h.free)) (let e : used h ≡ used (split_heap t h) = omega arith in e) is.once);
+        places = subst (λ (ps : List ℕ). ArePlaces (used_places (split_heap t h)) (ps ++ h.free)) (sym (places-give_slot t h.nodes)) (subst (λ (n : ℕ). ArePlaces n (places_of h.nodes ++ h.free)) (let e : used_places h ≡ used_places (split_heap t h) = omega arith in e) is.places);
+        once = subst (λ (ps : List ℕ). EachOnce (used_places (split_heap t h)) (ps ++ h.free)) (sym (places-give_slot t h.nodes)) (subst (λ (n : ℕ). EachOnce n (places_of h.nodes ++ h.free)) (let e : used_places h ≡ used_places (split_heap t h) = omega arith in e) is.once);
         zero_125 = off_word 125 (inr (omega arith)) (inr (inl (omega arith))) (λ z. absurd (omega arith)) ∙ is.zero_125;
         zero_126 = off_word 126 (inr (omega arith)) (inr (inl (omega arith))) (λ z. absurd (omega arith)) ∙ is.zero_126;
         zero_127 = off_word 127 (inr (omega arith)) (inr (inl (omega arith))) (λ z. absurd (omega arith)) ∙ is.zero_127;

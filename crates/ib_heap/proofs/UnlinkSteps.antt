@@ -6,12 +6,12 @@ use Rattle.std.proofs.lemmas.Option.{slice_get_past}
 use Rattle.ib_map.specs.Keys.{rank, end_rank}
 use Rattle.ib_map.specs.Pairs.{Pairs, without, value_at, place_of}
 use Rattle.ib_map.proofs.PlaceLaws.{value_at-place, remove-place}
-use Rattle.ib_heap.specs.Heap.{Node, first_of, owners, times, places_of, records_in, used, page_with, last_from, nodes_of, read_heap}
+use Rattle.ib_heap.specs.Heap.{Node, first_of, owners, times, places_of, records_in, used_places, page_with, last_from, nodes_of, read_heap}
 use Rattle.ib_heap.specs.Image.{records_of}
 use Rattle.ib_heap.specs.Put.{owner_from}
 use Rattle.ib_heap.specs.Take.{unlink_node, unlink_last, unlink_in, own_one_fewer}
 use Rattle.ib_heap.specs.Kept.{IsKept}
-use Rattle.ib_heap.specs.Steps.{Stands, Unlinked, HandedOver, GivenBack}
+use Rattle.ib_heap.specs.Steps.{IsPlaceOfKey, IsLinkedPast, IsHandedOver, IsGivenBack}
 use Rattle.ib_heap.proofs.KeptLaws.{kept-fixed, kept-place}
 use Rattle.ib_heap.specs.Shape.{is_shaped}
 use Rattle.ib_heap.proofs.HeapLaws.{Chained, Directory}
@@ -32,7 +32,7 @@ unlink-zero : (xs : List Node) → 0 < length xs → first_of (unlink_node 0 xs)
 unlink-zero [] lt = absurd (omega arith)
 unlink-zero (x ∷ xs) lt = first-places (own_one_fewer xs) xs (places-own_one_fewer xs)
 
-module _ (ws : List ℕ) (key slot before at : ℕ) (kn : Known ws) (st : Stands ws key slot before at) (found : value_at key (records_of ws) ≢ None) where
+module _ (ws : List ℕ) (key slot before at : ℕ) (kn : Known ws) (st : IsPlaceOfKey ws key slot before at) (found : value_at key (records_of ws) ≢ None) where
   abbrev k : ℕ
   k = place_of key (records_of ws)
 
@@ -113,7 +113,7 @@ module _ (ws : List ℕ) (key slot before at : ℕ) (kn : Known ws) (st : Stands
   slot-range = let s = kn.slots in let r = st.in_range in omega arith
 
   next-low : first_of (drop (suc k) nodes) < 256
-  next-low = elim (first-in (used (read_heap ws)) nodes (suc k) kn.few kn.places (let a = lt in omega arith)) [ inl z ↦ (let y = z.0 in omega arith) | inr z ↦ (let y = z.1.0 in omega arith) ]
+  next-low = elim (first-in (used_places (read_heap ws)) nodes (suc k) kn.few kn.places (let a = lt in omega arith)) [ inl z ↦ (let y = z.0 in omega arith) | inr z ↦ (let y = z.1.0 in omega arith) ]
 
   at-word : get_or ws at 0 ≡ head_owned (drop k nodes) * 256 + first_of (drop (suc k) nodes)
   at-word = ap (λ n. get_or ws n 0) st.at_is ∙ node-word ws k nodes l lt kn.is.chained
@@ -135,7 +135,7 @@ module _ (ws : List ℕ) (key slot before at : ℕ) (kn : Known ws) (st : Stands
 
   pub own-word : 256 ≤ get_or ws own 0
   own-word =
-      let o = owner-word ws (used (read_heap ws)) k nodes l kn.few kn.places kn.is.chained k_le in
+      let o = owner-word ws (used_places (read_heap ws)) k nodes l kn.few kn.places kn.is.chained k_le in
       let s = owned-some 0 k nodes l kn.is.owned in
       let i = o.is in
       let e : get_or ws own 0 ≡ get_or ws (owner_from (drop k nodes)) 0 = ap (λ n. get_or ws n 0) own-is in omega arith
@@ -156,20 +156,20 @@ module _ (ws : List ℕ) (key slot before at : ℕ) (kn : Known ws) (st : Stands
   owning e none = middle-apart k nodes apart lt (sym st.at_is ∙ (e ∙ (own-is ∙ owner-skip k nodes lt none)))
 
   -- a word that is neither the place taken out nor its neighbours
-  kept-member : (i q : ℕ) → IsKept (used (read_heap ws)) i → 0 < times q (places_of nodes) → i ≢ q
-  kept-member i q kept m = kept-place (used (read_heap ws)) i q kept (places.place q (omega arith))
+  kept-member : (i q : ℕ) → IsKept (used_places (read_heap ws)) i → 0 < times q (places_of nodes) → i ≢ q
+  kept-member i q kept m = kept-place (used_places (read_heap ws)) i q kept (places.place q (omega arith))
 
-  kept-at : (i : ℕ) → IsKept (used (read_heap ws)) i → i ≢ at
+  kept-at : (i : ℕ) → IsKept (used_places (read_heap ws)) i → i ≢ at
   kept-at i kept = kept-member i at kept at-in
 
-  kept-before : (i : ℕ) → IsKept (used (read_heap ws)) i → i ≢ before
+  kept-before : (i : ℕ) → IsKept (used_places (read_heap ws)) i → i ≢ before
   kept-before i kept = elim before-cases [ inl e ↦ (let b = e.1 in kept-fixed _ i before kept (inr (omega arith, omega arith))) | inr m ↦ kept-member i before kept m.1 ]
 
-  kept-own : (i : ℕ) → IsKept (used (read_heap ws)) i → i ≢ own
+  kept-own : (i : ℕ) → IsKept (used_places (read_heap ws)) i → i ≢ own
   kept-own i kept = elim own-cases [ inl e ↦ kept-fixed _ i own kept (inr (omega arith, omega arith)) | inr m ↦ kept-member i own kept m ]
 
   -- as many places are used as before
-  pub used-unlink : used (unlink_in k (read_heap ws)) ≡ used (read_heap ws)
+  pub used-unlink : used_places (unlink_in k (read_heap ws)) ≡ used_places (read_heap ws)
   used-unlink = let c = length-unlink k nodes lt in omega arith
 
   -- no place of the chain
@@ -180,7 +180,7 @@ module _ (ws : List ℕ) (key slot before at : ℕ) (kn : Known ws) (st : Stands
   not-first q ne z = ne (z ∙ st.at_is)
 
   -- a record that owns no slot
-  module _ (w1 w2 : List ℕ) (none : head_owned (drop k nodes) ≡ 0) (u : Unlinked ws w1 before at own) (g : GivenBack w1 w2 at) where
+  module _ (w1 w2 : List ℕ) (none : head_owned (drop k nodes) ≡ 0) (u : IsLinkedPast ws w1 before at own) (g : IsGivenBack w1 w2 at) where
     not-own-at : at ≢ own
     not-own-at z = owning z none
 
@@ -264,11 +264,11 @@ module _ (ws : List ℕ) (key slot before at : ℕ) (kn : Known ws) (st : Stands
     pub plain-page : page_with w2 (records_in w2 (unlink_node k nodes)) ≡ page_with ws (without key (records_of ws))
     plain-page = unlink-page ws w2 (read_heap ws) k key (get_or ws (at + 2) 0) kn.is lt unlink-words gone value-in ∙ ap (λ (rs : Pairs). page_with ws (without key rs)) (sym kn.records)
 
-    pub plain-kept : (i : ℕ) → IsKept (used (read_heap ws)) i → get_or w2 i 0 ≡ get_or ws i 0
+    pub plain-kept : (i : ℕ) → IsKept (used_places (read_heap ws)) i → get_or w2 i 0 ≡ get_or ws i 0
     plain-kept i kept = both i (kept-fixed _ i 2 kept (inl refl)) (kept-fixed _ i 6 kept (inr (omega arith, omega arith))) (kept-at i kept) (kept-before i kept) (kept-own i kept)
 
   -- a record that owns a slot
-  module _ (w1 w2 : List ℕ) (some : head_owned (drop k nodes) ≡ 0 → ⊥) (u : HandedOver ws w1 before at slot) (g : GivenBack w1 w2 at) where
+  module _ (w1 w2 : List ℕ) (some : head_owned (drop k nodes) ≡ 0 → ⊥) (u : IsHandedOver ws w1 before at slot) (g : IsGivenBack w1 w2 at) where
     both2 : (i : ℕ) → i ≢ 2 → i ≢ 6 → i ≢ at → i ≢ before → i ≢ 8 + slot → get_or w2 i 0 ≡ get_or ws i 0
     both2 i a b d e f = g.other i a b d ∙ u.other i e f
 
@@ -361,7 +361,7 @@ module _ (ws : List ℕ) (key slot before at : ℕ) (kn : Known ws) (st : Stands
         go zero e = absurd (some (ap (λ n. head_owned (drop n nodes)) e ∙ first-none nodes l kn.is.owned))
         go (suc j) e = owner-page-j j e
 
-    pub owner-kept : (i : ℕ) → IsKept (used (read_heap ws)) i → get_or w2 i 0 ≡ get_or ws i 0
+    pub owner-kept : (i : ℕ) → IsKept (used_places (read_heap ws)) i → get_or w2 i 0 ≡ get_or ws i 0
     owner-kept i kept =
         let s = slot-range in
         both2 i (kept-fixed _ i 2 kept (inl refl)) (kept-fixed _ i 6 kept (inr (omega arith, omega arith))) (kept-at i kept) (kept-before i kept) (kept-fixed _ i (8 + slot) kept (inr (omega arith, omega arith)))

@@ -83,8 +83,8 @@ records_in ws [] = []
 records_in ws (x ∷ xs) = (slice_index ws (x.place + 1), slice_index ws (x.place + 2)) ∷ records_in ws xs
 
 -- how many record places have been used
-abbrev pub used : Heap → ℕ
-used h = length h.nodes + length h.free
+abbrev pub used_places : Heap → ℕ
+used_places h = length h.nodes + length h.free
 
 -- the page that these records make
 abbrev pub page_with : List ℕ → Pairs → Page
@@ -98,15 +98,15 @@ is_heap ws h =
     && ((slice_index ws 2 == length h.nodes)
     && (is_page (page_with ws (records_in ws h.nodes))
     && ((slice_index ws 6 == first_free h.free)
-    && ((slice_index ws 7 == (1 + length (owners h.nodes)) * 256 + (20 + 3 * used h))
-    && (nat_le (used h) MOST_RECORDS
+    && ((slice_index ws 7 == (1 + length (owners h.nodes)) * 256 + (20 + 3 * used_places h))
+    && (nat_le (used_places h) MOST_RECORDS
     && ((slice_index ws 18 == 256 + first_of h.nodes)
     && (is_chained ws h.nodes h.last
     && (is_freed ws h.free
     && (is_owned 0 h.nodes h.last
     && (is_directory ws 10 8 (18 ∷ owners h.nodes)
-    && (are_places (used h) (places_of h.nodes ++ h.free)
-    && (each_once (used h) (places_of h.nodes ++ h.free)
+    && (are_places (used_places h) (places_of h.nodes ++ h.free)
+    && (each_once (used_places h) (places_of h.nodes ++ h.free)
     && ((slice_index ws 125 == 0) && ((slice_index ws 126 == 0) && (slice_index ws 127 == 0))))))))))))))))
 
 -- the n records of the chain from a place on

@@ -29,9 +29,9 @@ abbrev pub records_of : List ℕ → Pairs
 records_of ws = (page_in (page_of ws)).records
 
 -- the page with other records, and nothing else changed
-abbrev pub with_records : Pairs → PageValue → PageValue
-with_records records (Tree p) = Tree (record p { records = records })
-with_records records v = v
+abbrev pub value_with_records : Pairs → PageValue → PageValue
+value_with_records records (Tree p) = Tree (record p { records = records })
+value_with_records records v = v
 
 -- the page with other links, and nothing else changed
 abbrev pub with_links : ℕ → ℕ → PageValue → PageValue
@@ -44,7 +44,7 @@ with_level level (Tree p) = Tree (record p { level = level })
 with_level level v = v
 
 -- the page, free or not, with another clock, and nothing else changed
-abbrev pub with_clock : ℕ → PageValue → PageValue
-with_clock clock (Tree p) = Tree (record p { clock = clock })
-with_clock clock (Free old) = Free clock
-with_clock clock Malformed = Malformed
+abbrev pub value_with_clock : ℕ → PageValue → PageValue
+value_with_clock clock (Tree p) = Tree (record p { clock = clock })
+value_with_clock clock (Free old) = Free clock
+value_with_clock clock Malformed = Malformed

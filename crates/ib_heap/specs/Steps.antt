@@ -2,12 +2,12 @@
 use Rattle.std.specs.Prelude.{◌≡◌, ◌≢◌, ℕ, ◌+◌, ◌-◌, ◌*◌, ◌/◌, ◌%◌, ◌<◌, ◌≤◌, ◌⊎◌, List, length, take, drop, slice_index}
 use Rattle.ib_map.specs.Pairs.{place_of}
 use Rattle.ib_map.specs.declared.TheConstants.{PAGE_WORDS}
-use Rattle.ib_heap.specs.Heap.{first_of, first_free, owners, used, read_heap, nodes_of, last_from, up_to}
+use Rattle.ib_heap.specs.Heap.{first_of, first_free, owners, used_places, read_heap, nodes_of, last_from, up_to}
 use Rattle.ib_heap.specs.Image.{records_of}
 use Rattle.ib_heap.specs.Put.{place_for, rest_of}
 
 -- where a key stands on a page: its neighbours in the chain, and its slot
-pub record Stands (ws : List ℕ) (key slot before at : ℕ) : Type 0 where
+pub record IsPlaceOfKey (ws : List ℕ) (key slot before at : ℕ) : Type 0 where
   pub before_is : before ≡ last_from 18 (take (place_of key (records_of ws)) (nodes_of ws))
   pub at_is : at ≡ first_of (drop (place_of key (records_of ws)) (nodes_of ws))
   pub some : 0 < slot
@@ -21,12 +21,12 @@ pub record IsHead (place : ℕ) : Type 0 where
   pub high : place ≤ 122
 
 -- the place for a new record is taken from the free ones, or from the top
-pub record Taken (ws vs : List ℕ) (p : ℕ) : Type 0 where
+pub record IsPlaceTaken (ws vs : List ℕ) (p : ℕ) : Type 0 where
   pub place : p ≡ place_for (read_heap ws)
   pub low : 20 ≤ p
   pub high : p ≤ 122
   pub front : slice_index vs 6 ≡ first_free (rest_of (read_heap ws).free)
-  pub top : slice_index vs 7 ≡ slice_index ws 7 + 3 * (length (nodes_of ws) + 1 + length (rest_of (read_heap ws).free) - used (read_heap ws))
+  pub top : slice_index vs 7 ≡ slice_index ws 7 + 3 * (length (nodes_of ws) + 1 + length (rest_of (read_heap ws).free) - used_places (read_heap ws))
   pub other : (i : ℕ) → i ≢ 6 → i ≢ 7 → slice_index vs i ≡ slice_index ws i
   pub size : length vs ≡ length ws
 
@@ -46,7 +46,7 @@ pub record CanLink (ws : List ℕ) (before at owner p : ℕ) : Type 0 where
   pub count_word : slice_index ws 2 < 65536
 
 -- it stands between its neighbours, and is counted, and owned
-pub record Linked (ws vs : List ℕ) (before at owner p key value : ℕ) : Type 0 where
+pub record IsLinkedIn (ws vs : List ℕ) (before at owner p key value : ℕ) : Type 0 where
   pub place_word : slice_index vs p ≡ at
   pub key_word : slice_index vs (p + 1) ≡ key
   pub value_word : slice_index vs (p + 2) ≡ value
@@ -57,7 +57,7 @@ pub record Linked (ws vs : List ℕ) (before at owner p key value : ℕ) : Type 
   pub size : length vs ≡ length ws
 
 -- a slot can be split where there is room for one more
-pub record CanSplit (ws : List ℕ) (slot middle owner : ℕ) : Type 0 where
+pub record CanSplitSlot (ws : List ℕ) (slot middle owner : ℕ) : Type 0 where
   pub size : length ws ≡ PAGE_WORDS
   pub some : 0 < slot
   pub last : slot + 1 ≤ slice_index ws 7 / 256
@@ -69,7 +69,7 @@ pub record CanSplit (ws : List ℕ) (slot middle owner : ℕ) : Type 0 where
   pub owner_word : 1024 ≤ slice_index ws owner
 
 -- the new slot's owner owns four more, the old owner four fewer, and the slots from there on stand one word higher
-pub record Split (ws vs : List ℕ) (slot middle owner : ℕ) : Type 0 where
+pub record IsSlotSplit (ws vs : List ℕ) (slot middle owner : ℕ) : Type 0 where
   pub marked : slice_index vs middle ≡ slice_index ws middle + 1024
   pub lowered : slice_index vs owner + 1024 ≡ slice_index ws owner
   pub top : slice_index vs 7 ≡ slice_index ws 7 + 256
@@ -91,7 +91,7 @@ pub record CanUnlink (ws : List ℕ) (before at owner : ℕ) : Type 0 where
   pub owner_word : 256 ≤ slice_index ws owner
 
 -- the chain goes on behind it, and its slot owns one fewer
-pub record Unlinked (ws vs : List ℕ) (before at owner : ℕ) : Type 0 where
+pub record IsLinkedPast (ws vs : List ℕ) (before at owner : ℕ) : Type 0 where
   pub link : slice_index vs before + at ≡ slice_index ws before + slice_index ws at % 256
   pub lowered : slice_index vs owner + 256 ≡ slice_index ws owner
   pub other : (i : ℕ) → i ≢ before → i ≢ owner → slice_index vs i ≡ slice_index ws i
@@ -106,7 +106,7 @@ pub record CanHandOver (ws : List ℕ) (before at slot : ℕ) : Type 0 where
   pub at_word : 256 ≤ slice_index ws at
 
 -- the record before it goes on where the owner did, and owns one fewer
-pub record HandedOver (ws vs : List ℕ) (before at slot : ℕ) : Type 0 where
+pub record IsHandedOver (ws vs : List ℕ) (before at slot : ℕ) : Type 0 where
   pub link : slice_index vs before + 256 ≡ slice_index ws at
   pub here : slice_index vs (8 + slot) ≡ before
   pub other : (i : ℕ) → i ≢ before → i ≢ 8 + slot → slice_index vs i ≡ slice_index ws i
@@ -120,7 +120,7 @@ pub record CanGiveBack (ws : List ℕ) (at : ℕ) : Type 0 where
   pub some : 0 < slice_index ws 2
 
 -- it is the first free one, and its record is counted out
-pub record GivenBack (ws vs : List ℕ) (at : ℕ) : Type 0 where
+pub record IsGivenBack (ws vs : List ℕ) (at : ℕ) : Type 0 where
   pub freed : slice_index vs at ≡ slice_index ws 6
   pub front : slice_index vs 6 ≡ at
   pub count : slice_index vs 2 + 1 ≡ slice_index ws 2
@@ -140,7 +140,7 @@ pub record CanLend (ws : List ℕ) (slot short first after : ℕ) : Type 0 where
   pub after_word : 256 ≤ slice_index ws after
 
 -- that record owns the short slot of four, and the slot after it one fewer
-pub record Lent (ws vs : List ℕ) (slot short first after : ℕ) : Type 0 where
+pub record IsLent (ws vs : List ℕ) (slot short first after : ℕ) : Type 0 where
   pub fewer : slice_index vs short + 768 ≡ slice_index ws short
   pub marked : slice_index vs first ≡ slice_index ws first + 1024
   pub lowered : slice_index vs after + 256 ≡ slice_index ws after
@@ -161,7 +161,7 @@ pub record CanJoin (ws : List ℕ) (slot short after : ℕ) : Type 0 where
   pub after_word : slice_index ws after < 65536
 
 -- the slot after it owns three more, and the slots from there on stand one word lower
-pub record Joined (ws vs : List ℕ) (slot short after : ℕ) : Type 0 where
+pub record IsSlotJoined (ws vs : List ℕ) (slot short after : ℕ) : Type 0 where
   pub fewer : slice_index vs short + 768 ≡ slice_index ws short
   pub raised : slice_index vs after ≡ slice_index ws after + 768
   pub top : slice_index vs 7 + 256 ≡ slice_index ws 7

@@ -5,7 +5,7 @@ ghost use Rattle.ib_heap.specs.Page.PageValue.{Tree};
 ghost use Rattle.ib_heap.specs.Heap.{read_heap};
 ghost use Rattle.ib_heap.specs.Form.{page_of, empty_leaf_words};
 ghost use Rattle.ib_heap.specs.Filled.{empty_heap};
-ghost use Rattle.ib_heap.specs.Image.{IsTreePage, IsFormed, level_of, prev_of, next_of, clock_of, records_of, with_links, with_level, with_clock};
+ghost use Rattle.ib_heap.specs.Image.{IsTreePage, IsFormed, level_of, prev_of, next_of, clock_of, records_of, with_links, with_level, value_with_clock};
 
 use crate::page::CLOCK;
 use crate::words::PageWords;
@@ -204,7 +204,7 @@ pub fn set_level(words: &mut [u64], level: u32)
 /// Sets the modify clock of a page, free or not (`buf_block_modify_clock_inc`).
 pub fn set_clock(words: &mut [u64], clock: u64)
     requires { IsFormed words.old }
-    ensures page { page_of words.new ≡ with_clock clock (page_of words.old) }
+    ensures page { page_of words.new ≡ value_with_clock clock (page_of words.old) }
     ensures heap { read_heap words.new ≡ read_heap words.old }
     ensures kept { (i : ℕ) → i ≢ 5 → slice_index words.new i ≡ slice_index words.old i }
 {

@@ -3,11 +3,11 @@
 ghost use Rattle.std.specs.Prelude.{◌≡◌, ◌≢◌, ◌+◌, ◌<◌, ◌≤◌, ◌⊎◌, ℕ, length, slice_index, IsSome, IsNone, OnOk, OnErr, ◌↔◌, None};
 ghost use Rattle.ib_map.specs.Pairs.{put, value_at, place_of};
 ghost use Rattle.ib_heap.specs.Form.{page_of};
-ghost use Rattle.ib_heap.specs.Image.{IsTreePage, records_of, with_records};
-ghost use Rattle.ib_heap.specs.Heap.{nodes_of, read_heap, used};
+ghost use Rattle.ib_heap.specs.Image.{IsTreePage, records_of, value_with_records};
+ghost use Rattle.ib_heap.specs.Heap.{nodes_of, read_heap, used_places};
 ghost use Rattle.ib_heap.specs.Put.{place_for, put_in};
 ghost use Rattle.ib_heap.specs.Kept.{IsKept};
-ghost use Rattle.ib_heap.specs.Steps.{Stands, Taken, CanLink, Linked, CanSplit, Split};
+ghost use Rattle.ib_heap.specs.Steps.{IsPlaceOfKey, IsPlaceTaken, CanLink, IsLinkedIn, CanSplitSlot, IsSlotSplit};
 ghost use Rattle.ib_heap.specs.Walks.{end_from};
 
 use crate::MOST_RECORDS;
@@ -25,14 +25,14 @@ use ib_map::{Key, PAGE_WORDS};
 /// `MOST_RECORDS` records. A page that refuses is unchanged.
 pub fn put(words: &mut [u64], key: Key, value: u64) -> Result<(), PageFault>
     requires { IsTreePage words.old }
-    ensures inserted { OnOk result (page_of words.new ≡ with_records (put key value (records_of words.old)) (page_of words.old)) }
+    ensures inserted { OnOk result (page_of words.new ≡ value_with_records (put key value (records_of words.old)) (page_of words.old)) }
     ensures tree { IsTreePage words.new }
     ensures duplicate { (result ≡ Err PageFault.Duplicate) ↔ IsSome (value_at key (records_of words.old)) }
     ensures full { (result ≡ Err PageFault.PageFull) ↔ (IsNone (value_at key (records_of words.old)) × (length (records_of words.old) ≡ MOST_RECORDS)) }
     ensures never_missing { result ≢ Err PageFault.Missing }
     ensures unchanged { OnErr result (words.new ≡ words.old) }
     ensures heap { OnOk result (read_heap words.new ≡ put_in (place_of key (records_of words.old)) (read_heap words.old)) }
-    ensures kept { OnOk result ((i : ℕ) → IsKept (used (read_heap words.new)) i → i ≢ place_for (read_heap words.old) + 1 → i ≢ place_for (read_heap words.old) + 2 → slice_index words.new i ≡ slice_index words.old i) }
+    ensures kept { OnOk result ((i : ℕ) → IsKept (used_places (read_heap words.new)) i → i ≢ place_for (read_heap words.old) + 1 → i ≢ place_for (read_heap words.old) + 2 → slice_index words.new i ≡ slice_index words.old i) }
 {
     match find(words, key) {
         Ok(_) => Err(PageFault::Duplicate),
@@ -52,9 +52,9 @@ pub(crate) fn put_new(words: &mut [u64], key: Key, value: u64)
     requires tree { IsTreePage words.old }
     requires few { length (records_of words.old) < MOST_RECORDS }
     requires absent { value_at key (records_of words.old) ≡ None }
-    ensures page { page_of words.new ≡ with_records (put key value (records_of words.old)) (page_of words.old) }
+    ensures page { page_of words.new ≡ value_with_records (put key value (records_of words.old)) (page_of words.old) }
     ensures heap { read_heap words.new ≡ put_in (place_of key (records_of words.old)) (read_heap words.old) }
-    ensures kept { (i : ℕ) → IsKept (used (read_heap words.new)) i → i ≢ place_for (read_heap words.old) + 1 → i ≢ place_for (read_heap words.old) + 2 → slice_index words.new i ≡ slice_index words.old i }
+    ensures kept { (i : ℕ) → IsKept (used_places (read_heap words.new)) i → i ≢ place_for (read_heap words.old) + 1 → i ≢ place_for (read_heap words.old) + 2 → slice_index words.new i ≡ slice_index words.old i }
 {
     let cursor = locate(words, key);
     let first = slot_word(words, cursor.slot - 1);
@@ -82,7 +82,7 @@ fn fourth_behind(words: &[u64], place: usize) -> usize
 /// Finds a key.
 pub(crate) fn locate(words: &[u64], key: Key) -> Cursor
     requires { IsTreePage words.now }
-    ensures { Stands words.now key result.slot result.before result.at }
+    ensures { IsPlaceOfKey words.now key result.slot result.before result.at }
 {
     let mut page = words;
     seek(&mut page, key)
@@ -102,7 +102,7 @@ pub(crate) fn write(words: &mut [u64], i: usize, word: u64)
 fn take_place(words: &mut [u64]) -> usize
     requires tree { IsTreePage words.old }
     requires few { length (nodes_of words.old) < MOST_RECORDS }
-    ensures { Taken words.old words.new result }
+    ensures { IsPlaceTaken words.old words.new result }
 {
     let first = words[FREE];
     if first != 0 {
@@ -118,7 +118,7 @@ fn take_place(words: &mut [u64]) -> usize
 // Writes a record, and its place into the chain between its neighbours, and counts it.
 fn link(words: &mut [u64], cursor: Cursor, owner: usize, place: usize, key: Key, value: u64)
     requires { CanLink words.old cursor.before cursor.at owner place }
-    ensures { Linked words.old words.new cursor.before cursor.at owner place key value }
+    ensures { IsLinkedIn words.old words.new cursor.before cursor.at owner place key value }
 {
     let count = words[COUNT];
     let head = words[cursor.before];
@@ -151,8 +151,8 @@ fn open_slot(words: &mut [u64], slot: usize, last: usize)
 // Splits a slot of nine: the fourth of its records owns the first four, and the old owner keeps the others
 // (`page_dir_split_slot`).
 fn split_slot(words: &mut [u64], slot: usize, middle: usize, owner: usize)
-    requires { CanSplit words.old slot middle owner }
-    ensures { Split words.old words.new slot middle owner }
+    requires { CanSplitSlot words.old slot middle owner }
+    ensures { IsSlotSplit words.old words.new slot middle owner }
 {
     let top = words[TOP];
     let last = (top / OWNED_UNIT) as usize - 1;

@@ -5,7 +5,7 @@ ghost use Rattle.std.specs.Prelude.{◌≡◌, ℕ, ◌+◌, ◌*◌, ◌-◌, �
 ghost use Rattle.ib_map.specs.Keys.{end_rank};
 ghost use Rattle.ib_map.specs.Pairs.{Rises};
 ghost use Rattle.ib_heap.specs.Form.{page_of};
-ghost use Rattle.ib_heap.specs.Image.{IsTreePage, records_of, with_records};
+ghost use Rattle.ib_heap.specs.Image.{IsTreePage, records_of, value_with_records};
 ghost use Rattle.ib_heap.specs.Heap.{read_heap};
 ghost use Rattle.ib_heap.specs.Filled.{empty_heap, filled};
 
@@ -22,8 +22,8 @@ pub fn move_tail(left: &mut [u64], place: usize, right: &mut [u64])
     requires right { IsTreePage right.old }
     requires none { records_of right.old ≡ [] }
     requires in_range { place ≤ length (records_of left.old) }
-    ensures left { page_of left.new ≡ with_records (take place (records_of left.old)) (page_of left.old) }
-    ensures right { page_of right.new ≡ with_records (drop place (records_of left.old)) (page_of right.old) }
+    ensures left { page_of left.new ≡ value_with_records (take place (records_of left.old)) (page_of left.old) }
+    ensures right { page_of right.new ≡ value_with_records (drop place (records_of left.old)) (page_of right.old) }
     ensures left_heap { read_heap left.new ≡ filled place }
     ensures right_heap { read_heap right.new ≡ filled (length (records_of left.old) - place) }
     ensures left_rest { (i : ℕ) → 20 + 3 * place ≤ i → slice_index left.new i ≡ 0 }
@@ -43,7 +43,7 @@ pub fn append(left: &mut [u64], right: &[u64])
     requires right { IsTreePage right.now }
     requires few { length (records_of left.old) + length (records_of right.now) ≤ MOST_RECORDS }
     requires ascends { Rises 0 (records_of left.old ++ records_of right.now) end_rank }
-    ensures page { page_of left.new ≡ with_records (records_of left.old ++ records_of right.now) (page_of left.old) }
+    ensures page { page_of left.new ≡ value_with_records (records_of left.old ++ records_of right.now) (page_of left.old) }
     ensures heap { read_heap left.new ≡ filled (length (records_of left.old) + length (records_of right.now)) }
     ensures rest { (i : ℕ) → 20 + 3 * (length (records_of left.old) + length (records_of right.now)) ≤ i → slice_index left.new i ≡ 0 }
 {
@@ -81,7 +81,7 @@ fn rebuild(words: &mut [u64], records: &[(Key, u64)])
     requires tree { IsTreePage words.old }
     requires few { length records.now ≤ MOST_RECORDS }
     requires ascends { Rises 0 records.now end_rank }
-    ensures page { page_of words.new ≡ with_records records.now (page_of words.old) }
+    ensures page { page_of words.new ≡ value_with_records records.now (page_of words.old) }
     ensures heap { read_heap words.new ≡ filled (length records.now) }
     ensures rest { (i : ℕ) → 20 + 3 * length records.now ≤ i → slice_index words.new i ≡ 0 }
 {
@@ -92,7 +92,7 @@ fn rebuild(words: &mut [u64], records: &[(Key, u64)])
 // Makes a page empty, and leaves its level, its links and its clock.
 fn clear(words: &mut [u64])
     requires { IsTreePage words.old }
-    ensures page { page_of words.new ≡ with_records [] (page_of words.old) }
+    ensures page { page_of words.new ≡ value_with_records [] (page_of words.old) }
     ensures heap { read_heap words.new ≡ empty_heap }
     ensures rest { (i : ℕ) → 20 ≤ i → slice_index words.new i ≡ 0 }
 {
@@ -111,7 +111,7 @@ fn fill(words: &mut [u64], records: &[(Key, u64)])
     requires rest { (i : ℕ) → 20 ≤ i → slice_index words.old i ≡ 0 }
     requires few { length records.now ≤ MOST_RECORDS }
     requires ascends { Rises 0 records.now end_rank }
-    ensures page { page_of words.new ≡ with_records records.now (page_of words.old) }
+    ensures page { page_of words.new ≡ value_with_records records.now (page_of words.old) }
     ensures heap { read_heap words.new ≡ filled (length records.now) }
     ensures rest { (i : ℕ) → 20 + 3 * length records.now ≤ i → slice_index words.new i ≡ 0 }
 {

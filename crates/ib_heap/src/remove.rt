@@ -3,12 +3,12 @@
 ghost use Rattle.std.specs.Prelude.{◌≡◌, ◌≢◌, true, ◌+◌, ◌<◌, ◌≤◌, ◌⊎◌, ℕ, length, slice_index, IsNone, IfOk, IfErr, OnOk, OnErr, ◌↔◌, Some, None};
 ghost use Rattle.ib_map.specs.Pairs.{without, value_at, place_of};
 ghost use Rattle.ib_heap.specs.Form.{page_of};
-ghost use Rattle.ib_heap.specs.Image.{IsTreePage, records_of, with_records};
-ghost use Rattle.ib_heap.specs.Heap.{nodes_of, read_heap, used, records_in, page_with};
+ghost use Rattle.ib_heap.specs.Image.{IsTreePage, records_of, value_with_records};
+ghost use Rattle.ib_heap.specs.Heap.{nodes_of, read_heap, used_places, records_in, page_with};
 ghost use Rattle.ib_heap.specs.Take.{unlink_node, unlink_in, remove_in};
 ghost use Rattle.ib_heap.specs.Shape.{is_shaped};
 ghost use Rattle.ib_heap.specs.Kept.{IsKept};
-ghost use Rattle.ib_heap.specs.Steps.{Stands, CanUnlink, Unlinked, CanHandOver, HandedOver, CanGiveBack, GivenBack, CanLend, Lent, CanJoin, Joined};
+ghost use Rattle.ib_heap.specs.Steps.{IsPlaceOfKey, CanUnlink, IsLinkedPast, CanHandOver, IsHandedOver, CanGiveBack, IsGivenBack, CanLend, IsLent, CanJoin, IsSlotJoined};
 
 use crate::fault::PageFault;
 use crate::form::{COUNT, DIRECTORY, FEWEST_OWNED, FREE, ONE_TOO_FEW, OWNED_UNIT, SUPREMUM, TOP};
@@ -24,13 +24,13 @@ use ib_map::{Key, PAGE_WORDS};
 pub fn take(words: &mut [u64], key: Key) -> Result<u64, PageFault>
     requires { IsTreePage words.old }
     ensures value { IfOk result (λ value. value_at key (records_of words.old) ≡ Some value) }
-    ensures removed { OnOk result (page_of words.new ≡ with_records (without key (records_of words.old)) (page_of words.old)) }
+    ensures removed { OnOk result (page_of words.new ≡ value_with_records (without key (records_of words.old)) (page_of words.old)) }
     ensures tree { IsTreePage words.new }
     ensures missing { (result ≡ Err PageFault.Missing) ↔ IsNone (value_at key (records_of words.old)) }
     ensures only_missing { IfErr result (λ fault. fault ≡ PageFault.Missing) }
     ensures unchanged { OnErr result (words.new ≡ words.old) }
     ensures heap { OnOk result (read_heap words.new ≡ remove_in (place_of key (records_of words.old)) (read_heap words.old)) }
-    ensures kept { OnOk result ((i : ℕ) → IsKept (used (read_heap words.old)) i → slice_index words.new i ≡ slice_index words.old i) }
+    ensures kept { OnOk result ((i : ℕ) → IsKept (used_places (read_heap words.old)) i → slice_index words.new i ≡ slice_index words.old i) }
 {
     match get(words, key) {
         Some(_) => Ok(take_there(words, key)),
@@ -44,9 +44,9 @@ fn take_there(words: &mut [u64], key: Key) -> u64
     requires tree { IsTreePage words.old }
     requires found { value_at key (records_of words.old) ≢ None }
     ensures value { value_at key (records_of words.old) ≡ Some result }
-    ensures page { page_of words.new ≡ with_records (without key (records_of words.old)) (page_of words.old) }
+    ensures page { page_of words.new ≡ value_with_records (without key (records_of words.old)) (page_of words.old) }
     ensures heap { read_heap words.new ≡ remove_in (place_of key (records_of words.old)) (read_heap words.old) }
-    ensures kept { (i : ℕ) → IsKept (used (read_heap words.old)) i → slice_index words.new i ≡ slice_index words.old i }
+    ensures kept { (i : ℕ) → IsKept (used_places (read_heap words.old)) i → slice_index words.new i ≡ slice_index words.old i }
 {
     let cursor = locate(words, key);
     let value = record_of(words, cursor.at).1;
@@ -73,10 +73,10 @@ fn take_there(words: &mut [u64], key: Key) -> u64
 fn take_out(words: &mut [u64], key: Key, cursor: Cursor)
     requires tree { IsTreePage words.old }
     requires found { value_at key (records_of words.old) ≢ None }
-    requires stands { Stands words.old key cursor.slot cursor.before cursor.at }
+    requires stands { IsPlaceOfKey words.old key cursor.slot cursor.before cursor.at }
     ensures shaped { is_shaped words.new (unlink_in (place_of key (records_of words.old)) (read_heap words.old)) ≡ true }
     ensures page { let nodes = unlink_node (place_of key (records_of words.old)) (nodes_of words.old) in page_with words.new (records_in words.new nodes) ≡ page_with words.old (without key (records_of words.old)) }
-    ensures kept { (i : ℕ) → IsKept (used (read_heap words.old)) i → slice_index words.new i ≡ slice_index words.old i }
+    ensures kept { (i : ℕ) → IsKept (used_places (read_heap words.old)) i → slice_index words.new i ≡ slice_index words.old i }
 {
     let owner = slot_word(words, cursor.slot);
     if cursor.at == owner {
@@ -91,7 +91,7 @@ fn take_out(words: &mut [u64], key: Key, cursor: Cursor)
 // Puts a place at the front of the free list, and counts its record out.
 fn give_back(words: &mut [u64], at: usize)
     requires { CanGiveBack words.old at }
-    ensures { GivenBack words.old words.new at }
+    ensures { IsGivenBack words.old words.new at }
 {
     let first = words[FREE];
     let count = words[COUNT];
@@ -103,7 +103,7 @@ fn give_back(words: &mut [u64], at: usize)
 // Takes a record that owns no slot out of the chain.
 fn unlink(words: &mut [u64], before: usize, at: usize, owner: usize)
     requires { CanUnlink words.old before at owner }
-    ensures { Unlinked words.old words.new before at owner }
+    ensures { IsLinkedPast words.old words.new before at owner }
 {
     let next = words[at] % OWNED_UNIT;
     let head = words[before];
@@ -115,7 +115,7 @@ fn unlink(words: &mut [u64], before: usize, at: usize, owner: usize)
 // Takes the owner of a slot out of the chain: the record before it owns the slot.
 fn hand_over(words: &mut [u64], before: usize, at: usize, slot: usize)
     requires { CanHandOver words.old before at slot }
-    ensures { HandedOver words.old words.new before at slot }
+    ensures { IsHandedOver words.old words.new before at slot }
 {
     let head = words[at];
     write(words, before, head - OWNED_UNIT);
@@ -125,7 +125,7 @@ fn hand_over(words: &mut [u64], before: usize, at: usize, slot: usize)
 // Fills a slot of three by the first record of the slot after it.
 fn lend(words: &mut [u64], slot: usize, short: usize, first: usize, after: usize)
     requires { CanLend words.old slot short first after }
-    ensures { Lent words.old words.new slot short first after }
+    ensures { IsLent words.old words.new slot short first after }
 {
     let fewer = words[short];
     let more = words[first];
@@ -155,7 +155,7 @@ fn close_slot(words: &mut [u64], slot: usize, last: usize)
 // Joins a slot of three to the slot after it.
 fn join_slots(words: &mut [u64], slot: usize, short: usize, after: usize)
     requires { CanJoin words.old slot short after }
-    ensures { Joined words.old words.new slot short after }
+    ensures { IsSlotJoined words.old words.new slot short after }
 {
     let top = words[TOP];
     let last = (top / OWNED_UNIT) as usize - 1;

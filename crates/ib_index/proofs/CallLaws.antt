@@ -11,7 +11,7 @@ use Rattle.ib_logrec.specs.declared.entry.Entry.{Entry}
 use Rattle.ib_logrec.specs.Log.{used}
 use Rattle.ib_tree.specs.Fits.{FitsLog}
 use Rattle.ib_rule.specs.declared.looks.Grants.{Grants}
-use Rattle.ib_rule.specs.declared.memory.Memory.{Memory}
+use Rattle.ib_rule.specs.declared.memory.Knowledge.{Knowledge}
 use Rattle.ib_rule.specs.declared.view.Role.{Role}
 use Rattle.ib_rule.specs.declared.view.Role.TheVariants.{Session}
 use Rattle.ib_rule.specs.Memory.{entries_of}
@@ -80,33 +80,33 @@ called-from sizes lawful opens call reply place p q r went looked end known reac
 -- a mini-transaction that ended after a look
 module _ (sizes : Sizes) (lawful : List Entry → Type 0) (q r : PassState) (log : List Entry) (place : ℕ) (taken : Grants) (looked : IsLook sizes lawful q.view log) (at : place ≡ length log) where
   pub read-end : HasEnded q taken log q.view.memory.own (q.view.memory.ends ++ place ∷ []) r → IsEnd q r place
-  read-end ended = let seen : r.view.memory.seen ≡ log = ap (λ (m : Memory). m.seen) ended.memory in record {
+  read-end ended = let seen : r.view.memory.seen ≡ log = ap (λ (m : Knowledge). m.seen) ended.memory in record {
     table = ap (λ (s : PassState). s.table) ended.pass;
     sizes = ap (λ (s : PassState). s.sizes) ended.pass;
     number = ap (λ (s : PassState). s.number) ended.pass;
     more = looked.others;
     seen = seen ∙ sym looked.longer;
-    ends = ap (λ (m : Memory). m.ends) ended.memory;
+    ends = ap (λ (m : Knowledge). m.ends) ended.memory;
     low = let a = ap length looked.longer in let b = length-append q.view.memory.seen looked.others in omega arith;
     high = let a = ap length seen in omega arith;
   }
 
   pub push-end : (e : Entry) (own : List Entry) → HasEnded q taken (log ++ e ∷ []) own (q.view.memory.ends ++ place ∷ []) r → IsEnd q r place
-  push-end e own ended = let seen : r.view.memory.seen ≡ log ++ e ∷ [] = ap (λ (m : Memory). m.seen) ended.memory in record {
+  push-end e own ended = let seen : r.view.memory.seen ≡ log ++ e ∷ [] = ap (λ (m : Knowledge). m.seen) ended.memory in record {
     table = ap (λ (s : PassState). s.table) ended.pass;
     sizes = ap (λ (s : PassState). s.sizes) ended.pass;
     number = ap (λ (s : PassState). s.number) ended.pass;
     more = looked.others ++ e ∷ [];
     seen = seen ∙ (ap (λ xs. xs ++ e ∷ []) (sym looked.longer) ∙ append_assoc q.view.memory.seen looked.others (e ∷ []));
-    ends = ap (λ (m : Memory). m.ends) ended.memory;
+    ends = ap (λ (m : Knowledge). m.ends) ended.memory;
     low = let a = ap length looked.longer in let b = length-append q.view.memory.seen looked.others in omega arith;
     high = let a = ap length seen in let b = length-append log (e ∷ []) in omega arith;
   }
 
   pub read-known : q.view.role ≡ Session q.number → HasEnded q taken log q.view.memory.own (q.view.memory.ends ++ place ∷ []) r → IsKnown sizes lawful r
   read-known role ended =
-      let seen : r.view.memory.seen ≡ log = ap (λ (m : Memory). m.seen) ended.memory in
-      let own : r.view.memory.own ≡ q.view.memory.own = ap (λ (m : Memory). m.own) ended.memory in
+      let seen : r.view.memory.seen ≡ log = ap (λ (m : Knowledge). m.seen) ended.memory in
+      let own : r.view.memory.own ≡ q.view.memory.own = ap (λ (m : Knowledge). m.own) ended.memory in
       let number : r.number ≡ q.number = ap (λ (s : PassState). s.number) ended.pass in
       record {
         legal = subst lawful (sym seen) looked.legal;

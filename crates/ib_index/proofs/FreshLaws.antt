@@ -12,7 +12,7 @@ use Rattle.ib_levels.specs.declared.level.Level.TheVariants.{Log, PageNew}
 use Rattle.ib_levels.specs.Level.{may_follow}
 use Rattle.ib_layout.specs.Geometry.{Sizes}
 use Rattle.ib_page.specs.Work.{WorkPage, changed_of}
-use Rattle.ib_walk.specs.Full.{chosen, free_from}
+use Rattle.ib_walk.specs.Full.{chosen, free_pages_from}
 use Rattle.ib_walk.specs.Pages.{Free, PageMemory, Tree}
 use Rattle.ib_walk.proofs.ChoiceLaws.{cond-eq, cond-ne}
 use Rattle.ib_plans.specs.Agreement.{Agrees, HasBits, IsThere, bits_in, memory_in, state_or_free}
@@ -69,24 +69,24 @@ lower : (n : ℕ) (bits : ℕ → ℕ) (xs : List ℕ) → AllByRecursion (λ q.
 lower n bits [] all = tt
 lower n bits (x ∷ xs) all = ((let a = all.0.0 in omega arith, all.0.1), lower n bits xs all.1)
 
-free-once : (bits : ℕ → ℕ) (page n k : ℕ) → AreOnce (take k (free_from bits page n)) (page + n) × AllByRecursion (λ q. (page ≤ q) × (bits q ≡ 0)) (take k (free_from bits page n))
+free-once : (bits : ℕ → ℕ) (page n k : ℕ) → AreOnce (take k (free_pages_from bits page n)) (page + n) × AllByRecursion (λ q. (page ≤ q) × (bits q ≡ 0)) (take k (free_pages_from bits page n))
 free-once bits page n zero = (tt, tt)
 free-once bits page zero (suc k) = (tt, tt)
 free-once bits page (suc n) (suc k) =
     let end : page + 1 + n ≡ page + suc n = omega arith in
     elim (cases_eq (bits page) 0) [
       | inl z ↦
-          let e = cond-eq (bits page) 0 (page ∷ free_from bits (page + 1) n) (free_from bits (page + 1) n) z in
+          let e = cond-eq (bits page) 0 (page ∷ free_pages_from bits (page + 1) n) (free_pages_from bits (page + 1) n) z in
           let r = free-once bits (page + 1) n k in
           subst (λ xs. AreOnce (take (suc k) xs) (page + suc n) × AllByRecursion (λ q. (page ≤ q) × (bits q ≡ 0)) (take (suc k) xs)) (sym e) (
-            (omega arith, above-none page bits (take k (free_from bits (page + 1) n)) r.1, subst (AreOnce (take k (free_from bits (page + 1) n))) end r.0),
-            ((omega arith, z), lower page bits (take k (free_from bits (page + 1) n)) r.1),
+            (omega arith, above-none page bits (take k (free_pages_from bits (page + 1) n)) r.1, subst (AreOnce (take k (free_pages_from bits (page + 1) n))) end r.0),
+            ((omega arith, z), lower page bits (take k (free_pages_from bits (page + 1) n)) r.1),
           )
       | inr ne ↦
-          let e = cond-ne (bits page) 0 (page ∷ free_from bits (page + 1) n) (free_from bits (page + 1) n) ne in
+          let e = cond-ne (bits page) 0 (page ∷ free_pages_from bits (page + 1) n) (free_pages_from bits (page + 1) n) ne in
           let r = free-once bits (page + 1) n (suc k) in
           subst (λ xs. AreOnce (take (suc k) xs) (page + suc n) × AllByRecursion (λ q. (page ≤ q) × (bits q ≡ 0)) (take (suc k) xs)) (sym e)
-          (subst (AreOnce (take (suc k) (free_from bits (page + 1) n))) end r.0, lower page bits (take (suc k) (free_from bits (page + 1) n)) r.1)
+          (subst (AreOnce (take (suc k) (free_pages_from bits (page + 1) n))) end r.0, lower page bits (take (suc k) (free_pages_from bits (page + 1) n)) r.1)
     ]
 
 free-none : (bits : ℕ → ℕ) (n : ℕ) (xs : List ℕ) → bits n ≢ 0 → AllByRecursion (λ q. (0 ≤ q) × (bits q ≡ 0)) xs → is_among xs n ≡ false

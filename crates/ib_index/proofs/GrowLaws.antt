@@ -24,7 +24,7 @@ use Rattle.ib_plans.proofs.EditLaws.{IsSome-and}
 use Rattle.ib_tree.specs.PageLists.{is_among}
 use Rattle.ib_tree.specs.TreeLog.{opening}
 use Rattle.ib_kept.specs.Kept.{IsKeptLog}
-use Rattle.ib_rule.specs.declared.memory.Memory.{Memory}
+use Rattle.ib_rule.specs.declared.memory.Knowledge.{Knowledge}
 use Rattle.ib_rule.specs.Pass.{PassState}
 use Rattle.ib_rule.specs.Views.{is_watched}
 use Rattle.ib_rule.proofs.Watching.{word_stays}
@@ -120,8 +120,8 @@ module _ (sizes : Sizes) (key : MapKey) (path : List ℕ) (held : List (ℕ × L
 
     still : (w : WorkPage) → IsHeldPage start p w → 0 < holdings (w.page + 2) p.view.session → IsAsRead start r.view.memory.seen w
     still w h some =
-        let calm = glanced.seen.steady w.page (ap (λ (m : Memory). is_watched (w.page + 2) m.since) taken.taken.memory ∙ h.watched) in
-        let log : r.view.memory.seen ≡ p.view.memory.seen ++ glanced.seen.went.more = glanced.seen.went.seen ∙ ap (λ (m : Memory). m.seen ++ glanced.seen.went.more) taken.taken.memory in
+        let calm = glanced.seen.steady w.page (ap (λ (m : Knowledge). is_watched (w.page + 2) m.since) taken.taken.memory ∙ h.watched) in
+        let log : r.view.memory.seen ≡ p.view.memory.seen ++ glanced.seen.went.more = glanced.seen.went.seen ∙ ap (λ (m : Knowledge). m.seen ++ glanced.seen.went.more) taken.taken.memory in
         record {
           size = h.read.size;
           is_page = subst (λ l. IsPageAfter start l w.page w.before) (sym log) (λ index lt. h.read.is_page index lt ∙ sym (word_stays start p.view.memory.seen glanced.seen.went.more (word_place w.page index)

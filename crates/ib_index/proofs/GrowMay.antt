@@ -16,7 +16,7 @@ use Rattle.ib_walk.specs.Full.{chosen, is_too_high, need_of}
 use Rattle.ib_walk.specs.Pages.{PageMemory}
 use Rattle.ib_walk.specs.Search.{leaf_for}
 use Rattle.ib_plans.specs.Agreement.{last_of, memory_in, reads_of}
-use Rattle.ib_split.specs.Inserts.{HasFresh, IsPlannedForAll, IsPlannedInsert}
+use Rattle.ib_split.specs.Inserts.{HasFresh, IsPlannedInsertForAll, IsPlannedInsert}
 use Rattle.ib_kept.specs.Kept.{IsKeptLog}
 use Rattle.ib_rule.specs.Pass.{PassState}
 use Rattle.ib_rule.specs.Views.{total}
@@ -45,7 +45,7 @@ insert-planned pages key value fresh m bits old new low has plan = record {
 module _ (sizes : Sizes) (key : MapKey) (is : IsKey key) (path : List ℕ) (held : List (ℕ × Level)) (p : PassState) (can : IsGrowing sizes key path held p) (seated : IsSeated sizes p)
     (few : total p.view.grants < 2 ^ 52) (short : length held < 64) (follow : AllByRecursion (λ (g : Grant). may_follow g.level Log ≡ true) (claim_grant ∷ map held_grant held))
     (value : ℕ) (fresh : List ℕ) (fresh-are : IsFreshForAll sizes.pages key path fresh p.work) (missing : value_at key (memory_in p.work (last_of path)).records ≡ None)
-    (work : List WorkPage) (planned : IsPlannedForAll path fresh key value p.work work) (reads : reads_of work ≡ reads_of p.work) (is-work : IsWork work) where
+    (work : List WorkPage) (planned : IsPlannedInsertForAll path fresh key value p.work work) (reads : reads_of work ≡ reads_of p.work) (is-work : IsWork work) where
   pub may-grow : MayCommit (IsKeptLog sizes.pages) (with_work work p) (Insert key value)
   may-grow = may-commit sizes key is path held p can seated few short follow (Insert key value) is
       (λ log same. ap (λ (o : Option ℕ). is_made (cond (is_some o) Duplicate Inserted)) (same ∙ missing)) work

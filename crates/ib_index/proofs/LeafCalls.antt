@@ -33,7 +33,7 @@ use Rattle.ib_kept.specs.LeafChange.{kept_pages, leaf_after}
 use Rattle.ib_kept.proofs.LeafChangeLaws.{insert-room}
 use Rattle.ib_frames.specs.declared.appends.LogFull.{LogFull}
 use Rattle.ib_rule.specs.declared.looks.Grants.{Grants}
-use Rattle.ib_rule.specs.declared.memory.Memory.{Memory}
+use Rattle.ib_rule.specs.declared.memory.Knowledge.{Knowledge}
 use Rattle.ib_rule.specs.Memory.{entries_of}
 use Rattle.ib_rule.specs.Pass.{PassState, IsOf}
 use Rattle.ib_rule.specs.Roles.{number_in}
@@ -103,7 +103,7 @@ pub record IsIdle (space : SpaceState) (r : PassState) : Type 0 where
 
 ended-idle : (space : SpaceState) (q r : PassState) (taken : Grants) (seen own : List Entry) (ends : List ℕ) → q.table ≡ space.table → q.sizes ≡ space.sizes → HasEnded q taken seen own ends r → IsIdle space r
 ended-idle space q r taken seen own ends table sizes ended = record {
-  own = record { table = ap (λ (s : PassState). s.table) ended.pass ∙ table; sizes = ap (λ (s : PassState). s.sizes) ended.pass ∙ sizes; closed = ap (λ (m : Memory). m.append) ended.memory };
+  own = record { table = ap (λ (s : PassState). s.table) ended.pass ∙ table; sizes = ap (λ (s : PassState). s.sizes) ended.pass ∙ sizes; closed = ap (λ (m : Knowledge). m.append) ended.memory };
   idle = ended.session;
   scratch = ap (λ (s : PassState). s.has_scratch) ended.pass;
 }
@@ -124,7 +124,7 @@ module _ (space : SpaceState) (key : MapKey) (is : IsKey key) (leaf : ℕ) (p q 
   -- a call that ends there without a change
   module _ (place : ℕ) (r : PassState) (read : HasRead sizes (IsKeptLog sizes.pages) q place r) where
     seen-r : r.view.memory.seen ≡ q.view.memory.seen ++ read.looked.others
-    seen-r = ap (λ (m : Memory). m.seen) read.ended.memory ∙ sym read.looked.longer
+    seen-r = ap (λ (m : Knowledge). m.seen) read.ended.memory ∙ sym read.looked.longer
 
     legal-r : IsKeptLog sizes.pages (q.view.memory.seen ++ read.looked.others)
     legal-r = subst (IsKeptLog sizes.pages) (sym read.looked.longer) read.looked.legal
@@ -162,7 +162,7 @@ module _ (space : SpaceState) (key : MapKey) (is : IsKey key) (leaf : ℕ) (p q 
             table = end.table ∙ h.went.table;
             sizes = end.sizes ∙ h.went.sizes;
             number = end.number ∙ h.went.number;
-            own = ap (λ (m : Memory). m.own) read.ended.memory ∙ h.went.own;
+            own = ap (λ (m : Knowledge). m.own) read.ended.memory ∙ h.went.own;
             more = h.went.more ++ end.more;
             seen = end.seen ∙ (ap (λ xs. xs ++ end.more) h.went.seen ∙ append_assoc p.view.memory.seen h.went.more end.more);
             added = h.went.added ++ place ∷ [];
@@ -182,18 +182,18 @@ module _ (space : SpaceState) (key : MapKey) (is : IsKey key) (leaf : ℕ) (p q 
         → HasCalled sizes (IsKeptLog sizes.pages) (by_place opening sizes.pages) call (record { call = call; reply = reply; place = place }) p r
     called-read call reply not_made fits =
         let end = read-end sizes (IsKeptLog sizes.pages) q r read.log place q.view.grants read.looked read.place read.ended in
-        let at : place ≡ length r.view.memory.seen = read.place ∙ ap length (sym (ap (λ (m : Memory). m.seen) read.ended.memory)) in
+        let at : place ≡ length r.view.memory.seen = read.place ∙ ap length (sym (ap (λ (m : Knowledge). m.seen) read.ended.memory)) in
         let long = length-history_of r.view.memory.seen in
         called-from sizes (IsKeptLog sizes.pages) (by_place opening sizes.pages) call reply place p q r h.went h.looked end
         (read-known sizes (IsKeptLog sizes.pages) q r read.log place q.view.grants read.looked read.place h.seated.role read.ended)
         (sym at ∙ rw not_made refl)
         (fits place (map_of r.view.memory.seen) value-r (ap (map_after (history_of r.view.memory.seen)) at) (omega arith))
-        (rw not_made (ap (λ (m : Memory). m.own) read.ended.memory))
+        (rw not_made (ap (λ (m : Knowledge). m.own) read.ended.memory))
 
   -- the log had no room for the change
   module _ (work : List WorkPage) (full : LogFull) (r : PassState) (f : IsFull sizes (IsKeptLog sizes.pages) (with_work work q) full r) where
     seen-f : r.view.memory.seen ≡ q.view.memory.seen ++ f.looked.others
-    seen-f = ap (λ (m : Memory). m.seen) f.ended.memory ∙ sym f.looked.longer
+    seen-f = ap (λ (m : Knowledge). m.seen) f.ended.memory ∙ sym f.looked.longer
 
     legal-f : IsKeptLog sizes.pages (q.view.memory.seen ++ f.looked.others)
     legal-f = subst (IsKeptLog sizes.pages) (sym f.looked.longer) f.looked.legal
@@ -225,7 +225,7 @@ module _ (space : SpaceState) (key : MapKey) (is : IsKey key) (leaf : ℕ) (p q 
 
     log-full : IsLogFull (space_of sizes (by_place opening sizes.pages)) r.view.memory.seen (length r.view.memory.seen) full.used full.cap
     log-full =
-        let seen : r.view.memory.seen ≡ f.log = ap (λ (m : Memory). m.seen) f.ended.memory in
+        let seen : r.view.memory.seen ≡ f.log = ap (λ (m : Knowledge). m.seen) f.ended.memory in
         record {
           words_are = f.words ∙ ap used (sym (take-length r.view.memory.seen ∙ seen));
           cap_is = f.cap;
@@ -237,10 +237,10 @@ module _ (space : SpaceState) (key : MapKey) (is : IsKey key) (leaf : ℕ) (p q 
         (full_record (record { call = call; reply = LogFullReply full.used full.cap; place = length r.view.memory.seen }) [])
         → HasCalled sizes (IsKeptLog sizes.pages) (by_place opening sizes.pages) call (record { call = call; reply = LogFullReply full.used full.cap; place = length r.view.memory.seen }) p r
     called-full call known fits =
-        let seen : r.view.memory.seen ≡ f.log = ap (λ (m : Memory). m.seen) f.ended.memory in
+        let seen : r.view.memory.seen ≡ f.log = ap (λ (m : Knowledge). m.seen) f.ended.memory in
         let end = subst (IsEnd q r) (ap length (sym seen)) (read-end sizes (IsKeptLog sizes.pages) q r f.log (length f.log) (commit_grants q) looked-f refl ended-f) in
         called-from sizes (IsKeptLog sizes.pages) (by_place opening sizes.pages) call (LogFullReply full.used full.cap) (length r.view.memory.seen) p q r h.went h.looked end known refl fits
-        (ap (λ (m : Memory). m.own) f.ended.memory)
+        (ap (λ (m : Knowledge). m.own) f.ended.memory)
 
     pub known-full : IsKnown sizes (IsKeptLog sizes.pages) r
     known-full = read-known sizes (IsKeptLog sizes.pages) q r f.log (length f.log) (commit_grants q) looked-f refl h.seated.role ended-f
@@ -285,7 +285,7 @@ module _ (space : SpaceState) (key : MapKey) (is : IsKey key) (leaf : ℕ) (p q 
     looked-c = c.looked
 
     seen-c : r.view.memory.seen ≡ c.log ++ e ∷ []
-    seen-c = ap (λ (m : Memory). m.seen) c.ended.memory
+    seen-c = ap (λ (m : Knowledge). m.seen) c.ended.memory
 
     end-c : IsEnd q r place
     end-c = push-end sizes (IsKeptLog sizes.pages) q r c.log place (commit_grants q) looked-c c.place e (q.view.memory.own ++ e ∷ []) ended-c
@@ -300,7 +300,7 @@ module _ (space : SpaceState) (key : MapKey) (is : IsKey key) (leaf : ℕ) (p q 
 
     known-c : IsKnown sizes (IsKeptLog sizes.pages) r
     known-c =
-        let own : r.view.memory.own ≡ q.view.memory.own ++ e ∷ [] = ap (λ (m : Memory). m.own) c.ended.memory in
+        let own : r.view.memory.own ≡ q.view.memory.own ++ e ∷ [] = ap (λ (m : Knowledge). m.own) c.ended.memory in
         let number : r.number ≡ q.number = ap (λ (s : PassState). s.number) c.ended.pass in
         record {
           legal = subst (IsKeptLog sizes.pages) (sym seen-c) c.legal;
@@ -341,7 +341,7 @@ module _ (space : SpaceState) (key : MapKey) (is : IsKey key) (leaf : ℕ) (p q 
         → HasCalled sizes (IsKeptLog sizes.pages) (by_place opening sizes.pages) call (record { call = call; reply = reply; place = place }) p r
     called-c call reply made fits =
         called-from sizes (IsKeptLog sizes.pages) (by_place opening sizes.pages) call reply place p q r h.went h.looked end-c known-c (reach-c ∙ rw made refl) fits
-        (rw made (c.log, e, seen-c, ap (λ (m : Memory). m.own) c.ended.memory))
+        (rw made (c.log, e, seen-c, ap (λ (m : Knowledge). m.own) c.ended.memory))
 
   pub called-inserted : (work : List WorkPage) (value place : ℕ) (r : PassState) → HasCommitted sizes (IsKeptLog sizes.pages) (by_place opening sizes.pages) (Insert key value) (with_work work q) place r
       → value_at key (leaf_page sizes key q).records ≡ None
@@ -394,7 +394,7 @@ module _ (space : SpaceState) (key : MapKey) (is : IsKey key) (leaf : ℕ) (p q 
   -- so the change needed the leaf alone where it was answered
   pub alone-read : (why : ℕ → PageState → Type 0) (place : ℕ) (r : PassState) → HasRead sizes (IsKeptLog sizes.pages) q place r → (why leaf (leaf_page sizes key q) → ⊥) → NeededLeaf sizes why key place r
   alone-read why place r read alone =
-      let seen : r.view.memory.seen ≡ read.log = ap (λ (m : Memory). m.seen) read.ended.memory in
+      let seen : r.view.memory.seen ≡ read.log = ap (λ (m : Knowledge). m.seen) read.ended.memory in
       let whole : take place r.view.memory.seen ≡ read.log = ap (take place) seen ∙ (ap (λ n. take n read.log) read.place ∙ take-length read.log) in
       record { alone = λ has. alone (leaf-kind why read.log read.looked (subst (HasLeaf sizes why key) whole has)) }
 
@@ -402,14 +402,14 @@ module _ (space : SpaceState) (key : MapKey) (is : IsKey key) (leaf : ℕ) (p q 
       → HasCommitted sizes (IsKeptLog sizes.pages) (by_place opening sizes.pages) change (with_work work q) place r → (why leaf (leaf_page sizes key q) → ⊥) → NeededLeaf sizes why key place r
   alone-committed why work change place r c alone =
       let e : Entry = commit_entry (with_work work q) change in
-      let seen : r.view.memory.seen ≡ c.log ++ e ∷ [] = ap (λ (m : Memory). m.seen) c.ended.memory in
+      let seen : r.view.memory.seen ≡ c.log ++ e ∷ [] = ap (λ (m : Knowledge). m.seen) c.ended.memory in
       let front : take place r.view.memory.seen ≡ c.log = ap (take place) seen ∙ take_at c.log (e ∷ []) place (sym c.place) in
       record { alone = λ has. alone (leaf-kind why c.log c.looked (subst (HasLeaf sizes why key) front has)) }
 
   alone-full : (why : ℕ → PageState → Type 0) (work : List WorkPage) (full : LogFull) (r : PassState)
       → IsFull sizes (IsKeptLog sizes.pages) (with_work work q) full r → (why leaf (leaf_page sizes key q) → ⊥) → NeededLeaf sizes why key (length r.view.memory.seen) r
   alone-full why work full r f alone =
-      let seen : r.view.memory.seen ≡ f.log = ap (λ (m : Memory). m.seen) f.ended.memory in
+      let seen : r.view.memory.seen ≡ f.log = ap (λ (m : Knowledge). m.seen) f.ended.memory in
       record { alone = λ has. alone (leaf-kind why f.log f.looked (subst (HasLeaf sizes why key) (take-length r.view.memory.seen ∙ seen) has)) }
 
   pub alone-ended : (why : ℕ → PageState → Type 0) (o : Result ℕ LogFull) (work : List WorkPage) (change : Change) (answer : Record) (call : Call) (made : Reply) (r : PassState) → (why leaf (leaf_page sizes key q) → ⊥)

@@ -15,7 +15,7 @@ use Rattle.ib_layout.specs.Geometry.{Sizes}
 use Rattle.ib_logrec.specs.declared.entry.Entry.{Entry}
 use Rattle.ib_logrec.specs.Log.{memory_after, history_of, map_of}
 use Rattle.ib_logrec.proofs.LogLaws.{length-history_of}
-use Rattle.ib_rule.specs.declared.memory.Memory.{Memory}
+use Rattle.ib_rule.specs.declared.memory.Knowledge.{Knowledge}
 use Rattle.ib_rule.specs.declared.view.Role.TheVariants.{Session as SessionRole}
 use Rattle.ib_rule.specs.declared.looks.Grants.{Grants}
 use Rattle.ib_rule.specs.Pass.{PassState}
@@ -66,7 +66,7 @@ module _ (sizes : Sizes) (roots : ℕ) (lawful : List Entry → Type 0) (opening
 
     module _ (place : ℕ) (r : PassState) (role : q.view.role ≡ SessionRole q.number) (read : HasRead sizes lawful q place r) where
       log-is : r.view.memory.seen ≡ q.view.memory.seen ++ read.looked.others
-      log-is = ap (λ (m : Memory). m.seen) read.ended.memory ∙ sym read.looked.longer
+      log-is = ap (λ (m : Knowledge). m.seen) read.ended.memory ∙ sym read.looked.longer
 
       calm : AllByRecursion (λ e. touches found.come.leaf e.writes ≡ false) read.looked.others
       calm = untouched (number_in q.view.role) found.come.leaf q.view.memory.since read.looked.others found.come.watched read.looked.harmless
@@ -84,7 +84,7 @@ module _ (sizes : Sizes) (roots : ℕ) (lawful : List Entry → Type 0) (opening
 
       module _ (reply : Reply) (is : reply ≡ lookup_answer value) where
         at-end : place ≡ length r.view.memory.seen
-        at-end = read.place ∙ ap length (sym (ap (λ (m : Memory). m.seen) read.ended.memory))
+        at-end = read.place ∙ ap length (sym (ap (λ (m : Knowledge). m.seen) read.ended.memory))
 
         not-made : is_made reply ≡ false
         not-made = ap is_made is ∙ lookup-made value
@@ -101,7 +101,7 @@ module _ (sizes : Sizes) (roots : ℕ) (lawful : List Entry → Type 0) (opening
             called-from sizes lawful opening (Get key) reply place p q r found.come.went found.come.looked
             (read-end sizes lawful q r read.log place q.view.grants read.looked read.place read.ended)
             (read-known sizes lawful q r read.log place q.view.grants read.looked read.place role read.ended)
-            (sym at-end ∙ rw not-made refl) (record { map = fits; tree = tt }) (rw not-made (ap (λ (m : Memory). m.own) read.ended.memory))
+            (sym at-end ∙ rw not-made refl) (record { map = fits; tree = tt }) (rw not-made (ap (λ (m : Knowledge). m.own) read.ended.memory))
 
         pub looked_up : HasLookedUp sizes lawful opening key (record { call = Get key; reply = reply; place = place }) p r
         looked_up =

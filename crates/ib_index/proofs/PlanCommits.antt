@@ -31,7 +31,7 @@ use Rattle.ib_walk.specs.Pages.{Malformed, PageMemory}
 use Rattle.ib_walk.specs.Search.{leaf_for}
 use Rattle.ib_walk.specs.Trees.{content_of}
 use Rattle.ib_walk.specs.Words.{IsLawfulMemory, bits_of, image_of, pages_of, state_of}
-use Rattle.ib_walk.proofs.ImageLaws.{pages_of-image}
+use Rattle.ib_walk.proofs.ImageLaws.{length-image_of, pages_of-image}
 use Rattle.ib_plans.specs.Agreement.{HasBits, IsPlanned, bits_in, reads_of, space_ticks, state_or_free}
 use Rattle.ib_plans.specs.Leads.{LeadsTo}
 use Rattle.ib_plans.specs.Marks.{ticked}
@@ -152,6 +152,20 @@ module _ (pages : ℕ) (fits : has_pages pages ≡ true) (log : List Entry) (kep
       subst (λ (ws : List ℕ). IsMovedHeap (g.moves n) (records_of ws) (read_heap ws) (read_heap (image_of after n))) (sym before)
       (subst (λ (ws : List ℕ). IsMovedHeap (g.moves n) (records_of was) (read_heap was) (read_heap ws)) (sym now) moved)
 
+  -- a page that is not touched, word for word
+  kept-there : (n : ℕ) → g.touched n ≡ false → (image : List ℕ) → changed_of n new ≡ Some image → image_of after n ≡ image_of (memory_after start log) n
+  kept-there n off image there =
+      let stood : changed_of n old ≡ Some image = sym (has.plan.kept n off) ∙ there in
+      let was = if-some (λ i. image_of (memory_after start log) n ≡ i) (changed_of n old) image (from.was n) stood in
+      image-after start log e new next.writes_are ascends from.read n image there (ap length (sym was) ∙ length-image_of (memory_after start log) n) ∙ sym was
+
+  kept-is : (n : ℕ) → g.touched n ≡ false → image_of after n ≡ image_of (memory_after start log) n
+  kept-is n off = go (changed_of n new) refl
+    where
+      go : (o : Option (List ℕ)) → changed_of n new ≡ o → image_of after n ≡ image_of (memory_after start log) n
+      go None none = image-still start log e new next.writes_are n none
+      go (Some image) there = kept-there n off image there
+
   moved-away : (n : ℕ) → changed_of n new ≡ None
       → IsMovedHeap (g.moves n) (records_of (image_of (memory_after start log) n)) (read_heap (image_of (memory_after start log) n)) (read_heap (image_of after n))
   moved-away n none = go (g.touched n) refl
@@ -241,7 +255,7 @@ module _ (pages : ℕ) (fits : has_pages pages ≡ true) (log : List Entry) (kep
   entry-planned =
       let s = has-space in
       let step : IsPlannedStep pages (memory_after start log) after m (kept_pages pages (log ++ e ∷ [])) g =
-      record { pages_are = pages-are; moved = moved-is; bits_are = s.bits_are; clock = s.clock } in
+      record { pages_are = pages-are; moved = moved-is; kept = kept-is; bits_are = s.bits_are; clock = s.clock } in
       record {
         may = subst (MayPlan m bits pages) (sym next.change_is) has.may;
         step = subst (λ k. IsPlannedStep pages (memory_after start log) after m (kept_pages pages (log ++ e ∷ [])) (planned m bits pages k)) (sym next.change_is) step;

@@ -12,7 +12,7 @@ use Rattle.ib_layout.specs.Geometry.{Sizes}
 use Rattle.ib_page.specs.Work.{WorkPage, IsWork}
 use Rattle.ib_walk.specs.Search.{leaf_for}
 use Rattle.ib_plans.specs.Agreement.{last_of, memory_in, reads_of}
-use Rattle.ib_merge.specs.Deletes.{IsPlannedForAll}
+use Rattle.ib_merge.specs.Deletes.{IsPlannedDeleteForAll}
 use Rattle.ib_kept.specs.Kept.{IsKeptLog}
 use Rattle.ib_rule.specs.Pass.{PassState}
 use Rattle.ib_rule.specs.Views.{total}
@@ -29,7 +29,7 @@ use Rattle.ib_index.proofs.WayMay.{may-commit}
 module _ (sizes : Sizes) (key : MapKey) (is : IsKey key) (path : List ℕ) (held : List (ℕ × Level)) (p : PassState) (can : IsGrowing sizes key path held p) (seated : IsSeated sizes p)
     (few : total p.view.grants < 2 ^ 52) (short : length held < 64) (follow : AllByRecursion (λ (g : Grant). may_follow g.level Log ≡ true) (claim_grant ∷ map held_grant held))
     (value : ℕ) (there : value_at key (memory_in p.work (last_of path)).records ≡ Some value)
-    (work : List WorkPage) (planned : IsPlannedForAll path key p.work work) (reads : reads_of work ≡ reads_of p.work) (is-work : IsWork work) where
+    (work : List WorkPage) (planned : IsPlannedDeleteForAll path key p.work work) (reads : reads_of work ≡ reads_of p.work) (is-work : IsWork work) where
   pub may-shrink : MayCommit (IsKeptLog sizes.pages) (with_work work p) (Delete key)
   may-shrink = may-commit sizes key is path held p can seated few short follow (Delete key) is
       (λ log same. ap (λ (o : Option ℕ). is_made (delete_answer o)) (same ∙ there)) work

@@ -14,7 +14,7 @@ use Rattle.ib_walk.specs.Pages.{PageState}
 use Rattle.ib_walk.specs.Words.{bits_of}
 use Rattle.ib_plans.specs.Agreement.{IsThere, last_of, memory_in, state_or_free}
 use Rattle.ib_plans.specs.Merge.{siblings_of}
-use Rattle.ib_merge.specs.Deletes.{CanDelete, HasImages, HasNext, HasSiblings, nodes_of}
+use Rattle.ib_merge.specs.Deletes.{CanDelete, HasDeleteImages, HasNext, HasSiblings, nodes_on_path}
 use Rattle.ib_tree.specs.PageLists.{is_among}
 use Rattle.ib_tree.specs.TreeLog.{opening}
 use Rattle.ib_kept.specs.LeafChange.{kept_pages}
@@ -106,11 +106,11 @@ module _ (sizes : Sizes) (key : MapKey) (is : IsKey key) (path : List ℕ) (valu
   seated-t : IsSeated sizes t
   seated-t = subst (λ (k : Sizes). IsSeated k t) same seats
 
-  images : HasImages path key t.work
+  images : HasDeleteImages path key t.work
   images = record {
     path_there = grown.growing.trees;
-    siblings_there = λ i d lt. siblings-still key q.work t.work grown.same (get_or (nodes_of path) i d) (come.children i d lt);
-    behind_there = λ i d lt. behind-still key q.work t.work grown.same (get_or (nodes_of path) i d) (come.children i d lt);
+    siblings_there = λ i d lt. siblings-still key q.work t.work grown.same (get_or (nodes_on_path path) i d) (come.children i d lt);
+    behind_there = λ i d lt. behind-still key q.work t.work grown.same (get_or (nodes_on_path path) i d) (come.children i d lt);
     space_there = λ some. grown.there;
   }
 

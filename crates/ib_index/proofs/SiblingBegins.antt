@@ -16,7 +16,7 @@ use Rattle.ib_walk.specs.Trees.{height_of}
 use Rattle.ib_plans.specs.Agreement.{Agrees, IsThere, last_of, memory_in, way_down, way_of}
 use Rattle.ib_plans.specs.Merge.{Siblings, siblings_of}
 use Rattle.ib_plans.proofs.LinkLaws.{NextLeaf-leaf_for}
-use Rattle.ib_merge.specs.Deletes.{HasNext, nodes_of}
+use Rattle.ib_merge.specs.Deletes.{HasNext, nodes_on_path}
 use Rattle.ib_tree.specs.PageLists.{is_among}
 use Rattle.ib_tree.specs.TreeLog.{opening}
 use Rattle.ib_kept.specs.Kept.{IsKeptLog}
@@ -39,14 +39,14 @@ among-child : (o : Option (MapKey × ℕ)) (x : MapKey × ℕ) → o ≡ Some x 
 among-child o x is = subst (λ q. is_among (child_if q) x.1 ≡ true) (sym is) (ap (λ b. b || false) (eq-eqb x.1 x.1 refl))
 
 -- the nodes of a path are pages of it
-nodes-among : (ns : List ℕ) (n : ℕ) → is_among (nodes_of ns) n ≡ true → is_among ns n ≡ true
+nodes-among : (ns : List ℕ) (n : ℕ) → is_among (nodes_on_path ns) n ≡ true → is_among ns n ≡ true
 nodes-among [] n h = cc
 nodes-among (x ∷ []) n h = cc
 nodes-among (x ∷ y ∷ ys) n h = elim (cases_eq x n) [
   | inl e ↦ ap (λ b. b || is_among (y ∷ ys) n) (eq-eqb x n e)
   | inr ne ↦
       let no = ne_eqb x n ne in
-      ap (λ b. b || is_among (y ∷ ys) n) no ∙ nodes-among (y ∷ ys) n (sym (ap (λ b. b || is_among (nodes_of (y ∷ ys)) n) no) ∙ h)
+      ap (λ b. b || is_among (y ∷ ys) n) no ∙ nodes-among (y ∷ ys) n (sym (ap (λ b. b || is_among (nodes_on_path (y ∷ ys)) n) no) ∙ h)
 ]
 
 -- the way has nodes exactly where its root is one
@@ -73,16 +73,16 @@ module _ (sizes : Sizes) (fits : has_pages sizes.pages ≡ true) (key : MapKey) 
 
   -- the nodes of the way, and the pages of its levels
   abbrev nodes : List ℕ
-  nodes = nodes_of (way_of m key 1)
+  nodes = nodes_on_path (way_of m key 1)
 
   abbrev levels : List ℕ
   levels = 1 ∷ flat_map (with_siblings m key) nodes
 
-  nodes-are : nodes_of path ≡ nodes
-  nodes-are = ap nodes_of c.way
+  nodes-are : nodes_on_path path ≡ nodes
+  nodes-are = ap nodes_on_path c.way
 
   levels-are : w.levels ≡ levels
-  levels-are = w.are ∙ ap (λ ns. 1 ∷ flat_map (with_siblings m key) ns) (sym (nodes-front w.front w.leaf) ∙ (ap nodes_of (sym w.ends) ∙ nodes-are))
+  levels-are = w.are ∙ ap (λ ns. 1 ∷ flat_map (with_siblings m key) ns) (sym (nodes-front w.front w.leaf) ∙ (ap nodes_on_path (sym w.ends) ∙ nodes-are))
 
   held-are : held ≡ levels ++ beside (m (last_of levels)).next
   held-are = w.behind ∙ ap (λ ns. ns ++ beside (m (last_of ns)).next) levels-are
@@ -103,12 +103,12 @@ module _ (sizes : Sizes) (fits : has_pages sizes.pages ≡ true) (key : MapKey) 
   lowest d tall = record { depth = d; height = omega arith; below = refl }
 
   last-is : (d : ℕ) → height_of m 1 ≡ suc d → last_of levels ≡ last_beside m key (page_below m key d 1)
-  last-is d tall = ap (λ h. last_of (1 ∷ flat_map (with_siblings m key) (nodes_of (way_down m key h 1)))) tall ∙ last-levels m key d 1 1
+  last-is d tall = ap (λ h. last_of (1 ∷ flat_map (with_siblings m key) (nodes_on_path (way_down m key h 1)))) tall ∙ last-levels m key d 1 1
 
   behind-kind : (m (last_of levels)).next ≢ 0 → IsPageOfTree m (m (last_of levels)).next
   behind-kind ne = elim (some-node (height_of m 1)) [
     | inl low ↦
-        let only : last_of levels ≡ 1 = ap (λ h. last_of (1 ∷ flat_map (with_siblings m key) (nodes_of (way_down m key h 1)))) low in
+        let only : last_of levels ≡ 1 = ap (λ h. last_of (1 ∷ flat_map (with_siblings m key) (nodes_on_path (way_down m key h 1)))) low in
         let leaf = only ∙ leaf_on-way m 1 key 1 (subst (IsOnWay m 1 key 1) low top) in
         let b = NextLeaf-leaf_for (λ n. MOST_RECORDS) m bits 1 key 1 agreement.lawful (omega arith) (omega arith) lt (λ z. ne (ap (λ n. (m n).next) leaf ∙ z)) in
         (ap (λ n. (m (m n).next).kind) leaf ∙ b.kind, ne)

@@ -16,7 +16,7 @@ use Rattle.ib_plans.specs.Merge.{Siblings, siblings_of}
 use Rattle.ib_plans.proofs.LinkLaws.{NextLeaf-leaf_for}
 use Rattle.ib_plans.proofs.SiblingLaws.{SiblingPages, SiblingPages-path}
 use Rattle.ib_plans.proofs.SiblingRecordLaws.{HasSiblings, HasSiblings-of, one_or_none}
-use Rattle.ib_merge.specs.Deletes.{nodes_of}
+use Rattle.ib_merge.specs.Deletes.{nodes_on_path}
 use Rattle.ib_tree.specs.PageLists.{is_among}
 use Rattle.ib_plans.proofs.LevelLaws.{above-sum}
 use Rattle.ib_cursor.specs.Siblings.{child_if, with_siblings}
@@ -52,11 +52,11 @@ last-here None here = refl
 last-here (Some right) here = refl
 
 -- the nodes of a way, from the first down
-pub nodes-down : (m : PageMemory) (key : MapKey) (level page : ℕ) → nodes_of (way_down m key (suc level) page) ≡ page ∷ nodes_of (way_down m key level (child_for key 0 (m page).records))
+pub nodes-down : (m : PageMemory) (key : MapKey) (level page : ℕ) → nodes_on_path (way_down m key (suc level) page) ≡ page ∷ nodes_on_path (way_down m key level (child_for key 0 (m page).records))
 nodes-down m key zero page = refl
 nodes-down m key (suc level) page = refl
 
-pub nodes-front : (front : List ℕ) (leaf : ℕ) → nodes_of (front ++ leaf ∷ []) ≡ front
+pub nodes-front : (front : List ℕ) (leaf : ℕ) → nodes_on_path (front ++ leaf ∷ []) ≡ front
 nodes-front [] leaf = refl
 nodes-front (x ∷ []) leaf = refl
 nodes-front (x ∷ y ∷ ys) leaf = ap (λ ns. x ∷ ns) (nodes-front (y ∷ ys) leaf)
@@ -69,22 +69,22 @@ module _ (m : PageMemory) (key : MapKey) where
       last-behind x (with_siblings m key page) []
       ∙ (last-behind x (child_if t.left) (t.here.1 ∷ child_if t.right) ∙ last-here t.right t.here)
 
-  pub last-levels : (depth x page : ℕ) → last_of (x ∷ flat_map (with_siblings m key) (nodes_of (way_down m key (suc depth) page))) ≡ last_beside m key (page_below m key depth page)
+  pub last-levels : (depth x page : ℕ) → last_of (x ∷ flat_map (with_siblings m key) (nodes_on_path (way_down m key (suc depth) page))) ≡ last_beside m key (page_below m key depth page)
   last-levels zero x page = last-level x page
   last-levels (suc depth) x page =
       let child = child_for key 0 (m page).records in
       ap (λ ns. last_of (x ∷ flat_map (with_siblings m key) ns)) (nodes-down m key (suc depth) page)
-      ∙ (last-behind x (with_siblings m key page) (flat_map (with_siblings m key) (nodes_of (way_down m key (suc depth) child)))
+      ∙ (last-behind x (with_siblings m key page) (flat_map (with_siblings m key) (nodes_on_path (way_down m key (suc depth) child)))
       ∙ last-levels depth (last_of (x ∷ with_siblings m key page)) child)
 
   -- three pages a level at most
-  pub length-levels : (level page : ℕ) → length (flat_map (with_siblings m key) (nodes_of (way_down m key level page))) ≤ 3 * level
+  pub length-levels : (level page : ℕ) → length (flat_map (with_siblings m key) (nodes_on_path (way_down m key level page))) ≤ 3 * level
   length-levels zero page = omega arith
   length-levels (suc level) page =
       let t = siblings_of key (m page).records in
       let child = child_for key 0 (m page).records in
       let e = ap (λ ns. length (flat_map (with_siblings m key) ns)) (nodes-down m key level page) in
-      let a = length-append (with_siblings m key page) (flat_map (with_siblings m key) (nodes_of (way_down m key level child))) in
+      let a = length-append (with_siblings m key page) (flat_map (with_siblings m key) (nodes_on_path (way_down m key level child))) in
       let b = length-append (child_if t.left) (t.here.1 ∷ child_if t.right) in
       let c = one-at_most t.left in let d = one-at_most t.right in
       let r = length-levels level child in omega arith
@@ -155,21 +155,21 @@ module _ (m : PageMemory) (bits : ℕ → ℕ) (law : IsLawful m bits 1) (key : 
         ]
 
   -- every page of the levels is one of the tree
-  pub levels-down : (level page : ℕ) → IsOnWay m 1 key page level → AllByRecursion (IsPageOfTree m) (flat_map (with_siblings m key) (nodes_of (way_down m key level page)))
+  pub levels-down : (level page : ℕ) → IsOnWay m 1 key page level → AllByRecursion (IsPageOfTree m) (flat_map (with_siblings m key) (nodes_on_path (way_down m key level page)))
   levels-down zero page o = tt
   levels-down (suc level) page o =
       let child = child_for key 0 (m page).records in
       subst (λ ns. AllByRecursion (IsPageOfTree m) (flat_map (with_siblings m key) ns)) (sym (nodes-down m key level page))
-      (AllByRecursion-append (IsPageOfTree m) (with_siblings m key page) (flat_map (with_siblings m key) (nodes_of (way_down m key level child)))
+      (AllByRecursion-append (IsPageOfTree m) (with_siblings m key page) (flat_map (with_siblings m key) (nodes_on_path (way_down m key level child)))
       (sides level page o) (levels-down level child (child_on-way m 1 key page level o)))
 
   -- .. and the way is among them
   pub way-among : (level page n : ℕ) → IsOnWay m 1 key page level → is_among (way_down m key level page) n ≡ true
-      → is_among (page ∷ flat_map (with_siblings m key) (nodes_of (way_down m key level page))) n ≡ true
+      → is_among (page ∷ flat_map (with_siblings m key) (nodes_on_path (way_down m key level page))) n ≡ true
   way-among zero page n o h = h
   way-among (suc level) page n o h =
       let child = child_for key 0 (m page).records in
-      let rest = flat_map (with_siblings m key) (nodes_of (way_down m key level child)) in
+      let rest = flat_map (with_siblings m key) (nodes_on_path (way_down m key level child)) in
       subst (λ ns. is_among (page ∷ flat_map (with_siblings m key) ns) n ≡ true) (sym (nodes-down m key level page)) (elim (cases_eq page n) [
         | inl e ↦ ap (λ b. b || is_among (with_siblings m key page ++ rest) n) (eq-eqb page n e)
         | inr ne ↦
@@ -179,24 +179,24 @@ module _ (m : PageMemory) (bits : ℕ → ℕ) (law : IsLawful m bits 1) (key : 
       ])
     where
       below : (n : ℕ) → (child_for key 0 (m page).records ≡ n) ⊎ (child_for key 0 (m page).records ≢ n)
-          → is_among (child_for key 0 (m page).records ∷ flat_map (with_siblings m key) (nodes_of (way_down m key level (child_for key 0 (m page).records)))) n ≡ true
-          → is_among (with_siblings m key page ++ flat_map (with_siblings m key) (nodes_of (way_down m key level (child_for key 0 (m page).records)))) n ≡ true
+          → is_among (child_for key 0 (m page).records ∷ flat_map (with_siblings m key) (nodes_on_path (way_down m key level (child_for key 0 (m page).records)))) n ≡ true
+          → is_among (with_siblings m key page ++ flat_map (with_siblings m key) (nodes_on_path (way_down m key level (child_for key 0 (m page).records)))) n ≡ true
       below n (inl e) r =
           let t = siblings_of key (m page).records in
           let here : t.here.1 ≡ n = (records level page o).here ∙ e in
-          among-left (with_siblings m key page) (flat_map (with_siblings m key) (nodes_of (way_down m key level (child_for key 0 (m page).records)))) n
+          among-left (with_siblings m key page) (flat_map (with_siblings m key) (nodes_on_path (way_down m key level (child_for key 0 (m page).records)))) n
           (among_right (child_if t.left) (t.here.1 ∷ child_if t.right) n (ap (λ b. b || is_among (child_if t.right) n) (eq-eqb t.here.1 n here)))
       below n (inr ne) r =
-          among_right (with_siblings m key page) (flat_map (with_siblings m key) (nodes_of (way_down m key level (child_for key 0 (m page).records)))) n
-          (sym (ap (λ b. b || is_among (flat_map (with_siblings m key) (nodes_of (way_down m key level (child_for key 0 (m page).records)))) n) (ne_eqb (child_for key 0 (m page).records) n ne)) ∙ r)
+          among_right (with_siblings m key page) (flat_map (with_siblings m key) (nodes_on_path (way_down m key level (child_for key 0 (m page).records)))) n
+          (sym (ap (λ b. b || is_among (flat_map (with_siblings m key) (nodes_on_path (way_down m key level (child_for key 0 (m page).records)))) n) (ne_eqb (child_for key 0 (m page).records) n ne)) ∙ r)
 
   -- each node of the way stands on it above the leaf
-  pub node-on : (level page n : ℕ) → IsOnWay m 1 key page level → is_among (nodes_of (way_down m key level page)) n ≡ true → (k : ℕ) × IsOnWay m 1 key n (suc k)
+  pub node-on : (level page n : ℕ) → IsOnWay m 1 key page level → is_among (nodes_on_path (way_down m key level page)) n ≡ true → (k : ℕ) × IsOnWay m 1 key n (suc k)
   node-on zero page n o h = cc
   node-on (suc level) page n o h =
       let child = child_for key 0 (m page).records in
-      let has : is_among (page ∷ nodes_of (way_down m key level child)) n ≡ true = sym (ap (λ ns. is_among ns n) (nodes-down m key level page)) ∙ h in
+      let has : is_among (page ∷ nodes_on_path (way_down m key level child)) n ≡ true = sym (ap (λ ns. is_among ns n) (nodes-down m key level page)) ∙ h in
       elim (cases_eq page n) [
         | inl e ↦ (level, subst (λ p. IsOnWay m 1 key p (suc level)) e o)
-        | inr ne ↦ node-on level child n (child_on-way m 1 key page level o) (sym (ap (λ b. b || is_among (nodes_of (way_down m key level child)) n) (ne_eqb page n ne)) ∙ has)
+        | inr ne ↦ node-on level child n (child_on-way m 1 key page level o) (sym (ap (λ b. b || is_among (nodes_on_path (way_down m key level child)) n) (ne_eqb page n ne)) ∙ has)
       ]

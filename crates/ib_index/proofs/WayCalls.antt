@@ -26,7 +26,7 @@ use Rattle.ib_tree.specs.TreeLog.{opening}
 use Rattle.ib_kept.specs.Kept.{IsKeptLog}
 use Rattle.ib_kept.specs.LeafChange.{kept_pages}
 use Rattle.ib_frames.specs.declared.appends.LogFull.{LogFull}
-use Rattle.ib_rule.specs.declared.memory.Memory.{Memory}
+use Rattle.ib_rule.specs.declared.memory.Knowledge.{Knowledge}
 use Rattle.ib_rule.specs.Memory.{entries_of}
 use Rattle.ib_rule.specs.Pass.{PassState}
 use Rattle.ib_rule.specs.Roles.{number_in}
@@ -66,7 +66,7 @@ module _ (sizes : Sizes) (key : MapKey) (is : IsKey key) (path : List ℕ) (held
   -- the call ended without a change
   module _ (place : ℕ) (r : PassState) (read : HasRead sizes (IsKeptLog sizes.pages) q place r) where
     seen-r : r.view.memory.seen ≡ read.log
-    seen-r = ap (λ (m : Memory). m.seen) read.ended.memory
+    seen-r = ap (λ (m : Knowledge). m.seen) read.ended.memory
 
     at-r : place ≡ length r.view.memory.seen
     at-r = read.place ∙ ap length (sym seen-r)
@@ -88,7 +88,7 @@ module _ (sizes : Sizes) (key : MapKey) (is : IsKey key) (path : List ℕ) (held
         called-from sizes (IsKeptLog sizes.pages) start call reply place p q r went looked
         (read-end sizes (IsKeptLog sizes.pages) q r read.log place q.view.grants read.looked read.place read.ended)
         (read-known sizes (IsKeptLog sizes.pages) q r read.log place q.view.grants read.looked read.place seated.role read.ended)
-        (sym at-r ∙ rw not_made refl) fits (rw not_made (ap (λ (m : Memory). m.own) read.ended.memory))
+        (sym at-r ∙ rw not_made refl) fits (rw not_made (ap (λ (m : Knowledge). m.own) read.ended.memory))
 
   -- the log had no room for the change
   module _ (work : List WorkPage) (full : LogFull) (r : PassState) (f : IsFull sizes (IsKeptLog sizes.pages) (with_work work q) full r) where
@@ -99,7 +99,7 @@ module _ (sizes : Sizes) (key : MapKey) (is : IsKey key) (path : List ℕ) (held
     looked-f = f.looked
 
     seen-f : r.view.memory.seen ≡ f.log
-    seen-f = ap (λ (m : Memory). m.seen) f.ended.memory
+    seen-f = ap (λ (m : Knowledge). m.seen) f.ended.memory
 
     pub whole-f : take (length r.view.memory.seen) r.view.memory.seen ≡ f.log
     whole-f = take-length r.view.memory.seen ∙ seen-f
@@ -124,7 +124,7 @@ module _ (sizes : Sizes) (key : MapKey) (is : IsKey key) (path : List ℕ) (held
         let end = subst (IsEnd q r) (ap length (sym seen-f)) (read-end sizes (IsKeptLog sizes.pages) q r f.log (length f.log) (commit_grants q) looked-f refl ended-f) in
         called-from sizes (IsKeptLog sizes.pages) start call (LogFullReply full.used full.cap) (length r.view.memory.seen) p q r went looked end
         (read-known sizes (IsKeptLog sizes.pages) q r f.log (length f.log) (commit_grants q) looked-f refl seated.role ended-f) refl fits
-        (ap (λ (m : Memory). m.own) f.ended.memory)
+        (ap (λ (m : Knowledge). m.own) f.ended.memory)
 
   -- the change was committed
   module _ (change : Change) (work : List WorkPage) (place : ℕ) (r : PassState) (c : HasCommitted sizes (IsKeptLog sizes.pages) start change (with_work work q) place r) where
@@ -138,7 +138,7 @@ module _ (sizes : Sizes) (key : MapKey) (is : IsKey key) (path : List ℕ) (held
     looked-c = c.looked
 
     seen-c : r.view.memory.seen ≡ c.log ++ e ∷ []
-    seen-c = ap (λ (m : Memory). m.seen) c.ended.memory
+    seen-c = ap (λ (m : Knowledge). m.seen) c.ended.memory
 
     end-c : IsEnd q r place
     end-c = push-end sizes (IsKeptLog sizes.pages) q r c.log place (commit_grants q) looked-c c.place e (q.view.memory.own ++ e ∷ []) ended-c
@@ -148,7 +148,7 @@ module _ (sizes : Sizes) (key : MapKey) (is : IsKey key) (path : List ℕ) (held
 
     known-c : IsKnown sizes (IsKeptLog sizes.pages) r
     known-c =
-        let own : r.view.memory.own ≡ q.view.memory.own ++ e ∷ [] = ap (λ (m : Memory). m.own) c.ended.memory in
+        let own : r.view.memory.own ≡ q.view.memory.own ++ e ∷ [] = ap (λ (m : Knowledge). m.own) c.ended.memory in
         record {
           legal = subst (IsKeptLog sizes.pages) (sym seen-c) c.legal;
           room = subst (λ (es : List Entry). used es ≤ sizes.log_words) (sym seen-c) c.room;
@@ -184,4 +184,4 @@ module _ (sizes : Sizes) (key : MapKey) (is : IsKey key) (path : List ℕ) (held
     called-committed call reply made fits =
         let reach : length r.view.memory.seen ≡ place + 1 = (let a = ap length seen-c in let b = length-append c.log (e ∷ []) in let at = c.place in omega arith) in
         called-from sizes (IsKeptLog sizes.pages) start call reply place p q r went looked end-c known-c (reach ∙ rw made refl) fits
-        (rw made (c.log, e, seen-c, ap (λ (m : Memory). m.own) c.ended.memory))
+        (rw made (c.log, e, seen-c, ap (λ (m : Knowledge). m.own) c.ended.memory))

@@ -15,7 +15,7 @@ ghost use Rattle.ib_walk.specs.Full.{chosen, free_of, is_too_high, need_of};
 ghost use Rattle.ib_walk.specs.Pages.{PageMemory};
 ghost use Rattle.ib_plans.specs.declared.fault.TreeFault.{TreeFault};
 ghost use Rattle.ib_plans.specs.Agreement.{Agrees, HasTreePages, IsThere, bits_in, last_of, memory_in, reads_of};
-ghost use Rattle.ib_split.specs.Inserts.{CanInsert, IsPlannedForAll};
+ghost use Rattle.ib_split.specs.Inserts.{CanInsert, IsPlannedInsertForAll};
 ghost use Rattle.ib_tree.specs.PageLists.{AreOnce, is_among};
 ghost use Rattle.ib_tree.specs.TreeLog.{opening};
 ghost use Rattle.ib_kept.specs.Kept.{IsKeptLog};
@@ -128,7 +128,7 @@ fn plan_in(mtr: &mut Work<'_>, path: &Path, fresh: &Path, key: Key, value: u64)
     ensures latches { mtr.new.latches ≡ mtr.old.latches }
     ensures pass { mtr.new.pass.ghost_name ≡ mtr.old.pass.ghost_name }
     ensures planned { (work : List WorkPage) × (mtr.new.pass.now ≡ with_work work mtr.old.pass.now)
-        × IsPlannedForAll path.now fresh.now key value mtr.old.pass.now.work work
+        × IsPlannedInsertForAll path.now fresh.now key value mtr.old.pass.now.work work
         × (reads_of work ≡ reads_of mtr.old.pass.now.work) × IsWork work }
 {
     let work = mtr.work();

@@ -20,7 +20,7 @@ ghost use Rattle.ib_index.specs.Lookups.{HasLookedUp};
 use crate::{change, lookup, nowait};
 use ib_cursor::NowaitFault;
 use ib_kept::KeptLaw;
-use ib_latch::{CloseRefused as LatchesRefused, Latches, Parkers, Sleep};
+use ib_latch::{Latches, LatchesCloseRefused, Parkers, Sleep};
 use ib_layout::Geometry;
 use ib_map::{Key, Record};
 use ib_rule::{Closed, ConnectFault, OutOfMemory, Pass};
@@ -129,7 +129,7 @@ impl<S: Sleep> Index<S> {
         match latches.close(alloc) {
             Ok(closed) => Ok(closed),
             Err(refused) => {
-                let LatchesRefused { latches } = refused;
+                let LatchesCloseRefused { latches } = refused;
                 Err(IndexRefused {
                     index: Index { latches },
                 })

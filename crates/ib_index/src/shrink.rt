@@ -7,7 +7,7 @@ ghost use Rattle.ib_map.specs.declared.call.Call.TheVariants.{Delete as DeleteCa
 ghost use Rattle.ib_page.specs.Work.{WorkPage, IsWork};
 ghost use Rattle.ib_logrec.specs.Log.{by_place};
 ghost use Rattle.ib_plans.specs.Agreement.{last_of, memory_in, reads_of};
-ghost use Rattle.ib_merge.specs.Deletes.{CanDelete, IsPlannedForAll};
+ghost use Rattle.ib_merge.specs.Deletes.{CanDelete, IsPlannedDeleteForAll};
 ghost use Rattle.ib_tree.specs.TreeLog.{opening};
 ghost use Rattle.ib_kept.specs.Kept.{IsKeptLog};
 ghost use Rattle.ib_rule.specs.Pass.{IsOf};
@@ -55,7 +55,7 @@ fn plan_in(mtr: &mut Work<'_>, path: &Path, key: Key)
     ensures latches { mtr.new.latches ≡ mtr.old.latches }
     ensures pass { mtr.new.pass.ghost_name ≡ mtr.old.pass.ghost_name }
     ensures planned { (work : List WorkPage) × (mtr.new.pass.now ≡ with_work work mtr.old.pass.now)
-        × IsPlannedForAll path.now key mtr.old.pass.now.work work
+        × IsPlannedDeleteForAll path.now key mtr.old.pass.now.work work
         × (reads_of work ≡ reads_of mtr.old.pass.now.work) × IsWork work }
 {
     let work = mtr.work();

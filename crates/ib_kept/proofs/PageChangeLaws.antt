@@ -28,6 +28,7 @@ use Rattle.ib_plans.specs.Marks.{mark, ticked, untouched, with_clock}
 use Rattle.ib_plans.specs.Moves.{Move, unmoved, with_move, IsMovedHeap}
 use Rattle.ib_plans.specs.Split.{with_records}
 use Rattle.ib_plans.proofs.MoveLaws.{with_move-own, with_move-other}
+use Rattle.ib_plans.proofs.PageLaws.{mark-off}
 use Rattle.ib_tree.specs.Logs.{pages_after}
 use Rattle.ib_tree.specs.TreeLog.{opening}
 use Rattle.ib_tree.proofs.LogLaws.{image_of-untouched, pages_after-untouched}
@@ -116,6 +117,7 @@ module _ (pages : ℕ) (log : List Entry) (e : Entry) (page : ℕ) (rs : Pairs) 
   IsPlannedStep-page = record {
     pages_are = step-pages;
     moved = step-moved;
+    kept = λ n off. image_of-untouched start log e n (off-page n (λ z. (mark-off page untouched n off).0 (sym z)));
     bits_are = λ n. bits_of-space pages (memory_after start log) (memory_after start (log ++ e ∷ [])) n space-same;
     clock =
         let none : space_ticks (mark page untouched) ≡ 0 = ap (λ (b : Bool). cond {A = ℕ} b 1 0) (cond-ne 0 page true false (λ z. ne (sym z))) in

@@ -17,7 +17,7 @@ use Rattle.ib_logrec.specs.Law.{PageRange}
 use Rattle.ib_logrec.specs.Log.{memory_after, history_of, logged, map_of, by_place}
 use Rattle.ib_logrec.proofs.LogLaws.{history_of-push, length-history_of}
 use Rattle.ib_walk.specs.Pages.{PageMemory, PageState}
-use Rattle.ib_walk.specs.Walk.{is_visit, is_page}
+use Rattle.ib_walk.specs.Walk.{counts_visit, counts_page}
 use Rattle.ib_walk.specs.Trees.{IsLawful, content_of, weight_of, top_of, height_of}
 use Rattle.ib_walk.specs.Words.{image_of, bits_of, IsLawfulMemory}
 use Rattle.ib_plans.specs.Leads.{LeadsTo}
@@ -27,8 +27,8 @@ use Rattle.ib_tree.specs.Logs.{HasRange, IsTreeEntry, pages_after, visit_with}
 use Rattle.ib_tree.specs.TreeLog.{opening}
 use Rattle.ib_tree.proofs.LogLaws.{IsLawfulLog-push, IsLawfulMemory-after, content_of-after, map_of-push, pages_after-untouched}
 use Rattle.ib_tree.proofs.OpeningLaws.{opens, opens-empty}
-use Rattle.ib_tree.proofs.WeightLaws.{weight-le}
-use Rattle.ib_tree.proofs.WholeLaws.{is_visit-le_page}
+use Rattle.ib_tree.proofs.WeightLaws.{weight_along-le}
+use Rattle.ib_tree.proofs.WholeLaws.{counts_visit-le_page}
 use Rattle.ib_kept.specs.Kept.{Planned, planned, IsPlannedEntry, IsKeptLog}
 use Rattle.ib_kept.proofs.LeadLaws.{planned-leads}
 use Rattle.ib_kept.proofs.SameLaws.{IsLawful-same, content_of-same, weight_of-same}
@@ -46,9 +46,9 @@ each-push P (f ∷ fs) e all last (y ∷ ys) x back is =
     (each-push (λ zs z. P (f ∷ zs) z) fs e (λ zs z more at. all (f ∷ zs) z more (ap (λ us. f ∷ us) at)) last ys x back rest)
 
 -- a page that is met with a range is met
-range-met : (m : PageMemory) (page : ℕ) (r : PageRange) → 0 < weight_of (is_visit r.level (visit_with page r)) m r.root → 0 < weight_of (is_page page) m r.root
+range-met : (m : PageMemory) (page : ℕ) (r : PageRange) → 0 < weight_of (counts_visit r.level (visit_with page r)) m r.root → 0 < weight_of (counts_page page) m r.root
 range-met m page r met =
-    let le = weight-le (is_visit r.level (visit_with page r)) (is_page page) m (height_of m r.root) (top_of r.root) (is_visit-le_page r.level (visit_with page r)) in omega arith
+    let le = weight_along-le (counts_visit r.level (visit_with page r)) (counts_page page) m (height_of m r.root) (top_of r.root) (counts_visit-le_page r.level (visit_with page r)) in omega arith
 
 -- so page 0 has no range
 no-range : (m : PageMemory) (bits : ℕ → ℕ) (roots : ℕ) → IsLawful m bits roots → (r : PageRange) → HasRange roots m 0 r → ⊥
@@ -109,9 +109,9 @@ module _ (pages : ℕ) (fits : has_pages pages ≡ true) (log : List Entry) (kep
             let was = ap (λ (q : PageState). q.clock) now in absurd (omega arith)
 
     others : (page : ℕ) (r : PageRange) → page ≢ 0 → touches page e.writes ≡ false → 0 < r.root → r.root ≤ 1
-        → weight_of (is_visit r.level (visit_with page r)) new r.root ≡ weight_of (is_visit r.level (visit_with page r)) m r.root
+        → weight_of (counts_visit r.level (visit_with page r)) new r.root ≡ weight_of (counts_visit r.level (visit_with page r)) m r.root
     others page r ne none some le =
-        weight_of-same then new plan.bits after 1 leads.lawful p.step.pages_are p.step.bits_are (is_visit r.level (visit_with page r)) r.root some le
+        weight_of-same then new plan.bits after 1 leads.lawful p.step.pages_are p.step.bits_are (counts_visit r.level (visit_with page r)) r.root some le
         ∙ leads.ranges r.root r.level (visit_with page r) some le (not-touched page ne none)
 
     ranges : (page : ℕ) (r : PageRange) → touches page e.writes ≡ false → HasRange 1 new page r ↔ HasRange 1 m page r

@@ -38,10 +38,11 @@ abbrev pub MayPlan : PageMemory → (ℕ → ℕ) → ℕ → Change → Type 0
 MayPlan memory bits pages (Insert key value) = (is_too_high memory key 1 ≡ false) × (need_of memory key 1 ≤ free_of bits pages)
 MayPlan memory bits pages (Delete key) = Unit {0}
 
--- words of all pages before a planned change and after it: its pages and bits, the clock of each page that it touches one higher, and the records standing as it moves them
+-- words of all pages before a planned change and after it: its pages and bits, the clock of each page that it touches one higher, and the records standing as it moves them. Each page that it does not touch is as it was, word for word
 pub record IsPlannedStep (pages : ℕ) (before after : ℕ → ℕ) (old new : PageMemory) (p : Planned) : Type 0 where
   pub pages_are : (n : ℕ) → n ≢ 0 → new n ≡ ticked old p.touched p.memory n
   pub moved : (n : ℕ) → n ≢ 0 → IsMovedHeap (p.moves n) (records_of (image_of before n)) (read_heap (image_of before n)) (read_heap (image_of after n))
+  pub kept : (n : ℕ) → p.touched n ≡ false → image_of after n ≡ image_of before n
   pub bits_are : (n : ℕ) → bits_of pages after n ≡ p.bits n
   pub clock : space_clock_of (image_of after 0) ≡ space_clock_of (image_of before 0) + space_ticks p.touched
 

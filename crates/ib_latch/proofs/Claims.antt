@@ -5,7 +5,7 @@ use Rattle.ib_levels.specs.declared.holding.Holding.{Holding}
 use Rattle.ib_levels.specs.declared.level.Level.{Level}
 use Rattle.ib_levels.specs.declared.level.Mode.{Mode}
 use Rattle.ib_levels.specs.declared.level.Mode.TheVariants.{S, Sx, X}
-use Rattle.ib_levels.specs.Holding.{on, changed}
+use Rattle.ib_levels.specs.Holding.{on, changed_on}
 use Rattle.ib_levels.proofs.Counts.{by_equal, on-cons, on-changed, part, on_le}
 use Rattle.ib_core.specs.declared.session.Session.{Session}
 use Rattle.ib_core.specs.Sessions.{claims, sx_grants, x_grants}
@@ -26,13 +26,13 @@ pub claims_are : (l : ℕ) (a : Session) → claims l a ≡ sx_grants l a + x_gr
 claims_are l a = sum_on l a.held
 
 -- one more grant leaves no fewer of SX and X
-pub claims_kept : (mode : Mode) (l : ℕ) (held : List Holding) → on l (λ h. h.sx + h.x) held ≤ on l (λ h. h.sx + h.x) (changed l (one_more mode) held)
+pub claims_kept : (mode : Mode) (l : ℕ) (held : List Holding) → on l (λ h. h.sx + h.x) held ≤ on l (λ h. h.sx + h.x) (changed_on l (one_more mode) held)
 claims_kept S l held = let e = on-changed l (one_more S) (λ h. h.sx + h.x) held (λ h. refl) in let m = on_le l (λ h. h.sx + h.x) (λ h. (one_more S h).sx + (one_more S h).x) held (λ h. omega arith) in omega arith
 claims_kept Sx l held = let e = on-changed l (one_more Sx) (λ h. h.sx + h.x) held (λ h. refl) in let m = on_le l (λ h. h.sx + h.x) (λ h. (one_more Sx h).sx + (one_more Sx h).x) held (λ h. omega arith) in omega arith
 claims_kept X l held = let e = on-changed l (one_more X) (λ h. h.sx + h.x) held (λ h. refl) in let m = on_le l (λ h. h.sx + h.x) (λ h. (one_more X h).sx + (one_more X h).x) held (λ h. omega arith) in omega arith
 
 -- what is held with one more grant, by whether there were any
-pub held_more : (mode : Mode) (l : ℕ) (v : Level) (a : Session) → 0 < claims l a → held_with mode l v a ≡ changed l (one_more mode) a.held
+pub held_more : (mode : Mode) (l : ℕ) (v : Level) (a : Session) → 0 < claims l a → held_with mode l v a ≡ changed_on l (one_more mode) a.held
 held_more mode l v a some = if_true (nat_lt 0 (claims l a)) _ _ (lt_some _ some)
 
 pub held_first : (mode : Mode) (l : ℕ) (v : Level) (a : Session) → claims l a ≡ 0 → held_with mode l v a ≡ holding_too mode l v a.held

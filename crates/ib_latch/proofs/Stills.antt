@@ -1,17 +1,16 @@
 -- Sessions that wait: nothing is changed but the phase and the looks.
 use Rattle.std.proofs.Common.{◌≡◌, ◌≢◌, inl, ℕ, ◌+◌, ◌≤◌, List, ◌∷◌, Some, None, Bool, true, false, pos, ◌-ℤ◌, eq-eqb, refl, sym, ap, ◌∙◌, subst, arith}
 use Rattle.std.specs.Prelude.{◌==◌, if◌then◌else◌}
-use Rattle.ib_word.specs.Word.{cell_of, word_in}
+use Rattle.ib_word.specs.Word.{cell_of, word_in, is_drained}
 use Rattle.ib_word.specs.declared.word.TheConstants.{X_LOCK_DECR}
 use Rattle.ib_word.specs.declared.word.LockWord.{LockWord}
 use Rattle.ib_levels.specs.declared.level.Level.{Level}
 use Rattle.ib_levels.specs.declared.level.Mode.{Mode}
 use Rattle.ib_levels.specs.declared.level.Mode.TheVariants.{S, Sx, X}
-use Rattle.ib_levels.specs.Holding.{changed}
+use Rattle.ib_levels.specs.Holding.{changed_on}
 use Rattle.ib_levels.specs.declared.level.Level.TheVariants.{Log}
 use Rattle.ib_core.specs.declared.phase.Phase.{Phase}
 use Rattle.ib_core.specs.declared.phase.Phase.TheVariants.{Free, Next, NextArmed, NextChecked}
-use Rattle.ib_core.specs.Responses.{is_drained}
 use Rattle.ib_core.specs.Sessions.{sx_grants}
 use Rattle.ib_core.specs.Table.{owns_x_at}
 use Rattle.ib_core.specs.declared.session.Session.{Session}
@@ -101,7 +100,7 @@ as_reserved l v w k at before last_two = by_test (is_drained (w.0 -ℤ pos X_LOC
 -- X that was taken beside one's own SX, at a word
 pub upgraded_is : (l : ℕ) (w : LockWord) (r : Reserve) (p q : PassState) → r ≡ reserve_at (w.0 -ℤ pos X_LOCK_DECR) → q ≡ won_with X l w (upgraded l p.view.session.held w) (looked_at l w p) → IsUpgraded l r p q
 upgraded_is l w r p q came is = record {
-  taken = subst (λ (r : Reserve). IsTaken X (changed l (one_more X) p.view.session.held) (phase_of l (level_on l Log p.view.session.held) r) p.view q.view) (sym came) (won_taken X l w (upgraded l p.view.session.held w) p q is);
+  taken = subst (λ (r : Reserve). IsTaken X (changed_on l (one_more X) p.view.session.held) (phase_of l (level_on l Log p.view.session.held) r) p.view q.view) (sym came) (won_taken X l w (upgraded l p.view.session.held w) p q is);
   owns_x = subst (λ (q : PassState). EndsAsReserved l q.view.session.phase q.view.looks) (sym is) (as_reserved l (level_on l Log p.view.session.held) w (tried_on l w w (looked_on l w p.view)).looks p.view.looks.steps p.view.looks.all refl);
   signed = subst (λ (q : PassState). Stores l q.view.written) (sym is) (inl refl);
   looks = let more = ap (λ (q : PassState). q.view.looks.count) is in omega arith;

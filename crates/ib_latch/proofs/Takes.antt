@@ -10,7 +10,8 @@ use Rattle.ib_core.specs.declared.phase.Phase.{Phase}
 use Rattle.ib_core.specs.declared.phase.Phase.TheVariants.{Free, Next}
 use Rattle.ib_core.specs.declared.event.Answer.TheVariants.{Granted, Reserved}
 use Rattle.ib_core.specs.declared.session.Session.{Session}
-use Rattle.ib_core.specs.Responses.{response, is_drained}
+use Rattle.ib_word.specs.Word.{is_drained}
+use Rattle.ib_core.specs.Responses.{response}
 use Rattle.ib_core.specs.Takings.{reserving}
 use Rattle.ib_rule.specs.declared.view.View.{View}
 use Rattle.ib_rule.specs.Afterwards.{granted, looked_on, phased, tried_on, word_loaded}

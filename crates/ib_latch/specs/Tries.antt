@@ -1,7 +1,7 @@
 -- What a try is: a look at the lock word, and at most one exchange of it.
 use Rattle.std.specs.Prelude.{◌≡◌, ◌≢◌, ℕ, ◌<◌, ◌+◌, ◌-◌, Bool, true, false, if◌then◌else◌, nat_lt, List, Some, ℤ, pos, ◌-ℤ◌, Result, Ok, Err}
 use Rattle.std.specs.Ordering.{int_eq}
-use Rattle.ib_word.specs.Word.{cell_of}
+use Rattle.ib_word.specs.Word.{cell_of, is_drained}
 use Rattle.ib_word.specs.Weight.{x_weight}
 use Rattle.ib_word.specs.declared.word.LockWord.{LockWord}
 use Rattle.ib_word.specs.declared.word.TheConstants.{X_LOCK_DECR, X_LOCK_HALF_DECR}
@@ -10,13 +10,12 @@ use Rattle.ib_levels.specs.declared.level.Level.TheVariants.{Log}
 use Rattle.ib_levels.specs.declared.level.Mode.{Mode}
 use Rattle.ib_levels.specs.declared.level.Mode.TheVariants.{S as ModeS, Sx as ModeSx, X as ModeX}
 use Rattle.ib_levels.specs.declared.holding.Holding.{Holding}
-use Rattle.ib_levels.specs.Holding.{changed}
+use Rattle.ib_levels.specs.Holding.{changed_on}
 use Rattle.ib_core.specs.declared.phase.Phase.{Phase}
 use Rattle.ib_core.specs.declared.phase.Phase.TheVariants.{Free, Next}
 use Rattle.ib_core.specs.declared.event.Event.TheVariants.{Sx, X, Ready}
 use Rattle.ib_core.specs.declared.session.Session.{Session}
 use Rattle.ib_core.specs.Holders.{CanWish}
-use Rattle.ib_core.specs.Responses.{is_drained}
 use Rattle.ib_core.specs.Sessions.{reads, claims, sx_grants, x_grants}
 use Rattle.ib_core.specs.Table.{owns_x_at}
 use Rattle.ib_core.specs.Takings.{holding_too, is_given_at, level_on, one_more}
@@ -94,7 +93,7 @@ abbrev pub first_session : Mode → ℕ → Level → List Holding → LockWord 
 first_session mode l v held w = record { held = holding_too mode l v held; phase = phase_by mode l v w.0 }
 
 abbrev pub upgraded : ℕ → List Holding → LockWord → Session
-upgraded l held w = record { held = changed l (one_more ModeX) held; phase = phase_of l (level_on l Log held) (reserve_at (w.0 -ℤ pos X_LOCK_DECR)) }
+upgraded l held w = record { held = changed_on l (one_more ModeX) held; phase = phase_of l (level_on l Log held) (reserve_at (w.0 -ℤ pos X_LOCK_DECR)) }
 
 -- a first try for the mode
 abbrev pub IsFirstTry : Mode → ℕ → Level → PassState → Result (Unit {0}) TryFault → PassState → Type 0
@@ -103,7 +102,7 @@ IsFirstTry mode l v p result q = IsTryOf (is_given_at mode) mode l (first_sessio
 -- what is held after one more grant of the mode on the latch: a holding more, where nothing was held in SX or X
 abbrev pub held_with : Mode → ℕ → Level → Session → List Holding
 held_with mode l v a =
-    if nat_lt 0 (claims l a) then changed l (one_more mode) a.held
+    if nat_lt 0 (claims l a) then changed_on l (one_more mode) a.held
     else holding_too mode l v a.held
 
 -- how many looks a try made that was not won

@@ -1,6 +1,6 @@
 -- What a session that waits for a latch is, and what a lock call comes to.
 use Rattle.std.specs.Prelude.{◌≡◌, ◌≢◌, ◌⊎◌, ℕ, ◌+◌, ◌<◌, ◌≤◌, Bool, true, false, List, ◌∷◌, Some, None, ℤ, pos, ◌-ℤ◌, Result, Ok, Err}
-use Rattle.ib_word.specs.Word.{cell_of, word_in}
+use Rattle.ib_word.specs.Word.{cell_of, word_in, is_drained}
 use Rattle.ib_word.specs.declared.word.LockWord.{LockWord}
 use Rattle.ib_word.specs.declared.word.TheConstants.{X_LOCK_DECR}
 use Rattle.ib_levels.specs.declared.level.Level.{Level}
@@ -8,9 +8,8 @@ use Rattle.ib_levels.specs.declared.level.Mode.{Mode}
 use Rattle.ib_levels.specs.declared.level.Mode.TheVariants.{S as ModeS, Sx as ModeSx, X as ModeX}
 use Rattle.ib_core.specs.declared.phase.Phase.{Phase}
 use Rattle.ib_core.specs.declared.phase.Phase.TheVariants.{Asleep, Checked, Flagged, Free, Next, NextArmed, NextAsleep, NextChecked}
-use Rattle.ib_core.specs.Responses.{is_drained}
 use Rattle.ib_core.specs.Table.{owns_x_at}
-use Rattle.ib_levels.specs.Holding.{changed}
+use Rattle.ib_levels.specs.Holding.{changed_on}
 use Rattle.ib_levels.specs.declared.level.Level.TheVariants.{Log}
 use Rattle.ib_core.specs.Takings.{holding_too, is_given_at, level_on, one_more}
 use Rattle.ib_wait.specs.declared.cells.Wish.{Wish}
@@ -96,7 +95,7 @@ pub record IsWon (mode : Mode) (l : ℕ) (v : Level) (r : Reserve) (p q : PassSt
 
 -- X taken beside one's own SX alone, by a won exchange, which came to this
 pub record IsUpgraded (l : ℕ) (r : Reserve) (p q : PassState) : Type 0 where
-  pub taken : IsTaken ModeX (changed l (one_more ModeX) p.view.session.held) (phase_of l (level_on l Log p.view.session.held) r) p.view q.view
+  pub taken : IsTaken ModeX (changed_on l (one_more ModeX) p.view.session.held) (phase_of l (level_on l Log p.view.session.held) r) p.view q.view
   pub owns_x : EndsAsReserved l q.view.session.phase q.view.looks
   pub signed : Stores l q.view.written
   pub looks : p.view.looks.count ≤ q.view.looks.count

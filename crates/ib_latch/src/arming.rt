@@ -16,8 +16,8 @@ ghost use Rattle.ib_latch.specs.Waits.{IsRecheck, MayStandDown, latch_waited, re
 
 use crate::latches::Latches;
 use crate::sleep::Sleep;
-use crate::tries::{Reserve, TryFault, is_given_at, reserve_at};
-use ib_core::Phase;
+use crate::tries::{Reserve, TryFault, reserve_at};
+use ib_core::{Phase, is_given_at};
 use ib_levels::{Latch, Level, Mode};
 use ib_logrec::Law;
 use ib_rule::Pass;

@@ -12,7 +12,7 @@ use crate::parkers::Parkers;
 use crate::sleep::Sleep;
 use ib_layout::Geometry;
 use ib_logrec::{Law, MOST_SESSIONS};
-use ib_rule::{CloseRefused as SpaceRefused, Closed, ConnectFault, OutOfMemory, Pass, Space};
+use ib_rule::{Closed, ConnectFault, OutOfMemory, Pass, Space, SpaceCloseRefused};
 use std::alloc::Global;
 use std::marker::Model;
 use std::sync::Wait;
@@ -33,7 +33,7 @@ impl<L: Law, S: Sleep> Model for Latches<L, S> {
 }
 
 /// There was no memory to copy the words. The latches come back as they were.
-pub struct CloseRefused<L: Law, S: Sleep = Parkers> {
+pub struct LatchesCloseRefused<L: Law, S: Sleep = Parkers> {
     /// The latches, with all that they had.
     pub latches: Latches<L, S>,
 }
@@ -115,7 +115,7 @@ impl<L: Law, S: Sleep> Latches<L, S> {
     /// Closes the space, where nobody is connected: its words are those of a lawful log, the pages
     /// are the memory after all of it, each session that has ended had seen a front of it, and its
     /// own entries are exactly those of its number. Refused for want of memory alone.
-    pub fn close(self, alloc: Global) -> Result<Closed, CloseRefused<L, S>>
+    pub fn close(self, alloc: Global) -> Result<Closed, LatchesCloseRefused<L, S>>
         requires none { length self.ended ≡ self.drawn }
         ensures ok { IfOk result (λ c. (c.sizes ≡ self.sizes) × (c.drawn ≡ self.drawn)
             × IsClosed L.lawful L.opening self.sizes c.words self.ended) }
@@ -125,8 +125,8 @@ impl<L: Law, S: Sleep> Latches<L, S> {
         match space.close(alloc) {
             Ok(closed) => Ok(closed),
             Err(refused) => {
-                let SpaceRefused { space } = refused;
-                Err(CloseRefused {
+                let SpaceCloseRefused { space } = refused;
+                Err(LatchesCloseRefused {
                     latches: Latches { space, sleep },
                 })
             }

@@ -12,7 +12,7 @@ mod tries;
 mod unlocks;
 mod waiting;
 
-pub use latches::{CloseRefused, Latches};
+pub use latches::{Latches, LatchesCloseRefused};
 pub use parkers::Parkers;
 pub use sleep::{NoSleep, Sleep};
 pub use tries::{NotReady, Reserve, TryFault};

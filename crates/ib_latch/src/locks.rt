@@ -7,7 +7,7 @@ ghost use Rattle.ib_layout.specs.Places.{latches_of};
 ghost use Rattle.ib_core.specs.declared.phase.Phase.TheVariants.{Free, Next};
 ghost use Rattle.ib_core.specs.Holders.{CanWish};
 ghost use Rattle.ib_core.specs.Sessions.{claims, sx_grants, x_grants};
-ghost use Rattle.ib_levels.specs.Holding.{changed};
+ghost use Rattle.ib_levels.specs.Holding.{changed_on};
 ghost use Rattle.ib_core.specs.Takings.{holding_too, is_given_at, one_more};
 ghost use Rattle.ib_rule.specs.Conditions.{MayGrow};
 ghost use Rattle.ib_rule.specs.Laws.{Stores};
@@ -288,7 +288,7 @@ impl<L: Law> Latches<L, Parkers> {
         ensures own { IsOf self.now pass.new }
         ensures same { pass.new ≡ with_view pass.old pass.new.view }
         ensures taken { IsTaken ModeX
-            (changed latch.0 (one_more ModeX) pass.old.view.session.held) Free pass.old.view
+            (changed_on latch.0 (one_more ModeX) pass.old.view.session.held) Free pass.old.view
             pass.new.view }
         ensures ends { EndsOwning (sx_grants latch.0 pass.new.view.session) latch.0
             pass.new.view.looks }

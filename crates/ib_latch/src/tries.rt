@@ -1,13 +1,12 @@
 //! The tries: a look at the lock word, and at most one exchange of it.
 
-ghost use Rattle.std.specs.Prelude.{◌≡◌, ◌≢◌, ◌<◌, ◌+◌, true, false, if◌then◌else◌, nat_lt, pos, neg_ℤ, ◌-ℤ◌, Ok, IsOk, IfOk, IfErr};
-ghost use Rattle.std.specs.Ordering.{int_eq};
+ghost use Rattle.std.specs.Prelude.{◌≡◌, ◌≢◌, ◌<◌, ◌+◌, true, false, pos, ◌-ℤ◌, Ok, IsOk, IfOk, IfErr};
 ghost use Rattle.ib_word.specs.Word.{IsCounted};
-ghost use Rattle.ib_word.specs.declared.word.TheConstants.{X_LOCK_DECR, X_LOCK_HALF_DECR};
+ghost use Rattle.ib_word.specs.declared.word.TheConstants.{X_LOCK_DECR};
 ghost use Rattle.ib_levels.specs.declared.level.Level.TheVariants.{Log};
 ghost use Rattle.ib_levels.specs.declared.level.Level.{Level};
 ghost use Rattle.ib_levels.specs.declared.level.Mode.TheVariants.{S as ModeS, Sx as ModeSx, X as ModeX};
-ghost use Rattle.ib_levels.specs.Holding.{changed};
+ghost use Rattle.ib_levels.specs.Holding.{changed_on};
 ghost use Rattle.ib_layout.specs.Places.{latches_of};
 ghost use Rattle.ib_core.specs.declared.phase.Phase.TheVariants.{Free, Next};
 ghost use Rattle.ib_core.specs.Holders.{CanWish};
@@ -21,10 +20,11 @@ ghost use Rattle.ib_latch.specs.Tries.{IsClaim, IsFirstTry, IsReadyTry, IsReserv
 
 use crate::latches::Latches;
 use crate::sleep::Sleep;
+use ib_core::{is_given_at, owns_x_at};
 use ib_levels::{Latch, Level, Mode};
 use ib_logrec::Law;
 use ib_rule::Pass;
-use ib_word::{LockWord, X_LOCK_DECR, X_LOCK_HALF_DECR};
+use ib_word::{LockWord, X_LOCK_DECR, is_drained};
 use thiserror::Error;
 
 /// Why a try took nothing.
@@ -232,9 +232,9 @@ impl<L: Law, S: Sleep> Latches<L, S> {
         ensures grants { pass.new.view.grants ≡ pass.old.view.grants }
         ensures looks { pass.new.view.looks.count ≡ pass.old.view.looks.count + 1 }
     {
-        let has_sx = pass.counts(latch).sx > 0;
+        let own = pass.counts(latch);
         let word = self.space.load_word(pass, latch);
-        if owns_x_at(has_sx, word) {
+        if owns_x_at(own.sx, word) {
             Ok(())
         } else {
             Err(NotReady { word })
@@ -347,7 +347,7 @@ impl<L: Law, S: Sleep> Latches<L, S> {
         ensures tried { IsTryAt is_above_0 ModeX latch.0
             (upgraded latch.0 pass.old.view.session.held) pass.old result pass.new }
         ensures taken { IfOk result (λ w. IsTaken ModeX
-            (changed latch.0 (one_more ModeX) pass.old.view.session.held)
+            (changed_on latch.0 (one_more ModeX) pass.old.view.session.held)
             (phase_of latch.0 (level_on latch.0 Log pass.old.view.session.held)
             (reserve_at (w.0 -ℤ pos X_LOCK_DECR))) pass.old.view pass.new.view) }
     {
@@ -392,13 +392,13 @@ impl<L: Law, S: Sleep> Latches<L, S> {
         requires claims { 0 < claims latch.0 pass.old.view.session }
         ensures more { IsSxMore latch.0 pass.old pass.new }
         ensures taken { IsTaken ModeSx
-            (changed latch.0 (one_more ModeSx) pass.old.view.session.held) Free pass.old.view
+            (changed_on latch.0 (one_more ModeSx) pass.old.view.session.held) Free pass.old.view
             pass.new.view }
     {
         if pass.counts(latch).sx > 0 {
             self.space.load_writer(pass, latch, false);
         } else {
-            self.space.sx_off_under_x(pass, latch);
+            self.space.take_sx_under_x(pass, latch);
             self.space.store_writer(pass, latch);
         }
     }
@@ -412,10 +412,10 @@ impl<L: Law, S: Sleep> Latches<L, S> {
         requires owns { 0 < x_grants latch.0 pass.old.view.session }
         ensures more { IsXMore latch.0 pass.old pass.new }
         ensures taken { IsTaken ModeX
-            (changed latch.0 (one_more ModeX) pass.old.view.session.held) Free pass.old.view
+            (changed_on latch.0 (one_more ModeX) pass.old.view.session.held) Free pass.old.view
             pass.new.view }
     {
-        self.space.x_off_again(pass, latch);
+        self.space.take_x_again(pass, latch);
         self.space.store_writer(pass, latch);
     }
 
@@ -441,14 +441,14 @@ impl<L: Law, S: Sleep> Latches<L, S> {
             × (pass.new ≡ lost_at latch.0 word found pass.old)) }
     {
         match mode {
-            Mode::S => self.space.s_off(pass, latch, level, word),
+            Mode::S => self.space.take_s(pass, latch, level, word),
             Mode::Sx => {
-                self.space.sx_off(pass, latch, level, word)?;
+                self.space.take_sx(pass, latch, level, word)?;
                 self.space.store_writer(pass, latch);
                 Ok(())
             }
             Mode::X => {
-                self.space.x_off(pass, latch, level, word)?;
+                self.space.take_x(pass, latch, level, word)?;
                 self.space.store_writer(pass, latch);
                 Ok(())
             }
@@ -470,16 +470,6 @@ pub(crate) fn claim_on(pass: &Pass, latch: Latch) -> Claim
     }
 }
 
-// A first grant of the mode is given at the word.
-pub(crate) fn is_given_at(mode: Mode, word: LockWord) -> bool
-    ensures { result ≡ is_given_at mode word.0 }
-{
-    match mode {
-        Mode::S => word.0 > 0,
-        Mode::Sx | Mode::X => word.0 > X_LOCK_HALF_DECR as i32,
-    }
-}
-
 // It is the word of a latch that nobody holds.
 fn is_free(word: LockWord) -> bool
     ensures { result ≡ is_free_word word.0 }
@@ -487,28 +477,15 @@ fn is_free(word: LockWord) -> bool
     word.0 == LockWord::FREE.0
 }
 
-// The next writer owns X at the word, with SX of its own or without.
-fn owns_x_at(has_sx: bool, word: LockWord) -> bool
-    ensures { result ≡ if has_sx then int_eq word.0 (neg_ℤ (pos X_LOCK_HALF_DECR)) else int_eq word.0 (pos 0) }
-{
-    if has_sx {
-        word.0 == -(X_LOCK_HALF_DECR as i32)
-    } else {
-        word.0 == 0
-    }
-}
-
 // What a reservation came to that took `X_LOCK_DECR` off the word.
 pub(crate) fn reserve_at(word: LockWord) -> Reserve
     requires { is_above_0 word.0 ≡ true }
     ensures { result ≡ reserve_at (word.0 -ℤ pos X_LOCK_DECR) }
 {
-    let left = word.0 - X_LOCK_DECR as i32;
-    if left == 0 || left == -(X_LOCK_HALF_DECR as i32) {
+    let left = LockWord(word.0 - X_LOCK_DECR as i32);
+    if is_drained(left) {
         Reserve::Owned
     } else {
-        Reserve::Next {
-            word: LockWord(left),
-        }
+        Reserve::Next { word: left }
     }
 }

@@ -2,10 +2,9 @@
 
 ghost use Rattle.std.specs.Prelude.{◌≡◌, ◌<◌, ◌==◌, nat_lt, if◌then◌else◌};
 ghost use Rattle.ib_levels.specs.declared.level.Mode.TheVariants.{Sx as ModeSx, X as ModeX};
-ghost use Rattle.ib_levels.specs.Holding.{without};
+ghost use Rattle.ib_levels.specs.Holding.{without_latch};
 ghost use Rattle.ib_layout.specs.Places.{latches_of};
 ghost use Rattle.ib_core.specs.declared.phase.Phase.TheVariants.{Free, OwesClear, OwesLook, OwesRaise, OwesRaiseEx};
-ghost use Rattle.ib_core.specs.Responses.{is_drained};
 ghost use Rattle.ib_core.specs.Sessions.{reads, sx_grants, x_grants};
 ghost use Rattle.ib_core.specs.Takings.{given_back};
 ghost use Rattle.ib_rule.specs.Afterwards.{phased};
@@ -17,7 +16,7 @@ use crate::sleep::{Raised, Sleep};
 use ib_levels::Latch;
 use ib_logrec::Law;
 use ib_rule::Pass;
-use ib_word::{LockWord, X_LOCK_HALF_DECR};
+use ib_word::is_drained;
 
 impl<L: Law, S: Sleep> Latches<L, S> {
     /// Gives S back (sync0rw, `rw_lock_s_unlock_func`). The last reader before a next writer raises
@@ -27,10 +26,10 @@ impl<L: Law, S: Sleep> Latches<L, S> {
         requires latch { latch.0 < latches_of self.now.sizes }
         requires free { pass.old.view.session.phase ≡ Free }
         requires holds { 0 < reads latch.0 pass.old.view.session }
-        ensures { IsReleased 1 latch.0 (without latch.0 pass.old.view.session.held) pass.old
+        ensures { IsReleased 1 latch.0 (without_latch latch.0 pass.old.view.session.held) pass.old
             pass.new }
     {
-        let word = self.space.s_on(pass, latch);
+        let word = self.space.give_s(pass, latch);
         if is_drained(word) {
             let raised = self.raise_ex(pass, latch);
             raised.hand_to(&self.sleep);
@@ -51,9 +50,9 @@ impl<L: Law, S: Sleep> Latches<L, S> {
         if counts.sx > 1 {
             self.space.load_writer(pass, latch, true);
         } else if counts.x > 0 {
-            self.space.sx_on_under_x(pass, latch);
+            self.space.give_sx_under_x(pass, latch);
         } else {
-            self.space.sx_on(pass, latch);
+            self.space.give_sx(pass, latch);
             self.pay(pass, latch);
         }
     }
@@ -68,9 +67,9 @@ impl<L: Law, S: Sleep> Latches<L, S> {
             pass.new }
     {
         if pass.counts(latch).x > 1 {
-            self.space.x_on_again(pass, latch);
+            self.space.give_x_again(pass, latch);
         } else {
-            self.space.x_on(pass, latch);
+            self.space.give_x(pass, latch);
             self.pay(pass, latch);
         }
     }
@@ -137,11 +136,4 @@ impl<L: Law, S: Sleep> Latches<L, S> {
         self.space.raise_ex_gen(pass, latch);
         Raised::on(latch.0)
     }
-}
-
-// A next writer owns X at the word: no reader is left.
-fn is_drained(word: LockWord) -> bool
-    ensures { result ≡ is_drained word.0 }
-{
-    word.0 == 0 || word.0 == -(X_LOCK_HALF_DECR as i32)
 }

@@ -5,7 +5,7 @@ use Rattle.std.proofs.lemmas.List.Sums.{sum_by-cons, sum_by_push}
 use mathlib.Core.Logic.{dite}
 use native.Mathlib.Decide.{ℕ_discrete}
 use Rattle.ib_levels.specs.declared.holding.Holding.{Holding}
-use Rattle.ib_levels.specs.Holding.{is_held, on, without, changed}
+use Rattle.ib_levels.specs.Holding.{is_held, on, without_latch, changed_on}
 
 -- a test of two numbers, by cases
 pub by_equal : (P : Bool → Type 0) (a b : ℕ) → (a ≡ b → P true) → (a ≢ b → P false) → P (a == b)
@@ -36,37 +36,37 @@ pub on-push_away : (l : ℕ) (f : Holding → ℕ) (held : List Holding) (h : Ho
 on-push_away l f held h n = let a = on-push l f held h in let b = part-away l f h n in omega arith
 
 -- after its holding is gone there is nothing on the latch ..
-pub on-without : (l : ℕ) (f : Holding → ℕ) (held : List Holding) → on l f (without l held) ≡ 0
+pub on-without : (l : ℕ) (f : Holding → ℕ) (held : List Holding) → on l f (without_latch l held) ≡ 0
 on-without l f [] = refl
-on-without l f (h ∷ held) = by_equal (λ b. on l f (cond (not b) (h ∷ without l held) (without l held)) ≡ 0) h.latch.0 l
+on-without l f (h ∷ held) = by_equal (λ b. on l f (cond (not b) (h ∷ without_latch l held) (without_latch l held)) ≡ 0) h.latch.0 l
     (λ e. on-without l f held)
-    (λ n. let a = on-cons l f h (without l held) in let b = part-away l f h n in let c = on-without l f held in omega arith)
+    (λ n. let a = on-cons l f h (without_latch l held) in let b = part-away l f h n in let c = on-without l f held in omega arith)
 
 -- .. and on any other what there was
-pub on-without_away : (l k : ℕ) (f : Holding → ℕ) (held : List Holding) → l ≢ k → on k f (without l held) ≡ on k f held
+pub on-without_away : (l k : ℕ) (f : Holding → ℕ) (held : List Holding) → l ≢ k → on k f (without_latch l held) ≡ on k f held
 on-without_away l k f [] n = refl
-on-without_away l k f (h ∷ held) n = by_equal (λ b. on k f (cond (not b) (h ∷ without l held) (without l held)) ≡ on k f (h ∷ held)) h.latch.0 l
+on-without_away l k f (h ∷ held) n = by_equal (λ b. on k f (cond (not b) (h ∷ without_latch l held) (without_latch l held)) ≡ on k f (h ∷ held)) h.latch.0 l
     (λ e. let a = on-cons k f h held in let b = part-away k f h (λ q. n (sym e ∙ q)) in let c = on-without_away l k f held n in omega arith)
-    (λ _. let a = on-cons k f h (without l held) in let b = on-cons k f h held in let c = on-without_away l k f held n in omega arith)
+    (λ _. let a = on-cons k f h (without_latch l held) in let b = on-cons k f h held in let c = on-without_away l k f held n in omega arith)
 
 -- a change that keeps latches tells on its own latch ..
 pub on-changed : (l : ℕ) (f : Holding → Holding) (g : Holding → ℕ) (held : List Holding) → ((h : Holding) → (f h).latch.0 ≡ h.latch.0)
-    → on l g (changed l f held) ≡ on l (λ h. g (f h)) held
+    → on l g (changed_on l f held) ≡ on l (λ h. g (f h)) held
 on-changed l f g [] keeps = refl
-on-changed l f g (h ∷ held) keeps = by_equal (λ b. on l g (cond b (f h) h ∷ changed l f held) ≡ on l (λ h. g (f h)) (h ∷ held)) h.latch.0 l
-    (λ e. let a = on-cons l g (f h) (changed l f held) in let b = part-here l g (f h) (keeps h ∙ e) in
+on-changed l f g (h ∷ held) keeps = by_equal (λ b. on l g (cond b (f h) h ∷ changed_on l f held) ≡ on l (λ h. g (f h)) (h ∷ held)) h.latch.0 l
+    (λ e. let a = on-cons l g (f h) (changed_on l f held) in let b = part-here l g (f h) (keeps h ∙ e) in
     let c = on-cons l (λ h. g (f h)) h held in let d = part-here l (λ h. g (f h)) h e in let i = on-changed l f g held keeps in omega arith)
-    (λ n. let a = on-cons l g h (changed l f held) in let b = part-away l g h n in
+    (λ n. let a = on-cons l g h (changed_on l f held) in let b = part-away l g h n in
     let c = on-cons l (λ h. g (f h)) h held in let d = part-away l (λ h. g (f h)) h n in let i = on-changed l f g held keeps in omega arith)
 
 -- .. and on no other
 pub on-changed_away : (l k : ℕ) (f : Holding → Holding) (g : Holding → ℕ) (held : List Holding) → ((h : Holding) → (f h).latch.0 ≡ h.latch.0) → l ≢ k
-    → on k g (changed l f held) ≡ on k g held
+    → on k g (changed_on l f held) ≡ on k g held
 on-changed_away l k f g [] keeps n = refl
-on-changed_away l k f g (h ∷ held) keeps n = by_equal (λ b. on k g (cond b (f h) h ∷ changed l f held) ≡ on k g (h ∷ held)) h.latch.0 l
-    (λ e. let a = on-cons k g (f h) (changed l f held) in let b = part-away k g (f h) (λ q. n (sym (keeps h ∙ e) ∙ q)) in
+on-changed_away l k f g (h ∷ held) keeps n = by_equal (λ b. on k g (cond b (f h) h ∷ changed_on l f held) ≡ on k g (h ∷ held)) h.latch.0 l
+    (λ e. let a = on-cons k g (f h) (changed_on l f held) in let b = part-away k g (f h) (λ q. n (sym (keeps h ∙ e) ∙ q)) in
     let c = on-cons k g h held in let d = part-away k g h (λ q. n (sym e ∙ q)) in let i = on-changed_away l k f g held keeps n in omega arith)
-    (λ _. let a = on-cons k g h (changed l f held) in let c = on-cons k g h held in let i = on-changed_away l k f g held keeps n in omega arith)
+    (λ _. let a = on-cons k g h (changed_on l f held) in let c = on-cons k g h held in let i = on-changed_away l k f g held keeps n in omega arith)
 
 -- one count is at most another
 pub on_le : (l : ℕ) (f g : Holding → ℕ) (held : List Holding) → ((h : Holding) → f h ≤ g h) → on l f held ≤ on l g held

@@ -8,7 +8,7 @@ use Rattle.std.proofs.lemmas.List.Kept.{AllPairs-cons}
 use Rattle.ib_levels.specs.declared.level.Level.{Level}
 use Rattle.ib_levels.specs.declared.holding.Holding.{Holding}
 use Rattle.ib_levels.specs.Level.{MayFollow, IsOrderly, MayTake}
-use Rattle.ib_levels.specs.Holding.{levels_of, without, changed}
+use Rattle.ib_levels.specs.Holding.{levels_of, without_latch, changed_on}
 use Rattle.ib_levels.proofs.Orderly.{orderly_push, orderly_head, orderly_tail, orderly_remove}
 
 pub levels_of-push : (held : List Holding) (h : Holding) → levels_of (held ++ h ∷ []) ≡ levels_of held ++ h.level ∷ []
@@ -20,7 +20,7 @@ pub orderly_hold : (held : List Holding) (h : Holding) → IsOrderly (levels_of 
 orderly_hold held h orderly may = subst IsOrderly (sym (levels_of-push held h)) (orderly_push (levels_of held) h.level orderly may)
 
 -- a change of counts keeps the levels, and so the list orderly
-pub levels_of-changed : (l : ℕ) (f : Holding → Holding) (held : List Holding) → ((h : Holding) → (f h).level ≡ h.level) → levels_of (changed l f held) ≡ levels_of held
+pub levels_of-changed : (l : ℕ) (f : Holding → Holding) (held : List Holding) → ((h : Holding) → (f h).level ≡ h.level) → levels_of (changed_on l f held) ≡ levels_of held
 levels_of-changed l f [] keeps = refl
 levels_of-changed l f (h ∷ held) keeps = λ i. level_kept (h.latch.0 == l) i ∷ levels_of-changed l f held keeps i
   where
@@ -46,10 +46,10 @@ orderly_filter p (h ∷ held) orderly = by_test (p h) (orderly_filter p held (or
     by_test false rest = rest
 
 -- a latch that is given up leaves the list orderly, and forbids nothing that was allowed
-pub orderly_without : (l : ℕ) (held : List Holding) → IsOrderly (levels_of held) → IsOrderly (levels_of (without l held))
+pub orderly_without : (l : ℕ) (held : List Holding) → IsOrderly (levels_of held) → IsOrderly (levels_of (without_latch l held))
 orderly_without l held orderly = orderly_filter (λ h. not (h.latch.0 == l)) held orderly
 
-pub may_take_without : (wanted : Level) (l : ℕ) (held : List Holding) → MayTake wanted (levels_of held) → MayTake wanted (levels_of (without l held))
+pub may_take_without : (wanted : Level) (l : ℕ) (held : List Holding) → MayTake wanted (levels_of held) → MayTake wanted (levels_of (without_latch l held))
 may_take_without wanted l held may = all_filter (λ level. MayFollow level wanted) (λ h. not (h.latch.0 == l)) held may
 
 -- the levels after the holding at a place is removed

@@ -35,9 +35,9 @@ abbrev pub on : ℕ → (Holding → ℕ) → List Holding → ℕ
 on latch f held = sum_by (λ h. cond (h.latch.0 == latch) (f h) 0) held
 
 -- the list with nothing on the latch
-abbrev pub without : ℕ → List Holding → List Holding
-without latch held = filter (λ h. not (h.latch.0 == latch)) held
+abbrev pub without_latch : ℕ → List Holding → List Holding
+without_latch latch held = filter (λ h. not (h.latch.0 == latch)) held
 
 -- the list in which f changed what is held on the latch
-abbrev pub changed : ℕ → (Holding → Holding) → List Holding → List Holding
-changed latch f held = map (λ h. cond (h.latch.0 == latch) (f h) h) held
+abbrev pub changed_on : ℕ → (Holding → Holding) → List Holding → List Holding
+changed_on latch f held = map (λ h. cond (h.latch.0 == latch) (f h) h) held

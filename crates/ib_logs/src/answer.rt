@@ -2,7 +2,7 @@
 
 ghost use Rattle.std.specs.Prelude.{◌≡◌, ◌≢◌, ◌≤◌, length, None};
 ghost use Rattle.ib_edge.specs.Faults.{Rose};
-ghost use Rattle.ib_edge.specs.Told.{IsMemoryWhere, Told};
+ghost use Rattle.ib_edge.specs.Told.{IsOutOfMemoryWhere, Told};
 ghost use Rattle.ib_replay.specs.Files.{file_fault};
 ghost use Rattle.ib_logs.specs.Answers.{AnswersLog};
 
@@ -16,7 +16,7 @@ use std::alloc::Global;
 /// Memory may be wanting only where the file itself has no fault.
 pub fn answer_log<K: Sink>(alloc: Global, input: &[u8], sink: &mut K) -> Status
     requires { length input.now ≤ INPUT_BYTES }
-    ensures told { Told (AnswersLog input.now) (IsMemoryWhere (file_fault input.now ≡ None)) (K.written sink.old) (K.written sink.new) result }
+    ensures told { Told (AnswersLog input.now) (IsOutOfMemoryWhere (file_fault input.now ≡ None)) (K.written sink.old) (K.written sink.new) result }
     ensures calm { result ≢ Status.WriteFault → K.faults sink.new ≡ K.faults sink.old }
     ensures write { result ≡ Status.WriteFault → Rose (K.faults sink.old) (K.faults sink.new) }
 {

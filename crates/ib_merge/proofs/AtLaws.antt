@@ -16,7 +16,7 @@ use Rattle.ib_walk.proofs.SearchLaws.{above}
 use Rattle.ib_plans.specs.Delete.{Shrinkage, delete_below, drop_at, merged}
 use Rattle.ib_plans.specs.Marks.{mark, ticked, untouched, with_clock}
 use Rattle.ib_plans.specs.Moves.{Move, Takes, unmoved, with_move, HasMoved}
-use Rattle.ib_plans.specs.Merge.{freed_page, merge_pages}
+use Rattle.ib_plans.specs.Merge.{freed_page, merge_pages, joined}
 use Rattle.ib_plans.specs.Split.{next_or, with_prev, with_records}
 use Rattle.ib_plans.specs.Agreement.{IsThere, Sets, state_or_free, memory_in, reads_of, tick, with_bits}
 use Rattle.ib_plans.proofs.ClockLaws.{ticked-touched, ticked-untouched}
@@ -28,7 +28,7 @@ use Rattle.ib_plans.proofs.MoveLaws.{with_move-own, with_move-other, moved-alike
 use Rattle.ib_plans.proofs.PageLaws.{mark-off, mark-own, mark-on}
 use Rattle.ib_plans.proofs.PathLaws.{PathAbove}
 use Rattle.ib_plans.proofs.SiblingLaws.{SiblingPages, parent-not_gone, parent-not_left}
-use Rattle.ib_merge.specs.Deletes.{without_record, joined, CanMerge, IsMerged, AreTaken}
+use Rattle.ib_merge.specs.Deletes.{without_record, CanMerge, IsMerged, AreTaken}
 use Rattle.ib_merge.proofs.GiveLaws.{with_bits-last, AreTaken-last}
 use Rattle.ib_merge.proofs.MovedLaws.{moves-gone, moves-left, moves-parent, moves-other}
 use Rattle.ib_merge.proofs.MergedLaws.{merged-reads, merged-parent, merged-next, merged-others, beside-left, beside-gone}

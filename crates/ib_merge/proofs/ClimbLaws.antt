@@ -23,10 +23,10 @@ use Rattle.ib_plans.proofs.PathLaws.{PathPage-below, page_below-child}
 use Rattle.ib_plans.proofs.PathListLaws.{length-way_down}
 use Rattle.ib_plans.proofs.SettledLaws.{planned_delete-settled}
 use Rattle.ib_merge.specs.declared.edits.Merger.{Merger}
-use Rattle.ib_merge.specs.Deletes.{HasSiblings, HasNext, CanDelete, CanChoose, CanMerge, CanLift, IsMerged, IsLifted, IsClimbed, IsClimbedForAll, merger_of, without_record}
+use Rattle.ib_merge.specs.Deletes.{HasSiblings, HasNext, CanDelete, CanChoose, CanMerge, CanLift, IsMerged, IsLifted, IsDeleteClimbed, IsDeleteClimbedForAll, merger_of, without_record}
 use Rattle.ib_merge.proofs.AtLaws.{IsAt, IsAt-leaf}
 use Rattle.ib_merge.proofs.ImageLaws.{there-tree}
-use Rattle.ib_merge.proofs.LiftEdits.{IsClimbed-at, root-tree, root-stays, can-lift, IsClimbed-lift}
+use Rattle.ib_merge.proofs.LiftEdits.{IsDeleteClimbed-at, root-tree, root-stays, can-lift, IsDeleteClimbed-lift}
 use Rattle.ib_merge.proofs.MergerLaws.{short-none, long-settled}
 use Rattle.ib_merge.proofs.NodeLaws.{mid-alike, here-is, can-choose, same-choice, can-merge, IsAt-step}
 use Rattle.ib_merge.proofs.WayLaws.{way_down-at, nodes-at}
@@ -103,13 +103,13 @@ module _ (pages roots root : ℕ) (key : MapKey) (path : List ℕ) (old : List W
         ∙ ap (λ n. ltb (length (s.memory n).records) FEWEST_RECORDS) (sym (here-is pages roots root key path old m bits a depth height page tall at s was freed mid x page-was)))
 
     -- nothing more happens
-    stops : merge_short key page s ≡ settled s → let u = planned_delete m bits key root in IsClimbed freed m u.memory u.bits bits u.touched u.moves old mid
+    stops : merge_short key page s ≡ settled s → let u = planned_delete m bits key root in IsDeleteClimbed freed m u.memory u.bits bits u.touched u.moves old mid
     stops eq =
         let r : planned_delete m bits key root ≡ settled s = planned_delete-settled m bits key depth (suc height) root page tall at (ap (λ (u : Shrinkage). u.lost) eq) ∙ eq in
-        let k : IsClimbed freed m (settled s).memory (settled s).bits bits (settled s).touched (settled s).moves old mid = IsClimbed-at m bits height child s freed old mid x in
-        subst (λ (u : Shrinkage). IsClimbed freed m u.memory u.bits bits u.touched u.moves old mid) (sym r) k
+        let k : IsDeleteClimbed freed m (settled s).memory (settled s).bits bits (settled s).touched (settled s).moves old mid = IsDeleteClimbed-at m bits height child s freed old mid x in
+        subst (λ (u : Shrinkage). IsDeleteClimbed freed m u.memory u.bits bits u.touched u.moves old mid) (sym r) k
 
-    pub stops-long : few ≡ false → let u = planned_delete m bits key root in IsClimbed freed m u.memory u.bits bits u.touched u.moves old mid
+    pub stops-long : few ≡ false → let u = planned_delete m bits key root in IsDeleteClimbed freed m u.memory u.bits bits u.touched u.moves old mid
     stops-long off = stops (long-settled key page s x.lost (sym few-is ∙ off))
 
     module _ (beside : HasSiblings key old (get_or path depth 0)) where
@@ -120,7 +120,7 @@ module _ (pages roots root : ℕ) (key : MapKey) (path : List ℕ) (old : List W
       picks-same = same-choice pages roots root key path old m bits a depth height page tall at s was freed mid x page-was beside
 
       pub stops-none : few ≡ true → None ≡ merger_of (memory_in mid) (siblings_of key (memory_in mid page).records)
-          → let u = planned_delete m bits key root in IsClimbed freed m u.memory u.bits bits u.touched u.moves old mid
+          → let u = planned_delete m bits key root in IsDeleteClimbed freed m u.memory u.bits bits u.touched u.moves old mid
       stops-none on none = stops (short-none key page s x.lost (sym few-is ∙ on) (sym picks-same ∙ sym none))
 
       module _ (g : Merger) (on : few ≡ true) (picks : Some g ≡ merger_of (memory_in mid) (siblings_of key (memory_in mid page).records)) where
@@ -152,21 +152,21 @@ module _ (pages roots root : ℕ) (key : MapKey) (path : List ℕ) (old : List W
     abbrev single : ℕ → Bool
     single n = ltb 0 (memory_in mid n).level && eqb (length (memory_in mid n).records) 1
 
-    pub top-stays : single (get_or path 0 0) ≡ false → let u = planned_delete m bits key root in IsClimbed freed m u.memory u.bits bits u.touched u.moves old mid
+    pub top-stays : single (get_or path 0 0) ≡ false → let u = planned_delete m bits key root in IsDeleteClimbed freed m u.memory u.bits bits u.touched u.moves old mid
     top-stays off =
         let r : planned_delete m bits key root ≡ delete_below m bits key (height_of m root) root =
         root-stays pages roots root key path old m bits a (height_of m root) (delete_below m bits key (height_of m root) root) root-was freed mid root-x (ap single (sym root-is) ∙ off) in
-        subst (λ (u : Shrinkage). IsClimbed freed m u.memory u.bits bits u.touched u.moves old mid) (sym r)
-        (IsClimbed-at m bits (height_of m root) root (delete_below m bits key (height_of m root) root) freed old mid root-x)
+        subst (λ (u : Shrinkage). IsDeleteClimbed freed m u.memory u.bits bits u.touched u.moves old mid) (sym r)
+        (IsDeleteClimbed-at m bits (height_of m root) root (delete_below m bits key (height_of m root) root) freed old mid root-x)
 
     pub top-can_lift : single (get_or path 0 0) ≡ true → CanLift (get_or path 0 0) mid
     top-can_lift on = subst (λ n. CanLift n mid) (sym root-is)
         (can-lift pages roots root key path old m bits a (height_of m root) (delete_below m bits key (height_of m root) root) root-was freed mid root-x (ap single (sym root-is) ∙ on))
 
     pub top-lifts : single (get_or path 0 0) ≡ true → (q : ℕ) (new : List WorkPage) → q ≡ first_child (memory_in mid (get_or path 0 0)).records → IsLifted (get_or path 0 0) q mid new
-        → let u = planned_delete m bits key root in IsClimbed (freed ++ q ∷ []) m u.memory u.bits bits u.touched u.moves old new
+        → let u = planned_delete m bits key root in IsDeleteClimbed (freed ++ q ∷ []) m u.memory u.bits bits u.touched u.moves old new
     top-lifts on q new is lift =
-        IsClimbed-lift pages roots root key path old m bits a (height_of m root) (delete_below m bits key (height_of m root) root) root-was freed mid root-x (ap single (sym root-is) ∙ on) q new
+        IsDeleteClimbed-lift pages roots root key path old m bits a (height_of m root) (delete_below m bits key (height_of m root) root) root-was freed mid root-x (ap single (sym root-is) ∙ on) q new
         (is ∙ ap (λ n. first_child (memory_in mid n).records) root-is) (subst (λ n. IsLifted n q mid new) root-is lift)
 
 -- a work set for which the delete may be planned
@@ -221,10 +221,10 @@ module _ (path : List ℕ) (key : MapKey) (old : List WorkPage) (can : CanDelete
     short-is : short ≡ ltb (length (memory_in mid (get_or path (place + 1) 0)).records) FEWEST_RECORDS
     short-is = ap (λ i. ltb (length (memory_in mid (get_or path i 0)).records) FEWEST_RECORDS) (sym below-is)
 
-    pub node-stops_long : short ≡ false → IsClimbedForAll path key freed old mid
+    pub node-stops_long : short ≡ false → IsDeleteClimbedForAll path key freed old mid
     node-stops_long off pages roots root m bits a = stops-long pages roots root key path old m bits a place height place-is freed mid all node-there (sym short-is ∙ off)
 
-    pub node-stops_none : short ≡ true → None ≡ merger_of (memory_in mid) (siblings_of key (memory_in mid (get_or path place 0)).records) → IsClimbedForAll path key freed old mid
+    pub node-stops_none : short ≡ true → None ≡ merger_of (memory_in mid) (siblings_of key (memory_in mid (get_or path place 0)).records) → IsDeleteClimbedForAll path key freed old mid
     node-stops_none on none pages roots root m bits a = stops-none pages roots root key path old m bits a place height place-is freed mid all node-there beside-was (sym short-is ∙ on) none
 
     module _ (g : Merger) (on : short ≡ true) (picks : Some g ≡ merger_of (memory_in mid) (siblings_of key (memory_in mid (get_or path place 0)).records)) where
@@ -251,8 +251,8 @@ module _ (path : List ℕ) (key : MapKey) (old : List WorkPage) (can : CanDelete
     pub root-can_lift : lifts ≡ true → CanLift (get_or path 0 0) mid
     root-can_lift on = top-can_lift can.pages can.roots can.root key path old can.memory can.bits can.agrees freed mid all on
 
-    pub root-ends : lifts ≡ false → IsClimbedForAll path key freed old mid
+    pub root-ends : lifts ≡ false → IsDeleteClimbedForAll path key freed old mid
     root-ends off pages roots root m bits a = top-stays pages roots root key path old m bits a freed mid all off
 
-    pub root-ends_lifted : lifts ≡ true → (q : ℕ) (new : List WorkPage) → q ≡ first_child (memory_in mid (get_or path 0 0)).records → IsLifted (get_or path 0 0) q mid new → IsClimbedForAll path key (freed ++ q ∷ []) old new
+    pub root-ends_lifted : lifts ≡ true → (q : ℕ) (new : List WorkPage) → q ≡ first_child (memory_in mid (get_or path 0 0)).records → IsLifted (get_or path 0 0) q mid new → IsDeleteClimbedForAll path key (freed ++ q ∷ []) old new
     root-ends_lifted on q new is lift pages roots root m bits a = top-lifts pages roots root key path old m bits a freed mid all on q new is lift

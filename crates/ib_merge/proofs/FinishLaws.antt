@@ -17,7 +17,7 @@ use Rattle.ib_plans.specs.Merge.{first_child}
 use Rattle.ib_plans.specs.Split.{with_records}
 use Rattle.ib_plans.specs.Agreement.{IsThere, state_or_free, memory_in, reads_of, Agrees, IsPlanned, HasBits, bits_in, taken_bits, with_bits, space_ticks}
 use Rattle.ib_plans.proofs.EditLaws.{changed_of-same, changed_of-other, reads_of-changed}
-use Rattle.ib_merge.specs.Deletes.{CanDelete, IsClimbed, IsClimbedForAll, MayGivePages, GivesPages, AreTaken}
+use Rattle.ib_merge.specs.Deletes.{CanDelete, IsDeleteClimbed, IsDeleteClimbedForAll, MayGivePages, GivesPages, AreTaken}
 use Rattle.ib_merge.proofs.AtLaws.{mark-skip}
 use Rattle.ib_merge.proofs.ClimbLaws.{length-path}
 use Rattle.ib_merge.proofs.GiveLaws.{AreTaken-more, with_bits-clear}
@@ -88,9 +88,9 @@ leaf-frees_none m bits key root zero some level z =
     ap (λ b. (cond b (lifted (delete_below m bits key 0 root) root (first_child (drop_at m root key root).records)) (delete_below m bits key 0 root)).touched 0) off
     ∙ mark-skip root untouched 0 (λ e. some (sym e))
 
-module _ (path : List ℕ) (key : MapKey) (old : List WorkPage) (can : CanDelete path key old) (freed : List ℕ) (mid : List WorkPage) (climbed : IsClimbedForAll path key freed old mid) where
+module _ (path : List ℕ) (key : MapKey) (old : List WorkPage) (can : CanDelete path key old) (freed : List ℕ) (mid : List WorkPage) (climbed : IsDeleteClimbedForAll path key freed old mid) where
   -- for the one memory
-  c : IsClimbed freed can.memory (planned_delete can.memory can.bits key can.root).memory (planned_delete can.memory can.bits key can.root).bits can.bits (planned_delete can.memory can.bits key can.root).touched (planned_delete can.memory can.bits key can.root).moves old mid
+  c : IsDeleteClimbed freed can.memory (planned_delete can.memory can.bits key can.root).memory (planned_delete can.memory can.bits key can.root).bits can.bits (planned_delete can.memory can.bits key can.root).touched (planned_delete can.memory can.bits key can.root).moves old mid
   c = climbed can.pages can.roots can.root can.memory can.bits can.agrees
 
   deep : freed ≢ [] → 1 < length path
@@ -134,7 +134,7 @@ module _ (path : List ℕ) (key : MapKey) (old : List WorkPage) (can : CanDelete
       abbrev u : Shrinkage
       u = planned_delete m bits key root
 
-      k : IsClimbed freed m u.memory u.bits bits u.touched u.moves old mid
+      k : IsDeleteClimbed freed m u.memory u.bits bits u.touched u.moves old mid
       k = climbed pages roots root m bits a
 
       planned-none : freed ≡ [] → IsPlanned pages m u.memory u.bits u.touched u.moves old new
@@ -147,6 +147,10 @@ module _ (path : List ℕ) (key : MapKey) (old : List WorkPage) (can : CanDelete
             there = λ n on. subst (λ ws. IsThere ws n) (sym (none e)) (k.there n (λ z. let x = ap u.touched z in cc) on);
             same = λ n nz h. ap (λ ws. memory_in ws n) (none e) ∙ k.same n nz (subst (λ ws. IsThere ws n) (none e) h);
             moved = λ n nz. subst (λ ws. HasMoved (u.moves n) (changed_of n old) (changed_of n ws)) (sym (none e)) (k.moved n nz);
+            kept = λ n free. elim (cases_eq n 0) [
+              | inl z ↦ subst (λ q. changed_of q new ≡ changed_of q old) (sym z) same
+              | inr nz ↦ ap (changed_of n) (none e) ∙ k.kept n nz free
+            ];
             space = subst (λ (o : Option (List ℕ)). IfSome o (HasBits pages u.bits)) (sym same)
                 (some-if (changed_of 0 old) (HasBits pages u.bits) (λ image is.
                 let h = if-some (changed_of 0 old) (HasBits pages bits) image is a.space in
@@ -171,6 +175,10 @@ module _ (path : List ℕ) (key : MapKey) (old : List WorkPage) (can : CanDelete
             ];
             same = λ n nz h. ap state_or_free (other n nz) ∙ k.same n nz (subst IsSome (other n nz) h);
             moved = λ n nz. subst (λ (o : Option (List ℕ)). HasMoved (u.moves n) (changed_of n old) o) (sym (other n nz)) (k.moved n nz);
+            kept = λ n free. elim (cases_eq n 0) [
+              | inl z ↦ absurd (let set = ap u.touched z ∙ on in cc)
+              | inr nz ↦ other n nz ∙ k.kept n nz free
+            ];
             space = subst (λ (o : Option (List ℕ)). IfSome o (HasBits pages u.bits)) (sym here)
                 (HasBits-given pages bits u.bits freed g.was g.image a.few (if-some (changed_of 0 old) (HasBits pages bits) g.was before a.space) k.bits_are g.size g.bits g.behind);
             clock = subst (λ (o : Option (List ℕ)). IfSome o (λ was. IfSome (changed_of 0 new) (λ image. space_clock_of image ≡ space_clock_of was + space_ticks u.touched))) (sym before)

@@ -16,15 +16,15 @@ use Rattle.ib_walk.proofs.WalkLaws.{IsAlike}
 use Rattle.ib_plans.specs.Delete.{Shrinkage, lift_single, lifted}
 use Rattle.ib_plans.specs.Marks.{mark, ticked, with_bit, with_clock}
 use Rattle.ib_plans.specs.Moves.{Move, Fills, Frees, unmoved, with_move, HasMoved}
-use Rattle.ib_plans.specs.Merge.{first_child, freed_page, lift_page}
+use Rattle.ib_plans.specs.Merge.{first_child, freed_page, lift_page, lowered}
 use Rattle.ib_plans.specs.Agreement.{IsThere, state_or_free, memory_in, Agrees}
 use Rattle.ib_plans.proofs.ClockLaws.{ticked-alike}
 use Rattle.ib_plans.proofs.DeleteLaws.{IsDeletedBelow}
 use Rattle.ib_plans.proofs.MoveLaws.{with_move-own, with_move-other, filled-any, freed-any}
 use Rattle.ib_plans.proofs.ClockLaws.{ticked-touched}
-use Rattle.ib_plans.proofs.PageLaws.{mark-own, mark-on}
+use Rattle.ib_plans.proofs.PageLaws.{mark-off, mark-own, mark-on}
 use Rattle.ib_plans.proofs.PathLaws.{PathPage, PathPage-child}
-use Rattle.ib_merge.specs.Deletes.{lowered, CanLift, IsLifted, IsClimbed}
+use Rattle.ib_merge.specs.Deletes.{CanLift, IsLifted, IsDeleteClimbed}
 use Rattle.ib_merge.proofs.AtLaws.{IsAt, mark-skip, mark-split}
 use Rattle.ib_merge.proofs.GiveLaws.{with_bits-last, AreTaken-last}
 use Rattle.ib_merge.proofs.ImageLaws.{there-tree}
@@ -32,9 +32,9 @@ use Rattle.ib_merge.proofs.MergedLaws.{lifted-reads, lifted-root, lifted-child, 
 use Rattle.ib_merge.proofs.WayLaws.{there-reads}
 
 -- what was come to, as the pages of the plan
-pub IsClimbed-at : (m : PageMemory) (bits : ℕ → ℕ) (height page : ℕ) (s : Shrinkage) (freed : List ℕ) (old new : List WorkPage) → IsAt m bits height page s freed old new
-    → IsClimbed freed m s.memory s.bits bits s.touched s.moves old new
-IsClimbed-at m bits height page s freed old new x = record { reads = x.reads; there = x.there; same = x.same; moved = x.moved; space = x.space; bits_are = x.bits_are; taken = x.taken; zero = x.zero_is }
+pub IsDeleteClimbed-at : (m : PageMemory) (bits : ℕ → ℕ) (height page : ℕ) (s : Shrinkage) (freed : List ℕ) (old new : List WorkPage) → IsAt m bits height page s freed old new
+    → IsDeleteClimbed freed m s.memory s.bits bits s.touched s.moves old new
+IsDeleteClimbed-at m bits height page s freed old new x = record { reads = x.reads; there = x.there; same = x.same; moved = x.moved; kept = x.kept; space = x.space; bits_are = x.bits_are; taken = x.taken; zero = x.zero_is }
 
 -- a list of one record
 pub one-record : (rs : Pairs) → length rs ≡ 1 → (y : MapKey × ℕ) × (rs ≡ y ∷ [])
@@ -153,7 +153,7 @@ module _ (pages roots root : ℕ) (key : MapKey) (path : List ℕ) (old : List W
       there-new n h = there-reads mid new n (lifted-reads root child mid new root-at child-at child-is.apart lift) h
 
       abbrev the-root : PageState
-      the-root = record { kind = Tree; level = (s.memory child).level; prev = 0; next = 0; clock = (s.memory root).clock; records = (s.memory child).records }
+      the-root = lowered (s.memory root) (s.memory child)
 
       on-child : t-all child ≡ true
       on-child = mark-on 0 (mark child (mark root s.touched)) child (mark-own child (mark root s.touched) child refl)
@@ -214,7 +214,14 @@ module _ (pages roots root : ℕ) (key : MapKey) (path : List ℕ) (old : List W
         ]
       ]
 
-      climbed : IsClimbed (freed ++ child ∷ []) m planned (with_bit child 0 s.bits) bits t-all m-all old new
+      kept-new : (n : ℕ) → n ≢ 0 → t-all n ≡ false → changed_of n new ≡ changed_of n old
+      kept-new n nz off =
+          let free = mark-off 0 (mark child (mark root s.touched)) n off in
+          let not-child = mark-off child (mark root s.touched) n free.1 in
+          let not-root = mark-off root s.touched n not-child.1 in
+          lifted-others root child mid new root-at child-at child-is.apart lift n not-root.0 not-child.0 ∙ x.kept n nz not-root.1
+
+      climbed : IsDeleteClimbed (freed ++ child ∷ []) m planned (with_bit child 0 s.bits) bits t-all m-all old new
       climbed = record {
         reads = lifted-reads root child mid new root-at child-at child-is.apart lift ∙ x.reads;
         there = λ n nz on. elim (mark-split 0 (mark child (mark root s.touched)) n on) [
@@ -229,6 +236,7 @@ module _ (pages roots root : ℕ) (key : MapKey) (path : List ℕ) (old : List W
         ];
         same = same-new;
         moved = moved-new;
+        kept = kept-new;
         space = lifted-others root child mid new root-at child-at child-is.apart lift 0 (λ e. root-some (sym e)) (λ e. child-is.some (sym e)) ∙ x.space;
         bits_are = λ n. ap (λ k. cond (eqb n child) 0 k) (x.bits_are n) ∙ sym (ap (λ (f : ℕ → ℕ). f n) (with_bits-last freed child bits));
         taken = AreTaken-last freed child bits x.taken (λ z. child-set (x.bits_are child ∙ z)) child-few;
@@ -236,13 +244,13 @@ module _ (pages roots root : ℕ) (key : MapKey) (path : List ℕ) (old : List W
       }
 
     -- what a lift leaves
-    pub IsClimbed-lift : (q : ℕ) (new : List WorkPage) → q ≡ first_child (memory_in mid root).records → IsLifted root q mid new
-        → let u = lift_single root s in IsClimbed (freed ++ q ∷ []) m u.memory u.bits bits u.touched u.moves old new
-    IsClimbed-lift q new e lift =
+    pub IsDeleteClimbed-lift : (q : ℕ) (new : List WorkPage) → q ≡ first_child (memory_in mid root).records → IsLifted root q mid new
+        → let u = lift_single root s in IsDeleteClimbed (freed ++ q ∷ []) m u.memory u.bits bits u.touched u.moves old new
+    IsDeleteClimbed-lift q new e lift =
         let c = first-is q e in
         let l : IsLifted root child mid new = subst (λ k. IsLifted root k mid new) c lift in
         let f : first_child (s.memory root).records ≡ child = ap first_child one.1 in
-        let k : IsClimbed (freed ++ child ∷ []) m (lifted s root child).memory (lifted s root child).bits bits (lifted s root child).touched (lifted s root child).moves old new = climbed new l in
+        let k : IsDeleteClimbed (freed ++ child ∷ []) m (lifted s root child).memory (lifted s root child).bits bits (lifted s root child).touched (lifted s root child).moves old new = climbed new l in
         let r : lift_single root s ≡ lifted s root child = root-lifts ∙ ap (lifted s root) f in
-        subst (λ (n : ℕ). IsClimbed (freed ++ n ∷ []) m (lift_single root s).memory (lift_single root s).bits bits (lift_single root s).touched (lift_single root s).moves old new) (sym c)
-        (subst (λ (u : Shrinkage). IsClimbed (freed ++ child ∷ []) m u.memory u.bits bits u.touched u.moves old new) (sym r) k)
+        subst (λ (n : ℕ). IsDeleteClimbed (freed ++ n ∷ []) m (lift_single root s).memory (lift_single root s).bits bits (lift_single root s).touched (lift_single root s).moves old new) (sym c)
+        (subst (λ (u : Shrinkage). IsDeleteClimbed (freed ++ child ∷ []) m u.memory u.bits bits u.touched u.moves old new) (sym r) k)

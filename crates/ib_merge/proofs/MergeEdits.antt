@@ -6,13 +6,13 @@ use Rattle.ib_map.specs.Keys.{MapKey}
 use Rattle.ib_page.specs.Image.{IsTreePage, IsFormed}
 use Rattle.ib_page.specs.Work.{WorkPage, changed_of}
 use Rattle.ib_walk.specs.Pages.{PageState}
-use Rattle.ib_plans.specs.Merge.{freed_page}
+use Rattle.ib_plans.specs.Merge.{freed_page, joined}
 use Rattle.ib_plans.specs.Split.{with_prev}
 use Rattle.ib_plans.specs.Moves.{Move, Stays, Takes, Fills, Frees, unmoved, with_move, HasMoved}
 use Rattle.ib_plans.specs.Agreement.{IsThere, state_or_free, memory_in, reads_of, Sets, tick}
 use Rattle.ib_plans.proofs.EditLaws.{set-reads, set-same, set-other, set-others, set-formed, set-was, IsSome-and}
 use Rattle.ib_plans.proofs.MoveLaws.{with_move-own, with_move-other, moved-still, then-still-was, freed-any}
-use Rattle.ib_merge.specs.Deletes.{without_record, joined, CanMerge, IsJoined, IsMerged}
+use Rattle.ib_merge.specs.Deletes.{without_record, CanMerge, IsJoined, IsMerged}
 use Rattle.ib_merge.proofs.MovedLaws.{moves-gone, moves-left, moves-parent, moves-other}
 
 -- two pages were made one

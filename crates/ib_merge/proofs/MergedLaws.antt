@@ -5,11 +5,11 @@ use Rattle.std.proofs.lemmas.Bool.{cases_eq}
 use Rattle.ib_map.specs.Keys.{MapKey}
 use Rattle.ib_page.specs.Image.{IsTreePage}
 use Rattle.ib_page.specs.Work.{WorkPage, changed_of}
-use Rattle.ib_plans.specs.Merge.{freed_page}
+use Rattle.ib_plans.specs.Merge.{freed_page, joined, lowered}
 use Rattle.ib_plans.specs.Split.{with_prev}
 use Rattle.ib_plans.specs.Agreement.{IsThere, state_or_free, memory_in, reads_of, tick}
 use Rattle.ib_plans.proofs.EditLaws.{set-reads, set-same, set-other, set-others, IsSome-and}
-use Rattle.ib_merge.specs.Deletes.{without_record, joined, lowered, CanMerge, IsMerged, IsLifted}
+use Rattle.ib_merge.specs.Deletes.{without_record, CanMerge, IsMerged, IsLifted}
 use Rattle.ib_merge.proofs.WayLaws.{there-reads}
 use Rattle.ib_merge.proofs.MergeEdits.{join-left, join-gone, join-reads, two-others}
 

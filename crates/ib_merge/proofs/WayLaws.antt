@@ -8,7 +8,7 @@ use Rattle.ib_page.specs.Work.{WorkPage, changed_of}
 use Rattle.ib_walk.specs.Pages.{PageMemory}
 use Rattle.ib_walk.specs.Search.{child_for, page_below}
 use Rattle.ib_plans.specs.Agreement.{IsThere, reads_of, way_down}
-use Rattle.ib_merge.specs.Deletes.{nodes_of}
+use Rattle.ib_merge.specs.Deletes.{nodes_on_path}
 
 -- the page at a place is the one so many levels below
 pub way_down-at : (m : PageMemory) (key : MapKey) (height page depth : ℕ) → depth ≤ height → get_or (way_down m key height page) depth 0 ≡ page_below m key depth page
@@ -18,29 +18,29 @@ way_down-at m key (suc height) page zero le = refl
 way_down-at m key (suc height) page (suc depth) le = way_down-at m key height (child_for key 0 (m page).records) depth (omega arith)
 
 -- the nodes of a path are its pages but the last
-nodes-count : (path : List ℕ) → length path ≤ length (nodes_of path) + 1
+nodes-count : (path : List ℕ) → length path ≤ length (nodes_on_path path) + 1
 nodes-count [] = omega arith
 nodes-count (x ∷ []) = omega arith
 nodes-count (x ∷ y ∷ ys) = let r = nodes-count (y ∷ ys) in omega arith
 
-pub nodes-few : (path : List ℕ) (i : ℕ) → i < length (nodes_of path) → i + 1 < length path
+pub nodes-few : (path : List ℕ) (i : ℕ) → i < length (nodes_on_path path) → i + 1 < length path
 nodes-few [] i lt = absurd (omega arith)
 nodes-few (x ∷ []) i lt = absurd (omega arith)
 nodes-few (x ∷ y ∷ ys) zero lt = omega arith
 nodes-few (x ∷ y ∷ ys) (suc i) lt = let r = nodes-few (y ∷ ys) i (omega arith) in omega arith
 
-pub nodes-same : (path : List ℕ) (i : ℕ) → i + 1 < length path → get_or (nodes_of path) i 0 ≡ get_or path i 0
+pub nodes-same : (path : List ℕ) (i : ℕ) → i + 1 < length path → get_or (nodes_on_path path) i 0 ≡ get_or path i 0
 nodes-same [] i lt = absurd (omega arith)
 nodes-same (x ∷ []) i lt = absurd (omega arith)
 nodes-same (x ∷ y ∷ ys) zero lt = refl
 nodes-same (x ∷ y ∷ ys) (suc i) lt = nodes-same (y ∷ ys) i (omega arith)
 
 -- what holds of them
-pub nodes-at : (P : ℕ → Type 0) (path : List ℕ) (i : ℕ) → All P (nodes_of path) → i + 1 < length path → P (get_or path i 0)
-nodes-at P path i all lt = subst P (nodes-same path i lt) (All-get_or P (nodes_of path) i 0 (let l = nodes-count path in omega arith) all)
+pub nodes-at : (P : ℕ → Type 0) (path : List ℕ) (i : ℕ) → All P (nodes_on_path path) → i + 1 < length path → P (get_or path i 0)
+nodes-at P path i all lt = subst P (nodes-same path i lt) (All-get_or P (nodes_on_path path) i 0 (let l = nodes-count path in omega arith) all)
 
-pub nodes-all : (P : ℕ → Type 0) (path : List ℕ) → ((i : ℕ) → i + 1 < length path → P (get_or path i 0)) → All P (nodes_of path)
-nodes-all P path each = All-from_get_or P (nodes_of path) 0 (λ i lt. let few = nodes-few path i lt in subst P (sym (nodes-same path i few)) (each i few))
+pub nodes-all : (P : ℕ → Type 0) (path : List ℕ) → ((i : ℕ) → i + 1 < length path → P (get_or path i 0)) → All P (nodes_on_path path)
+nodes-all P path each = All-from_get_or P (nodes_on_path path) 0 (λ i lt. let few = nodes-few path i lt in subst P (sym (nodes-same path i few)) (each i few))
 
 -- a path goes one level further down
 pub way_down-last : (m : PageMemory) (key : MapKey) (depth page : ℕ) → way_down m key (suc depth) page ≡ way_down m key depth page ++ page_below m key (suc depth) page ∷ []

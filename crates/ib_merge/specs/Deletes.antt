@@ -1,5 +1,5 @@
 -- What a planned delete asks of its work set, and what its steps do to it.
-use Rattle.std.specs.Prelude.{◌≡◌, ◌≢◌, ℕ, ◌+◌, ◌<◌, ◌≤◌, ◌^◌, ◌++◌, Bool, true, List, [], ◌∷◌, length, nat_lt, Option, Some, None, ◌⊎◌, IfSome, IsSomeAnd, MatchOption, slice_get, slice_index, if◌then◌else◌}
+use Rattle.std.specs.Prelude.{◌≡◌, ◌≢◌, ℕ, ◌+◌, ◌<◌, ◌≤◌, ◌^◌, ◌++◌, Bool, true, false, List, [], ◌∷◌, length, nat_lt, Option, Some, None, ◌⊎◌, IfSome, IsSomeAnd, MatchOption, slice_get, slice_index, if◌then◌else◌}
 use Rattle.std.specs.List.{All}
 use Rattle.ib_map.specs.Keys.{MapKey, rank, end_rank}
 use Rattle.ib_map.specs.Pairs.{Rises, without}
@@ -9,11 +9,11 @@ use Rattle.ib_page.specs.declared.space.TheConstants.{MAPPED_PAGES}
 use Rattle.ib_page.specs.Image.{IsTreePage}
 use Rattle.ib_page.specs.Space.{space_clock_of}
 use Rattle.ib_page.specs.Work.{WorkPage, changed_of, with_changed}
-use Rattle.ib_walk.specs.Pages.{Tree, PageState, PageMemory}
+use Rattle.ib_walk.specs.Pages.{PageState, PageMemory}
 use Rattle.ib_plans.specs.Marks.{ticked, with_bit}
 use Rattle.ib_plans.specs.Moves.{Move, Takes, Fills, Frees, unmoved, with_move, HasMoved}
 use Rattle.ib_plans.specs.Split.{with_records, with_prev}
-use Rattle.ib_plans.specs.Merge.{Siblings, siblings_of, fit_one, freed_page}
+use Rattle.ib_plans.specs.Merge.{Siblings, siblings_of, fit_one, freed_page, joined, lowered}
 use Rattle.ib_plans.specs.Delete.{planned_delete}
 use Rattle.ib_plans.specs.Agreement.{IsThere, memory_in, reads_of, Agrees, IsPlanned, Sets, tick, HasTreePages, MayTick, taken_bits, with_bits}
 
@@ -27,17 +27,17 @@ abbrev pub HasNext : List WorkPage → ℕ → Type 0
 HasNext work page = (memory_in work page).next ≢ 0 → IsThere work (memory_in work page).next
 
 -- the nodes of a path, which are all its pages but the last
-abbrev pub nodes_of : List ℕ → List ℕ
-nodes_of [] = []
-nodes_of (page ∷ []) = []
-nodes_of (page ∷ next ∷ pages) = page ∷ nodes_of (next ∷ pages)
+abbrev pub nodes_on_path : List ℕ → List ℕ
+nodes_on_path [] = []
+nodes_on_path (page ∷ []) = []
+nodes_on_path (page ∷ next ∷ pages) = page ∷ nodes_on_path (next ∷ pages)
 
 -- the images of the path, of the pages beside each page of it under its parent, of the leaf behind the last of the leaves so named, and of page 0 where there are several levels
-pub record HasImages (path : List ℕ) (key : MapKey) (work : List WorkPage) : Type 0 where
+pub record HasDeleteImages (path : List ℕ) (key : MapKey) (work : List WorkPage) : Type 0 where
   pub path_there : HasTreePages path work
-  pub siblings_there : All (HasSiblings key work) (nodes_of path)
+  pub siblings_there : All (HasSiblings key work) (nodes_on_path path)
   pub behind_there : All (λ parent. MatchOption (siblings_of key (memory_in work parent).records).right
-      (HasNext work (siblings_of key (memory_in work parent).records).here.1) (λ right. HasNext work right.1)) (nodes_of path)
+      (HasNext work (siblings_of key (memory_in work parent).records).here.1) (λ right. HasNext work right.1)) (nodes_on_path path)
   pub space_there : 1 < length path → IsThere work 0
 
 -- a delete may be planned: for one memory whose pages these are, all that it reads and writes is there
@@ -48,26 +48,18 @@ pub record CanDelete (path : List ℕ) (key : MapKey) (work : List WorkPage) : T
   pub memory : PageMemory
   pub bits : ℕ → ℕ
   pub agrees : Agrees pages roots root key path work memory bits
-  pub images : HasImages path key work
+  pub images : HasDeleteImages path key work
   pub clocks : MayTick work
 
 -- the plan of the delete, for every memory whose pages these are
-abbrev pub IsPlannedForAll : List ℕ → MapKey → List WorkPage → List WorkPage → Type 0
-IsPlannedForAll path key old new = (pages roots root : ℕ) (memory : PageMemory) (bits : ℕ → ℕ)
+abbrev pub IsPlannedDeleteForAll : List ℕ → MapKey → List WorkPage → List WorkPage → Type 0
+IsPlannedDeleteForAll path key old new = (pages roots root : ℕ) (memory : PageMemory) (bits : ℕ → ℕ)
     → Agrees pages roots root key path old memory bits
     → let s = planned_delete memory bits key root in IsPlanned pages memory s.memory s.bits s.touched s.moves old new
 
 -- a page without the record of a key
 abbrev pub without_record : MapKey → PageState → PageState
 without_record key page = with_records (without key page.records) page
-
--- the left one of two pages with the records of both, linked to what was behind the right one
-abbrev pub joined : PageState → PageState → PageState
-joined left right = record { kind = left.kind; level = left.level; prev = left.prev; next = right.next; clock = left.clock; records = left.records ++ right.records }
-
--- a root with the level and the records of its one child
-abbrev pub lowered : PageState → PageState → PageState
-lowered root child = record { kind = Tree; level = child.level; prev = 0; next = 0; clock = root.clock; records = child.records }
 
 -- which two children of a node are merged: the left sibling and the child where both fit one page, else the child and the right sibling where both do, else none
 abbrev pub merger_right : PageMemory → MapKey × ℕ → Option (MapKey × ℕ) → Option Merger
@@ -170,19 +162,20 @@ pub record GivesPages (given : List ℕ) (old new : List WorkPage) : Type 0 wher
   pub clock : space_clock_of image ≡ space_clock_of was + 1
   pub behind : (i : ℕ) → 64 < i → slice_index image i ≡ slice_index was i
 
--- the tree's pages are those of the plan, and their records stand as it moves them, all but page 0, which is as it was; these pages were freed
-pub record IsClimbed (freed : List ℕ) (memory planned : PageMemory) (bits before : ℕ → ℕ) (touched : ℕ → Bool) (moves : ℕ → Move) (old new : List WorkPage) : Type 0 where
+-- the tree's pages are those of the plan, and their records stand as it moves them; page 0 and each page that is not touched is as it was; these pages were freed
+pub record IsDeleteClimbed (freed : List ℕ) (memory planned : PageMemory) (bits before : ℕ → ℕ) (touched : ℕ → Bool) (moves : ℕ → Move) (old new : List WorkPage) : Type 0 where
   pub reads : reads_of new ≡ reads_of old
   pub there : (page : ℕ) → page ≢ 0 → touched page ≡ true → IsThere new page
   pub same : (page : ℕ) → page ≢ 0 → IsThere new page → memory_in new page ≡ ticked memory touched planned page
   pub moved : (page : ℕ) → page ≢ 0 → HasMoved (moves page) (changed_of page old) (changed_of page new)
+  pub kept : (page : ℕ) → page ≢ 0 → touched page ≡ false → changed_of page new ≡ changed_of page old
   pub space : changed_of 0 new ≡ changed_of 0 old
   pub bits_are : (page : ℕ) → bits page ≡ with_bits freed 0 before page
   pub taken : AreTaken before freed
   pub zero : touched 0 ≡ nat_lt 0 (length freed)
 
 -- .. for every memory whose pages these were
-abbrev pub IsClimbedForAll : List ℕ → MapKey → List ℕ → List WorkPage → List WorkPage → Type 0
-IsClimbedForAll path key freed old new = (pages roots root : ℕ) (memory : PageMemory) (bits : ℕ → ℕ)
+abbrev pub IsDeleteClimbedForAll : List ℕ → MapKey → List ℕ → List WorkPage → List WorkPage → Type 0
+IsDeleteClimbedForAll path key freed old new = (pages roots root : ℕ) (memory : PageMemory) (bits : ℕ → ℕ)
     → Agrees pages roots root key path old memory bits
-    → let s = planned_delete memory bits key root in IsClimbed freed memory s.memory s.bits bits s.touched s.moves old new
+    → let s = planned_delete memory bits key root in IsDeleteClimbed freed memory s.memory s.bits bits s.touched s.moves old new

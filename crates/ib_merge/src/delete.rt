@@ -7,7 +7,7 @@ ghost use Rattle.ib_page.specs.Image.{IsTreePage, level_of, records_of};
 ghost use Rattle.ib_plans.specs.declared.TheConstants.{FEWEST_RECORDS};
 ghost use Rattle.ib_plans.specs.declared.fault.TreeFault.{TreeFault};
 ghost use Rattle.ib_plans.specs.Agreement.{memory_in, reads_of, last_of};
-ghost use Rattle.ib_merge.specs.Deletes.{CanDelete, IsPlannedForAll, IsClimbedForAll};
+ghost use Rattle.ib_merge.specs.Deletes.{CanDelete, IsPlannedDeleteForAll, IsDeleteClimbedForAll};
 
 use crate::choose::choose_merger;
 use crate::edits::{give_pages, lift, merge, take_record};
@@ -25,7 +25,7 @@ use ib_plans::{FEWEST_RECORDS, TreeFault, image_of};
 pub fn plan_delete(work: &mut WorkSet, path: &Path, key: Key) -> Result<u64, TreeFault>
     requires { CanDelete path.now key work.old }
     ensures value { IfOk result (λ value. value_at key (memory_in work.old (last_of path.now)).records ≡ Some value) }
-    ensures planned { OnOk result (IsPlannedForAll path.now key work.old work.new) }
+    ensures planned { OnOk result (IsPlannedDeleteForAll path.now key work.old work.new) }
     ensures reads { reads_of work.new ≡ reads_of work.old }
     ensures missing { IsErr result ↔ (value_at key (memory_in work.old (last_of path.now)).records ≡ None) }
     ensures only_missing { IfErr result (λ fault. fault ≡ TreeFault.Missing) }
@@ -45,7 +45,7 @@ pub fn plan_delete(work: &mut WorkSet, path: &Path, key: Key) -> Result<u64, Tre
 fn climb(work: &mut WorkSet, path: &[u32], key: Key) -> Path
     requires can { CanDelete path.now key work.old }
     requires few { length path.now ≤ MOST_PATH }
-    ensures { IsClimbedForAll path.now key result work.old work.new }
+    ensures { IsDeleteClimbedForAll path.now key result work.old work.new }
 {
     let mut freed = Path::new();
     take_record(work, path[path.len() - 1], key);

@@ -9,7 +9,7 @@ ghost use Rattle.ib_heap.specs.Heap.{read_heap};
 ghost use Rattle.ib_page.specs.Form.{page_of};
 ghost use Rattle.ib_page.specs.Image.{IsTreePage, IsFormed, level_of, records_of};
 ghost use Rattle.ib_walk.specs.Words.{state_of};
-ghost use Rattle.ib_merge.specs.Deletes.{joined, lowered};
+ghost use Rattle.ib_plans.specs.Merge.{joined, lowered};
 
 use ib_page::Image;
 

@@ -24,7 +24,7 @@ use Rattle.ib_logrec.specs.declared.entry.Entry.{Entry}
 use Rattle.ib_logrec.specs.Log.{memory_after, used}
 use Rattle.ib_logrec.proofs.LogLaws.{memory_after-push}
 use Rattle.ib_rule.specs.declared.looks.Grants.{Grants}
-use Rattle.ib_rule.specs.declared.memory.Memory.{Memory}
+use Rattle.ib_rule.specs.declared.memory.Knowledge.{Knowledge}
 use Rattle.ib_rule.specs.declared.view.Role.{Role}
 use Rattle.ib_rule.specs.declared.view.Role.TheVariants.{Session}
 use Rattle.ib_rule.specs.declared.view.View.{View}
@@ -43,15 +43,15 @@ use Rattle.ib_mtr.proofs.Grants.{more_grant}
 use Rattle.ib_mtr.proofs.Images.{of_each}
 
 -- what a look tells is of what the session had seen and made, and of the latches that it watched
-pub look_before : (key : Sizes) (lawful : List Entry → Type 0) (v w : View) (log : List Entry) → w.role ≡ v.role → w.memory ≡ v.memory → IsLook key lawful w log → IsLook key lawful v log
-look_before key lawful v w log role memory look = record {
+pub look_before : (sizes : Sizes) (lawful : List Entry → Type 0) (v w : View) (log : List Entry) → w.role ≡ v.role → w.memory ≡ v.memory → IsLook sizes lawful w log → IsLook sizes lawful v log
+look_before sizes lawful v w log role memory look = record {
   others = look.others;
-  longer = ap (λ (m : Memory). m.seen ++ look.others) (sym memory) ∙ look.longer;
-  harmless = subst (λ (m : Memory). AllByRecursion (IsHarmless (number_in v.role) m.since) look.others) memory
+  longer = ap (λ (m : Knowledge). m.seen ++ look.others) (sym memory) ∙ look.longer;
+  harmless = subst (λ (m : Knowledge). AllByRecursion (IsHarmless (number_in v.role) m.since) look.others) memory
       (subst (λ (r : Role). AllByRecursion (IsHarmless (number_in r) w.memory.since) look.others) role look.harmless);
   legal = look.legal;
   room = look.room;
-  mine = ap (λ (r : Role). entries_of (number_in r) log) (sym role) ∙ look.mine ∙ ap (λ (m : Memory). m.own) memory;
+  mine = ap (λ (r : Role). entries_of (number_in r) log) (sym role) ∙ look.mine ∙ ap (λ (m : Knowledge). m.own) memory;
 }
 
 -- a mini-transaction that ended from a later state of its pass
@@ -90,9 +90,9 @@ module _ (a b : CoreSession) (proper : IsProper a) (same : b.held ≡ held_with 
   sx_index = let m = more_grant Sx 1 X 0 Log a proper in let s = ap (on 1 (count_of Sx)) same in omega arith
 
 -- the pass p, with X on the log latch the pass p1, and after a look at the log's end the pass p2
-module _ (key : Sizes) (lawful : List Entry → Type 0) (opening : ℕ → ℕ) (change : Change) (p p1 p2 : PassState) (proper : IsProper p.view.session) (role : p.view.role ≡ Session p.number) (role1 : p1.view.role ≡ Session p1.number)
+module _ (sizes : Sizes) (lawful : List Entry → Type 0) (opening : ℕ → ℕ) (change : Change) (p p1 p2 : PassState) (proper : IsProper p.view.session) (role : p.view.role ≡ Session p.number) (role1 : p1.view.role ≡ Session p1.number)
     (memo1 : p1 ≡ record p { view = p1.view; memo = p1.memo }) (taken : IsTaken X (held_with X 0 Log p.view.session) Free p.view p1.view) (counts : p.view.looks.count ≤ p1.view.looks.count)
-    (looks : IsLook key lawful p1.view p2.view.memory.seen) (is : p2 ≡ with_view p1 (reaching p2.view.memory.seen p1.view)) where
+    (looks : IsLook sizes lawful p1.view p2.view.memory.seen) (is : p2 ≡ with_view p1 (reaching p2.view.memory.seen p1.view)) where
   log : List Entry
   log = p2.view.memory.seen
 
@@ -102,8 +102,8 @@ module _ (key : Sizes) (lawful : List Entry → Type 0) (opening : ℕ → ℕ) 
   same_role : p1.view.role ≡ p.view.role
   same_role = role1 ∙ ap Session same_number ∙ sym role
 
-  pub looked : IsLook key lawful p.view p2.view.memory.seen
-  looked = look_before key lawful p.view p1.view p2.view.memory.seen same_role taken.memory looks
+  pub looked : IsLook sizes lawful p.view p2.view.memory.seen
+  looked = look_before sizes lawful p.view p1.view p2.view.memory.seen same_role taken.memory looks
 
   pub same_work : p2.work ≡ p.work
   same_work = ap (λ (q : PassState). q.work) is ∙ ap (λ (q : PassState). q.work) memo1
@@ -112,10 +112,10 @@ module _ (key : Sizes) (lawful : List Entry → Type 0) (opening : ℕ → ℕ) 
   number2 = ap (λ (q : PassState). q.number) is ∙ same_number
 
   own2 : p2.view.memory.own ≡ p.view.memory.own
-  own2 = ap (λ (q : PassState). q.view.memory.own) is ∙ ap (λ (m : Memory). m.own) taken.memory
+  own2 = ap (λ (q : PassState). q.view.memory.own) is ∙ ap (λ (m : Knowledge). m.own) taken.memory
 
   ends2 : p2.view.memory.ends ≡ one_end_more p (length p2.view.memory.seen)
-  ends2 = ap (λ (q : PassState). q.view.memory.ends) is ∙ ap (λ (m : Memory). m.ends ++ length p2.view.memory.seen ∷ []) taken.memory
+  ends2 = ap (λ (q : PassState). q.view.memory.ends) is ∙ ap (λ (m : Knowledge). m.ends ++ length p2.view.memory.seen ∷ []) taken.memory
 
   grants2 : p2.view.grants ≡ commit_grants p
   grants2 = ap (λ (q : PassState). q.view.grants) is ∙ taken.grants
@@ -126,7 +126,7 @@ module _ (key : Sizes) (lawful : List Entry → Type 0) (opening : ℕ → ℕ) 
     sizes = ap (λ (q : PassState). q.sizes) is ∙ ap (λ (q : PassState). q.sizes) memo1;
     number = number2;
     role = ap (λ (q : PassState). q.view.role) is ∙ same_role;
-    met = ap (λ (q : PassState). q.view.memory.met) is ∙ ap (λ (m : Memory). m.met) taken.memory;
+    met = ap (λ (q : PassState). q.view.memory.met) is ∙ ap (λ (m : Knowledge). m.met) taken.memory;
     looks = let c = ap (λ (q : PassState). q.view.looks.count) is in omega arith;
   }
 
@@ -175,9 +175,9 @@ module _ (key : Sizes) (lawful : List Entry → Type 0) (opening : ℕ → ℕ) 
 
     -- the pass p3 after the append, and q after the end
     pub committed : (p3 q : PassState) (answer : ℕ) → MayCommit lawful p change → p3 ≡ record (with_view p2 (appending (entry_for p2 change p2.work) p2.view)) { words = p3.words }
-        → answer ≡ length p2.view.memory.seen → used p3.view.memory.seen ≤ key.log_words
-        → used p2.view.memory.seen + Rattle.ib_rule.specs.declared.pass.TheConstants.ENTRY_WORDS ≤ key.log_words
-        → HasEnded p3 p3.view.grants p3.view.memory.seen p3.view.memory.own p3.view.memory.ends q → HasCommitted key lawful opening change p answer q
+        → answer ≡ length p2.view.memory.seen → used p3.view.memory.seen ≤ sizes.log_words
+        → used p2.view.memory.seen + Rattle.ib_rule.specs.declared.pass.TheConstants.ENTRY_WORDS ≤ sizes.log_words
+        → HasEnded p3 p3.view.grants p3.view.memory.seen p3.view.memory.own p3.view.memory.ends q → HasCommitted sizes lawful opening change p answer q
     committed p3 q answer may is3 place room wide ended =
         let e = commit_entry p change in
         let seen3 : p3.view.memory.seen ≡ p2.view.memory.seen ++ commit_entry p change ∷ [] =
@@ -203,7 +203,7 @@ module _ (key : Sizes) (lawful : List Entry → Type 0) (opening : ℕ → ℕ) 
           legal = subst (λ (e : Entry). lawful (p2.view.memory.seen ++ e ∷ [])) same_entry append.legal;
           mine = filter-append (λ e. Rattle.std.specs.Prelude.◌==◌ e.session p.number) p2.view.memory.seen (commit_entry p change ∷ [])
               ∙ (λ j. mine j ++ itself j);
-          room = subst (λ (xs : List Entry). used xs ≤ key.log_words) seen3 room;
+          room = subst (λ (xs : List Entry). used xs ≤ sizes.log_words) seen3 room;
           wide = wide;
           pages = pages_after;
         }
@@ -215,9 +215,9 @@ module _ (key : Sizes) (lawful : List Entry → Type 0) (opening : ℕ → ℕ) 
         itself = ap (λ b. Rattle.std.proofs.Common.cond b (commit_entry p change ∷ []) []) (eq-eqb p.number p.number refl)
 
   -- .. or after the log was found full
-  pub full : (q : PassState) (f : Rattle.ib_frames.specs.declared.appends.LogFull.LogFull) → f.used ≡ used p2.view.memory.seen → f.cap ≡ key.log_words
-      → key.log_words < used p2.view.memory.seen + Rattle.ib_rule.specs.declared.pass.TheConstants.ENTRY_WORDS
-      → HasEnded p2 p2.view.grants p2.view.memory.seen p2.view.memory.own p2.view.memory.ends q → IsFull key lawful p f q
+  pub full : (q : PassState) (f : Rattle.ib_frames.specs.declared.appends.LogFull.LogFull) → f.used ≡ used p2.view.memory.seen → f.cap ≡ sizes.log_words
+      → sizes.log_words < used p2.view.memory.seen + Rattle.ib_rule.specs.declared.pass.TheConstants.ENTRY_WORDS
+      → HasEnded p2 p2.view.grants p2.view.memory.seen p2.view.memory.own p2.view.memory.ends q → IsFull sizes lawful p f q
   full q f words cap short ended = record {
     log = p2.view.memory.seen;
     looked = looked;
@@ -228,9 +228,9 @@ module _ (key : Sizes) (lawful : List Entry → Type 0) (opening : ℕ → ℕ) 
   }
 
 -- an end without a change, after a look
-pub read_only : (key : Sizes) (lawful : List Entry → Type 0) (p p2 q : PassState) (answer : ℕ) → IsLook key lawful p.view p2.view.memory.seen → p2 ≡ with_view p (reaching p2.view.memory.seen p.view)
-    → answer ≡ length p2.view.memory.seen → HasEnded p2 p2.view.grants p2.view.memory.seen p2.view.memory.own p2.view.memory.ends q → HasRead key lawful p answer q
-read_only key lawful p p2 q answer look is place ended =
+pub read_only : (sizes : Sizes) (lawful : List Entry → Type 0) (p p2 q : PassState) (answer : ℕ) → IsLook sizes lawful p.view p2.view.memory.seen → p2 ≡ with_view p (reaching p2.view.memory.seen p.view)
+    → answer ≡ length p2.view.memory.seen → HasEnded p2 p2.view.grants p2.view.memory.seen p2.view.memory.own p2.view.memory.ends q → HasRead sizes lawful p answer q
+read_only sizes lawful p p2 q answer look is place ended =
     let later : IsLater p p2 = record {
       table = ap (λ (q : PassState). q.table) is;
       sizes = ap (λ (q : PassState). q.sizes) is;

@@ -11,7 +11,7 @@ use Rattle.ib_levels.specs.declared.level.Level.{Level}
 use Rattle.ib_levels.specs.declared.level.Mode.{Mode}
 use Rattle.ib_levels.specs.declared.level.Mode.TheVariants.{S, Sx, X}
 use Rattle.ib_levels.specs.declared.holding.Holding.{Holding}
-use Rattle.ib_levels.specs.Holding.{on, hold, without, changed}
+use Rattle.ib_levels.specs.Holding.{on, hold, without_latch, changed_on}
 use Rattle.ib_levels.proofs.Counts.{by_equal, part, on-push, on-without, on-without_away, on-changed, on-changed_away}
 use Rattle.ib_core.specs.declared.session.Session.{Session}
 use Rattle.ib_core.specs.Good.{IsProper}
@@ -74,15 +74,15 @@ more_counts X X h = omega arith
 pub more_grant : (m : Mode) (k : ℕ) (mode : Mode) (l : ℕ) (v : Level) (a : Session) → IsProper a → on k (count_of m) (held_with mode l v a) ≡ on k (count_of m) a.held + hit m k mode l
 more_grant m k mode l v a proper = by_claims (nat_lt 0 (claims l a)) refl
   where
-    further : 0 < claims l a → on l (count_of m) (changed l (one_more mode) a.held) ≡ on l (count_of m) a.held + cond (same_mode m mode) 1 0
+    further : 0 < claims l a → on l (count_of m) (changed_on l (one_more mode) a.held) ≡ on l (count_of m) a.held + cond (same_mode m mode) 1 0
     further some =
         let one = proper.single l in let has = held_by_grant l (λ h. h.sx + h.x) a.held some in
         let c = counts_changed l (one_more mode) a.held (one_more-latch mode) (omega arith) in
         let before = c.1 (count_of m) in let after = c.2 (count_of m) in let e = more_counts m mode c.0 in omega arith
 
-    by_claims : (b : Bool) → nat_lt 0 (claims l a) ≡ b → on k (count_of m) (if b then changed l (one_more mode) a.held else holding_too mode l v a.held) ≡ on k (count_of m) a.held + hit m k mode l
-    by_claims true some = by_equal (λ b. on k (count_of m) (changed l (one_more mode) a.held) ≡ on k (count_of m) a.held + cond (b && same_mode m mode) 1 0) l k
-        (λ e. subst (λ (k : ℕ). on k (count_of m) (changed l (one_more mode) a.held) ≡ on k (count_of m) a.held + cond (same_mode m mode) 1 0) e (further (ltb-true 0 (claims l a) some)))
+    by_claims : (b : Bool) → nat_lt 0 (claims l a) ≡ b → on k (count_of m) (if b then changed_on l (one_more mode) a.held else holding_too mode l v a.held) ≡ on k (count_of m) a.held + hit m k mode l
+    by_claims true some = by_equal (λ b. on k (count_of m) (changed_on l (one_more mode) a.held) ≡ on k (count_of m) a.held + cond (b && same_mode m mode) 1 0) l k
+        (λ e. subst (λ (k : ℕ). on k (count_of m) (changed_on l (one_more mode) a.held) ≡ on k (count_of m) a.held + cond (same_mode m mode) 1 0) e (further (ltb-true 0 (claims l a) some)))
         (λ n. let e = on-changed_away l k (one_more mode) (count_of m) a.held (one_more-latch mode) n in omega arith)
     by_claims false none = first_grant m k mode l v a.held
 
@@ -90,18 +90,18 @@ more_grant m k mode l v a proper = by_claims (nat_lt 0 (claims l a)) refl
 pub still_held : (mode : Mode) (l k : ℕ) (v : Level) (a : Session) → 0 < holdings k a → 0 < on k (λ h. 1) (held_with mode l v a)
 still_held mode l k v a has = by_claims (nat_lt 0 (claims l a))
   where
-    by_claims : (b : Bool) → 0 < on k (λ h. 1) (if b then changed l (one_more mode) a.held else holding_too mode l v a.held)
+    by_claims : (b : Bool) → 0 < on k (λ h. 1) (if b then changed_on l (one_more mode) a.held else holding_too mode l v a.held)
     by_claims true = dite (ℕ_discrete l k)
-        (λ e. subst (λ (k : ℕ). 0 < on k (λ h. 1) (changed l (one_more mode) a.held)) e (let c = on-changed l (one_more mode) (λ h. 1) a.held (one_more-latch mode) in let h = ap (λ (k : ℕ). holdings k a) e in omega arith))
+        (λ e. subst (λ (k : ℕ). 0 < on k (λ h. 1) (changed_on l (one_more mode) a.held)) e (let c = on-changed l (one_more mode) (λ h. 1) a.held (one_more-latch mode) in let h = ap (λ (k : ℕ). holdings k a) e in omega arith))
         (λ n. let c = on-changed_away l k (one_more mode) (λ h. 1) a.held (one_more-latch mode) n in omega arith)
     by_claims false = let e = on-push k (λ h. 1) a.held (first_holding mode l v) in omega arith
 
 -- .. on any other latch as before, with one grant fewer
 pub after-away : (mode : Mode) (l k : ℕ) (f : Holding → ℕ) (a : Session) → l ≢ k → on k f (held_after mode l a) ≡ on k f a.held
 after-away S l k f a n = on-without_away l k f a.held n
-after-away Sx l k f a n = by_equal (λ b. on k f (if b then without l a.held else changed l (one_fewer Sx) a.held) ≡ on k f a.held) (claims l a) 1
+after-away Sx l k f a n = by_equal (λ b. on k f (if b then without_latch l a.held else changed_on l (one_fewer Sx) a.held) ≡ on k f a.held) (claims l a) 1
     (λ _. on-without_away l k f a.held n) (λ _. on-changed_away l k (one_fewer Sx) f a.held (one_fewer-latch Sx) n)
-after-away X l k f a n = by_equal (λ b. on k f (if b then without l a.held else changed l (one_fewer X) a.held) ≡ on k f a.held) (claims l a) 1
+after-away X l k f a n = by_equal (λ b. on k f (if b then without_latch l a.held else changed_on l (one_fewer X) a.held) ≡ on k f a.held) (claims l a) 1
     (λ _. on-without_away l k f a.held n) (λ _. on-changed_away l k (one_fewer X) f a.held (one_fewer-latch X) n)
 
 -- a count goes with the mode
@@ -121,10 +121,10 @@ module _ (l : ℕ) (a : Session) (proper : IsProper a) where
   pub record IsOnly (mode : Mode) : Type 0 where
     pub only : (m : Mode) → grants_of m l a ≡ cond (same_mode m mode) 1 0
 
-  gone : (m mode : Mode) → IsOnly mode → on l (count_of m) (without l a.held) + cond (same_mode m mode) 1 0 ≡ on l (count_of m) a.held
+  gone : (m mode : Mode) → IsOnly mode → on l (count_of m) (without_latch l a.held) + cond (same_mode m mode) 1 0 ≡ on l (count_of m) a.held
   gone m mode one = let e = on-without l (count_of m) a.held in let o = one.only m in omega arith
 
-  fewer : (m mode : Mode) → 0 < grants_of mode l a → on l (count_of m) (changed l (one_fewer mode) a.held) + cond (same_mode m mode) 1 0 ≡ on l (count_of m) a.held
+  fewer : (m mode : Mode) → 0 < grants_of mode l a → on l (count_of m) (changed_on l (one_fewer mode) a.held) + cond (same_mode m mode) 1 0 ≡ on l (count_of m) a.held
   fewer m mode has =
       let one = proper.single l in let some = held_by_grant l (count_of mode) a.held has in
       let c = counts_changed l (one_fewer mode) a.held (one_fewer-latch mode) (omega arith) in
@@ -161,9 +161,9 @@ module _ (l : ℕ) (a : Session) (proper : IsProper a) where
   -- the session with one grant fewer, on the latch
   after-here : (m mode : Mode) → 0 < grants_of mode l a → on l (count_of m) (held_after mode l a) + cond (same_mode m mode) 1 0 ≡ on l (count_of m) a.held
   after-here m S has = gone m S (only_s has)
-  after-here m Sx has = by_equal (λ b. on l (count_of m) (if b then without l a.held else changed l (one_fewer Sx) a.held) + cond (same_mode m Sx) 1 0 ≡ on l (count_of m) a.held) (claims l a) 1
+  after-here m Sx has = by_equal (λ b. on l (count_of m) (if b then without_latch l a.held else changed_on l (one_fewer Sx) a.held) + cond (same_mode m Sx) 1 0 ≡ on l (count_of m) a.held) (claims l a) 1
       (λ one. gone m Sx (only_sx has one)) (λ _. fewer m Sx has)
-  after-here m X has = by_equal (λ b. on l (count_of m) (if b then without l a.held else changed l (one_fewer X) a.held) + cond (same_mode m X) 1 0 ≡ on l (count_of m) a.held) (claims l a) 1
+  after-here m X has = by_equal (λ b. on l (count_of m) (if b then without_latch l a.held else changed_on l (one_fewer X) a.held) + cond (same_mode m X) 1 0 ≡ on l (count_of m) a.held) (claims l a) 1
       (λ one. gone m X (only_x has one)) (λ _. fewer m X has)
 
   -- .. and on all

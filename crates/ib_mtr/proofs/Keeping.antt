@@ -12,7 +12,7 @@ use Rattle.ib_core.specs.declared.session.Session.{Session}
 use Rattle.ib_core.specs.Good.{IsProper}
 use Rattle.ib_core.specs.Sessions.{holdings}
 use Rattle.ib_page.specs.Work.{WorkPage}
-use Rattle.ib_rule.specs.declared.memory.Memory.{Memory}
+use Rattle.ib_rule.specs.declared.memory.Knowledge.{Knowledge}
 use Rattle.ib_rule.specs.declared.view.View.{View}
 use Rattle.ib_rule.specs.declared.pass.TheConstants.{MOST_HELD}
 use Rattle.ib_rule.specs.Conditions.{MayGrow}
@@ -49,14 +49,14 @@ with_pages space p pages mtr held read = record {
 -- a try that took nothing
 pub refused : (space : SpaceState) (p q : PassState) (more : ℕ) → IsMtr space p → q ≡ with_view p q.view → IsUnchanged more p.view q.view → IsMtr space q
 refused space p q more mtr same unchanged = subst (IsMtr space) (sym same) (record {
-  own = own_with space p q.view p.work p.memo mtr.own (ap (λ (m : Memory). m.append) unchanged.memory ∙ mtr.own.closed);
+  own = own_with space p q.view p.work p.memo mtr.own (ap (λ (m : Knowledge). m.append) unchanged.memory ∙ mtr.own.closed);
   works = mtr.works;
   free = ap (λ (a : Session). a.phase) unchanged.session ∙ mtr.free;
   proper = subst IsProper (sym unchanged.session) mtr.proper;
   exact = subst (HasExactly p.memo) (sym unchanged.session) mtr.exact;
   known = mtr.known;
   held = subst (λ (a : Session). All (λ w. 0 < holdings (w.page + 2) a) p.work) (sym unchanged.session) mtr.held;
-  read = subst (λ (m : Memory). All (λ w. IsLoadedImage m.loaded w.page w.before) p.work) (sym unchanged.memory) mtr.read;
+  read = subst (λ (m : Knowledge). All (λ w. IsLoadedImage m.loaded w.page w.before) p.work) (sym unchanged.memory) mtr.read;
 })
 
 -- the memo has room for one grant more, where the session may take one
@@ -72,7 +72,7 @@ pub granted : (space : SpaceState) (p q r : PassState) (mode : Mode) (latch : La
 granted space p q r mode latch v mtr low same taken proper more =
     let now : q.view.session.held ≡ held_with mode latch.0 v p.view.session = ap (λ (a : Session). a.held) taken.session in
     let after : IsMtr space (with_memo (p.memo ++ (latch, mode) ∷ []) (with_view p q.view)) = record {
-      own = own_with space p q.view p.work (p.memo ++ (latch, mode) ∷ []) mtr.own (ap (λ (m : Memory). m.append) taken.memory ∙ mtr.own.closed);
+      own = own_with space p q.view p.work (p.memo ++ (latch, mode) ∷ []) mtr.own (ap (λ (m : Knowledge). m.append) taken.memory ∙ mtr.own.closed);
       works = mtr.works;
       free = ap (λ (a : Session). a.phase) taken.session;
       proper = proper;
@@ -80,7 +80,7 @@ granted space p q r mode latch v mtr low same taken proper more =
       known = All-push (λ g. g.0.0 < latches_of space.sizes) p.memo (latch, mode) mtr.known low;
       held = All-weaker (λ w. 0 < holdings (w.page + 2) p.view.session) (λ w. 0 < holdings (w.page + 2) q.view.session)
           (λ w has. let same = ap (on (w.page + 2) (λ h. 1)) now in let s = still_held mode latch.0 (w.page + 2) v p.view.session has in omega arith) p.work mtr.held;
-      read = subst (λ (m : Memory). All (λ w. IsLoadedImage m.loaded w.page w.before) p.work) (sym taken.memory) mtr.read;
+      read = subst (λ (m : Knowledge). All (λ w. IsLoadedImage m.loaded w.page w.before) p.work) (sym taken.memory) mtr.read;
     } in subst (IsMtr space) (sym (more ∙ ap (λ (q : PassState). with_memo (q.memo ++ (latch, mode) ∷ []) q) same)) after
 
 -- the pages of a latch that was given back are as they were

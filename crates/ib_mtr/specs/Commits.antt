@@ -54,29 +54,29 @@ abbrev pub commit_grants : PassState → Grants
 commit_grants p = with_grant (Some X) p.view.grants
 
 -- it committed at this place: its entry stands last, behind all that was seen and the harmless entries of others, where the longest entry had room; and each page of the work set is in the memory after it as it was changed
-pub record HasCommitted (key : Sizes) (lawful : List Entry → Type 0) (opening : ℕ → ℕ) (change : Change) (p : PassState) (answer : ℕ) (q : PassState) : Type 0 where
+pub record HasCommitted (sizes : Sizes) (lawful : List Entry → Type 0) (opening : ℕ → ℕ) (change : Change) (p : PassState) (answer : ℕ) (q : PassState) : Type 0 where
   pub log : List Entry
-  pub looked : IsLook key lawful p.view log
+  pub looked : IsLook sizes lawful p.view log
   pub place : answer ≡ length log
   pub ended : HasEnded p (commit_grants p) (log ++ commit_entry p change ∷ []) (p.view.memory.own ++ commit_entry p change ∷ []) (one_end_more p answer) q
   pub legal : lawful (log ++ commit_entry p change ∷ [])
   pub mine : entries_of p.number (log ++ commit_entry p change ∷ []) ≡ p.view.memory.own ++ commit_entry p change ∷ []
-  pub room : used (log ++ commit_entry p change ∷ []) ≤ key.log_words
-  pub wide : used log + ENTRY_WORDS ≤ key.log_words
+  pub room : used (log ++ commit_entry p change ∷ []) ≤ sizes.log_words
+  pub wide : used log + ENTRY_WORDS ≤ sizes.log_words
   pub pages : All (λ w. IsPageAfter opening (log ++ commit_entry p change ∷ []) w.page w.changed) p.work
 
 -- the log, all of which was seen, had no room for the longest entry
-pub record IsFull (key : Sizes) (lawful : List Entry → Type 0) (p : PassState) (full : LogFull) (q : PassState) : Type 0 where
+pub record IsFull (sizes : Sizes) (lawful : List Entry → Type 0) (p : PassState) (full : LogFull) (q : PassState) : Type 0 where
   pub log : List Entry
-  pub looked : IsLook key lawful p.view log
+  pub looked : IsLook sizes lawful p.view log
   pub words : full.used ≡ used log
-  pub cap : full.cap ≡ key.log_words
-  pub short : key.log_words < used log + ENTRY_WORDS
+  pub cap : full.cap ≡ sizes.log_words
+  pub short : sizes.log_words < used log + ENTRY_WORDS
   pub ended : HasEnded p (commit_grants p) log p.view.memory.own (one_end_more p (length log)) q
 
 -- it ended without a change, having looked at the log's end once more
-pub record HasRead (key : Sizes) (lawful : List Entry → Type 0) (p : PassState) (answer : ℕ) (q : PassState) : Type 0 where
+pub record HasRead (sizes : Sizes) (lawful : List Entry → Type 0) (p : PassState) (answer : ℕ) (q : PassState) : Type 0 where
   pub log : List Entry
-  pub looked : IsLook key lawful p.view log
+  pub looked : IsLook sizes lawful p.view log
   pub place : answer ≡ length log
   pub ended : HasEnded p p.view.grants log p.view.memory.own (one_end_more p answer) q

@@ -17,16 +17,16 @@ abbrev pub IsPageAfter : (ℕ → ℕ) → List Entry → ℕ → List ℕ → T
 IsPageAfter opening log page image = (index : ℕ) → index < PAGE_WORDS → slice_index image index ≡ memory_after opening log (word_place page index)
 
 -- the log's end was looked at, and nothing else is changed: the entries first seen are harmless, and what was loaded is right still
-pub record HasLooked (key : Sizes) (lawful : List Entry → Type 0) (opening : ℕ → ℕ) (p q : PassState) : Type 0 where
-  pub looked : IsLook key lawful p.view q.view.memory.seen
+pub record HasLooked (sizes : Sizes) (lawful : List Entry → Type 0) (opening : ℕ → ℕ) (p q : PassState) : Type 0 where
+  pub looked : IsLook sizes lawful p.view q.view.memory.seen
   pub right : AreRight opening q.view
   pub pass : q ≡ with_view p (reaching q.view.memory.seen p.view)
 
 -- a page was loaded: it stands in the work set as it is after all entries seen, among them those first seen by the load, which are harmless
-pub record HasLoadedPage (key : Sizes) (lawful : List Entry → Type 0) (opening : ℕ → ℕ) (page : ℕ) (p q : PassState) : Type 0 where
+pub record HasLoadedPage (sizes : Sizes) (lawful : List Entry → Type 0) (opening : ℕ → ℕ) (page : ℕ) (p q : PassState) : Type 0 where
   pub image : List ℕ
   pub size : length image ≡ PAGE_WORDS
   pub is_page : IsPageAfter opening q.view.memory.seen page image
-  pub looked : IsLook key lawful p.view q.view.memory.seen
+  pub looked : IsLook sizes lawful p.view q.view.memory.seen
   pub right : AreRight opening q.view
   pub pass : q ≡ with_work (with_read page image p.work) (with_view p (reaching q.view.memory.seen (with_page_loaded page image p.view)))

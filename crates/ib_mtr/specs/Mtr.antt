@@ -5,7 +5,7 @@ use Rattle.ib_levels.specs.declared.latch.Latch.{Latch}
 use Rattle.ib_levels.specs.declared.level.Mode.{Mode}
 use Rattle.ib_levels.specs.declared.level.Mode.TheVariants.{S, Sx, X}
 use Rattle.ib_levels.specs.declared.holding.Holding.{Holding}
-use Rattle.ib_levels.specs.Holding.{without}
+use Rattle.ib_levels.specs.Holding.{without_latch}
 use Rattle.ib_layout.specs.Places.{latches_of}
 use Rattle.ib_core.specs.declared.phase.Phase.TheVariants.{Free}
 use Rattle.ib_core.specs.declared.session.Session.{Session}
@@ -52,7 +52,7 @@ pages_left l a pages = filter (λ w. not (w.page + 2 == l) || nat_lt 0 (holdings
 
 -- what is held after a grant of the mode on the latch was given back
 abbrev pub held_after : Mode → ℕ → Session → List Holding
-held_after S l a = without l a.held
+held_after S l a = without_latch l a.held
 held_after Sx l a = given_back Sx l a
 held_after X l a = given_back X l a
 

@@ -145,7 +145,7 @@ fn leave(pass: &mut Pass, latch: Latch)
     requires unchanged { IsUnchangedOn latch.0 pass.old.work }
     ensures { pass.new ≡ with_work (pages_left latch.0 pass.old.view.session pass.old.work) pass.old }
 {
-    if latch.0 >= 2 && pass.holds(latch).is_none() {
+    if latch.0 >= 2 && pass.mode_held(latch).is_none() {
         let page = latch.0 - 2;
         take_out(pass.work_mut(), page);
     }

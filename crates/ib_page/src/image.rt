@@ -13,7 +13,7 @@ ghost use Rattle.ib_heap.specs.Put.{put_in};
 ghost use Rattle.ib_heap.specs.Take.{remove_in};
 ghost use Rattle.ib_heap.specs.Filled.{filled, empty_heap};
 ghost use Rattle.ib_heap.specs.Form.{page_of, empty_leaf_words};
-ghost use Rattle.ib_heap.specs.Image.{IsTreePage, IsFormed, level_of, prev_of, next_of, clock_of, records_of, with_records, with_links, with_level, with_clock};
+ghost use Rattle.ib_heap.specs.Image.{IsTreePage, IsFormed, level_of, prev_of, next_of, clock_of, records_of, value_with_records, with_links, with_level, value_with_clock};
 ghost use Rattle.ib_page.specs.Kind.{kind_of};
 ghost use Rattle.ib_page.specs.Writes.{writes_below};
 
@@ -295,7 +295,7 @@ impl Image {
     /// exactly where there are `MOST_RECORDS` records (`page_cur_insert_rec_low`).
     pub fn insert(&mut self, key: Key, value: u64) -> Result<(), PageFault>
         requires { IsTreePage self.old }
-        ensures inserted { OnOk result (page_of self.new ≡ with_records (put key value (records_of self.old)) (page_of self.old)) }
+        ensures inserted { OnOk result (page_of self.new ≡ value_with_records (put key value (records_of self.old)) (page_of self.old)) }
         ensures tree { IsTreePage self.new }
         ensures duplicate { (result ≡ Err PageFault.Duplicate) ↔ IsSome (value_at key (records_of self.old)) }
         ensures full { (result ≡ Err PageFault.PageFull) ↔ (IsNone (value_at key (records_of self.old)) × (length (records_of self.old) ≡ MOST_RECORDS)) }
@@ -311,7 +311,7 @@ impl Image {
     pub fn remove(&mut self, key: Key) -> Result<u64, PageFault>
         requires { IsTreePage self.old }
         ensures value { IfOk result (λ value. value_at key (records_of self.old) ≡ Some value) }
-        ensures removed { OnOk result (page_of self.new ≡ with_records (without key (records_of self.old)) (page_of self.old)) }
+        ensures removed { OnOk result (page_of self.new ≡ value_with_records (without key (records_of self.old)) (page_of self.old)) }
         ensures tree { IsTreePage self.new }
         ensures missing { (result ≡ Err PageFault.Missing) ↔ IsNone (value_at key (records_of self.old)) }
         ensures only_missing { IfErr result (λ fault. fault ≡ PageFault.Missing) }
@@ -327,8 +327,8 @@ impl Image {
         requires right_tree { IsTreePage right.old }
         requires empty { records_of right.old ≡ [] }
         requires in_range { at ≤ length (records_of self.old) }
-        ensures left { page_of self.new ≡ with_records (take at (records_of self.old)) (page_of self.old) }
-        ensures right { page_of right.new ≡ with_records (drop at (records_of self.old)) (page_of right.old) }
+        ensures left { page_of self.new ≡ value_with_records (take at (records_of self.old)) (page_of self.old) }
+        ensures right { page_of right.new ≡ value_with_records (drop at (records_of self.old)) (page_of right.old) }
         ensures left_heap { read_heap self.new ≡ filled at }
         ensures right_heap { read_heap right.new ≡ filled (length (records_of self.old) - at) }
     {
@@ -342,7 +342,7 @@ impl Image {
         requires right_tree { IsTreePage right.now }
         requires few { length (records_of self.old) + length (records_of right.now) ≤ MOST_RECORDS }
         requires ascends { Rises 0 (records_of self.old ++ records_of right.now) end_rank }
-        ensures page { page_of self.new ≡ with_records (records_of self.old ++ records_of right.now) (page_of self.old) }
+        ensures page { page_of self.new ≡ value_with_records (records_of self.old ++ records_of right.now) (page_of self.old) }
         ensures heap { read_heap self.new ≡ filled (length (records_of self.old) + length (records_of right.now)) }
     {
         ib_heap::append(&mut self.words, &right.words);
@@ -385,7 +385,7 @@ impl Image {
     pub fn touch(&mut self)
         requires formed { IsFormed self.old }
         requires room { clock_of self.old < 2 ^ 63 }
-        ensures page { page_of self.new ≡ with_clock (clock_of self.old + 1) (page_of self.old) }
+        ensures page { page_of self.new ≡ value_with_clock (clock_of self.old + 1) (page_of self.old) }
         ensures heap { read_heap self.new ≡ read_heap self.old }
     {
         let clock = ib_heap::clock(&self.words);

@@ -4,7 +4,7 @@ use Rattle.std.specs.List.{AllByRecursion, Any}
 use Rattle.std.proofs.lemmas.Bool.{cases_eq, eq-eqb}
 use Rattle.ib_map.specs.Pairs.{Pairs}
 use Rattle.ib_walk.specs.Pages.{PageMemory}
-use Rattle.ib_walk.specs.Walk.{Visit, is_visit}
+use Rattle.ib_walk.specs.Walk.{Visit, counts_visit}
 use Rattle.ib_patch.specs.Patch.{LevelVisit, over}
 use Rattle.ib_patch.specs.PatchTest.{Position, Positions, visit_of, visit_in, fresh_of}
 use Rattle.ib_patch.specs.Contents.{HasItsContent, HasSlice, IsLeafOf, HasLeafOf}
@@ -45,11 +45,11 @@ module _ (new : PageMemory) (target : Pairs) where
   content-fresh (p ∷ ps) t h (suc k) d lt = content-fresh ps t (has-parts p (t p) (fresh_of ps t 1) h).1 k d (omega arith)
 
 -- a visit counts once for itself, and for no other
-is_visit-same : (h k : ℕ) (v : Visit) → k ≡ h → is_visit h v k v ≡ 1
-is_visit-same h k v e = rw (eq-eqb k h e, eq-eqb v.page v.page refl, eq-eqb v.low v.low refl, eq-eqb v.high v.high refl) refl
+counts_visit-same : (h k : ℕ) (v : Visit) → k ≡ h → counts_visit h v k v ≡ 1
+counts_visit-same h k v e = rw (eq-eqb k h e, eq-eqb v.page v.page refl, eq-eqb v.low v.low refl, eq-eqb v.high v.high refl) refl
 
-is_visit-only : (h k : ℕ) (v u : Visit) → 0 < is_visit h v k u → (k ≡ h) × (u.low ≡ v.low) × (u.high ≡ v.high)
-is_visit-only h k v u some = elim (cases_eq k h) [
+counts_visit-only : (h k : ℕ) (v u : Visit) → 0 < counts_visit h v k u → (k ≡ h) × (u.low ≡ v.low) × (u.high ≡ v.high)
+counts_visit-only h k v u some = elim (cases_eq k h) [
   | inr ne ↦ absurd (let z = cond-ne {X = ℕ} k h (cond (eqb u.page v.page) (cond (eqb u.low v.low) (cond (eqb u.high v.high) 1 0) 0) 0) 0 ne in omega arith)
   | inl e ↦
       let a = cond-eq {X = ℕ} k h (cond (eqb u.page v.page) (cond (eqb u.low v.low) (cond (eqb u.high v.high) 1 0) 0) 0) 0 e in
@@ -73,15 +73,15 @@ module _ (key : ℕ) where
   leaf-here : (p : ℕ) (o : Option Position) (rest : List LevelVisit) → IsLeafOf key o → HasLeafOf key (visit_in 1 p o ++ rest)
   leaf-here p None rest h = absurd h
   leaf-here p (Some e) rest h =
-      let one = is_visit-same 0 e.height (visit_of p e) h.1 in
-      let there : 0 < over (is_visit 0 (visit_of p e)) (level_visit p e ∷ rest) = omega arith in
-      (visit_of p e, subst (λ xs. 0 < over (is_visit 0 (visit_of p e)) (xs ++ rest)) (sym (visit_in-here p e h.0)) there, h.2, h.3)
+      let one = counts_visit-same 0 e.height (visit_of p e) h.1 in
+      let there : 0 < over (counts_visit 0 (visit_of p e)) (level_visit p e ∷ rest) = omega arith in
+      (visit_of p e, subst (λ xs. 0 < over (counts_visit 0 (visit_of p e)) (xs ++ rest)) (sym (visit_in-here p e h.0)) there, h.2, h.3)
 
   leaf-later : (p : ℕ) (o : Option Position) (rest : List LevelVisit) → HasLeafOf key rest → HasLeafOf key (visit_in 1 p o ++ rest)
   leaf-later p None rest h = h
   leaf-later p (Some e) rest h = elim (cases_eq e.tree 1) [
-    | inl t ↦ let more : 0 < over (is_visit 0 h.0) (level_visit p e ∷ rest) = let x = h.1 in omega arith in
-        (h.0, subst (λ xs. 0 < over (is_visit 0 h.0) (xs ++ rest)) (sym (visit_in-here p e t)) more, h.2, h.3)
+    | inl t ↦ let more : 0 < over (counts_visit 0 h.0) (level_visit p e ∷ rest) = let x = h.1 in omega arith in
+        (h.0, subst (λ xs. 0 < over (counts_visit 0 h.0) (xs ++ rest)) (sym (visit_in-here p e t)) more, h.2, h.3)
     | inr ne ↦ subst (λ xs. HasLeafOf key (xs ++ rest)) (sym (visit_in-other p e ne)) h
   ]
 
@@ -93,9 +93,9 @@ module _ (key : ℕ) where
   ]
     where
       split : e.tree ≡ 1 → HasLeafOf key (level_visit p e ∷ rest) → IsLeafOf key (Some e) ⊎ HasLeafOf key rest
-      split t w = elim (cases_eq (is_visit 0 w.0 e.height (visit_of p e)) 0) [
+      split t w = elim (cases_eq (counts_visit 0 w.0 e.height (visit_of p e)) 0) [
         | inl z ↦ inr (w.0, let x = w.1 in omega arith, w.2, w.3)
-        | inr nz ↦ inl (let only = is_visit-only 0 e.height w.0 (visit_of p e) (omega (arith, nz)) in
+        | inr nz ↦ inl (let only = counts_visit-only 0 e.height w.0 (visit_of p e) (omega (arith, nz)) in
             let low = only.1 in let high = only.2 in let above = w.2 in let below = w.3 in (t, only.0, omega arith, omega arith))
       ]
 

@@ -5,7 +5,7 @@ use Rattle.std.proofs.Math.Seq.{take-append_seam}
 use Rattle.std.proofs.lemmas.Bool.{cases_eq, cases_lt, cases_Bool, cond-true, cond-false}
 use Rattle.ib_map.specs.declared.TheConstants.{LEAST_PAGES, MOST_PAGES}
 use Rattle.ib_page.specs.Memory.{image_at}
-use Rattle.ib_walk.specs.Walk.{Visit, is_page}
+use Rattle.ib_walk.specs.Walk.{Visit, counts_page}
 use Rattle.ib_patch.specs.Patch.{on_written}
 use Rattle.ib_patch.specs.PatchTest.{Position, Positions, visit_of, at_page, positions_over, list_over, IsListed}
 use Rattle.ib_patch.specs.Positions.{marks_of}
@@ -105,16 +105,16 @@ pub listed-room : (w : ℕ → Bool) (ps : List ℕ) (n p : ℕ) → IsListed w 
 listed-room w ps n p h e lt =
     let a = h.all (λ h v. 1) 1 met in let b = list_over-length ps in let c = marked-fewer w p n e lt in omega arith
 
-list_over-other : (p : ℕ) (ps : List ℕ) → All (λ q. q ≢ p) ps → list_over (is_page p) 1 ps met ≡ 0
+list_over-other : (p : ℕ) (ps : List ℕ) → All (λ q. q ≢ p) ps → list_over (counts_page p) 1 ps met ≡ 0
 list_over-other p [] h = refl
 list_over-other p (q ∷ ps) h =
     let r = list_over-other p ps (λ k d lt. h (suc k) d (omega arith)) in let a = cond-ne {X = ℕ} q p 1 0 (h 0 q (omega arith)) in omega arith
 
-marked-counts : (w : ℕ → Bool) (p k : ℕ) → w p ≡ true → p < k → 0 < positions_over (on_written w (is_page p)) 1 met k
+marked-counts : (w : ℕ → Bool) (p k : ℕ) → w p ≡ true → p < k → 0 < positions_over (on_written w (counts_page p)) 1 met k
 marked-counts w p zero e lt = absurd (omega arith)
 marked-counts w p (suc k) e lt = elim (cases_eq k p) [
   | inl s ↦
-      let a = ap (λ (q : ℕ). at_page (on_written w (is_page p)) 1 q (met q)) s ∙ at_page-marked w (is_page p) 1 p (met p) e in
+      let a = ap (λ (q : ℕ). at_page (on_written w (counts_page p)) 1 q (met q)) s ∙ at_page-marked w (counts_page p) 1 p (met p) e in
       let b = cond-eq {X = ℕ} p p 1 0 refl in omega arith
   | inr ne ↦ let r = marked-counts w p k e (omega (arith, ne)) in omega arith
 ]
@@ -123,7 +123,7 @@ marked-counts w p (suc k) e lt = elim (cases_eq k p) [
 listed-else : (w : ℕ → Bool) (ps : List ℕ) (n p : ℕ) → IsListed w ps n → p < n → All (λ q. q ≢ p) ps → w p ≡ false
 listed-else w ps n p h lt other = elim (cases_Bool (w p)) [
   | inr e ↦ e
-  | inl e ↦ absurd (let a = h.all (is_page p) 1 met in let b = list_over-other p ps other in let c = marked-counts w p n e lt in omega arith)
+  | inl e ↦ absurd (let a = h.all (counts_page p) 1 met in let b = list_over-other p ps other in let c = marked-counts w p n e lt in omega arith)
 ]
 
 -- what holds of the listed pages holds of each written page

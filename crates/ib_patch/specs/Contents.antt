@@ -3,7 +3,7 @@ use Rattle.std.specs.Prelude.{◌≡◌, ℕ, ◌<◌, ◌≤◌, nat_lt, List, 
 use Rattle.ib_map.specs.Keys.{rank}
 use Rattle.ib_map.specs.Pairs.{Pairs}
 use Rattle.ib_walk.specs.Pages.{PageMemory}
-use Rattle.ib_walk.specs.Walk.{Visit, is_visit}
+use Rattle.ib_walk.specs.Walk.{Visit, counts_visit}
 use Rattle.ib_patch.specs.Patch.{LevelVisit, over, slice}
 use Rattle.ib_patch.specs.PatchTest.{Position}
 
@@ -27,4 +27,4 @@ HasSlice new target s = s.height ≡ 0 → (new s.visit.page).records ≡ slice 
 
 -- one of the new visits is a leaf's, with this key in its range
 abbrev pub HasLeafOf : ℕ → List LevelVisit → Type 0
-HasLeafOf key fresh = (v : Visit) × (0 < over (is_visit 0 v) fresh) × (v.low ≤ key) × (key < v.high)
+HasLeafOf key fresh = (v : Visit) × (0 < over (counts_visit 0 v) fresh) × (v.low ≤ key) × (key < v.high)

@@ -5,7 +5,7 @@ use Rattle.ib_map.specs.Pairs.{Pairs}
 use Rattle.ib_heap.specs.declared.TheConstants.{MOST_LEVEL, MOST_RECORDS}
 use Rattle.ib_page.specs.declared.space.TheConstants.{MAPPED_PAGES}
 use Rattle.ib_walk.specs.Pages.{Free, PageMemory, IsSound}
-use Rattle.ib_walk.specs.Walk.{Visit, children_of, children, sum_of, is_page, IsNodeAt, IsLeafAt, is_visit}
+use Rattle.ib_walk.specs.Walk.{Visit, children_of, children, sum_of, counts_page, IsNodeAt, IsLeafAt, counts_visit}
 use Rattle.std.specs.List.{AllByRecursion}
 use Rattle.ib_walk.specs.Trees.{height_of, top_of, weight_of, most_height}
 
@@ -61,7 +61,7 @@ IsGoodAt m (suc h) v = IsNodeAt m (suc h) v
 
 -- a leaf of the tree after the patch: a new visit, or an old one of a page that isn't written
 abbrev pub IsLeafIn : (ℕ → Bool) → PageMemory → ℕ → List LevelVisit → Visit → Type 0
-IsLeafIn written m root fresh w = 0 < over (is_visit 0 w) fresh + weight_of (off_written written (is_visit 0 w)) m root
+IsLeafIn written m root fresh w = 0 < over (counts_visit 0 w) fresh + weight_of (off_written written (counts_visit 0 w)) m root
 
 -- a leaf is linked with the leaves whose ranges touch its own
 pub record IsLinkedAt (IsLeaf : Visit → Type 0) (new : PageMemory) (v : Visit) : Type 0 where
@@ -84,7 +84,7 @@ pub record IsPatch (written : ℕ → Bool) (m new : PageMemory) (root : ℕ) (f
 
 abbrev pub times_in : (ℕ → List LevelVisit) → ℕ → ℕ → ℕ
 times_in fresh zero n = 0
-times_in fresh (suc roots) n = over (is_page n) (fresh (suc roots)) + times_in fresh roots n
+times_in fresh (suc roots) n = over (counts_page n) (fresh (suc roots)) + times_in fresh roots n
 
 -- what is asked of a patch
 pub record IsPatched (written : ℕ → Bool) (m new : PageMemory) (bits after : ℕ → ℕ) (roots : ℕ) (fresh : ℕ → List LevelVisit) : Type 0 where
@@ -104,4 +104,4 @@ slice (x ∷ xs) low high = if nat_le low (rank x.0) && nat_lt (rank x.0) high t
 -- each written leaf has what the target has in its range, and the key's leaf is written
 pub record IsSliced (new : PageMemory) (fresh : List LevelVisit) (target : Pairs) (key : MapKey) : Type 0 where
   pub each : AllByRecursion (λ s. s.height ≡ 0 → (new s.visit.page).records ≡ slice target s.visit.low s.visit.high) fresh
-  pub there : (v : Visit) × (0 < over (is_visit 0 v) fresh) × (v.low ≤ rank key) × (rank key < v.high)
+  pub there : (v : Visit) × (0 < over (counts_visit 0 v) fresh) × (v.low ≤ rank key) × (rank key < v.high)

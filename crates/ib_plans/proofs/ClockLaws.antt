@@ -4,7 +4,7 @@ use Rattle.ib_map.specs.Keys.{end_rank}
 use Rattle.ib_map.specs.Pairs.{Rises}
 use Rattle.ib_walk.specs.Pages.{PageMemory}
 use Rattle.ib_walk.specs.Trees.{IsLawfulUpTo, IsTreeOf, content_of, height_of, leaves_of, top_of, weight_of}
-use Rattle.ib_walk.specs.Walk.{AreLinked, Visit, below, is_page, records_in, weight}
+use Rattle.ib_walk.specs.Walk.{AreLinked, Visit, below, counts_page, records_along, weight_along}
 use Rattle.ib_walk.proofs.MeetLaws.{AllByRecursion-met, AreLinked-same, HasLinks, IsSameTree-met}
 use Rattle.ib_walk.proofs.TreeLaws.{weight_all-same}
 use Rattle.ib_walk.proofs.WalkLaws.{IsAlike, IsSameTree}
@@ -17,10 +17,10 @@ module _ (most : ℕ → ℕ) (m new : PageMemory) (bits : ℕ → ℕ) (roots :
   same r s l = IsSameTree-met m new (height_of m r) (top_of r) (λ n h. alike n) (law.trees r s l).0.tree
 
   pub weight_of-clocks : (f : ℕ → Visit → ℕ) (r : ℕ) → 0 < r → r ≤ roots → weight_of f new r ≡ weight_of f m r
-  weight_of-clocks f r s l = ap (λ h. weight f new h (top_of r)) (alike r).level ∙ (same r s l).weighs f
+  weight_of-clocks f r s l = ap (λ h. weight_along f new h (top_of r)) (alike r).level ∙ (same r s l).weighs f
 
   pub content_of-clocks : (r : ℕ) → 0 < r → r ≤ roots → content_of new r ≡ content_of m r
-  content_of-clocks r s l = ap (λ h. records_in new (below new h (top_of r))) (alike r).level ∙ (same r s l).holds
+  content_of-clocks r s l = ap (λ h. records_along new (below new h (top_of r))) (alike r).level ∙ (same r s l).holds
 
   pub IsLawful-clocks : IsLawfulUpTo most new bits roots
   IsLawful-clocks = record {
@@ -41,7 +41,7 @@ module _ (most : ℕ → ℕ) (m new : PageMemory) (bits : ℕ → ℕ) (roots :
       }),
       let e = (alike r).level in let b = (law.trees r s l).1 in omega arith,
     );
-    met = λ n. let e = law.met n in let s = weight_all-same (is_page n) m new roots (λ r a b. weight_of-clocks (is_page n) r a b) in omega arith;
+    met = λ n. let e = law.met n in let s = weight_all-same (counts_page n) m new roots (λ r a b. weight_of-clocks (counts_page n) r a b) in omega arith;
     bit = law.bit;
     few = law.few;
     unmet = λ n none. (alike n).kind ∙ law.unmet n none;

@@ -5,13 +5,13 @@ use Rattle.std.proofs.lemmas.Bool.Decides.{nat_tests}
 use Rattle.ib_map.specs.Keys.{MapKey, end_rank, rank}
 use Rattle.ib_map.specs.Pairs.{Pairs, without}
 use Rattle.ib_heap.specs.declared.TheConstants.{MOST_RECORDS}
-use Rattle.ib_walk.specs.Pages.{Free, IsSound, PageMemory, PageState, Tree}
+use Rattle.ib_walk.specs.Pages.{Free, IsSound, PageMemory, PageState}
 use Rattle.ib_walk.specs.Trees.{IsLawful, IsTreeOf, content_of, height_of, top_of, weight_of}
 use Rattle.ib_walk.specs.Walk.{IsTree, Visit, children}
 use Rattle.ib_walk.proofs.ChoiceLaws.{cond-eq, cond-ne}
 use Rattle.ib_plans.specs.Delete.{Shrinkage, delete_below, lift_single, lifted, planned_delete}
 use Rattle.ib_plans.specs.Marks.{mark, with_bit}
-use Rattle.ib_plans.specs.Merge.{first_child, freed_page, lift_page}
+use Rattle.ib_plans.specs.Merge.{first_child, freed_page, lift_page, lowered}
 use Rattle.ib_plans.proofs.DeleteLaws.{IsDeletedBelow, IsDeletedBelow-path}
 use Rattle.ib_plans.proofs.LevelLaws.{level-visit}
 use Rattle.ib_plans.proofs.LiftLaws.{IsLawful-lift, IsLifted, child-some, content_of-lift, weight_of-lift_away}
@@ -50,7 +50,7 @@ module _ (m : PageMemory) (roots : ℕ) (key : MapKey) (root : ℕ) (some : 0 < 
     apart e = let a = ap (λ q. (s.memory q).level) e in let b = was.level in omega (arith, child-level)
 
     abbrev the-root : PageState
-    the-root = record { kind = Tree; level = (s.memory x.1).level; prev = 0; next = 0; clock = (s.memory root).clock; records = (s.memory x.1).records }
+    the-root = lowered (s.memory root) (s.memory x.1)
 
     child-now : now x.1 ≡ freed_page (s.memory x.1)
     child-now = cond-eq x.1 x.1 (freed_page (s.memory x.1)) _ refl

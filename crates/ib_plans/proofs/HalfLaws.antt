@@ -5,8 +5,8 @@ use Rattle.ib_map.specs.Keys.{MapKey, rank}
 use Rattle.ib_map.specs.Pairs.{Pairs, Rises, first_rank}
 use Rattle.ib_map.proofs.RiseLaws.{Rises-left, Rises-right}
 use Rattle.ib_walk.specs.Pages.{PageMemory, Tree}
-use Rattle.ib_walk.specs.Walk.{IsLeafAt, IsNodeAt, IsTree, Visit, below, children, records_in, sum_of, weight}
-use Rattle.ib_walk.proofs.WalkLaws.{AllByRecursion-append, AllByRecursion-left, AllByRecursion-right, AreAlike, IsAlike, IsSameTree-below, children-append, children-same, children_of-append, leaves-same, nodes-same, records_in-append, records_in-same, sum_of-append}
+use Rattle.ib_walk.specs.Walk.{IsLeafAt, IsNodeAt, IsTree, Visit, below, children, records_along, sum_of, weight_along}
+use Rattle.ib_walk.proofs.WalkLaws.{AllByRecursion-append, AllByRecursion-left, AllByRecursion-right, AreAlike, IsAlike, IsSameTree-below, children-append, children-same, children_of-append, leaves-same, nodes-same, records_along-append, records_along-same, sum_of-append}
 use Rattle.ib_plans.proofs.LevelLaws.{AllByRecursion-both, IsTree-children}
 use Rattle.ib_plans.proofs.RecordLaws.{first_rank-left}
 
@@ -33,8 +33,8 @@ pub record IsHalved (m new : PageMemory) (height child home fresh : ℕ) : Type 
 -- a level in which one visit has become two
 pub record IsHalvedRow (m new : PageMemory) (height : ℕ) (row : List Visit) (old left right : Visit) (changed : List Visit) : Type 0 where
   pub tree : IsTree new height changed
-  pub holds : records_in new (below new height changed) ≡ records_in m (below m height row)
-  pub weighs : (f : ℕ → Visit → ℕ) → weight f new height changed + f height old ≡ weight f m height row + f height left + f height right
+  pub holds : records_along new (below new height changed) ≡ records_along m (below m height row)
+  pub weighs : (f : ℕ → Visit → ℕ) → weight_along f new height changed + f height old ≡ weight_along f m height row + f height left + f height right
   pub lowest : 0 < height → below new height changed ≡ below m height row
 
 module _ (m new : PageMemory) (height child home fresh : ℕ) (half : IsHalved m new height child home fresh) where
@@ -89,13 +89,13 @@ module _ (m new : PageMemory) (height child home fresh : ℕ) (half : IsHalved m
     abbrev right-visit : Visit
     right-visit = record { page = fresh; low = rank half.first.0; high = w.high }
 
-    row-records : AreAlike m new before → AreAlike m new behind → records_in new (before ++ left-visit ∷ right-visit ∷ behind) ≡ records_in m (before ++ w ∷ behind)
+    row-records : AreAlike m new before → AreAlike m new behind → records_along new (before ++ left-visit ∷ right-visit ∷ behind) ≡ records_along m (before ++ w ∷ behind)
     row-records a b =
-        let x = records_in-same m new before a in
-        let y = records_in-same m new behind b in
+        let x = records_along-same m new before a in
+        let y = records_along-same m new behind b in
         let e : (m w.page).records ≡ half.left ++ half.first ∷ half.rest = ap (λ q. (m q).records) here ∙ half.halves in
         let l = half.home_records in let r = half.fresh_records in
-        records_in-append new before (left-visit ∷ right-visit ∷ behind) ∙ (rw (x, y, l, r) (sym (records_in-append m before (w ∷ behind) ∙ rw e (simp append_assoc))))
+        records_along-append new before (left-visit ∷ right-visit ∷ behind) ∙ (rw (x, y, l, r) (sym (records_along-append m before (w ∷ behind) ∙ rw e (simp append_assoc))))
 
     row-children : AreAlike m new before → AreAlike m new behind → children new (before ++ left-visit ∷ right-visit ∷ behind) ≡ children m (before ++ w ∷ behind)
     row-children a b =
@@ -154,6 +154,6 @@ IsHalvedRow-halved m new (suc height) child home fresh half before w behind here
       };
       holds = rw k s.holds;
       weighs = λ f. let x = row-sum m new (suc height) child home fresh half before w behind here (f (suc height)) in
-          let y = ap (weight f new height) k in let z = s.weighs f in omega arith;
+          let y = ap (weight_along f new height) k in let z = s.weighs f in omega arith;
       lowest = λ z. rw k s.lowest;
     }

@@ -5,7 +5,7 @@ use Rattle.ib_map.specs.Pairs.{Pairs}
 use Rattle.ib_heap.specs.declared.TheConstants.{MOST_RECORDS}
 use Rattle.ib_walk.specs.Pages.{PageMemory}
 use Rattle.ib_walk.specs.Trees.{IsLawful, content_of, weight_of}
-use Rattle.ib_walk.specs.Walk.{Visit, is_visit}
+use Rattle.ib_walk.specs.Walk.{Visit, counts_visit}
 use Rattle.ib_walk.proofs.ChoiceLaws.{cond-both}
 use Rattle.ib_plans.specs.Leads.{LeadsTo}
 use Rattle.ib_plans.specs.Marks.{ticked}
@@ -13,7 +13,7 @@ use Rattle.ib_plans.proofs.ClockLaws.{IsLawful-clocks, content_of-clocks, ticked
 use Rattle.ib_plans.proofs.PageLaws.{IsAway}
 
 -- the weight of one visit is nothing on the touched pages, where its page is none of them
-pub IsAway-visit : (touched : ℕ → Bool) (h : ℕ) (v : Visit) → touched v.page ≡ false → IsAway touched (is_visit h v)
+pub IsAway-visit : (touched : ℕ → Bool) (h : ℕ) (v : Visit) → touched v.page ≡ false → IsAway touched (counts_visit h v)
 IsAway-visit touched h v off k u on =
     let ne : u.page ≢ v.page = λ e. (let x = ap touched e in cc) in
     let no : eqb u.page v.page ≡ false = ne_eqb u.page v.page ne in
@@ -34,6 +34,6 @@ LeadsTo-ticked m planned bits roots root touched content some le law holds other
       content_is = content_of-clocks (λ n. MOST_RECORDS) planned (ticked m touched planned) bits roots law alike links root some le ∙ holds;
       others = λ r a b ne. content_of-clocks (λ n. MOST_RECORDS) planned (ticked m touched planned) bits roots law alike links r a b ∙ others r a b ne;
       same = λ n off. ticked-untouched m touched planned n off ∙ rest n off;
-      ranges = λ r h v a b off. weight_of-clocks (λ n. MOST_RECORDS) planned (ticked m touched planned) bits roots law alike links (is_visit h v) r a b
-          ∙ ranges (is_visit h v) (IsAway-visit touched h v off) r a b;
+      ranges = λ r h v a b off. weight_of-clocks (λ n. MOST_RECORDS) planned (ticked m touched planned) bits roots law alike links (counts_visit h v) r a b
+          ∙ ranges (counts_visit h v) (IsAway-visit touched h v off) r a b;
     }

@@ -3,7 +3,7 @@ use Rattle.std.specs.List.{AllByRecursion}
 use Rattle.std.proofs.Common.{◌≡◌, ℕ, zero, suc, ◌+◌, ◌≤◌, List, [], ◌∷◌, ◌++◌, refl, ap, arith}
 use Rattle.ib_map.specs.Pairs.{Rises}
 use Rattle.ib_walk.specs.Pages.{Tree, PageMemory}
-use Rattle.ib_walk.specs.Walk.{Visit, children, below, sum_of, weight, IsNodeAt, IsLeafAt, IsTree}
+use Rattle.ib_walk.specs.Walk.{Visit, children, below, sum_of, weight_along, IsNodeAt, IsLeafAt, IsTree}
 use Rattle.ib_walk.specs.Trees.{top_of}
 use Rattle.ib_walk.proofs.SearchLaws.{above, AllByRecursion-at}
 
@@ -23,11 +23,11 @@ above-sum zero height = omega arith
 above-sum (suc depth) height = let r = above-sum depth height in omega arith
 
 -- a level weighs no more than it and all levels below it, and these no more than with the levels above them
-pub level-le_weight : (f : ℕ → Visit → ℕ) (m : PageMemory) (height : ℕ) (vs : List Visit) → sum_of (f height) vs ≤ weight f m height vs
+pub level-le_weight : (f : ℕ → Visit → ℕ) (m : PageMemory) (height : ℕ) (vs : List Visit) → sum_of (f height) vs ≤ weight_along f m height vs
 level-le_weight f m zero vs = omega arith
 level-le_weight f m (suc height) vs = omega arith
 
-pub below-le_weight : (f : ℕ → Visit → ℕ) (m : PageMemory) (depth height : ℕ) (vs : List Visit) → weight f m height (below m depth vs) ≤ weight f m (above depth height) vs
+pub below-le_weight : (f : ℕ → Visit → ℕ) (m : PageMemory) (depth height : ℕ) (vs : List Visit) → weight_along f m height (below m depth vs) ≤ weight_along f m (above depth height) vs
 below-le_weight f m zero height vs = omega arith
 below-le_weight f m (suc depth) height vs = let r = below-le_weight f m depth height (children m vs) in omega arith
 

@@ -6,9 +6,9 @@ use Rattle.ib_map.specs.Keys.{MapKey, end_rank, rank}
 use Rattle.ib_map.specs.Pairs.{Pairs, Rises, first_rank}
 use Rattle.ib_walk.specs.Pages.{Free, IsSound, PageMemory, PageState, Tree}
 use Rattle.ib_walk.specs.Trees.{IsLawfulUpTo, IsTreeOf, content_of, height_of, leaves_of, times_met, top_of, weight_of}
-use Rattle.ib_walk.specs.Walk.{AreLinked, AreNodes, IsLeafAt, IsTree, Visit, below, children, children_of, is_page, records_in, weight}
+use Rattle.ib_walk.specs.Walk.{AreLinked, AreNodes, IsLeafAt, IsTree, Visit, below, children, children_of, counts_page, records_along, weight_along}
 use Rattle.ib_walk.proofs.LeafLaws.{IsSound-wider}
-use Rattle.ib_walk.proofs.MeetLaws.{AllByRecursion-met, AreLinked-same, HasLinks, IsSameTree-met, is_page-other, is_page-own, lowest-le_weight}
+use Rattle.ib_walk.proofs.MeetLaws.{AllByRecursion-met, AreLinked-same, HasLinks, IsSameTree-met, counts_page-other, counts_page-own, lowest-le_weight}
 use Rattle.ib_walk.proofs.TreeLaws.{times_met-le, weight_of-le}
 use Rattle.ib_walk.proofs.WalkLaws.{IsAlike, IsAlike-same, IsSameTree, IsSameTree-below}
 use Rattle.ib_plans.proofs.LevelLaws.{level-le_weight, level-visit}
@@ -30,8 +30,8 @@ pub record IsLifted (m new : PageMemory) (root child height : ℕ) : Type 0 wher
 -- the tree of the root in place of that of the child
 pub record IsLiftedTree (m new : PageMemory) (height : ℕ) (w old : Visit) : Type 0 where
   pub tree : IsTree new height (w ∷ [])
-  pub holds : records_in new (below new height (w ∷ [])) ≡ records_in m (below m height (old ∷ []))
-  pub weighs : (f : ℕ → Visit → ℕ) → weight f new height (w ∷ []) + f height old ≡ weight f m height (old ∷ []) + f height w
+  pub holds : records_along new (below new height (w ∷ [])) ≡ records_along m (below m height (old ∷ []))
+  pub weighs : (f : ℕ → Visit → ℕ) → weight_along f new height (w ∷ []) + f height old ≡ weight_along f m height (old ∷ []) + f height w
   pub inner : 0 < height → below new height (w ∷ []) ≡ below m height (old ∷ [])
 
 -- the same records under another page, at one height
@@ -65,8 +65,8 @@ IsLiftedTree-row m new root child (suc height) high k l r at same t =
         );
         leaves = subst (λ us. AllByRecursion (IsLeafAt new) (below new height us)) (sym e) s.tree.leaves;
       };
-      holds = ap (λ us. records_in new (below new height us)) e ∙ s.holds;
-      weighs = λ f. let x = ap (weight f new height) e in let y = s.weighs f in omega arith;
+      holds = ap (λ us. records_along new (below new height us)) e ∙ s.holds;
+      weighs = λ f. let x = ap (weight_along f new height) e in let y = s.weighs f in omega arith;
       inner = λ z. ap (below new height) e ∙ s.lowest;
     }
 
@@ -95,11 +95,11 @@ module _ (most : ℕ → ℕ) (m new : PageMemory) (bits : ℕ → ℕ) (roots :
   at : (m child).level ≡ height
   at = level-visit m height [] child-visit [] row
 
-  weight-was : (f : ℕ → Visit → ℕ) → weight_of f m root ≡ f (suc height) root-visit + weight f m height (child-visit ∷ [])
-  weight-was f = let a = ap (λ h. weight f m h (top_of root)) lifted.level_was in let b = ap (weight f m height) was in omega arith
+  weight-was : (f : ℕ → Visit → ℕ) → weight_of f m root ≡ f (suc height) root-visit + weight_along f m height (child-visit ∷ [])
+  weight-was f = let a = ap (λ h. weight_along f m h (top_of root)) lifted.level_was in let b = ap (weight_along f m height) was in omega arith
 
-  child-met : 1 ≤ weight_of (is_page child) m root
-  child-met = let a = weight-was (is_page child) in let b = level-le_weight (is_page child) m height (child-visit ∷ []) in let c = is_page-own child 0 child-visit refl in omega arith
+  child-met : 1 ≤ weight_of (counts_page child) m root
+  child-met = let a = weight-was (counts_page child) in let b = level-le_weight (counts_page child) m height (child-visit ∷ []) in let c = counts_page-own child 0 child-visit refl in omega arith
 
   pub child-some : child ≢ 0
   child-some = met-some most m bits roots law root some le child child-met
@@ -112,10 +112,10 @@ module _ (most : ℕ → ℕ) (m new : PageMemory) (bits : ℕ → ℕ) (roots :
       (λ n k l. IsAlike-same (new n) (m n) (lifted.others n (λ e. let x = ap (λ q. (m q).level) e in let y = lifted.level_was in omega arith) (λ e. let x = ap (λ q. (m q).level) e in omega (arith, at)))) row
 
   -- another tree has no page of this one, so it is as it was
-  apart : (r : ℕ) → 0 < r → r ≤ roots → r ≢ root → (n q : ℕ) → 0 < weight_of (is_page n) m r → 1 ≤ weight_of (is_page q) m root → n ≢ q
+  apart : (r : ℕ) → 0 < r → r ≤ roots → r ≢ root → (n q : ℕ) → 0 < weight_of (counts_page n) m r → 1 ≤ weight_of (counts_page q) m root → n ≢ q
   apart = met-apart most m bits roots law root some le
 
-  other-same : (r : ℕ) → 0 < r → r ≤ roots → r ≢ root → (n : ℕ) → 0 < weight_of (is_page n) m r → new n ≡ m n
+  other-same : (r : ℕ) → 0 < r → r ≤ roots → r ≢ root → (n : ℕ) → 0 < weight_of (counts_page n) m r → new n ≡ m n
   other-same r s l ne n h = lifted.others n (apart r s l ne n root h (root-met m root)) (apart r s l ne n child h child-met)
 
   other-tree : (r : ℕ) → 0 < r → r ≤ roots → r ≢ root → IsSameTree m new (height_of m r) (top_of r)
@@ -128,7 +128,7 @@ module _ (most : ℕ → ℕ) (m new : PageMemory) (bits : ℕ → ℕ) (roots :
   other-links r s l ne =
       AreLinked-same m new 0 (leaves_of m r) 0
       (AllByRecursion-met (λ n. HasLinks (new n) (m n)) 0 (leaves_of m r) (λ n h.
-      let low = lowest-le_weight (is_page n) m (height_of m r) (top_of r) in HasLinks-same (new n) (m n) (other-same r s l ne n (omega arith))))
+      let low = lowest-le_weight (counts_page n) m (height_of m r) (top_of r) in HasLinks-same (new n) (m n) (other-same r s l ne n (omega arith))))
       (law.trees r s l).0.linked
 
   -- the chain of leaves is the same
@@ -165,10 +165,10 @@ module _ (most : ℕ → ℕ) (m new : PageMemory) (bits : ℕ → ℕ) (roots :
 
   -- the tree weighs the child less, and the root at a lower height
   pub weight_of-lift : (f : ℕ → Visit → ℕ) → weight_of f new root + f (suc height) root-visit + f height child-visit ≡ weight_of f m root + f height root-visit
-  weight_of-lift f = let a = whole.weighs f in let b = ap (λ h. weight f new h (top_of root)) lifted.level in let c = weight-was f in omega arith
+  weight_of-lift f = let a = whole.weighs f in let b = ap (λ h. weight_along f new h (top_of root)) lifted.level in let c = weight-was f in omega arith
 
   pub weight_of-lift_other : (f : ℕ → Visit → ℕ) (r : ℕ) → 0 < r → r ≤ roots → r ≢ root → weight_of f new r ≡ weight_of f m r
-  weight_of-lift_other f r s l ne = ap (λ h. weight f new h (top_of r)) (other-height r s l ne) ∙ (other-tree r s l ne).weighs f
+  weight_of-lift_other f r s l ne = ap (λ h. weight_along f new h (top_of r)) (other-height r s l ne) ∙ (other-tree r s l ne).weighs f
 
   -- what weighs nothing on the two pages weighs the same
   pub weight_of-lift_away : (f : ℕ → Visit → ℕ) → ((h : ℕ) (v : Visit) → v.page ≡ root → f h v ≡ 0) → ((h : ℕ) (v : Visit) → v.page ≡ child → f h v ≡ 0)
@@ -185,15 +185,15 @@ module _ (most : ℕ → ℕ) (m new : PageMemory) (bits : ℕ → ℕ) (roots :
   content_of-lift r s l =
       elim (cases_eq r root) [
         | inl e ↦ subst (λ q. content_of new q ≡ content_of m q) (sym e)
-            (ap (λ h. records_in new (below new h (top_of root))) lifted.level ∙ (whole.holds ∙ (ap (λ us. records_in m (below m height us)) (sym was) ∙ ap (λ h. records_in m (below m h (top_of root))) (sym lifted.level_was))))
-        | inr ne ↦ ap (λ h. records_in new (below new h (top_of r))) (other-height r s l ne) ∙ (other-tree r s l ne).holds
+            (ap (λ h. records_along new (below new h (top_of root))) lifted.level ∙ (whole.holds ∙ (ap (λ us. records_along m (below m height us)) (sym was) ∙ ap (λ h. records_along m (below m h (top_of root))) (sym lifted.level_was))))
+        | inr ne ↦ ap (λ h. records_along new (below new h (top_of r))) (other-height r s l ne) ∙ (other-tree r s l ne).holds
       ]
 
   -- the child is met no more
-  met-fewer : (n : ℕ) → times_met m roots n ≡ times_met new roots n + is_page n 0 child-visit
+  met-fewer : (n : ℕ) → times_met m roots n ≡ times_met new roots n + counts_page n 0 child-visit
   met-fewer n =
-      weight_all-plus (is_page n) new m root roots (is_page n 0 child-visit) some le (let v = weight_of-lift (is_page n) in omega arith)
-      (λ r s l ne. sym (ap (λ h. weight (is_page n) new h (top_of r)) (other-height r s l ne) ∙ (other-tree r s l ne).weighs (is_page n)))
+      weight_all-plus (counts_page n) new m root roots (counts_page n 0 child-visit) some le (let v = weight_of-lift (counts_page n) in omega arith)
+      (λ r s l ne. sym (ap (λ h. weight_along (counts_page n) new h (top_of r)) (other-height r s l ne) ∙ (other-tree r s l ne).weighs (counts_page n)))
 
   -- so trees are lawful, with the bit of the child clear
   pub IsLawful-lift : (now after : ℕ → ℕ) → after child ≡ 0 → ((n : ℕ) → n ≢ child → after n ≡ bits n) → IsSound (now child) (new child)
@@ -223,8 +223,8 @@ module _ (most : ℕ → ℕ) (m new : PageMemory) (bits : ℕ → ℕ) (roots :
     );
     met = λ n. elim (cases_eq n child) [
       | inl e ↦ subst (λ q. after q ≡ times_met new roots q + cond (eqb q 0) 1 0) (sym e)
-          (let a = met-fewer child in let b = is_page-own child 0 child-visit refl in let c = times_met-le most m bits roots child law in let z = bit-none child child-some in omega arith)
-      | inr nc ↦ let a = met-fewer n in let b = is_page-other n 0 child-visit (λ e. nc (sym e)) in let c = law.met n in let d = elsewhere n nc in omega arith
+          (let a = met-fewer child in let b = counts_page-own child 0 child-visit refl in let c = times_met-le most m bits roots child law in let z = bit-none child child-some in omega arith)
+      | inr nc ↦ let a = met-fewer n in let b = counts_page-other n 0 child-visit (λ e. nc (sym e)) in let c = law.met n in let d = elsewhere n nc in omega arith
     ];
     bit = λ n. elim (cases_eq n child) [ inl e ↦ let d = ap after e in omega arith | inr nc ↦ let d = elsewhere n nc in let b = law.bit n in omega arith ];
     few = λ n big. elim (cases_eq n child) [ inl e ↦ ap after e ∙ there | inr nc ↦ elsewhere n nc ∙ law.few n big ];
@@ -232,7 +232,7 @@ module _ (most : ℕ → ℕ) (m new : PageMemory) (bits : ℕ → ℕ) (roots :
       | inl e ↦ subst (λ q. (new q).kind ≡ Free) (sym e) freed
       | inr nc ↦
           let none : bits n ≡ 0 = sym (elsewhere n nc) ∙ free in
-          let nr : n ≢ root = λ e. (let x = law.met root in let y = root-met m root in let z = weight_of-le (is_page root) m root roots some le in let d = ap bits e in omega arith) in
+          let nr : n ≢ root = λ e. (let x = law.met root in let y = root-met m root in let z = weight_of-le (counts_page root) m root roots some le in let d = ap bits e in omega arith) in
           ap (λ (p : PageState). p.kind) (lifted.others n nr nc) ∙ law.unmet n none
     ];
   }

@@ -6,9 +6,9 @@ use Rattle.ib_map.specs.Keys.{MapKey, end_rank, rank}
 use Rattle.ib_walk.specs.Pages.{PageMemory, PageState, Tree}
 use Rattle.ib_walk.specs.Search.{leaf_for}
 use Rattle.ib_walk.specs.Trees.{IsLawfulUpTo, height_of, top_of}
-use Rattle.ib_walk.specs.Walk.{AreLinked, IsLeafAt, Visit, first_page, is_page, last_page, sum_of}
+use Rattle.ib_walk.specs.Walk.{AreLinked, IsLeafAt, Visit, first_page, counts_page, last_page, sum_of}
 use Rattle.ib_walk.proofs.ChoiceLaws.{cond-eq, cond-ne}
-use Rattle.ib_walk.proofs.MeetLaws.{AllByRecursion-other, AreLinked-right, HasLinks, is_page-own, lowest-le_weight, sum_of-own}
+use Rattle.ib_walk.proofs.MeetLaws.{AllByRecursion-other, AreLinked-right, HasLinks, counts_page-own, lowest-le_weight, sum_of-own}
 use Rattle.ib_walk.proofs.TreeLaws.{IsPageFor-leaf, times_met-le, weight_of-le}
 use Rattle.ib_walk.proofs.WalkLaws.{AllByRecursion-right}
 use Rattle.ib_plans.specs.Split.{next_or}
@@ -26,9 +26,9 @@ AreLinked-left m prev (x ∷ []) ys next h = (h.0, h.1, tt)
 AreLinked-left m prev (x ∷ y ∷ xs) ys next h = (h.0, h.1, AreLinked-left m x.page (y ∷ xs) ys next h.2)
 
 -- a first page that is not 0 is met
-pub first_page-met : (vs : List Visit) → first_page vs 0 ≢ 0 → 0 < sum_of (is_page (first_page vs 0) 0) vs
+pub first_page-met : (vs : List Visit) → first_page vs 0 ≢ 0 → 0 < sum_of (counts_page (first_page vs 0) 0) vs
 first_page-met [] ne = absurd (ne refl)
-first_page-met (v ∷ vs) ne = let e = is_page-own v.page 0 v refl in omega arith
+first_page-met (v ∷ vs) ne = let e = counts_page-own v.page 0 v refl in omega arith
 
 -- pages that are the same have the same links
 pub HasLinks-same : (new old : PageState) → new ≡ old → HasLinks new old
@@ -63,9 +63,9 @@ NextLeaf-leaf_for most m bits roots key root law some le in-range ne =
     let r = AreLinked-right m 0 p.before (p.visit ∷ p.behind) 0 linked in
     let next : (m (leaf_for m key root)).next ≡ first_page p.behind 0 = subst (λ n. (m n).next ≡ first_page p.behind 0) p.here r.1 in
     let here = sum_of-own (leaf_for m key root) 0 p.before p.visit p.behind p.here in
-    let less = lowest-le_weight (is_page (leaf_for m key root)) m (height_of m root) (top_of root) in
-    let total = ap (sum_of (is_page (leaf_for m key root) 0)) p.is in
-    let a = weight_of-le (is_page (leaf_for m key root)) m root roots some le in
+    let less = lowest-le_weight (counts_page (leaf_for m key root)) m (height_of m root) (top_of root) in
+    let total = ap (sum_of (counts_page (leaf_for m key root) 0)) p.is in
+    let a = weight_of-le (counts_page (leaf_for m key root)) m root roots some le in
     let b = times_met-le most m bits roots (leaf_for m key root) law in
     let away = AllByRecursion-other (λ q. q ≢ leaf_for m key root) (leaf_for m key root) 0 p.behind (omega arith) (λ q z. z) in
     first-leaf m (leaf_for m key root) p.behind next ne rest.1 away

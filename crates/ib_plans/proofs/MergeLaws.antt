@@ -9,8 +9,8 @@ use Rattle.ib_page.specs.declared.space.TheConstants.{MAPPED_PAGES}
 use Rattle.ib_walk.specs.Pages.{Free, IsSound, PageMemory}
 use Rattle.ib_walk.specs.Search.{IsPageFor, page_below}
 use Rattle.ib_walk.specs.Trees.{IsLawfulUpTo, IsTreeOf, content_of, height_of, leaves_of, times_met, top_of, weight_all, weight_of}
-use Rattle.ib_walk.specs.Walk.{AreLinked, IsLeafAt, IsNodeAt, IsTree, Visit, below, children, children_of, first_page, is_page, records_in, sum_of, weight}
-use Rattle.ib_walk.proofs.MeetLaws.{AllByRecursion-met, AllByRecursion-other, AreLinked-right, AreLinked-same, HasLinks, IsSameTree-met, is_page-other, is_page-own, lowest-le_weight, sum_of-own}
+use Rattle.ib_walk.specs.Walk.{AreLinked, IsLeafAt, IsNodeAt, IsTree, Visit, below, children, children_of, first_page, counts_page, records_along, sum_of, weight_along}
+use Rattle.ib_walk.proofs.MeetLaws.{AllByRecursion-met, AllByRecursion-other, AreLinked-right, AreLinked-same, HasLinks, IsSameTree-met, counts_page-other, counts_page-own, lowest-le_weight, sum_of-own}
 use Rattle.ib_walk.proofs.SearchLaws.{AllByRecursion-at, IsPageFor-below, IsTree-below, above, above-le}
 use Rattle.ib_walk.proofs.TreeLaws.{IsPageFor-top, times_met-le, weight_of-le}
 use Rattle.ib_walk.proofs.WalkLaws.{AllByRecursion-right, IsAlike, IsSameTree, children-append, children_of-append, sum_of-append}
@@ -31,20 +31,20 @@ pub record IsUnlinked (m new : PageMemory) (child gone : ℕ) : Type 0 where
 
 module _ (m new : PageMemory) (child gone : ℕ) (links : IsUnlinked m new child gone) (leaf : (m child).level ≡ 0) where
   -- the leaves behind the one that goes
-  unlink-behind : (ys : List Visit) → (m gone).next ≡ first_page ys 0 → AreLinked m gone ys 0 → sum_of (is_page child 0) ys ≡ 0 → sum_of (is_page gone 0) ys ≡ 0
-      → sum_of (is_page 0 0) ys ≡ 0 → ((n : ℕ) → sum_of (is_page n 0) ys ≤ 1) → AreLinked new child ys 0
+  unlink-behind : (ys : List Visit) → (m gone).next ≡ first_page ys 0 → AreLinked m gone ys 0 → sum_of (counts_page child 0) ys ≡ 0 → sum_of (counts_page gone 0) ys ≡ 0
+      → sum_of (counts_page 0 0) ys ≡ 0 → ((n : ℕ) → sum_of (counts_page n 0) ys ≤ 1) → AreLinked new child ys 0
   unlink-behind [] e h a b c once = tt
   unlink-behind (y ∷ ys) e h a b c once =
-      let here = is_page-own y.page 0 y refl in
-      let some : (m gone).next ≢ 0 = λ z. let w = is_page-own 0 0 y (sym e ∙ z) in omega arith in
+      let here = counts_page-own y.page 0 y refl in
+      let some : (m gone).next ≢ 0 = λ z. let w = counts_page-own 0 0 y (sym e ∙ z) in omega arith in
       let once_here = once y.page in
-      let none : sum_of (is_page (m gone).next 0) ys ≡ 0 = subst (λ n. sum_of (is_page n 0) ys ≡ 0) (sym e) (omega arith) in
-      let none_child : sum_of (is_page child 0) ys ≡ 0 = omega arith in
-      let none_gone : sum_of (is_page gone 0) ys ≡ 0 = omega arith in
+      let none : sum_of (counts_page (m gone).next 0) ys ≡ 0 = subst (λ n. sum_of (counts_page n 0) ys ≡ 0) (sym e) (omega arith) in
+      let none_child : sum_of (counts_page child 0) ys ≡ 0 = omega arith in
+      let none_gone : sum_of (counts_page gone 0) ys ≡ 0 = omega arith in
       let away = AllByRecursion-met (λ n. HasLinks (new n) (m n)) 0 ys (λ n l. links.others n
-      (λ z. let q = ap (λ k. sum_of (is_page k 0) ys) z in omega arith)
-      (λ z. let q = ap (λ k. sum_of (is_page k 0) ys) z in omega arith)
-      (λ z. let q = ap (λ k. sum_of (is_page k 0) ys) z in omega arith)) in (
+      (λ z. let q = ap (λ k. sum_of (counts_page k 0) ys) z in omega arith)
+      (λ z. let q = ap (λ k. sum_of (counts_page k 0) ys) z in omega arith)
+      (λ z. let q = ap (λ k. sum_of (counts_page k 0) ys) z in omega arith)) in (
         subst (λ n. (new n).prev ≡ child) e (links.next_prev leaf some),
         subst (λ n. (new n).next ≡ (m n).next) e (links.next_next leaf some) ∙ h.1,
         AreLinked-same m new y.page ys 0 away h.2,
@@ -52,24 +52,24 @@ module _ (m new : PageMemory) (child gone : ℕ) (links : IsUnlinked m new child
 
   -- the whole chain, without the leaf that goes
   pub unlink : (xs : List Visit) (v w : Visit) (ys : List Visit) (joined : Visit) → v.page ≡ child → w.page ≡ gone → joined.page ≡ child
-      → AreLinked m 0 (xs ++ v ∷ w ∷ ys) 0 → ((n : ℕ) → sum_of (is_page n 0) (xs ++ v ∷ w ∷ ys) ≤ 1) → sum_of (is_page 0 0) (xs ++ v ∷ w ∷ ys) ≡ 0
+      → AreLinked m 0 (xs ++ v ∷ w ∷ ys) 0 → ((n : ℕ) → sum_of (counts_page n 0) (xs ++ v ∷ w ∷ ys) ≤ 1) → sum_of (counts_page 0 0) (xs ++ v ∷ w ∷ ys) ≡ 0
       → AreLinked new 0 (xs ++ joined ∷ ys) 0
   unlink xs v w ys joined hv hw hj h once no_zero =
       let l = AreLinked-left m 0 xs (v ∷ w ∷ ys) 0 h in
       let r = AreLinked-right m 0 xs (v ∷ w ∷ ys) 0 h in
       let next : (m gone).next ≡ first_page ys 0 = subst (λ n. (m n).next ≡ first_page ys 0) hw r.2.1 in
-      let total : (n : ℕ) → sum_of (is_page n 0) xs + (is_page n 0 v + (is_page n 0 w + sum_of (is_page n 0) ys)) ≤ 1 = λ n. let a = sum_of-append (is_page n 0) xs (v ∷ w ∷ ys) in let b = once n in omega arith in
-      let own = is_page-own child 0 v hv in
-      let owng = is_page-own gone 0 w hw in
+      let total : (n : ℕ) → sum_of (counts_page n 0) xs + (counts_page n 0 v + (counts_page n 0 w + sum_of (counts_page n 0) ys)) ≤ 1 = λ n. let a = sum_of-append (counts_page n 0) xs (v ∷ w ∷ ys) in let b = once n in omega arith in
+      let own = counts_page-own child 0 v hv in
+      let owng = counts_page-own gone 0 w hw in
       let tc = total child in
       let tg = total gone in
-      let tz = sum_of-append (is_page 0 0) xs (v ∷ w ∷ ys) in
+      let tz = sum_of-append (counts_page 0 0) xs (v ∷ w ∷ ys) in
       let away = AllByRecursion-met (λ n. HasLinks (new n) (m n)) 0 xs (λ n at. links.others n
-      (λ z. let q = ap (λ k. sum_of (is_page k 0) xs) z in omega arith)
-      (λ z. let q = ap (λ k. sum_of (is_page k 0) xs) z in omega arith)
-      (λ z. let zz : n ≢ 0 = λ i. (let q = ap (λ k. sum_of (is_page k 0) xs) i in omega arith) in
+      (λ z. let q = ap (λ k. sum_of (counts_page k 0) xs) z in omega arith)
+      (λ z. let q = ap (λ k. sum_of (counts_page k 0) xs) z in omega arith)
+      (λ z. let zz : n ≢ 0 = λ i. (let q = ap (λ k. sum_of (counts_page k 0) xs) i in omega arith) in
       let en : n ≡ first_page ys 0 = z ∙ next in
-      let s = subst (λ k. 0 < sum_of (is_page k 0) ys) (sym en) (first_page-met ys (λ i. zz (en ∙ i))) in
+      let s = subst (λ k. 0 < sum_of (counts_page k 0) ys) (sym en) (first_page-met ys (λ i. zz (en ∙ i))) in
       let tn = total n in omega arith)) in
       let lp : AreLinked new 0 xs (first_page (joined ∷ ys) 0) = subst (λ n. AreLinked new 0 xs n) (hv ∙ sym hj) (AreLinked-same m new 0 xs v.page away l) in
       let behind = unlink-behind ys next (subst (λ n. AreLinked m n ys 0) hw r.2.2) (omega arith) (omega arith) (omega arith) (λ n. let a = total n in omega arith) in
@@ -101,13 +101,13 @@ module _ (most : ℕ → ℕ) (m new : PageMemory) (bits : ℕ → ℕ) (roots :
   up : (m parent).level ≡ suc height
   up = subst (λ q. (m q).level ≡ suc height) place.here node.level
 
-  once : (n : ℕ) → weight (is_page n) m (above depth (suc height)) (top_of root) ≤ 1
-  once n = let a = weight_of-le (is_page n) m root roots some le in let b = times_met-le most m bits roots n law in
-      let c = ap (λ h. weight (is_page n) m h (top_of root)) tall in omega arith
+  once : (n : ℕ) → weight_along (counts_page n) m (above depth (suc height)) (top_of root) ≤ 1
+  once n = let a = weight_of-le (counts_page n) m root roots some le in let b = times_met-le most m bits roots n law in
+      let c = ap (λ h. weight_along (counts_page n) m h (top_of root)) tall in omega arith
 
-  row-once : (n : ℕ) → sum_of (is_page n 0) (place.before ++ place.visit ∷ place.behind) ≤ weight (is_page n) m (above depth (suc height)) (top_of root)
-  row-once n = let b = below-le_weight (is_page n) m depth (suc height) (top_of root) in let c = level-le_weight (is_page n) m (suc height) (below m depth (top_of root)) in
-      let d = ap (sum_of (is_page n 0)) place.is in omega arith
+  row-once : (n : ℕ) → sum_of (counts_page n 0) (place.before ++ place.visit ∷ place.behind) ≤ weight_along (counts_page n) m (above depth (suc height)) (top_of root)
+  row-once n = let b = below-le_weight (counts_page n) m depth (suc height) (top_of root) in let c = level-le_weight (counts_page n) m (suc height) (below m depth (top_of root)) in
+      let d = ap (sum_of (counts_page n 0)) place.is in omega arith
 
   not_left : AreOther parent place.before
   not_left = let a = row-once parent in let c = once parent in let b = sum_of-own parent 0 place.before place.visit place.behind place.here in
@@ -151,19 +151,19 @@ module _ (most : ℕ → ℕ) (m new : PageMemory) (bits : ℕ → ℕ) (roots :
   gone-level : (m gone).level ≡ height
   gone-level = subst (λ q. (m q).level ≡ height) merge.there (level-visit m height (row-before ++ left-visit ∷ []) gone-visit row-behind (subst (IsTree m height) regrouped children-tree))
 
-  children-once : (n : ℕ) → sum_of (is_page n 0) row-before + (is_page n 0 left-visit + (is_page n 0 gone-visit + sum_of (is_page n 0) row-behind)) ≤ weight (is_page n) m (above depth (suc height)) (top_of root)
+  children-once : (n : ℕ) → sum_of (counts_page n 0) row-before + (counts_page n 0 left-visit + (counts_page n 0 gone-visit + sum_of (counts_page n 0) row-behind)) ≤ weight_along (counts_page n) m (above depth (suc height)) (top_of root)
   children-once n =
-      let a = below-le_weight (is_page n) m depth (suc height) (top_of root) in
-      let b = level-le_weight (is_page n) m height (children m (place.before ++ place.visit ∷ place.behind)) in
-      let c = ap (sum_of (is_page n 0)) was in
-      let e = sum_of-append (is_page n 0) row-before (left-visit ∷ gone-visit ∷ row-behind) in
-      let d = ap (weight (is_page n) m (suc height)) place.is in omega arith
+      let a = below-le_weight (counts_page n) m depth (suc height) (top_of root) in
+      let b = level-le_weight (counts_page n) m height (children m (place.before ++ place.visit ∷ place.behind)) in
+      let c = ap (sum_of (counts_page n 0)) was in
+      let e = sum_of-append (counts_page n 0) row-before (left-visit ∷ gone-visit ∷ row-behind) in
+      let d = ap (weight_along (counts_page n) m (suc height)) place.is in omega arith
 
-  child-here : is_page child 0 left-visit ≡ 1
-  child-here = is_page-own child 0 left-visit merge.here
+  child-here : counts_page child 0 left-visit ≡ 1
+  child-here = counts_page-own child 0 left-visit merge.here
 
-  gone-here : is_page gone 0 gone-visit ≡ 1
-  gone-here = is_page-own gone 0 gone-visit merge.there
+  gone-here : counts_page gone 0 gone-visit ≡ 1
+  gone-here = counts_page-own gone 0 gone-visit merge.there
 
   none-before : AllByRecursion (λ u. (u.page ≢ child) × (u.page ≢ gone)) row-before
   none-before = let a = once child in let b = children-once child in let c = once gone in let d = children-once gone in let e = child-here in let f = gone-here in
@@ -178,21 +178,21 @@ module _ (most : ℕ → ℕ) (m new : PageMemory) (bits : ℕ → ℕ) (roots :
   whole : IsMergedTree m new (above depth (suc height)) (top_of root) height left-visit gone-visit merged-visit row-before row-behind
   whole = IsMergedTree-merge m new parent child gone merge height up place.before place.visit place.behind place.here not_left not_right row-tree at gone-level none-before none-behind depth (top_of root) tree-of.tree place.is
 
-  weight-at : (n : ℕ) → weight_of (is_page n) m root ≡ weight (is_page n) m (above depth (suc height)) (top_of root)
-  weight-at n = ap (λ h. weight (is_page n) m h (top_of root)) tall
+  weight-at : (n : ℕ) → weight_of (counts_page n) m root ≡ weight_along (counts_page n) m (above depth (suc height)) (top_of root)
+  weight-at n = ap (λ h. weight_along (counts_page n) m h (top_of root)) tall
 
   -- who is met where
-  child-met : 1 ≤ weight_of (is_page child) m root
+  child-met : 1 ≤ weight_of (counts_page child) m root
   child-met = let c = children-once child in let b = child-here in let e = weight-at child in omega arith
 
-  gone-met : 1 ≤ weight_of (is_page gone) m root
+  gone-met : 1 ≤ weight_of (counts_page gone) m root
   gone-met = let c = children-once gone in let b = gone-here in let e = weight-at gone in omega arith
 
-  parent-met : 1 ≤ weight_of (is_page parent) m root
+  parent-met : 1 ≤ weight_of (counts_page parent) m root
   parent-met = let c = row-once parent in let f = sum_of-own parent 0 place.before place.visit place.behind place.here in let e = weight-at parent in omega arith
 
   child-not_gone : child ≢ gone
-  child-not_gone z = let a = once child in let c = children-once child in let b = child-here in let d = is_page-own child 0 gone-visit (merge.there ∙ sym z) in omega arith
+  child-not_gone z = let a = once child in let c = children-once child in let b = child-here in let d = counts_page-own child 0 gone-visit (merge.there ∙ sym z) in omega arith
 
   no-zero : times_met m roots 0 ≡ 0
   no-zero = zero-unmet most m bits roots law
@@ -216,7 +216,7 @@ module _ (most : ℕ → ℕ) (m new : PageMemory) (bits : ℕ → ℕ) (roots :
     ]
   ]
 
-  apart : (r : ℕ) → 0 < r → r ≤ roots → r ≢ root → (n q : ℕ) → 0 < weight_of (is_page n) m r → 1 ≤ weight_of (is_page q) m root → n ≢ q
+  apart : (r : ℕ) → 0 < r → r ≤ roots → r ≢ root → (n q : ℕ) → 0 < weight_of (counts_page n) m r → 1 ≤ weight_of (counts_page q) m root → n ≢ q
   apart = met-apart most m bits roots law root some le
 
   root-stays : (r : ℕ) → 0 < r → r ≤ roots → r ≢ gone
@@ -233,7 +233,7 @@ module _ (most : ℕ → ℕ) (m new : PageMemory) (bits : ℕ → ℕ) (roots :
   node-next u = (((law.sound gone (met-some most m bits roots law root some le gone gone-met)).node (omega (arith, gone-level))).1, ((law.sound child (met-some most m bits roots law root some le child child-met)).node (omega (arith, at))).1)
 
   -- the leaf behind the one that goes
-  next-met : (m gone).next ≢ 0 → (1 ≤ weight_of (is_page (m gone).next) m root) × ((m (m gone).next).level ≡ 0)
+  next-met : (m gone).next ≢ 0 → (1 ≤ weight_of (counts_page (m gone).next) m root) × ((m (m gone).next).level ≡ 0)
   next-met ne =
       elim (cases_eq height 0) [
         | inl z ↦
@@ -246,11 +246,11 @@ module _ (most : ℕ → ℕ) (m new : PageMemory) (bits : ℕ → ℕ) (roots :
         | inr up' ↦ absurd (ne (node-next (omega (arith, up'))).0)
       ]
     where
-      next-of : (us : List Visit) → (m gone).next ≡ first_page us 0 → (m gone).next ≢ 0 → ((n : ℕ) → sum_of (is_page n 0) us ≤ weight_of (is_page n) m root) → AllByRecursion (IsLeafAt m) us
-          → (1 ≤ weight_of (is_page (m gone).next) m root) × ((m (m gone).next).level ≡ 0)
+      next-of : (us : List Visit) → (m gone).next ≡ first_page us 0 → (m gone).next ≢ 0 → ((n : ℕ) → sum_of (counts_page n 0) us ≤ weight_of (counts_page n) m root) → AllByRecursion (IsLeafAt m) us
+          → (1 ≤ weight_of (counts_page (m gone).next) m root) × ((m (m gone).next).level ≡ 0)
       next-of [] e ne h l = absurd (ne e)
       next-of (u ∷ us) e ne h l = (
-        let a = h u.page in let b = is_page-own u.page 0 u refl in subst (λ n. 1 ≤ weight_of (is_page n) m root) (sym e) (omega arith),
+        let a = h u.page in let b = counts_page-own u.page 0 u refl in subst (λ n. 1 ≤ weight_of (counts_page n) m root) (sym e) (omega arith),
         subst (λ n. (m n).level ≡ 0) (sym e) l.0.level,
       )
 
@@ -261,9 +261,9 @@ module _ (most : ℕ → ℕ) (m new : PageMemory) (bits : ℕ → ℕ) (roots :
         | inl z ↦
             let was = subst (λ us. AreLinked m 0 us 0) (whole.old z) tree-of.linked in
             let zero : (m child).level ≡ 0 = at ∙ z in
-            let most-once : (n : ℕ) → sum_of (is_page n 0) (row-before ++ left-visit ∷ gone-visit ∷ row-behind) ≤ 1 = λ n. let a = children-once n in let b = once n in let e = sum_of-append (is_page n 0) row-before (left-visit ∷ gone-visit ∷ row-behind) in omega arith in
-            let zero-none : sum_of (is_page 0 0) (row-before ++ left-visit ∷ gone-visit ∷ row-behind) ≡ 0 = let a = children-once 0 in let b = weight_of-le (is_page 0) m root roots some le in let c = no-zero in let d = weight-at 0 in
-            let e = sum_of-append (is_page 0 0) row-before (left-visit ∷ gone-visit ∷ row-behind) in omega arith in
+            let most-once : (n : ℕ) → sum_of (counts_page n 0) (row-before ++ left-visit ∷ gone-visit ∷ row-behind) ≤ 1 = λ n. let a = children-once n in let b = once n in let e = sum_of-append (counts_page n 0) row-before (left-visit ∷ gone-visit ∷ row-behind) in omega arith in
+            let zero-none : sum_of (counts_page 0 0) (row-before ++ left-visit ∷ gone-visit ∷ row-behind) ≡ 0 = let a = children-once 0 in let b = weight_of-le (counts_page 0) m root roots some le in let c = no-zero in let d = weight-at 0 in
+            let e = sum_of-append (counts_page 0 0) row-before (left-visit ∷ gone-visit ∷ row-behind) in omega arith in
             subst (λ us. AreLinked new 0 us 0) (sym (whole.changed z)) (unlink m new child gone links zero row-before left-visit gone-visit row-behind merged-visit merge.here merge.there refl was most-once zero-none)
         | inr up' ↦
             let some-up : 0 < height = omega (arith, up') in
@@ -272,7 +272,7 @@ module _ (most : ℕ → ℕ) (m new : PageMemory) (bits : ℕ → ℕ) (roots :
             (λ u l ne. links.others u.page (λ e. let x = ap (λ q. (m q).level) e in let y = l.level in omega (arith, at)) (λ e. let x = ap (λ q. (m q).level) e in let y = l.level in omega (arith, gone-level)) (λ e. ne (e ∙ zero-next)))
             tree-of.tree.leaves
             (AllByRecursion-met (λ q. q ≢ 0) 0 (below m (above depth (suc height)) (top_of root)) (λ q h.
-            let a = lowest-le_weight (is_page q) m (above depth (suc height)) (top_of root) in let c = weight-at q in met-some most m bits roots law root some le q (omega arith))) in
+            let a = lowest-le_weight (counts_page q) m (above depth (suc height)) (top_of root) in let c = weight-at q in met-some most m bits roots law root some le q (omega arith))) in
             subst (λ us. AreLinked new 0 us 0) (sym (whole.inner some-up)) (AreLinked-same m new 0 (below m (above depth (suc height)) (top_of root)) 0 away tree-of.linked)
       ]
 
@@ -287,9 +287,9 @@ module _ (most : ℕ → ℕ) (m new : PageMemory) (bits : ℕ → ℕ) (roots :
   other-links r s l ne =
       AreLinked-same m new 0 (leaves_of m r) 0
       (AllByRecursion-met (λ n. HasLinks (new n) (m n)) 0 (leaves_of m r) (λ n h.
-      let low = lowest-le_weight (is_page n) m (height_of m r) (top_of r) in
-      let met : 0 < weight_of (is_page n) m r = omega arith in
-      let a = weight_of-le (is_page n) m r roots s l in
+      let low = lowest-le_weight (counts_page n) m (height_of m r) (top_of r) in
+      let met : 0 < weight_of (counts_page n) m r = omega arith in
+      let a = weight_of-le (counts_page n) m r roots s l in
       links.others n (apart r s l ne n child met child-met) (apart r s l ne n gone met gone-met)
       (λ e. elim (cases_eq (m gone).next 0) [
         | inl z ↦ let d = ap (times_met m roots) (e ∙ z) in let f = no-zero in omega arith
@@ -309,20 +309,20 @@ module _ (most : ℕ → ℕ) (m new : PageMemory) (bits : ℕ → ℕ) (roots :
   pub weight_of-merge : (f : ℕ → Visit → ℕ) → weight_of f new root + f height left-visit + f height gone-visit ≡ weight_of f m root + f height merged-visit
   weight_of-merge f =
       let a = whole.weighs f in
-      let b = ap (λ h. weight f new h (top_of root)) (height-kept root some le ∙ tall) in
-      let c = ap (λ h. weight f m h (top_of root)) tall in omega arith
+      let b = ap (λ h. weight_along f new h (top_of root)) (height-kept root some le ∙ tall) in
+      let c = ap (λ h. weight_along f m h (top_of root)) tall in omega arith
 
   -- each tree has the content that it had
   pub content_of-merge : (r : ℕ) → 0 < r → r ≤ roots → content_of new r ≡ content_of m r
   content_of-merge r s l =
       elim (cases_eq r root) [
         | inl e ↦ subst (λ q. content_of new q ≡ content_of m q) (sym e)
-            (ap (λ h. records_in new (below new h (top_of root))) (height-kept root some le ∙ tall) ∙ (whole.holds ∙ ap (λ h. records_in m (below m h (top_of root))) (sym tall)))
-        | inr ne ↦ ap (λ h. records_in new (below new h (top_of r))) (height-kept r s l) ∙ (other-tree r s l ne).holds
+            (ap (λ h. records_along new (below new h (top_of root))) (height-kept root some le ∙ tall) ∙ (whole.holds ∙ ap (λ h. records_along m (below m h (top_of root))) (sym tall)))
+        | inr ne ↦ ap (λ h. records_along new (below new h (top_of r))) (height-kept r s l) ∙ (other-tree r s l ne).holds
       ]
 
   pub weight_of-merge_other : (f : ℕ → Visit → ℕ) (r : ℕ) → 0 < r → r ≤ roots → r ≢ root → weight_of f new r ≡ weight_of f m r
-  weight_of-merge_other f r s l ne = ap (λ h. weight f new h (top_of r)) (height-kept r s l) ∙ (other-tree r s l ne).weighs f
+  weight_of-merge_other f r s l ne = ap (λ h. weight_along f new h (top_of r)) (height-kept r s l) ∙ (other-tree r s l ne).weighs f
 
   -- what weighs nothing on the two pages weighs the same
   pub weight_of-merge_away : (f : ℕ → Visit → ℕ) → ((h : ℕ) (v : Visit) → v.page ≡ child → f h v ≡ 0) → ((h : ℕ) (v : Visit) → v.page ≡ gone → f h v ≡ 0)
@@ -335,11 +335,11 @@ module _ (most : ℕ → ℕ) (m new : PageMemory) (bits : ℕ → ℕ) (roots :
       ]
 
   -- the page that goes is met no more, the others as before
-  met-fewer : (n : ℕ) → times_met new roots n + is_page n 0 gone-visit ≡ times_met m roots n
+  met-fewer : (n : ℕ) → times_met new roots n + counts_page n 0 gone-visit ≡ times_met m roots n
   met-fewer n =
-      let own : weight_of (is_page n) new root + is_page n 0 gone-visit ≡ weight_of (is_page n) m root =
-      let v = weight_of-merge (is_page n) in let same : is_page n height left-visit ≡ is_page n height merged-visit = ap (λ q. cond {A = ℕ} (eqb q n) 1 0) merge.here in omega arith in
-      all-minus (is_page n) new m root roots (is_page n 0 gone-visit) some le own (λ r s l ne. sym (weight_of-merge_other (is_page n) r s l ne))
+      let own : weight_of (counts_page n) new root + counts_page n 0 gone-visit ≡ weight_of (counts_page n) m root =
+      let v = weight_of-merge (counts_page n) in let same : counts_page n height left-visit ≡ counts_page n height merged-visit = ap (λ q. cond {A = ℕ} (eqb q n) 1 0) merge.here in omega arith in
+      all-minus (counts_page n) new m root roots (counts_page n 0 gone-visit) some le own (λ r s l ne. sym (weight_of-merge_other (counts_page n) r s l ne))
     where
       all-minus : (f : ℕ → Visit → ℕ) (small large : PageMemory) (root roots extra : ℕ) → 0 < root → root ≤ roots → weight_of f small root + extra ≡ weight_of f large root
           → ((r : ℕ) → 0 < r → r ≤ roots → r ≢ root → weight_of f large r ≡ weight_of f small r) → weight_all f small roots + extra ≡ weight_all f large roots
@@ -391,7 +391,7 @@ module _ (most : ℕ → ℕ) (m new : PageMemory) (bits : ℕ → ℕ) (roots :
     met = λ n. elim (cases_eq n gone) [
       | inl e ↦ subst (λ q. after q ≡ times_met new roots q + cond (eqb q 0) 1 0) (sym e)
           (let a = met-fewer gone in let b = gone-here in let c = times_met-le most m bits roots gone law in let z = bit-none gone (met-some most m bits roots law root some le gone gone-met) in omega arith)
-      | inr ng ↦ let a = met-fewer n in let b = is_page-other n 0 gone-visit (λ e. ng (sym e ∙ merge.there)) in let c = law.met n in let d = elsewhere n ng in omega arith
+      | inr ng ↦ let a = met-fewer n in let b = counts_page-other n 0 gone-visit (λ e. ng (sym e ∙ merge.there)) in let c = law.met n in let d = elsewhere n ng in omega arith
     ];
     bit = λ n. elim (cases_eq n gone) [ inl e ↦ let d = ap after e in omega arith | inr ng ↦ let d = elsewhere n ng in let b = law.bit n in omega arith ];
     few = λ n big. elim (cases_eq n gone) [ inl e ↦ ap after e ∙ there | inr ng ↦ elsewhere n ng ∙ law.few n big ];

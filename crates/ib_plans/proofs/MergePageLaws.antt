@@ -9,7 +9,7 @@ use Rattle.ib_walk.specs.Pages.{PageMemory, PageState}
 use Rattle.ib_walk.proofs.ChoiceLaws.{cond-eq, cond-ne}
 use Rattle.ib_walk.proofs.MeetLaws.{HasLinks}
 use Rattle.ib_walk.proofs.WalkLaws.{IsAlike, IsAlike-same}
-use Rattle.ib_plans.specs.Merge.{freed_page, merge_pages}
+use Rattle.ib_plans.specs.Merge.{freed_page, joined, merge_pages}
 use Rattle.ib_plans.specs.Split.{next_or, with_prev, with_records}
 use Rattle.ib_plans.proofs.LinkLaws.{HasLinks-same, next_or-apart, next_or-next}
 use Rattle.ib_plans.proofs.MergeLaws.{IsUnlinked}
@@ -19,14 +19,7 @@ use Rattle.ib_plans.proofs.SiblingLaws.{SiblingPages, behind-not_parent, parent-
 -- each page after a merge
 module _ (m : PageMemory) (parent left : ℕ) (gone : MapKey × ℕ) where
   abbrev the-left : PageState
-  the-left = record {
-    kind = (m left).kind;
-    level = (m left).level;
-    prev = (m left).prev;
-    next = (m gone.1).next;
-    clock = (m left).clock;
-    records = (m left).records ++ (m gone.1).records;
-  }
+  the-left = joined (m left) (m gone.1)
 
   abbrev the-parent : PageState
   the-parent = with_records (without gone.0 (m parent).records) (m parent)

@@ -5,9 +5,9 @@ use Rattle.ib_map.specs.Keys.{MapKey, rank}
 use Rattle.ib_map.specs.Pairs.{Pairs, Rises, first_rank}
 use Rattle.ib_map.proofs.RiseLaws.{Rises-append, Rises-left, Rises-lower, Rises-right}
 use Rattle.ib_walk.specs.Pages.{PageMemory, Tree}
-use Rattle.ib_walk.specs.Walk.{AreNodes, IsLeafAt, IsNodeAt, IsTree, Visit, below, children, children_of, records_in, weight}
+use Rattle.ib_walk.specs.Walk.{AreNodes, IsLeafAt, IsNodeAt, IsTree, Visit, below, children, children_of, records_along, weight_along}
 use Rattle.ib_walk.proofs.SearchLaws.{AllByRecursion-at, above, below-above, upper-lowest, upper-nodes, upper-weight}
-use Rattle.ib_walk.proofs.WalkLaws.{AllByRecursion-append, AllByRecursion-left, AllByRecursion-right, IsAlike, IsSameTree-below, children-append, children-same, children_of-append, leaves-same, nodes-same, records_in-append, records_in-same, sum_of-append}
+use Rattle.ib_walk.proofs.WalkLaws.{AllByRecursion-append, AllByRecursion-left, AllByRecursion-right, IsAlike, IsSameTree-below, children-append, children-same, children_of-append, leaves-same, nodes-same, records_along-append, records_along-same, sum_of-append}
 use Rattle.ib_plans.proofs.LevelLaws.{AllByRecursion-both, below-zero}
 use Rattle.ib_plans.proofs.RecordLaws.{first_rank-left, first_rank-middle, length-left, length-middle}
 
@@ -31,8 +31,8 @@ pub record IsMerged (m new : PageMemory) (parent child gone : ℕ) : Type 0 wher
 -- a level in which two visits side by side have become one
 pub record IsMergedRow (m new : PageMemory) (height : ℕ) (row : List Visit) (v w joined : Visit) (changed : List Visit) : Type 0 where
   pub tree : IsTree new height changed
-  pub holds : records_in new (below new height changed) ≡ records_in m (below m height row)
-  pub weighs : (f : ℕ → Visit → ℕ) → weight f new height changed + f height v + f height w ≡ weight f m height row + f height joined
+  pub holds : records_along new (below new height changed) ≡ records_along m (below m height row)
+  pub weighs : (f : ℕ → Visit → ℕ) → weight_along f new height changed + f height v + f height w ≡ weight_along f m height row + f height joined
   pub lowest : 0 < height → below new height changed ≡ below m height row
 
 module _ (m new : PageMemory) (parent child gone : ℕ) (merge : IsMerged m new parent child gone) where
@@ -52,7 +52,7 @@ module _ (m new : PageMemory) (parent child gone : ℕ) (merge : IsMerged m new 
       let r = AllByRecursion-right (IsLeafAt m) xs (v ∷ w ∷ ys) t.leaves in
       let a = AllByRecursion-both (IsLeafAt m) Apart (λ u. IsAlike (new u.page) (m u.page)) xs (λ u lf ne. beside zero up u.page (let e = lf.level in omega arith) ne.0 ne.1) l nx in
       let b = AllByRecursion-both (IsLeafAt m) Apart (λ u. IsAlike (new u.page) (m u.page)) ys (λ u lf ne. beside zero up u.page (let e = lf.level in omega arith) ne.0 ne.1) r.1.1 ny in
-      let ca = records_in-same m new xs a in let cb = records_in-same m new ys b in
+      let ca = records_along-same m new xs a in let cb = records_along-same m new ys b in
       let ra = subst (λ q. Rises v.low (m q).records v.high) hv r.0.within in
       let rb = subst (λ q. Rises w.low (m q).records w.high) hw r.1.0.within in
       let e = merge.child_records in
@@ -68,7 +68,7 @@ module _ (m new : PageMemory) (parent child gone : ℕ) (merge : IsMerged m new 
             leaves-same m new ys b r.1.1,
           );
         };
-        holds = records_in-append new xs (record { page = child; low = v.low; high = w.high } ∷ ys) ∙ (rw (ca, cb, e) (sym (records_in-append m xs (v ∷ w ∷ ys) ∙ rw (hv, hw) (simp append_assoc))));
+        holds = records_along-append new xs (record { page = child; low = v.low; high = w.high } ∷ ys) ∙ (rw (ca, cb, e) (sym (records_along-append m xs (v ∷ w ∷ ys) ∙ rw (hv, hw) (simp append_assoc))));
         weighs = λ f. let x = sum_of-append (f zero) xs (record { page = child; low = v.low; high = w.high } ∷ ys) in let y = sum_of-append (f zero) xs (v ∷ w ∷ ys) in omega arith;
         lowest = λ z. absurd (omega arith);
       }
@@ -109,7 +109,7 @@ module _ (m new : PageMemory) (parent child gone : ℕ) (merge : IsMerged m new 
         };
         holds = rw same s.holds;
         weighs = λ f. let x = sum_of-append (f (suc height)) xs (record { page = child; low = v.low; high = w.high } ∷ ys) in let y = sum_of-append (f (suc height)) xs (v ∷ w ∷ ys) in
-            let z = ap (weight f new height) same in let q = s.weighs f in omega arith;
+            let z = ap (weight_along f new height) same in let q = s.weighs f in omega arith;
         lowest = λ z. rw same s.lowest;
       }
 
@@ -117,8 +117,8 @@ module _ (m new : PageMemory) (parent child gone : ℕ) (merge : IsMerged m new 
 -- its lowest level is the same, or, where the two are leaves, has the one in their place
 pub record IsMergedTree (m new : PageMemory) (height : ℕ) (vs : List Visit) (level : ℕ) (v w joined : Visit) (before behind : List Visit) : Type 0 where
   pub tree : IsTree new height vs
-  pub holds : records_in new (below new height vs) ≡ records_in m (below m height vs)
-  pub weighs : (f : ℕ → Visit → ℕ) → weight f new height vs + f level v + f level w ≡ weight f m height vs + f level joined
+  pub holds : records_along new (below new height vs) ≡ records_along m (below m height vs)
+  pub weighs : (f : ℕ → Visit → ℕ) → weight_along f new height vs + f level v + f level w ≡ weight_along f m height vs + f level joined
   pub inner : 0 < level → below new height vs ≡ below m height vs
   pub old : level ≡ 0 → below m height vs ≡ before ++ v ∷ w ∷ behind
   pub changed : level ≡ 0 → below new height vs ≡ before ++ joined ∷ behind
@@ -210,8 +210,8 @@ module _ (m new : PageMemory) (parent child gone : ℕ) (merge : IsMerged m new 
         );
         leaves = subst (λ us. AllByRecursion (IsLeafAt new) (below new height us)) (sym now) row.tree.leaves;
       };
-      holds = ap (λ us. records_in new (below new height us)) now ∙ (row.holds ∙ ap (λ us. records_in m (below m height us)) (sym was));
-      weighs = λ g. let a = ap (weight g new height) now in let b = ap (weight g m height) was in let c = row.weighs g in omega arith;
+      holds = ap (λ us. records_along new (below new height us)) now ∙ (row.holds ∙ ap (λ us. records_along m (below m height us)) (sym was));
+      weighs = λ g. let a = ap (weight_along g new height) now in let b = ap (weight_along g m height) was in let c = row.weighs g in omega arith;
       inner = λ z. ap (below new height) now ∙ (row.lowest z ∙ ap (below m height) (sym was));
       old = λ z. below-zero m height (children m (xs ++ u ∷ ys)) z ∙ was;
       changed = λ z. below-zero new height (children new (xs ++ u ∷ ys)) z ∙ now;
@@ -232,9 +232,9 @@ module _ (m new : PageMemory) (parent child gone : ℕ) (merge : IsMerged m new 
             nodes = upper-nodes m new (suc height) same depth vs whole.nodes (subst (AreNodes new (suc height)) (sym row_is) p.tree.nodes);
             leaves = subst (AllByRecursion (IsLeafAt new)) (sym low) p.tree.leaves;
           };
-          holds = ap (records_in new) low ∙ (p.holds ∙ ap (records_in m) (sym old_low));
+          holds = ap (records_along new) low ∙ (p.holds ∙ ap (records_along m) (sym old_low));
           weighs = λ g. let a = upper-weight m new (suc height) same g depth vs whole.nodes in
-              let b = ap (weight g m (suc height)) row_is in let d = ap (weight g new (suc height)) row_is in let c = p.weighs g in omega arith;
+              let b = ap (weight_along g m (suc height)) row_is in let d = ap (weight_along g new (suc height)) row_is in let c = p.weighs g in omega arith;
           inner = λ z. low ∙ (p.inner z ∙ sym old_low);
           old = λ z. old_low ∙ p.old z;
           changed = λ z. low ∙ p.changed z;

@@ -5,9 +5,9 @@ use Rattle.std.proofs.lemmas.Bool.Decides.{nat_tests}
 use Rattle.ib_map.specs.Keys.{end_rank}
 use Rattle.ib_page.specs.declared.space.TheConstants.{MAPPED_PAGES}
 use Rattle.ib_walk.specs.Pages.{PageMemory}
-use Rattle.ib_walk.specs.Walk.{Visit, weight, is_page}
+use Rattle.ib_walk.specs.Walk.{Visit, weight_along, counts_page}
 use Rattle.ib_walk.specs.Trees.{top_of, height_of, weight_of, weight_all, times_met, IsLawfulUpTo}
-use Rattle.ib_walk.proofs.MeetLaws.{is_page-own}
+use Rattle.ib_walk.proofs.MeetLaws.{counts_page-own}
 use Rattle.ib_walk.proofs.TreeLaws.{weight_of-le, weight_of-two_le, times_met-le}
 
 -- page 0's own bit counts for no other page
@@ -15,12 +15,12 @@ pub bit-none : (n : ℕ) → n ≢ 0 → cond {A = ℕ} (eqb n 0) 1 0 ≡ 0
 bit-none n ne = grind (arith, nat_tests)
 
 -- a tree meets its root
-pub root-met : (m : PageMemory) (r : ℕ) → 1 ≤ weight_of (is_page r) m r
+pub root-met : (m : PageMemory) (r : ℕ) → 1 ≤ weight_of (counts_page r) m r
 root-met m r = at-height r (height_of m r)
   where
-    at-height : (r h : ℕ) → 1 ≤ weight (is_page r) m h (top_of r)
-    at-height r zero = let e = is_page-own r 0 (record { page = r; low = 0; high = end_rank }) refl in omega arith
-    at-height r (suc h) = let e = is_page-own r (suc h) (record { page = r; low = 0; high = end_rank }) refl in omega arith
+    at-height : (r h : ℕ) → 1 ≤ weight_along (counts_page r) m h (top_of r)
+    at-height r zero = let e = counts_page-own r 0 (record { page = r; low = 0; high = end_rank }) refl in omega arith
+    at-height r (suc h) = let e = counts_page-own r (suc h) (record { page = r; low = 0; high = end_rank }) refl in omega arith
 
 -- where one tree weighs so much more, and no other tree does, all trees weigh so much more
 pub weight_all-plus : (f : ℕ → Visit → ℕ) (m new : PageMemory) (root roots extra : ℕ) → 0 < root → root ≤ roots → weight_of f new root ≡ weight_of f m root + extra
@@ -63,29 +63,29 @@ module _ (most : ℕ → ℕ) (m : PageMemory) (bits : ℕ → ℕ) (roots : ℕ
 
   -- each root is met
   pub root-times_met : (r : ℕ) → 0 < r → r ≤ roots → 1 ≤ times_met m roots r
-  root-times_met r some le = let a = weight_of-le (is_page r) m r roots some le in let b = root-met m r in omega arith
+  root-times_met r some le = let a = weight_of-le (counts_page r) m r roots some le in let b = root-met m r in omega arith
 
   module _ (root : ℕ) (some : 0 < root) (le : root ≤ roots) where
     -- a page that a tree meets is not page 0, has its bit set, and is one that the bits have
-    pub met-some : (n : ℕ) → 1 ≤ weight_of (is_page n) m root → n ≢ 0
-    met-some n h z = let a = zero-unmet in let c = weight_of-le (is_page n) m root roots some le in let d = ap (times_met m roots) z in omega arith
+    pub met-some : (n : ℕ) → 1 ≤ weight_of (counts_page n) m root → n ≢ 0
+    met-some n h z = let a = zero-unmet in let c = weight_of-le (counts_page n) m root roots some le in let d = ap (times_met m roots) z in omega arith
 
-    pub met-set : (n : ℕ) → 1 ≤ weight_of (is_page n) m root → bits n ≢ 0
-    met-set n h none = let a = law.met n in let c = weight_of-le (is_page n) m root roots some le in omega arith
+    pub met-set : (n : ℕ) → 1 ≤ weight_of (counts_page n) m root → bits n ≢ 0
+    met-set n h none = let a = law.met n in let c = weight_of-le (counts_page n) m root roots some le in omega arith
 
-    pub met-few : (n : ℕ) → 1 ≤ weight_of (is_page n) m root → n < MAPPED_PAGES
+    pub met-few : (n : ℕ) → 1 ≤ weight_of (counts_page n) m root → n < MAPPED_PAGES
     met-few n h = elim (cases_lt n MAPPED_PAGES) [
       | inl lt ↦ lt
       | inr ge ↦ absurd (met-set n h (law.few n ge))
     ]
 
     -- a page that it meets is none whose bit is clear
-    pub met-clear : (n q : ℕ) → 1 ≤ weight_of (is_page n) m root → bits q ≡ 0 → n ≢ q
+    pub met-clear : (n q : ℕ) → 1 ≤ weight_of (counts_page n) m root → bits q ≡ 0 → n ≢ q
     met-clear n q h none e = met-set n h (ap bits e ∙ none)
 
     -- no page that another tree meets is one that this tree meets
-    pub met-apart : (r : ℕ) → 0 < r → r ≤ roots → r ≢ root → (n q : ℕ) → 0 < weight_of (is_page n) m r → 1 ≤ weight_of (is_page q) m root → n ≢ q
+    pub met-apart : (r : ℕ) → 0 < r → r ≤ roots → r ≢ root → (n q : ℕ) → 0 < weight_of (counts_page n) m r → 1 ≤ weight_of (counts_page q) m root → n ≢ q
     met-apart r s l ne n q at-n at-q e =
-        let a = weight_of-two_le (is_page q) m r root roots s l some le ne in
+        let a = weight_of-two_le (counts_page q) m r root roots s l some le ne in
         let b = times_met-le most m bits roots q law in
-        let d = ap (λ k. weight_of (is_page k) m r) e in omega arith
+        let d = ap (λ k. weight_of (counts_page k) m r) e in omega arith

@@ -5,7 +5,7 @@ use Rattle.ib_map.specs.Keys.{MapKey, end_rank, rank}
 use Rattle.ib_walk.specs.Pages.{PageMemory, PageState, Tree}
 use Rattle.ib_walk.specs.Search.{IsPageFor, child_for, page_below}
 use Rattle.ib_walk.specs.Trees.{IsLawfulUpTo, height_of, times_met, top_of}
-use Rattle.ib_walk.specs.Walk.{AreNodes, IsNodeAt, IsTree, Visit, below, children, is_page, sum_of, weight}
+use Rattle.ib_walk.specs.Walk.{AreNodes, IsNodeAt, IsTree, Visit, below, children, counts_page, sum_of, weight_along}
 use Rattle.ib_walk.proofs.MeetLaws.{sum_of-own}
 use Rattle.ib_walk.proofs.SearchLaws.{AllByRecursion-at, IsPageFor-below, IsPageFor-children, IsTree-below, above, above-le}
 use Rattle.ib_walk.proofs.TreeLaws.{IsPageFor-top, weight_of-le}
@@ -32,7 +32,7 @@ page_below-same m new key height (suc depth) vs page same h p =
 pub record PathPage (m : PageMemory) (height root page : ℕ) : Type 0 where
   pub kind : (m page).kind ≡ Tree
   pub level : (m page).level ≡ height
-  pub met : 1 ≤ weight (is_page page) m (height_of m root) (top_of root)
+  pub met : 1 ≤ weight_along (counts_page page) m (height_of m root) (top_of root)
   pub some : page ≢ 0
 
 -- each page of the path is one
@@ -44,11 +44,11 @@ PathPage-below most m bits roots law key in-range root some le depth height tall
     let row = subst (IsTree m height) p.is (IsTree-below m depth height (top_of root) t) in
     let n = page_below m key depth root in
     let a = sum_of-own n 0 p.before p.visit p.behind p.here in
-    let b = ap (sum_of (is_page n 0)) p.is in
-    let c = level-le_weight (is_page n) m height (below m depth (top_of root)) in
-    let d = below-le_weight (is_page n) m depth height (top_of root) in
-    let f = ap (λ h. weight (is_page n) m h (top_of root)) tall in
-    let g = weight_of-le (is_page n) m root roots some le in
+    let b = ap (sum_of (counts_page n 0)) p.is in
+    let c = level-le_weight (counts_page n) m height (below m depth (top_of root)) in
+    let d = below-le_weight (counts_page n) m depth height (top_of root) in
+    let f = ap (λ h. weight_along (counts_page n) m h (top_of root)) tall in
+    let g = weight_of-le (counts_page n) m root roots some le in
     let x : bits 0 ≡ times_met m roots 0 + 1 = law.met 0 in let y = law.bit 0 in
     record {
       kind = subst (λ q. (m q).kind ≡ Tree) p.here (kind-visit m height p.before p.visit p.behind row);

@@ -9,9 +9,9 @@ use Rattle.ib_heap.specs.declared.TheConstants.{MOST_LEVEL}
 use Rattle.ib_page.specs.declared.space.TheConstants.{MAPPED_PAGES}
 use Rattle.ib_walk.specs.Pages.{IsSound, PageMemory, PageState, Tree}
 use Rattle.ib_walk.specs.Trees.{IsLawfulUpTo, IsTreeOf, content_of, height_of, leaves_of, most_height, times_met, top_of, weight_of}
-use Rattle.ib_walk.specs.Walk.{AreLinked, AreNodes, IsLeafAt, IsTree, Visit, below, children, is_page, records_in, weight}
+use Rattle.ib_walk.specs.Walk.{AreLinked, AreNodes, IsLeafAt, IsTree, Visit, below, children, counts_page, records_along, weight_along}
 use Rattle.ib_walk.proofs.LeafLaws.{IsSound-wider}
-use Rattle.ib_walk.proofs.MeetLaws.{AllByRecursion-met, AreLinked-same, HasLinks, IsSameTree-met, is_page-other, is_page-own, lowest-le_weight}
+use Rattle.ib_walk.proofs.MeetLaws.{AllByRecursion-met, AreLinked-same, HasLinks, IsSameTree-met, counts_page-other, counts_page-own, lowest-le_weight}
 use Rattle.ib_walk.proofs.TreeLaws.{most_height-le, weight_of-le}
 use Rattle.ib_walk.proofs.WalkLaws.{IsSameTree}
 use Rattle.ib_plans.proofs.HalfLaws.{IsHalved, IsHalvedRow, IsHalvedRow-halved}
@@ -32,8 +32,8 @@ pub record IsRaised (m new : PageMemory) (root a b : ℕ) (height : ℕ) : Type 
 -- the tree of the root, a level higher
 pub record IsRaisedTree (m new : PageMemory) (root height : ℕ) (w w1 w2 : Visit) : Type 0 where
   pub tree : IsTree new (suc height) (w ∷ [])
-  pub holds : records_in new (below new (suc height) (w ∷ [])) ≡ records_in m (below m height (w ∷ []))
-  pub weighs : (f : ℕ → Visit → ℕ) → weight f new (suc height) (w ∷ []) + f height w ≡ weight f m height (w ∷ []) + f (suc height) w + f height w1 + f height w2
+  pub holds : records_along new (below new (suc height) (w ∷ [])) ≡ records_along m (below m height (w ∷ []))
+  pub weighs : (f : ℕ → Visit → ℕ) → weight_along f new (suc height) (w ∷ []) + f height w ≡ weight_along f m height (w ∷ []) + f (suc height) w + f height w1 + f height w2
   pub inner : 0 < height → below new (suc height) (w ∷ []) ≡ below m height (w ∷ [])
   pub changed : height ≡ 0 → below new (suc height) (w ∷ []) ≡ w1 ∷ w2 ∷ []
 
@@ -83,8 +83,8 @@ module _ (m new : PageMemory) (root a b height : ℕ) (raised : IsRaised m new r
       );
       leaves = subst (λ us. AllByRecursion (IsLeafAt new) (below new height us)) (sym now) row.tree.leaves;
     };
-    holds = ap (λ us. records_in new (below new height us)) now ∙ row.holds;
-    weighs = λ f. let x = ap (weight f new height) now in let y = row.weighs f in omega arith;
+    holds = ap (λ us. records_along new (below new height us)) now ∙ row.holds;
+    weighs = λ f. let x = ap (weight_along f new height) now in let y = row.weighs f in omega arith;
     inner = λ z. ap (below new height) now ∙ row.lowest z;
     changed = λ z. below-zero new height (children new (w ∷ [])) z ∙ now;
   }
@@ -118,9 +118,9 @@ module _ (most : ℕ → ℕ) (m new : PageMemory) (bits : ℕ → ℕ) (roots :
   height-other r s l ne = ap (λ (p : PageState). p.level) (others r ne (met-old r a (root-of r s l) none-a) (met-old r b (root-of r s l) none-b))
 
   -- another tree has no page of this one, so it is as it was
-  same-page : (r : ℕ) → 0 < r → r ≤ roots → r ≢ root → (n : ℕ) → 0 < weight_of (is_page n) m r → new n ≡ m n
+  same-page : (r : ℕ) → 0 < r → r ≤ roots → r ≢ root → (n : ℕ) → 0 < weight_of (counts_page n) m r → new n ≡ m n
   same-page r s l ne n h =
-      let y = weight_of-le (is_page n) m r roots s l in
+      let y = weight_of-le (counts_page n) m r roots s l in
       others n (met-apart most m bits roots law root some le r s l ne n root h (root-met m root))
       (met-old n a (omega arith) none-a) (met-old n b (omega arith) none-b)
 
@@ -134,7 +134,7 @@ module _ (most : ℕ → ℕ) (m new : PageMemory) (bits : ℕ → ℕ) (roots :
   other-links r s l ne =
       AreLinked-same m new 0 (leaves_of m r) 0
       (AllByRecursion-met (λ n. HasLinks (new n) (m n)) 0 (leaves_of m r) (λ n h.
-      let low = lowest-le_weight (is_page n) m (height_of m r) (top_of r) in
+      let low = lowest-le_weight (counts_page n) m (height_of m r) (top_of r) in
       let e = same-page r s l ne n (omega arith) in record { prev = ap (λ (p : PageState). p.prev) e; next = ap (λ (p : PageState). p.next) e }))
       (law.trees r s l).0.linked
 
@@ -149,8 +149,8 @@ module _ (most : ℕ → ℕ) (m new : PageMemory) (bits : ℕ → ℕ) (roots :
             record { prev = ap (λ (p : PageState). p.prev) e; next = ap (λ (p : PageState). p.next) e })
             tree-of.tree.leaves
             (AllByRecursion-met (λ q. (q ≢ a) × (q ≢ b)) 0 (leaves_of m root) (λ q h.
-            let low = lowest-le_weight (is_page q) m (height_of m root) (top_of root) in
-            let y = weight_of-le (is_page q) m root roots some le in
+            let low = lowest-le_weight (counts_page q) m (height_of m root) (top_of root) in
+            let y = weight_of-le (counts_page q) m root roots some le in
             (met-old q a (omega arith) none-a, met-old q b (omega arith) none-b))) in
             subst (λ us. AreLinked new 0 us 0) (sym (whole.inner (omega (arith, up)))) (AreLinked-same m new 0 (leaves_of m root) 0 away tree-of.linked)
       ]
@@ -167,7 +167,7 @@ module _ (most : ℕ → ℕ) (m new : PageMemory) (bits : ℕ → ℕ) (roots :
   pub weight_of-raise : (f : ℕ → Visit → ℕ) → weight_of f new root + f (height_of m root) (record { page = root; low = 0; high = end_rank }) ≡ weight_of f m root
       + f (suc (height_of m root)) (record { page = root; low = 0; high = end_rank }) + f (height_of m root) (record { page = a; low = 0; high = rank raised.halved.first.0 })
       + f (height_of m root) (record { page = b; low = rank raised.halved.first.0; high = end_rank })
-  weight_of-raise f = let x = whole.weighs f in let y = ap (λ h. weight f new h (top_of root)) height-raised in omega arith
+  weight_of-raise f = let x = whole.weighs f in let y = ap (λ h. weight_along f new h (top_of root)) height-raised in omega arith
 
   -- what weighs nothing on the three pages weighs the same
   pub weight_of-raise_away : (f : ℕ → Visit → ℕ) → ((h : ℕ) (v : Visit) → v.page ≡ root → f h v ≡ 0) → ((h : ℕ) (v : Visit) → v.page ≡ a → f h v ≡ 0)
@@ -180,23 +180,23 @@ module _ (most : ℕ → ℕ) (m new : PageMemory) (bits : ℕ → ℕ) (roots :
             let d = zr (suc (height_of m root)) (record { page = root; low = 0; high = end_rank }) refl in
             let g = za (height_of m root) (record { page = a; low = 0; high = rank raised.halved.first.0 }) refl in
             let h = zb (height_of m root) (record { page = b; low = rank raised.halved.first.0; high = end_rank }) refl in omega arith)
-        | inr ne ↦ ap (λ h. weight f new h (top_of r)) (height-other r s l ne) ∙ (other-tree r s l ne).weighs f
+        | inr ne ↦ ap (λ h. weight_along f new h (top_of r)) (height-other r s l ne) ∙ (other-tree r s l ne).weighs f
       ]
 
   -- each tree has the content that it had
   pub content_of-raise : (r : ℕ) → 0 < r → r ≤ roots → content_of new r ≡ content_of m r
   content_of-raise r s l =
       elim (cases_eq r root) [
-        | inl e ↦ subst (λ q. content_of new q ≡ content_of m q) (sym e) (ap (λ h. records_in new (below new h (top_of root))) height-raised ∙ whole.holds)
-        | inr ne ↦ ap (λ h. records_in new (below new h (top_of r))) (height-other r s l ne) ∙ (other-tree r s l ne).holds
+        | inl e ↦ subst (λ q. content_of new q ≡ content_of m q) (sym e) (ap (λ h. records_along new (below new h (top_of root))) height-raised ∙ whole.holds)
+        | inr ne ↦ ap (λ h. records_along new (below new h (top_of r))) (height-other r s l ne) ∙ (other-tree r s l ne).holds
       ]
 
   -- the two pages are met now, the others as before
-  met-now : (n : ℕ) → times_met new roots n ≡ times_met m roots n + (is_page n 0 (record { page = a; low = 0; high = 0 }) + is_page n 0 (record { page = b; low = 0; high = 0 }))
+  met-now : (n : ℕ) → times_met new roots n ≡ times_met m roots n + (counts_page n 0 (record { page = a; low = 0; high = 0 }) + counts_page n 0 (record { page = b; low = 0; high = 0 }))
   met-now n =
-      weight_all-plus (is_page n) m new root roots (is_page n 0 (record { page = a; low = 0; high = 0 }) + is_page n 0 (record { page = b; low = 0; high = 0 })) some le
-      (let x = weight_of-raise (is_page n) in omega arith)
-      (λ r s l ne. ap (λ h. weight (is_page n) new h (top_of r)) (height-other r s l ne) ∙ (other-tree r s l ne).weighs (is_page n))
+      weight_all-plus (counts_page n) m new root roots (counts_page n 0 (record { page = a; low = 0; high = 0 }) + counts_page n 0 (record { page = b; low = 0; high = 0 })) some le
+      (let x = weight_of-raise (counts_page n) in omega arith)
+      (λ r s l ne. ap (λ h. weight_along (counts_page n) new h (top_of r)) (height-other r s l ne) ∙ (other-tree r s l ne).weighs (counts_page n))
 
   root-some : root ≢ 0
   root-some z = omega arith
@@ -275,12 +275,12 @@ module _ (most : ℕ → ℕ) (m new : PageMemory) (bits : ℕ → ℕ) (roots :
       ],
     );
     met = λ n. let x = met-now n in elim (cases_eq n a) [
-      | inl e ↦ let p = is_page-own n 0 (record { page = a; low = 0; high = 0 }) (sym e) in let q = is_page-other n 0 (record { page = b; low = 0; high = 0 }) (λ z. apart-ab (sym e ∙ sym z)) in
+      | inl e ↦ let p = counts_page-own n 0 (record { page = a; low = 0; high = 0 }) (sym e) in let q = counts_page-other n 0 (record { page = b; low = 0; high = 0 }) (λ z. apart-ab (sym e ∙ sym z)) in
           let u = clear-unmet most m bits roots law a none-a in let d = ap (times_met m roots) e in let z = bit-none n (λ i. clear-some most m bits roots law a none-a (sym e ∙ i)) in let f = ap after e in omega arith
       | inr na ↦ elim (cases_eq n b) [
-        | inl e ↦ let p = is_page-own n 0 (record { page = b; low = 0; high = 0 }) (sym e) in let q = is_page-other n 0 (record { page = a; low = 0; high = 0 }) (λ z. apart-ab (z ∙ e)) in
+        | inl e ↦ let p = counts_page-own n 0 (record { page = b; low = 0; high = 0 }) (sym e) in let q = counts_page-other n 0 (record { page = a; low = 0; high = 0 }) (λ z. apart-ab (z ∙ e)) in
             let u = clear-unmet most m bits roots law b none-b in let d = ap (times_met m roots) e in let z = bit-none n (λ i. clear-some most m bits roots law b none-b (sym e ∙ i)) in let f = ap after e in omega arith
-        | inr nb ↦ let p = is_page-other n 0 (record { page = a; low = 0; high = 0 }) (λ z. na (sym z)) in let q = is_page-other n 0 (record { page = b; low = 0; high = 0 }) (λ z. nb (sym z)) in
+        | inr nb ↦ let p = counts_page-other n 0 (record { page = a; low = 0; high = 0 }) (λ z. na (sym z)) in let q = counts_page-other n 0 (record { page = b; low = 0; high = 0 }) (λ z. nb (sym z)) in
             let w = law.met n in let d = elsewhere n na nb in omega arith
       ]
     ];

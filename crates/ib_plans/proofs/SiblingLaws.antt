@@ -8,8 +8,8 @@ use Rattle.ib_heap.specs.declared.TheConstants.{MOST_RECORDS}
 use Rattle.ib_walk.specs.Pages.{PageMemory, Tree}
 use Rattle.ib_walk.specs.Search.{IsPageFor, page_below}
 use Rattle.ib_walk.specs.Trees.{IsLawful, IsTreeOf, height_of, top_of, weight_of}
-use Rattle.ib_walk.specs.Walk.{AreLinked, IsLeafAt, IsNodeAt, IsTree, Visit, below, children, children_of, first_page, is_page, sum_of, weight}
-use Rattle.ib_walk.proofs.MeetLaws.{AreLinked-right, is_page-own}
+use Rattle.ib_walk.specs.Walk.{AreLinked, IsLeafAt, IsNodeAt, IsTree, Visit, below, children, children_of, first_page, counts_page, sum_of, weight_along}
+use Rattle.ib_walk.proofs.MeetLaws.{AreLinked-right, counts_page-own}
 use Rattle.ib_walk.proofs.SearchLaws.{AllByRecursion-at, IsPageFor-below, IsTree-below, above, below-above}
 use Rattle.ib_walk.proofs.TreeLaws.{IsPageFor-top, times_met-le, weight_of-le}
 use Rattle.ib_walk.proofs.WalkLaws.{AllByRecursion-right, children-append, children_of-append, sum_of-append}
@@ -103,26 +103,26 @@ module _ (m : PageMemory) (bits : ℕ → ℕ) (roots : ℕ) (law : IsLawful m b
   gone-kind : (m next.1).kind ≡ Tree
   gone-kind = kind-visit m height (row-before ++ left-visit ∷ []) gone-visit row-behind (subst (IsTree m height) regrouped children-tree)
 
-  children-le : (n : ℕ) → sum_of (is_page n 0) row-before + (is_page n 0 left-visit + (is_page n 0 gone-visit + sum_of (is_page n 0) row-behind)) ≤ weight_of (is_page n) m root
+  children-le : (n : ℕ) → sum_of (counts_page n 0) row-before + (counts_page n 0 left-visit + (counts_page n 0 gone-visit + sum_of (counts_page n 0) row-behind)) ≤ weight_of (counts_page n) m root
   children-le n =
-      let a = below-le_weight (is_page n) m depth (suc height) (top_of root) in
-      let b = level-le_weight (is_page n) m height (children m (place.before ++ place.visit ∷ place.behind)) in
-      let c = ap (sum_of (is_page n 0)) was in
-      let e = sum_of-append (is_page n 0) row-before (left-visit ∷ gone-visit ∷ row-behind) in
-      let d = ap (weight (is_page n) m (suc height)) place.is in
-      let f = ap (λ h. weight (is_page n) m h (top_of root)) tall in omega arith
+      let a = below-le_weight (counts_page n) m depth (suc height) (top_of root) in
+      let b = level-le_weight (counts_page n) m height (children m (place.before ++ place.visit ∷ place.behind)) in
+      let c = ap (sum_of (counts_page n 0)) was in
+      let e = sum_of-append (counts_page n 0) row-before (left-visit ∷ gone-visit ∷ row-behind) in
+      let d = ap (weight_along (counts_page n) m (suc height)) place.is in
+      let f = ap (λ h. weight_along (counts_page n) m h (top_of root)) tall in omega arith
 
-  children-once : (n : ℕ) → sum_of (is_page n 0) row-before + (is_page n 0 left-visit + (is_page n 0 gone-visit + sum_of (is_page n 0) row-behind)) ≤ 1
-  children-once n = let a = children-le n in let b = weight_of-le (is_page n) m root roots some le in let c = times_met-le (λ n. MOST_RECORDS) m bits roots n law in omega arith
+  children-once : (n : ℕ) → sum_of (counts_page n 0) row-before + (counts_page n 0 left-visit + (counts_page n 0 gone-visit + sum_of (counts_page n 0) row-behind)) ≤ 1
+  children-once n = let a = children-le n in let b = weight_of-le (counts_page n) m root roots some le in let c = times_met-le (λ n. MOST_RECORDS) m bits roots n law in omega arith
 
   left-gone : pair.1 ≢ next.1
-  left-gone z = let a = children-once pair.1 in let b = is_page-own pair.1 0 left-visit refl in let c = is_page-own pair.1 0 gone-visit (sym z) in omega arith
+  left-gone z = let a = children-once pair.1 in let b = counts_page-own pair.1 0 left-visit refl in let c = counts_page-own pair.1 0 gone-visit (sym z) in omega arith
 
   left-some : pair.1 ≢ 0
-  left-some = met-some (λ n. MOST_RECORDS) m bits roots law root some le pair.1 (let a = children-le pair.1 in let b = is_page-own pair.1 0 left-visit refl in omega arith)
+  left-some = met-some (λ n. MOST_RECORDS) m bits roots law root some le pair.1 (let a = children-le pair.1 in let b = counts_page-own pair.1 0 left-visit refl in omega arith)
 
   gone-some : next.1 ≢ 0
-  gone-some = met-some (λ n. MOST_RECORDS) m bits roots law root some le next.1 (let a = children-le next.1 in let b = is_page-own next.1 0 gone-visit refl in omega arith)
+  gone-some = met-some (λ n. MOST_RECORDS) m bits roots law root some le next.1 (let a = children-le next.1 in let b = counts_page-own next.1 0 gone-visit refl in omega arith)
 
   gone-node : 0 < height → (m next.1).next ≡ 0
   gone-node u = ((law.sound next.1 gone-some).node (let x = gone-level in omega arith)).1
@@ -142,15 +142,15 @@ module _ (m : PageMemory) (bits : ℕ → ℕ) (roots : ℕ) (law : IsLawful m b
         | inr up ↦ absurd (ne (gone-node (omega (arith, up))))
       ]
     where
-      next-of : (us : List Visit) → (m next.1).next ≡ first_page us 0 → height ≡ 0 → ((n : ℕ) → is_page n 0 left-visit + is_page n 0 gone-visit + sum_of (is_page n 0) us ≤ 1)
+      next-of : (us : List Visit) → (m next.1).next ≡ first_page us 0 → height ≡ 0 → ((n : ℕ) → counts_page n 0 left-visit + counts_page n 0 gone-visit + sum_of (counts_page n 0) us ≤ 1)
           → AllByRecursion (IsLeafAt m) us → BehindPage m height pair.1 next.1
       next-of [] e z h l = absurd (ne e)
       next-of (u ∷ us) e z h l = record {
         low = z;
         kind = subst (λ n. (m n).kind ≡ Tree) (sym e) l.0.kind;
         level = subst (λ n. (m n).level ≡ 0) (sym e) l.0.level;
-        not_gone = λ q. let a = h u.page in let b = is_page-own u.page 0 u refl in let c = is_page-own u.page 0 gone-visit (sym q ∙ e) in omega arith;
-        not_left = λ q. let a = h u.page in let b = is_page-own u.page 0 u refl in let c = is_page-own u.page 0 left-visit (sym q ∙ e) in omega arith;
+        not_gone = λ q. let a = h u.page in let b = counts_page-own u.page 0 u refl in let c = counts_page-own u.page 0 gone-visit (sym q ∙ e) in omega arith;
+        not_left = λ q. let a = h u.page in let b = counts_page-own u.page 0 u refl in let c = counts_page-own u.page 0 left-visit (sym q ∙ e) in omega arith;
       }
 
   pub SiblingPages-path : SiblingPages m height parent pair.1 next.1

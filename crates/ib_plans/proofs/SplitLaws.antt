@@ -9,8 +9,8 @@ use Rattle.ib_page.specs.declared.space.TheConstants.{MAPPED_PAGES}
 use Rattle.ib_walk.specs.Pages.{IsSound, PageMemory, Tree}
 use Rattle.ib_walk.specs.Search.{IsPageFor, child_for, page_below}
 use Rattle.ib_walk.specs.Trees.{IsLawfulUpTo, IsTreeOf, content_of, height_of, leaves_of, times_met, top_of, weight_of}
-use Rattle.ib_walk.specs.Walk.{AreLinked, IsLeafAt, IsNodeAt, IsTree, Visit, below, children, children_of, first_page, is_page, records_in, sum_of, weight}
-use Rattle.ib_walk.proofs.MeetLaws.{AllByRecursion-met, AllByRecursion-other, AreLinked-right, AreLinked-same, HasLinks, IsSameTree-met, is_page-other, is_page-own, lowest-le_weight, sum_of-own}
+use Rattle.ib_walk.specs.Walk.{AreLinked, IsLeafAt, IsNodeAt, IsTree, Visit, below, children, children_of, first_page, counts_page, records_along, sum_of, weight_along}
+use Rattle.ib_walk.proofs.MeetLaws.{AllByRecursion-met, AllByRecursion-other, AreLinked-right, AreLinked-same, HasLinks, IsSameTree-met, counts_page-other, counts_page-own, lowest-le_weight, sum_of-own}
 use Rattle.ib_walk.proofs.SearchLaws.{AllByRecursion-at, IsPageFor-below, IsTree-below, above}
 use Rattle.ib_walk.proofs.TreeLaws.{IsPageFor-top, times_met-le, weight_of-le}
 use Rattle.ib_walk.proofs.WalkLaws.{AllByRecursion-right, IsSameTree, children-append, children_of-append, sum_of-append}
@@ -34,20 +34,20 @@ pub record IsRelinked (m new : PageMemory) (child fresh : ℕ) : Type 0 where
 
 module _ (m new : PageMemory) (child fresh : ℕ) (links : IsRelinked m new child fresh) (leaf : (m child).level ≡ 0) where
   -- the leaves behind the child
-  relink-behind : (ys : List Visit) → (m child).next ≡ first_page ys 0 → AreLinked m child ys 0 → sum_of (is_page child 0) ys ≡ 0 → sum_of (is_page fresh 0) ys ≡ 0
-      → sum_of (is_page 0 0) ys ≡ 0 → ((n : ℕ) → sum_of (is_page n 0) ys ≤ 1) → AreLinked new fresh ys 0
+  relink-behind : (ys : List Visit) → (m child).next ≡ first_page ys 0 → AreLinked m child ys 0 → sum_of (counts_page child 0) ys ≡ 0 → sum_of (counts_page fresh 0) ys ≡ 0
+      → sum_of (counts_page 0 0) ys ≡ 0 → ((n : ℕ) → sum_of (counts_page n 0) ys ≤ 1) → AreLinked new fresh ys 0
   relink-behind [] e h a b c once = tt
   relink-behind (y ∷ ys) e h a b c once =
-      let here = is_page-own y.page 0 y refl in
-      let some : (m child).next ≢ 0 = λ z. let old = is_page-own 0 0 y (sym e ∙ z) in omega arith in
+      let here = counts_page-own y.page 0 y refl in
+      let some : (m child).next ≢ 0 = λ z. let old = counts_page-own 0 0 y (sym e ∙ z) in omega arith in
       let once_here = once y.page in
-      let none : sum_of (is_page (m child).next 0) ys ≡ 0 = subst (λ n. sum_of (is_page n 0) ys ≡ 0) (sym e) (omega arith) in
-      let none_child : sum_of (is_page child 0) ys ≡ 0 = omega arith in
-      let none_fresh : sum_of (is_page fresh 0) ys ≡ 0 = omega arith in
+      let none : sum_of (counts_page (m child).next 0) ys ≡ 0 = subst (λ n. sum_of (counts_page n 0) ys ≡ 0) (sym e) (omega arith) in
+      let none_child : sum_of (counts_page child 0) ys ≡ 0 = omega arith in
+      let none_fresh : sum_of (counts_page fresh 0) ys ≡ 0 = omega arith in
       let away = AllByRecursion-met (λ n. HasLinks (new n) (m n)) 0 ys (λ n l. links.others n
-      (λ z. let q = ap (λ k. sum_of (is_page k 0) ys) z in omega arith)
-      (λ z. let q = ap (λ k. sum_of (is_page k 0) ys) z in omega arith)
-      (λ z. let q = ap (λ k. sum_of (is_page k 0) ys) z in omega arith)) in (
+      (λ z. let q = ap (λ k. sum_of (counts_page k 0) ys) z in omega arith)
+      (λ z. let q = ap (λ k. sum_of (counts_page k 0) ys) z in omega arith)
+      (λ z. let q = ap (λ k. sum_of (counts_page k 0) ys) z in omega arith)) in (
         subst (λ n. (new n).prev ≡ fresh) e (links.next_prev leaf some),
         subst (λ n. (new n).next ≡ (m n).next) e (links.next_next leaf some) ∙ h.1,
         AreLinked-same m new y.page ys 0 away h.2,
@@ -55,28 +55,28 @@ module _ (m new : PageMemory) (child fresh : ℕ) (links : IsRelinked m new chil
 
   -- the whole chain, with the fresh leaf behind the child
   pub relink : (xs : List Visit) (old : Visit) (ys : List Visit) (left right : Visit) → old.page ≡ child → left.page ≡ child → right.page ≡ fresh
-      → AreLinked m 0 (xs ++ old ∷ ys) 0 → ((n : ℕ) → sum_of (is_page n 0) (xs ++ old ∷ ys) ≤ 1)
-      → sum_of (is_page fresh 0) (xs ++ old ∷ ys) ≡ 0 → sum_of (is_page 0 0) (xs ++ old ∷ ys) ≡ 0
+      → AreLinked m 0 (xs ++ old ∷ ys) 0 → ((n : ℕ) → sum_of (counts_page n 0) (xs ++ old ∷ ys) ≤ 1)
+      → sum_of (counts_page fresh 0) (xs ++ old ∷ ys) ≡ 0 → sum_of (counts_page 0 0) (xs ++ old ∷ ys) ≡ 0
       → AreLinked new 0 (xs ++ left ∷ right ∷ ys) 0
   relink xs old ys left right here hl hr h once no_fresh no_zero =
       let l = AreLinked-left m 0 xs (old ∷ ys) 0 h in
       let r = AreLinked-right m 0 xs (old ∷ ys) 0 h in
       let next : (m child).next ≡ first_page ys 0 = subst (λ n. (m n).next ≡ first_page ys 0) here r.1 in
-      let parts = λ (n : ℕ). sum_of-append (is_page n 0) xs (old ∷ ys) in
-      let total : (n : ℕ) → sum_of (is_page n 0) xs + (is_page n 0 old + sum_of (is_page n 0) ys) ≤ 1 = λ n. let a = parts n in let b = once n in omega arith in
-      let own = is_page-own child 0 old here in
-      let xs_child : sum_of (is_page child 0) xs ≡ 0 = let a = total child in omega arith in
-      let ys_child : sum_of (is_page child 0) ys ≡ 0 = let a = total child in omega arith in
-      let xs_fresh : sum_of (is_page fresh 0) xs ≡ 0 = let a = parts fresh in omega arith in
-      let ys_fresh : sum_of (is_page fresh 0) ys ≡ 0 = let a = parts fresh in omega arith in
-      let xs_zero : sum_of (is_page 0 0) xs ≡ 0 = let a = parts 0 in omega arith in
-      let ys_zero : sum_of (is_page 0 0) ys ≡ 0 = let a = parts 0 in omega arith in
+      let parts = λ (n : ℕ). sum_of-append (counts_page n 0) xs (old ∷ ys) in
+      let total : (n : ℕ) → sum_of (counts_page n 0) xs + (counts_page n 0 old + sum_of (counts_page n 0) ys) ≤ 1 = λ n. let a = parts n in let b = once n in omega arith in
+      let own = counts_page-own child 0 old here in
+      let xs_child : sum_of (counts_page child 0) xs ≡ 0 = let a = total child in omega arith in
+      let ys_child : sum_of (counts_page child 0) ys ≡ 0 = let a = total child in omega arith in
+      let xs_fresh : sum_of (counts_page fresh 0) xs ≡ 0 = let a = parts fresh in omega arith in
+      let ys_fresh : sum_of (counts_page fresh 0) ys ≡ 0 = let a = parts fresh in omega arith in
+      let xs_zero : sum_of (counts_page 0 0) xs ≡ 0 = let a = parts 0 in omega arith in
+      let ys_zero : sum_of (counts_page 0 0) ys ≡ 0 = let a = parts 0 in omega arith in
       let away = AllByRecursion-met (λ n. HasLinks (new n) (m n)) 0 xs (λ n at. links.others n
-      (λ z. let q = ap (λ k. sum_of (is_page k 0) xs) z in omega arith)
-      (λ z. let q = ap (λ k. sum_of (is_page k 0) xs) z in omega arith)
-      (λ z. let zz : n ≢ 0 = λ i. (let q = ap (λ k. sum_of (is_page k 0) xs) i in omega arith) in
+      (λ z. let q = ap (λ k. sum_of (counts_page k 0) xs) z in omega arith)
+      (λ z. let q = ap (λ k. sum_of (counts_page k 0) xs) z in omega arith)
+      (λ z. let zz : n ≢ 0 = λ i. (let q = ap (λ k. sum_of (counts_page k 0) xs) i in omega arith) in
       let en : n ≡ first_page ys 0 = z ∙ next in
-      let s = subst (λ k. 0 < sum_of (is_page k 0) ys) (sym en) (first_page-met ys (λ i. zz (en ∙ i))) in
+      let s = subst (λ k. 0 < sum_of (counts_page k 0) ys) (sym en) (first_page-met ys (λ i. zz (en ∙ i))) in
       let tn = total n in omega arith)) in
       let lp : AreLinked new 0 xs (first_page (left ∷ right ∷ ys) 0) = subst (λ n. AreLinked new 0 xs n) (here ∙ sym hl) (AreLinked-same m new 0 xs old.page away l) in
       let behind = relink-behind ys next (subst (λ n. AreLinked m n ys 0) here r.2) ys_child ys_fresh ys_zero (λ n. let a = total n in omega arith) in
@@ -119,13 +119,13 @@ module _ (most : ℕ → ℕ) (m new : PageMemory) (bits : ℕ → ℕ) (roots :
       let l = place.low in
       ChildRecord-of key (m parent).records place.visit.high n (omega arith) place.high)
 
-  once : (n : ℕ) → weight (is_page n) m (above depth (suc height)) (top_of root) ≤ 1
-  once n = let a = weight_of-le (is_page n) m root roots some le in let b = times_met-le most m bits roots n law in
-      let c = ap (λ h. weight (is_page n) m h (top_of root)) tall in omega arith
+  once : (n : ℕ) → weight_along (counts_page n) m (above depth (suc height)) (top_of root) ≤ 1
+  once n = let a = weight_of-le (counts_page n) m root roots some le in let b = times_met-le most m bits roots n law in
+      let c = ap (λ h. weight_along (counts_page n) m h (top_of root)) tall in omega arith
 
-  row-once : (n : ℕ) → sum_of (is_page n 0) (place.before ++ place.visit ∷ place.behind) ≤ 1
-  row-once n = let a = once n in let b = below-le_weight (is_page n) m depth (suc height) (top_of root) in let c = level-le_weight (is_page n) m (suc height) (below m depth (top_of root)) in
-      let d = ap (sum_of (is_page n 0)) place.is in omega arith
+  row-once : (n : ℕ) → sum_of (counts_page n 0) (place.before ++ place.visit ∷ place.behind) ≤ 1
+  row-once n = let a = once n in let b = below-le_weight (counts_page n) m depth (suc height) (top_of root) in let c = level-le_weight (counts_page n) m (suc height) (below m depth (top_of root)) in
+      let d = ap (sum_of (counts_page n 0)) place.is in omega arith
 
   not_left : AreOther parent place.before
   not_left = let a = row-once parent in let b = sum_of-own parent 0 place.before place.visit place.behind place.here in
@@ -169,12 +169,12 @@ module _ (most : ℕ → ℕ) (m new : PageMemory) (bits : ℕ → ℕ) (roots :
   parent-tree : (m parent).kind ≡ Tree
   parent-tree = subst (λ q. (m q).kind ≡ Tree) place.here node.kind
 
-  children-once : (n : ℕ) → sum_of (is_page n 0) (row-before ++ old-child ∷ row-behind) ≤ weight (is_page n) m (above depth (suc height)) (top_of root)
+  children-once : (n : ℕ) → sum_of (counts_page n 0) (row-before ++ old-child ∷ row-behind) ≤ weight_along (counts_page n) m (above depth (suc height)) (top_of root)
   children-once n =
-      let a = below-le_weight (is_page n) m depth (suc height) (top_of root) in
-      let b = level-le_weight (is_page n) m height (children m (place.before ++ place.visit ∷ place.behind)) in
-      let c = ap (sum_of (is_page n 0)) was in
-      let d = ap (weight (is_page n) m (suc height)) place.is in omega arith
+      let a = below-le_weight (counts_page n) m depth (suc height) (top_of root) in
+      let b = level-le_weight (counts_page n) m height (children m (place.before ++ place.visit ∷ place.behind)) in
+      let c = ap (sum_of (counts_page n 0)) was in
+      let d = ap (weight_along (counts_page n) m (suc height)) place.is in omega arith
 
   none-before : AreOther child row-before
   none-before = let a = once child in let c = children-once child in let b = sum_of-own child 0 row-before old-child row-behind child-record.here in
@@ -189,16 +189,16 @@ module _ (most : ℕ → ℕ) (m new : PageMemory) (bits : ℕ → ℕ) (roots :
       depth (top_of root) tree-of.tree place.is
 
   -- who is met where
-  weight-at : (n : ℕ) → weight_of (is_page n) m root ≡ weight (is_page n) m (above depth (suc height)) (top_of root)
-  weight-at n = ap (λ h. weight (is_page n) m h (top_of root)) tall
+  weight-at : (n : ℕ) → weight_of (counts_page n) m root ≡ weight_along (counts_page n) m (above depth (suc height)) (top_of root)
+  weight-at n = ap (λ h. weight_along (counts_page n) m h (top_of root)) tall
 
-  child-met : 1 ≤ weight_of (is_page child) m root
+  child-met : 1 ≤ weight_of (counts_page child) m root
   child-met = let c = children-once child in let b = sum_of-own child 0 row-before old-child row-behind child-record.here in let e = weight-at child in omega arith
 
-  parent-met : 1 ≤ weight_of (is_page parent) m root
+  parent-met : 1 ≤ weight_of (counts_page parent) m root
   parent-met =
-      let b = below-le_weight (is_page parent) m depth (suc height) (top_of root) in let c = level-le_weight (is_page parent) m (suc height) (below m depth (top_of root)) in
-      let d = ap (sum_of (is_page parent 0)) place.is in let f = sum_of-own parent 0 place.before place.visit place.behind place.here in let e = weight-at parent in omega arith
+      let b = below-le_weight (counts_page parent) m depth (suc height) (top_of root) in let c = level-le_weight (counts_page parent) m (suc height) (below m depth (top_of root)) in
+      let d = ap (sum_of (counts_page parent 0)) place.is in let f = sum_of-own parent 0 place.before place.visit place.behind place.here in let e = weight-at parent in omega arith
 
   no-fresh : times_met m roots fresh ≡ 0
   no-fresh = clear-unmet most m bits roots law fresh none
@@ -210,7 +210,7 @@ module _ (most : ℕ → ℕ) (m new : PageMemory) (bits : ℕ → ℕ) (roots :
   child-some = met-some most m bits roots law root some le child child-met
 
   -- the leaf behind the child
-  next-met : (m child).next ≢ 0 → (1 ≤ weight_of (is_page (m child).next) m root) × ((m (m child).next).level ≡ 0)
+  next-met : (m child).next ≢ 0 → (1 ≤ weight_of (counts_page (m child).next) m root) × ((m (m child).next).level ≡ 0)
   next-met ne =
       elim (cases_eq height 0) [
         | inl z ↦
@@ -219,16 +219,16 @@ module _ (most : ℕ → ℕ) (m new : PageMemory) (bits : ℕ → ℕ) (roots :
             let linked = subst (λ us. AreLinked m 0 us 0) leaves tree-of.linked in
             let r = AreLinked-right m 0 row-before (old-child ∷ row-behind) 0 linked in
             let next : (m child).next ≡ first_page row-behind 0 = subst (λ n. (m n).next ≡ first_page row-behind 0) child-record.here r.1 in
-            next-of row-behind next ne (λ n. let a = children-once n in let b = sum_of-append (is_page n 0) row-before (old-child ∷ row-behind) in let e = weight-at n in omega arith)
+            next-of row-behind next ne (λ n. let a = children-once n in let b = sum_of-append (counts_page n 0) row-before (old-child ∷ row-behind) in let e = weight-at n in omega arith)
             (let x = AllByRecursion-right (IsLeafAt m) row-before (old-child ∷ row-behind) row.leaves in x.1)
         | inr up' ↦ absurd (ne (let s = law.sound child child-some in (s.node (omega (arith, up', at))).1))
       ]
     where
-      next-of : (us : List Visit) → (m child).next ≡ first_page us 0 → (m child).next ≢ 0 → ((n : ℕ) → sum_of (is_page n 0) us ≤ weight_of (is_page n) m root) → AllByRecursion (IsLeafAt m) us
-          → (1 ≤ weight_of (is_page (m child).next) m root) × ((m (m child).next).level ≡ 0)
+      next-of : (us : List Visit) → (m child).next ≡ first_page us 0 → (m child).next ≢ 0 → ((n : ℕ) → sum_of (counts_page n 0) us ≤ weight_of (counts_page n) m root) → AllByRecursion (IsLeafAt m) us
+          → (1 ≤ weight_of (counts_page (m child).next) m root) × ((m (m child).next).level ≡ 0)
       next-of [] e ne h l = absurd (ne e)
       next-of (u ∷ us) e ne h l = (
-        let a = h u.page in let b = is_page-own u.page 0 u refl in subst (λ n. 1 ≤ weight_of (is_page n) m root) (sym e) (omega arith),
+        let a = h u.page in let b = counts_page-own u.page 0 u refl in subst (λ n. 1 ≤ weight_of (counts_page n) m root) (sym e) (omega arith),
         subst (λ n. (m n).level ≡ 0) (sym e) l.0.level,
       )
 
@@ -270,22 +270,22 @@ module _ (most : ℕ → ℕ) (m new : PageMemory) (bits : ℕ → ℕ) (roots :
         | inl z ↦
             let was = subst (λ us. AreLinked m 0 us 0) (whole.old z) tree-of.linked in
             let zero : (m child).level ≡ 0 = at ∙ z in
-            let most-once : (n : ℕ) → sum_of (is_page n 0) (row-before ++ old-child ∷ row-behind) ≤ 1 = λ n. let a = children-once n in let b = once n in omega arith in
-            let part = λ (n : ℕ). weight_of-le (is_page n) m root roots some le in
-            let fresh-none : sum_of (is_page fresh 0) (row-before ++ old-child ∷ row-behind) ≡ 0 = let a = children-once fresh in let b = part fresh in let c = no-fresh in let d = weight-at fresh in omega arith in
-            let zero-none : sum_of (is_page 0 0) (row-before ++ old-child ∷ row-behind) ≡ 0 = let a = children-once 0 in let b = part 0 in let c = no-zero in let d = weight-at 0 in omega arith in
+            let most-once : (n : ℕ) → sum_of (counts_page n 0) (row-before ++ old-child ∷ row-behind) ≤ 1 = λ n. let a = children-once n in let b = once n in omega arith in
+            let part = λ (n : ℕ). weight_of-le (counts_page n) m root roots some le in
+            let fresh-none : sum_of (counts_page fresh 0) (row-before ++ old-child ∷ row-behind) ≡ 0 = let a = children-once fresh in let b = part fresh in let c = no-fresh in let d = weight-at fresh in omega arith in
+            let zero-none : sum_of (counts_page 0 0) (row-before ++ old-child ∷ row-behind) ≡ 0 = let a = children-once 0 in let b = part 0 in let c = no-zero in let d = weight-at 0 in omega arith in
             subst (λ us. AreLinked new 0 us 0) (sym (whole.changed z)) (relink m new child fresh links zero row-before old-child row-behind left-child right-child child-record.here refl refl was most-once fresh-none zero-none)
         | inr up' ↦
             let some-up : 0 < height = omega (arith, up') in
             let leaves = tree-of.tree.leaves in
             let zero-next = next-zero some-up in
-            let low = level-le_weight (is_page 0) m 0 (below m (above depth (suc height)) (top_of root)) in
+            let low = level-le_weight (counts_page 0) m 0 (below m (above depth (suc height)) (top_of root)) in
             let away = AllByRecursion-both (IsLeafAt m) (λ u. (u.page ≢ fresh) × (u.page ≢ 0)) (λ u. HasLinks (new u.page) (m u.page)) (below m (above depth (suc height)) (top_of root))
             (λ u l ne. links.others u.page (λ e. let x = ap (λ q. (m q).level) e in let y = l.level in omega (arith, at)) ne.0 (λ e. ne.1 (e ∙ zero-next)))
             leaves
             (AllByRecursion-met (λ q. (q ≢ fresh) × (q ≢ 0)) 0 (below m (above depth (suc height)) (top_of root)) (λ q h.
-            let a = lowest-le_weight (is_page q) m (above depth (suc height)) (top_of root) in
-            let b = weight_of-le (is_page q) m root roots some le in let c = weight-at q in
+            let a = lowest-le_weight (counts_page q) m (above depth (suc height)) (top_of root) in
+            let b = weight_of-le (counts_page q) m root roots some le in let c = weight-at q in
             (not-fresh q (omega arith), λ e. (let d = ap (times_met m roots) e in let f = no-zero in omega arith)))) in
             subst (λ us. AreLinked new 0 us 0) (sym (whole.inner some-up)) (AreLinked-same m new 0 (below m (above depth (suc height)) (top_of root)) 0 away tree-of.linked)
       ]
@@ -294,23 +294,23 @@ module _ (most : ℕ → ℕ) (m new : PageMemory) (bits : ℕ → ℕ) (roots :
   own-tree = record { tree = whole.tree; linked = own-links }
 
   -- another tree has no page of this one, so it is as it was
-  apart : (r : ℕ) → 0 < r → r ≤ roots → r ≢ root → (n q : ℕ) → 0 < weight_of (is_page n) m r → 1 ≤ weight_of (is_page q) m root → n ≢ q
+  apart : (r : ℕ) → 0 < r → r ≤ roots → r ≢ root → (n q : ℕ) → 0 < weight_of (counts_page n) m r → 1 ≤ weight_of (counts_page q) m root → n ≢ q
   apart = met-apart most m bits roots law root some le
 
   other-tree : (r : ℕ) → 0 < r → r ≤ roots → r ≢ root → IsSameTree m new (height_of m r) (top_of r)
   other-tree r s l ne =
       IsSameTree-met m new (height_of m r) (top_of r)
       (λ n h. split.others n (apart r s l ne n parent h parent-met) (apart r s l ne n child h child-met)
-      (not-fresh n (let a = weight_of-le (is_page n) m r roots s l in omega arith)))
+      (not-fresh n (let a = weight_of-le (counts_page n) m r roots s l in omega arith)))
       (law.trees r s l).0.tree
 
   other-links : (r : ℕ) → 0 < r → r ≤ roots → r ≢ root → AreLinked new 0 (leaves_of m r) 0
   other-links r s l ne =
       AreLinked-same m new 0 (leaves_of m r) 0
       (AllByRecursion-met (λ n. HasLinks (new n) (m n)) 0 (leaves_of m r) (λ n h.
-      let low = lowest-le_weight (is_page n) m (height_of m r) (top_of r) in
-      let met : 0 < weight_of (is_page n) m r = omega arith in
-      let a = weight_of-le (is_page n) m r roots s l in
+      let low = lowest-le_weight (counts_page n) m (height_of m r) (top_of r) in
+      let met : 0 < weight_of (counts_page n) m r = omega arith in
+      let a = weight_of-le (counts_page n) m r roots s l in
       links.others n (apart r s l ne n child met child-met) (not-fresh n (omega arith))
       (λ e. elim (cases_eq (m child).next 0) [
         | inl z ↦ let d = ap (times_met m roots) (e ∙ z) in let f = no-zero in omega arith
@@ -330,12 +330,12 @@ module _ (most : ℕ → ℕ) (m new : PageMemory) (bits : ℕ → ℕ) (roots :
   pub weight_of-split : (f : ℕ → Visit → ℕ) → weight_of f new root + f height old-child ≡ weight_of f m root + f height left-child + f height right-child
   weight_of-split f =
       let a = whole.weighs f in
-      let b = ap (λ h. weight f new h (top_of root)) (height-kept root some le ∙ tall) in
-      let c = ap (λ h. weight f m h (top_of root)) tall in omega arith
+      let b = ap (λ h. weight_along f new h (top_of root)) (height-kept root some le ∙ tall) in
+      let c = ap (λ h. weight_along f m h (top_of root)) tall in omega arith
 
   -- another tree weighs the same
   pub weight_of-split_other : (f : ℕ → Visit → ℕ) (r : ℕ) → 0 < r → r ≤ roots → r ≢ root → weight_of f new r ≡ weight_of f m r
-  weight_of-split_other f r s l ne = ap (λ h. weight f new h (top_of r)) (height-kept r s l) ∙ (other-tree r s l ne).weighs f
+  weight_of-split_other f r s l ne = ap (λ h. weight_along f new h (top_of r)) (height-kept r s l) ∙ (other-tree r s l ne).weighs f
 
   -- what weighs nothing on the child and on the fresh page weighs the same
   pub weight_of-split_away : (f : ℕ → Visit → ℕ) → ((h : ℕ) (v : Visit) → v.page ≡ child → f h v ≡ 0) → ((h : ℕ) (v : Visit) → v.page ≡ fresh → f h v ≡ 0)
@@ -352,16 +352,16 @@ module _ (most : ℕ → ℕ) (m new : PageMemory) (bits : ℕ → ℕ) (roots :
   content_of-split r s l =
       elim (cases_eq r root) [
         | inl e ↦ subst (λ q. content_of new q ≡ content_of m q) (sym e)
-            (ap (λ h. records_in new (below new h (top_of root))) (height-kept root some le ∙ tall) ∙ (whole.holds ∙ ap (λ h. records_in m (below m h (top_of root))) (sym tall)))
-        | inr ne ↦ ap (λ h. records_in new (below new h (top_of r))) (height-kept r s l) ∙ (other-tree r s l ne).holds
+            (ap (λ h. records_along new (below new h (top_of root))) (height-kept root some le ∙ tall) ∙ (whole.holds ∙ ap (λ h. records_along m (below m h (top_of root))) (sym tall)))
+        | inr ne ↦ ap (λ h. records_along new (below new h (top_of r))) (height-kept r s l) ∙ (other-tree r s l ne).holds
       ]
 
   -- the fresh page is met now, the others as before
-  met-now : (n : ℕ) → times_met new roots n ≡ times_met m roots n + is_page n 0 right-child
+  met-now : (n : ℕ) → times_met new roots n ≡ times_met m roots n + counts_page n 0 right-child
   met-now n =
-      let v = weight_of-split (is_page n) in
-      let same : is_page n height old-child ≡ is_page n height left-child = ap (λ q. cond (eqb q n) 1 0) child-record.here in
-      weight_all-plus (is_page n) m new root roots (is_page n 0 right-child) some le (omega arith) (λ r s l ne. weight_of-split_other (is_page n) r s l ne)
+      let v = weight_of-split (counts_page n) in
+      let same : counts_page n height old-child ≡ counts_page n height left-child = ap (λ q. cond (eqb q n) 1 0) child-record.here in
+      weight_all-plus (counts_page n) m new root roots (counts_page n 0 right-child) some le (omega arith) (λ r s l ne. weight_of-split_other (counts_page n) r s l ne)
 
   -- the pages are sound
   cut : Rises 0 (split.left ++ split.first ∷ split.rest) end_rank
@@ -491,9 +491,9 @@ module _ (most : ℕ → ℕ) (m new : PageMemory) (bits : ℕ → ℕ) (roots :
     trees = λ r s l. (new-tree r s l, let e = height-kept r s l in let b = (law.trees r s l).1 in omega arith);
     met = λ n. elim (cases_eq n fresh) [
       | inl e ↦ subst (λ q. after q ≡ times_met new roots q + cond (eqb q 0) 1 0) (sym e)
-          (let a = met-now fresh in let b = is_page-own fresh 0 right-child refl in let c = no-fresh in
+          (let a = met-now fresh in let b = counts_page-own fresh 0 right-child refl in let c = no-fresh in
           let z = bit-none fresh (clear-some most m bits roots law fresh none) in omega arith)
-      | inr nf ↦ let a = met-now n in let b = is_page-other n 0 right-child (λ e. nf (sym e)) in let c = law.met n in let d = elsewhere n nf in omega arith
+      | inr nf ↦ let a = met-now n in let b = counts_page-other n 0 right-child (λ e. nf (sym e)) in let c = law.met n in let d = elsewhere n nf in omega arith
     ];
     bit = λ n. elim (cases_eq n fresh) [ inl e ↦ let d = ap after e in omega arith | inr nf ↦ let d = elsewhere n nf in let b = law.bit n in omega arith ];
     few = λ n big. elsewhere n (λ e. omega arith) ∙ law.few n big;

@@ -6,7 +6,7 @@ use Rattle.ib_walk.specs.Pages.{Free, PageMemory, PageState, Tree}
 use Rattle.ib_walk.proofs.ChoiceLaws.{cond-eq, cond-ne}
 use Rattle.ib_walk.proofs.MeetLaws.{HasLinks}
 use Rattle.ib_walk.proofs.WalkLaws.{IsAlike, IsAlike-same}
-use Rattle.ib_plans.specs.Split.{first_key, left_half, left_part, next_or, right_half, right_part, split_page, with_prev, with_records}
+use Rattle.ib_plans.specs.Split.{first_key, left_part, lower_half, next_or, right_part, upper_half, split_page, with_prev, with_records}
 use Rattle.ib_plans.specs.declared.TheConstants.{LEFT_RECORDS}
 use Rattle.ib_plans.proofs.LinkLaws.{HasLinks-same, NextLeaf, next_or-apart, next_or-next}
 use Rattle.ib_plans.proofs.RecordLaws.{Halves}
@@ -21,20 +21,20 @@ module _ (m : PageMemory) (parent child fresh : ℕ) where
   abbrev the-next : ℕ → PageState
   the-next n = with_prev (cond (eqb (m child).level 0) fresh (m n).prev) (m n)
 
-  pub split_page-fresh : split_page m parent child fresh fresh ≡ right_half m child fresh
-  split_page-fresh = cond-eq fresh fresh (right_half m child fresh) _ refl
+  pub split_page-fresh : split_page m parent child fresh fresh ≡ upper_half (m child) child (m fresh).clock
+  split_page-fresh = cond-eq fresh fresh (upper_half (m child) child (m fresh).clock) _ refl
 
-  pub split_page-child : child ≢ fresh → split_page m parent child fresh child ≡ left_half m child fresh
-  split_page-child a = cond-ne child fresh (right_half m child fresh) _ a ∙ cond-eq child child (left_half m child fresh) _ refl
+  pub split_page-child : child ≢ fresh → split_page m parent child fresh child ≡ lower_half (m child) fresh
+  split_page-child a = cond-ne child fresh (upper_half (m child) child (m fresh).clock) _ a ∙ cond-eq child child (lower_half (m child) fresh) _ refl
 
   pub split_page-parent : parent ≢ fresh → parent ≢ child → split_page m parent child fresh parent ≡ the-parent
-  split_page-parent a b = cond-ne parent fresh (right_half m child fresh) _ a ∙ (cond-ne parent child (left_half m child fresh) _ b ∙ cond-eq parent parent the-parent _ refl)
+  split_page-parent a b = cond-ne parent fresh (upper_half (m child) child (m fresh).clock) _ a ∙ (cond-ne parent child (lower_half (m child) fresh) _ b ∙ cond-eq parent parent the-parent _ refl)
 
   pub split_page-next : (n : ℕ) → n ≢ fresh → n ≢ child → n ≢ parent → n ≡ next_or fresh (m child) → split_page m parent child fresh n ≡ the-next n
-  split_page-next n a b c e = cond-ne n fresh (right_half m child fresh) _ a ∙ (cond-ne n child (left_half m child fresh) _ b ∙ (cond-ne n parent the-parent _ c ∙ cond-eq n (next_or fresh (m child)) (the-next n) _ e))
+  split_page-next n a b c e = cond-ne n fresh (upper_half (m child) child (m fresh).clock) _ a ∙ (cond-ne n child (lower_half (m child) fresh) _ b ∙ (cond-ne n parent the-parent _ c ∙ cond-eq n (next_or fresh (m child)) (the-next n) _ e))
 
   pub split_page-other : (n : ℕ) → n ≢ fresh → n ≢ child → n ≢ parent → n ≢ next_or fresh (m child) → split_page m parent child fresh n ≡ m n
-  split_page-other n a b c d = cond-ne n fresh (right_half m child fresh) _ a ∙ (cond-ne n child (left_half m child fresh) _ b ∙ (cond-ne n parent the-parent _ c ∙ cond-ne n (next_or fresh (m child)) (the-next n) _ d))
+  split_page-other n a b c d = cond-ne n fresh (upper_half (m child) child (m fresh).clock) _ a ∙ (cond-ne n child (lower_half (m child) fresh) _ b ∙ (cond-ne n parent the-parent _ c ∙ cond-ne n (next_or fresh (m child)) (the-next n) _ d))
 
 -- a parent, a child of it and a free page
 pub record SplitPages (m : PageMemory) (height parent child fresh : ℕ) : Type 0 where
@@ -70,10 +70,10 @@ module _ (m : PageMemory) (height parent child fresh : ℕ) (pages : SplitPages 
   pub parent-after_split : split_page m parent child fresh parent ≡ with_records (put (first_key (right_part (m child).records)) fresh (m parent).records) (m parent)
   parent-after_split = split_page-parent m parent child fresh parent-not_fresh parent-not_child
 
-  pub child-after_split : split_page m parent child fresh child ≡ left_half m child fresh
+  pub child-after_split : split_page m parent child fresh child ≡ lower_half (m child) fresh
   child-after_split = split_page-child m parent child fresh child-not_fresh
 
-  pub fresh-after_split : split_page m parent child fresh fresh ≡ right_half m child fresh
+  pub fresh-after_split : split_page m parent child fresh fresh ≡ upper_half (m child) child (m fresh).clock
   fresh-after_split = split_page-fresh m parent child fresh
 
   pub next-after_split : (m child).next ≢ 0 → split_page m parent child fresh (m child).next ≡ with_prev (cond (eqb (m child).level 0) fresh (m (m child).next).prev) (m (m child).next)

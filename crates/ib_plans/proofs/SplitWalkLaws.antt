@@ -8,7 +8,7 @@ use Rattle.ib_map.proofs.PairLaws.{put-behind, put-below}
 use Rattle.ib_map.proofs.RiseLaws.{Rises-append, Rises-left, Rises-right}
 use Rattle.ib_walk.specs.Pages.{Free, PageMemory, Tree}
 use Rattle.ib_walk.specs.Search.{child_for}
-use Rattle.ib_walk.specs.Walk.{AreNodes, IsLeafAt, IsNodeAt, IsTree, Visit, below, children, children_of, records_in, weight}
+use Rattle.ib_walk.specs.Walk.{AreNodes, IsLeafAt, IsNodeAt, IsTree, Visit, below, children, children_of, records_along, weight_along}
 use Rattle.ib_walk.proofs.SearchLaws.{AllByRecursion-at, above, below-above, upper-lowest, upper-nodes, upper-weight}
 use Rattle.ib_walk.proofs.WalkLaws.{AllByRecursion-append, AllByRecursion-left, AllByRecursion-right, AreAlike, IsAlike, children-append, children-same, children_of-append, nodes-same}
 use Rattle.ib_plans.proofs.HalfLaws.{AreOther, IsHalved, IsHalvedRow, IsHalvedRow-halved}
@@ -89,8 +89,8 @@ IsHalved-split m new parent child fresh split height up at kind = record {
 -- its lowest level is the same, or, where the child is a leaf, has the two in place of the old one
 pub record IsSplitTree (m new : PageMemory) (height : ℕ) (vs : List Visit) (level : ℕ) (old_visit left right : Visit) (before behind : List Visit) : Type 0 where
   pub tree : IsTree new height vs
-  pub holds : records_in new (below new height vs) ≡ records_in m (below m height vs)
-  pub weighs : (f : ℕ → Visit → ℕ) → weight f new height vs + f level old_visit ≡ weight f m height vs + f level left + f level right
+  pub holds : records_along new (below new height vs) ≡ records_along m (below m height vs)
+  pub weighs : (f : ℕ → Visit → ℕ) → weight_along f new height vs + f level old_visit ≡ weight_along f m height vs + f level left + f level right
   pub inner : 0 < level → below new height vs ≡ below m height vs
   pub old : level ≡ 0 → below m height vs ≡ before ++ old_visit ∷ behind
   pub changed : level ≡ 0 → below new height vs ≡ before ++ left ∷ right ∷ behind
@@ -209,8 +209,8 @@ module _ (m new : PageMemory) (parent child fresh : ℕ) (split : IsSplit m new 
         nodes = (new-nodes, subst (AreNodes new height) (sym now) row.tree.nodes);
         leaves = subst (λ us. AllByRecursion (IsLeafAt new) (below new height us)) (sym now) row.tree.leaves;
       };
-      holds = ap (λ us. records_in new (below new height us)) now ∙ (row.holds ∙ ap (λ us. records_in m (below m height us)) (sym was));
-      weighs = λ g. let a = ap (weight g new height) now in let b = ap (weight g m height) was in let c = row.weighs g in omega arith;
+      holds = ap (λ us. records_along new (below new height us)) now ∙ (row.holds ∙ ap (λ us. records_along m (below m height us)) (sym was));
+      weighs = λ g. let a = ap (weight_along g new height) now in let b = ap (weight_along g m height) was in let c = row.weighs g in omega arith;
       inner = λ z. ap (below new height) now ∙ (row.lowest z ∙ ap (below m height) (sym was));
       old = λ z. below-zero m height (children m (xs ++ v ∷ ys)) z ∙ was;
       changed = λ z. below-zero new height (children new (xs ++ v ∷ ys)) z ∙ now;
@@ -231,9 +231,9 @@ module _ (m new : PageMemory) (parent child fresh : ℕ) (split : IsSplit m new 
             nodes = upper-nodes m new (suc height) same depth vs whole.nodes (subst (AreNodes new (suc height)) (sym row_is) p.tree.nodes);
             leaves = subst (AllByRecursion (IsLeafAt new)) (sym low) p.tree.leaves;
           };
-          holds = ap (records_in new) low ∙ (p.holds ∙ ap (records_in m) (sym old_low));
+          holds = ap (records_along new) low ∙ (p.holds ∙ ap (records_along m) (sym old_low));
           weighs = λ g. let a = upper-weight m new (suc height) same g depth vs whole.nodes in
-              let b = ap (weight g m (suc height)) row_is in let d = ap (weight g new (suc height)) row_is in let c = p.weighs g in omega arith;
+              let b = ap (weight_along g m (suc height)) row_is in let d = ap (weight_along g new (suc height)) row_is in let c = p.weighs g in omega arith;
           inner = λ z. low ∙ (p.inner z ∙ sym old_low);
           old = λ z. old_low ∙ p.old z;
           changed = λ z. low ∙ p.changed z;

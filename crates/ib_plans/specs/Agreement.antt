@@ -1,5 +1,5 @@
 -- A work set beside memories: of which its pages are those, and when its changed images are those of a plan.
-use Rattle.std.specs.Prelude.{◌≡◌, ◌≢◌, ℕ, zero, suc, ◌+◌, ◌<◌, ◌≤◌, Bool, true, List, [], ◌∷◌, map, nat_lt, Option, Some, None, IsSome, IsSomeAnd, IfSome, ◌^◌, if◌then◌else◌}
+use Rattle.std.specs.Prelude.{◌≡◌, ◌≢◌, ℕ, zero, suc, ◌+◌, ◌<◌, ◌≤◌, Bool, true, false, List, [], ◌∷◌, map, nat_lt, Option, Some, None, IsSome, IsSomeAnd, IfSome, ◌^◌, if◌then◌else◌}
 use Rattle.ib_map.specs.Keys.{MapKey, IsKey}
 use Rattle.ib_page.specs.declared.space.TheConstants.{MAPPED_PAGES}
 use Rattle.ib_page.specs.Form.{page_of}
@@ -62,12 +62,13 @@ reads_of work = map (λ w. (w.page, w.before)) work
 abbrev pub space_ticks : (ℕ → Bool) → ℕ
 space_ticks touched = if touched 0 then 1 else 0
 
--- the changed images are those of a plan: each page that is touched is there, the pages that are there are as planned, with their clocks ticked, their records stand as the plan moves them, and the space page has the planned bits. The images as read stay
+-- the changed images are those of a plan: each page that is touched is there, the pages that are there are as planned, with their clocks ticked, their records stand as the plan moves them, and the space page has the planned bits. The images as read stay, and so does each image of a page that is not touched, word for word
 pub record IsPlanned (pages : ℕ) (memory planned : PageMemory) (bits : ℕ → ℕ) (touched : ℕ → Bool) (moves : ℕ → Move) (old new : List WorkPage) : Type 0 where
   pub reads : reads_of new ≡ reads_of old
   pub there : (page : ℕ) → touched page ≡ true → IsThere new page
   pub same : (page : ℕ) → page ≢ 0 → IsThere new page → memory_in new page ≡ ticked memory touched planned page
   pub moved : (page : ℕ) → page ≢ 0 → HasMoved (moves page) (changed_of page old) (changed_of page new)
+  pub kept : (page : ℕ) → touched page ≡ false → changed_of page new ≡ changed_of page old
   pub space : IfSome (changed_of 0 new) (HasBits pages bits)
   pub clock : IfSome (changed_of 0 old) (λ was. IfSome (changed_of 0 new) (λ image. space_clock_of image ≡ space_clock_of was + space_ticks touched))
 

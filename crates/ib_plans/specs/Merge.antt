@@ -27,18 +27,15 @@ fit_one memory a b = nat_le (length (memory a).records + length (memory b).recor
 abbrev pub freed_page : PageState → PageState
 freed_page page = record { kind = Free; level = 0; prev = 0; next = 0; clock = page.clock; records = [] }
 
+-- the left one of two pages with the records of both, linked to what was behind the right one
+abbrev pub joined : PageState → PageState → PageState
+joined left right = record { kind = left.kind; level = left.level; prev = left.prev; next = right.next; clock = left.clock; records = left.records ++ right.records }
+
 -- the left page takes the records of the one that goes, which is freed; the parent loses the record of that one, and a leaf behind it is linked back to the left one
 abbrev pub merge_pages : PageMemory → ℕ → ℕ → MapKey × ℕ → PageMemory
 merge_pages memory parent left gone n =
     if n == gone.1 then freed_page (memory gone.1)
-    else (if n == left then record {
-      kind = (memory left).kind;
-      level = (memory left).level;
-      prev = (memory left).prev;
-      next = (memory gone.1).next;
-      clock = (memory left).clock;
-      records = (memory left).records ++ (memory gone.1).records;
-    }
+    else (if n == left then joined (memory left) (memory gone.1)
     else (if n == parent then with_records (without gone.0 (memory parent).records) (memory parent)
     else (if n == next_or gone.1 (memory gone.1) then with_prev left (memory n)
     else memory n)))
@@ -47,16 +44,13 @@ abbrev pub first_child : Pairs → ℕ
 first_child [] = 0
 first_child (x ∷ xs) = x.1
 
+-- a root with the level and the records of its one child
+abbrev pub lowered : PageState → PageState → PageState
+lowered root child = record { kind = Tree; level = child.level; prev = 0; next = 0; clock = root.clock; records = child.records }
+
 -- the root takes the records and the level of its one child, which is freed
 abbrev pub lift_page : PageMemory → ℕ → ℕ → PageMemory
 lift_page memory root child n =
     if n == child then freed_page (memory child)
-    else (if n == root then record {
-      kind = Tree;
-      level = (memory child).level;
-      prev = 0;
-      next = 0;
-      clock = (memory root).clock;
-      records = (memory child).records;
-    }
+    else (if n == root then lowered (memory root) (memory child)
     else memory n)

@@ -2,7 +2,7 @@
 use Rattle.std.specs.Prelude.{◌≡◌, ℕ, ◌==◌, List, Option, is_some, IfSome, if◌then◌else◌}
 use Rattle.ib_map.specs.Keys.{MapKey}
 use Rattle.ib_map.specs.Pairs.{Pairs, place_of, value_at}
-use Rattle.ib_heap.specs.Heap.{Heap, used, read_heap}
+use Rattle.ib_heap.specs.Heap.{Heap, used_places, read_heap}
 use Rattle.ib_heap.specs.Put.{put_in}
 use Rattle.ib_heap.specs.Take.{remove_in}
 use Rattle.ib_heap.specs.Filled.{filled}
@@ -33,7 +33,7 @@ abbrev pub IsMovedHeap : Move → Pairs → Heap → Heap → Type 0
 IsMovedHeap Stays records was is = is ≡ was
 IsMovedHeap (Puts key) records was is = is ≡ put_in (place_of key records) was
 IsMovedHeap (Takes key) records was is = is ≡ heap_without key records was
-IsMovedHeap Fills records was is = is ≡ filled (used is)
+IsMovedHeap Fills records was is = is ≡ filled (used_places is)
 IsMovedHeap Frees records was is = Unit {0}
 
 -- .. an image, where the page is there

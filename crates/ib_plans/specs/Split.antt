@@ -22,26 +22,25 @@ abbrev pub first_key : Pairs → MapKey
 first_key [] = least
 first_key (x ∷ xs) = x.0
 
--- the page to the right, which was free: a leaf is linked between the leaf that is split and the one behind it
-abbrev pub right_half : PageMemory → ℕ → ℕ → PageState
-right_half memory child fresh = record {
-  kind = Tree;
-  level = (memory child).level;
-  prev = if (memory child).level == 0 then child else 0;
-  next = if (memory child).level == 0 then (memory child).next else 0;
-  clock = (memory fresh).clock;
-  records = right_part (memory child).records;
+-- a page with one record too many as two halves: what stays in it, and what goes to the fresh page
+abbrev pub lower_half : PageState → ℕ → PageState
+lower_half long fresh = record {
+  kind = long.kind;
+  level = long.level;
+  prev = long.prev;
+  next = if long.level == 0 then fresh else long.next;
+  clock = long.clock;
+  records = left_part long.records;
 }
 
--- the page that is split
-abbrev pub left_half : PageMemory → ℕ → ℕ → PageState
-left_half memory child fresh = record {
-  kind = (memory child).kind;
-  level = (memory child).level;
-  prev = (memory child).prev;
-  next = if (memory child).level == 0 then fresh else (memory child).next;
-  clock = (memory child).clock;
-  records = left_part (memory child).records;
+abbrev pub upper_half : PageState → ℕ → ℕ → PageState
+upper_half long page clock = record {
+  kind = Tree;
+  level = long.level;
+  prev = if long.level == 0 then page else 0;
+  next = if long.level == 0 then long.next else 0;
+  clock = clock;
+  records = right_part long.records;
 }
 
 -- the leaf behind a page, or this other page where there is none
@@ -51,37 +50,47 @@ next_or other page = if page.next == 0 then other else page.next
 -- the child keeps the first records, the others go to the fresh page, the parent gets a record for it, and a leaf behind is linked back to it
 abbrev pub split_page : PageMemory → ℕ → ℕ → ℕ → PageMemory
 split_page memory parent child fresh n =
-    if n == fresh then right_half memory child fresh
-    else (if n == child then left_half memory child fresh
+    if n == fresh then upper_half (memory child) child (memory fresh).clock
+    else (if n == child then lower_half (memory child) fresh
     else (if n == parent then with_records (put (first_key (right_part (memory child).records)) fresh (memory parent).records) (memory parent)
     else (if n == next_or fresh (memory child) then with_prev (if (memory child).level == 0 then fresh else (memory n).prev) (memory n)
     else memory n)))
 
+-- the two pages below a root with one record too many that is raised, and the root
+abbrev pub raised_left : PageState → ℕ → ℕ → PageState
+raised_left long right clock = record {
+  kind = Tree;
+  level = long.level;
+  prev = 0;
+  next = if long.level == 0 then right else 0;
+  clock = clock;
+  records = left_part long.records;
+}
+
+abbrev pub raised_right : PageState → ℕ → ℕ → PageState
+raised_right long left clock = record {
+  kind = Tree;
+  level = long.level;
+  prev = if long.level == 0 then left else 0;
+  next = 0;
+  clock = clock;
+  records = right_part long.records;
+}
+
+abbrev pub raised_root : PageState → ℕ → ℕ → PageState
+raised_root long left right = record {
+  kind = Tree;
+  level = suc long.level;
+  prev = 0;
+  next = 0;
+  clock = long.clock;
+  records = (least, left) ∷ (first_key (right_part long.records), right) ∷ [];
+}
+
 -- the root's records go to two fresh pages, and the root goes up a level with a record for each
 abbrev pub raise_page : PageMemory → ℕ → ℕ → ℕ → PageMemory
 raise_page memory root left right n =
-    if n == left then record {
-      kind = Tree;
-      level = (memory root).level;
-      prev = 0;
-      next = if (memory root).level == 0 then right else 0;
-      clock = (memory left).clock;
-      records = left_part (memory root).records;
-    }
-    else (if n == right then record {
-      kind = Tree;
-      level = (memory root).level;
-      prev = if (memory root).level == 0 then left else 0;
-      next = 0;
-      clock = (memory right).clock;
-      records = right_part (memory root).records;
-    }
-    else (if n == root then record {
-      kind = Tree;
-      level = suc (memory root).level;
-      prev = 0;
-      next = 0;
-      clock = (memory root).clock;
-      records = (least, left) ∷ (first_key (right_part (memory root).records), right) ∷ [];
-    }
+    if n == left then raised_left (memory root) right (memory left).clock
+    else (if n == right then raised_right (memory root) left (memory right).clock
+    else (if n == root then raised_root (memory root) left right
     else memory n))

@@ -52,7 +52,7 @@ once_drawn n d h = dite (dec_lt d n)
     zero true = refl
     zero false = refl
 
-module _ (lawful : ℕ → List Entry → Type 0) (opening : ℕ → ℕ → ℕ → ℕ) (key : Sizes) (s : State (Unit {0}) View) (kept : RuleHolds lawful opening key s) where
+module _ (lawful : ℕ → List Entry → Type 0) (opening : ℕ → ℕ → ℕ → ℕ) (sizes : Sizes) (s : State (Unit {0}) View) (kept : RuleHolds lawful opening sizes s) where
   -- nobody else holds a latch whose X is owned
   pub alone : (i j : ℕ) (u v : View) → get_elem? s.views i ≡ some u → get_elem? s.views j ≡ some v → i ≢ j → u.session.phase ≡ Free → (l : ℕ) → 0 < x_grants l u.session → holdings l v.session ≡ 0
   alone i j u v d e n free l x =
@@ -76,7 +76,7 @@ module _ (lawful : ℕ → List Entry → Type 0) (opening : ℕ → ℕ → ℕ
   pub closed : (i j : ℕ) (u v : View) → get_elem? s.views i ≡ some u → get_elem? s.views j ≡ some v → i ≢ j → 0 < holdings 0 u.session → v.memory.append ≡ None
   closed i j u v d e n held = none v.memory.append (kept.memory.follows j v e).append
     where
-      none : (o : Option OpenAppend) → IsAppending key (lawful key.pages) s.words kept.log (number_in v.role) v.session v.memory o → o ≡ None
+      none : (o : Option OpenAppend) → IsAppending sizes (lawful sizes.pages) s.words kept.log (number_in v.role) v.session v.memory o → o ≡ None
       none None w = refl
       none (Some o) w = let z = alone j i v u e d (λ k. n (sym k)) w.fits.free 0 w.fits.log_x in absurd (omega arith)
 

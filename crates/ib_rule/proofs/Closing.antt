@@ -45,7 +45,7 @@ dead (Seated n) h = absurd (omega arith)
 dead Spent h = refl
 dead Note h = refl
 
-module _ (lawful : ℕ → List Entry → Type 0) (opening : ℕ → ℕ → ℕ → ℕ) (key : Sizes) (s : State (Unit {0}) View) (kept : RuleHolds lawful opening key s) (id d : ℕ) (ended : List Ended) (g : Grants) (at : get_elem? s.views id ≡ some (space_at d ended g)) (all : length ended ≡ d) where
+module _ (lawful : ℕ → List Entry → Type 0) (opening : ℕ → ℕ → ℕ → ℕ) (sizes : Sizes) (s : State (Unit {0}) View) (kept : RuleHolds lawful opening sizes s) (id d : ℕ) (ended : List Ended) (g : Grants) (at : get_elem? s.views id ≡ some (space_at d ended g)) (all : length ended ≡ d) where
   drawn_is : sum_by drawn_in (map role_of s.views) ≡ d
   drawn_is = whole_count (map role_of s.views) id d ended kept.sessions.one_space (at_map role_of s.views id (space_at d ended g) at)
 
@@ -58,21 +58,21 @@ module _ (lawful : ℕ → List Entry → Type 0) (opening : ℕ → ℕ → ℕ
       let c = kept.sessions.all_stand in let q = drawn_is in
       none (kept.idles i u e (dead u.role (omega arith))) u.memory.append (kept.memory.follows i u e).append)
     where
-      none : u.session ≡ Rattle.ib_core.specs.Sessions.idle → (o : Option OpenAppend) → IsAppending key (lawful key.pages) s.words kept.log (number_in u.role) u.session u.memory o → o ≡ None
+      none : u.session ≡ Rattle.ib_core.specs.Sessions.idle → (o : Option OpenAppend) → IsAppending sizes (lawful sizes.pages) s.words kept.log (number_in u.role) u.session u.memory o → o ≡ None
       none still None w = refl
       none still (Some o) w = let x = w.fits.log_x in let z = ap (λ (a : Session). x_grants 0 a) still in absurd (omega arith)
 
-  pub closes : (words : List ℕ) → words ≡ s.words → key.log_words < 2 ^ 32 → IsClosed lawful opening key words ended
-  closes words is small = subst (λ ws. IsClosed lawful opening key ws ended) (sym is) record {
+  pub closes : (words : List ℕ) → words ≡ s.words → sizes.log_words < 2 ^ 32 → IsClosed lawful opening sizes words ended
+  closes words is small = subst (λ ws. IsClosed lawful opening sizes ws ended) (sym is) record {
     log = kept.log;
     legal = kept.memory.legal;
     grammar = kept.memory.grammar;
     sized = kept.sized;
     room = let r = kept.memory.room in omega (arith, r, used_is);
-    logged = ap (λ n. take n (drop (log_place key 0) s.words)) used_is ∙ stretch (log_place key 0) s.words (log_words kept.log) (let z = kept.sized in let r = kept.memory.room in omega arith) (λ k h. ap (λ p. get_or s.words p 0) (let z : log_place key 0 + k ≡ log_place key k = omega arith in z) ∙ kept.memory.logged k h);
+    logged = ap (λ n. take n (drop (log_place sizes 0) s.words)) used_is ∙ stretch (log_place sizes 0) s.words (log_words kept.log) (let z = kept.sized in let r = kept.memory.room in omega arith) (λ k h. ap (λ p. get_or s.words p 0) (let z : log_place sizes 0 + k ≡ log_place sizes k = omega arith in z) ∙ kept.memory.logged k h);
     paged = λ page index h low.
         let q : ℕ = word_place page index in
-        ap (λ p. slice_index s.words p) (let z : page_place key page index ≡ base key + (word_place page index) = omega arith in z)
+        ap (λ p. slice_index s.words p) (let z : page_place sizes page index ≡ base sizes + (word_place page index) = omega arith in z)
         ∙ kept.memory.paged (word_place page index) (omega arith) (λ i u e. ap (λ o. stored_in o (word_place page index)) (none_open i u e));
     sessions = kept.memory.ended id (space_at d ended g) at;
     others = λ n h. kept.memory.undrawn n (let z = drawn_is in omega arith);

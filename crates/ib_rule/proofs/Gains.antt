@@ -4,10 +4,11 @@ use Rattle.ib_levels.specs.declared.holding.Holding.{Holding}
 use Rattle.ib_levels.specs.declared.level.Level.{Level}
 use Rattle.ib_levels.specs.declared.level.Mode.{Mode}
 use Rattle.ib_levels.specs.declared.level.Mode.TheVariants.{S, Sx, X}
-use Rattle.ib_levels.specs.Holding.{on, changed}
+use Rattle.ib_levels.specs.Holding.{on, changed_on}
 use Rattle.ib_levels.proofs.Counts.{on_le, on-changed, on-push_here}
 use Rattle.ib_core.specs.Debts.{won}
-use Rattle.ib_core.specs.Responses.{Response, is_drained}
+use Rattle.ib_word.specs.Word.{is_drained}
+use Rattle.ib_core.specs.Responses.{Response}
 use Rattle.ib_core.specs.Takings.{first_holding, first_response, holding_too, one_more, reserving}
 use Rattle.ib_core.proofs.Turned.{choose}
 
@@ -24,12 +25,12 @@ module _ (l : ℕ) (held : List Holding) where
   too_claims X v = let e = on-push_here l (λ h. h.sx + h.x) held (first_holding X l v) refl in omega arith
 
   -- one more of a mode
-  pub more_holds : (mode : Mode) → on l (λ h. 1) (changed l (one_more mode) held) ≡ on l (λ h. 1) held
+  pub more_holds : (mode : Mode) → on l (λ h. 1) (changed_on l (one_more mode) held) ≡ on l (λ h. 1) held
   more_holds S = on-changed l (one_more S) (λ h. 1) held (λ h. refl)
   more_holds Sx = on-changed l (one_more Sx) (λ h. 1) held (λ h. refl)
   more_holds X = on-changed l (one_more X) (λ h. 1) held (λ h. refl)
 
-  pub more_claims : (mode : Mode) → on l (λ h. h.sx + h.x) held ≤ on l (λ h. h.sx + h.x) (changed l (one_more mode) held)
+  pub more_claims : (mode : Mode) → on l (λ h. h.sx + h.x) held ≤ on l (λ h. h.sx + h.x) (changed_on l (one_more mode) held)
   more_claims S = let e = on-changed l (one_more S) (λ h. h.sx + h.x) held (λ h. refl) in let m = on_le l (λ h. h.sx + h.x) (λ h. (one_more S h).sx + (one_more S h).x) held (λ h. omega arith) in omega arith
   more_claims Sx = let e = on-changed l (one_more Sx) (λ h. h.sx + h.x) held (λ h. refl) in let m = on_le l (λ h. h.sx + h.x) (λ h. (one_more Sx h).sx + (one_more Sx h).x) held (λ h. omega arith) in omega arith
   more_claims X = let e = on-changed l (one_more X) (λ h. h.sx + h.x) held (λ h. refl) in let m = on_le l (λ h. h.sx + h.x) (λ h. (one_more X h).sx + (one_more X h).x) held (λ h. omega arith) in omega arith

@@ -19,7 +19,7 @@ of_others n (e ∷ es) none = pick (eqb e.session n) refl none (λ z. of_others 
     pick true z none rest = absurd (cc)
     pick false z none rest = ((λ q. let y : true ≡ false = sym (eq-eqb e.session n q) ∙ z in absurd (cc)), rest none)
 
-module _ (key : Sizes) (lawful : List Entry → Type 0) (opening : ℕ → ℕ) (v : View) (found : ℕ) (log : List Entry) (w : ShowsWholeLog key lawful opening v found log) where
+module _ (sizes : Sizes) (lawful : List Entry → Type 0) (opening : ℕ → ℕ) (v : View) (found : ℕ) (log : List Entry) (w : ShowsWholeLog sizes lawful opening v found log) where
   nobody : entries_of (number_in v.role) w.longer.0 ≡ []
   nobody =
       let n : ℕ = number_in v.role in
@@ -39,7 +39,7 @@ module _ (key : Sizes) (lawful : List Entry → Type 0) (opening : ℕ → ℕ) 
       each_both (λ (e : Entry). conflicts e s ≡ false) (λ (e : Entry). AllByRecursion (λ s. conflicts e s ≡ false) ss) (λ (e : Entry). AllByRecursion (λ s. conflicts e s ≡ false) (s ∷ ss)) w.longer.0 (λ e a b. (a, b)) one (calm ss p.1)
 
   -- what others appended since the last look is harmless
-  pub looked : IsLook key lawful v log
+  pub looked : IsLook sizes lawful v log
   looked = record {
     others = w.longer.0;
     longer = w.longer.1;

@@ -17,7 +17,7 @@ use Rattle.ib_logrec.specs.Log.{by_place}
 use Rattle.ib_core.specs.Sessions.{idle}
 use Rattle.ib_core.proofs.Places.{at_set, set_again, set_else, sum_at}
 use Rattle.ib_core.proofs.Turned.{choose}
-use Rattle.ib_rule.specs.declared.kind.Kind.TheVariants.{Meet}
+use Rattle.ib_rule.specs.declared.kind.StepKind.TheVariants.{Meet}
 use Rattle.ib_rule.specs.declared.memory.OpenAppend.{OpenAppend}
 use Rattle.ib_rule.specs.declared.view.Role.{Role}
 use Rattle.ib_rule.specs.declared.view.Role.TheVariants.{Note, Spent}
@@ -110,18 +110,18 @@ spent word roles i at part =
           let y : sum_by (bears n) (set roles i Spent) ≡ is_drawn n (sum_by drawn_in roles) = omega arith in subst (λ z. sum_by (bears n) (set roles i Spent) ≡ is_drawn n z) (sym drawn) y;
     }
 
-module _ (lawful : ℕ → List Entry → Type 0) (opening : ℕ → ℕ → ℕ → ℕ) (key : Sizes) where
-  pub notes : (id : ℕ) (v : View) → Splits (RuleHolds lawful opening key) id v v (note_of v)
+module _ (lawful : ℕ → List Entry → Type 0) (opening : ℕ → ℕ → ℕ → ℕ) (sizes : Sizes) where
+  pub notes : (id : ℕ) (v : View) → Splits (RuleHolds lawful opening sizes) id v v (note_of v)
   notes id v s k at =
       let roles : List Role = map role_of s.views in
       let f = k.memory.follows id v at in
-      split_step lawful opening key s id v v.role Note (record nothing_seen { seen = v.memory.seen }) k at (λ z. k.idles id v at z) refl refl
+      split_step lawful opening sizes s id v v.role Note (record nothing_seen { seen = v.memory.seen }) k at (λ z. k.idles id v at z) refl refl
       (subst (λ (rs : List Role). SessionsPart (slice_index s.words drawn_place) (rs ++ Note ∷ [])) (sym (set_again roles id v.role (at_map role_of s.views id v at))) (noted (slice_index s.words drawn_place) roles k.sessions))
       (omega arith) (k.memory.ended id v at)
       record { met = tt; seen = f.seen; mine = λ h. absurd (omega arith); since = tt; loaded = tt; append = tt }
       tt
 
-  pub takes_note : (id : ℕ) (v : View) (other : ℕ) (w : View) → w.role ≡ Note → w.session ≡ idle → w.memory.append ≡ None → w.grants ≡ record { s = 0; sx = 0; x = 0 } → Joins (RuleHolds lawful opening key) id v other w (with_note v w) nobody
+  pub takes_note : (id : ℕ) (v : View) (other : ℕ) (w : View) → w.role ≡ Note → w.session ≡ idle → w.memory.append ≡ None → w.grants ≡ record { s = 0; sx = 0; x = 0 } → Joins (RuleHolds lawful opening sizes) id v other w (with_note v w) nobody
   takes_note id v other w note still closed' zeros s k at apart there =
       let roles : List Role = map role_of s.views in
       let there' : get_elem? s.views other ≡ some w = sym (set_else s.views id other (with_note v w) (λ e. apart (sym e))) ∙ there in
@@ -134,7 +134,7 @@ module _ (lawful : ℕ → List Entry → Type 0) (opening : ℕ → ℕ → ℕ
         sized = k.sized;
         sessions = subst (λ z. SessionsPart (slice_index s.words drawn_place) z) (sym (map_twice role_of s.views id other (with_note v w) nobody ∙ ap (λ rs. set rs other Spent) (set_again roles id v.role (at_map role_of s.views id v at))))
             (spent (slice_index s.words drawn_place) roles other r k.sessions);
-        latches = subst (λ z. LatchPart (latches_of key) s.words z) (sym sessions) k.latches;
+        latches = subst (λ z. LatchPart (latches_of sizes) s.words z) (sym sessions) k.latches;
         idles = at_set (λ _ u. IsIdle u) (set s.views id (with_note v w)) other nobody (λ _. refl) (λ j b e _. at_set (λ _ u. IsIdle u) s.views id (with_note v w) (k.idles id v at) (λ j b e _. k.idles j b e) j b e);
         paid = record {
           paid = λ l h.
@@ -144,11 +144,11 @@ module _ (lawful : ℕ → List Entry → Type 0) (opening : ℕ → ℕ → ℕ
           bound = at_set (λ _ u. total u.grants ≤ 2 ^ 52 * sessions_in u.role) (set s.views id (with_note v w)) other nobody (omega arith)
               (λ j b e _. at_set (λ _ u. total u.grants ≤ 2 ^ 52 * sessions_in u.role) s.views id (with_note v w) (k.paid.bound id v at) (λ j b e _. k.paid.bound j b e) j b e);
         };
-        writers = at_set (λ _ u. AllByRecursion (IsWriter (latches_of key) s.words u) u.written) (set s.views id (with_note v w)) other nobody tt
-            (λ j b e _. at_set (λ _ u. AllByRecursion (IsWriter (latches_of key) s.words u) u.written) s.views id (with_note v w) (k.writers id v at) (λ j b e _. k.writers j b e) j b e);
+        writers = at_set (λ _ u. AllByRecursion (IsWriter (latches_of sizes) s.words u) u.written) (set s.views id (with_note v w)) other nobody tt
+            (λ j b e _. at_set (λ _ u. AllByRecursion (IsWriter (latches_of sizes) s.words u) u.written) s.views id (with_note v w) (k.writers id v at) (λ j b e _. k.writers j b e) j b e);
         log = k.log;
-        memory = view_part key (lawful key.pages) (by_place opening key.pages) s.words s.words k.log (set s.views id (with_note v w)) other w nobody
-            (view_part key (lawful key.pages) (by_place opening key.pages) s.words s.words k.log s.views id v (with_note v w) k.memory at (λ q far. refl) (omega arith)
+        memory = view_part sizes (lawful sizes.pages) (by_place opening sizes.pages) s.words s.words k.log (set s.views id (with_note v w)) other w nobody
+            (view_part sizes (lawful sizes.pages) (by_place opening sizes.pages) s.words s.words k.log s.views id v (with_note v w) k.memory at (λ q far. refl) (omega arith)
             record {
               met = (f.seen, (g.seen, tt));
               seen = seen;
@@ -165,7 +165,7 @@ module _ (lawful : ℕ → List Entry → Type 0) (opening : ℕ → ℕ → ℕ
     where
       -- who has an open append has seen the whole log, and has no more to see
       appends_on : (words : List ℕ) (log : List Entry) (o : Option OpenAppend) → IsPrefix v.memory.seen (longer v.memory.seen w.memory.seen) → IsPrefix (longer v.memory.seen w.memory.seen) log
-          → IsAppending key (lawful key.pages) words log (number_in v.role) v.session v.memory o → IsAppending key (lawful key.pages) words log (number_in v.role) v.session (with_note v w).memory o
+          → IsAppending sizes (lawful sizes.pages) words log (number_in v.role) v.session v.memory o → IsAppending sizes (lawful sizes.pages) words log (number_in v.role) v.session (with_note v w).memory o
       appends_on words log None mine seen on = tt
       appends_on words log (Some o) mine seen on = record {
         fits = on.fits;
@@ -175,14 +175,14 @@ module _ (lawful : ℕ → List Entry → Type 0) (opening : ℕ → ℕ → ℕ
       }
 
   module _ (entry : Entry) (slots id : ℕ) (me : Me (Unit {0}) View) where
-    pub meets : has_pages key.pages ≡ true → ((n : ℕ) (xs ys : List Entry) → has_pages n ≡ true → lawful n (xs ++ ys) → lawful n xs) → AllByRecursion (λ xs. length xs ≤ length me.0.memory.seen) me.0.memory.met
-        → Allows (RuleHolds lawful opening key) slots id me drawn_place (λ n. n) (tells lawful opening key entry Meet me)
+    pub meets : has_pages sizes.pages ≡ true → ((n : ℕ) (xs ys : List Entry) → has_pages n ≡ true → lawful n (xs ++ ys) → lawful n xs) → AllByRecursion (λ xs. length xs ≤ length me.0.memory.seen) me.0.memory.met
+        → Allows (RuleHolds lawful opening sizes) slots id me drawn_place (λ n. n) (tells lawful opening sizes entry Meet me)
     meets sized begins shorter s k _ at _ =
         let n : ℕ = slice_index s.words drawn_place in
         let f = k.memory.follows id me.0 at in
         let w : View = with_memory (forgets me.0.memory) me.0 in
-        let after : RuleHolds lawful opening key (stepped s drawn_place (slice_index s.words drawn_place) id me.1 (with_memory (forgets me.0.memory) me.0) keeps) =
-        knows lawful opening key s k id me.0 at drawn_place n me.0.looks (forgets me.0.memory) me.1 (set_same s.words drawn_place (let z = k.sized in omega arith))
+        let after : RuleHolds lawful opening sizes (stepped s drawn_place (slice_index s.words drawn_place) id me.1 (with_memory (forgets me.0.memory) me.0) keeps) =
+        knows lawful opening sizes s k id me.0 at drawn_place n me.0.looks (forgets me.0.memory) me.1 (set_same s.words drawn_place (let z = k.sized in omega arith))
         record { met = tt; seen = f.seen; mine = f.mine; since = f.since; loaded = f.loaded; append = still k.log s.words me.0.memory.append f.append }
         (λ q h. h) in (
           w,
@@ -191,23 +191,23 @@ module _ (lawful : ℕ → List Entry → Type 0) (opening : ℕ → ℕ → ℕ
           after,
           (
             record {
-              view = (refl, all_in s k me.0.memory.met f.met shorter f.seen, (begins key.pages me.0.memory.seen f.seen.0 sized (subst (lawful key.pages) (sym f.seen.1) k.memory.legal)));
+              view = (refl, all_in s k me.0.memory.met f.met shorter f.seen, (begins sizes.pages me.0.memory.seen f.seen.0 sized (subst (lawful sizes.pages) (sym f.seen.1) k.memory.legal)));
               event = refl;
-              proper = proper_now lawful opening key s _ _ id me.1 me.0 w at after;
-              known = known_now lawful opening key s _ _ id me.1 me.0 w at after;
+              proper = proper_now lawful opening sizes s _ _ id me.1 me.0 w at after;
+              known = known_now lawful opening sizes s _ _ id me.1 me.0 w at after;
               range = tt;
-              few = few_now lawful opening key s _ _ id me.1 me.0 w at after;
-              taken = taken_now lawful opening key s _ _ id me.1 me.0 w at after;
+              few = few_now lawful opening sizes s _ _ id me.1 me.0 w at after;
+              taken = taken_now lawful opening sizes s _ _ id me.1 me.0 w at after;
             },
             refl,
           ),
         )
       where
-        all_in : (s : State (Unit {0}) View) (k : RuleHolds lawful opening key s) (xss : List (List Entry)) → AllByRecursion (λ xs. IsPrefix xs k.log) xss → AllByRecursion (λ xs. length xs ≤ length me.0.memory.seen) xss → IsPrefix me.0.memory.seen k.log → AllByRecursion (λ xs. IsPrefix xs me.0.memory.seen) xss
+        all_in : (s : State (Unit {0}) View) (k : RuleHolds lawful opening sizes s) (xss : List (List Entry)) → AllByRecursion (λ xs. IsPrefix xs k.log) xss → AllByRecursion (λ xs. length xs ≤ length me.0.memory.seen) xss → IsPrefix me.0.memory.seen k.log → AllByRecursion (λ xs. IsPrefix xs me.0.memory.seen) xss
         all_in s k [] p q mine = tt
         all_in s k (xs ∷ xss) p q mine = (prefix_of xs me.0.memory.seen k.log p.0 mine q.0, all_in s k xss p.1 q.1 mine)
 
-        still : (log : List Entry) (words : List ℕ) (o : Rattle.std.specs.Prelude.Option Rattle.ib_rule.specs.declared.memory.OpenAppend.OpenAppend) → IsAppending key (lawful key.pages) words log (number_in me.0.role) me.0.session me.0.memory o
-            → IsAppending key (lawful key.pages) words log (number_in me.0.role) me.0.session (forgets me.0.memory) o
+        still : (log : List Entry) (words : List ℕ) (o : Rattle.std.specs.Prelude.Option Rattle.ib_rule.specs.declared.memory.OpenAppend.OpenAppend) → IsAppending sizes (lawful sizes.pages) words log (number_in me.0.role) me.0.session me.0.memory o
+            → IsAppending sizes (lawful sizes.pages) words log (number_in me.0.role) me.0.session (forgets me.0.memory) o
         still log words None w = tt
         still log words (Rattle.std.specs.Prelude.Some o) w = record { fits = w.fits; whole = w.whole; pages_done = w.pages_done; words_done = w.words_done }

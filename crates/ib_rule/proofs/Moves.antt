@@ -32,7 +32,7 @@ use Rattle.ib_core.proofs.Places.{at_set, set_here, sum_at, one_of}
 use Rattle.ib_core.proofs.Turned.{choose}
 use Rattle.ib_core.specs.declared.latch_word.LatchWord.{LatchWord}
 use Rattle.ib_core.specs.declared.latch_word.LatchWord.TheVariants.{Lock, Waiters, Writer, Generation, ExGeneration}
-use Rattle.ib_rule.specs.declared.kind.Kind.TheVariants.{Turn as Turns, Try, Recheck, Look as Looked, StoreWriter}
+use Rattle.ib_rule.specs.declared.kind.StepKind.TheVariants.{Turn as Turns, Try, Recheck, Look as Looked, StoreWriter}
 use Rattle.ib_rule.specs.declared.view.Role.{Role}
 use Rattle.ib_rule.specs.declared.looks.Looks.{Looks}
 use Rattle.ib_rule.specs.declared.view.View.{View}
@@ -54,7 +54,7 @@ use Rattle.ib_logrec.specs.Log.{by_place}
 use Rattle.std.specs.List.{AllByRecursion}
 use Rattle.ib_rule.proofs.Turning.{map_same, raises_few, readers_few, turn_keeps, turn_is}
 
-module _ (lawful : ℕ → List Entry → Type 0) (opening : ℕ → ℕ → ℕ → ℕ) (key : Sizes) (s : State (Unit {0}) View) (kept : RuleHolds lawful opening key s) (id : ℕ) (v : View) (at : get_elem? s.views id ≡ some v) (l : ℕ) (inside : l < latches_of key) where
+module _ (lawful : ℕ → List Entry → Type 0) (opening : ℕ → ℕ → ℕ → ℕ) (sizes : Sizes) (s : State (Unit {0}) View) (kept : RuleHolds lawful opening sizes s) (id : ℕ) (v : View) (at : get_elem? s.views id ≡ some v) (l : ℕ) (inside : l < latches_of sizes) where
   ss : List Session
   ss = map session_in_view s.views
 
@@ -62,37 +62,37 @@ module _ (lawful : ℕ → List Entry → Type 0) (opening : ℕ → ℕ → ℕ
   pub found_in : (c : LatchWord) → CanBe c l v.session (slice_index s.words (latch_word_place c l))
   found_in Waiters = kept.latches.flags l inside
   found_in Writer = tt
-  found_in Generation = let r = raises_few lawful opening key s kept l inside in omega arith
-  found_in ExGeneration = let r = raises_few lawful opening key s kept l inside in omega arith
+  found_in Generation = let r = raises_few lawful opening sizes s kept l inside in omega arith
+  found_in ExGeneration = let r = raises_few lawful opening sizes s kept l inside in omega arith
   found_in Lock =
       let good = kept.latches.good in let ss : List Session = map session_in_view s.views in
       let bound = taken_bound l (X_LOCK_HALF_DECR + 2 * X_LOCK_DECR + 8192) ss good.proper (λ i j a b e d n. (good.beside i j a b e d n l).one_claim)
       (λ j a e.
       let c = counted l a ((good.proper j a e).single l) in let g = kept.latches.few j a e l in
       let p = sx_weight_cases (sx_grants l a) in let q = x_weight_cases (x_grants l a) in grind arith) in
-      let r = readers_few lawful opening key s kept l in let k = kept.latches.counted l inside in
+      let r = readers_few lawful opening sizes s kept l in let k = kept.latches.counted l inside in
       let t = one_of (taken l) ss id v.session (at_map session_in_view s.views id v at) in
-      (omega arith, omega arith, subst (λ w. IsCounted w) (sym (tells_by (latches_of key) s.words l inside ss kept.latches Lock)) (counted_word (marks_in (latches_of key) s.words) ss l good r (λ j a e. kept.latches.few j a e l)))
+      (omega arith, omega arith, subst (λ w. IsCounted w) (sym (tells_by (latches_of sizes) s.words l inside ss kept.latches Lock)) (counted_word (marks_in (latches_of sizes) s.words) ss l good r (λ j a e. kept.latches.few j a e l)))
 
   -- a step that changes no word of which the rule speaks, and no more than the looks of its session
-  pub aside_keeps : (p n' : ℕ) (looks : Looks) (cs : List (ℕ × Unit {0})) → set s.words p n' ≡ s.words → RuleHolds lawful opening key (stepped s p n' id cs (with_looks looks v) keeps)
-  aside_keeps p n' looks cs same = knows lawful opening key s kept id v at p n' looks v.memory cs same (kept.memory.follows id v at) (λ q h. h)
+  pub aside_keeps : (p n' : ℕ) (looks : Looks) (cs : List (ℕ × Unit {0})) → set s.words p n' ≡ s.words → RuleHolds lawful opening sizes (stepped s p n' id cs (with_looks looks v) keeps)
+  aside_keeps p n' looks cs same = knows lawful opening sizes s kept id v at p n' looks v.memory cs same (kept.memory.follows id v at) (λ q h. h)
 
 -- what the rule says of what a session knows
 each_also : {A : Type 0} (P Q : A → Type 0) → ((x : A) → P x → Q x) → (xs : List A) → AllByRecursion P xs → AllByRecursion Q xs
 each_also P Q also [] each = tt
 each_also P Q also (x ∷ xs) each = (also x each.0, each_also P Q also xs each.1)
 
-pub known_in : (lawful : ℕ → List Entry → Type 0) (opening : ℕ → ℕ → ℕ → ℕ) (key : Sizes) (s : State (Unit {0}) View) (kept : RuleHolds lawful opening key s) (id : ℕ) (v : View) → get_elem? s.views id ≡ some v → KnowsHeld v
-known_in lawful opening key s kept id v at = let f = kept.memory.follows id v at in record {
+pub known_in : (lawful : ℕ → List Entry → Type 0) (opening : ℕ → ℕ → ℕ → ℕ) (sizes : Sizes) (s : State (Unit {0}) View) (kept : RuleHolds lawful opening sizes s) (id : ℕ) (v : View) → get_elem? s.views id ≡ some v → KnowsHeld v
+known_in lawful opening sizes s kept id v at = let f = kept.memory.follows id v at in record {
   since = each_also _ _ (λ (x : Since) is. is.0.held) v.memory.since f.since;
   loaded = each_also _ _ (λ (x : Loaded) is. is.0) v.memory.loaded f.loaded;
   written = each_also _ _ (λ (l : ℕ) is. is.0) v.written (kept.writers id v at);
 }
 
 -- what the state after a step says of the session
-module _ (lawful : ℕ → List Entry → Type 0) (opening : ℕ → ℕ → ℕ → ℕ) (key : Sizes) (s : State (Unit {0}) View) (p n id : ℕ) (cs : List (ℕ × Unit {0})) (v w : View) (at : get_elem? s.views id ≡ some v)
-    (kept : RuleHolds lawful opening key (stepped s p n id cs w keeps)) where
+module _ (lawful : ℕ → List Entry → Type 0) (opening : ℕ → ℕ → ℕ → ℕ) (sizes : Sizes) (s : State (Unit {0}) View) (p n id : ℕ) (cs : List (ℕ × Unit {0})) (v w : View) (at : get_elem? s.views id ≡ some v)
+    (kept : RuleHolds lawful opening sizes (stepped s p n id cs w keeps)) where
   here : Stands (map session_in_view (set s.views id w)) id w.session
   here = at_map session_in_view (set s.views id w) id w (set_here s.views id v w at)
 
@@ -103,63 +103,63 @@ module _ (lawful : ℕ → List Entry → Type 0) (opening : ℕ → ℕ → ℕ
   few_now = kept.latches.few id w.session here
 
   pub known_now : KnowsHeld w
-  known_now = known_in lawful opening key (stepped s p n id cs w keeps) kept id w (set_here s.views id v w at)
+  known_now = known_in lawful opening sizes (stepped s p n id cs w keeps) kept id w (set_here s.views id v w at)
 
   pub taken_now : total w.grants ≤ 2 ^ 52 * sessions_in w.role
   taken_now = kept.paid.bound id w (set_here s.views id v w at)
 
-module _ (lawful : ℕ → List Entry → Type 0) (opening : ℕ → ℕ → ℕ → ℕ) (key : Sizes) (entry : Entry) (slots id : ℕ) (me : Me (Unit {0}) View) where
+module _ (lawful : ℕ → List Entry → Type 0) (opening : ℕ → ℕ → ℕ → ℕ) (sizes : Sizes) (entry : Entry) (slots id : ℕ) (me : Me (Unit {0}) View) where
   -- a step that is this event, whatever it finds
-  pub turn_allowed : (e : Event) (f : ℕ → ℕ) → latch_of e < latches_of key → (live me.0.role ≡ 0 → ⊥) → me.0.memory.append ≡ None
+  pub turn_allowed : (e : Event) (f : ℕ → ℕ) → latch_of e < latches_of sizes → (live me.0.role ≡ 0 → ⊥) → me.0.memory.append ≡ None
       → ((n : ℕ) → CanBe (word_for e me.0.session) (latch_of e) me.0.session n → CanTake e me.0 n × Leaves (word_for e me.0.session) e me.0.session n (f n))
-      → Allows (RuleHolds lawful opening key) slots id me (latch_word_place (word_for e me.0.session) (latch_of e)) f (tells lawful opening key entry (Turns e) me)
+      → Allows (RuleHolds lawful opening sizes) slots id me (latch_word_place (word_for e me.0.session) (latch_of e)) f (tells lawful opening sizes entry (Turns e) me)
   turn_allowed e f inside alive closed leaves s kept sized at fits =
       let n : ℕ = slice_index s.words (latch_word_place (word_for e me.0.session) (latch_of e)) in
-      let found = found_in lawful opening key s kept id me.0 at (latch_of e) inside (word_for e me.0.session) in
-      let after = turn_keeps lawful opening key s kept id me.0 at alive e inside (f n) (leaves n found).1 (leaves n found).0 (looks_after (Turns e) me.0.session n me.0.looks) closed me.1 in
-      let is = turn_is lawful opening key s kept id me.0 at alive e inside (f n) (leaves n found).1 in (
+      let found = found_in lawful opening sizes s kept id me.0 at (latch_of e) inside (word_for e me.0.session) in
+      let after = turn_keeps lawful opening sizes s kept id me.0 at alive e inside (f n) (leaves n found).1 (leaves n found).0 (looks_after (Turns e) me.0.session n me.0.looks) closed me.1 in
+      let is = turn_is lawful opening sizes s kept id me.0 at alive e inside (f n) (leaves n found).1 in (
         view_after (Turns e) n me.0,
         keeps,
         tt,
         after,
-        (record { view = refl; event = is; proper = proper_now lawful opening key s _ (f n) id me.1 me.0 (view_after (Turns e) n me.0) at after; known = known_now lawful opening key s _ (f n) id me.1 me.0 (view_after (Turns e) n me.0) at after; range = found; few = few_now lawful opening key s _ (f n) id me.1 me.0 (view_after (Turns e) n me.0) at after; taken = taken_now lawful opening key s _ (f n) id me.1 me.0 (view_after (Turns e) n me.0) at after }, refl),
+        (record { view = refl; event = is; proper = proper_now lawful opening sizes s _ (f n) id me.1 me.0 (view_after (Turns e) n me.0) at after; known = known_now lawful opening sizes s _ (f n) id me.1 me.0 (view_after (Turns e) n me.0) at after; range = found; few = few_now lawful opening sizes s _ (f n) id me.1 me.0 (view_after (Turns e) n me.0) at after; taken = taken_now lawful opening sizes s _ (f n) id me.1 me.0 (view_after (Turns e) n me.0) at after }, refl),
       )
 
   -- an exchange from the word expected
-  pub try_allowed : (e : Event) (expected new : ℕ) → latch_of e < latches_of key → (live me.0.role ≡ 0 → ⊥) → me.0.memory.append ≡ None
+  pub try_allowed : (e : Event) (expected new : ℕ) → latch_of e < latches_of sizes → (live me.0.role ≡ 0 → ⊥) → me.0.memory.append ≡ None
       → (CanBe (word_for e me.0.session) (latch_of e) me.0.session expected → CanTake e me.0 expected × Leaves (word_for e me.0.session) e me.0.session expected new)
-      → Allows (RuleHolds lawful opening key) slots id me (latch_word_place (word_for e me.0.session) (latch_of e)) (λ n. either (n == expected) new n) (tells lawful opening key entry (Try e expected) me)
+      → Allows (RuleHolds lawful opening sizes) slots id me (latch_word_place (word_for e me.0.session) (latch_of e)) (λ n. either (n == expected) new n) (tells lawful opening sizes entry (Try e expected) me)
   try_allowed e expected new inside alive closed leaves s kept sized at fits =
       let a : Session = me.0.session in
       let p : ℕ = latch_word_place (word_for e a) (latch_of e) in
       let n : ℕ = slice_index s.words p in
-      let found = found_in lawful opening key s kept id me.0 at (latch_of e) inside (word_for e a) in
+      let found = found_in lawful opening sizes s kept id me.0 at (latch_of e) inside (word_for e a) in
       let looks : Looks = looks_after (Try e expected) a n me.0.looks in
-      let both = by_equal (λ b. RuleHolds lawful opening key (stepped s (latch_word_place (word_for e me.0.session) (latch_of e)) (either b new (slice_index s.words (latch_word_place (word_for e me.0.session) (latch_of e)))) id me.1
+      let both = by_equal (λ b. RuleHolds lawful opening sizes (stepped s (latch_word_place (word_for e me.0.session) (latch_of e)) (either b new (slice_index s.words (latch_word_place (word_for e me.0.session) (latch_of e)))) id me.1
       (with_looks (looks_after (Try e expected) me.0.session (slice_index s.words (latch_word_place (word_for e me.0.session) (latch_of e))) me.0.looks) (turned_by (if b then Some e else None) (slice_index s.words (latch_word_place (word_for e me.0.session) (latch_of e))) me.0)) keeps)
       × Happens (if b then Some e else None) me.0.session (slice_index s.words (latch_word_place (word_for e me.0.session) (latch_of e))) (turned_by (if b then Some e else None) (slice_index s.words (latch_word_place (word_for e me.0.session) (latch_of e))) me.0).session) n expected
       (λ hit.
       let can : CanTake e me.0 n = subst (λ n. CanTake e me.0 n) (sym hit) (leaves (subst (λ n. CanBe (word_for e me.0.session) (latch_of e) me.0.session n) hit found)).0 in
       let left : Leaves (word_for e a) e a n new = subst (λ n. Leaves (word_for e me.0.session) e me.0.session n new) (sym hit) (leaves (subst (λ n. CanBe (word_for e me.0.session) (latch_of e) me.0.session n) hit found)).1 in
-      let is = turn_is lawful opening key s kept id me.0 at alive e inside new left in
-      (turn_keeps lawful opening key s kept id me.0 at alive e inside new left can looks closed me.1, is))
-      (λ _. (aside_keeps lawful opening key s kept id me.0 at (latch_of e) inside p n looks me.1 (set_same s.words p (place_fits key s.words (latch_of e) (word_for e a) kept.sized inside)), refl)) in (
+      let is = turn_is lawful opening sizes s kept id me.0 at alive e inside new left in
+      (turn_keeps lawful opening sizes s kept id me.0 at alive e inside new left can looks closed me.1, is))
+      (λ _. (aside_keeps lawful opening sizes s kept id me.0 at (latch_of e) inside p n looks me.1 (set_same s.words p (place_fits sizes s.words (latch_of e) (word_for e a) kept.sized inside)), refl)) in (
         view_after (Try e expected) n me.0,
         keeps,
         tt,
         both.0,
-        (record { view = refl; event = both.1; proper = proper_now lawful opening key s _ _ id me.1 me.0 (view_after (Try e expected) n me.0) at both.0; known = known_now lawful opening key s _ _ id me.1 me.0 (view_after (Try e expected) n me.0) at both.0; range = found; few = few_now lawful opening key s _ _ id me.1 me.0 (view_after (Try e expected) n me.0) at both.0; taken = taken_now lawful opening key s _ _ id me.1 me.0 (view_after (Try e expected) n me.0) at both.0 }, refl),
+        (record { view = refl; event = both.1; proper = proper_now lawful opening sizes s _ _ id me.1 me.0 (view_after (Try e expected) n me.0) at both.0; known = known_now lawful opening sizes s _ _ id me.1 me.0 (view_after (Try e expected) n me.0) at both.0; range = found; few = few_now lawful opening sizes s _ _ id me.1 me.0 (view_after (Try e expected) n me.0) at both.0; taken = taken_now lawful opening sizes s _ _ id me.1 me.0 (view_after (Try e expected) n me.0) at both.0 }, refl),
       )
 
   -- a look at the lock word
-  pub look_allowed : (l : ℕ) → l < latches_of key → Allows (RuleHolds lawful opening key) slots id me (lock_place l) (λ n. n) (tells lawful opening key entry (Looked l) me)
+  pub look_allowed : (l : ℕ) → l < latches_of sizes → Allows (RuleHolds lawful opening sizes) slots id me (lock_place l) (λ n. n) (tells lawful opening sizes entry (Looked l) me)
   look_allowed l inside s kept sized at fits =
       let n : ℕ = slice_index s.words (lock_place l) in (
         view_after (Looked l) n me.0,
         keeps,
         tt,
-        aside_keeps lawful opening key s kept id me.0 at l inside (lock_place l) n (looks_after (Looked l) me.0.session n me.0.looks) me.1 (set_same s.words (lock_place l) (place_fits key s.words l Lock kept.sized inside)),
-        (record { view = refl; event = refl; proper = kept.latches.good.proper id me.0.session (at_map session_in_view s.views id me.0 at); known = (let k = known_in lawful opening key s kept id me.0 at in record { since = k.since; loaded = k.loaded; written = k.written }); range = found_in lawful opening key s kept id me.0 at l inside Lock; few = kept.latches.few id me.0.session (at_map session_in_view s.views id me.0 at); taken = kept.paid.bound id me.0 at }, refl),
+        aside_keeps lawful opening sizes s kept id me.0 at l inside (lock_place l) n (looks_after (Looked l) me.0.session n me.0.looks) me.1 (set_same s.words (lock_place l) (place_fits sizes s.words l Lock kept.sized inside)),
+        (record { view = refl; event = refl; proper = kept.latches.good.proper id me.0.session (at_map session_in_view s.views id me.0 at); known = (let k = known_in lawful opening sizes s kept id me.0 at in record { since = k.since; loaded = k.loaded; written = k.written }); range = found_in lawful opening sizes s kept id me.0 at l inside Lock; few = kept.latches.few id me.0.session (at_map session_in_view s.views id me.0 at); taken = kept.paid.bound id me.0 at }, refl),
       )
 
   -- the wish that is refused is_drawn more takes nothing
@@ -176,47 +176,47 @@ module _ (lawful : ℕ → List Entry → Type 0) (opening : ℕ → ℕ → ℕ
   again_none l n held p busy = absurd (cc)
 
   -- a load of the lock word by who set the flag
-  pub recheck_allowed : (l : ℕ) → l < latches_of key → (live me.0.role ≡ 0 → ⊥) → me.0.memory.append ≡ None → Allows (RuleHolds lawful opening key) slots id me (lock_place l) (λ n. n) (tells lawful opening key entry (Recheck l) me)
+  pub recheck_allowed : (l : ℕ) → l < latches_of sizes → (live me.0.role ≡ 0 → ⊥) → me.0.memory.append ≡ None → Allows (RuleHolds lawful opening sizes) slots id me (lock_place l) (λ n. n) (tells lawful opening sizes entry (Recheck l) me)
   recheck_allowed l inside alive closed s kept sized at fits =
       let a : Session = me.0.session in
       let n : ℕ = slice_index s.words (lock_place l) in
       let looks : Looks = looks_after (Recheck l) me.0.session n me.0.looks in
-      let found = found_in lawful opening key s kept id me.0 at l inside Lock in
+      let found = found_in lawful opening sizes s kept id me.0 at l inside Lock in
       let both = by_flag s kept at (refuses a.phase n) refl in (
         view_after (Recheck l) n me.0,
         keeps,
         tt,
         both.0,
-        (record { view = refl; event = both.1; proper = proper_now lawful opening key s _ _ id me.1 me.0 (view_after (Recheck l) n me.0) at both.0; known = known_now lawful opening key s _ _ id me.1 me.0 (view_after (Recheck l) n me.0) at both.0; range = found; few = few_now lawful opening key s _ _ id me.1 me.0 (view_after (Recheck l) n me.0) at both.0; taken = taken_now lawful opening key s _ _ id me.1 me.0 (view_after (Recheck l) n me.0) at both.0 }, refl),
+        (record { view = refl; event = both.1; proper = proper_now lawful opening sizes s _ _ id me.1 me.0 (view_after (Recheck l) n me.0) at both.0; known = known_now lawful opening sizes s _ _ id me.1 me.0 (view_after (Recheck l) n me.0) at both.0; range = found; few = few_now lawful opening sizes s _ _ id me.1 me.0 (view_after (Recheck l) n me.0) at both.0; taken = taken_now lawful opening sizes s _ _ id me.1 me.0 (view_after (Recheck l) n me.0) at both.0 }, refl),
       )
     where
-      by_flag : (s : State (Unit {0}) View) → RuleHolds lawful opening key s → get_elem? s.views id ≡ some me.0 → (b : Bool) → refuses me.0.session.phase (slice_index s.words (lock_place l)) ≡ b
-          → RuleHolds lawful opening key (stepped s (lock_place l) (slice_index s.words (lock_place l)) id me.1 (with_looks (looks_after (Recheck l) me.0.session (slice_index s.words (lock_place l)) me.0.looks) (turned_by (if b then Some (Again l) else None) (slice_index s.words (lock_place l)) me.0)) keeps)
+      by_flag : (s : State (Unit {0}) View) → RuleHolds lawful opening sizes s → get_elem? s.views id ≡ some me.0 → (b : Bool) → refuses me.0.session.phase (slice_index s.words (lock_place l)) ≡ b
+          → RuleHolds lawful opening sizes (stepped s (lock_place l) (slice_index s.words (lock_place l)) id me.1 (with_looks (looks_after (Recheck l) me.0.session (slice_index s.words (lock_place l)) me.0.looks) (turned_by (if b then Some (Again l) else None) (slice_index s.words (lock_place l)) me.0)) keeps)
           × Happens (if b then Some (Again l) else None) me.0.session (slice_index s.words (lock_place l)) (turned_by (if b then Some (Again l) else None) (slice_index s.words (lock_place l)) me.0).session
       by_flag s kept at true busy =
           let a : Session = me.0.session in
           let n : ℕ = slice_index s.words (lock_place l) in
           let left : n + taken l (turn_at (Again l) n a).session ≡ n + taken l a = ap (λ (t : ℕ). n + t) (again_same l n a.held a.phase busy) in
-          let is = turn_is lawful opening key s kept id me.0 at alive (Again l) inside n left in
-          (turn_keeps lawful opening key s kept id me.0 at alive (Again l) inside n left (inl (again_none l n a.held a.phase busy)) (looks_after (Recheck l) me.0.session n me.0.looks) closed me.1, is)
+          let is = turn_is lawful opening sizes s kept id me.0 at alive (Again l) inside n left in
+          (turn_keeps lawful opening sizes s kept id me.0 at alive (Again l) inside n left (inl (again_none l n a.held a.phase busy)) (looks_after (Recheck l) me.0.session n me.0.looks) closed me.1, is)
       by_flag s kept at false given =
-          (aside_keeps lawful opening key s kept id me.0 at l inside (lock_place l) (slice_index s.words (lock_place l)) (looks_after (Recheck l) me.0.session (slice_index s.words (lock_place l)) me.0.looks) me.1 (set_same s.words (lock_place l) (place_fits key s.words l Lock kept.sized inside)), refl)
+          (aside_keeps lawful opening sizes s kept id me.0 at l inside (lock_place l) (slice_index s.words (lock_place l)) (looks_after (Recheck l) me.0.session (slice_index s.words (lock_place l)) me.0.looks) me.1 (set_same s.words (lock_place l) (place_fits sizes s.words l Lock kept.sized inside)), refl)
 
   -- the session's number is stored as the writer
-  pub store_allowed : (l number : ℕ) → l < latches_of key → (live me.0.role ≡ 0 → ⊥) → me.0.memory.append ≡ None → 0 < claims l me.0.session → number ≡ number_in me.0.role
-      → Allows (RuleHolds lawful opening key) slots id me (writer_place l) (λ _. number) (tells lawful opening key entry (StoreWriter l) me)
+  pub store_allowed : (l number : ℕ) → l < latches_of sizes → (live me.0.role ≡ 0 → ⊥) → me.0.memory.append ≡ None → 0 < claims l me.0.session → number ≡ number_in me.0.role
+      → Allows (RuleHolds lawful opening sizes) slots id me (writer_place l) (λ _. number) (tells lawful opening sizes entry (StoreWriter l) me)
   store_allowed l number inside alive closed claims' mine s kept sized at fits =
       let w : View = signed l me.0 in
       let ss : List Session = map session_in_view s.views in
-      let latches : ℕ = latches_of key in
+      let latches : ℕ = latches_of sizes in
       let words : List ℕ = set s.words (writer_place l) number in
-      let fit : writer_place l < length s.words = place_fits key s.words l Writer kept.sized inside in
+      let fit : writer_place l < length s.words = place_fits sizes s.words l Writer kept.sized inside in
       let at' : Stands ss id me.0.session = at_map session_in_view s.views id me.0 at in
       let marks : marks_in latches s.words ≡ marks_in latches (set s.words (writer_place l) number) = same_marks s.words (length s.words) l number latches inside fit in
-      let after : RuleHolds lawful opening key (stepped s (writer_place l) number id me.1 (signed l me.0) keeps) = record {
+      let after : RuleHolds lawful opening sizes (stepped s (writer_place l) number id me.1 (signed l me.0) keeps) = record {
         sized = length-set s.words (writer_place l) number ∙ kept.sized;
         sessions = subst (λ (z : ℕ × List Role). SessionsPart z.0 z.1) (λ j. (sym (front latches s.words l number Writer drawn_place (omega arith)) j, sym (map_same role_of s.views id me.0 w at refl) j)) kept.sessions;
-        latches = subst (λ z. LatchPart (latches_of key) (set s.words (writer_place l) number) z) (sym (map_same session_in_view s.views id me.0 w at refl)) record {
+        latches = subst (λ z. LatchPart (latches_of sizes) (set s.words (writer_place l) number) z) (sym (map_same session_in_view s.views id me.0 w at refl)) record {
           good = subst (λ m. IsGood (map session_in_view s.views) m) marks kept.latches.good;
           counted = λ k h. let c = kept.latches.counted k h in let e = dite (ℕ_discrete l k)
               (λ q. subst (λ k. slice_index (set s.words (writer_place l) number) (lock_place k) ≡ slice_index s.words (lock_place k)) q (lock_else latches s.words l number Writer (λ z. absurd (cc))))
@@ -232,18 +232,18 @@ module _ (lawful : ℕ → List Entry → Type 0) (opening : ℕ → ℕ → ℕ
               let g = get_or-set_other s.words (writer_place l) (gen_place k) number 0 (λ e. omega arith) in let x = get_or-set_other s.words (writer_place l) (ex_gen_place k) number 0 (λ e. omega arith) in omega arith;
           bound = at_set (λ _ u. total u.grants ≤ 2 ^ 52 * sessions_in u.role) s.views id w (kept.paid.bound id me.0 at) (λ j u e d. kept.paid.bound j u e);
         };
-        writers = at_set (λ _ u. AllByRecursion (IsWriter (latches_of key) (set s.words (writer_place l) number) u) u.written) s.views id w
+        writers = at_set (λ _ u. AllByRecursion (IsWriter (latches_of sizes) (set s.words (writer_place l) number) u) u.written) s.views id w
             ((claims', get_or-set_same s.words (writer_place l) number 0 fit ∙ mine, inside), mine_write s l number fit mine me.0.written (kept.writers id me.0 at))
             (λ j u q d. others_write s l number u (good_one s kept at l claims' j u q d) u.written (kept.writers j u q));
         log = kept.log;
-        memory = view_part key (lawful key.pages) (by_place opening key.pages) s.words (set s.words (writer_place l) number) kept.log s.views id me.0 w kept.memory at (latch_far key s.words Writer l number inside)
+        memory = view_part sizes (lawful sizes.pages) (by_place opening sizes.pages) s.words (set s.words (writer_place l) number) kept.log s.views id me.0 w kept.memory at (latch_far sizes s.words Writer l number inside)
             (omega arith) (kept.memory.follows id me.0 at) (kept.memory.ended id me.0 at) (λ q h. h);
       } in (
         signed l me.0,
         keeps,
         tt,
         after,
-        (record { view = refl; event = refl; proper = proper_now lawful opening key s _ _ id me.1 me.0 (signed l me.0) at after; known = known_now lawful opening key s _ _ id me.1 me.0 (signed l me.0) at after; range = tt; few = few_now lawful opening key s _ _ id me.1 me.0 (signed l me.0) at after; taken = taken_now lawful opening key s _ _ id me.1 me.0 (signed l me.0) at after }, refl),
+        (record { view = refl; event = refl; proper = proper_now lawful opening sizes s _ _ id me.1 me.0 (signed l me.0) at after; known = known_now lawful opening sizes s _ _ id me.1 me.0 (signed l me.0) at after; range = tt; few = few_now lawful opening sizes s _ _ id me.1 me.0 (signed l me.0) at after; taken = taken_now lawful opening sizes s _ _ id me.1 me.0 (signed l me.0) at after }, refl),
       )
     where
       same_marks : (words : List ℕ) (len l number latches : ℕ) → l < latches → writer_place l < length words → marks_in latches words ≡ marks_in latches (set words (writer_place l) number)
@@ -251,7 +251,7 @@ module _ (lawful : ℕ → List Entry → Type 0) (opening : ℕ → ℕ → ℕ
           (λ q. subst (λ k. marks_in latches (set words (writer_place l) number) k ≡ marks_in latches words k) q (marks_here latches words l number Writer inside fit))
           (λ d. marks_away latches words l number Writer k d)) j
 
-      mine_write : (s : State (Unit {0}) View) (l number : ℕ) → writer_place l < length s.words → number ≡ number_in me.0.role → (xs : List ℕ) → AllByRecursion (IsWriter (latches_of key) s.words me.0) xs → AllByRecursion (IsWriter (latches_of key) (set s.words (writer_place l) number) (signed l me.0)) xs
+      mine_write : (s : State (Unit {0}) View) (l number : ℕ) → writer_place l < length s.words → number ≡ number_in me.0.role → (xs : List ℕ) → AllByRecursion (IsWriter (latches_of sizes) s.words me.0) xs → AllByRecursion (IsWriter (latches_of sizes) (set s.words (writer_place l) number) (signed l me.0)) xs
       mine_write s l number fit mine [] each = tt
       mine_write s l number fit mine (x ∷ xs) each = (
         (
@@ -264,10 +264,10 @@ module _ (lawful : ℕ → List Entry → Type 0) (opening : ℕ → ℕ → ℕ
         mine_write s l number fit mine xs each.1,
       )
 
-      good_one : (s : State (Unit {0}) View) → RuleHolds lawful opening key s → get_elem? s.views id ≡ some me.0 → (l : ℕ) → 0 < claims l me.0.session → (j : ℕ) (u : View) → get_elem? s.views j ≡ some u → id ≢ j → claims l u.session ≡ 0
+      good_one : (s : State (Unit {0}) View) → RuleHolds lawful opening sizes s → get_elem? s.views id ≡ some me.0 → (l : ℕ) → 0 < claims l me.0.session → (j : ℕ) (u : View) → get_elem? s.views j ≡ some u → id ≢ j → claims l u.session ≡ 0
       good_one s kept at l claims' j u q d = (kept.latches.good.beside id j me.0.session u.session (at_map session_in_view s.views id me.0 at) (at_map session_in_view s.views j u q) d l).one_claim claims'
 
-      others_write : (s : State (Unit {0}) View) (l number : ℕ) (u : View) → claims l u.session ≡ 0 → (xs : List ℕ) → AllByRecursion (IsWriter (latches_of key) s.words u) xs → AllByRecursion (IsWriter (latches_of key) (set s.words (writer_place l) number) u) xs
+      others_write : (s : State (Unit {0}) View) (l number : ℕ) (u : View) → claims l u.session ≡ 0 → (xs : List ℕ) → AllByRecursion (IsWriter (latches_of sizes) s.words u) xs → AllByRecursion (IsWriter (latches_of sizes) (set s.words (writer_place l) number) u) xs
       others_write s l number u none [] each = tt
       others_write s l number u none (x ∷ xs) each = (
         (
@@ -280,26 +280,26 @@ module _ (lawful : ℕ → List Entry → Type 0) (opening : ℕ → ℕ → ℕ
       )
 
   -- .. on a word and at a place that are named
-  pub turn_allowed_at : (c : LatchWord) (p : ℕ) (e : Event) (f : ℕ → ℕ) → word_for e me.0.session ≡ c → p ≡ latch_word_place c (latch_of e) → latch_of e < latches_of key → (live me.0.role ≡ 0 → ⊥) → me.0.memory.append ≡ None
+  pub turn_allowed_at : (c : LatchWord) (p : ℕ) (e : Event) (f : ℕ → ℕ) → word_for e me.0.session ≡ c → p ≡ latch_word_place c (latch_of e) → latch_of e < latches_of sizes → (live me.0.role ≡ 0 → ⊥) → me.0.memory.append ≡ None
       → ((n : ℕ) → CanBe c (latch_of e) me.0.session n → CanTake e me.0 n × Leaves c e me.0.session n (f n))
-      → Allows (RuleHolds lawful opening key) slots id me p f (tells lawful opening key entry (Turns e) me)
+      → Allows (RuleHolds lawful opening sizes) slots id me p f (tells lawful opening sizes entry (Turns e) me)
   turn_allowed_at c p e f is at inside alive closed leaves =
-      subst (λ p. Allows (RuleHolds lawful opening key) slots id me p f (tells lawful opening key entry (Turns e) me)) (ap (λ c. latch_word_place c (latch_of e)) is ∙ sym at)
+      subst (λ p. Allows (RuleHolds lawful opening sizes) slots id me p f (tells lawful opening sizes entry (Turns e) me)) (ap (λ c. latch_word_place c (latch_of e)) is ∙ sym at)
       (turn_allowed e f inside alive closed (subst (λ c. (n : ℕ) → CanBe c (latch_of e) me.0.session n → CanTake e me.0 n × Leaves c e me.0.session n (f n)) (sym is) leaves))
 
-  pub try_allowed_at : (p : ℕ) (e : Event) (expected new : ℕ) → word_for e me.0.session ≡ Lock → p ≡ lock_place (latch_of e) → latch_of e < latches_of key → (live me.0.role ≡ 0 → ⊥) → me.0.memory.append ≡ None
+  pub try_allowed_at : (p : ℕ) (e : Event) (expected new : ℕ) → word_for e me.0.session ≡ Lock → p ≡ lock_place (latch_of e) → latch_of e < latches_of sizes → (live me.0.role ≡ 0 → ⊥) → me.0.memory.append ≡ None
       → (CanBe Lock (latch_of e) me.0.session expected → CanTake e me.0 expected × Leaves Lock e me.0.session expected new)
-      → Allows (RuleHolds lawful opening key) slots id me p (λ n. either (n == expected) new n) (tells lawful opening key entry (Try e expected) me)
+      → Allows (RuleHolds lawful opening sizes) slots id me p (λ n. either (n == expected) new n) (tells lawful opening sizes entry (Try e expected) me)
   try_allowed_at p e expected new is at inside alive closed leaves =
-      subst (λ p. Allows (RuleHolds lawful opening key) slots id me p (λ n. either (n == expected) new n) (tells lawful opening key entry (Try e expected) me)) (ap (λ c. latch_word_place c (latch_of e)) is ∙ sym at)
+      subst (λ p. Allows (RuleHolds lawful opening sizes) slots id me p (λ n. either (n == expected) new n) (tells lawful opening sizes entry (Try e expected) me)) (ap (λ c. latch_word_place c (latch_of e)) is ∙ sym at)
       (try_allowed e expected new inside alive closed (subst (λ c. CanBe c (latch_of e) me.0.session expected → CanTake e me.0 expected × Leaves c e me.0.session expected new) (sym is) leaves))
 
-  pub look_allowed_at : (p l : ℕ) → p ≡ lock_place l → l < latches_of key → Allows (RuleHolds lawful opening key) slots id me p (λ n. n) (tells lawful opening key entry (Looked l) me)
-  look_allowed_at p l at inside = subst (λ p. Allows (RuleHolds lawful opening key) slots id me p (λ n. n) (tells lawful opening key entry (Looked l) me)) (sym at) (look_allowed l inside)
+  pub look_allowed_at : (p l : ℕ) → p ≡ lock_place l → l < latches_of sizes → Allows (RuleHolds lawful opening sizes) slots id me p (λ n. n) (tells lawful opening sizes entry (Looked l) me)
+  look_allowed_at p l at inside = subst (λ p. Allows (RuleHolds lawful opening sizes) slots id me p (λ n. n) (tells lawful opening sizes entry (Looked l) me)) (sym at) (look_allowed l inside)
 
-  pub recheck_allowed_at : (p l : ℕ) → p ≡ lock_place l → l < latches_of key → (live me.0.role ≡ 0 → ⊥) → me.0.memory.append ≡ None → Allows (RuleHolds lawful opening key) slots id me p (λ n. n) (tells lawful opening key entry (Recheck l) me)
-  recheck_allowed_at p l at inside alive closed = subst (λ p. Allows (RuleHolds lawful opening key) slots id me p (λ n. n) (tells lawful opening key entry (Recheck l) me)) (sym at) (recheck_allowed l inside alive closed)
+  pub recheck_allowed_at : (p l : ℕ) → p ≡ lock_place l → l < latches_of sizes → (live me.0.role ≡ 0 → ⊥) → me.0.memory.append ≡ None → Allows (RuleHolds lawful opening sizes) slots id me p (λ n. n) (tells lawful opening sizes entry (Recheck l) me)
+  recheck_allowed_at p l at inside alive closed = subst (λ p. Allows (RuleHolds lawful opening sizes) slots id me p (λ n. n) (tells lawful opening sizes entry (Recheck l) me)) (sym at) (recheck_allowed l inside alive closed)
 
-  pub store_allowed_at : (p l number : ℕ) → p ≡ writer_place l → l < latches_of key → (live me.0.role ≡ 0 → ⊥) → me.0.memory.append ≡ None → 0 < claims l me.0.session → number ≡ number_in me.0.role
-      → Allows (RuleHolds lawful opening key) slots id me p (λ _. number) (tells lawful opening key entry (StoreWriter l) me)
-  store_allowed_at p l number at inside alive closed claims' mine = subst (λ p. Allows (RuleHolds lawful opening key) slots id me p (λ _. number) (tells lawful opening key entry (StoreWriter l) me)) (sym at) (store_allowed l number inside alive closed claims' mine)
+  pub store_allowed_at : (p l number : ℕ) → p ≡ writer_place l → l < latches_of sizes → (live me.0.role ≡ 0 → ⊥) → me.0.memory.append ≡ None → 0 < claims l me.0.session → number ≡ number_in me.0.role
+      → Allows (RuleHolds lawful opening sizes) slots id me p (λ _. number) (tells lawful opening sizes entry (StoreWriter l) me)
+  store_allowed_at p l number at inside alive closed claims' mine = subst (λ p. Allows (RuleHolds lawful opening sizes) slots id me p (λ _. number) (tells lawful opening sizes entry (StoreWriter l) me)) (sym at) (store_allowed l number inside alive closed claims' mine)

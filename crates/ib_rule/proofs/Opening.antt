@@ -26,16 +26,16 @@ one_freed n p w old now are at fits free = record {
 }
 
 -- no page word is the law's yet, and one more
-pub none_opened : (opening : ℕ → ℕ → ℕ → ℕ) (key : Sizes) (words : List ℕ) → AreOpened opening key 0 words words
-none_opened opening key words = record { sized = refl; opened = λ q h. absurd (omega arith); before = λ p h. refl }
+pub none_opened : (opening : ℕ → ℕ → ℕ → ℕ) (sizes : Sizes) (words : List ℕ) → AreOpened opening sizes 0 words words
+none_opened opening sizes words = record { sized = refl; opened = λ q h. absurd (omega arith); before = λ p h. refl }
 
-pub one_opened : (opening : ℕ → ℕ → ℕ → ℕ) (key : Sizes) (n p w : ℕ) (old now : List ℕ) → AreOpened opening key n old now → p ≡ base key + n → base key + n < length old → w ≡ by_place opening key.pages n → AreOpened opening key (n + 1) old (slice_set now p w)
-one_opened opening key n p w old now are at fits word = record {
+pub one_opened : (opening : ℕ → ℕ → ℕ → ℕ) (sizes : Sizes) (n p w : ℕ) (old now : List ℕ) → AreOpened opening sizes n old now → p ≡ base sizes + n → base sizes + n < length old → w ≡ by_place opening sizes.pages n → AreOpened opening sizes (n + 1) old (slice_set now p w)
+one_opened opening sizes n p w old now are at fits word = record {
   sized = length-set now p w ∙ are.sized;
   opened = λ q h. dite (ℕ_discrete q n)
-      (λ z. subst (λ q. get_or (set now p w) q 0 ≡ by_place opening key.pages n) (let e : p ≡ base key + q = omega arith in e) (get_or-set_same now p w 0 (let s = are.sized in omega arith) ∙ word)
-      ∙ sym (ap (λ (n : ℕ). by_place opening key.pages n) z))
-      (λ z. get_or-set_other now p (base key + q) w 0 (λ e. z (omega arith)) ∙ are.opened q (omega arith));
+      (λ z. subst (λ q. get_or (set now p w) q 0 ≡ by_place opening sizes.pages n) (let e : p ≡ base sizes + q = omega arith in e) (get_or-set_same now p w 0 (let s = are.sized in omega arith) ∙ word)
+      ∙ sym (ap (λ (n : ℕ). by_place opening sizes.pages n) z))
+      (λ z. get_or-set_other now p (base sizes + q) w 0 (λ e. z (omega arith)) ∙ are.opened q (omega arith));
   before = λ q h. get_or-set_other now p q w 0 (λ e. omega arith) ∙ are.before q h;
 }
 
@@ -45,9 +45,9 @@ get_zero (suc n) zero = refl
 get_zero (suc n) (suc p) = get_zero n p
 
 -- zeros with the lock words freed and the pages opened are the words at the start
-pub opens_so : (opening : ℕ → ℕ → ℕ → ℕ) (key : Sizes) (mid words : List ℕ) → AreFreed (latches_of key) (replicate (words_of key) 0) mid → AreOpened opening key (page_places key) mid words → IsOpening opening key words
-opens_so opening key mid words freed opened = record {
-  sized = opened.sized ∙ (freed.sized ∙ length-replicate (words_of key) 0);
+pub opens_so : (opening : ℕ → ℕ → ℕ → ℕ) (sizes : Sizes) (mid words : List ℕ) → AreFreed (latches_of sizes) (replicate (words_of sizes) 0) mid → AreOpened opening sizes (page_places sizes) mid words → IsOpening opening sizes words
+opens_so opening sizes mid words freed opened = record {
+  sized = opened.sized ∙ (freed.sized ∙ length-replicate (words_of sizes) 0);
   none_drawn = zero_at drawn_place (omega arith) (λ l h e. omega arith);
   none_logged = zero_at end_place (omega arith) (λ l h e. omega arith);
   all_free = λ l h. opened.before (lock_place l) (omega arith) ∙ freed.freed l h;
@@ -57,5 +57,5 @@ opens_so opening key mid words freed opened = record {
   opened = opened.opened;
 }
   where
-    zero_at : (p : ℕ) → p < base key → ((l : ℕ) → l < latches_of key → lock_place l ≢ p) → slice_index words p ≡ 0
-    zero_at p low away = opened.before p low ∙ (freed.others p away ∙ get_zero (words_of key) p)
+    zero_at : (p : ℕ) → p < base sizes → ((l : ℕ) → l < latches_of sizes → lock_place l ≢ p) → slice_index words p ≡ 0
+    zero_at p low away = opened.before p low ∙ (freed.others p away ∙ get_zero (words_of sizes) p)

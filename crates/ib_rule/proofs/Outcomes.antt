@@ -8,7 +8,7 @@ use Rattle.ib_levels.specs.declared.level.Level.{Level}
 use Rattle.ib_levels.specs.declared.level.Level.TheVariants.{Log}
 use Rattle.ib_levels.specs.declared.level.Mode.{Mode}
 use Rattle.ib_levels.specs.declared.level.Mode.TheVariants.{S as ModeS, Sx as ModeSx, X as ModeX}
-use Rattle.ib_levels.specs.Holding.{changed, on}
+use Rattle.ib_levels.specs.Holding.{changed_on, on}
 use Rattle.ib_levels.proofs.Counts.{by_equal}
 use Rattle.ib_core.specs.declared.latch_word.LatchWord.{LatchWord}
 use Rattle.ib_core.specs.declared.latch_word.LatchWord.TheVariants.{Lock, Waiters, Writer, Generation, ExGeneration}
@@ -31,7 +31,7 @@ use Rattle.ib_core.proofs.Phased.{with_phase}
 use Rattle.ib_core.proofs.Quiet.{at_itself}
 use Rattle.ib_core.proofs.Turned.{choose}
 use Rattle.ib_core.proofs.Weighed.{flagged_response}
-use Rattle.ib_rule.specs.declared.kind.Kind.TheVariants.{Turn, Try, Recheck, Look}
+use Rattle.ib_rule.specs.declared.kind.StepKind.TheVariants.{Turn, Try, Recheck, Look}
 use Rattle.ib_rule.specs.declared.view.View.{View}
 use Rattle.ib_rule.specs.Afterwards.{cleared, ex_loaded, flag_loaded, flagged, gen_loaded, granted, in_phase, phased, with_step, word_loaded}
 use Rattle.ib_rule.specs.Conditions.{IsArmed, MayLoadExGen, MayLoadFlag, MayLoadGen, MayTry, ex_gen_event, flag_event, gen_event, try_event, word_kind}
@@ -175,7 +175,7 @@ module _ (v : View) (l n : ℕ) (known : KnowsHeld v) where
 
   -- with one more of a mode, of which the response has this session
   pub more_by : (e : Event) (r : Response) (mode : Mode) → latch_of e ≡ l → response_of (word_in n) (marks_found n) e v.session ≡ r → won r.answer (wish_of v.session.phase e) ≡ Some mode
-      → r.session.held ≡ changed l (one_more mode) v.session.held → turned e n v ≡ granted mode r.session v
+      → r.session.held ≡ changed_on l (one_more mode) v.session.held → turned e n v ≡ granted mode r.session v
   more_by e r mode here is wins held =
       won_by e r mode here is wins
       (λ some. subst (λ (hs : List Holding). 0 < on l (λ h. 1) hs) (sym held) (let m = more_holds l v.session.held mode in omega arith))
@@ -224,30 +224,30 @@ module _ (v : View) (l : ℕ) (word : ℤ) (known : KnowsHeld v) where
 
   pub upgrade_view : v.session.phase ≡ Free → IsProper v.session → 0 < sx_grants l v.session → x_grants l v.session ≡ 0 → is_above_0 word ≡ true
       → view_after (Try (X l Log) (cell_of word)) (cell_of word) v
-      ≡ with_looks (looked l (cell_of word) (Some (cell_of word)) v.looks) (granted ModeX (reserving l (level_on l Log v.session.held) (word -ℤ pos X_LOCK_DECR) (changed l (one_more ModeX) v.session.held)).session v)
+      ≡ with_looks (looked l (cell_of word) (Some (cell_of word)) v.looks) (granted ModeX (reserving l (level_on l Log v.session.held) (word -ℤ pos X_LOCK_DECR) (changed_on l (one_more ModeX) v.session.held)).session v)
   upgrade_view free proper sx x up =
       let there = given_word ModeS word up in
-      let held : List Holding = changed l (one_more ModeX) v.session.held in
+      let held : List Holding = changed_on l (one_more ModeX) v.session.held in
       let r : Response = reserving l (level_on l Log v.session.held) (word -ℤ pos X_LOCK_DECR) held in
       won_view (X l Log) l (cell_of word) v refl
       ∙ ap (with_looks (looked l (cell_of word) (Some (cell_of word)) v.looks))
-      (more_by v l (cell_of word) known (X l Log) (reserving l (level_on l Log v.session.held) (word -ℤ pos X_LOCK_DECR) (changed l (one_more ModeX) v.session.held)) ModeX refl
+      (more_by v l (cell_of word) known (X l Log) (reserving l (level_on l Log v.session.held) (word -ℤ pos X_LOCK_DECR) (changed_on l (one_more ModeX) v.session.held)) ModeX refl
       (after_upgrade (word_in (cell_of word)) (marks_found (cell_of word)) l v.session proper free Log sx x (ap is_above_0 there ∙ up)
-      ∙ ap (λ (z : ℤ). reserving l (level_on l Log v.session.held) (z -ℤ pos X_LOCK_DECR) (changed l (one_more ModeX) v.session.held)) there)
-      (reserving_wins l (level_on l Log v.session.held) (word -ℤ pos X_LOCK_DECR) (changed l (one_more ModeX) v.session.held) _ ModeX (wish_free ModeX l Log v.session.phase free)) (reserving_held l (level_on l Log v.session.held) (word -ℤ pos X_LOCK_DECR) (changed l (one_more ModeX) v.session.held)))
+      ∙ ap (λ (z : ℤ). reserving l (level_on l Log v.session.held) (z -ℤ pos X_LOCK_DECR) (changed_on l (one_more ModeX) v.session.held)) there)
+      (reserving_wins l (level_on l Log v.session.held) (word -ℤ pos X_LOCK_DECR) (changed_on l (one_more ModeX) v.session.held) _ ModeX (wish_free ModeX l Log v.session.phase free)) (reserving_held l (level_on l Log v.session.held) (word -ℤ pos X_LOCK_DECR) (changed_on l (one_more ModeX) v.session.held)))
 
 -- the view after each further grant, and after each release
 module _ (v : View) (l n : ℕ) (known : KnowsHeld v) (free : v.session.phase ≡ Free) (proper : IsProper v.session) where
-  pub further_x_view : 0 < x_grants l v.session → view_after (Turn (X l Log)) n v ≡ with_step (granted ModeX (with_phase Free (changed l (one_more ModeX) v.session.held)) v)
+  pub further_x_view : 0 < x_grants l v.session → view_after (Turn (X l Log)) n v ≡ with_step (granted ModeX (with_phase Free (changed_on l (one_more ModeX) v.session.held)) v)
   further_x_view has = ap with_step (more_by v l n known (X l Log) _ ModeX refl (after_further_x (word_in n) (marks_found n) l v.session proper free Log has) (wish_free ModeX l Log v.session.phase free) refl)
 
-  further_sx_turn : 0 < claims l v.session → turned (Sx l Log) n v ≡ granted ModeSx (with_phase Free (changed l (one_more ModeSx) v.session.held)) v
+  further_sx_turn : 0 < claims l v.session → turned (Sx l Log) n v ≡ granted ModeSx (with_phase Free (changed_on l (one_more ModeSx) v.session.held)) v
   further_sx_turn has = more_by v l n known (Sx l Log) _ ModeSx refl (after_further_sx (word_in n) (marks_found n) l v.session proper free Log has) (wish_free ModeSx l Log v.session.phase free) refl
 
-  pub further_sx_view : 0 < claims l v.session → sx_grants l v.session ≡ 0 → view_after (Turn (Sx l Log)) n v ≡ with_step (granted ModeSx (with_phase Free (changed l (one_more ModeSx) v.session.held)) v)
+  pub further_sx_view : 0 < claims l v.session → sx_grants l v.session ≡ 0 → view_after (Turn (Sx l Log)) n v ≡ with_step (granted ModeSx (with_phase Free (changed_on l (one_more ModeSx) v.session.held)) v)
   further_sx_view has none = (λ j. with_looks (turn_looks (if lt_none (sx_grants l v.session) none j then Writer else Lock) (Sx l Log) n v.looks) (further_sx_turn has j))
 
-  pub counted_sx_view : 0 < claims l v.session → 0 < sx_grants l v.session → view_after (Turn (Sx l Log)) n v ≡ granted ModeSx (with_phase Free (changed l (one_more ModeSx) v.session.held)) v
+  pub counted_sx_view : 0 < claims l v.session → 0 < sx_grants l v.session → view_after (Turn (Sx l Log)) n v ≡ granted ModeSx (with_phase Free (changed_on l (one_more ModeSx) v.session.held)) v
   counted_sx_view has some = (λ j. with_looks (turn_looks (if lt_some (sx_grants l v.session) some j then Writer else Lock) (Sx l Log) n v.looks) (further_sx_turn has j))
 
 -- .. and after a release of SX or X, of which the session is known

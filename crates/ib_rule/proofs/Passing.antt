@@ -19,7 +19,7 @@ use Rattle.ib_logrec.specs.declared.entry.Entry.{Entry}
 use Rattle.ib_logrec.specs.declared.entry.TheConstants.{MOST_SESSIONS}
 use Rattle.ib_logrec.specs.Log.{used}
 use Rattle.ib_rule.specs.declared.looks.Looks.{Looks}
-use Rattle.ib_rule.specs.declared.memory.Memory.{Memory}
+use Rattle.ib_rule.specs.declared.memory.Knowledge.{Knowledge}
 use Rattle.ib_rule.specs.declared.pass.Pass.TheInside.{Inside}
 use Rattle.ib_rule.specs.declared.pass.TheConstants.{MOST_HELD}
 use Rattle.ib_rule.specs.declared.view.Role.TheVariants.{Session as Seated}
@@ -32,7 +32,7 @@ drawn_as : (m n : ℕ) → n ≡ m → (1 ≤ m) × (m ≤ MOST_SESSIONS) → (1
 drawn_as m n same is = let a = is.0 in let b = is.1 in (omega arith, omega arith)
 
 -- the same lists are a front of the same log
-front_of : (g h : Sizes) (m k : Memory) → h ≡ g → k.seen ≡ m.seen → k.own ≡ m.own → IsFront g m → IsFront h k
+front_of : (g h : Sizes) (m k : Knowledge) → h ≡ g → k.seen ≡ m.seen → k.own ≡ m.own → IsFront g m → IsFront h k
 front_of g h m k sizes seen own is = record {
   mine = let a = ap length seen in let b = ap length own in let c = is.mine in omega arith;
   short = let a = ap length seen in let b = ap used seen in let c = is.short in omega arith;
@@ -74,7 +74,7 @@ pass_turned p q e n answer looks is plain view proper known few taken turn count
     }
 
 -- a pass whose seat knows more of the log and the pages, with its mirrors of that
-pub pass_knows : (p q : Inside) (m : Memory) → IsPass p → q.seat.me ≡ (with_memory m p.seat.me.0, p.seat.me.1) → KnowsHeld q.seat.me.0 → q.place ≡ length m.seen → q.used ≡ used m.seen → q.made ≡ length m.own → IsFront p.geometry m
+pub pass_knows : (p q : Inside) (m : Knowledge) → IsPass p → q.seat.me ≡ (with_memory m p.seat.me.0, p.seat.me.1) → KnowsHeld q.seat.me.0 → q.place ≡ length m.seen → q.used ≡ used m.seen → q.made ≡ length m.own → IsFront p.geometry m
     → q.geometry ≡ p.geometry → q.number ≡ p.number → q.member ≡ p.member → q.grants ≡ p.grants → q.words ≡ p.words → q.desk ≡ p.desk → IsPass q
 pass_knows p q m is same known place used_is made front geometry number member grants_are words desk =
     let view : q.seat.me.0 ≡ with_memory m p.seat.me.0 = ap (λ (m : Me (Unit {0}) View). m.0) same in record {
@@ -106,7 +106,7 @@ longer_front xs ys m n a b = by_test (nat_lt (length xs) (length ys)) (nat_lt m.
     by_test true false is = absurd (cc)
     by_test false true is = absurd (cc)
 
-pub longer_fits : (sizes : Sizes) (m k : Memory) → IsFront sizes m → IsFront sizes k → length m.seen ≤ length (longer m.seen k.seen)
+pub longer_fits : (sizes : Sizes) (m k : Knowledge) → IsFront sizes m → IsFront sizes k → length m.seen ≤ length (longer m.seen k.seen)
     → IsFront sizes (record m { met = []; seen = longer m.seen k.seen })
 longer_fits sizes m k is other more =
     let both = by_test (nat_lt (length m.seen) (length k.seen)) in record { mine = let a = is.mine in omega arith; short = both.0; room = both.1 }

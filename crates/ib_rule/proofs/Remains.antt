@@ -19,7 +19,7 @@ use Rattle.ib_core.specs.Responses.{latch_of}
 use Rattle.ib_core.specs.Sessions.{claims, holdings}
 use Rattle.ib_core.specs.Turns.{turn_at, word_for}
 use Rattle.ib_core.proofs.NumberTests.{lt_some}
-use Rattle.ib_rule.specs.declared.kind.Kind.TheVariants.{Turn}
+use Rattle.ib_rule.specs.declared.kind.StepKind.TheVariants.{Turn}
 use Rattle.ib_rule.specs.declared.looks.Looks.{Looks}
 use Rattle.ib_rule.specs.declared.view.View.{View}
 use Rattle.ib_rule.specs.Afterwards.{in_phase, phased}

@@ -9,7 +9,7 @@ use Rattle.ib_levels.specs.declared.level.Level.{Level}
 use Rattle.ib_levels.specs.declared.level.Level.TheVariants.{Log}
 use Rattle.ib_levels.specs.declared.level.Mode.{Mode}
 use Rattle.ib_levels.specs.declared.level.Mode.TheVariants.{Sx as ModeSx, X as ModeX}
-use Rattle.ib_levels.specs.Holding.{changed, without}
+use Rattle.ib_levels.specs.Holding.{changed_on, without_latch}
 use Rattle.ib_core.specs.declared.phase.Phase.{Phase}
 use Rattle.ib_core.specs.declared.phase.Phase.TheVariants.{Free, Armed, Flagged, Checked, Asleep, Next, NextArmed, NextChecked, NextAsleep, OwesLook, OwesClear, OwesRaise, OwesRaiseEx}
 use Rattle.ib_core.specs.declared.event.Event.{Event}
@@ -30,7 +30,7 @@ use Rattle.ib_core.proofs.Phased.{with_phase}
 use Rattle.ib_core.proofs.Quiet.{at_itself}
 use Rattle.ib_core.proofs.Wishes.{allowed_new}
 use Rattle.ib_levels.proofs.Counts.{unheld_from_none}
-use Rattle.ib_rule.specs.declared.kind.Kind.TheVariants.{Turn as Turns}
+use Rattle.ib_rule.specs.declared.kind.StepKind.TheVariants.{Turn as Turns}
 use Rattle.ib_rule.specs.declared.view.View.{View}
 use Rattle.ib_rule.specs.Steps.{view_after}
 use Rattle.ib_rule.specs.Conditions.{IsArmed, MayLoadExGen, MayLoadFlag, MayLoadGen, ex_gen_event, flag_event, gen_event, writer_event}
@@ -122,16 +122,16 @@ module _ (v w : View) (l n : ℕ) where
 
 -- the session after each further grant and each release
 module _ (v w : View) (l n : ℕ) (free : v.session.phase ≡ Free) (proper : IsProper v.session) where
-  pub further_sx_session : 0 < claims l v.session → w ≡ view_after (Turns (Sx l Log)) n v → w.session ≡ with_phase Free (changed l (one_more ModeSx) v.session.held)
+  pub further_sx_session : 0 < claims l v.session → w ≡ view_after (Turns (Sx l Log)) n v → w.session ≡ with_phase Free (changed_on l (one_more ModeSx) v.session.held)
   further_sx_session has is = response_session v w (Sx l Log) n _ is (after_further_sx (word_in n) (marks_found n) l v.session proper free Log has)
 
-  pub last_sx_session : sx_grants l v.session ≡ 1 → x_grants l v.session ≡ 0 → w ≡ view_after (Turns (Usx l)) n v → w.session ≡ with_phase (OwesLook l) (without l v.session.held)
+  pub last_sx_session : sx_grants l v.session ≡ 1 → x_grants l v.session ≡ 0 → w ≡ view_after (Turns (Usx l)) n v → w.session ≡ with_phase (OwesLook l) (without_latch l v.session.held)
   last_sx_session sx x is = response_session v w (Usx l) n _ is (after_last_sx_back (word_in n) (marks_found n) l v.session proper free sx x)
 
-  pub sx_back_session : 0 < sx_grants l v.session → 1 < claims l v.session → w ≡ view_after (Turns (Usx l)) n v → w.session ≡ with_phase Free (changed l (one_fewer ModeSx) v.session.held)
+  pub sx_back_session : 0 < sx_grants l v.session → 1 < claims l v.session → w ≡ view_after (Turns (Usx l)) n v → w.session ≡ with_phase Free (changed_on l (one_fewer ModeSx) v.session.held)
   sx_back_session sx more is = response_session v w (Usx l) n _ is (after_sx_back (word_in n) (marks_found n) l v.session proper free sx more)
 
-  pub x_back_session : 1 < x_grants l v.session → w ≡ view_after (Turns (Ux l)) n v → w.session ≡ with_phase Free (changed l (one_fewer ModeX) v.session.held)
+  pub x_back_session : 1 < x_grants l v.session → w ≡ view_after (Turns (Ux l)) n v → w.session ≡ with_phase Free (changed_on l (one_fewer ModeX) v.session.held)
   x_back_session more is = response_session v w (Ux l) n _ is (after_x_back (word_in n) (marks_found n) l v.session proper free more)
 
   -- the last X, which is the last grant where no SX is left
@@ -140,14 +140,14 @@ module _ (v w : View) (l n : ℕ) (free : v.session.phase ≡ Free) (proper : Is
       (λ none.
       let c = counted l v.session (proper.single l) in let one : claims l v.session ≡ 1 = omega arith in
       response_session v w (Ux l) n _ is (after_last_x_back (word_in n) (marks_found n) l v.session proper free x none)
-      ∙ sym (ap (λ b. with_phase (OwesLook l) (if b then without l v.session.held else changed l (one_fewer ModeX) v.session.held)) (eq-eqb (claims l v.session) 1 one)))
+      ∙ sym (ap (λ b. with_phase (OwesLook l) (if b then without_latch l v.session.held else changed_on l (one_fewer ModeX) v.session.held)) (eq-eqb (claims l v.session) 1 one)))
       (λ some.
       let c = counted l v.session (proper.single l) in
       response_session v w (Ux l) n _ is (after_last_x_beside_sx (word_in n) (marks_found n) l v.session proper free x (omega arith))
-      ∙ sym (ap (λ b. with_phase (OwesLook l) (if b then without l v.session.held else changed l (one_fewer ModeX) v.session.held)) (ne_eqb (claims l v.session) 1 (λ e. omega arith))))
+      ∙ sym (ap (λ b. with_phase (OwesLook l) (if b then without_latch l v.session.held else changed_on l (one_fewer ModeX) v.session.held)) (ne_eqb (claims l v.session) 1 (λ e. omega arith))))
 
   -- what a load of the writer counts
   pub writer_session : (back : Bool) → 0 < sx_grants l v.session → (back ≡ true → 1 < sx_grants l v.session) → w ≡ view_after (Turns (writer_event l back)) n v
-      → w.session ≡ with_phase Free (changed l (if back then one_fewer ModeSx else one_more ModeSx) v.session.held)
+      → w.session ≡ with_phase Free (changed_on l (if back then one_fewer ModeSx else one_more ModeSx) v.session.held)
   writer_session true sx more is = let c = counted l v.session (proper.single l) in let m = more refl in sx_back_session sx (omega arith) is
   writer_session false sx more is = let c = counted l v.session (proper.single l) in further_sx_session (omega arith) is

@@ -21,9 +21,9 @@ use Rattle.ib_core.proofs.Places.{at_set, at_snoc, at_longer, set_again, set_els
 use Rattle.ib_rule.specs.declared.view.Role.{Role}
 use Rattle.ib_rule.specs.declared.view.Role.TheVariants.{Space, Fresh, Session as Seated, Note, Spent}
 use Rattle.ib_rule.specs.declared.view.Ended.{Ended}
-use Rattle.ib_rule.specs.declared.memory.Memory.{Memory}
+use Rattle.ib_rule.specs.declared.memory.Knowledge.{Knowledge}
 use Rattle.ib_rule.specs.declared.view.View.{View}
-use Rattle.ib_rule.specs.declared.kind.Kind.TheVariants.{Enter, Count}
+use Rattle.ib_rule.specs.declared.kind.StepKind.TheVariants.{Enter, Count}
 use Rattle.ib_rule.specs.Views.{total, with_memory, nothing_seen, with_role, seated, space_view, role_of, session_in_view, memory_of, one_drawn, newcomer, ended_as, with_ended, nobody}
 use Rattle.std.specs.List.{AllByRecursion}
 use Rattle.ib_rule.specs.Memory.{EndedFact, Follows, stored_in}
@@ -115,9 +115,9 @@ map_grown f xs i a b = map-append f (set xs i a) (b ∷ []) ∙ ap (λ l. l ++ f
 pub map_twice : {A B : Type 0} (f : A → B) (xs : List A) (i j : ℕ) (a b : A) → map f (set (set xs i a) j b) ≡ set (set (map f xs) i (f a)) j (f b)
 map_twice f xs i j a b = map-set f (set xs i a) j b ∙ ap (λ l. set l j (f b)) (map-set f xs i a)
 
-renamed : (key : Sizes) (words : List ℕ) (v w : View) → number_in w.role ≡ number_in v.role → w.session ≡ v.session → (xs : List ℕ) → AllByRecursion (IsWriter (latches_of key) words v) xs → AllByRecursion (IsWriter (latches_of key) words w) xs
-renamed key words v w number same [] each = tt
-renamed key words v w number same (x ∷ xs) each = ((subst (λ a. 0 < Rattle.ib_core.specs.Sessions.claims x a) (sym same) each.0.0, each.0.1 ∙ sym number, each.0.2), renamed key words v w number same xs each.1)
+renamed : (sizes : Sizes) (words : List ℕ) (v w : View) → number_in w.role ≡ number_in v.role → w.session ≡ v.session → (xs : List ℕ) → AllByRecursion (IsWriter (latches_of sizes) words v) xs → AllByRecursion (IsWriter (latches_of sizes) words w) xs
+renamed sizes words v w number same [] each = tt
+renamed sizes words v w number same (x ∷ xs) each = ((subst (λ a. 0 < Rattle.ib_core.specs.Sessions.claims x a) (sym same) each.0.0, each.0.1 ∙ sym number, each.0.2), renamed sizes words v w number same xs each.1)
 
 same_length : (views : List View) → length (map session_in_view views) ≡ length (map memory_of views)
 same_length [] = refl
@@ -132,19 +132,19 @@ numbered_from_one roles i n word part at =
     (λ z. omega arith)
 
 -- the rule at the start
-pub opens : (lawful : ℕ → List Entry → Type 0) (opening : ℕ → ℕ → ℕ → ℕ) (key : Sizes) (words : List ℕ) → lawful key.pages [] → IsOpening opening key words → RuleHolds lawful opening key (starting words [] (space_view 0 []))
-opens lawful opening key words empty o = record {
+pub opens : (lawful : ℕ → List Entry → Type 0) (opening : ℕ → ℕ → ℕ → ℕ) (sizes : Sizes) (words : List ℕ) → lawful sizes.pages [] → IsOpening opening sizes words → RuleHolds lawful opening sizes (starting words [] (space_view 0 []))
+opens lawful opening sizes words empty o = record {
   sized = o.sized;
   sessions = record { one_space = refl; counted = let a = o.none_drawn in omega arith; all_stand = refl; few = omega arith; numbered = none_borne };
   latches = record {
-    good = good_idle 1 (marks_in (latches_of key) words);
+    good = good_idle 1 (marks_in (latches_of sizes) words);
     counted = λ l h. let a = o.all_free l h in omega arith;
     flags = λ l h. let a = o.none_waits l h in omega arith;
     few = λ i a e l. let z : grants l a ≡ 0 = ap (grants l) (alone i a e) in omega arith;
   };
   idles = one;
   paid = record { paid = λ l h. let a = o.none_raised l h in let b = o.none_drained l h in omega arith; bound = small };
-  writers = λ i v e. subst (λ (v : View). AllByRecursion (IsWriter (latches_of key) words v) v.written) (sym (only i v e)) tt;
+  writers = λ i v e. subst (λ (v : View). AllByRecursion (IsWriter (latches_of sizes) words v) v.written) (sym (only i v e)) tt;
   log = [];
   memory = record {
     legal = empty;
@@ -154,7 +154,7 @@ opens lawful opening key words empty o = record {
     end = o.none_logged;
     logged = λ w h. absurd (omega arith);
     paged = λ q h none. o.opened q h;
-    follows = λ i v e. subst (λ (v : View). Follows key (lawful key.pages) (by_place opening key.pages) words [] (number_in v.role) v.session v.memory) (sym (only i v e))
+    follows = λ i v e. subst (λ (v : View). Follows sizes (lawful sizes.pages) (by_place opening sizes.pages) words [] (number_in v.role) v.session v.memory) (sym (only i v e))
         record { met = tt; seen = ([], refl); mine = λ h. absurd (omega arith); since = tt; loaded = tt; append = tt };
     ended = λ i v e. subst (λ (v : View). AllByRecursion (EndedFact []) (ended_in v.role)) (sym (only i v e)) tt;
     undrawn = λ n h. refl;
@@ -175,18 +175,18 @@ opens lawful opening key words empty o = record {
     small : (i : ℕ) (v : View) → get_elem? (space_view 0 [] ∷ []) i ≡ some v → total v.grants ≤ 2 ^ 52 * sessions_in v.role
     small i v e = subst (λ (v : View). total v.grants ≤ 2 ^ 52 * sessions_in v.role) (sym (only i v e)) (omega arith)
 
-module _ (lawful : ℕ → List Entry → Type 0) (opening : ℕ → ℕ → ℕ → ℕ) (key : Sizes) where
-  latch_push : (words : List ℕ) (ss : List Session) → LatchPart (latches_of key) words ss → LatchPart (latches_of key) words (ss ++ idle ∷ [])
+module _ (lawful : ℕ → List Entry → Type 0) (opening : ℕ → ℕ → ℕ → ℕ) (sizes : Sizes) where
+  latch_push : (words : List ℕ) (ss : List Session) → LatchPart (latches_of sizes) words ss → LatchPart (latches_of sizes) words (ss ++ idle ∷ [])
   latch_push words ss part = record {
-    good = good_push ss (marks_in (latches_of key) words) part.good;
+    good = good_push ss (marks_in (latches_of sizes) words) part.good;
     counted = λ l h. let s = sum_by_push (taken l) ss idle in let c = part.counted l h in omega arith;
     flags = part.flags;
     few = at_snoc (λ _ a. (l : ℕ) → grants l a ≤ 8192) ss idle (λ l. omega arith) part.few;
   }
 
   -- one more view that knows nothing
-  push_part : (words : List ℕ) (log : List Entry) (views : List View) (r : Role) (m : Memory) → (part : MemoryPart key (lawful key.pages) (by_place opening key.pages) words log views) → Follows key (lawful key.pages) (by_place opening key.pages) words log (number_in r) idle m → AllByRecursion (EndedFact log) (ended_in r)
-      → MemoryPart key (lawful key.pages) (by_place opening key.pages) words log (views ++ with_memory m (seated r) ∷ [])
+  push_part : (words : List ℕ) (log : List Entry) (views : List View) (r : Role) (m : Knowledge) → (part : MemoryPart sizes (lawful sizes.pages) (by_place opening sizes.pages) words log views) → Follows sizes (lawful sizes.pages) (by_place opening sizes.pages) words log (number_in r) idle m → AllByRecursion (EndedFact log) (ended_in r)
+      → MemoryPart sizes (lawful sizes.pages) (by_place opening sizes.pages) words log (views ++ with_memory m (seated r) ∷ [])
   push_part words log views r m part fresh ended = record {
     legal = part.legal;
     grammar = part.grammar;
@@ -195,29 +195,29 @@ module _ (lawful : ℕ → List Entry → Type 0) (opening : ℕ → ℕ → ℕ
     end = part.end;
     logged = part.logged;
     paged = λ q h none. part.paged q h (λ i u e. none i u (at_longer views (with_memory m (seated r) ∷ []) i u e));
-    follows = at_snoc (λ _ u. Follows key (lawful key.pages) (by_place opening key.pages) words log (number_in u.role) u.session u.memory) views (with_memory m (seated r))
+    follows = at_snoc (λ _ u. Follows sizes (lawful sizes.pages) (by_place opening sizes.pages) words log (number_in u.role) u.session u.memory) views (with_memory m (seated r))
         fresh part.follows;
     ended = at_snoc (λ _ u. AllByRecursion (EndedFact log) (ended_in u.role)) views (with_memory m (seated r)) ended part.ended;
     undrawn = λ n h. part.undrawn n (let e = ap (λ rs. sum_by drawn_in rs) (map-append role_of views (with_memory m (seated r) ∷ [])) in let t = sum_by_push drawn_in (map role_of views) r in omega arith);
   }
 
   -- who the session is stays
-  renumbered : (words : List ℕ) (log : List Entry) (v : View) (q : Role) → number_in q ≡ number_in v.role → Follows key (lawful key.pages) (by_place opening key.pages) words log (number_in v.role) v.session v.memory
-      → Follows key (lawful key.pages) (by_place opening key.pages) words log (number_in q) v.session v.memory
-  renumbered words log v q same f = subst (λ n. Follows key (lawful key.pages) (by_place opening key.pages) words log n v.session v.memory) (sym same) f
+  renumbered : (words : List ℕ) (log : List Entry) (v : View) (q : Role) → number_in q ≡ number_in v.role → Follows sizes (lawful sizes.pages) (by_place opening sizes.pages) words log (number_in v.role) v.session v.memory
+      → Follows sizes (lawful sizes.pages) (by_place opening sizes.pages) words log (number_in q) v.session v.memory
+  renumbered words log v q same f = subst (λ n. Follows sizes (lawful sizes.pages) (by_place opening sizes.pages) words log n v.session v.memory) (sym same) f
 
   -- a seat's role changes, and a new seat has nothing
-  pub split_step : (s : State (Unit {0}) View) (id : ℕ) (v : View) (q r : Role) (m : Memory) → (k : RuleHolds lawful opening key s) → get_elem? s.views id ≡ some v → (live q ≡ 0 → v.session ≡ idle) → sessions_in q ≡ sessions_in v.role → number_in q ≡ number_in v.role
+  pub split_step : (s : State (Unit {0}) View) (id : ℕ) (v : View) (q r : Role) (m : Knowledge) → (k : RuleHolds lawful opening sizes s) → get_elem? s.views id ≡ some v → (live q ≡ 0 → v.session ≡ idle) → sessions_in q ≡ sessions_in v.role → number_in q ≡ number_in v.role
       → SessionsPart (slice_index s.words drawn_place) (set (map role_of s.views) id q ++ r ∷ [])
-      → drawn_in v.role ≤ drawn_in q → AllByRecursion (EndedFact k.log) (ended_in q) → Follows key (lawful key.pages) (by_place opening key.pages) s.words k.log (number_in r) idle m → AllByRecursion (EndedFact k.log) (ended_in r)
-      → RuleHolds lawful opening key record { words = s.words; homes = s.homes; views = set s.views id (with_role q v) ++ with_memory m (seated r) ∷ [] }
+      → drawn_in v.role ≤ drawn_in q → AllByRecursion (EndedFact k.log) (ended_in q) → Follows sizes (lawful sizes.pages) (by_place opening sizes.pages) s.words k.log (number_in r) idle m → AllByRecursion (EndedFact k.log) (ended_in r)
+      → RuleHolds lawful opening sizes record { words = s.words; homes = s.homes; views = set s.views id (with_role q v) ++ with_memory m (seated r) ∷ [] }
   split_step s id v q r m k at still crowds number roles more ended fresh none =
       let w : View = with_role q v in
       let new : View = with_memory m (seated r) in
       let sessions : map session_in_view (set s.views id w ++ new ∷ []) ≡ map session_in_view s.views ++ idle ∷ [] = map-append session_in_view (set s.views id w) (new ∷ []) ∙ ap (λ ss. ss ++ idle ∷ []) (map_same session_in_view s.views id v w at refl) in record {
         sized = k.sized;
         sessions = subst (λ z. SessionsPart (slice_index s.words drawn_place) z) (sym (map_grown role_of s.views id w new)) roles;
-        latches = subst (λ z. LatchPart (latches_of key) s.words z) (sym sessions) (latch_push s.words (map session_in_view s.views) k.latches);
+        latches = subst (λ z. LatchPart (latches_of sizes) s.words z) (sym sessions) (latch_push s.words (map session_in_view s.views) k.latches);
         idles = at_snoc (λ _ u. IsIdle u) (set s.views id w) new (λ _. refl) (at_set (λ _ u. IsIdle u) s.views id w still (λ j b e _. k.idles j b e));
         paid = record {
           paid = λ l h.
@@ -227,16 +227,16 @@ module _ (lawful : ℕ → List Entry → Type 0) (opening : ℕ → ℕ → ℕ
           bound = at_snoc (λ _ u. total u.grants ≤ 2 ^ 52 * sessions_in u.role) (set s.views id w) new (omega arith)
               (at_set (λ _ u. total u.grants ≤ 2 ^ 52 * sessions_in u.role) s.views id w (subst (λ c. total v.grants ≤ 2 ^ 52 * c) (sym crowds) (k.paid.bound id v at)) (λ j b e _. k.paid.bound j b e));
         };
-        writers = at_snoc (λ _ u. AllByRecursion (IsWriter (latches_of key) s.words u) u.written) (set s.views id w) new tt
-            (at_set (λ _ u. AllByRecursion (IsWriter (latches_of key) s.words u) u.written) s.views id w (renamed key s.words v w number refl v.written (k.writers id v at)) (λ j b e _. k.writers j b e));
+        writers = at_snoc (λ _ u. AllByRecursion (IsWriter (latches_of sizes) s.words u) u.written) (set s.views id w) new tt
+            (at_set (λ _ u. AllByRecursion (IsWriter (latches_of sizes) s.words u) u.written) s.views id w (renamed sizes s.words v w number refl v.written (k.writers id v at)) (λ j b e _. k.writers j b e));
         log = k.log;
         memory = push_part s.words k.log (set s.views id w) r m
-            (view_part key (lawful key.pages) (by_place opening key.pages) s.words s.words k.log s.views id v w k.memory at (λ q far. refl) more (renumbered s.words k.log v q number (k.memory.follows id v at)) ended (λ q h. h))
+            (view_part sizes (lawful sizes.pages) (by_place opening sizes.pages) s.words s.words k.log s.views id v w k.memory at (λ q far. refl) more (renumbered s.words k.log v q number (k.memory.follows id v at)) ended (λ q h. h))
             fresh none;
       }
 
   -- the space draws the next number, for a new seat
-  pub draws : (id d : ℕ) (ended : List Ended) (v : View) → v.role ≡ Space d ended → d < 1024 → Splits (RuleHolds lawful opening key) id v (one_drawn v) (newcomer v)
+  pub draws : (id d : ℕ) (ended : List Ended) (v : View) → v.role ≡ Space d ended → d < 1024 → Splits (RuleHolds lawful opening sizes) id v (one_drawn v) (newcomer v)
   draws id d ended v is room s k at =
       let roles : List Role = map role_of s.views in
       let at' : get_elem? roles id ≡ some v.role = at_map role_of s.views id v at in
@@ -252,16 +252,16 @@ module _ (lawful : ℕ → List Entry → Type 0) (opening : ℕ → ℕ → ℕ
       tt
 
   -- a step on the count of sessions
-  count_step : (s : State (Unit {0}) View) (n id : ℕ) (cs : List (ℕ × Unit {0})) (v : View) (q : Role) → (k : RuleHolds lawful opening key s) → get_elem? s.views id ≡ some v → (live q ≡ 0 → v.session ≡ idle) → sessions_in q ≡ sessions_in v.role → number_in q ≡ number_in v.role
+  count_step : (s : State (Unit {0}) View) (n id : ℕ) (cs : List (ℕ × Unit {0})) (v : View) (q : Role) → (k : RuleHolds lawful opening sizes s) → get_elem? s.views id ≡ some v → (live q ≡ 0 → v.session ≡ idle) → sessions_in q ≡ sessions_in v.role → number_in q ≡ number_in v.role
       → SessionsPart n (set (map role_of s.views) id q) → drawn_in v.role ≤ drawn_in q → AllByRecursion (EndedFact k.log) (ended_in q)
-      → RuleHolds lawful opening key (stepped s drawn_place n id cs (with_role q v) keeps)
+      → RuleHolds lawful opening sizes (stepped s drawn_place n id cs (with_role q v) keeps)
   count_step s n id cs v q k at still crowds number roles more ended =
       let w : View = with_role q v in
       let words : List ℕ = set s.words drawn_place n in
       let sessions = map_same session_in_view s.views id v w at refl in record {
         sized = length-set s.words drawn_place n ∙ k.sized;
         sessions = subst (λ (z : ℕ × List Role). SessionsPart z.0 z.1) (λ j. (sym (get_or-set_same s.words drawn_place n 0 (let z = k.sized in omega arith)) j, sym (map-set role_of s.views id w) j)) roles;
-        latches = subst (λ z. LatchPart (latches_of key) (set s.words drawn_place n) z) (sym sessions) record {
+        latches = subst (λ z. LatchPart (latches_of sizes) (set s.words drawn_place n) z) (sym sessions) record {
           good = subst (λ m. IsGood (map session_in_view s.views) m) (same_marks s.words n) k.latches.good;
           counted = λ l h. let e = get_or-set_other s.words drawn_place (lock_place l) n 0 (λ e. omega arith) in let c = k.latches.counted l h in omega arith;
           flags = λ l h. let e = get_or-set_other s.words drawn_place (waiters_place l) n 0 (λ e. omega arith) in let c = k.latches.flags l h in omega arith;
@@ -275,25 +275,25 @@ module _ (lawful : ℕ → List Entry → Type 0) (opening : ℕ → ℕ → ℕ
               let p = k.paid.paid l h in omega arith;
           bound = at_set (λ _ u. total u.grants ≤ 2 ^ 52 * sessions_in u.role) s.views id w (subst (λ c. total v.grants ≤ 2 ^ 52 * c) (sym crowds) (k.paid.bound id v at)) (λ j b e _. k.paid.bound j b e);
         };
-        writers = at_set (λ _ u. AllByRecursion (IsWriter (latches_of key) (set s.words drawn_place n) u) u.written) s.views id w (renamed s.words n v w number refl v.written (k.writers id v at)) (λ j b e _. renamed s.words n b b refl refl b.written (k.writers j b e));
+        writers = at_set (λ _ u. AllByRecursion (IsWriter (latches_of sizes) (set s.words drawn_place n) u) u.written) s.views id w (renamed s.words n v w number refl v.written (k.writers id v at)) (λ j b e _. renamed s.words n b b refl refl b.written (k.writers j b e));
         log = k.log;
-        memory = view_part key (lawful key.pages) (by_place opening key.pages) s.words (set s.words drawn_place n) k.log s.views id v w k.memory at (far_from key s.words drawn_place n (λ e. absurd (omega arith)) (omega arith)) more
+        memory = view_part sizes (lawful sizes.pages) (by_place opening sizes.pages) s.words (set s.words drawn_place n) k.log s.views id v w k.memory at (far_from sizes s.words drawn_place n (λ e. absurd (omega arith)) (omega arith)) more
             (renumbered s.words k.log v q number (k.memory.follows id v at)) ended (λ q h. h);
       }
     where
-      same_marks : (words : List ℕ) (n : ℕ) → marks_in (latches_of key) words ≡ marks_in (latches_of key) (set words drawn_place n)
+      same_marks : (words : List ℕ) (n : ℕ) → marks_in (latches_of sizes) words ≡ marks_in (latches_of sizes) (set words drawn_place n)
       same_marks words n = λ j l. record {
-        waiters = cond (Rattle.std.specs.Prelude.nat_lt l (latches_of key)) (Rattle.std.specs.Prelude.nat_lt 0 (sym (get_or-set_other words drawn_place (waiters_place l) n 0 (λ e. omega arith)) j)) false;
-        generation = cond (Rattle.std.specs.Prelude.nat_lt l (latches_of key)) (sym (get_or-set_other words drawn_place (gen_place l) n 0 (λ e. omega arith)) j) 0;
-        ex_generation = cond (Rattle.std.specs.Prelude.nat_lt l (latches_of key)) (sym (get_or-set_other words drawn_place (ex_gen_place l) n 0 (λ e. omega arith)) j) 0;
+        waiters = cond (Rattle.std.specs.Prelude.nat_lt l (latches_of sizes)) (Rattle.std.specs.Prelude.nat_lt 0 (sym (get_or-set_other words drawn_place (waiters_place l) n 0 (λ e. omega arith)) j)) false;
+        generation = cond (Rattle.std.specs.Prelude.nat_lt l (latches_of sizes)) (sym (get_or-set_other words drawn_place (gen_place l) n 0 (λ e. omega arith)) j) 0;
+        ex_generation = cond (Rattle.std.specs.Prelude.nat_lt l (latches_of sizes)) (sym (get_or-set_other words drawn_place (ex_gen_place l) n 0 (λ e. omega arith)) j) 0;
       }
 
-      renamed : (words : List ℕ) (n : ℕ) (v w : View) → number_in w.role ≡ number_in v.role → w.session ≡ v.session → (xs : List ℕ) → AllByRecursion (IsWriter (latches_of key) words v) xs → AllByRecursion (IsWriter (latches_of key) (set words drawn_place n) w) xs
+      renamed : (words : List ℕ) (n : ℕ) (v w : View) → number_in w.role ≡ number_in v.role → w.session ≡ v.session → (xs : List ℕ) → AllByRecursion (IsWriter (latches_of sizes) words v) xs → AllByRecursion (IsWriter (latches_of sizes) (set words drawn_place n) w) xs
       renamed words n v w number same [] each = tt
       renamed words n v w number same (x ∷ xs) each = ((subst (λ a. 0 < Rattle.ib_core.specs.Sessions.claims x a) (sym same) each.0.0, get_or-set_other words drawn_place (writer_place x) n 0 (λ e. omega arith) ∙ (each.0.1 ∙ sym number), each.0.2), renamed words n v w number same xs each.1)
 
   -- a session ends, and the space keeps its lists
-  pub leaves : (id d : ℕ) (ended : List Ended) (v : View) (other n : ℕ) (w : View) → v.role ≡ Space d ended → w.role ≡ Seated n → w.session ≡ idle → w.memory.append ≡ None → Joins (RuleHolds lawful opening key) id v other w (with_ended v w) nobody
+  pub leaves : (id d : ℕ) (ended : List Ended) (v : View) (other n : ℕ) (w : View) → v.role ≡ Space d ended → w.role ≡ Seated n → w.session ≡ idle → w.memory.append ≡ None → Joins (RuleHolds lawful opening sizes) id v other w (with_ended v w) nobody
   leaves id d ended v other n w space seated_n still closed s k at apart there =
       let roles : List Role = map role_of s.views in
       let both : View = with_ended v w in
@@ -307,7 +307,7 @@ module _ (lawful : ℕ → List Entry → Type 0) (opening : ℕ → ℕ → ℕ
         sized = k.sized;
         sessions = subst (λ z. SessionsPart (slice_index s.words drawn_place) z) (sym (map_twice role_of s.views id other (with_ended v w) nobody ∙ ap (λ (r : Role). set (set (map role_of s.views) id r) other Spent) role))
             (left id d ended other n (slice_index s.words drawn_place) roles e a b (λ q. apart (sym q)) (ap number_in seated_n) k.sessions);
-        latches = subst (λ z. LatchPart (latches_of key) s.words z) (sym sessions) k.latches;
+        latches = subst (λ z. LatchPart (latches_of sizes) s.words z) (sym sessions) k.latches;
         idles = at_set (λ _ u. IsIdle u) (set s.views id both) other nobody (λ _. refl)
             (λ j b e _. at_set (λ _ u. IsIdle u) s.views id both (λ _. k.idles id v at (subst (λ r. live r ≡ 0) (sym space) refl)) (λ j b e _. k.idles j b e) j b e);
         paid = record {
@@ -321,11 +321,11 @@ module _ (lawful : ℕ → List Entry → Type 0) (opening : ℕ → ℕ → ℕ
               let c' : sessions_in both.role ≡ suc (length ended) = ap sessions_in role in let d : sessions_in v.role ≡ length ended = ap sessions_in space in more_crowd (total v.grants) (total w.grants) (total both.grants) (sessions_in v.role) (sessions_in w.role) (sessions_in both.role) p q c (omega arith) (omega arith))
               (λ j b e _. k.paid.bound j b e) j b e);
         };
-        writers = at_set (λ _ u. AllByRecursion (IsWriter (latches_of key) s.words u) u.written) (set s.views id both) other nobody tt
-            (λ j b e _. at_set (λ _ u. AllByRecursion (IsWriter (latches_of key) s.words u) u.written) s.views id both (renamed key s.words v both (ap number_in role ∙ sym (ap number_in space)) refl v.written (k.writers id v at)) (λ j b e _. k.writers j b e) j b e);
+        writers = at_set (λ _ u. AllByRecursion (IsWriter (latches_of sizes) s.words u) u.written) (set s.views id both) other nobody tt
+            (λ j b e _. at_set (λ _ u. AllByRecursion (IsWriter (latches_of sizes) s.words u) u.written) s.views id both (renamed sizes s.words v both (ap number_in role ∙ sym (ap number_in space)) refl v.written (k.writers id v at)) (λ j b e _. k.writers j b e) j b e);
         log = k.log;
-        memory = view_part key (lawful key.pages) (by_place opening key.pages) s.words s.words k.log (set s.views id (with_ended v w)) other w nobody
-            (view_part key (lawful key.pages) (by_place opening key.pages) s.words s.words k.log s.views id v (with_ended v w) k.memory at (λ q far. refl)
+        memory = view_part sizes (lawful sizes.pages) (by_place opening sizes.pages) s.words s.words k.log (set s.views id (with_ended v w)) other w nobody
+            (view_part sizes (lawful sizes.pages) (by_place opening sizes.pages) s.words s.words k.log s.views id v (with_ended v w) k.memory at (λ q far. refl)
             (let z = ap drawn_in space in let z' = ap drawn_in role in omega arith)
             (renumbered s.words k.log v (ended_more e v.role) (ap number_in role ∙ sym (ap number_in space)) (k.memory.follows id v at))
             (subst (λ (r : Role). AllByRecursion (EndedFact k.log) (ended_in r)) (sym role)
@@ -341,7 +341,7 @@ module _ (lawful : ℕ → List Entry → Type 0) (opening : ℕ → ℕ → ℕ
 
   module _ (entry : Entry) (slots id : ℕ) (me : Me (Unit {0}) View) where
     -- a new seat is counted
-    pub enters : (n : ℕ) → me.0.role ≡ Fresh n → Allows (RuleHolds lawful opening key) slots id me drawn_place (λ n. (n + 1) % 2 ^ 64) (tells lawful opening key entry Enter me)
+    pub enters : (n : ℕ) → me.0.role ≡ Fresh n → Allows (RuleHolds lawful opening sizes) slots id me drawn_place (λ n. (n + 1) % 2 ^ 64) (tells lawful opening sizes entry Enter me)
     enters n is s k _ at _ =
         let word : ℕ = slice_index s.words drawn_place in
         let roles : List Role = map role_of s.views in
@@ -350,8 +350,8 @@ module _ (lawful : ℕ → List Entry → Type 0) (opening : ℕ → ℕ → ℕ
         let c = k.sessions.counted in let f = k.sessions.few in
         let small : (word + 1) % 2 ^ 64 ≡ word + 1 = mod-eq_of_lt (omega arith) in
         let w : View = view_after Enter word me.0 in
-        let after : RuleHolds lawful opening key (stepped s drawn_place ((slice_index s.words drawn_place + 1) % 2 ^ 64) id me.1 (with_role (entered me.0.role) me.0) keeps) =
-        subst (λ u. RuleHolds lawful opening key (stepped s drawn_place u id me.1 (with_role (entered me.0.role) me.0) keeps)) (sym small)
+        let after : RuleHolds lawful opening sizes (stepped s drawn_place ((slice_index s.words drawn_place + 1) % 2 ^ 64) id me.1 (with_role (entered me.0.role) me.0) keeps) =
+        subst (λ u. RuleHolds lawful opening sizes (stepped s drawn_place u id me.1 (with_role (entered me.0.role) me.0) keeps)) (sym small)
         (count_step s (word + 1) id me.1 me.0 (entered me.0.role) k at
         (λ z. k.idles id me.0 at (subst (λ r. live r ≡ 0) (sym is) refl))
         (subst (λ r. sessions_in (entered r) ≡ sessions_in r) (sym is) refl)
@@ -366,23 +366,23 @@ module _ (lawful : ℕ → List Entry → Type 0) (opening : ℕ → ℕ → ℕ
             record {
               view = refl;
               event = refl;
-              proper = proper_now lawful opening key s drawn_place _ id me.1 me.0 (with_role (entered me.0.role) me.0) at after;
-              known = known_now lawful opening key s drawn_place _ id me.1 me.0 (with_role (entered me.0.role) me.0) at after;
+              proper = proper_now lawful opening sizes s drawn_place _ id me.1 me.0 (with_role (entered me.0.role) me.0) at after;
+              known = known_now lawful opening sizes s drawn_place _ id me.1 me.0 (with_role (entered me.0.role) me.0) at after;
               range = tt;
-              few = few_now lawful opening key s drawn_place _ id me.1 me.0 (with_role (entered me.0.role) me.0) at after;
-              taken = taken_now lawful opening key s drawn_place _ id me.1 me.0 (with_role (entered me.0.role) me.0) at after;
+              few = few_now lawful opening sizes s drawn_place _ id me.1 me.0 (with_role (entered me.0.role) me.0) at after;
+              taken = taken_now lawful opening sizes s drawn_place _ id me.1 me.0 (with_role (entered me.0.role) me.0) at after;
             },
             refl,
           ),
         )
 
     -- the space looks at the count
-    pub counts : (d : ℕ) (ended : List Ended) → me.0.role ≡ Space d ended → Allows (RuleHolds lawful opening key) slots id me drawn_place (λ n. n) (tells lawful opening key entry Count me)
+    pub counts : (d : ℕ) (ended : List Ended) → me.0.role ≡ Space d ended → Allows (RuleHolds lawful opening sizes) slots id me drawn_place (λ n. n) (tells lawful opening sizes entry Count me)
     counts d ended is s k _ at _ =
         let word : ℕ = slice_index s.words drawn_place in
         let roles : List Role = map role_of s.views in
         let at' : get_elem? roles id ≡ some (Space d ended) = at_map role_of s.views id me.0 at ∙ ap (λ (r : Role). some r) is in
-        let after : RuleHolds lawful opening key (stepped s drawn_place (slice_index s.words drawn_place) id me.1 me.0 keeps) =
+        let after : RuleHolds lawful opening sizes (stepped s drawn_place (slice_index s.words drawn_place) id me.1 me.0 keeps) =
         count_step s word id me.1 me.0 me.0.role k at (λ z. k.idles id me.0 at z) refl refl
         (subst (λ rs. SessionsPart (slice_index s.words drawn_place) rs) (sym (set_again roles id me.0.role (at_map role_of s.views id me.0 at))) k.sessions) (omega arith) (k.memory.ended id me.0 at) in (
           me.0,
@@ -393,13 +393,13 @@ module _ (lawful : ℕ → List Entry → Type 0) (opening : ℕ → ℕ → ℕ
             record {
               view = refl;
               event = refl;
-              proper = proper_now lawful opening key s drawn_place _ id me.1 me.0 me.0 at after;
-              known = known_now lawful opening key s drawn_place _ id me.1 me.0 me.0 at after;
+              proper = proper_now lawful opening sizes s drawn_place _ id me.1 me.0 me.0 at after;
+              known = known_now lawful opening sizes s drawn_place _ id me.1 me.0 me.0 at after;
               range = subst (λ r. (length (ended_in r) ≤ drawn_in r) × (drawn_in r ≤ 1024)) (sym is)
                   (let w = whole_count roles id d ended k.sessions.one_space at' in let o = one_of sessions_in roles id (Space d ended) at' in
                   let p = k.sessions.all_stand in let q = k.sessions.few in (omega arith, omega arith));
-              few = few_now lawful opening key s drawn_place _ id me.1 me.0 me.0 at after;
-              taken = taken_now lawful opening key s drawn_place _ id me.1 me.0 me.0 at after;
+              few = few_now lawful opening sizes s drawn_place _ id me.1 me.0 me.0 at after;
+              taken = taken_now lawful opening sizes s drawn_place _ id me.1 me.0 me.0 at after;
             },
             refl,
           ),

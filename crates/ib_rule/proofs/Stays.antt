@@ -28,7 +28,7 @@ use Rattle.ib_core.proofs.NumberTests.{some_by}
 use Rattle.ib_rule.specs.declared.memory.Since.{Since}
 use Rattle.ib_rule.specs.declared.memory.Loaded.{Loaded}
 use Rattle.ib_rule.specs.declared.memory.OpenAppend.{OpenAppend}
-use Rattle.ib_rule.specs.declared.memory.Memory.{Memory}
+use Rattle.ib_rule.specs.declared.memory.Knowledge.{Knowledge}
 use Rattle.ib_rule.specs.declared.view.View.{View}
 use Rattle.ib_rule.specs.Steps.{latch_word_place}
 use Rattle.std.specs.List.{AllByRecursion}
@@ -39,54 +39,54 @@ use Rattle.ib_rule.specs.Roles.{drawn_in, ended_in, number_in}
 
 -- only the log's end, the page words and the log words count
 abbrev pub SameMemory : Sizes → List ℕ → List ℕ → Type 0
-SameMemory key words ws = (q : ℕ) → (q ≡ end_place) ⊎ (base key ≤ q) → slice_index ws q ≡ slice_index words q
+SameMemory sizes words ws = (q : ℕ) → (q ≡ end_place) ⊎ (base sizes ≤ q) → slice_index ws q ≡ slice_index words q
 
-pub far_from : (key : Sizes) (words : List ℕ) (p n : ℕ) → p ≢ end_place → p < base key → SameMemory key words (set words p n)
-far_from key words p n here below q far = get_or-set_other words p q n 0 (λ e. ⊎_elim (λ (one : q ≡ end_place). here (omega arith)) (λ (up : base key ≤ q). omega arith) far)
+pub far_from : (sizes : Sizes) (words : List ℕ) (p n : ℕ) → p ≢ end_place → p < base sizes → SameMemory sizes words (set words p n)
+far_from sizes words p n here below q far = get_or-set_other words p q n 0 (λ e. ⊎_elim (λ (one : q ≡ end_place). here (omega arith)) (λ (up : base sizes ≤ q). omega arith) far)
 
-pub latch_far : (key : Sizes) (words : List ℕ) (c : LatchWord) (l n : ℕ) → l < latches_of key → SameMemory key words (set words (latch_word_place c l) n)
-latch_far key words Lock l n inside = far_from key words (latch_word_place Lock l) n (λ e. omega arith) (omega arith)
-latch_far key words Waiters l n inside = far_from key words (latch_word_place Waiters l) n (λ e. omega arith) (omega arith)
-latch_far key words Writer l n inside = far_from key words (latch_word_place Writer l) n (λ e. omega arith) (omega arith)
-latch_far key words Generation l n inside = far_from key words (latch_word_place Generation l) n (λ e. omega arith) (omega arith)
-latch_far key words ExGeneration l n inside = far_from key words (latch_word_place ExGeneration l) n (λ e. omega arith) (omega arith)
+pub latch_far : (sizes : Sizes) (words : List ℕ) (c : LatchWord) (l n : ℕ) → l < latches_of sizes → SameMemory sizes words (set words (latch_word_place c l) n)
+latch_far sizes words Lock l n inside = far_from sizes words (latch_word_place Lock l) n (λ e. omega arith) (omega arith)
+latch_far sizes words Waiters l n inside = far_from sizes words (latch_word_place Waiters l) n (λ e. omega arith) (omega arith)
+latch_far sizes words Writer l n inside = far_from sizes words (latch_word_place Writer l) n (λ e. omega arith) (omega arith)
+latch_far sizes words Generation l n inside = far_from sizes words (latch_word_place Generation l) n (λ e. omega arith) (omega arith)
+latch_far sizes words ExGeneration l n inside = far_from sizes words (latch_word_place ExGeneration l) n (λ e. omega arith) (omega arith)
 
-module _ (key : Sizes) (lawful : List Entry → Type 0) (opening : ℕ → ℕ) (words ws : List ℕ) (same : SameMemory key words ws) (log : List Entry) where
+module _ (sizes : Sizes) (lawful : List Entry → Type 0) (opening : ℕ → ℕ) (words ws : List ℕ) (same : SameMemory sizes words ws) (log : List Entry) where
   -- what follows the log does so with other words of latches
-  follows_words : (number : ℕ) (a : Session) (m : Memory) → Follows key lawful opening words log number a m → Follows key lawful opening ws log number a m
+  follows_words : (number : ℕ) (a : Session) (m : Knowledge) → Follows sizes lawful opening words log number a m → Follows sizes lawful opening ws log number a m
   follows_words number a m f = record { met = f.met; seen = f.seen; mine = f.mine; since = f.since; loaded = f.loaded; append = still m.append f.append }
     where
-      still : (o : Option OpenAppend) → IsAppending key lawful words log number a m o → IsAppending key lawful ws log number a m o
+      still : (o : Option OpenAppend) → IsAppending sizes lawful words log number a m o → IsAppending sizes lawful ws log number a m o
       still None w = tt
       still (Some o) w = record {
         fits = w.fits;
         whole = w.whole;
-        pages_done = λ q h. let d = w.pages_done q h in (d.0, same (base key + q) (inr (omega arith)) ∙ d.1);
-        words_done = λ j h. let d = w.words_done j h in (d.0, same (log_place key (used log + j)) (inr (omega arith)) ∙ d.1);
+        pages_done = λ q h. let d = w.pages_done q h in (d.0, same (base sizes + q) (inr (omega arith)) ∙ d.1);
+        words_done = λ j h. let d = w.words_done j h in (d.0, same (log_place sizes (used log + j)) (inr (omega arith)) ∙ d.1);
       }
 
 -- one view changes
-pub view_part : (key : Sizes) (lawful : List Entry → Type 0) (opening : ℕ → ℕ) (words ws : List ℕ) (log : List Entry) (views : List View) (id : ℕ) (v w : View)
-    → (part : MemoryPart key lawful opening words log views) → get_elem? views id ≡ some v → SameMemory key words ws
+pub view_part : (sizes : Sizes) (lawful : List Entry → Type 0) (opening : ℕ → ℕ) (words ws : List ℕ) (log : List Entry) (views : List View) (id : ℕ) (v w : View)
+    → (part : MemoryPart sizes lawful opening words log views) → get_elem? views id ≡ some v → SameMemory sizes words ws
     → drawn_in v.role ≤ drawn_in w.role
-    → Follows key lawful opening words log (number_in w.role) w.session w.memory
+    → Follows sizes lawful opening words log (number_in w.role) w.session w.memory
     → AllByRecursion (EndedFact log) (ended_in w.role)
     → ((q : ℕ) → stored_in w.memory.append q ≡ false → stored_in v.memory.append q ≡ false)
-    → MemoryPart key lawful opening ws log (set views id w)
-view_part key lawful opening words ws log views id v w part at same drawn follows ended closed = record {
+    → MemoryPart sizes lawful opening ws log (set views id w)
+view_part sizes lawful opening words ws log views id v w part at same drawn follows ended closed = record {
   legal = part.legal;
   grammar = part.grammar;
   short = part.short;
   room = part.room;
   end = same end_place (inl refl) ∙ part.end;
-  logged = λ u h. same (log_place key u) (inr (omega arith)) ∙ part.logged u h;
-  paged = λ q h none. same (base key + q) (inr (omega arith)) ∙ part.paged q h (λ i u e. dite (ℕ_discrete id i)
+  logged = λ u h. same (log_place sizes u) (inr (omega arith)) ∙ part.logged u h;
+  paged = λ q h none. same (base sizes + q) (inr (omega arith)) ∙ part.paged q h (λ i u e. dite (ℕ_discrete id i)
       (λ here. let is : u ≡ v = same_at views id u v (subst (λ i. get_elem? views i ≡ some u) (sym here) e) at in
       subst (λ (u : View). stored_in u.memory.append q ≡ false) (sym is) (closed q (none id w (Rattle.ib_core.proofs.Places.set_here views id v w at))))
       (λ away. none i u (set_else views id i w away ∙ e)));
-  follows = at_set (λ _ u. Follows key lawful opening ws log (number_in u.role) u.session u.memory) views id w
-      (follows_words key lawful opening words ws same log (number_in w.role) w.session w.memory follows)
-      (λ j u e _. follows_words key lawful opening words ws same log (number_in u.role) u.session u.memory (part.follows j u e));
+  follows = at_set (λ _ u. Follows sizes lawful opening ws log (number_in u.role) u.session u.memory) views id w
+      (follows_words sizes lawful opening words ws same log (number_in w.role) w.session w.memory follows)
+      (λ j u e _. follows_words sizes lawful opening words ws same log (number_in u.role) u.session u.memory (part.follows j u e));
   ended = at_set (λ _ u. AllByRecursion (EndedFact log) (ended_in u.role)) views id w ended (λ j u e _. part.ended j u e);
   undrawn = λ n h. part.undrawn n (let t = sum_at drawn_in (map role_of views) id v.role w.role (at_map role_of views id v at) in let e = ap (λ rs. sum_by drawn_in rs) (map-set role_of views id w) in omega arith);
 }
@@ -138,13 +138,13 @@ module _ (l : ℕ) (a b : Session) (proper : IsProper a) (proper' : IsProper b) 
       (λ away. ((let e = moves.away (latch_at x.place) (λ q. away (sym q)) (λ h. 1) in let h = each.0.0 in omega arith, each.0.1), still_loaded opening log xs each.1))
 
   -- the one lemma of latch steps: what the session knows of the memory stays, but for what ends with the last grant
-  pub follows_left : (key : Sizes) (lawful : List Entry → Type 0) (opening : ℕ → ℕ) (words : List ℕ) (log : List Entry) (number : ℕ) (m : Memory) → m.append ≡ None
-      → Follows key lawful opening words log number a m → Follows key lawful opening words log number b (memory_left l b m)
-  follows_left key lawful opening words log number m closed f = record {
+  pub follows_left : (sizes : Sizes) (lawful : List Entry → Type 0) (opening : ℕ → ℕ) (words : List ℕ) (log : List Entry) (number : ℕ) (m : Knowledge) → m.append ≡ None
+      → Follows sizes lawful opening words log number a m → Follows sizes lawful opening words log number b (memory_left l b m)
+  follows_left sizes lawful opening words log number m closed f = record {
     met = f.met;
     seen = f.seen;
     mine = f.mine;
     since = still_since number (length m.seen) log m.since f.since;
     loaded = still_loaded opening log m.loaded f.loaded;
-    append = subst (λ o. IsAppending key lawful words log number b (memory_left l b m) o) (sym closed) tt;
+    append = subst (λ o. IsAppending sizes lawful words log number b (memory_left l b m) o) (sym closed) tt;
   }

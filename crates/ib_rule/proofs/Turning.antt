@@ -93,7 +93,7 @@ flag_small false = omega arith
 small_flag : (c : LatchWord) (e : Event) (a : Session) (n n' : ℕ) → Leaves c e a n n' → c ≡ Waiters → n' ≤ 1
 small_flag c e a n n' leaves is = let l : Leaves Waiters e a n n' = subst (λ c. Leaves c e a n n') is leaves in let f = flag_small (turn_at e n a).marks.waiters in omega arith
 
-module _ (lawful : ℕ → List Entry → Type 0) (opening : ℕ → ℕ → ℕ → ℕ) (key : Sizes) (s : State (Unit {0}) View) (kept : RuleHolds lawful opening key s) where
+module _ (lawful : ℕ → List Entry → Type 0) (opening : ℕ → ℕ → ℕ → ℕ) (sizes : Sizes) (s : State (Unit {0}) View) (kept : RuleHolds lawful opening sizes s) where
   -- there are few readers, and few grants ever
   pub readers_few : (l : ℕ) → readers_of l (map session_in_view s.views) ≤ 1024
   readers_few l =
@@ -110,7 +110,7 @@ module _ (lawful : ℕ → List Entry → Type 0) (opening : ℕ → ℕ → ℕ
       let d = kept.sessions.all_stand in let e = kept.sessions.few in omega arith
 
   -- no generation comes near its end
-  pub raises_few : (l : ℕ) → l < latches_of key → raises_in s.words l ≤ 2 ^ 62
+  pub raises_few : (l : ℕ) → l < latches_of sizes → raises_in s.words l ≤ 2 ^ 62
   raises_few l inside = let p = kept.paid.paid l inside in let g = grants_few in omega arith
 
 none_got : (answer : Answer) (o : Option Mode) → o ≡ None → grants_won (won answer o) ≡ 0
@@ -129,8 +129,8 @@ got_small (Some mode) = omega arith
 pub takes_none : (e : Event) (v : View) (n : ℕ) → wish_of v.session.phase e ≡ None → CanTake e v n
 takes_none e v n none = inl (none_got (turn_at e n v.session).answer (wish_of v.session.phase e) none)
 
-module _ (lawful : ℕ → List Entry → Type 0) (opening : ℕ → ℕ → ℕ → ℕ) (key : Sizes) (s : State (Unit {0}) View) (kept : RuleHolds lawful opening key s) (id : ℕ) (v : View) (at : get_elem? s.views id ≡ some v)
-    (alive : live v.role ≡ 0 → ⊥) (e : Event) (inside : latch_of e < latches_of key) (n' : ℕ) where
+module _ (lawful : ℕ → List Entry → Type 0) (opening : ℕ → ℕ → ℕ → ℕ) (sizes : Sizes) (s : State (Unit {0}) View) (kept : RuleHolds lawful opening sizes s) (id : ℕ) (v : View) (at : get_elem? s.views id ≡ some v)
+    (alive : live v.role ≡ 0 → ⊥) (e : Event) (inside : latch_of e < latches_of sizes) (n' : ℕ) where
   abbrev l : ℕ
   l = latch_of e
 
@@ -150,7 +150,7 @@ module _ (lawful : ℕ → List Entry → Type 0) (opening : ℕ → ℕ → ℕ
   ss = map session_in_view s.views
 
   abbrev m : ℕ → Marks
-  m = marks_in (latches_of key) s.words
+  m = marks_in (latches_of sizes) s.words
 
   abbrev words : List ℕ
   words = set s.words (latch_word_place (word_for e v.session) (latch_of e)) n'
@@ -168,10 +168,10 @@ module _ (lawful : ℕ → List Entry → Type 0) (opening : ℕ → ℕ → ℕ
   proper = kept.latches.good.proper id a at'
 
   fits : p < length s.words
-  fits = place_fits key s.words l c kept.sized inside
+  fits = place_fits sizes s.words l c kept.sized inside
 
   told : Tells c n (word_on l ss) (m l)
-  told = tells_by (latches_of key) s.words l inside ss kept.latches c
+  told = tells_by (latches_of sizes) s.words l inside ss kept.latches c
 
   same : r ≡ response_of (word_on l ss) (m l) e a
   same = response_same n (word_on l ss) (m l) a.held proper.single a.phase e told
@@ -183,20 +183,20 @@ module _ (lawful : ℕ → List Entry → Type 0) (opening : ℕ → ℕ → ℕ
   grows = response_pays (word_in n) (marks_found n) e a proper
 
   module _ (leaves : Leaves c e a n n') where
-    marks_are : marks_in (latches_of key) words l ≡ marks_after a.phase e (m l)
-    marks_are = marks_here (latches_of key) s.words l n' c inside fits ∙ (leaves_put c e a n n' (m l) leaves ∙ marks_with n (word_on l ss) (m l) a.held a.phase e told)
+    marks_are : marks_in (latches_of sizes) words l ≡ marks_after a.phase e (m l)
+    marks_are = marks_here (latches_of sizes) s.words l n' c inside fits ∙ (leaves_put c e a n n' (m l) leaves ∙ marks_with n (word_on l ss) (m l) a.held a.phase e told)
 
-    away : (k : ℕ) → l ≢ k → marks_in (latches_of key) words k ≡ m k
-    away k d = marks_away (latches_of key) s.words l n' c k d
+    away : (k : ℕ) → l ≢ k → marks_in (latches_of sizes) words k ≡ m k
+    away k d = marks_away (latches_of sizes) s.words l n' c k d
 
-    good_after : IsGood (set ss id r.session) (marks_in (latches_of key) words)
-    good_after = subst (λ a'. IsGood (set ss id a') (marks_in (latches_of key) words)) (sym (ap (λ (r : Response). r.session) same))
-        (turn_kept m (marks_in (latches_of key) words) ss id a e (readers_few lawful opening key s kept) kept.latches.good at' marks_are away)
+    good_after : IsGood (set ss id r.session) (marks_in (latches_of sizes) words)
+    good_after = subst (λ a'. IsGood (set ss id a') (marks_in (latches_of sizes) words)) (sym (ap (λ (r : Response). r.session) same))
+        (turn_kept m (marks_in (latches_of sizes) words) ss id a e (readers_few lawful opening sizes s kept) kept.latches.good at' marks_are away)
 
     -- the lock word moves by what the session takes off it
     off_lock : (d : LatchWord) → c ≡ d → d ≢ Lock → slice_index (set s.words (latch_word_place d l) n') (lock_place l) + taken l r.session ≡ slice_index s.words (lock_place l) + taken l a
     off_lock d is off =
-        let w = lock_else (latches_of key) s.words l n' d off in
+        let w = lock_else (latches_of sizes) s.words l n' d off in
         let t : taken l r.session ≡ taken l a = response_weighs (word_in n) a.held a.phase (marks_found n) e proper (λ q. off (sym is ∙ q)) in omega arith
 
     lock_moves : (d : LatchWord) → c ≡ d → slice_index (set s.words (latch_word_place d l) n') (lock_place l) + taken l r.session ≡ slice_index s.words (lock_place l) + taken l a
@@ -210,24 +210,24 @@ module _ (lawful : ℕ → List Entry → Type 0) (opening : ℕ → ℕ → ℕ
     lock_moves Generation is = off_lock Generation is (λ z. absurd (cc))
     lock_moves ExGeneration is = off_lock ExGeneration is (λ z. absurd (cc))
 
-    counted_after : (k : ℕ) → k < latches_of key → IsCell (all_taken k (set ss id r.session)) (slice_index words (lock_place k))
+    counted_after : (k : ℕ) → k < latches_of sizes → IsCell (all_taken k (set ss id r.session)) (slice_index words (lock_place k))
     counted_after k h =
         let was = kept.latches.counted k h in let t = sum_at (taken k) ss id a r.session at' in
         dite (ℕ_discrete l k)
         (λ q. subst (λ k. IsCell (all_taken k (set ss id r.session)) (slice_index words (lock_place k))) q
         (let was = kept.latches.counted l inside in let t = sum_at (taken l) ss id a r.session at' in let w = lock_moves c refl in omega arith))
-        (λ d. let w = lock_away (latches_of key) s.words l n' c k d in let q = near.away k d weighs in omega arith)
+        (λ d. let w = lock_away (latches_of sizes) s.words l n' c k d in let q = near.away k d weighs in omega arith)
 
     -- the step is that event
     pub turn_is : IsEvent e v.session r.answer r.session
     turn_is = record {
       sessions = ss;
       marks = m;
-      marks_after = marks_in (latches_of key) words;
+      marks_after = marks_in (latches_of sizes) words;
       place = id;
       stands = at';
       good = kept.latches.good;
-      few = readers_few lawful opening key s kept;
+      few = readers_few lawful opening sizes s kept;
       turns = λ j. record { answer = (sym same j).answer; session = (sym same j).session; marks = sym marks_are j };
       away = away;
       good_after = good_after;
@@ -244,11 +244,11 @@ module _ (lawful : ℕ → List Entry → Type 0) (opening : ℕ → ℕ → ℕ
           (λ d. let q = near.away k d all_grants in let w = kept.latches.few id a at' k in omega arith))
           (λ j b e d. kept.latches.few j b e)
 
-      latches_after : LatchPart (latches_of key) words (set ss id r.session)
+      latches_after : LatchPart (latches_of sizes) words (set ss id r.session)
       latches_after = record {
         good = good_after;
         counted = counted_after;
-        flags = flag_after (latches_of key) s.words l n' c (small_flag c e a n n' leaves) fits kept.latches.flags;
+        flags = flag_after (latches_of sizes) s.words l n' c (small_flag c e a n n' leaves) fits kept.latches.flags;
         few = few_after;
       }
 
@@ -256,18 +256,18 @@ module _ (lawful : ℕ → List Entry → Type 0) (opening : ℕ → ℕ → ℕ
         abbrev w : View
         w = with_looks looks (turned e n v)
 
-        paid_after : PaidPart (latches_of key) words (set s.views id (with_looks looks (turned e n v)))
+        paid_after : PaidPart (latches_of sizes) words (set s.views id (with_looks looks (turned e n v)))
         paid_after = record {
           paid = λ k h.
               let t = sum_at (λ (u : View). total u.grants) s.views id v w at in let g = total_more o v.grants in let b = kept.paid.paid k h in
               dite (ℕ_discrete l k)
               (λ q. subst (λ k. raises_in words k + sum_by (λ u. debt k u.session) (set s.views id (with_looks looks (turned e n v))) ≤ sum_by (λ u. total u.grants) (set s.views id (with_looks looks (turned e n v)))) q
               (let d = sum_at (λ (u : View). debt l u.session) s.views id v w at in let b = kept.paid.paid l inside in
-              let f = grows.here in let x = raises_are (latches_of key) s.words l inside in let y = raises_are (latches_of key) words l inside in
+              let f = grows.here in let x = raises_are (latches_of sizes) s.words l inside in let y = raises_are (latches_of sizes) words l inside in
               let z = ap (λ (m : Marks). m.generation + m.ex_generation) marks_are in let u = marks_pay (m l) a.phase e in omega arith))
               (λ j. let d = sum_at (λ (u : View). debt k u.session) s.views id v w at in
               let q = near.away k j all_grants in let f = grows.away k j in
-              let x = raises_are (latches_of key) s.words k h in let y = raises_are (latches_of key) words k h in
+              let x = raises_are (latches_of sizes) s.words k h in let y = raises_are (latches_of sizes) words k h in
               let z = ap (λ (m : Marks). m.generation + m.ex_generation) (away k j) in omega arith);
           bound = at_set (λ _ u. total u.grants ≤ 2 ^ 52 * sessions_in u.role) s.views id w
               (let one = alive_crowd v.role alive in let g = total_more o v.grants in let b = kept.paid.bound id v at in
@@ -284,26 +284,26 @@ module _ (lawful : ℕ → List Entry → Type 0) (opening : ℕ → ℕ → ℕ
             let left : Leaves Writer e a (slice_index s.words (writer_place l)) n' = subst (λ d. Leaves d e a (slice_index s.words (latch_word_place d l)) n') is leaves in
             let f : writer_place l < length s.words = subst (λ d. latch_word_place d l < length s.words) is fits in
             ap (λ (ws : List ℕ). slice_index ws (writer_place k)) (ap (λ (z : ℕ). set s.words (writer_place l) z) left ∙ set_same s.words (writer_place l) f)
-        same_writers Lock is k = writer_kept (latches_of key) s.words l n' Lock k (λ z. absurd (cc))
-        same_writers Waiters is k = writer_kept (latches_of key) s.words l n' Waiters k (λ z. absurd (cc))
-        same_writers Generation is k = writer_kept (latches_of key) s.words l n' Generation k (λ z. absurd (cc))
-        same_writers ExGeneration is k = writer_kept (latches_of key) s.words l n' ExGeneration k (λ z. absurd (cc))
+        same_writers Lock is k = writer_kept (latches_of sizes) s.words l n' Lock k (λ z. absurd (cc))
+        same_writers Waiters is k = writer_kept (latches_of sizes) s.words l n' Waiters k (λ z. absurd (cc))
+        same_writers Generation is k = writer_kept (latches_of sizes) s.words l n' Generation k (λ z. absurd (cc))
+        same_writers ExGeneration is k = writer_kept (latches_of sizes) s.words l n' ExGeneration k (λ z. absurd (cc))
 
-        others_write : (u : View) (xs : List ℕ) → AllByRecursion (IsWriter (latches_of key) s.words u) xs → AllByRecursion (IsWriter (latches_of key) words u) xs
+        others_write : (u : View) (xs : List ℕ) → AllByRecursion (IsWriter (latches_of sizes) s.words u) xs → AllByRecursion (IsWriter (latches_of sizes) words u) xs
         others_write u [] each = tt
         others_write u (x ∷ xs) each = ((each.0.0, same_writers c refl x ∙ each.0.1, each.0.2), others_write u xs each.1)
 
-        still_writes : (xs : List ℕ) → AllByRecursion (IsWriter (latches_of key) s.words v) xs → AllByRecursion (IsWriter (latches_of key) words (with_looks looks (turned e n v))) (filter (λ k. not (k == latch_of e) || nat_lt 0 (claims (latch_of e) r.session)) xs)
+        still_writes : (xs : List ℕ) → AllByRecursion (IsWriter (latches_of sizes) s.words v) xs → AllByRecursion (IsWriter (latches_of sizes) words (with_looks looks (turned e n v))) (filter (λ k. not (k == latch_of e) || nat_lt 0 (claims (latch_of e) r.session)) xs)
         still_writes [] each = tt
         still_writes (x ∷ xs) each =
-            by_equal (λ t. AllByRecursion (IsWriter (latches_of key) words (with_looks looks (turned e n v))) (cond (not t || nat_lt 0 (claims (latch_of e) r.session)) (x ∷ filter (λ k. not (k == latch_of e) || nat_lt 0 (claims (latch_of e) r.session)) xs) (filter (λ k. not (k == latch_of e) || nat_lt 0 (claims (latch_of e) r.session)) xs))) x l
-            (λ here. choose (λ ys. AllByRecursion (IsWriter (latches_of key) words (with_looks looks (turned e n v))) ys) (nat_lt 0 (claims l r.session)) _ _
+            by_equal (λ t. AllByRecursion (IsWriter (latches_of sizes) words (with_looks looks (turned e n v))) (cond (not t || nat_lt 0 (claims (latch_of e) r.session)) (x ∷ filter (λ k. not (k == latch_of e) || nat_lt 0 (claims (latch_of e) r.session)) xs) (filter (λ k. not (k == latch_of e) || nat_lt 0 (claims (latch_of e) r.session)) xs))) x l
+            (λ here. choose (λ ys. AllByRecursion (IsWriter (latches_of sizes) words (with_looks looks (turned e n v))) ys) (nat_lt 0 (claims l r.session)) _ _
             (λ has. ((subst (λ k. 0 < claims k r.session) (sym here) (some_by (claims l r.session) has), same_writers c refl x ∙ each.0.1, each.0.2), still_writes xs each.1))
             (λ _. still_writes xs each.1))
             (λ d. ((let q = near.away x (λ z. d (sym z)) (λ h. h.sx + h.x) in let o = each.0.0 in omega arith, same_writers c refl x ∙ each.0.1, each.0.2), still_writes xs each.1))
 
-        writers_after : WriterPart (latches_of key) words (set s.views id (with_looks looks (turned e n v)))
-        writers_after = at_set (λ _ u. AllByRecursion (IsWriter (latches_of key) words u) u.written) s.views id w (still_writes v.written (kept.writers id v at)) (λ j u q _. others_write u u.written (kept.writers j u q))
+        writers_after : WriterPart (latches_of sizes) words (set s.views id (with_looks looks (turned e n v)))
+        writers_after = at_set (λ _ u. AllByRecursion (IsWriter (latches_of sizes) words u) u.written) s.views id w (still_writes v.written (kept.writers id v at)) (λ j u q _. others_write u u.written (kept.writers j u q))
 
         moves : Moves l a r.session
         moves = record { away = near.away; class = grows.class }
@@ -311,17 +311,17 @@ module _ (lawful : ℕ → List Entry → Type 0) (opening : ℕ → ℕ → ℕ
         proper_after : IsProper r.session
         proper_after = good_after.proper id r.session (set_here ss id a r.session at')
 
-        pub turn_keeps : v.memory.append ≡ None → (cs : List (ℕ × Unit {0})) → RuleHolds lawful opening key (stepped s (latch_word_place (word_for e v.session) (latch_of e)) n' id cs (with_looks looks (turned e n v)) keeps)
+        pub turn_keeps : v.memory.append ≡ None → (cs : List (ℕ × Unit {0})) → RuleHolds lawful opening sizes (stepped s (latch_word_place (word_for e v.session) (latch_of e)) n' id cs (with_looks looks (turned e n v)) keeps)
         turn_keeps closed cs = record {
           sized = length-set s.words p n' ∙ kept.sized;
-          sessions = subst (λ (z : ℕ × List Role). SessionsPart z.0 z.1) (λ j. (sym (front (latches_of key) s.words l n' c drawn_place (omega arith)) j, sym (map_same role_of s.views id v w at refl) j)) kept.sessions;
-          latches = subst (λ z. LatchPart (latches_of key) words z) (sym (map-set session_in_view s.views id w)) latches_after;
+          sessions = subst (λ (z : ℕ × List Role). SessionsPart z.0 z.1) (λ j. (sym (front (latches_of sizes) s.words l n' c drawn_place (omega arith)) j, sym (map_same role_of s.views id v w at refl) j)) kept.sessions;
+          latches = subst (λ z. LatchPart (latches_of sizes) words z) (sym (map-set session_in_view s.views id w)) latches_after;
           idles = at_set (λ _ u. IsIdle u) s.views id w (λ z. absurd (alive z)) (λ j b e _. kept.idles j b e);
           paid = paid_after;
           writers = writers_after;
           log = kept.log;
-          memory = view_part key (lawful key.pages) (by_place opening key.pages) s.words words kept.log s.views id v w kept.memory at (latch_far key s.words c l n' inside)
+          memory = view_part sizes (lawful sizes.pages) (by_place opening sizes.pages) s.words words kept.log s.views id v w kept.memory at (latch_far sizes s.words c l n' inside)
               (omega arith)
-              (follows_left l a r.session proper proper_after moves key (lawful key.pages) (by_place opening key.pages) s.words kept.log (number_in v.role) v.memory closed (kept.memory.follows id v at))
+              (follows_left l a r.session proper proper_after moves sizes (lawful sizes.pages) (by_place opening sizes.pages) s.words kept.log (number_in v.role) v.memory closed (kept.memory.follows id v at))
               (kept.memory.ended id v at) (λ q h. h);
         }

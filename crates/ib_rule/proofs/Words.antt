@@ -21,12 +21,12 @@ use Rattle.ib_core.specs.Turns.{Tells, with_mark}
 pub is_inside : (l latches : ℕ) → l < latches → nat_lt l latches ≡ true
 is_inside l latches h = grind (arith, nat_tests)
 
-pub place_fits : (key : Sizes) (words : List ℕ) (l : ℕ) (c : LatchWord) → length words ≡ words_of key → l < latches_of key → latch_word_place c l < length words
-place_fits key words l Lock sized inside = omega arith
-place_fits key words l Waiters sized inside = omega arith
-place_fits key words l Writer sized inside = omega arith
-place_fits key words l Generation sized inside = omega arith
-place_fits key words l ExGeneration sized inside = omega arith
+pub place_fits : (sizes : Sizes) (words : List ℕ) (l : ℕ) (c : LatchWord) → length words ≡ words_of sizes → l < latches_of sizes → latch_word_place c l < length words
+place_fits sizes words l Lock sized inside = omega arith
+place_fits sizes words l Waiters sized inside = omega arith
+place_fits sizes words l Writer sized inside = omega arith
+place_fits sizes words l Generation sized inside = omega arith
+place_fits sizes words l ExGeneration sized inside = omega arith
 
 at_get : (words : List ℕ) (p : ℕ) → p < length words → get_elem? words p ≡ some (get_or words p 0)
 at_get [] p h = absurd (omega arith)

@@ -16,7 +16,7 @@ abbrev pub used_in : List ℕ → ℕ
 used_in words = slice_index words end_place % 2 ^ 32
 
 abbrev pub log_in : Sizes → List ℕ → List ℕ
-log_in key words = take (used_in words) (drop (log_place key 0) words)
+log_in sizes words = take (used_in words) (drop (log_place sizes 0) words)
 
 -- what contracts see of a closed space: its sizes, how many sessions it drew, and its words
 pub record ClosedState : Type 0 where
@@ -25,18 +25,18 @@ pub record ClosedState : Type 0 where
   pub words : List ℕ
 
 -- there are as many words as the sizes ask for, and the log's end lies within the log
-pub record IsSized (key : Sizes) (words : List ℕ) : Type 0 where
-  pub sized : length words ≡ words_of key
-  pub room : used_in words ≤ key.log_words
+pub record IsSized (sizes : Sizes) (words : List ℕ) : Type 0 where
+  pub sized : length words ≡ words_of sizes
+  pub room : used_in words ≤ sizes.log_words
 
 -- the words are those of a lawful log: the log words and the page words are its, and each session that has ended had seen a front of it, and has exactly its own entries in it
-pub record IsClosed (lawful : ℕ → List Entry → Type 0) (opening : ℕ → ℕ → ℕ → ℕ) (key : Sizes) (words : List ℕ) (ended : List Ended) : Type 0 where
+pub record IsClosed (lawful : ℕ → List Entry → Type 0) (opening : ℕ → ℕ → ℕ → ℕ) (sizes : Sizes) (words : List ℕ) (ended : List Ended) : Type 0 where
   pub log : List Entry
-  pub legal : lawful key.pages log
-  pub grammar : AreInGrammar key.pages log
-  pub sized : length words ≡ words_of key
-  pub room : used_in words ≤ key.log_words
-  pub logged : log_in key words ≡ log_words log
-  pub paged : (page index : ℕ) → page < key.pages → index < PAGE_WORDS → slice_index words (page_place key page index) ≡ memory_after (by_place opening key.pages) log (word_place page index)
+  pub legal : lawful sizes.pages log
+  pub grammar : AreInGrammar sizes.pages log
+  pub sized : length words ≡ words_of sizes
+  pub room : used_in words ≤ sizes.log_words
+  pub logged : log_in sizes words ≡ log_words log
+  pub paged : (page index : ℕ) → page < sizes.pages → index < PAGE_WORDS → slice_index words (page_place sizes page index) ≡ memory_after (by_place opening sizes.pages) log (word_place page index)
   pub sessions : AllByRecursion (EndedFact log) ended
   pub others : (n : ℕ) → length ended < n → entries_of n log ≡ []

@@ -16,8 +16,8 @@ use Rattle.ib_core.specs.Takings.{wish}
 use Rattle.ib_core.specs.Turns.{turn_at}
 use Rattle.ib_core.specs.Debts.{wish_of, won, grants_won}
 use Rattle.ib_core.specs.Holders.{CanWish}
-use Rattle.ib_rule.specs.declared.kind.Kind.{Kind}
-use Rattle.ib_rule.specs.declared.kind.Kind.TheVariants.{Turn, Recheck, Look}
+use Rattle.ib_rule.specs.declared.kind.StepKind.{StepKind}
+use Rattle.ib_rule.specs.declared.kind.StepKind.TheVariants.{Turn, Recheck, Look}
 use Rattle.ib_rule.specs.declared.view.View.{View}
 use Rattle.ib_rule.specs.Views.{total}
 
@@ -39,7 +39,7 @@ found_by (Ok x) expected = cell_of expected.0
 found_by (Err found) expected = cell_of found.0
 
 -- what a load of the lock word is: a next writer looks whether it owns X, and who has set the flag whether its wish is refused
-abbrev pub word_kind : ℕ → Phase → Kind
+abbrev pub word_kind : ℕ → Phase → StepKind
 word_kind l (Next k v) = if k == l then Turn (Ready l) else Look l
 word_kind l (NextArmed k v g) = if k == l then Turn (Ready l) else Look l
 word_kind l (Flagged k mode v g) = if k == l then Recheck l else Look l

@@ -17,14 +17,14 @@ use Rattle.ib_rule.specs.declared.view.Ended.{Ended}
 use Rattle.ib_rule.specs.declared.memory.Since.{Since}
 use Rattle.ib_rule.specs.declared.memory.Loaded.{Loaded}
 use Rattle.ib_rule.specs.declared.memory.OpenAppend.{OpenAppend}
-use Rattle.ib_rule.specs.declared.memory.Memory.{Memory}
+use Rattle.ib_rule.specs.declared.memory.Knowledge.{Knowledge}
 
 -- where the page words begin in the table, and how many there are
 abbrev pub base : Sizes → ℕ
-base key = 2 + 5 * (key.pages + 2)
+base sizes = 2 + 5 * (sizes.pages + 2)
 
 abbrev pub page_places : Sizes → ℕ
-page_places key = PAGE_WORDS * key.pages
+page_places sizes = PAGE_WORDS * sizes.pages
 
 -- the latch of the page of a place
 abbrev pub latch_at : ℕ → ℕ
@@ -58,16 +58,16 @@ abbrev pub LoadedFact : (ℕ → ℕ) → Session → List Entry → Loaded → 
 LoadedFact opening a log x = (0 < holdings (latch_at x.place) a) × IsRight opening log x
 
 -- what an entry must be to be appended by a session that holds this
-pub record MayComeBehind (key : Sizes) (lawful : List Entry → Type 0) (number made : ℕ) (a : Session) (log : List Entry) (e : Entry) : Type 0 where
+pub record MayComeBehind (sizes : Sizes) (lawful : List Entry → Type 0) (number made : ℕ) (a : Session) (log : List Entry) (e : Entry) : Type 0 where
   pub named : e.session ≡ number
   pub counted : e.number ≡ made + 1
-  pub grammar : IsInGrammar key.pages e
+  pub grammar : IsInGrammar sizes.pages e
   pub free : a.phase ≡ Free
   pub log_x : 0 < x_grants 0 a
-  pub pages_x : (q : ℕ) → writes_at q e.writes ≡ true → (q < page_places key) × (0 < x_grants (latch_at q) a)
+  pub pages_x : (q : ℕ) → writes_at q e.writes ≡ true → (q < page_places sizes) × (0 < x_grants (latch_at q) a)
   pub index : e.structural ≡ true → 0 < claims 1 a
   pub legal : lawful (log ++ e ∷ [])
-  pub room : used log + length (words_of_entry e) ≤ key.log_words
+  pub room : used log + length (words_of_entry e) ≤ sizes.log_words
 
 -- a number stands in the list
 abbrev pub has : ℕ → List ℕ → Bool
@@ -75,15 +75,15 @@ has q [] = false
 has q (x ∷ xs) = (x == q) || has q xs
 
 -- an open append: its entry may follow the log, all of which is seen, and what it has stored stands
-pub record IsWriting (key : Sizes) (lawful : List Entry → Type 0) (words : List ℕ) (log : List Entry) (number : ℕ) (a : Session) (m : Memory) (o : OpenAppend) : Type 0 where
-  pub fits : MayComeBehind key lawful number (length m.own) a log o.entry
+pub record IsWriting (sizes : Sizes) (lawful : List Entry → Type 0) (words : List ℕ) (log : List Entry) (number : ℕ) (a : Session) (m : Knowledge) (o : OpenAppend) : Type 0 where
+  pub fits : MayComeBehind sizes lawful number (length m.own) a log o.entry
   pub whole : m.seen ≡ log
-  pub pages_done : (q : ℕ) → has q o.places ≡ true → (writes_at q o.entry.writes ≡ true) × (slice_index words (base key + q) ≡ stored o.entry.writes q 0)
-  pub words_done : (j : ℕ) → has j o.words ≡ true → (j < length (words_of_entry o.entry)) × (slice_index words (log_place key (used log + j)) ≡ slice_index_or (words_of_entry o.entry) j 0)
+  pub pages_done : (q : ℕ) → has q o.places ≡ true → (writes_at q o.entry.writes ≡ true) × (slice_index words (base sizes + q) ≡ stored o.entry.writes q 0)
+  pub words_done : (j : ℕ) → has j o.words ≡ true → (j < length (words_of_entry o.entry)) × (slice_index words (log_place sizes (used log + j)) ≡ slice_index_or (words_of_entry o.entry) j 0)
 
-abbrev pub IsAppending : Sizes → (List Entry → Type 0) → List ℕ → List Entry → ℕ → Session → Memory → Option OpenAppend → Type 0
-IsAppending key lawful words log number a m None = Unit {0}
-IsAppending key lawful words log number a m (Some o) = IsWriting key lawful words log number a m o
+abbrev pub IsAppending : Sizes → (List Entry → Type 0) → List ℕ → List Entry → ℕ → Session → Knowledge → Option OpenAppend → Type 0
+IsAppending sizes lawful words log number a m None = Unit {0}
+IsAppending sizes lawful words log number a m (Some o) = IsWriting sizes lawful words log number a m o
 
 -- the page word at a place is one that the open append has stored
 abbrev pub stored_in : Option OpenAppend → ℕ → Bool
@@ -95,10 +95,10 @@ abbrev pub EndedFact : List Entry → Ended → Type 0
 EndedFact log e = IsPrefix e.seen log × (entries_of e.number log ≡ e.own) × (0 < e.number)
 
 -- what a session knows is true of the log and the words
-pub record Follows (key : Sizes) (lawful : List Entry → Type 0) (opening : ℕ → ℕ) (words : List ℕ) (log : List Entry) (number : ℕ) (a : Session) (m : Memory) : Type 0 where
+pub record Follows (sizes : Sizes) (lawful : List Entry → Type 0) (opening : ℕ → ℕ) (words : List ℕ) (log : List Entry) (number : ℕ) (a : Session) (m : Knowledge) : Type 0 where
   pub met : AllByRecursion (λ xs. IsPrefix xs log) m.met
   pub seen : IsPrefix m.seen log
   pub mine : 0 < number → (entries_of number log ≡ m.own) × (entries_of number m.seen ≡ m.own)
   pub since : AllByRecursion (SinceFact number a (length m.seen) log) m.since
   pub loaded : AllByRecursion (LoadedFact opening a log) m.loaded
-  pub append : IsAppending key lawful words log number a m m.append
+  pub append : IsAppending sizes lawful words log number a m m.append

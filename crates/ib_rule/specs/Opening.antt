@@ -13,7 +13,7 @@ pub record AreFreed (latches : ℕ) (old new : List ℕ) : Type 0 where
   pub others : (p : ℕ) → ((l : ℕ) → l < latches → lock_place l ≢ p) → slice_index new p ≡ slice_index old p
 
 -- the first page words are the law's, and all words before the pages are as before
-pub record AreOpened (opening : ℕ → ℕ → ℕ → ℕ) (key : Sizes) (places : ℕ) (old new : List ℕ) : Type 0 where
+pub record AreOpened (opening : ℕ → ℕ → ℕ → ℕ) (sizes : Sizes) (places : ℕ) (old new : List ℕ) : Type 0 where
   pub sized : length new ≡ length old
-  pub opened : (q : ℕ) → q < places → slice_index new (base key + q) ≡ by_place opening key.pages q
-  pub before : (p : ℕ) → p < base key → slice_index new p ≡ slice_index old p
+  pub opened : (q : ℕ) → q < places → slice_index new (base sizes + q) ≡ by_place opening sizes.pages q
+  pub before : (p : ℕ) → p < base sizes → slice_index new p ≡ slice_index old p

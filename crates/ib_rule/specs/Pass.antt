@@ -12,7 +12,7 @@ use Rattle.ib_levels.specs.declared.level.Mode.{Mode}
 use Rattle.ib_page.specs.Work.{WorkPage}
 use Rattle.ib_rule.specs.declared.pass.TheConstants.{ENTRY_WORDS, MOST_HELD}
 use Rattle.ib_rule.specs.declared.pass.Pass.TheInside.{Inside}
-use Rattle.ib_rule.specs.declared.memory.Memory.{Memory}
+use Rattle.ib_rule.specs.declared.memory.Knowledge.{Knowledge}
 use Rattle.ib_rule.specs.declared.view.Role.TheVariants.{Session}
 use Rattle.ib_rule.specs.declared.view.View.{View}
 use Rattle.ib_rule.specs.Desk.{IsDesk, desk_state}
@@ -49,7 +49,7 @@ abbrev pub pass_state : Inside → PassState
 pass_state p = let d = desk_state p.desk in record { table = p.seat.table_id; sizes = p.geometry; number = p.number; view = p.seat.me.0; has_scratch = d.is_free; is_working = d.is_taken; work = d.work; memo = d.memo; words = p.words.items }
 
 -- what is seen fits the log, has at least a word for each entry, and has the session's own entries
-pub record IsFront (sizes : Sizes) (m : Memory) : Type 0 where
+pub record IsFront (sizes : Sizes) (m : Knowledge) : Type 0 where
   pub mine : length m.own ≤ length m.seen
   pub short : length m.seen ≤ used m.seen
   pub room : used m.seen ≤ sizes.log_words

@@ -60,36 +60,36 @@ abbrev pub Idles : List View → Type 0
 Idles views = (i : ℕ) (v : View) → get_elem? views i ≡ some v → IsIdle v
 
 -- the memory part: the log words up to the log's end are those of a lawful log, the page words are the memory after it, but for those that an open append has stored, and what each session knows is true
-pub record MemoryPart (key : Sizes) (lawful : List Entry → Type 0) (opening : ℕ → ℕ) (words : List ℕ) (log : List Entry) (views : List View) : Type 0 where
+pub record MemoryPart (sizes : Sizes) (lawful : List Entry → Type 0) (opening : ℕ → ℕ) (words : List ℕ) (log : List Entry) (views : List View) : Type 0 where
   pub legal : lawful log
-  pub grammar : AreInGrammar key.pages log
+  pub grammar : AreInGrammar sizes.pages log
   pub short : length log ≤ used log
-  pub room : used log ≤ key.log_words
+  pub room : used log ≤ sizes.log_words
   pub end : slice_index words end_place ≡ length log * 2 ^ 32 + used log
-  pub logged : (w : ℕ) → w < used log → slice_index words (log_place key w) ≡ slice_index_or (log_words log) w 0
-  pub paged : (q : ℕ) → q < page_places key → ((i : ℕ) (v : View) → get_elem? views i ≡ some v → stored_in v.memory.append q ≡ false) → slice_index words (base key + q) ≡ memory_after opening log q
-  pub follows : (i : ℕ) (v : View) → get_elem? views i ≡ some v → Follows key lawful opening words log (number_in v.role) v.session v.memory
+  pub logged : (w : ℕ) → w < used log → slice_index words (log_place sizes w) ≡ slice_index_or (log_words log) w 0
+  pub paged : (q : ℕ) → q < page_places sizes → ((i : ℕ) (v : View) → get_elem? views i ≡ some v → stored_in v.memory.append q ≡ false) → slice_index words (base sizes + q) ≡ memory_after opening log q
+  pub follows : (i : ℕ) (v : View) → get_elem? views i ≡ some v → Follows sizes lawful opening words log (number_in v.role) v.session v.memory
   pub ended : (i : ℕ) (v : View) → get_elem? views i ≡ some v → AllByRecursion (EndedFact log) (ended_in v.role)
   pub undrawn : (n : ℕ) → sum_by drawn_in (map role_of views) < n → entries_of n log ≡ []
 
 -- the rule
-pub record RuleHolds (lawful : ℕ → List Entry → Type 0) (opening : ℕ → ℕ → ℕ → ℕ) (key : Sizes) (s : State (Unit {0}) View) : Type 0 where
-  pub sized : length s.words ≡ words_of key
+pub record RuleHolds (lawful : ℕ → List Entry → Type 0) (opening : ℕ → ℕ → ℕ → ℕ) (sizes : Sizes) (s : State (Unit {0}) View) : Type 0 where
+  pub sized : length s.words ≡ words_of sizes
   pub sessions : SessionsPart (slice_index s.words drawn_place) (map role_of s.views)
-  pub latches : LatchPart (latches_of key) s.words (map session_in_view s.views)
+  pub latches : LatchPart (latches_of sizes) s.words (map session_in_view s.views)
   pub idles : Idles s.views
-  pub paid : PaidPart (latches_of key) s.words s.views
-  pub writers : WriterPart (latches_of key) s.words s.views
+  pub paid : PaidPart (latches_of sizes) s.words s.views
+  pub writers : WriterPart (latches_of sizes) s.words s.views
   pub log : List Entry
-  pub memory : MemoryPart key (lawful key.pages) (by_place opening key.pages) s.words log s.views
+  pub memory : MemoryPart sizes (lawful sizes.pages) (by_place opening sizes.pages) s.words log s.views
 
 -- the words of a space that opens: all latches are free, no session was drawn, the log is empty, and the pages are the law's
-pub record IsOpening (opening : ℕ → ℕ → ℕ → ℕ) (key : Sizes) (words : List ℕ) : Type 0 where
-  pub sized : length words ≡ words_of key
+pub record IsOpening (opening : ℕ → ℕ → ℕ → ℕ) (sizes : Sizes) (words : List ℕ) : Type 0 where
+  pub sized : length words ≡ words_of sizes
   pub none_drawn : slice_index words drawn_place ≡ 0
   pub none_logged : slice_index words end_place ≡ 0
-  pub all_free : (l : ℕ) → l < latches_of key → slice_index words (lock_place l) ≡ WORD_BIAS + X_LOCK_DECR
-  pub none_waits : (l : ℕ) → l < latches_of key → slice_index words (waiters_place l) ≡ 0
-  pub none_raised : (l : ℕ) → l < latches_of key → slice_index words (gen_place l) ≡ 0
-  pub none_drained : (l : ℕ) → l < latches_of key → slice_index words (ex_gen_place l) ≡ 0
-  pub opened : (q : ℕ) → q < page_places key → slice_index words (base key + q) ≡ by_place opening key.pages q
+  pub all_free : (l : ℕ) → l < latches_of sizes → slice_index words (lock_place l) ≡ WORD_BIAS + X_LOCK_DECR
+  pub none_waits : (l : ℕ) → l < latches_of sizes → slice_index words (waiters_place l) ≡ 0
+  pub none_raised : (l : ℕ) → l < latches_of sizes → slice_index words (gen_place l) ≡ 0
+  pub none_drained : (l : ℕ) → l < latches_of sizes → slice_index words (ex_gen_place l) ≡ 0
+  pub opened : (q : ℕ) → q < page_places sizes → slice_index words (base sizes + q) ≡ by_place opening sizes.pages q

@@ -12,10 +12,10 @@ use Rattle.ib_core.specs.declared.session.Session.{Session}
 use Rattle.ib_core.specs.Responses.{latch_of}
 use Rattle.ib_core.specs.Takings.{is_given_at}
 use Rattle.ib_core.specs.Turns.{word_for}
-use Rattle.ib_rule.specs.declared.kind.Kind.{Kind}
-use Rattle.ib_rule.specs.declared.kind.Kind.TheVariants.{Turn, Try, Recheck, Look, StoreWriter, Enter, Count, Meet, LoadPage}
-use Rattle.ib_rule.specs.declared.kind.Op.{Op}
-use Rattle.ib_rule.specs.declared.kind.Op.TheVariants.{Load, Swap, Add, Sub}
+use Rattle.ib_rule.specs.declared.kind.StepKind.{StepKind}
+use Rattle.ib_rule.specs.declared.kind.StepKind.TheVariants.{Turn, Try, Recheck, Look, StoreWriter, Enter, Count, Meet, LoadPage}
+use Rattle.ib_rule.specs.declared.kind.WordOp.{WordOp}
+use Rattle.ib_rule.specs.declared.kind.WordOp.TheVariants.{Load, Swap, Add, Sub}
 use Rattle.ib_rule.specs.declared.looks.Looks.{Looks}
 use Rattle.ib_rule.specs.declared.view.View.{View}
 use Rattle.ib_rule.specs.Roles.{entered}
@@ -30,7 +30,7 @@ latch_word_place Generation l = gen_place l
 latch_word_place ExGeneration l = ex_gen_place l
 
 -- the word that a step leaves where it found n
-abbrev pub run : Op → ℕ → ℕ
+abbrev pub run : WordOp → ℕ → ℕ
 run Load n = n
 run (Swap k) n = k
 run (Add k) n = (n + k) % 2 ^ 64
@@ -42,7 +42,7 @@ refuses (Flagged l mode v g) n = not (is_given_at mode (word_in n))
 refuses _ n = false
 
 -- the event that a step is, at the word found
-abbrev pub event_at : Kind → Session → ℕ → Option Event
+abbrev pub event_at : StepKind → Session → ℕ → Option Event
 event_at (Turn e) a n = Some e
 event_at (Try e expected) a n = if n == expected then Some e else None
 event_at (Recheck l) a n = if refuses a.phase n then Some (Again l) else None
@@ -62,7 +62,7 @@ turn_looks Lock (Ready l) n k = looked l n None k
 turn_looks Lock e n k = stepped_on k
 turn_looks c e n k = k
 
-abbrev pub looks_after : Kind → Session → ℕ → Looks → Looks
+abbrev pub looks_after : StepKind → Session → ℕ → Looks → Looks
 looks_after (Turn e) a n k = turn_looks (word_for e a) e n k
 looks_after (Try e expected) a n k = looked (latch_of e) n (Some expected) k
 looks_after (Recheck l) a n k = looked l n None k
@@ -70,7 +70,7 @@ looks_after (Look l) a n k = looked l n None k
 looks_after kind a n k = k
 
 -- the view after a step of this kind that found this word, but for the steps of which `After` says more
-abbrev pub view_after : Kind → ℕ → View → View
+abbrev pub view_after : StepKind → ℕ → View → View
 view_after (StoreWriter l) n v = signed l v
 view_after Enter n v = with_role (entered v.role) v
 view_after Count n v = v

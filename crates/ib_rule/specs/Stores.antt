@@ -56,8 +56,8 @@ abbrev pub appending : Entry → View → View
 appending e v = with_memory (record v.memory { seen = v.memory.seen ++ e ∷ []; own = v.memory.own ++ e ∷ []; loaded = stale v.memory.loaded; append = None }) v
 
 -- words of the entry may be stored: it may follow all that is seen, which is the whole log, since the log latch has a since
-pub record IsReady (key : Sizes) (lawful : List Entry → Type 0) (v : View) (e : Entry) : Type 0 where
-  pub fits : MayComeBehind key lawful (number_in v.role) (length v.memory.own) v.session v.memory.seen e
+pub record IsReady (sizes : Sizes) (lawful : List Entry → Type 0) (v : View) (e : Entry) : Type 0 where
+  pub fits : MayComeBehind sizes lawful (number_in v.role) (length v.memory.own) v.session v.memory.seen e
   pub watch : is_watched 0 v.memory.since ≡ true
   pub begins : Begins e v.memory.append
 
@@ -67,12 +67,12 @@ AllStored e None = ⊥
 AllStored e (Some o) = ((q : ℕ) → writes_at q e.writes ≡ true → has q o.places ≡ true) × ((j : ℕ) → j < length (words_of_entry e) → has j o.words ≡ true)
 
 -- what a look at the log's end tells of the log, and of what the session knew before it
-pub record ShowsWholeLog (key : Sizes) (lawful : List Entry → Type 0) (opening : ℕ → ℕ) (v : View) (found : ℕ) (log : List Entry) : Type 0 where
+pub record ShowsWholeLog (sizes : Sizes) (lawful : List Entry → Type 0) (opening : ℕ → ℕ) (v : View) (found : ℕ) (log : List Entry) : Type 0 where
   pub longer : IsPrefix v.memory.seen log
   pub legal : lawful log
   pub end : found ≡ length log * 2 ^ 32 + used log
   pub few : length log ≤ used log
-  pub room : used log ≤ key.log_words
+  pub room : used log ≤ sizes.log_words
   pub mine : (entries_of (number_in v.role) log ≡ v.memory.own) × (entries_of (number_in v.role) v.memory.seen ≡ v.memory.own)
   pub since : AllByRecursion (SinceFact (number_in v.role) v.session (length v.memory.seen) log) v.memory.since
   pub loaded : AllByRecursion (LoadedFact opening v.session log) v.memory.loaded
@@ -82,10 +82,10 @@ abbrev pub IsHarmless : ℕ → List Since → Entry → Type 0
 IsHarmless n since e = (e.session ≢ n) × AllByRecursion (λ s. conflicts e s ≡ false) since
 
 -- a look at the log: the entries newly seen are harmless, and what is seen is lawful, in the log's room, and has the session's own entries
-pub record IsLook (key : Sizes) (lawful : List Entry → Type 0) (v : View) (log : List Entry) : Type 0 where
+pub record IsLook (sizes : Sizes) (lawful : List Entry → Type 0) (v : View) (log : List Entry) : Type 0 where
   pub others : List Entry
   pub longer : v.memory.seen ++ others ≡ log
   pub harmless : AllByRecursion (IsHarmless (number_in v.role) v.memory.since) others
   pub legal : lawful log
-  pub room : used log ≤ key.log_words
+  pub room : used log ≤ sizes.log_words
   pub mine : entries_of (number_in v.role) log ≡ v.memory.own

@@ -19,8 +19,8 @@ use Rattle.ib_core.specs.Good.{IsGood, IsProper}
 use Rattle.ib_core.specs.Turns.{turn_at, word_for}
 use Rattle.ib_logrec.specs.declared.entry.Entry.{Entry}
 use Rattle.ib_logrec.specs.Log.{log_words, memory_after, by_place}
-use Rattle.ib_rule.specs.declared.kind.Kind.{Kind}
-use Rattle.ib_rule.specs.declared.kind.Kind.TheVariants.{Turn, Try, Recheck, Look, Count, Meet, LoadPage, LoadEnd, LoadLog, StorePage, StoreLog, StoreEnd}
+use Rattle.ib_rule.specs.declared.kind.StepKind.{StepKind}
+use Rattle.ib_rule.specs.declared.kind.StepKind.TheVariants.{Turn, Try, Recheck, Look, Count, Meet, LoadPage, LoadEnd, LoadLog, StorePage, StoreLog, StoreEnd}
 use Rattle.ib_rule.specs.declared.view.View.{View}
 use Rattle.ib_rule.specs.Roles.{drawn_in, ended_in, sessions_in}
 use Rattle.ib_rule.specs.Memory.{latch_at}
@@ -55,7 +55,7 @@ CanBe Generation l a n = n ≤ 2 ^ 62
 CanBe ExGeneration l a n = n ≤ 2 ^ 62
 
 -- what a step of this kind can find
-abbrev pub CanFind : Kind → View → ℕ → Type 0
+abbrev pub CanFind : StepKind → View → ℕ → Type 0
 CanFind (Turn e) v n = CanBe (word_for e v.session) (latch_of e) v.session n
 CanFind (Try e expected) v n = CanBe (word_for e v.session) (latch_of e) v.session n
 CanFind (Recheck l) v n = CanBe Lock l v.session n
@@ -68,19 +68,19 @@ abbrev pub IsWatchedWord : (ℕ → ℕ) → View → ℕ → ℕ → Type 0
 IsWatchedWord opening v q n = is_watched (latch_at q) v.memory.since ≡ true → n ≡ memory_after opening v.memory.seen q
 
 -- the view after a step. A load of the log's end shows all of the log, which the word alone does not tell
-abbrev pub After : (ℕ → List Entry → Type 0) → (ℕ → ℕ → ℕ → ℕ) → Sizes → Entry → Kind → View → ℕ → View → Type 0
-After lawful opening key e LoadEnd v n w = (w ≡ reaching w.memory.seen v) × ShowsWholeLog key (lawful key.pages) (by_place opening key.pages) v n w.memory.seen
-After lawful opening key e (LoadPage q) v n w = (w ≡ loading q n v) × IsWatchedWord (by_place opening key.pages) v q n
-After lawful opening key e Meet v n w = (w ≡ view_after Meet n v) × AllByRecursion (λ xs. IsPrefix xs v.memory.seen) v.memory.met × lawful key.pages v.memory.seen
-After lawful opening key e (LoadLog k) v n w = (w ≡ v) × (n ≡ slice_index_or (log_words v.memory.seen) k 0)
-After lawful opening key e (StorePage q x) v n w = w ≡ storing_page e q v
-After lawful opening key e (StoreLog j x) v n w = w ≡ storing_word e j v
-After lawful opening key e StoreEnd v n w = w ≡ appending e v
-After lawful opening key e kind v n w = w ≡ view_after kind n v
+abbrev pub After : (ℕ → List Entry → Type 0) → (ℕ → ℕ → ℕ → ℕ) → Sizes → Entry → StepKind → View → ℕ → View → Type 0
+After lawful opening sizes e LoadEnd v n w = (w ≡ reaching w.memory.seen v) × ShowsWholeLog sizes (lawful sizes.pages) (by_place opening sizes.pages) v n w.memory.seen
+After lawful opening sizes e (LoadPage q) v n w = (w ≡ loading q n v) × IsWatchedWord (by_place opening sizes.pages) v q n
+After lawful opening sizes e Meet v n w = (w ≡ view_after Meet n v) × AllByRecursion (λ xs. IsPrefix xs v.memory.seen) v.memory.met × lawful sizes.pages v.memory.seen
+After lawful opening sizes e (LoadLog k) v n w = (w ≡ v) × (n ≡ slice_index_or (log_words v.memory.seen) k 0)
+After lawful opening sizes e (StorePage q x) v n w = w ≡ storing_page e q v
+After lawful opening sizes e (StoreLog j x) v n w = w ≡ storing_word e j v
+After lawful opening sizes e StoreEnd v n w = w ≡ appending e v
+After lawful opening sizes e kind v n w = w ≡ view_after kind n v
 
 -- what a step tells: the view after it, the event that it was, what it found, and how its session stands
-pub record Told (lawful : ℕ → List Entry → Type 0) (opening : ℕ → ℕ → ℕ → ℕ) (key : Sizes) (e : Entry) (kind : Kind) (v : View) (found : ℕ) (w : View) : Type 0 where
-  pub view : After lawful opening key e kind v found w
+pub record Told (lawful : ℕ → List Entry → Type 0) (opening : ℕ → ℕ → ℕ → ℕ) (sizes : Sizes) (e : Entry) (kind : StepKind) (v : View) (found : ℕ) (w : View) : Type 0 where
+  pub view : After lawful opening sizes e kind v found w
   pub event : Happens (event_at kind v.session found) v.session found w.session
   pub proper : IsProper w.session
   pub known : KnowsHeld w
@@ -88,5 +88,5 @@ pub record Told (lawful : ℕ → List Entry → Type 0) (opening : ℕ → ℕ 
   pub few : (l : ℕ) → grants l w.session ≤ 8192
   pub taken : total w.grants ≤ 2 ^ 52 * sessions_in w.role
 
-abbrev pub tells : (ℕ → List Entry → Type 0) → (ℕ → ℕ → ℕ → ℕ) → Sizes → Entry → Kind → Me (Unit {0}) View → ℕ → Me (Unit {0}) View → Type 0
-tells lawful opening key e kind m found w = Told lawful opening key e kind m.0 found w.0 × (w.1 ≡ m.1)
+abbrev pub tells : (ℕ → List Entry → Type 0) → (ℕ → ℕ → ℕ → ℕ) → Sizes → Entry → StepKind → Me (Unit {0}) View → ℕ → Me (Unit {0}) View → Type 0
+tells lawful opening sizes e kind m found w = Told lawful opening sizes e kind m.0 found w.0 × (w.1 ≡ m.1)

@@ -4,7 +4,7 @@ use Rattle.ib_word.specs.Word.{cell_of}
 use Rattle.ib_word.specs.declared.word.LockWord.{LockWord}
 use Rattle.ib_core.specs.declared.event.Event.{Event}
 use Rattle.ib_core.specs.Turns.{turn_at}
-use Rattle.ib_rule.specs.declared.kind.Kind.TheVariants.{Turn, Try}
+use Rattle.ib_rule.specs.declared.kind.StepKind.TheVariants.{Turn, Try}
 use Rattle.ib_rule.specs.Steps.{view_after}
 use Rattle.ib_rule.specs.Told.{IsEvent}
 use Rattle.ib_rule.specs.Conditions.{found_by}

@@ -14,7 +14,7 @@ use Rattle.ib_logrec.specs.declared.entry.Entry.{Entry}
 use Rattle.ib_rule.specs.declared.looks.Grants.{Grants}
 use Rattle.ib_rule.specs.declared.looks.Looks.{Looks}
 use Rattle.ib_rule.specs.declared.memory.Since.{Since}
-use Rattle.ib_rule.specs.declared.memory.Memory.{Memory}
+use Rattle.ib_rule.specs.declared.memory.Knowledge.{Knowledge}
 use Rattle.ib_rule.specs.declared.view.Ended.{Ended}
 use Rattle.ib_rule.specs.declared.view.Role.{Role}
 use Rattle.ib_rule.specs.declared.view.Role.TheVariants.{Space, Fresh, Spent, Note}
@@ -29,7 +29,7 @@ role_of v = v.role
 abbrev pub session_in_view : View → CoreSession
 session_in_view v = v.session
 
-abbrev pub memory_of : View → Memory
+abbrev pub memory_of : View → Knowledge
 memory_of v = v.memory
 
 abbrev pub with_role : Role → View → View
@@ -38,7 +38,7 @@ with_role r v = record v { role = r }
 abbrev pub with_looks : Looks → View → View
 with_looks k v = record v { looks = k }
 
-abbrev pub with_memory : Memory → View → View
+abbrev pub with_memory : Knowledge → View → View
 with_memory m v = record v { memory = m }
 
 -- no grant, no look, nothing seen, and the view of a seat that has done nothing yet
@@ -48,7 +48,7 @@ no_grants = record { s = 0; sx = 0; x = 0 }
 abbrev pub no_looks : Looks
 no_looks = record { count = 0; steps = 0; all = [] }
 
-abbrev pub nothing_seen : Memory
+abbrev pub nothing_seen : Knowledge
 nothing_seen = record { met = []; seen = []; own = []; ends = []; since = []; loaded = []; append = None }
 
 abbrev pub seated : Role → View
@@ -73,7 +73,7 @@ with_grant (Some Sx) g = record { s = g.s; sx = g.sx + 1; x = g.x }
 with_grant (Some X) g = record { s = g.s; sx = g.sx; x = g.x + 1 }
 
 -- what the session knows that belongs to a grant on the latch ends with the last one
-abbrev pub memory_left : ℕ → CoreSession → Memory → Memory
+abbrev pub memory_left : ℕ → CoreSession → Knowledge → Knowledge
 memory_left l a m = record m {
   since = filter (λ since. not (since.latch == l) || nat_lt 0 (holdings l a)) m.since;
   loaded = filter (λ x. not (latch_at x.place == l) || nat_lt 0 (holdings l a)) m.loaded;
@@ -137,7 +137,7 @@ note_of v = with_memory (record nothing_seen { seen = v.memory.seen }) (seated N
 abbrev pub with_note : View → View → View
 with_note v w = with_memory (record v.memory { met = v.memory.seen ∷ w.memory.seen ∷ []; seen = longer v.memory.seen w.memory.seen }) v
 
-abbrev pub forgets : Memory → Memory
+abbrev pub forgets : Knowledge → Knowledge
 forgets m = record m { met = [] }
 
 -- the view with another list of entries seen

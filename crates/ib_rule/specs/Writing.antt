@@ -11,6 +11,6 @@ abbrev pub entry_of : PassState → Entry
 entry_of p = entry_in p.words
 
 -- words of it may be stored
-pub record MayStore (key : Sizes) (lawful : List Entry → Type 0) (p : PassState) : Type 0 where
+pub record MayStore (sizes : Sizes) (lawful : List Entry → Type 0) (p : PassState) : Type 0 where
   pub spelled : IsPrefix (words_of_entry (entry_of p)) p.words
-  pub ready : IsReady key lawful p.view (entry_of p)
+  pub ready : IsReady sizes lawful p.view (entry_of p)

@@ -56,7 +56,7 @@ impl Drop for Closed {
 }
 
 /// There was no memory for the words of the log. The space comes back as it was.
-pub struct CloseRefused<L: Law> {
+pub struct SpaceCloseRefused<L: Law> {
     /// The space, with all that it had.
     pub space: Space<L>,
 }
@@ -65,7 +65,7 @@ impl<L: Law> Space<L> {
     /// Closes the space, where nobody is connected: its words are those of a lawful log, the pages
     /// are the memory after all of it, each session that has ended had seen a front of it, and its
     /// own entries are exactly those of its number. Refused for want of memory alone.
-    pub fn close(self, alloc: Global) -> Result<Closed, CloseRefused<L>>
+    pub fn close(self, alloc: Global) -> Result<Closed, SpaceCloseRefused<L>>
         requires none { length self.ended ≡ self.drawn }
         ensures ok { IfOk result (λ c. (c.sizes ≡ self.sizes) × (c.drawn ≡ self.drawn)
             × IsClosed L.lawful L.opening self.sizes c.words self.ended) }
@@ -73,7 +73,7 @@ impl<L: Law> Space<L> {
     {
         // Room for the whole log, of which the used words alone are touched.
         let Ok(mut log) = Vec::with_capacity(alloc, self.geometry.log_words() as usize) else {
-            return Err(CloseRefused { space: self });
+            return Err(SpaceCloseRefused { space: self });
         };
         let Space {
             table,

@@ -4,7 +4,7 @@ use ib_core::Event;
 
 /// What an atomic step is. On the words of latches it is an event of the latch machine, or a look.
 #[derive(Clone, Copy)]
-pub enum Kind {
+pub enum StepKind {
     /// This event, whatever the word found is.
     Turn(Event),
     /// This event where the word found is the expected one, and else a look.
@@ -38,7 +38,7 @@ pub enum Kind {
 
 /// What an atomic step does to its word.
 #[derive(Clone, Copy)]
-pub enum Op {
+pub enum WordOp {
     /// Reads it.
     Load,
     /// Writes a word.

@@ -27,11 +27,11 @@ mod turns;
 mod view;
 mod working;
 
-pub use closed::{CloseRefused, Closed};
-pub use kind::{Kind, Op};
+pub use closed::{Closed, SpaceCloseRefused};
+pub use kind::{StepKind, WordOp};
 pub use laws::{latch_law, sleeper_law};
 pub use looks::{Grants, Look, Looks};
-pub use memory::{Loaded, Memory, OpenAppend, Since};
+pub use memory::{Knowledge, Loaded, OpenAppend, Since};
 pub use pass::{ENTRY_WORDS, MOST_GRANTS, MOST_HELD, Pass};
 pub use rule::Ruled;
 pub use scratch::Scratch;

@@ -16,7 +16,7 @@ ghost use Rattle.ib_rule.specs.Pass.{IsFrom, IsOf, with_view};
 ghost use Rattle.ib_rule.specs.Stores.{IsLook};
 ghost use Rattle.ib_rule.specs.Views.{KnowsHeld, is_watched, loading, reaching};
 
-use crate::kind::{Kind, Op};
+use crate::kind::{StepKind, WordOp};
 use crate::pass::Pass;
 use crate::space::Space;
 use crate::step::{Board, act};
@@ -55,8 +55,8 @@ impl<L: Law> Space<L> {
             &self.table.shared,
             &mut pass.seat,
             geometry.page_place(page, index),
-            Op::Load,
-            Kind::LoadPage(page * PAGE_WORDS as u32 + index),
+            WordOp::Load,
+            StepKind::LoadPage(page * PAGE_WORDS as u32 + index),
         )
     }
 
@@ -89,8 +89,8 @@ impl<L: Law> Space<L> {
             &self.table.shared,
             &mut pass.seat,
             pass.geometry.log_place(number),
-            Op::Load,
-            Kind::LoadLog(number),
+            WordOp::Load,
+            StepKind::LoadLog(number),
         )
     }
 
@@ -114,8 +114,8 @@ impl<L: Law> Space<L> {
             &self.table.shared,
             &mut pass.seat,
             END_PLACE,
-            Op::Load,
-            Kind::LoadEnd,
+            WordOp::Load,
+            StepKind::LoadEnd,
         );
         pass.place = (end / (1 << 32)) as u32;
         pass.used = (end % (1 << 32)) as u32;
@@ -180,8 +180,8 @@ fn load_line<L: Law>(
             shared,
             seat,
             first + index,
-            Op::Load,
-            Kind::LoadPage(page * PAGE_WORDS as u32 + index as u32),
+            WordOp::Load,
+            StepKind::LoadPage(page * PAGE_WORDS as u32 + index as u32),
         );
         out.set_word(index, word);
     }

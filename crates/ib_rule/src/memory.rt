@@ -37,7 +37,7 @@ pub struct OpenAppend {
 }
 
 /// What a session knows of the log and of the pages.
-pub struct Memory {
+pub struct Knowledge {
     /// The lists that were joined, until the load that tells which is the longer one.
     pub met: LinkedList<LinkedList<Entry>>,
     /// The entries seen.

@@ -4,7 +4,6 @@ ghost use Rattle.std.specs.Prelude.{◌≡◌, ◌≢◌, ℕ, ◌+◌, ◌^◌,
 ghost use Rattle.ib_word.specs.Word.{word_in};
 ghost use Rattle.ib_core.specs.declared.latch_word.LatchWord.TheVariants.{Lock};
 ghost use Rattle.ib_core.specs.Good.{IsProper};
-ghost use Rattle.ib_core.specs.Takings.{is_given_at};
 ghost use Rattle.ib_core.specs.Responses.{answered, latch_of};
 ghost use Rattle.ib_core.specs.Sessions.{grants};
 ghost use Rattle.ib_core.specs.Table.{response_of};
@@ -15,9 +14,9 @@ ghost use Rattle.ib_rule.specs.Told.{CanBe};
 ghost use Rattle.ib_rule.specs.Views.{total, with_grant};
 
 use crate::looks::Grants;
-use ib_core::{Answer, Event, LatchWord, Marks, Member, Phase};
+use ib_core::{Answer, Event, LatchWord, Marks, Member, Phase, is_given_at};
 use ib_levels::Mode;
-use ib_word::{LockWord, X_LOCK_HALF_DECR, from_cell};
+use ib_word::{LockWord, from_cell};
 
 // A word that any session can step from, for events that read none.
 const NO_WORD: LockWord = LockWord(-1_073_741_824);
@@ -83,18 +82,8 @@ pub(crate) fn is_refused(phase: Phase, found: u64) -> bool
 {
     let word = from_cell(found);
     match phase {
-        Phase::Flagged { mode, .. } => !is_given(mode, word),
+        Phase::Flagged { mode, .. } => !is_given_at(mode, word),
         _ => false,
-    }
-}
-
-// Whether a first grant of the mode is given at the word.
-fn is_given(mode: Mode, word: LockWord) -> bool
-    ensures { result ≡ is_given_at mode word.0 }
-{
-    match mode {
-        Mode::S => word.0 > 0,
-        Mode::Sx | Mode::X => word.0 > X_LOCK_HALF_DECR as i32,
     }
 }
 

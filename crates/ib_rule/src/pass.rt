@@ -103,7 +103,7 @@ impl Pass {
     }
 
     /// The grants that it ever took, by mode.
-    pub fn grants(&self) -> Grants
+    pub fn grants_taken(&self) -> Grants
         ensures { result ≡ self.now.view.grants }
     {
         self.grants
@@ -117,7 +117,7 @@ impl Pass {
     }
 
     /// How many grants it holds now, on all latches.
-    pub fn held(&self) -> u64
+    pub fn grants_held(&self) -> u64
         ensures { result ≡ held_now self.now.view.session }
     {
         grants_of(self.member.held())
@@ -125,7 +125,7 @@ impl Pass {
 
     /// The strongest mode that it holds on the latch, and none where it holds nothing there. A next
     /// writer holds X.
-    pub fn holds(&self, latch: Latch) -> Option<Mode>
+    pub fn mode_held(&self, latch: Latch) -> Option<Mode>
         ensures { result ≡ mode_held latch.0 self.now.view.session }
     {
         let counts = self.counts(latch);
@@ -191,7 +191,7 @@ impl Pass {
         ensures { IsTrue result ↔ MayGrow self.now.view }
     {
         let Grants { s, sx, x } = self.grants;
-        s + sx + x < MOST_GRANTS && self.held() < MOST_HELD as u64
+        s + sx + x < MOST_GRANTS && self.grants_held() < MOST_HELD as u64
     }
 
     /// The words for an entry, as they were filled last: `ENTRY_WORDS` of them.

@@ -5,7 +5,7 @@ ghost use Rattle.ib_word.specs.Word.{cell_of};
 ghost use Rattle.ib_word.specs.Weight.{x_weight};
 ghost use Rattle.ib_word.specs.declared.word.TheConstants.{X_LOCK_DECR, X_LOCK_HALF_DECR};
 ghost use Rattle.ib_levels.specs.declared.level.Mode.TheVariants.{S as ModeS, Sx as ModeSx, X as ModeX};
-ghost use Rattle.ib_levels.specs.Holding.{changed, without};
+ghost use Rattle.ib_levels.specs.Holding.{changed_on, without_latch};
 ghost use Rattle.ib_layout.specs.Places.{latches_of};
 ghost use Rattle.ib_core.specs.declared.event.Event.TheVariants.{Us, Usx, Ux};
 ghost use Rattle.ib_core.specs.declared.phase.Phase.TheVariants.{Free, OwesLook};
@@ -17,7 +17,7 @@ ghost use Rattle.ib_rule.specs.Pass.{IsOf, with_view};
 ghost use Rattle.ib_rule.specs.Turns.{IsTurn};
 ghost use Rattle.ib_rule.specs.Views.{left_as};
 
-use crate::kind::Op;
+use crate::kind::WordOp;
 use crate::pass::Pass;
 use crate::space::Space;
 use crate::turns::{HALF, WHOLE};
@@ -30,26 +30,26 @@ impl<L: Law> Space<L> {
     /// Gives S back: adds 1 to the lock word. Where 0 or minus `X_LOCK_HALF_DECR` is left, a next
     /// writer waits for the raise of the ex generation that is owed then (sync0rw,
     /// `rw_lock_s_unlock_func`). It answers the word after the step.
-    pub fn s_on(&self, pass: &mut Pass, latch: Latch) -> LockWord
+    pub fn give_s(&self, pass: &mut Pass, latch: Latch) -> LockWord
         requires own { IsOf self.now pass.old }
         requires latch { latch.0 < latches_of self.now.sizes }
         requires free { pass.old.view.session.phase ≡ Free }
         requires holds { 0 < reads latch.0 pass.old.view.session }
         ensures turn { IsTurn (Us latch.0) (cell_of result.0 - 1) pass.old pass.new }
         ensures left { pass.new ≡ with_view pass.old (with_step (left_as latch.0 (record {
-          held = without latch.0 pass.old.view.session.held;
+          held = without_latch latch.0 pass.old.view.session.held;
           phase = owed_by_s latch.0 result.0;
         }) pass.old.view)) }
     {
         let event = Event::Us { latch: latch.0 };
-        let (found, _) = self.turn(pass, event, LatchWord::Lock, Op::Add(1));
+        let (found, _) = self.turn(pass, event, LatchWord::Lock, WordOp::Add(1));
         from_cell(found + 1)
     }
 
     /// Gives the last SX back, with no X of one's own: adds `X_LOCK_HALF_DECR` to the lock word. A
     /// look at the waiters flag is owed then (`rw_lock_sx_unlock_func`). It answers the word after the
     /// step.
-    pub fn sx_on(&self, pass: &mut Pass, latch: Latch) -> LockWord
+    pub fn give_sx(&self, pass: &mut Pass, latch: Latch) -> LockWord
         requires own { IsOf self.now pass.old }
         requires latch { latch.0 < latches_of self.now.sizes }
         requires free { pass.old.view.session.phase ≡ Free }
@@ -58,7 +58,7 @@ impl<L: Law> Space<L> {
         ensures turn { IsTurn (Usx latch.0) (cell_of result.0 - X_LOCK_HALF_DECR) pass.old
             pass.new }
         ensures left { pass.new ≡ with_view pass.old (with_step (left_as latch.0 (record {
-          held = without latch.0 pass.old.view.session.held;
+          held = without_latch latch.0 pass.old.view.session.held;
           phase = OwesLook latch.0;
         }) pass.old.view)) }
     {
@@ -67,7 +67,7 @@ impl<L: Law> Space<L> {
 
     /// Gives the last SX back beside one's own X: adds `X_LOCK_HALF_DECR` to the lock word, and nothing
     /// is owed. It answers the word after the step.
-    pub fn sx_on_under_x(&self, pass: &mut Pass, latch: Latch) -> LockWord
+    pub fn give_sx_under_x(&self, pass: &mut Pass, latch: Latch) -> LockWord
         requires own { IsOf self.now pass.old }
         requires latch { latch.0 < latches_of self.now.sizes }
         requires free { pass.old.view.session.phase ≡ Free }
@@ -76,7 +76,7 @@ impl<L: Law> Space<L> {
         ensures turn { IsTurn (Usx latch.0) (cell_of result.0 - X_LOCK_HALF_DECR) pass.old
             pass.new }
         ensures left { pass.new ≡ with_view pass.old (with_step (left_as latch.0 (record {
-          held = changed latch.0 (one_fewer ModeSx) pass.old.view.session.held;
+          held = changed_on latch.0 (one_fewer ModeSx) pass.old.view.session.held;
           phase = Free;
         }) pass.old.view)) }
     {
@@ -85,7 +85,7 @@ impl<L: Law> Space<L> {
 
     /// Gives the last X back: adds `X_LOCK_DECR` to the lock word. A look at the waiters flag is
     /// owed then, also where SX is left (`rw_lock_x_unlock_func`). It answers the word after the step.
-    pub fn x_on(&self, pass: &mut Pass, latch: Latch) -> LockWord
+    pub fn give_x(&self, pass: &mut Pass, latch: Latch) -> LockWord
         requires own { IsOf self.now pass.old }
         requires latch { latch.0 < latches_of self.now.sizes }
         requires free { pass.old.view.session.phase ≡ Free }
@@ -97,13 +97,13 @@ impl<L: Law> Space<L> {
         }) pass.old.view)) }
     {
         let event = Event::Ux { latch: latch.0 };
-        let (found, _) = self.turn(pass, event, LatchWord::Lock, Op::Add(WHOLE));
+        let (found, _) = self.turn(pass, event, LatchWord::Lock, WordOp::Add(WHOLE));
         from_cell(found + WHOLE)
     }
 
     /// Gives an X back that is not the last: adds `X_LOCK_DECR` to the lock word where one is left,
     /// and else 1. Nothing is owed. It answers the word after the step.
-    pub fn x_on_again(&self, pass: &mut Pass, latch: Latch) -> LockWord
+    pub fn give_x_again(&self, pass: &mut Pass, latch: Latch) -> LockWord
         requires own { IsOf self.now pass.old }
         requires latch { latch.0 < latches_of self.now.sizes }
         requires free { pass.old.view.session.phase ≡ Free }
@@ -112,13 +112,13 @@ impl<L: Law> Space<L> {
             IsTurn (Ux latch.0) (cell_of result.0 - (x_weight x - x_weight (x - 1))) pass.old
             pass.new }
         ensures left { pass.new ≡ with_view pass.old (with_step (left_as latch.0 (record {
-          held = changed latch.0 (one_fewer ModeX) pass.old.view.session.held;
+          held = changed_on latch.0 (one_fewer ModeX) pass.old.view.session.held;
           phase = Free;
         }) pass.old.view)) }
     {
         let weight = u64::from(give_x(pass.member.counts(latch).x));
         let event = Event::Ux { latch: latch.0 };
-        let (found, _) = self.turn(pass, event, LatchWord::Lock, Op::Add(weight));
+        let (found, _) = self.turn(pass, event, LatchWord::Lock, WordOp::Add(weight));
         from_cell(found + weight)
     }
 
@@ -133,7 +133,7 @@ impl<L: Law> Space<L> {
         ensures proper { IsProper pass.old.view.session }
     {
         let event = Event::Usx { latch: latch.0 };
-        let (found, _) = self.turn(pass, event, LatchWord::Lock, Op::Add(HALF));
+        let (found, _) = self.turn(pass, event, LatchWord::Lock, WordOp::Add(HALF));
         from_cell(found + HALF)
     }
 }

@@ -16,7 +16,7 @@ impl<L: Law> TableRule<(), View, Geometry> for Ruled<L> {
     ghost use Rattle.ib_rule.specs.Rule.{RuleHolds};
     ghost use Rattle.ib_rule.specs.Views.{space_view};
 
-    ghost holds = { λ key s. RuleHolds L.lawful L.opening key s };
+    ghost holds = { λ sizes s. RuleHolds L.lawful L.opening sizes s };
 
     ghost first = { λ _. space_view 0 [] };
 }

@@ -8,7 +8,7 @@ ghost use Rattle.ib_rule.specs.declared.view.Role.TheVariants.{Session};
 ghost use Rattle.ib_rule.specs.Roles.{drawn_in, ended_in, number_in};
 ghost use Rattle.ib_rule.specs.Views.{ended_as, longer, plus, seated, seeing, space_at};
 
-use crate::kind::{Kind, Op};
+use crate::kind::{StepKind, WordOp};
 use crate::rule::{Draw, Leave, Telling};
 use crate::step::{Board, act};
 use crate::view::View;
@@ -38,7 +38,13 @@ pub(crate) fn draw<L: Law>(shared: &Board<L>, own: &mut Seat<(), View>) -> Seat<
         × (result.me ≡ (seated (Session (drawn_in own.old.me.0.role + 1)), [])) }
 {
     let mut seat = shared.split_seat::<Draw>(own);
-    act::<L, Brand>(shared, &mut seat, DRAWN_PLACE, Op::Add(1), Kind::Enter);
+    act::<L, Brand>(
+        shared,
+        &mut seat,
+        DRAWN_PLACE,
+        WordOp::Add(1),
+        StepKind::Enter,
+    );
     seat
 }
 
@@ -65,7 +71,7 @@ pub(crate) fn leave<L: Law>(shared: &Board<L>, own: &mut Seat<(), View>, other: 
     ensures few { length (ended_in own.old.me.0.role) + 1 ≤ drawn_in own.old.me.0.role }
 {
     shared.join_seat::<Leave>(own, other);
-    act::<L, Brand>(shared, own, DRAWN_PLACE, Op::Load, Kind::Count);
+    act::<L, Brand>(shared, own, DRAWN_PLACE, WordOp::Load, StepKind::Count);
 }
 
 // Tells one session what another has seen: a note is split off the one and joined into the other,
@@ -89,5 +95,5 @@ pub(crate) fn tell<L: Law>(shared: &Board<L>, to: &mut Seat<(), View>, from: &mu
 {
     let note = shared.split_seat::<Telling>(from);
     shared.join_seat::<Telling>(to, note);
-    act::<L, Brand>(shared, to, DRAWN_PLACE, Op::Load, Kind::Meet);
+    act::<L, Brand>(shared, to, DRAWN_PLACE, WordOp::Load, StepKind::Meet);
 }

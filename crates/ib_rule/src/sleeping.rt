@@ -12,7 +12,7 @@ ghost use Rattle.ib_rule.specs.Conditions.{IsArmed, MayLoadExGen, MayLoadFlag, M
 ghost use Rattle.ib_rule.specs.Turns.{IsTurn};
 ghost use Rattle.ib_rule.specs.Afterwards.{cleared, ex_loaded, flag_loaded, flagged, gen_loaded, phased};
 
-use crate::kind::Op;
+use crate::kind::WordOp;
 use crate::pass::Pass;
 use crate::space::Space;
 use ib_core::{Event, LatchWord, Phase};
@@ -33,7 +33,8 @@ impl<L: Law> Space<L> {
         ensures same { pass.new ≡ with_view pass.old (phased (gen_loaded latch.0 wish result pass.old.view.session.phase) pass.old.view) }
     {
         let event = gen_event(latch.0, wish);
-        self.turn(pass, event, LatchWord::Generation, Op::Load).0
+        self.turn(pass, event, LatchWord::Generation, WordOp::Load)
+            .0
     }
 
     /// Loads the ex generation. In the phase `Next` it is `exarm`: the next writer records it. Later
@@ -48,7 +49,8 @@ impl<L: Law> Space<L> {
     {
         let phase = pass.member.phase();
         let event = ex_gen_event(latch.0, phase);
-        self.turn(pass, event, LatchWord::ExGeneration, Op::Load).0
+        self.turn(pass, event, LatchWord::ExGeneration, WordOp::Load)
+            .0
     }
 
     /// Sets the waiters flag, for a session that is armed.
@@ -60,7 +62,7 @@ impl<L: Law> Space<L> {
         ensures same { pass.new ≡ with_view pass.old (phased (flagged pass.old.view.session.phase) pass.old.view) }
     {
         let event = Event::Flag { latch: latch.0 };
-        self.turn(pass, event, LatchWord::Waiters, Op::Swap(1));
+        self.turn(pass, event, LatchWord::Waiters, WordOp::Swap(1));
     }
 
     /// Loads the waiters flag: the look that the last release of SX or X owes, or `quit`, where the
@@ -76,7 +78,7 @@ impl<L: Law> Space<L> {
     {
         let phase = pass.member.phase();
         let event = flag_event(latch.0, phase);
-        self.turn(pass, event, LatchWord::Waiters, Op::Load).0
+        self.turn(pass, event, LatchWord::Waiters, WordOp::Load).0
     }
 
     /// Clears the waiters flag, where a look found it set. Who found it set still owes the raise. It
@@ -90,7 +92,8 @@ impl<L: Law> Space<L> {
         ensures flag { result ≤ 1 }
     {
         let event = Event::Clear { latch: latch.0 };
-        self.turn(pass, event, LatchWord::Waiters, Op::Swap(0)).0
+        self.turn(pass, event, LatchWord::Waiters, WordOp::Swap(0))
+            .0
     }
 
     /// Raises the generation: who sleeps on the one before finds another, once it is woken, which is
@@ -104,7 +107,9 @@ impl<L: Law> Space<L> {
         ensures raised { 0 < result }
     {
         let event = Event::Raise { latch: latch.0 };
-        self.turn(pass, event, LatchWord::Generation, Op::Add(1)).0 + 1
+        self.turn(pass, event, LatchWord::Generation, WordOp::Add(1))
+            .0
+            + 1
     }
 
     /// Raises the ex generation: the next writer that sleeps on the one before finds another, once it is
@@ -118,7 +123,7 @@ impl<L: Law> Space<L> {
         ensures raised { 0 < result }
     {
         let event = Event::Raise { latch: latch.0 };
-        self.turn(pass, event, LatchWord::ExGeneration, Op::Add(1))
+        self.turn(pass, event, LatchWord::ExGeneration, WordOp::Add(1))
             .0
             + 1
     }

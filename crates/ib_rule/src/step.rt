@@ -9,7 +9,7 @@ ghost use Rattle.ib_rule.specs.Rule.{RuleHolds};
 ghost use Rattle.ib_rule.specs.Steps.{run};
 ghost use Rattle.ib_rule.specs.Told.{tells};
 
-use crate::kind::{Kind, Op};
+use crate::kind::{StepKind, WordOp};
 use crate::rule::Ruled;
 use crate::view::View;
 use atomic_table::{Play, Seat, Shared};
@@ -21,9 +21,9 @@ use std::marker::{Brand, PhantomData};
 pub trait Naming {
     ghost use Rattle.ib_layout.specs.Geometry.{Sizes};
     ghost use Rattle.ib_logrec.specs.declared.entry.Entry.{Entry};
-    ghost use Rattle.ib_rule.specs.declared.kind.Kind.{Kind};
+    ghost use Rattle.ib_rule.specs.declared.kind.StepKind.{StepKind};
 
-    ghost kind: { Kind };
+    ghost kind: { StepKind };
 
     ghost key: { Sizes };
 
@@ -31,7 +31,7 @@ pub trait Naming {
 }
 
 impl Naming for Brand {
-    ghost use Rattle.ib_rule.specs.declared.kind.Kind.TheVariants.{Look};
+    ghost use Rattle.ib_rule.specs.declared.kind.StepKind.TheVariants.{Look};
     ghost use Rattle.ib_rule.specs.Stores.{no_entry};
 
     ghost kind = { Look 0 };
@@ -60,8 +60,8 @@ pub(crate) fn act<L: Law, T: Naming>(
     shared: &Board<L>,
     seat: &mut Seat<(), View>,
     word: usize,
-    op: Op,
-    kind: Kind,
+    op: WordOp,
+    kind: StepKind,
 ) -> u64
     requires kind { kind ≡ T.kind }
     requires key { shared.now.key ≡ T.key }
@@ -76,10 +76,10 @@ pub(crate) fn act<L: Law, T: Naming>(
 {
     let _ = kind;
     match op {
-        Op::Load => shared.load::<Tells<T, L>>(seat, word),
-        Op::Swap(new) => shared.swap::<Tells<T, L>>(seat, word, new),
-        Op::Add(k) => shared.fetch_add::<Tells<T, L>>(seat, word, k),
-        Op::Sub(k) => shared.fetch_sub::<Tells<T, L>>(seat, word, k),
+        WordOp::Load => shared.load::<Tells<T, L>>(seat, word),
+        WordOp::Swap(new) => shared.swap::<Tells<T, L>>(seat, word, new),
+        WordOp::Add(k) => shared.fetch_add::<Tells<T, L>>(seat, word, k),
+        WordOp::Sub(k) => shared.fetch_sub::<Tells<T, L>>(seat, word, k),
     }
 }
 
@@ -90,7 +90,7 @@ pub(crate) fn store<L: Law, T: Naming>(
     words: &[u64],
     word: usize,
     value: u64,
-    kind: Kind,
+    kind: StepKind,
 )
     requires kind { kind ≡ T.kind }
     requires key { shared.now.key ≡ T.key }
@@ -105,7 +105,7 @@ pub(crate) fn store<L: Law, T: Naming>(
         seat.old.me n seat.new.me }
 {
     let _ = words;
-    act::<L, T>(shared, seat, word, Op::Swap(value), kind);
+    act::<L, T>(shared, seat, word, WordOp::Swap(value), kind);
 }
 
 // One exchange of the word for a new one, where it is the old one. It answers the word found.
@@ -115,7 +115,7 @@ pub(crate) fn exchange<L: Law, T: Naming>(
     word: usize,
     old: u64,
     new: u64,
-    kind: Kind,
+    kind: StepKind,
 ) -> u64
     requires kind { kind ≡ T.kind }
     requires key { shared.now.key ≡ T.key }

@@ -11,7 +11,7 @@ ghost use Rattle.ib_rule.specs.Pass.{IsFrom, with_view};
 ghost use Rattle.ib_rule.specs.Stores.{AllStored, appending, storing_page, storing_word};
 ghost use Rattle.ib_rule.specs.Writing.{MayStore, entry_of};
 
-use crate::kind::Kind;
+use crate::kind::StepKind;
 use crate::pass::Pass;
 use crate::space::Space;
 use crate::step::store;
@@ -42,7 +42,7 @@ impl<L: Law> Space<L> {
             pass.words.as_slice(),
             geometry.page_place(page, index),
             value,
-            Kind::StorePage(page * PAGE_WORDS as u32 + index, value),
+            StepKind::StorePage(page * PAGE_WORDS as u32 + index, value),
         );
     }
 
@@ -64,7 +64,7 @@ impl<L: Law> Space<L> {
             pass.words.as_slice(),
             pass.geometry.log_place(number),
             value,
-            Kind::StoreLog(number - pass.used, value),
+            StepKind::StoreLog(number - pass.used, value),
         );
     }
 
@@ -86,7 +86,7 @@ impl<L: Law> Space<L> {
             pass.words.as_slice(),
             END_PLACE,
             end,
-            Kind::StoreEnd,
+            StepKind::StoreEnd,
         );
         pass.place += 1;
         pass.used += length;

@@ -1,12 +1,12 @@
 //! The steps that look at a lock word and take grants.
 
-ghost use Rattle.std.specs.Prelude.{◌≡◌, ◌≢◌, ◌+◌, ◌-◌, ◌<◌, true, false, IsTrue, IsOk, IfErr, pos, ◌-ℤ◌, if◌then◌else◌};
+ghost use Rattle.std.specs.Prelude.{◌≡◌, ◌≢◌, ℕ, ◌+◌, ◌-◌, ◌<◌, true, false, IsTrue, IsOk, IfErr, pos, ◌-ℤ◌, if◌then◌else◌};
 ghost use Rattle.ib_word.specs.Word.{IsCounted, cell_of};
 ghost use Rattle.ib_word.specs.Weight.{x_weight};
 ghost use Rattle.ib_word.specs.declared.word.TheConstants.{X_LOCK_DECR, X_LOCK_HALF_DECR};
 ghost use Rattle.ib_levels.specs.declared.level.Level.TheVariants.{Log};
 ghost use Rattle.ib_levels.specs.declared.level.Mode.TheVariants.{S as ModeS, Sx as ModeSx, X as ModeX};
-ghost use Rattle.ib_levels.specs.Holding.{changed};
+ghost use Rattle.ib_levels.specs.Holding.{changed_on};
 ghost use Rattle.ib_layout.specs.Places.{latches_of};
 ghost use Rattle.ib_core.specs.declared.event.Event.TheVariants.{Sx as SxEvent, X as XEvent};
 ghost use Rattle.ib_core.specs.declared.phase.Phase.TheVariants.{Free};
@@ -22,7 +22,7 @@ ghost use Rattle.ib_rule.specs.Told.{Happens};
 ghost use Rattle.ib_rule.specs.Turns.{IsTry, IsTurn};
 ghost use Rattle.ib_rule.specs.Afterwards.{granted, looked_on, phased, tried_on, with_step, word_loaded};
 
-use crate::kind::Op;
+use crate::kind::WordOp;
 use crate::pass::Pass;
 use crate::space::Space;
 use crate::turns::{HALF, WHOLE};
@@ -55,7 +55,7 @@ impl<L: Law> Space<L> {
 
     /// Takes S: one exchange that takes 1 off the lock word, where it is the expected one. Else it
     /// answers the word found, and nothing is changed but the looks (sync0rw, `rw_lock_s_lock_low`).
-    pub fn s_off(
+    pub fn take_s(
         &self,
         pass: &mut Pass,
         latch: Latch,
@@ -83,7 +83,7 @@ impl<L: Law> Space<L> {
     /// Takes SX, with nothing held on the latch: one exchange that takes `X_LOCK_HALF_DECR` off the
     /// lock word, where it is the expected one. Else it answers the word found, and nothing is
     /// changed but the looks (WL#6363, `rw_lock_sx_lock_low`).
-    pub fn sx_off(
+    pub fn take_sx(
         &self,
         pass: &mut Pass,
         latch: Latch,
@@ -112,7 +112,7 @@ impl<L: Law> Space<L> {
     /// off the lock word, where it is the expected one. X is owned where 0 is left, and else the
     /// session is the next writer. Where the word is another, it answers that, and nothing is
     /// changed but the looks (sync0rw, `rw_lock_x_lock_low`).
-    pub fn x_off(
+    pub fn take_x(
         &self,
         pass: &mut Pass,
         latch: Latch,
@@ -152,7 +152,7 @@ impl<L: Law> Space<L> {
         ensures taken { IsOk result → pass.new ≡ with_view pass.old (granted ModeX
             (reserving latch.0 (level_on latch.0 Log pass.old.view.session.held)
             (expected.0 -ℤ pos X_LOCK_DECR)
-            (changed latch.0 (one_more ModeX) pass.old.view.session.held)).session
+            (changed_on latch.0 (one_more ModeX) pass.old.view.session.held)).session
             (tried_on latch.0 expected expected pass.old.view)) }
         ensures lost { IfErr result (λ found. pass.new
             ≡ with_view pass.old (tried_on latch.0 expected found pass.old.view)) }
@@ -169,7 +169,7 @@ impl<L: Law> Space<L> {
 
     /// Takes X once more: `X_LOCK_DECR` off the lock word where it was owned once, and else 1
     /// (`rw_lock_x_lock_low`). It answers the word after the step.
-    pub fn x_off_again(&self, pass: &mut Pass, latch: Latch) -> LockWord
+    pub fn take_x_again(&self, pass: &mut Pass, latch: Latch) -> LockWord
         requires own { IsOf self.now pass.old }
         requires latch { latch.0 < latches_of self.now.sizes }
         requires free { pass.old.view.session.phase ≡ Free }
@@ -179,7 +179,7 @@ impl<L: Law> Space<L> {
             IsTurn (XEvent latch.0 Log) (cell_of result.0 + (x_weight (x + 1) - x_weight x))
             pass.old pass.new }
         ensures taken { pass.new ≡ with_view pass.old (granted ModeX (record {
-          held = changed latch.0 (one_more ModeX) pass.old.view.session.held;
+          held = changed_on latch.0 (one_more ModeX) pass.old.view.session.held;
           phase = Free;
         }) (with_step pass.old.view)) }
     {
@@ -188,13 +188,13 @@ impl<L: Law> Space<L> {
             latch: latch.0,
             level: Level::Log,
         };
-        let (found, _) = self.turn(pass, event, LatchWord::Lock, Op::Sub(weight));
+        let (found, _) = self.turn(pass, event, LatchWord::Lock, WordOp::Sub(weight));
         from_cell(found - weight)
     }
 
     /// Takes a first SX beside one's own X: `X_LOCK_HALF_DECR` off the lock word
     /// (`rw_lock_sx_lock_low`). It answers the word after the step.
-    pub fn sx_off_under_x(&self, pass: &mut Pass, latch: Latch) -> LockWord
+    pub fn take_sx_under_x(&self, pass: &mut Pass, latch: Latch) -> LockWord
         requires own { IsOf self.now pass.old }
         requires latch { latch.0 < latches_of self.now.sizes }
         requires free { pass.old.view.session.phase ≡ Free }
@@ -204,7 +204,7 @@ impl<L: Law> Space<L> {
         ensures turn { IsTurn (SxEvent latch.0 Log) (cell_of result.0 + X_LOCK_HALF_DECR)
             pass.old pass.new }
         ensures taken { pass.new ≡ with_view pass.old (granted ModeSx (record {
-          held = changed latch.0 (one_more ModeSx) pass.old.view.session.held;
+          held = changed_on latch.0 (one_more ModeSx) pass.old.view.session.held;
           phase = Free;
         }) (with_step pass.old.view)) }
     {
@@ -212,31 +212,31 @@ impl<L: Law> Space<L> {
             latch: latch.0,
             level: Level::Log,
         };
-        let (found, _) = self.turn(pass, event, LatchWord::Lock, Op::Sub(HALF));
+        let (found, _) = self.turn(pass, event, LatchWord::Lock, WordOp::Sub(HALF));
         from_cell(found - HALF)
     }
 
     /// Loads the writer, which counts a further SX, or, with `back`, one SX given back that is not
-    /// the last. It answers the word.
-    pub fn load_writer(&self, pass: &mut Pass, latch: Latch, back: bool) -> u64
+    /// the last. The word is the session's own number once it was stored, and nobody asks for it.
+    pub fn load_writer(&self, pass: &mut Pass, latch: Latch, back: bool)
         requires own { IsOf self.now pass.old }
         requires latch { latch.0 < latches_of self.now.sizes }
         requires free { pass.old.view.session.phase ≡ Free }
         requires owns { 0 < sx_grants latch.0 pass.old.view.session }
         requires more { IsTrue back → 1 < sx_grants latch.0 pass.old.view.session }
         requires grows { back ≡ false → MayGrow pass.old.view }
-        ensures turn { IsTurn (writer_event latch.0 back) result pass.old pass.new }
+        ensures turn { (found : ℕ) × IsTurn (writer_event latch.0 back) found pass.old pass.new }
         ensures taken { back ≡ false → pass.new ≡ with_view pass.old (granted ModeSx (record {
-          held = changed latch.0 (one_more ModeSx) pass.old.view.session.held;
+          held = changed_on latch.0 (one_more ModeSx) pass.old.view.session.held;
           phase = Free;
         }) pass.old.view) }
         ensures given { IsTrue back → pass.new ≡ with_view pass.old (left_as latch.0 (record {
-          held = changed latch.0 (one_fewer ModeSx) pass.old.view.session.held;
+          held = changed_on latch.0 (one_fewer ModeSx) pass.old.view.session.held;
           phase = Free;
         }) pass.old.view) }
     {
         let event = writer_event(latch.0, back);
-        self.turn(pass, event, LatchWord::Writer, Op::Load).0
+        self.turn(pass, event, LatchWord::Writer, WordOp::Load);
     }
 
     /// Stores the session's number as the writer of a latch that it has in SX or X, or is the next
@@ -267,7 +267,7 @@ impl<L: Law> Space<L> {
         let found = match pass.member.phase() {
             Phase::Next { latch: at, .. } | Phase::NextArmed { latch: at, .. } if at == latch.0 => {
                 let event = Event::Ready { latch: latch.0 };
-                self.turn(pass, event, LatchWord::Lock, Op::Load).0
+                self.turn(pass, event, LatchWord::Lock, WordOp::Load).0
             }
             Phase::Flagged { latch: at, .. } if at == latch.0 => self.recheck(pass, latch),
             _ => self.look(pass, latch),

@@ -9,7 +9,7 @@ ghost use Rattle.ib_core.specs.Takings.{first_response, first_weight, holding_to
 ghost use Rattle.ib_core.specs.Responses.{latch_of};
 ghost use Rattle.ib_core.specs.Sessions.{claims};
 ghost use Rattle.ib_core.specs.Turns.{Leaves, turn_at, word_for};
-ghost use Rattle.ib_rule.specs.declared.kind.Kind.TheVariants.{Look, Recheck, Try, Turn};
+ghost use Rattle.ib_rule.specs.declared.kind.StepKind.TheVariants.{Look, Recheck, Try, Turn};
 ghost use Rattle.ib_rule.specs.Pass.{IsOf, with_view};
 ghost use Rattle.ib_rule.specs.Afterwards.{granted, looked_on, tried_on};
 ghost use Rattle.ib_rule.specs.Views.{KnowsHeld, signed};
@@ -17,7 +17,7 @@ ghost use Rattle.ib_rule.specs.Steps.{event_at, latch_word_place, run, view_afte
 ghost use Rattle.ib_rule.specs.Told.{CanBe, Happens, IsEvent};
 ghost use Rattle.ib_rule.specs.Conditions.{CanTake, MayGrow, MayTry, found_by, try_event};
 
-use crate::kind::{Kind, Op};
+use crate::kind::{StepKind, WordOp};
 use crate::mirror::{counted, is_refused, turn_on};
 use crate::pass::Pass;
 use crate::space::Space;
@@ -57,7 +57,7 @@ impl<L: Law> Space<L> {
         pass: &mut Pass,
         event: Event,
         word: LatchWord,
-        op: Op,
+        op: WordOp,
     ) -> (u64, Answer)
         requires own { IsOf self.now pass.old }
         requires latch { latch_of event < latches_of self.now.sizes }
@@ -81,7 +81,7 @@ impl<L: Law> Space<L> {
             &mut pass.seat,
             place,
             op,
-            Kind::Turn(event),
+            StepKind::Turn(event),
         );
         let answer = turn_on(&mut pass.member, event, word, found);
         pass.grants = counted(pass.grants, before, event, answer);
@@ -129,7 +129,7 @@ impl<L: Law> Space<L> {
             place,
             old,
             old - taken,
-            Kind::Try(event, old),
+            StepKind::Try(event, old),
         );
         if found != old {
             return Err(from_cell(found));
@@ -154,8 +154,8 @@ impl<L: Law> Space<L> {
             &self.table.shared,
             &mut pass.seat,
             place,
-            Op::Load,
-            Kind::Look(latch.0),
+            WordOp::Load,
+            StepKind::Look(latch.0),
         )
     }
 
@@ -175,8 +175,8 @@ impl<L: Law> Space<L> {
             &self.table.shared,
             &mut pass.seat,
             place,
-            Op::Load,
-            Kind::Recheck(latch.0),
+            WordOp::Load,
+            StepKind::Recheck(latch.0),
         );
         if is_refused(before, found) {
             let event = Event::Again { latch: latch.0 };
@@ -198,8 +198,8 @@ impl<L: Law> Space<L> {
             &self.table.shared,
             &mut pass.seat,
             place,
-            Op::Swap(u64::from(pass.number)),
-            Kind::StoreWriter(latch.0),
+            WordOp::Swap(u64::from(pass.number)),
+            StepKind::StoreWriter(latch.0),
         );
     }
 

@@ -2,7 +2,7 @@
 //! of the rule.
 
 use crate::looks::{Grants, Looks};
-use crate::memory::Memory;
+use crate::memory::Knowledge;
 use ib_core::Session;
 use ib_logrec::Entry;
 use std::collections::LinkedList;
@@ -46,5 +46,5 @@ pub struct View {
     /// Its looks at lock words.
     pub looks: Looks,
     /// What it knows of the log and the pages.
-    pub memory: Memory,
+    pub memory: Knowledge,
 }

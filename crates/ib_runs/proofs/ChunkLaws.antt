@@ -11,14 +11,14 @@ use Rattle.ib_heap.proofs.CopyLaws.{length-cut}
 use Rattle.ib_heap.proofs.FormLaws.{kinds_of, Kinds}
 use Rattle.ib_heap.proofs.FormLaws.Kinds.{tree, free, neither}
 use Rattle.ib_walk.specs.Pages.{PageMemory}
-use Rattle.ib_walk.specs.Walk.{Visit, records_in, IsLeafAt, IsTiled}
+use Rattle.ib_walk.specs.Walk.{Visit, records_along, IsLeafAt, IsTiled}
 use Rattle.ib_walk.specs.Trees.{height_of, content_of, IsTreeOf}
 use Rattle.ib_walk.specs.Words.{state_of, image_of, pages_of}
 use Rattle.ib_page.specs.Form.{page_of}
 use Rattle.ib_walk.specs.Chunk.{IsLastKey, EndsAt, IsChunk}
-use Rattle.ib_walk.proofs.SearchLaws.{IsTiled-right, Rises-records_in}
+use Rattle.ib_walk.proofs.SearchLaws.{IsTiled-right, Rises-records_along}
 use Rattle.ib_walk.proofs.TreeLaws.{IsTiled-leaves}
-use Rattle.ib_walk.proofs.WalkLaws.{AllByRecursion-right, records_in-append}
+use Rattle.ib_walk.proofs.WalkLaws.{AllByRecursion-right, records_along-append}
 use Rattle.ib_scan.proofs.ChunkLaws.{cut-passed}
 use Rattle.ib_scan.proofs.KeyLaws.{last_between}
 
@@ -41,8 +41,8 @@ value_at-among key (x ∷ xs) value ys none = elim (cases_eq (rank x.0) (rank ke
 ]
 
 module _ (m : PageMemory) (root : ℕ) (start high end : MapKey) (pairs : Pairs) (c : IsChunk m root start high end pairs) where
-  content : content_of m root ≡ records_in m c.front ++ ((m c.leaf.page).records ++ records_in m c.back)
-  content = ap (records_in m) c.at.leaves ∙ records_in-append m c.front (c.leaf ∷ c.back)
+  content : content_of m root ≡ records_along m c.front ++ ((m c.leaf.page).records ++ records_along m c.back)
+  content = ap (records_along m) c.at.leaves ∙ records_along-append m c.front (c.leaf ∷ c.back)
 
   last-here : (back : List Visit) → EndsAt (m c.leaf.page).records back high end → rank end < rank high → IsLastKey (m c.leaf.page).records end
   last-here [] ends lt = let e : rank end ≡ rank high = ap rank ends in absurd (omega arith)
@@ -56,10 +56,10 @@ module _ (m : PageMemory) (root : ℕ) (start high end : MapKey) (pairs : Pairs)
   chunk_end lt none =
       let l = last-here c.back c.ends lt in
       let records : (m c.leaf.page).records ≡ l.0 ++ (end, l.1) ∷ [] = l.2 in
-      let all : content_of m root ≡ (records_in m c.front ++ l.0) ++ (end, l.1) ∷ records_in m c.back =
-      content ∙ (ap (λ xs. records_in m c.front ++ (xs ++ records_in m c.back)) records
-      ∙ (ap (λ xs. records_in m c.front ++ xs) (append_assoc l.0 ((end, l.1) ∷ []) (records_in m c.back)) ∙ sym (append_assoc (records_in m c.front) l.0 ((end, l.1) ∷ records_in m c.back)))) in
-      value_at-among end (records_in m c.front ++ l.0) l.1 (records_in m c.back) (sym (ap (value_at end) all) ∙ none)
+      let all : content_of m root ≡ (records_along m c.front ++ l.0) ++ (end, l.1) ∷ records_along m c.back =
+      content ∙ (ap (λ xs. records_along m c.front ++ (xs ++ records_along m c.back)) records
+      ∙ (ap (λ xs. records_along m c.front ++ xs) (append_assoc l.0 ((end, l.1) ∷ []) (records_along m c.back)) ∙ sym (append_assoc (records_along m c.front) l.0 ((end, l.1) ∷ records_along m c.back)))) in
+      value_at-among end (records_along m c.front ++ l.0) l.1 (records_along m c.back) (sym (ap (value_at end) all) ∙ none)
 
   module _ (t : IsTreeOf m (height_of m root) root) (short : length (m c.leaf.page).records ≤ MOST_RECORDS) where
     tiled : IsTiled c.leaf.high c.back end_rank
@@ -68,7 +68,7 @@ module _ (m : PageMemory) (root : ℕ) (start high end : MapKey) (pairs : Pairs)
     leaves : AllByRecursion (IsLeafAt m) (c.leaf ∷ c.back)
     leaves = AllByRecursion-right (IsLeafAt m) c.front (c.leaf ∷ c.back) (subst (AllByRecursion (IsLeafAt m)) c.at.leaves t.tree.leaves)
 
-    behind : (back : List Visit) → IsTiled c.leaf.high back end_rank → AllByRecursion (IsLeafAt m) back → IsLeafAt m c.leaf → EndsAt (m c.leaf.page).records back high end → cut (records_in m back) start end ≡ []
+    behind : (back : List Visit) → IsTiled c.leaf.high back end_rank → AllByRecursion (IsLeafAt m) back → IsLeafAt m c.leaf → EndsAt (m c.leaf.page).records back high end → cut (records_along m back) start end ≡ []
     behind [] tiles are here ends = refl
     behind (next ∷ back) tiles are here ends =
         let top = (last_between c.leaf.low (m c.leaf.page).records c.leaf.high ends.0 here.within ends.1).1 in
@@ -76,7 +76,7 @@ module _ (m : PageMemory) (root : ℕ) (start high end : MapKey) (pairs : Pairs)
           | inl a ↦ let e : rank end ≡ rank high = ap rank a.1 in let f = a.0 in omega arith
           | inr b ↦ let e : rank end ≡ rank ends.0 = ap rank b.1 in omega arith
         ] in
-        cut-above c.leaf.high (records_in m (next ∷ back)) end_rank start end (Rises-records_in m c.leaf.high (next ∷ back) end_rank are tiles) lt
+        cut-above c.leaf.high (records_along m (next ∷ back)) end_rank start end (Rises-records_along m c.leaf.high (next ∷ back) end_rank are tiles) lt
 
     -- a chunk is read off one leaf
     pub chunk_short : length pairs ≤ MOST_RECORDS
@@ -84,9 +84,9 @@ module _ (m : PageMemory) (root : ℕ) (start high end : MapKey) (pairs : Pairs)
         let none = behind c.back tiled leaves.1 leaves.0 c.ends in
         let is : pairs ≡ cut (m c.leaf.page).records start end =
         c.holds ∙ (ap (λ xs. cut xs start end) content
-        ∙ (cut-append (records_in m c.front) ((m c.leaf.page).records ++ records_in m c.back) start end
-        ∙ (ap (λ xs. xs ++ cut ((m c.leaf.page).records ++ records_in m c.back) start end) (cut-passed m c.front start end c.at.passed)
-        ∙ (cut-append (m c.leaf.page).records (records_in m c.back) start end
+        ∙ (cut-append (records_along m c.front) ((m c.leaf.page).records ++ records_along m c.back) start end
+        ∙ (ap (λ xs. xs ++ cut ((m c.leaf.page).records ++ records_along m c.back) start end) (cut-passed m c.front start end c.at.passed)
+        ∙ (cut-append (m c.leaf.page).records (records_along m c.back) start end
         ∙ (ap (λ xs. cut (m c.leaf.page).records start end ++ xs) none ∙ append-nil (cut (m c.leaf.page).records start end)))))) in
         let few = length-cut (m c.leaf.page).records start end in
         let e : length pairs ≡ length (cut (m c.leaf.page).records start end) = ap length is in omega arith

@@ -6,23 +6,23 @@ use Rattle.ib_map.specs.Pairs.{Rises, cut}
 use Rattle.ib_map.proofs.CutLaws.{cut-append, cut-above}
 use Rattle.ib_page.specs.Image.{next_of, records_of}
 use Rattle.ib_walk.specs.Pages.{PageMemory}
-use Rattle.ib_walk.specs.Walk.{Visit, is_page, sum_of, records_in, first_page, IsLeafAt, IsTiled}
+use Rattle.ib_walk.specs.Walk.{Visit, counts_page, sum_of, records_along, first_page, IsLeafAt, IsTiled}
 use Rattle.ib_walk.specs.Trees.{height_of, IsTreeOf}
 use Rattle.ib_walk.specs.Chunk.{IsLastKey, AreBelow, EndsAt, IsChunk}
-use Rattle.ib_walk.proofs.MeetLaws.{is_page-own}
-use Rattle.ib_walk.proofs.SearchLaws.{IsTiled-right, Rises-records_in}
+use Rattle.ib_walk.proofs.MeetLaws.{counts_page-own}
+use Rattle.ib_walk.proofs.SearchLaws.{IsTiled-right, Rises-records_along}
 use Rattle.ib_walk.proofs.TreeLaws.{IsTiled-leaves}
-use Rattle.ib_walk.proofs.WalkLaws.{AllByRecursion-right, records_in-append, sum_of-append}
+use Rattle.ib_walk.proofs.WalkLaws.{AllByRecursion-right, records_along-append, sum_of-append}
 use Rattle.ib_scan.specs.Walked.{ReadLeaf, EndsBy}
 use Rattle.ib_scan.proofs.KeyLaws.{last_between, cut_below}
 use Rattle.ib_scan.proofs.StandLaws.{AreMetOnce, Stands, IsSameLeaf, link_behind, stands_leaf}
 
 -- leaves whose keys are below the start have nothing of the chunk
-pub cut-passed : (m : PageMemory) (vs : List Visit) (start end : MapKey) → AllByRecursion (λ v. AreBelow start (m v.page).records) vs → cut (records_in m vs) start end ≡ []
+pub cut-passed : (m : PageMemory) (vs : List Visit) (start end : MapKey) → AllByRecursion (λ v. AreBelow start (m v.page).records) vs → cut (records_along m vs) start end ≡ []
 cut-passed m [] start end below = refl
 cut-passed m (v ∷ vs) start end below =
-    cut-append (m v.page).records (records_in m vs) start end
-    ∙ (ap (λ xs. xs ++ cut (records_in m vs) start end) (cut_below (m v.page).records start end below.0) ∙ cut-passed m vs start end below.1)
+    cut-append (m v.page).records (records_along m vs) start end
+    ∙ (ap (λ xs. xs ++ cut (records_along m vs) start end) (cut_below (m v.page).records start end below.0) ∙ cut-passed m vs start end below.1)
 
 module _ (pages : ℕ) (m : PageMemory) (root : ℕ) (t : IsTreeOf m (height_of m root) root) (met : AreMetOnce pages m root) (start high end : MapKey) (ps : List ReadLeaf) (last : ReadLeaf) (s : Stands m root start ps last.page)
     (same : IsSameLeaf m last) where
@@ -38,10 +38,10 @@ module _ (pages : ℕ) (m : PageMemory) (root : ℕ) (t : IsTreeOf m (height_of 
   -- a leaf that follows has a page that is not 0
   some-page : (x : Visit) (xs : List Visit) → s.behind ≡ x ∷ xs → x.page ≢ 0
   some-page x xs e z =
-      let one = is_page-own 0 0 x z in
-      let rest : sum_of (is_page 0 0) s.behind ≡ is_page 0 0 x + sum_of (is_page 0 0) xs = ap (sum_of (is_page 0 0)) e in
-      let a = ap (sum_of (is_page 0 0)) s.is in
-      let b = sum_of-append (is_page 0 0) front (s.visit ∷ s.behind) in
+      let one = counts_page-own 0 0 x z in
+      let rest : sum_of (counts_page 0 0) s.behind ≡ counts_page 0 0 x + sum_of (counts_page 0 0) xs = ap (sum_of (counts_page 0 0)) e in
+      let a = ap (sum_of (counts_page 0 0)) s.is in
+      let b = sum_of-append (counts_page 0 0) front (s.visit ∷ s.behind) in
       let none = met.none in absurd (omega arith)
 
   -- the leaf stops the chunk, and says where
@@ -69,15 +69,15 @@ module _ (pages : ℕ) (m : PageMemory) (root : ℕ) (t : IsTreeOf m (height_of 
   stop : EndsBy start high end last.image → IsStopped s.behind
   stop e = stopped s.behind refl e
 
-  rest-rises : Rises s.visit.high (records_in m s.behind) end_rank
-  rest-rises = Rises-records_in m s.visit.high s.behind end_rank
+  rest-rises : Rises s.visit.high (records_along m s.behind) end_rank
+  rest-rises = Rises-records_along m s.visit.high s.behind end_rank
       (AllByRecursion-right (IsLeafAt m) front (s.visit ∷ s.behind) (subst (AllByRecursion (IsLeafAt m)) s.is t.tree.leaves)).1
       (IsTiled-right 0 front s.visit s.behind end_rank (subst (λ vs. IsTiled 0 vs end_rank) s.is (IsTiled-leaves m root t)))
 
-  rest-none : IsStopped s.behind → cut (records_in m s.behind) start end ≡ []
+  rest-none : IsStopped s.behind → cut (records_along m s.behind) start end ≡ []
   rest-none h = elim h.rest [
-    | inl none ↦ ap (λ vs. cut (records_in m vs) start end) none
-    | inr lt ↦ cut-above s.visit.high (records_in m s.behind) end_rank start end rest-rises lt
+    | inl none ↦ ap (λ vs. cut (records_along m vs) start end) none
+    | inr lt ↦ cut-above s.visit.high (records_along m s.behind) end_rank start end rest-rises lt
   ]
 
   pub chunk_read : EndsBy start high end last.image → IsChunk m root start high end (cut (records_of last.image) start end)
@@ -90,11 +90,11 @@ module _ (pages : ℕ) (m : PageMemory) (root : ℕ) (t : IsTreeOf m (height_of 
         at = record { leaves = s.is; passed = s.below; stops = h.stops };
         ends = h.ends;
         holds = sym (
-            ap (λ vs. cut (records_in m vs) start end) s.is
-            ∙ (ap (λ xs. cut xs start end) (records_in-append m front (s.visit ∷ s.behind))
-            ∙ (cut-append (records_in m front) ((m s.visit.page).records ++ records_in m s.behind) start end
-            ∙ (ap (λ xs. xs ++ cut ((m s.visit.page).records ++ records_in m s.behind) start end) (cut-passed m front start end s.below)
-            ∙ (cut-append (m s.visit.page).records (records_in m s.behind) start end
+            ap (λ vs. cut (records_along m vs) start end) s.is
+            ∙ (ap (λ xs. cut xs start end) (records_along-append m front (s.visit ∷ s.behind))
+            ∙ (cut-append (records_along m front) ((m s.visit.page).records ++ records_along m s.behind) start end
+            ∙ (ap (λ xs. xs ++ cut ((m s.visit.page).records ++ records_along m s.behind) start end) (cut-passed m front start end s.below)
+            ∙ (cut-append (m s.visit.page).records (records_along m s.behind) start end
             ∙ (ap (λ xs. cut (m s.visit.page).records start end ++ xs) (rest-none h)
             ∙ (append-nil (cut (m s.visit.page).records start end) ∙ ap (λ xs. cut xs start end) records)))))));
       }

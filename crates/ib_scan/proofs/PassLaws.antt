@@ -20,7 +20,7 @@ use Rattle.ib_page.specs.Image.{next_of}
 use Rattle.ib_page.specs.Work.{WorkPage, changed_of, before_of, without_page, with_read}
 use Rattle.ib_logrec.specs.declared.entry.Entry.{Entry}
 use Rattle.ib_logrec.specs.Log.{memory_after}
-use Rattle.ib_rule.specs.declared.memory.Memory.{Memory}
+use Rattle.ib_rule.specs.declared.memory.Knowledge.{Knowledge}
 use Rattle.ib_rule.specs.declared.memory.Since.{Since}
 use Rattle.ib_rule.specs.Conditions.{MayGrow}
 use Rattle.ib_rule.specs.Pass.{PassState}
@@ -119,10 +119,10 @@ module _ (sizes : Sizes) (roots : ℕ) (lawful : List Entry → Type 0) (opening
   module _ (skipped : IsSkipped start last.image) (q r : PassState) (taken : HasTaken (page_grant (next_of last.image) S) emptied q) (seen : HasSeen sizes lawful q r) (memo : r.memo ≡ q.memo) (session : r.view.session ≡ q.view.session)
       (grants : r.view.grants ≡ q.view.grants) (loaded : HasPage opening (next_of last.image) q r) where
     calm : (page : ℕ) → is_watched (page + 2) p.view.memory.since ≡ true → AreCalm seen.went.more page
-    calm page w = seen.steady page (subst (λ (m : Memory). is_watched (page + 2) m.since ≡ true) (sym taken.taken.memory) w)
+    calm page w = seen.steady page (subst (λ (m : Knowledge). is_watched (page + 2) m.since ≡ true) (sym taken.taken.memory) w)
 
     log-is : r.view.memory.seen ≡ p.view.memory.seen ++ seen.went.more
-    log-is = seen.went.seen ∙ ap (λ (m : Memory). m.seen ++ seen.went.more) taken.taken.memory
+    log-is = seen.went.seen ∙ ap (λ (m : Knowledge). m.seen ++ seen.went.more) taken.taken.memory
 
     stayed : IsWalked roots opening (p.view.memory.seen ++ seen.went.more) root start ps last
     stayed = walked_stays sizes.pages roots lawful opening laws root p.view.memory.seen seen.went.more start ps last (subst lawful log-is seen.known.legal)

@@ -8,11 +8,11 @@ use Rattle.ib_map.proofs.RiseLaws.{Rises-le}
 use Rattle.ib_levels.specs.declared.level.Mode.TheVariants.{S}
 use Rattle.ib_page.specs.Image.{next_of, records_of}
 use Rattle.ib_walk.specs.Pages.{Tree, PageMemory}
-use Rattle.ib_walk.specs.Walk.{Visit, is_page, is_visit, sum_of, records_in, first_page, AreLinked, IsLeafAt, IsTiled}
+use Rattle.ib_walk.specs.Walk.{Visit, counts_page, counts_visit, sum_of, records_along, first_page, AreLinked, IsLeafAt, IsTiled}
 use Rattle.ib_walk.specs.Trees.{top_of, height_of, leaves_of, weight_of, times_met, IsTreeOf, IsLawful}
 use Rattle.ib_walk.specs.Chunk.{AreBelow}
-use Rattle.ib_walk.proofs.MeetLaws.{is_page-own, lowest-le_weight}
-use Rattle.ib_walk.proofs.SearchLaws.{AllByRecursion-at, IsTiled-left, Rises-records_in}
+use Rattle.ib_walk.proofs.MeetLaws.{counts_page-own, lowest-le_weight}
+use Rattle.ib_walk.proofs.SearchLaws.{AllByRecursion-at, IsTiled-left, Rises-records_along}
 use Rattle.ib_walk.proofs.TreeLaws.{weight_of-le, IsTiled-leaves}
 use Rattle.ib_walk.proofs.WalkLaws.{AllByRecursion-append, AllByRecursion-left, sum_of-append}
 use Rattle.ib_cursor.specs.Grants.{Grant, page_grant, IsAway}
@@ -23,15 +23,15 @@ use Rattle.ib_scan.proofs.KeyLaws.{rises_below}
 
 -- a leaf is met once, and is a page of the space but not page 0
 pub record AreMetOnce (pages : ℕ) (m : PageMemory) (root : ℕ) : Type 0 where
-  pub once : (n : ℕ) → sum_of (is_page n 0) (leaves_of m root) ≤ 1
-  pub none : sum_of (is_page 0 0) (leaves_of m root) ≡ 0
-  pub inside : (n : ℕ) → 0 < sum_of (is_page n 0) (leaves_of m root) → n < pages
+  pub once : (n : ℕ) → sum_of (counts_page n 0) (leaves_of m root) ≤ 1
+  pub none : sum_of (counts_page 0 0) (leaves_of m root) ≡ 0
+  pub inside : (n : ℕ) → 0 < sum_of (counts_page n 0) (leaves_of m root) → n < pages
 
 pub met_once : (pages : ℕ) (m : PageMemory) (bits : ℕ → ℕ) (roots root : ℕ) → IsLawful m bits roots → 0 < root → root ≤ roots → ((n : ℕ) → 0 < bits n → n < pages) → AreMetOnce pages m root
 met_once pages m bits roots root law some le within =
-    let most : (n : ℕ) → sum_of (is_page n 0) (leaves_of m root) ≤ times_met m roots n = λ n.
-    let a = lowest-le_weight (is_page n) m (height_of m root) (top_of root) in
-    let b = weight_of-le (is_page n) m root roots some le in omega arith in
+    let most : (n : ℕ) → sum_of (counts_page n 0) (leaves_of m root) ≤ times_met m roots n = λ n.
+    let a = lowest-le_weight (counts_page n) m (height_of m root) (top_of root) in
+    let b = weight_of-le (counts_page n) m root roots some le in omega arith in
     record {
       once = λ n. let a = most n in let b = law.met n in let c = law.bit n in omega arith;
       none = let a = most 0 in let b = law.met 0 in let c = law.bit 0 in omega arith;
@@ -42,20 +42,20 @@ abbrev pub grant_at : Visit → Grant
 grant_at v = page_grant v.page S
 
 -- pages that are not met are not held, and pages that are met once are held apart
-pub away_from : (n : ℕ) (vs : List Visit) → sum_of (is_page n 0) vs ≡ 0 → IsAway (n + 2) (map grant_at vs)
+pub away_from : (n : ℕ) (vs : List Visit) → sum_of (counts_page n 0) vs ≡ 0 → IsAway (n + 2) (map grant_at vs)
 away_from n [] z = tt
-away_from n (v ∷ vs) z = ((λ f. let q : v.page ≡ n = omega (arith, f) in let one = is_page-own n 0 v q in omega (arith, one, z)), away_from n vs (omega (arith, z)))
+away_from n (v ∷ vs) z = ((λ f. let q : v.page ≡ n = omega (arith, f) in let one = counts_page-own n 0 v q in omega (arith, one, z)), away_from n vs (omega (arith, z)))
 
-pub apart_in : (vs : List Visit) → ((n : ℕ) → sum_of (is_page n 0) vs ≤ 1) → AreApart (map grant_at vs)
+pub apart_in : (vs : List Visit) → ((n : ℕ) → sum_of (counts_page n 0) vs ≤ 1) → AreApart (map grant_at vs)
 apart_in [] once = tt
-apart_in (v ∷ vs) once = (away_from v.page vs (let one = is_page-own v.page 0 v refl in let a = once v.page in omega arith), apart_in vs (λ n. let a = once n in omega arith))
+apart_in (v ∷ vs) once = (away_from v.page vs (let one = counts_page-own v.page 0 v refl in let a = once v.page in omega arith), apart_in vs (λ n. let a = once n in omega arith))
 
 -- no more of them are there than pages
 abbrev all_met : ℕ → List Visit → ℕ
 all_met zero vs = 0
-all_met (suc n) vs = all_met n vs + sum_of (is_page n 0) vs
+all_met (suc n) vs = all_met n vs + sum_of (counts_page n 0) vs
 
-all-most : (n : ℕ) (vs : List Visit) → ((k : ℕ) → sum_of (is_page k 0) vs ≤ 1) → all_met n vs ≤ n
+all-most : (n : ℕ) (vs : List Visit) → ((k : ℕ) → sum_of (counts_page k 0) vs ≤ 1) → all_met n vs ≤ n
 all-most zero vs h = omega arith
 all-most (suc n) vs h = let r = all-most n vs h in let k = h n in omega arith
 
@@ -66,7 +66,7 @@ all-cons (suc n) v vs = let r = all-cons n v vs in omega arith
 all-one : (n : ℕ) (v : Visit) → v.page < n → 1 ≤ all_met n (v ∷ [])
 all-one zero v lt = absurd (omega arith)
 all-one (suc n) v lt = elim (cases_eq v.page n) [
-  | inl e ↦ let one = is_page-own n 0 v e in omega arith
+  | inl e ↦ let one = counts_page-own n 0 v e in omega arith
   | inr ne ↦ let r = all-one n v (omega (arith, lt, ne)) in omega arith
 ]
 
@@ -74,9 +74,9 @@ all-length : (n : ℕ) (vs : List Visit) → AllByRecursion (λ v. v.page < n) v
 all-length n [] h = omega arith
 all-length n (v ∷ vs) h = let r = all-length n vs h.1 in let o = all-one n v h.0 in let c = all-cons n v vs in omega arith
 
-all-within : (pages : ℕ) (vs : List Visit) → ((n : ℕ) → 0 < sum_of (is_page n 0) vs → n < pages) → AllByRecursion (λ v. v.page < pages) vs
+all-within : (pages : ℕ) (vs : List Visit) → ((n : ℕ) → 0 < sum_of (counts_page n 0) vs → n < pages) → AllByRecursion (λ v. v.page < pages) vs
 all-within pages [] h = tt
-all-within pages (v ∷ vs) h = (h v.page (let one = is_page-own v.page 0 v refl in omega arith), all-within pages vs (λ n lt. h n (omega arith)))
+all-within pages (v ∷ vs) h = (h v.page (let one = counts_page-own v.page 0 v refl in omega arith), all-within pages vs (λ n lt. h n (omega arith)))
 
 pub few_leaves : (pages : ℕ) (m : PageMemory) (root : ℕ) → AreMetOnce pages m root → length (leaves_of m root) ≤ pages
 few_leaves pages m root met =
@@ -98,7 +98,7 @@ pub record Stands (m : PageMemory) (root : ℕ) (start : MapKey) (ps : List Read
 tiled-below : (m : PageMemory) (low : ℕ) (vs : List Visit) (high : ℕ) (start : MapKey) → AllByRecursion (IsLeafAt m) vs → IsTiled low vs high → high ≤ rank start → AllByRecursion (λ v. AreBelow start (m v.page).records) vs
 tiled-below m low [] high start leaves tiles le = tt
 tiled-below m low (v ∷ vs) high start leaves tiles le = (
-  let up = Rises-le v.high (records_in m vs) high (Rises-records_in m v.high vs high leaves.1 tiles.1) in rises_below v.low (m v.page).records v.high start (omega arith) leaves.0.within,
+  let up = Rises-le v.high (records_along m vs) high (Rises-records_along m v.high vs high leaves.1 tiles.1) in rises_below v.low (m v.page).records v.high start (omega arith) leaves.0.within,
   tiled-below m v.high vs high start leaves.1 tiles.1 le,
 )
 
@@ -145,7 +145,7 @@ module _ (m : PageMemory) (root : ℕ) (t : IsTreeOf m (height_of m root) root) 
       subst (λ rs. Stands m root start rs last.page) (append_assoc qs (p ∷ []) ps)
       (onward I read (qs ++ p ∷ []) ps last (further qs p (first_read ps last).page s (l.next ∙ a.1) (λ z. a.0.some (a.1 ∙ z)) (subst (AreBelow start) (sym l.records) a.0.below)) a.2 e.1)
 
-  begins : (page low high : ℕ) → 0 < weight_of (is_visit 0 (record { page = page; low = low; high = high })) m root → low ≤ rank start → Stands m root start [] page
+  begins : (page low high : ℕ) → 0 < weight_of (counts_visit 0 (record { page = page; low = low; high = high })) m root → low ≤ rank start → Stands m root start [] page
   begins page low high met le =
       let v : Visit = record { page = page; low = low; high = high } in
       let l = leaf-met m root (record { page = page; low = low; high = high }) met in
@@ -163,7 +163,7 @@ module _ (m : PageMemory) (root : ℕ) (t : IsTreeOf m (height_of m root) root) 
       }
 
   pub stands_at : (I : ReadLeaf → Type 0) → ((p : ReadLeaf) → (m p.page).kind ≡ Tree → I p → IsSameLeaf m p) → (ps : List ReadLeaf) (last : ReadLeaf) (low high : ℕ)
-      → 0 < weight_of (is_visit 0 (record { page = (first_read ps last).page; low = low; high = high })) m root → low ≤ rank start → ArePassed start ps last → AllByRecursion I ps → Stands m root start ps last.page
+      → 0 < weight_of (counts_visit 0 (record { page = (first_read ps last).page; low = low; high = high })) m root → low ≤ rank start → ArePassed start ps last → AllByRecursion I ps → Stands m root start ps last.page
   stands_at I read ps last low high met le a e = onward I read [] ps last (begins (first_read ps last).page low high met le) a e
 
   -- the leaf behind is a page of the space, and none of those that are held
@@ -176,12 +176,12 @@ module _ (m : PageMemory) (root : ℕ) (t : IsTreeOf m (height_of m root) root) 
     grants-are : leaf_grants ps ++ page_grant page S ∷ [] ≡ map grant_at (s.passed ++ s.visit ∷ [])
     grants-are = ap (λ gs. gs ++ page_grant page S ∷ []) s.grants ∙ (ap (λ n. map grant_at s.passed ++ page_grant n S ∷ []) (sym s.here) ∙ sym (map-append grant_at s.passed (s.visit ∷ [])))
 
-    sum-is : (n : ℕ) → sum_of (is_page n 0) (leaves_of m root) ≡ sum_of (is_page n 0) s.before + sum_of (is_page n 0) (s.passed ++ s.visit ∷ []) + sum_of (is_page n 0) s.behind
+    sum-is : (n : ℕ) → sum_of (counts_page n 0) (leaves_of m root) ≡ sum_of (counts_page n 0) s.before + sum_of (counts_page n 0) (s.passed ++ s.visit ∷ []) + sum_of (counts_page n 0) s.behind
     sum-is n =
-        let a = ap (sum_of (is_page n 0)) s.is in
-        let b = sum_of-append (is_page n 0) (s.before ++ s.passed) (s.visit ∷ s.behind) in
-        let c = sum_of-append (is_page n 0) s.before s.passed in
-        let d = sum_of-append (is_page n 0) s.passed (s.visit ∷ []) in omega arith
+        let a = ap (sum_of (counts_page n 0)) s.is in
+        let b = sum_of-append (counts_page n 0) (s.before ++ s.passed) (s.visit ∷ s.behind) in
+        let c = sum_of-append (counts_page n 0) s.before s.passed in
+        let d = sum_of-append (counts_page n 0) s.passed (s.visit ∷ []) in omega arith
 
     -- the grants are on pages of their own
     pub held_apart : AreApart (leaf_grants ps ++ page_grant page S ∷ [])
@@ -194,8 +194,8 @@ module _ (m : PageMemory) (root : ℕ) (t : IsTreeOf m (height_of m root) root) 
         go [] e = absurd (some (sym link ∙ (link_behind ps page s ∙ ap (λ ws. first_page ws 0) e)))
         go (x ∷ xs) e =
             let at : x.page ≡ next = sym (ap (λ ws. first_page ws 0) e) ∙ (sym (link_behind ps page s) ∙ link) in
-            let one = is_page-own next 0 x at in
-            let rest : sum_of (is_page next 0) s.behind ≡ is_page next 0 x + sum_of (is_page next 0) xs = ap (sum_of (is_page next 0)) e in
+            let one = counts_page-own next 0 x at in
+            let rest : sum_of (counts_page next 0) s.behind ≡ counts_page next 0 x + sum_of (counts_page next 0) xs = ap (sum_of (counts_page next 0)) e in
             let all = sum-is next in
             let most = met.once next in
             let many = few_leaves pages m root met in

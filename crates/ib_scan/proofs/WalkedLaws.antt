@@ -8,13 +8,13 @@ use Rattle.ib_page.specs.Image.{IsTreePage, next_of, records_of}
 use Rattle.ib_logrec.specs.declared.entry.Entry.{Entry}
 use Rattle.ib_logrec.specs.Log.{memory_after}
 use Rattle.ib_walk.specs.Pages.{Tree, PageMemory}
-use Rattle.ib_walk.specs.Walk.{is_visit}
+use Rattle.ib_walk.specs.Walk.{counts_visit}
 use Rattle.ib_walk.specs.Trees.{height_of, weight_of, IsTreeOf}
 use Rattle.ib_walk.specs.Search.{leaf_for}
 use Rattle.ib_walk.specs.Words.{image_of, bits_of}
 use Rattle.ib_walk.specs.Chunk.{IsLastKey, IsChunk}
 use Rattle.ib_tree.specs.Logs.{pages_after}
-use Rattle.ib_tree.proofs.PatchLaws.{is_visit-own}
+use Rattle.ib_tree.proofs.PatchLaws.{counts_visit-own}
 use Rattle.ib_cursor.specs.Way.{IsOnWay}
 use Rattle.ib_cursor.specs.Laws.{Laws}
 use Rattle.ib_cursor.proofs.LogLaws.{tree_of-log, range_stays, bit_inside}
@@ -93,7 +93,7 @@ module _ (pages roots : ℕ) (lawful : List Entry → Type 0) (opening : ℕ →
           let leaf = stands_leaf tree_at_log root (tree_is w.met.0 w.met.1) start ps last.page s in
           let records : (tree_at_log s.visit.page).records ≡ records_of last.image = ap (λ k. (tree_at_log k).records) s.here ∙ walked_same.records in
           let low = (last_between s.visit.low (tree_at_log s.visit.page).records s.visit.high key leaf.within (subst (λ rs. IsLastKey rs key) (sym records) is)).0 in
-          let counts = leaf-counts tree_at_log root s.visit (record { before = s.before ++ s.passed; behind = s.behind; is = s.is }) (is_visit 0 s.visit) (let own = is_visit-own 0 s.visit in omega arith) in
+          let counts = leaf-counts tree_at_log root s.visit (record { before = s.before ++ s.passed; behind = s.behind; is = s.is }) (counts_visit 0 s.visit) (let own = counts_visit-own 0 s.visit in omega arith) in
           record {
             images = tt;
             image = w.image;
@@ -103,7 +103,7 @@ module _ (pages roots : ℕ) (lawful : List Entry → Type 0) (opening : ℕ →
             met = (
               w.met.0,
               w.met.1,
-              subst (λ k. 0 < weight_of (is_visit 0 (record { page = k; low = s.visit.low; high = s.visit.high })) tree_at_log root) s.here (let c = counts in omega arith),
+              subst (λ k. 0 < weight_of (counts_visit 0 (record { page = k; low = s.visit.low; high = s.visit.high })) tree_at_log root) s.here (let c = counts in omega arith),
             );
             le = omega arith;
           }
@@ -120,6 +120,6 @@ module _ (pages roots : ℕ) (lawful : List Entry → Type 0) (opening : ℕ →
           passed = tt;
           low = met.visit.low;
           high = met.visit.high;
-          met = (some, le, subst (λ k. 0 < weight_of (is_visit 0 (record { page = k; low = met.visit.low; high = met.visit.high })) tree_at_log root) met.here met.met);
+          met = (some, le, subst (λ k. 0 < weight_of (counts_visit 0 (record { page = k; low = met.visit.low; high = met.visit.high })) tree_at_log root) met.here met.met);
           le = met.low;
         }

@@ -2,7 +2,7 @@
 use Rattle.std.specs.Prelude.{◌≡◌, ℕ, ◌+◌, List, [], ◌∷◌, ◌++◌, None, Result, Ok, not, length, count_by, sum_by, fold, slice_index_or, MatchResult}
 use Rattle.std.specs.List.{list_all}
 use Rattle.ib_map.specs.declared.call.Call.{Call}
-use Rattle.ib_edge.specs.BadLines.{IsFault}
+use Rattle.ib_edge.specs.BadLines.{IsLineFault}
 use Rattle.ib_script.specs.Lists.{lists_of}
 use Rattle.ib_script.specs.Script.{Reading, says_nothing, is_command, is_scan, scan_count, fault_behind, commands_of, session_count, sizes_of}
 use Rattle.ib_script.specs.declared.script_line.ScriptLine.TheVariants.{Session}
@@ -37,4 +37,4 @@ pub record IsBuilt (before : List Reading) (builder : Builder) : Type 0 where
 abbrev pub Takes : {T : Type 0} → Reading → Builder → Result T LineFault → Builder → Type 0
 Takes reading old result new =
     (before : List Reading) → IsBuilt before old
-    → MatchResult result (λ _. (fault_behind before reading ≡ None) × IsBuilt (before ++ reading ∷ []) new) (IsFault (fault_behind before reading) (is_command reading))
+    → MatchResult result (λ _. (fault_behind before reading ≡ None) × IsBuilt (before ++ reading ∷ []) new) (IsLineFault (fault_behind before reading) (is_command reading))

@@ -40,7 +40,7 @@ fn a_reader_comes_to_the_root(rt: HostRuntime) {
     let path = descend(&rt, &mut mtr, Search::Find, 5);
     assert_eq!(rt; path.pages(), [1].as_slice());
     assert_eq!(rt; mtr.commit_read(), 0);
-    let grants = one.grants();
+    let grants = one.grants_taken();
     assert_eq!(rt; (grants.s, grants.sx, grants.x), (2, 0, 0));
     table.disconnect(one);
     table.discard();
@@ -53,7 +53,7 @@ fn a_key_is_looked_up_on_the_root(rt: HostRuntime) {
     let mut mtr = Mtr::start(&table, &mut one);
     assert_eq!(rt; find(&rt, &mut mtr, 5), None);
     assert_eq!(rt; mtr.commit_read(), 0);
-    let grants = one.grants();
+    let grants = one.grants_taken();
     assert_eq!(rt; (grants.s, grants.sx, grants.x), (2, 0, 0));
     table.disconnect(one);
     table.discard();
@@ -67,7 +67,7 @@ fn who_changes_the_root_owns_it(rt: HostRuntime) {
     let path = descend(&rt, &mut mtr, Search::ModifyLeaf, 5);
     assert_eq!(rt; path.pages(), [1].as_slice());
     assert_eq!(rt; mtr.commit_read(), 0);
-    let grants = one.grants();
+    let grants = one.grants_taken();
     assert_eq!(rt; (grants.s, grants.sx, grants.x), (2, 0, 1));
     table.disconnect(one);
     table.discard();
@@ -81,7 +81,7 @@ fn who_may_split_the_root_claims_the_index(rt: HostRuntime) {
     let path = descend_to_insert(&rt, &mut mtr, 1, 5);
     assert_eq!(rt; path.pages(), [1].as_slice());
     assert_eq!(rt; mtr.commit_read(), 0);
-    let grants = one.grants();
+    let grants = one.grants_taken();
     assert_eq!(rt; (grants.s, grants.sx, grants.x), (1, 1, 1));
     table.disconnect(one);
     table.discard();
@@ -95,7 +95,7 @@ fn who_may_merge_pages_claims_the_index(rt: HostRuntime) {
     let path = descend_to_delete(&rt, &mut mtr, 1, 5);
     assert_eq!(rt; path.pages(), [1].as_slice());
     assert_eq!(rt; mtr.commit_read(), 0);
-    let grants = one.grants();
+    let grants = one.grants_taken();
     assert_eq!(rt; (grants.s, grants.sx, grants.x), (1, 1, 1));
     table.disconnect(one);
     table.discard();
@@ -111,7 +111,7 @@ fn nobody_is_in_the_way(rt: HostRuntime) {
         Err(_) => assert!(rt; false),
     }
     assert_eq!(rt; mtr.commit_read(), 0);
-    assert_eq!(rt; one.grants().s, 2);
+    assert_eq!(rt; one.grants_taken().s, 2);
     table.disconnect(one);
     table.discard();
 }

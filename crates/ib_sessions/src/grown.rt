@@ -29,7 +29,7 @@ fn a_full_root_becomes_a_node(rt: HostRuntime) {
     let mut index = open(&rt, rt.alloc(), 16384);
     let mut one = come(&rt, rt.alloc(), &mut index);
     insert_up_to(&rt, &index, &mut one, 36);
-    let taken = one.grants();
+    let taken = one.grants_taken();
     assert_eq!(rt; taken.sx, 1);
     index.disconnect(one);
     let closed = close(&rt, rt.alloc(), index);
@@ -52,7 +52,7 @@ fn two_leaves_are_merged_and_the_root_is_lifted(rt: HostRuntime) {
     assert_eq!(rt; delete(&rt, &index, &mut one, 36), deleted(36, 36, 36));
     assert_eq!(rt; delete(&rt, &index, &mut one, 35), deleted(35, 35, 37));
     assert_eq!(rt; delete(&rt, &index, &mut one, 35), missing(35, 38));
-    let taken = one.grants();
+    let taken = one.grants_taken();
     assert_eq!(rt; taken.sx, 2);
     index.disconnect(one);
     let closed = close(&rt, rt.alloc(), index);

@@ -32,7 +32,7 @@ fn may_call(rt: &impl Abort, pass: &Pass)
     ensures room { total pass.now.view.grants + 16384 ≤ 2 ^ 52 }
 {
     assert!(rt; pass.is_idle());
-    let taken = pass.grants();
+    let taken = pass.grants_taken();
     assert!(rt; taken.s < 1 << 40);
     assert!(rt; taken.sx < 1 << 40);
     assert!(rt; taken.x < 1 << 40);
@@ -66,7 +66,7 @@ fn a_lookup_takes_the_index_and_the_root(rt: HostRuntime) {
     assert_eq!(rt; index.get(&rt, &mut one, 0), not_found(0));
     may_call(&rt, &one);
     assert_eq!(rt; index.get(&rt, &mut one, u64::MAX), not_found(u64::MAX));
-    let taken = one.grants();
+    let taken = one.grants_taken();
     assert_eq!(rt; (taken.s, taken.sx, taken.x), (6, 0, 0));
     index.disconnect(one);
     index.discard();
@@ -119,7 +119,7 @@ fn who_does_not_wait_is_told_what_is_in_the_way(rt: HostRuntime) {
         word: LockWord(0),
     };
     assert_eq!(rt; index.get_nowait(&mut two, 5), Err(busy));
-    assert_eq!(rt; two.grants().s, 1);
+    assert_eq!(rt; two.grants_taken().s, 1);
     may_call(&rt, &two);
     assert_eq!(rt; index_word(&rt, &index, &mut two), LockWord(536_870_912));
     leave_root(&rt, &index, &mut one);

@@ -69,7 +69,7 @@ fn a_full_leaf_is_changed_alone(rt: HostRuntime) {
     assert_eq!(rt; delete(&rt, &index, &mut one, 3), deleted(3, 3, 35));
     assert_eq!(rt; delete(&rt, &index, &mut one, 3), missing(3, 36));
     assert_eq!(rt; insert(&rt, &index, &mut one, 40, 40), inserted(40, 40, 36));
-    let taken = one.grants();
+    let taken = one.grants_taken();
     assert_eq!(rt; (one.place(), one.made()), (37, 37));
     assert_eq!(rt; (taken.s, taken.sx, taken.x), (78, 0, 76));
     index.disconnect(one);

@@ -54,7 +54,7 @@ fn an_empty_tree_has_one_empty_chunk(rt: HostRuntime) {
         len: 0,
     };
     assert_eq!(rt; out.list(), [chunk].as_slice());
-    assert_eq!(rt; one.grants().s, 2);
+    assert_eq!(rt; one.grants_taken().s, 2);
     table.disconnect(one);
     table.discard();
 }
@@ -67,7 +67,7 @@ fn from_a_key_to_a_lower_one_there_is_none(rt: HostRuntime) {
     let answer = scan(&rt, &table, &mut one, 5, 3, &mut out);
     assert_eq!(rt; answer, Ok(scanned(5, 3, 0)));
     assert_eq!(rt; out.list(), [].as_slice());
-    assert_eq!(rt; one.grants().s, 0);
+    assert_eq!(rt; one.grants_taken().s, 0);
     table.disconnect(one);
     table.discard();
 }

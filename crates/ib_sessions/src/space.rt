@@ -37,7 +37,7 @@ pub(crate) fn come<S: Sleep>(rt: &impl Abort, alloc: Global, index: &mut Index<S
 pub(crate) fn may_call(rt: &impl Abort, pass: &Pass)
     ensures { total pass.now.view.grants + 16384 ≤ 2 ^ 52 }
 {
-    let taken = pass.grants();
+    let taken = pass.grants_taken();
     assert!(rt; taken.s < 1 << 40);
     assert!(rt; taken.sx < 1 << 40);
     assert!(rt; taken.x < 1 << 40);
@@ -48,7 +48,7 @@ fn may_scan(rt: &impl Abort, pass: &Pass, out: &Chunks)
     ensures { total pass.now.view.grants + 8192 * out.now.chunk_room + 8192 ≤ 2 ^ 52 }
 {
     may_call(rt, pass);
-    let taken = pass.grants();
+    let taken = pass.grants_taken();
     assert!(rt; taken.s < 1 << 40);
     assert!(rt; taken.sx < 1 << 40);
     assert!(rt; taken.x < 1 << 40);

@@ -21,7 +21,7 @@ use Rattle.ib_plans.proofs.ChosenLaws.{chosen-fresh, chosen-length}
 use Rattle.ib_plans.proofs.EditLaws.{IsSome-and}
 use Rattle.ib_plans.proofs.LevelLaws.{above-sum}
 use Rattle.ib_plans.proofs.PathLaws.{page_below-child}
-use Rattle.ib_split.specs.Inserts.{HasFresh, HasImages, with_record, CanPut, CanSplit, IsSplit, CanRaise, IsRaised, IsClimbed}
+use Rattle.ib_split.specs.Inserts.{HasFresh, HasInsertImages, with_record, CanPut, CanSplit, IsSplit, CanRaise, IsRaised, IsInsertClimbed}
 use Rattle.ib_split.proofs.WayLaws.{in-range, path-length, path-last, path-at, path-tree, path-same}
 use Rattle.ib_split.proofs.Pending.{IsPending, HasRoom, on-path, clean-here, kept-here, now, absent-here}
 use Rattle.ib_split.proofs.Putting.{put-climbed}
@@ -34,7 +34,7 @@ is-most n e = grind (arith, nat_tests)
 not-most : (n : ℕ) → (n == MOST_RECORDS) ≡ false → n ≢ MOST_RECORDS
 not-most n e z = let y = eq-eqb n MOST_RECORDS z in cc
 
-module _ (path fresh : List ℕ) (key : MapKey) (value : ℕ) (old : List WorkPage) (images : HasImages path fresh old) (clocks : MayTick old) (absent : value_at key (memory_in old (last_of path)).records ≡ None)
+module _ (path fresh : List ℕ) (key : MapKey) (value : ℕ) (old : List WorkPage) (images : HasInsertImages path fresh old) (clocks : MayTick old) (absent : value_at key (memory_in old (last_of path)).records ≡ None)
     (pages roots root : ℕ) (m : PageMemory) (bits : ℕ → ℕ) (agrees : Agrees pages roots root key path old m bits) (fits : HasFresh pages roots root key fresh m bits) where
   abbrev H : ℕ
   H = height_of m root
@@ -102,7 +102,7 @@ module _ (path fresh : List ℕ) (key : MapKey) (value : ℕ) (old : List WorkPa
 
       pub put-done : (length (memory_in work page).records == MOST_RECORDS) ≡ false → (new : List WorkPage) → Sets page (tick (with_record k v (memory_in work page))) work new
           → HasMoved (Puts k) (changed_of page work) (changed_of page new)
-          → let g = planned_insert m bits fresh key value root in IsClimbed (take height fresh) m g.memory g.bits bits g.touched g.moves old new
+          → let g = planned_insert m bits fresh key value root in IsInsertClimbed (take height fresh) m g.memory g.bits bits g.touched g.moves old new
       put-done not_full new sets puts =
           put-climbed roots root key value fresh old m bits has-room height (length path - 1 - height) page tall at k v work p there-old
           (let n = not-most (length (memory_in work page).records) not_full in let e = ap (λ (q : PageState). length q.records) page-now in let s = (agrees.lawful.sound page some).short in omega (arith, n))
@@ -229,10 +229,10 @@ module _ (path fresh : List ℕ) (key : MapKey) (value : ℕ) (old : List WorkPa
         (can-raise roots root key value fresh old m bits has-room k v work pending-root full-root fits.low tree-root left-there right-there clocks.0 agrees.same)))
 
     pub raise-done : (new : List WorkPage) → IsRaised (get_or path 0 0) (get_or fresh (length path - 1) 0) (get_or fresh (length path - 1 + 1) 0) k v work new
-        → let g = planned_insert m bits fresh key value root in IsClimbed (take (length path - 1 + 2) fresh) m g.memory g.bits bits g.touched g.moves old new
+        → let g = planned_insert m bits fresh key value root in IsInsertClimbed (take (length path - 1 + 2) fresh) m g.memory g.bits bits g.touched g.moves old new
     raise-done new is =
         let s = subst (λ b. IsRaised root (first_fresh (insert_below m bits fresh key value (height_of m root) root).fresh) b k v work new) (sym right-is)
         (subst (λ a. IsRaised root a (get_or fresh (length path - 1 + 1) 0) k v work new) (sym left-is)
         (subst (λ q. IsRaised q (get_or fresh (length path - 1) 0) (get_or fresh (length path - 1 + 1) 0) k v work new) root-is is)) in
         let c = raise-climbed roots root key value fresh old m bits has-room k v work pending-root full-root fits.low tree-root left-there right-there clocks.0 agrees.same new s in
-        subst (λ h. let g = planned_insert m bits fresh key value root in IsClimbed (take (h + 2) fresh) m g.memory g.bits bits g.touched g.moves old new) (sym height-is) c
+        subst (λ h. let g = planned_insert m bits fresh key value root in IsInsertClimbed (take (h + 2) fresh) m g.memory g.bits bits g.touched g.moves old new) (sym height-is) c

@@ -13,7 +13,7 @@ use Rattle.ib_heap.specs.Heap.{read_heap}
 use Rattle.ib_page.specs.Form.{page_of}
 use Rattle.ib_page.specs.Page.{PageValue, HoldsTree, page_in}
 use Rattle.ib_page.specs.Page.PageValue.{Malformed, Free, Tree}
-use Rattle.ib_page.specs.Image.{records_of, with_records, with_links, with_level, with_clock}
+use Rattle.ib_page.specs.Image.{records_of, value_with_records, with_links, with_level, value_with_clock}
 use Rattle.ib_map.specs.declared.key.TheConstants.{LEAST}
 use Rattle.ib_map.proofs.KeyLaws.{rank-least, rank-lt_end}
 use Rattle.ib_map.proofs.PairLaws.{length-put, Rises-put}
@@ -96,19 +96,19 @@ value_at-drop key (suc n) (x ∷ xs) h = elim (cases_Bool (eqb (rank x.0) (rank 
 ]
 
 -- a page whose records were taken twice
-pub with_records-twice : (v : PageValue) (xs ys : Pairs) → with_records ys (with_records xs v) ≡ with_records ys v
+pub with_records-twice : (v : PageValue) (xs ys : Pairs) → value_with_records ys (value_with_records xs v) ≡ value_with_records ys v
 with_records-twice (Tree p) xs ys = refl
 with_records-twice (Free clock) xs ys = refl
 with_records-twice Malformed xs ys = refl
 
-pub records-with_records : (v : PageValue) (xs : Pairs) → HoldsTree v → (page_in (with_records xs v)).records ≡ xs
+pub records-with_records : (v : PageValue) (xs : Pairs) → HoldsTree v → (page_in (value_with_records xs v)).records ≡ xs
 records-with_records (Tree p) xs tree = refl
 records-with_records (Free clock) xs tree = absurd tree
 records-with_records Malformed xs tree = absurd tree
 
 -- a record is put in, and all records anew
 pub filled_with : (result : Result (Unit {0}) PageFault) (key : MapKey) (value : ℕ) (old mid new : List ℕ) → HoldsTree (page_of old)
-    → OnOk result (page_of mid ≡ with_records (put key value (records_of old)) (page_of old)) → read_heap new ≡ filled (length (records_of mid))
+    → OnOk result (page_of mid ≡ value_with_records (put key value (records_of old)) (page_of old)) → read_heap new ≡ filled (length (records_of mid))
     → OnOk result (read_heap new ≡ filled (length (records_of old) + 1))
 filled_with (Ok x) key value old mid new tree inserted heap = heap ∙ ap filled (ap length (ap (λ q. (page_in q).records) inserted ∙ records-with_records (page_of old) (put key value (records_of old)) tree) ∙ length-put key value (records_of old))
 filled_with (Err e) key value old mid new tree inserted heap = tt
@@ -122,12 +122,12 @@ put-done P (Err PageFull) key xs absent room duplicate full never p = absurd (le
 put-done P (Err Missing) key xs absent room duplicate full never p = absurd (never refl)
 
 -- a page with these records, into which a record was put
-pub put-twice : (key : MapKey) (value : ℕ) (v mid new : PageValue) (xs ys : Pairs) → HoldsTree v → mid ≡ with_records xs v
-    → new ≡ with_records (put key value (page_in mid).records) mid → ys ≡ put key value xs → new ≡ with_records ys v
+pub put-twice : (key : MapKey) (value : ℕ) (v mid new : PageValue) (xs ys : Pairs) → HoldsTree v → mid ≡ value_with_records xs v
+    → new ≡ value_with_records (put key value (page_in mid).records) mid → ys ≡ put key value xs → new ≡ value_with_records ys v
 put-twice key value v mid new xs ys tree is now same =
     let e : (page_in mid).records ≡ xs = ap (λ q. (page_in q).records) is ∙ records-with_records v xs tree in
-    now ∙ (ap (λ rs. with_records (put key value rs) mid) e ∙ (ap (λ q. with_records (put key value xs) q) is
-    ∙ (with_records-twice v xs (put key value xs) ∙ ap (λ rs. with_records rs v) (sym same))))
+    now ∙ (ap (λ rs. value_with_records (put key value rs) mid) e ∙ (ap (λ q. value_with_records (put key value xs) q) is
+    ∙ (with_records-twice v xs (put key value xs) ∙ ap (λ rs. value_with_records rs v) (sym same))))
 
 -- links, level and clock are not records
 pub records-with_links : (prev next : ℕ) (v : PageValue) → (page_in (with_links prev next v)).records ≡ (page_in v).records
@@ -140,7 +140,7 @@ records-with_level level (Tree p) = refl
 records-with_level level (Free clock) = refl
 records-with_level level Malformed = refl
 
-pub records-with_clock : (clock : ℕ) (v : PageValue) → (page_in (with_clock clock v)).records ≡ (page_in v).records
+pub records-with_clock : (clock : ℕ) (v : PageValue) → (page_in (value_with_clock clock v)).records ≡ (page_in v).records
 records-with_clock clock (Tree p) = refl
 records-with_clock clock (Free old) = refl
 records-with_clock clock Malformed = refl
@@ -167,7 +167,7 @@ module _ (key : MapKey) (value : ℕ) (xs : Pairs) (full : length xs ≡ MOST_RE
 
 -- the records of the right page of a root that is raised
 pub right_page-records : (key : MapKey) (value prev next : ℕ) (root low cut high halved linked : PageValue) → HoldsTree low → HoldsTree high
-    → cut ≡ with_records (page_in root).records low → halved ≡ with_records (right_part (put key value (page_in cut).records)) high → linked ≡ with_links prev next halved
+    → cut ≡ value_with_records (page_in root).records low → halved ≡ value_with_records (right_part (put key value (page_in cut).records)) high → linked ≡ with_links prev next halved
     → (page_in linked).records ≡ right_part (put key value (page_in root).records)
 right_page-records key value prev next root low cut high halved linked low_tree high_tree is_cut is_halved is_linked =
     let records : (page_in cut).records ≡ (page_in root).records = ap (λ v. (page_in v).records) is_cut ∙ records-with_records low (page_in root).records low_tree in

@@ -7,14 +7,14 @@ use Rattle.ib_page.specs.declared.space.TheConstants.{MAPPED_PAGES}
 use Rattle.ib_page.specs.Space.{is_taken, space_clock_of}
 use Rattle.ib_page.specs.Work.{WorkPage, changed_of}
 use Rattle.ib_walk.specs.Pages.{PageMemory}
-use Rattle.ib_walk.specs.Full.{free_from, chosen}
+use Rattle.ib_walk.specs.Full.{free_pages_from, chosen}
 use Rattle.ib_walk.proofs.ChoiceLaws.{cond-ne}
 use Rattle.ib_plans.specs.Marks.{with_bit}
 use Rattle.ib_plans.specs.Moves.{Move, HasMoved}
 use Rattle.ib_plans.specs.Insert.{AreFresh}
 use Rattle.ib_plans.specs.Agreement.{IsThere, state_or_free, reads_of, HasBits, IsPlanned, space_ticks, taken_bits, with_bits}
 use Rattle.ib_plans.proofs.EditLaws.{changed_of-same, changed_of-other, reads_of-changed}
-use Rattle.ib_split.specs.Inserts.{IsClimbed, MayTakePages, TakesPages}
+use Rattle.ib_split.specs.Inserts.{IsInsertClimbed, MayTakePages, TakesPages}
 use Rattle.ib_split.proofs.BitLaws.{SameBits, with_bits-same, AreFresh-same}
 
 -- the bits that a memory has are those of the space page
@@ -31,18 +31,18 @@ AreFresh-take (suc n) [] bits free = tt
 AreFresh-take (suc n) (x ∷ xs) bits free = (free.0, free.1, AreFresh-take n xs (with_bit x 1 bits) free.2)
 
 -- the pages that are chosen are pages of the space
-free_from-below : (bits : ℕ → ℕ) (start n k : ℕ) → AllByRecursion (λ q. q < start + n) (take k (free_from bits start n))
-free_from-below bits start n zero = tt
-free_from-below bits start zero (suc k) = tt
-free_from-below bits start (suc n) (suc k) = elim (cases_Bool (eqb (bits start) 0)) [
+free_pages_from-below : (bits : ℕ → ℕ) (start n k : ℕ) → AllByRecursion (λ q. q < start + n) (take k (free_pages_from bits start n))
+free_pages_from-below bits start n zero = tt
+free_pages_from-below bits start zero (suc k) = tt
+free_pages_from-below bits start (suc n) (suc k) = elim (cases_Bool (eqb (bits start) 0)) [
   | inl free ↦
       let e : start + 1 + n ≡ start + suc n = omega arith in
-      let more = subst (λ h. AllByRecursion (λ q. q < h) (take k (free_from bits (start + 1) n))) e (free_from-below bits (start + 1) n k) in
-      subst (λ b. AllByRecursion (λ q. q < start + suc n) (take (suc k) (cond b (start ∷ free_from bits (start + 1) n) (free_from bits (start + 1) n)))) (sym free) (omega arith, more)
+      let more = subst (λ h. AllByRecursion (λ q. q < h) (take k (free_pages_from bits (start + 1) n))) e (free_pages_from-below bits (start + 1) n k) in
+      subst (λ b. AllByRecursion (λ q. q < start + suc n) (take (suc k) (cond b (start ∷ free_pages_from bits (start + 1) n) (free_pages_from bits (start + 1) n)))) (sym free) (omega arith, more)
   | inr taken ↦
       let e : start + 1 + n ≡ start + suc n = omega arith in
-      let more = subst (λ h. AllByRecursion (λ q. q < h) (take (suc k) (free_from bits (start + 1) n))) e (free_from-below bits (start + 1) n (suc k)) in
-      subst (λ b. AllByRecursion (λ q. q < start + suc n) (take (suc k) (cond b (start ∷ free_from bits (start + 1) n) (free_from bits (start + 1) n)))) (sym taken) more
+      let more = subst (λ h. AllByRecursion (λ q. q < h) (take (suc k) (free_pages_from bits (start + 1) n))) e (free_pages_from-below bits (start + 1) n (suc k)) in
+      subst (λ b. AllByRecursion (λ q. q < start + suc n) (take (suc k) (cond b (start ∷ free_pages_from bits (start + 1) n) (free_pages_from bits (start + 1) n)))) (sym taken) more
 ]
 
 below-take : (pages n : ℕ) (xs : List ℕ) → AllByRecursion (λ q. q < pages) xs → AllByRecursion (λ q. q < pages) (take n xs)
@@ -52,7 +52,7 @@ below-take pages (suc n) (x ∷ xs) h = (h.0, below-take pages n xs h.1)
 
 pub chosen-below : (bits : ℕ → ℕ) (pages need used : ℕ) → AllByRecursion (λ q. q < pages) (take used (chosen bits pages need))
 chosen-below bits pages need used = let e : 0 + pages ≡ pages = omega arith in
-    below-take pages used (chosen bits pages need) (subst (λ h. AllByRecursion (λ q. q < h) (chosen bits pages need)) e (free_from-below bits 0 pages need))
+    below-take pages used (chosen bits pages need) (subst (λ h. AllByRecursion (λ q. q < h) (chosen bits pages need)) e (free_pages_from-below bits 0 pages need))
 
 -- pages that are taken leave the bit of a page beyond the space
 with_bits-beyond : (pages : ℕ) (xs : List ℕ) (bits : ℕ → ℕ) (n : ℕ) → AllByRecursion (λ q. q < pages) xs → pages ≤ n → with_bits xs 1 bits n ≡ bits n
@@ -67,7 +67,7 @@ some-if : (P : List ℕ → Type 0) (o : Option (List ℕ)) (image : List ℕ) �
 some-if P o image is holds = let Q : Option (List ℕ) → Type 0 = λ q. IfSome q P in subst Q (sym is) holds
 
 module _ (pages : ℕ) (few : pages ≤ MAPPED_PAGES) (used : List ℕ) (m planned : PageMemory) (bits after : ℕ → ℕ) (touched : ℕ → Bool) (moves : ℕ → Move) (old mid : List WorkPage)
-    (climbed : IsClimbed used m planned after bits touched moves old mid) (space : IfSome (changed_of 0 old) (HasBits pages bits)) (below : AllByRecursion (λ q. q < pages) used) where
+    (climbed : IsInsertClimbed used m planned after bits touched moves old mid) (space : IfSome (changed_of 0 old) (HasBits pages bits)) (below : AllByRecursion (λ q. q < pages) used) where
   -- no page was taken: page 0 is as it was
   module _ (none : length used ≡ 0) where
     off : touched 0 ≡ false
@@ -89,6 +89,10 @@ module _ (pages : ℕ) (few : pages ≤ MAPPED_PAGES) (used : List ℕ) (m plann
       ];
       same = climbed.same;
       moved = climbed.moved;
+      kept = λ n free. elim (cases_eq n 0) [
+        | inl e ↦ subst (λ q. changed_of q mid ≡ changed_of q old) (sym e) climbed.space
+        | inr ne ↦ climbed.kept n ne free
+      ];
       space = still (changed_of 0 mid) (changed_of 0 old) climbed.space space;
       clock = kept (changed_of 0 mid) (changed_of 0 old) climbed.space;
     }
@@ -163,6 +167,10 @@ module _ (pages : ℕ) (few : pages ≤ MAPPED_PAGES) (used : List ℕ) (m plann
         ];
         same = λ n ne there. ap state_or_free (other-now n ne) ∙ climbed.same n ne (subst IsSome (other-now n ne) there);
         moved = λ n ne. subst (λ (o : Option (List ℕ)). HasMoved (moves n) (changed_of n old) o) (sym (other-now n ne)) (climbed.moved n ne);
+        kept = λ n free. elim (cases_eq n 0) [
+          | inl e ↦ absurd (let on = ap touched e ∙ on-zero in cc)
+          | inr ne ↦ other-now n ne ∙ climbed.kept n ne free
+        ];
         space = some-if (HasBits pages after) (changed_of 0 new) takes.image image-now has-now;
         clock = some-if (λ was. IfSome (changed_of 0 new) (λ image. space_clock_of image ≡ space_clock_of was + space_ticks touched)) (changed_of 0 old) takes.was (sym climbed.space ∙ takes.before)
             (some-if (λ image. space_clock_of image ≡ space_clock_of takes.was + space_ticks touched) (changed_of 0 new) takes.image image-now

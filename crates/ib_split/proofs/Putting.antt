@@ -19,7 +19,7 @@ use Rattle.ib_plans.proofs.EditLaws.{set-reads, set-same, set-others, set-other,
 use Rattle.ib_plans.proofs.MoveLaws.{with_move-own, with_move-other}
 use Rattle.ib_plans.proofs.NeedLaws.{IsCounted-need}
 use Rattle.ib_plans.proofs.SettledLaws.{planned_insert-short}
-use Rattle.ib_split.specs.Inserts.{with_record, IsClimbed}
+use Rattle.ib_split.specs.Inserts.{with_record, IsInsertClimbed}
 use Rattle.ib_split.proofs.Pending.{IsPending, HasRoom, ticked-same, on-path, clean-here, kept-here, long-here, memory-other, now, length-here}
 
 module _ (roots root : ℕ) (key : MapKey) (value : ℕ) (fresh : List ℕ) (old : List WorkPage) (m : PageMemory) (bits : ℕ → ℕ) (x : HasRoom roots root key fresh m bits)
@@ -80,7 +80,7 @@ module _ (roots root : ℕ) (key : MapKey) (value : ℕ) (fresh : List ℕ) (old
         (subst (λ (o : Option (List ℕ)). HasMoved (p.moves n) (changed_of n old) o) (sym (set-others page (tick (with_record k v (memory_in work page))) work new sets n (λ e. ne (sym e)))) (p.moved n ns))
 
     -- so the work set has the pages of the plan
-    climbed : IsClimbed (take height fresh) m g.memory g.bits bits g.touched g.moves old new
+    climbed : IsInsertClimbed (take height fresh) m g.memory g.bits bits g.touched g.moves old new
     climbed = record {
       reads = set-reads page (tick (with_record k v (memory_in work page))) work new sets ∙ p.reads;
       there = there-after;
@@ -92,10 +92,14 @@ module _ (roots root : ℕ) (key : MapKey) (value : ℕ) (fresh : List ℕ) (old
         | inl e ↦ subst (λ q. HasMoved (g.moves q) (changed_of q old) (changed_of q new)) (sym e) moved-here
         | inr ne ↦ moved-other n ns ne
       ];
+      kept = λ n ns off. elim (cases_eq n page) [
+        | inl e ↦ absurd (let on = ap g.touched e ∙ touched-here in cc)
+        | inr ne ↦ set-others page (tick (with_record k v (memory_in work page))) work new sets n (λ e. ne (sym e)) ∙ p.kept n ns (sym (p.touched_is n ns ∙ cond-ne n page true (p.touched n) ne) ∙ off)
+      ];
       space = set-others page (tick (with_record k v (memory_in work page))) work new sets 0 some ∙ p.space;
       bits_are = p.bits_is;
       zero = p.zero_is ∙ ap (nat_lt 0) (let t = length-take height fresh in let f = p.few in omega arith);
     }
 
-    pub put-climbed : let g = planned_insert m bits fresh key value root in IsClimbed (take height fresh) m g.memory g.bits bits g.touched g.moves old new
-    put-climbed = subst (λ (g : Growth). IsClimbed (take height fresh) m g.memory g.bits bits g.touched g.moves old new) (sym whole) climbed
+    pub put-climbed : let g = planned_insert m bits fresh key value root in IsInsertClimbed (take height fresh) m g.memory g.bits bits g.touched g.moves old new
+    put-climbed = subst (λ (g : Growth). IsInsertClimbed (take height fresh) m g.memory g.bits bits g.touched g.moves old new) (sym whole) climbed

@@ -16,7 +16,7 @@ use Rattle.ib_walk.proofs.ChoiceLaws.{cond-eq, cond-ne}
 use Rattle.ib_walk.proofs.TreeLaws.{most_height-le}
 use Rattle.ib_plans.specs.Marks.{mark, with_bit, with_clock, ticked}
 use Rattle.ib_plans.specs.Moves.{Move, Puts, Fills, unmoved, with_move, HasMoved}
-use Rattle.ib_plans.specs.Split.{with_records, raise_page}
+use Rattle.ib_plans.specs.Split.{with_records, raise_page, raised_left, raised_right, raised_root}
 use Rattle.ib_plans.specs.Insert.{Growth, AreFresh, first_fresh, other_fresh, insert_below, planned_insert, raised}
 use Rattle.ib_plans.specs.Agreement.{IsThere, state_or_free, memory_in, tick, with_bits}
 use Rattle.ib_plans.proofs.ClockLaws.{ticked-touched}
@@ -29,7 +29,7 @@ use Rattle.ib_plans.proofs.NeedLaws.{IsCountedWhole, IsCountedWhole-need, full_r
 use Rattle.ib_plans.proofs.PageLaws.{mark-on, mark-own}
 use Rattle.ib_plans.proofs.PathLaws.{PathPage}
 use Rattle.ib_plans.proofs.PathListLaws.{pages_up, length-pages_up, path_of-pages}
-use Rattle.ib_split.specs.Inserts.{with_record, raised_left, raised_right, raised_root, CanRaise, IsRaised, IsClimbed}
+use Rattle.ib_split.specs.Inserts.{with_record, CanRaise, IsRaised, IsInsertClimbed}
 use Rattle.ib_split.proofs.Pending.{IsPending, HasRoom, ticked-same, below, on-path, clean-here, kept-here, long-here, memory-other, rest, now, absent-here, length-here}
 use Rattle.ib_split.proofs.Splitting.{first_fresh-drop, other_fresh-drop, with_bits-more, formed-kind}
 
@@ -344,12 +344,21 @@ module _ (roots root : ℕ) (key : MapKey) (value : ℕ) (fresh : List ℕ) (old
         ]
       ]
 
-      climbed : IsClimbed (take (height + 2) fresh) m pages_after (raised root g).bits bits touched_after moves_after old new
+      -- a page that is not touched is none of the three
+      kept-after : (n : ℕ) → n ≢ 0 → touched_after n ≡ false → changed_of n new ≡ changed_of n old
+      kept-after n ns off =
+          let nr : n ≢ root = (λ e. let on = ap touched_after e ∙ on-root in cc) in
+          let na : n ≢ a = (λ e. let on = ap touched_after e ∙ on-left in cc) in
+          let nb : n ≢ b = (λ e. let on = ap touched_after e ∙ on-right in cc) in
+          after-other n nr na nb ∙ p.kept n ns (sym (touched-other n ns nr na nb) ∙ off)
+
+      climbed : IsInsertClimbed (take (height + 2) fresh) m pages_after (raised root g).bits bits touched_after moves_after old new
       climbed = record {
         reads = set-reads b right-state is.two new is.at_right ∙ (set-reads a left-state is.one is.two is.at_left ∙ (set-reads root root-state work is.one is.at_root ∙ p.reads));
         there = there-after;
         same = same-after;
         moved = moved-after;
+        kept = kept-after;
         space = after-other 0 (λ e. path.some (sym e)) (λ e. a-some (sym e)) (λ e. b-some (sym e)) ∙ p.space;
         bits_are = λ n.
             let more : with_bits (take (height + 2) fresh) 1 bits n ≡ with_bits (take (suc (suc height)) fresh) 1 bits n =
@@ -364,5 +373,5 @@ module _ (roots root : ℕ) (key : MapKey) (value : ℕ) (fresh : List ℕ) (old
           bits-path : (c d : ℕ → ℕ) → ((i : ℕ) → c i ≡ d i) → c ≡ d
           bits-path c d h j i = h i j
 
-      pub raise-climbed : let G = planned_insert m bits fresh key value root in IsClimbed (take (height + 2) fresh) m G.memory G.bits bits G.touched G.moves old new
-      raise-climbed = subst (λ (G : Growth). IsClimbed (take (height + 2) fresh) m G.memory G.bits bits G.touched G.moves old new) (sym whole) climbed
+      pub raise-climbed : let G = planned_insert m bits fresh key value root in IsInsertClimbed (take (height + 2) fresh) m G.memory G.bits bits G.touched G.moves old new
+      raise-climbed = subst (λ (G : Growth). IsInsertClimbed (take (height + 2) fresh) m G.memory G.bits bits G.touched G.moves old new) (sym whole) climbed

@@ -15,11 +15,11 @@ use Rattle.ib_walk.specs.Pages.{PageState}
 use Rattle.ib_walk.specs.Words.{state_of}
 use Rattle.ib_plans.specs.declared.TheConstants.{LEFT_RECORDS}
 use Rattle.ib_plans.specs.Moves.{Move, Stays, Fills, unmoved, with_move, HasMoved}
-use Rattle.ib_plans.specs.Split.{with_prev, right_part, first_key}
+use Rattle.ib_plans.specs.Split.{with_prev, right_part, first_key, lower_half, upper_half}
 use Rattle.ib_plans.specs.Agreement.{IsThere, state_or_free, memory_in, reads_of, Sets, tick}
 use Rattle.ib_plans.proofs.EditLaws.{IsSome-and, changed_of-same, changed_of-other, state-records, set-reads, set-same, set-others, set-other, set-there, set-was}
 use Rattle.ib_plans.proofs.MoveLaws.{with_move-own, with_move-other, moved-still, then-still-was, filled-now}
-use Rattle.ib_split.specs.Inserts.{with_record, lower_half, upper_half, HasNeighbour, IsSplit}
+use Rattle.ib_split.specs.Inserts.{with_record, HasNeighbour, IsSplit}
 
 -- the leaf behind a page that is split is another one, and so as it was
 module _ (page fresh : ℕ) (old : List WorkPage) (left right : List ℕ) (next : ℕ) (is : next ≡ (memory_in old page).next) (some : next ≢ 0) (beside : HasNeighbour page fresh old) where

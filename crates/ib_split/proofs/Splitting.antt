@@ -19,7 +19,7 @@ use Rattle.ib_walk.proofs.ChoiceLaws.{cond-eq, cond-ne}
 use Rattle.ib_walk.proofs.SearchLaws.{above, above-zero}
 use Rattle.ib_plans.specs.Marks.{mark, with_bit, with_clock, ticked}
 use Rattle.ib_plans.specs.Moves.{Move, Puts, Fills, unmoved, with_move, HasMoved}
-use Rattle.ib_plans.specs.Split.{with_records, with_prev, right_part, first_key, next_or, split_page}
+use Rattle.ib_plans.specs.Split.{with_records, with_prev, right_part, first_key, next_or, split_page, lower_half, upper_half}
 use Rattle.ib_plans.specs.Insert.{Growth, first_fresh, other_fresh, insert_below, put_at, split}
 use Rattle.ib_plans.specs.Agreement.{IsThere, state_or_free, memory_in, tick, with_bits}
 use Rattle.ib_plans.proofs.ClockLaws.{ticked-touched}
@@ -32,7 +32,7 @@ use Rattle.ib_plans.proofs.NeedLaws.{IsCounted-need}
 use Rattle.ib_plans.proofs.PageLaws.{mark-off, mark-on, mark-own}
 use Rattle.ib_plans.proofs.PathLaws.{PathPage, PathPage-below, page_below-child}
 use Rattle.ib_plans.proofs.SplitPageLaws.{SplitPages, parent-not_child, parent-not_fresh, child-not_fresh, next-not_fresh, next-not_parent, child-after_split, fresh-after_split, next-after_split, split_page-other}
-use Rattle.ib_split.specs.Inserts.{with_record, lower_half, upper_half, HasNeighbour, CanSplit, IsSplit}
+use Rattle.ib_split.specs.Inserts.{with_record, HasNeighbour, CanSplit, IsSplit}
 use Rattle.ib_split.proofs.Pending.{IsPending, HasRoom, ticked-same, below, on-path, clean-here, kept-here, long-here, memory-other, rest, now, absent-here, length-here}
 use Rattle.ib_split.proofs.SplitEdits.{split-page, split-fresh, split-next, split-other, split-there, split-was, split-reads}
 

@@ -1,17 +1,17 @@
 -- What a planned insert asks of its work set, and what a split and a raise do to it.
-use Rattle.std.specs.Prelude.{◌≡◌, ◌≢◌, ℕ, suc, ◌+◌, ◌<◌, ◌≤◌, ◌^◌, ◌==◌, Bool, true, List, [], ◌∷◌, length, take, nat_lt, Some, None, IsSomeAnd, IfSome, slice_index, if◌then◌else◌}
+use Rattle.std.specs.Prelude.{◌≡◌, ◌≢◌, ℕ, ◌+◌, ◌<◌, ◌≤◌, ◌^◌, Bool, true, false, List, length, take, nat_lt, Some, None, IsSomeAnd, IfSome, slice_index}
 use Rattle.std.specs.List.{All}
-use Rattle.ib_map.specs.Keys.{MapKey, least}
+use Rattle.ib_map.specs.Keys.{MapKey}
 use Rattle.ib_map.specs.Pairs.{put, value_at}
 use Rattle.ib_heap.specs.declared.TheConstants.{MOST_LEVEL, MOST_RECORDS}
 use Rattle.ib_page.specs.declared.space.TheConstants.{MAPPED_PAGES}
 use Rattle.ib_page.specs.Image.{IsTreePage, IsFormed}
 use Rattle.ib_page.specs.Space.{space_clock_of}
 use Rattle.ib_page.specs.Work.{WorkPage, changed_of, with_changed}
-use Rattle.ib_walk.specs.Pages.{Tree, PageState, PageMemory}
+use Rattle.ib_walk.specs.Pages.{PageState, PageMemory}
 use Rattle.ib_walk.specs.Trees.{height_of, most_height}
 use Rattle.ib_walk.specs.Full.{need_of, is_root_full, free_of, chosen}
-use Rattle.ib_plans.specs.Split.{with_records, with_prev, left_part, right_part, first_key}
+use Rattle.ib_plans.specs.Split.{with_records, with_prev, right_part, first_key, lower_half, upper_half, raised_left, raised_right, raised_root}
 use Rattle.ib_plans.specs.Insert.{planned_insert, AreFresh}
 use Rattle.ib_plans.specs.Marks.{ticked}
 use Rattle.ib_plans.specs.Moves.{Move, Fills, unmoved, with_move, HasMoved}
@@ -24,7 +24,7 @@ pub record HasFresh (pages roots root : ℕ) (key : MapKey) (fresh : List ℕ) (
   pub low : is_root_full memory key root ≡ true → height_of memory root < most_height roots
 
 -- the images of the path, of the leaf behind the key's leaf where that is full, of the fresh pages, and of page 0 where there are any
-pub record HasImages (path fresh : List ℕ) (work : List WorkPage) : Type 0 where
+pub record HasInsertImages (path fresh : List ℕ) (work : List WorkPage) : Type 0 where
   pub path_there : HasTreePages path work
   pub fresh_there : All (IsThere work) fresh
   pub next_there : length (memory_in work (last_of path)).records ≡ MOST_RECORDS → (memory_in work (last_of path)).next ≢ 0 → IsThere work (memory_in work (last_of path)).next
@@ -39,7 +39,7 @@ pub record CanInsert (path fresh : List ℕ) (key : MapKey) (work : List WorkPag
   pub bits : ℕ → ℕ
   pub agrees : Agrees pages roots root key path work memory bits
   pub fits : HasFresh pages roots root key fresh memory bits
-  pub images : HasImages path fresh work
+  pub images : HasInsertImages path fresh work
   pub clocks : MayTick work
 
 -- the plan of the insert, for a memory whose pages these are
@@ -48,62 +48,10 @@ IsPlannedInsert fresh key value pages root memory bits old new =
     let g = planned_insert memory bits fresh key value root in IsPlanned pages memory g.memory g.bits g.touched g.moves old new
 
 -- .. for every such memory
-abbrev pub IsPlannedForAll : List ℕ → List ℕ → MapKey → ℕ → List WorkPage → List WorkPage → Type 0
-IsPlannedForAll path fresh key value old new = (pages roots root : ℕ) (memory : PageMemory) (bits : ℕ → ℕ)
+abbrev pub IsPlannedInsertForAll : List ℕ → List ℕ → MapKey → ℕ → List WorkPage → List WorkPage → Type 0
+IsPlannedInsertForAll path fresh key value old new = (pages roots root : ℕ) (memory : PageMemory) (bits : ℕ → ℕ)
     → Agrees pages roots root key path old memory bits → HasFresh pages roots root key fresh memory bits
     → IsPlannedInsert fresh key value pages root memory bits old new
-
--- a page with one record too many as two halves: what stays in it, and what goes to the fresh page
-abbrev pub lower_half : PageState → ℕ → PageState
-lower_half long fresh = record {
-  kind = long.kind;
-  level = long.level;
-  prev = long.prev;
-  next = if long.level == 0 then fresh else long.next;
-  clock = long.clock;
-  records = left_part long.records;
-}
-
-abbrev pub upper_half : PageState → ℕ → ℕ → PageState
-upper_half long page clock = record {
-  kind = Tree;
-  level = long.level;
-  prev = if long.level == 0 then page else 0;
-  next = if long.level == 0 then long.next else 0;
-  clock = clock;
-  records = right_part long.records;
-}
-
--- the two pages below a root with one record too many that is raised, and the root
-abbrev pub raised_left : PageState → ℕ → ℕ → PageState
-raised_left long right clock = record {
-  kind = Tree;
-  level = long.level;
-  prev = 0;
-  next = if long.level == 0 then right else 0;
-  clock = clock;
-  records = left_part long.records;
-}
-
-abbrev pub raised_right : PageState → ℕ → ℕ → PageState
-raised_right long left clock = record {
-  kind = Tree;
-  level = long.level;
-  prev = if long.level == 0 then left else 0;
-  next = 0;
-  clock = clock;
-  records = right_part long.records;
-}
-
-abbrev pub raised_root : PageState → ℕ → ℕ → PageState
-raised_root long left right = record {
-  kind = Tree;
-  level = suc long.level;
-  prev = 0;
-  next = 0;
-  clock = long.clock;
-  records = (least, left) ∷ (first_key (right_part long.records), right) ∷ [];
-}
 
 -- a page with one more record
 abbrev pub with_record : MapKey → ℕ → PageState → PageState
@@ -189,18 +137,19 @@ pub record TakesPages (taken : List ℕ) (old new : List WorkPage) : Type 0 wher
   pub clock : space_clock_of image ≡ space_clock_of was + 1
   pub behind : (i : ℕ) → 64 < i → slice_index image i ≡ slice_index was i
 
--- the tree's pages are those of the plan, and their records stand as it moves them, all but page 0, which is as it was; these fresh pages were used, and the plan has taken them
-pub record IsClimbed (used : List ℕ) (memory planned : PageMemory) (bits before : ℕ → ℕ) (touched : ℕ → Bool) (moves : ℕ → Move) (old new : List WorkPage) : Type 0 where
+-- the tree's pages are those of the plan, and their records stand as it moves them; page 0 and each page that is not touched is as it was; these fresh pages were used, and the plan has taken them
+pub record IsInsertClimbed (used : List ℕ) (memory planned : PageMemory) (bits before : ℕ → ℕ) (touched : ℕ → Bool) (moves : ℕ → Move) (old new : List WorkPage) : Type 0 where
   pub reads : reads_of new ≡ reads_of old
   pub there : (page : ℕ) → page ≢ 0 → touched page ≡ true → IsThere new page
   pub same : (page : ℕ) → page ≢ 0 → IsThere new page → memory_in new page ≡ ticked memory touched planned page
   pub moved : (page : ℕ) → page ≢ 0 → HasMoved (moves page) (changed_of page old) (changed_of page new)
+  pub kept : (page : ℕ) → page ≢ 0 → touched page ≡ false → changed_of page new ≡ changed_of page old
   pub space : changed_of 0 new ≡ changed_of 0 old
   pub bits_are : (page : ℕ) → bits page ≡ with_bits used 1 before page
   pub zero : touched 0 ≡ nat_lt 0 (length used)
 
 -- .. for every memory whose pages these were
-abbrev pub IsClimbedForAll : List ℕ → List ℕ → MapKey → ℕ → ℕ → List WorkPage → List WorkPage → Type 0
-IsClimbedForAll path fresh key value used old new = (pages roots root : ℕ) (memory : PageMemory) (bits : ℕ → ℕ)
+abbrev pub IsInsertClimbedForAll : List ℕ → List ℕ → MapKey → ℕ → ℕ → List WorkPage → List WorkPage → Type 0
+IsInsertClimbedForAll path fresh key value used old new = (pages roots root : ℕ) (memory : PageMemory) (bits : ℕ → ℕ)
     → Agrees pages roots root key path old memory bits → HasFresh pages roots root key fresh memory bits
-    → let g = planned_insert memory bits fresh key value root in IsClimbed (take used fresh) memory g.memory g.bits bits g.touched g.moves old new
+    → let g = planned_insert memory bits fresh key value root in IsInsertClimbed (take used fresh) memory g.memory g.bits bits g.touched g.moves old new

@@ -8,12 +8,12 @@ ghost use Rattle.ib_heap.specs.Filled.{filled};
 ghost use Rattle.ib_heap.specs.Heap.{read_heap};
 ghost use Rattle.ib_page.specs.Form.{page_of};
 ghost use Rattle.ib_page.specs.Page.PageValue.{Tree};
-ghost use Rattle.ib_page.specs.Image.{IsTreePage, level_of, prev_of, next_of, clock_of, records_of, with_records, with_links};
+ghost use Rattle.ib_page.specs.Image.{IsTreePage, level_of, prev_of, next_of, clock_of, records_of, value_with_records, with_links};
 ghost use Rattle.ib_walk.specs.Words.{state_of};
 ghost use Rattle.ib_plans.specs.declared.TheConstants.{LEFT_RECORDS};
-ghost use Rattle.ib_plans.specs.Split.{left_part, right_part, first_key};
+ghost use Rattle.ib_plans.specs.Split.{left_part, right_part, first_key, lower_half, upper_half, raised_left, raised_right, raised_root};
 ghost use Rattle.ib_plans.specs.Agreement.{tick};
-ghost use Rattle.ib_split.specs.Inserts.{lower_half, upper_half, raised_left, raised_right, raised_root, with_record};
+ghost use Rattle.ib_split.specs.Inserts.{with_record};
 
 use ib_map::{Key, LEAST};
 use ib_page::{Image, PageFault};
@@ -131,8 +131,8 @@ pub(crate) fn halve(left: &mut Image, right: &mut Image, key: Key, value: u64)
     requires full { length (records_of left.old) ≡ MOST_RECORDS }
     requires empty { records_of right.old ≡ [] }
     requires absent { value_at key (records_of left.old) ≡ None }
-    ensures left { page_of left.new ≡ with_records (left_part (put key value (records_of left.old))) (page_of left.old) }
-    ensures right { page_of right.new ≡ with_records (right_part (put key value (records_of left.old))) (page_of right.old) }
+    ensures left { page_of left.new ≡ value_with_records (left_part (put key value (records_of left.old))) (page_of left.old) }
+    ensures right { page_of right.new ≡ value_with_records (right_part (put key value (records_of left.old))) (page_of right.old) }
     ensures left_heap { read_heap left.new ≡ filled LEFT_RECORDS }
     ensures right_heap { read_heap right.new ≡ filled (MOST_RECORDS + 1 - LEFT_RECORDS) }
 {
@@ -148,7 +148,7 @@ pub(crate) fn halve(left: &mut Image, right: &mut Image, key: Key, value: u64)
 // Puts a record in, and all records anew: those of a page that was split stand one behind the other.
 fn insert_anew(image: &mut Image, key: Key, value: u64) -> Result<(), PageFault>
     requires { IsTreePage image.old }
-    ensures inserted { OnOk result (page_of image.new ≡ with_records (put key value (records_of image.old)) (page_of image.old)) }
+    ensures inserted { OnOk result (page_of image.new ≡ value_with_records (put key value (records_of image.old)) (page_of image.old)) }
     ensures duplicate { (result ≡ Err PageFault.Duplicate) ↔ IsSome (value_at key (records_of image.old)) }
     ensures full { (result ≡ Err PageFault.PageFull) ↔ (IsNone (value_at key (records_of image.old)) × (length (records_of image.old) ≡ MOST_RECORDS)) }
     ensures never_missing { result ≢ Err PageFault.Missing }

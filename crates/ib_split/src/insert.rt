@@ -4,7 +4,7 @@ ghost use Rattle.std.specs.Prelude.{◌≡◌, ◌↔◌, ◌<◌, ◌≤◌, le
 ghost use Rattle.ib_map.specs.Pairs.{value_at};
 ghost use Rattle.ib_plans.specs.declared.fault.TreeFault.{TreeFault};
 ghost use Rattle.ib_plans.specs.Agreement.{memory_in, reads_of, last_of, HasTreePages};
-ghost use Rattle.ib_split.specs.Inserts.{CanInsert, IsPlannedForAll, IsClimbedForAll};
+ghost use Rattle.ib_split.specs.Inserts.{CanInsert, IsPlannedInsertForAll, IsInsertClimbedForAll};
 
 use crate::edits::{put_record, raise, split, take_pages};
 use crate::need::is_full;
@@ -26,7 +26,7 @@ pub fn plan_insert(
     value: u64,
 ) -> Result<(), TreeFault>
     requires { CanInsert path.now fresh.now key work.old }
-    ensures planned { OnOk result (IsPlannedForAll path.now fresh.now key value work.old work.new) }
+    ensures planned { OnOk result (IsPlannedInsertForAll path.now fresh.now key value work.old work.new) }
     ensures reads { reads_of work.new ≡ reads_of work.old }
     ensures duplicate { IsErr result ↔ IsSome (value_at key (memory_in work.old (last_of path.now)).records) }
     ensures only_duplicate { IfErr result (λ fault. fault ≡ TreeFault.Duplicate) }
@@ -57,7 +57,7 @@ fn climb(work: &mut WorkSet, path: &[u32], fresh: &[u32], key: Key, value: u64) 
     requires can { CanInsert path.now fresh.now key work.old }
     requires some { 0 < length path.now }
     requires absent { value_at key (memory_in work.old (last_of path.now)).records ≡ None }
-    ensures climbed { IsClimbedForAll path.now fresh.now key value result work.old work.new }
+    ensures climbed { IsInsertClimbedForAll path.now fresh.now key value result work.old work.new }
     ensures used { result ≤ length fresh.now }
 {
     let mut key = key;

@@ -4,7 +4,7 @@ use Rattle.std.specs.Io.KnownBytes.{Keeps}
 use Rattle.ib_edge.proofs.Reading.{ReadsAll-known, ConsumesMore-known}
 use Rattle.ib_edge.proofs.Telling.{complete, done_lines, told_as}
 use Rattle.ib_edge.specs.Input.{ReadsAll}
-use Rattle.ib_edge.specs.Told.{Ending, IsComplete, IsMemory, IsMemoryWhere, OwesLines, Told}
+use Rattle.ib_edge.specs.Told.{Ending, IsComplete, IsOutOfMemory, IsOutOfMemoryWhere, OwesLines, Told}
 use Rattle.ib_edge.specs.declared.line_kind.LineKind.{LineKind}
 use Rattle.ib_edge.specs.declared.read.TheConstants.{INPUT_BYTES}
 use Rattle.ib_edge.specs.declared.status.Status.{Status}
@@ -17,14 +17,14 @@ use Rattle.ib_tool.specs.declared.form.Form.{Form}
 use Rattle.ib_tool.specs.declared.form.Form.TheVariants.{Run, Raw, Latch, Replay, Gen}
 
 -- where want of memory may come anywhere
-pub told_anywhere : (owes : Ending → Type 0) (written now : Option (List ℕ)) (status : Status) → Told owes IsMemory written now status → Told owes (IsMemoryWhere (Unit {0})) written now status
-told_anywhere owes written now status told = told_as owes owes IsMemory (IsMemoryWhere (Unit {0})) (λ e owed. owed) (λ s calm. (calm, tt)) written now status told
+pub told_anywhere : (owes : Ending → Type 0) (written now : Option (List ℕ)) (status : Status) → Told owes IsOutOfMemory written now status → Told owes (IsOutOfMemoryWhere (Unit {0})) written now status
+told_anywhere owes written now status told = told_as owes owes IsOutOfMemory (IsOutOfMemoryWhere (Unit {0})) (λ e owed. owed) (λ s calm. (calm, tt)) written now status told
 
 -- what is told of an input that was read
 pub told_input : (form : Form) (old new : Option (List ℕ)) (input : List ℕ) → ReadsAll old new INPUT_BYTES input → (written now : Option (List ℕ)) (status : Status)
-    → Told (AnswersInput form input) (IsMemoryWhere (MayLackInput form input)) written now status → Told (OwesInput form old new) (IsCutOff old new) written now status
+    → Told (AnswersInput form input) (IsOutOfMemoryWhere (MayLackInput form input)) written now status → Told (OwesInput form old new) (IsCutOff old new) written now status
 told_input form old new input reads written now status told =
-    told_as (AnswersInput form input) (OwesInput form old new) (IsMemoryWhere (MayLackInput form input)) (IsCutOff old new) (λ e owed. inr (input, reads, owed)) (λ s calm. inr calm.0) written now status told
+    told_as (AnswersInput form input) (OwesInput form old new) (IsOutOfMemoryWhere (MayLackInput form input)) (IsCutOff old new) (λ e owed. inr (input, reads, owed)) (λ s calm. inr calm.0) written now status told
 
 -- .. and of a form that reads
 pub told_reading : (form : Form) (old new : Option (List ℕ)) → reads form ≡ true → (written now : Option (List ℕ)) (status : Status)
@@ -37,9 +37,9 @@ told_reading (Gen load) old new is written now status told = absurd (cc)
 
 -- .. and of one that reads nothing
 pub told_alone : (form : Form) (old new : Option (List ℕ)) → reads form ≡ false → Keeps old new → (written now : Option (List ℕ)) (status : Status)
-    → Told (AnswersInput form []) (IsMemoryWhere (MayLackInput form [])) written now status → Told (IsOwedAt form old new) (IsSilentAt form old new) written now status
+    → Told (AnswersInput form []) (IsOutOfMemoryWhere (MayLackInput form [])) written now status → Told (IsOwedAt form old new) (IsSilentAt form old new) written now status
 told_alone (Gen load) old new is keeps written now status told =
-    told_as (AnswersInput (Gen load) []) (IsOwedAt (Gen load) old new) (IsMemoryWhere (MayLackInput (Gen load) [])) (IsSilentAt (Gen load) old new) (λ e owed. (keeps, owed)) (λ s calm. calm.0) written now status told
+    told_as (AnswersInput (Gen load) []) (IsOwedAt (Gen load) old new) (IsOutOfMemoryWhere (MayLackInput (Gen load) [])) (IsSilentAt (Gen load) old new) (λ e owed. (keeps, owed)) (λ s calm. calm.0) written now status told
 told_alone Run old new is keeps written now status told = absurd (cc)
 told_alone Raw old new is keeps written now status told = absurd (cc)
 told_alone Latch old new is keeps written now status told = absurd (cc)
@@ -114,7 +114,7 @@ no_fault Replay input e (inl owed) is = let told = ap (λ x. x.status) owed.3 in
 no_fault Replay input e (inr owed) is = let told = ap (λ x. x.status) owed.2 in absurd (cc)
 no_fault (Gen load) input e owed is = let told = owed.0 in absurd (cc)
 
-pub told-no_fault : (form : Form) (input : List ℕ) (written now : Option (List ℕ)) (status : Status) → Told (AnswersInput form input) (IsMemoryWhere (MayLackInput form input)) written now status → status ≡ ReadFault → ⊥
+pub told-no_fault : (form : Form) (input : List ℕ) (written now : Option (List ℕ)) (status : Status) → Told (AnswersInput form input) (IsOutOfMemoryWhere (MayLackInput form input)) written now status → status ≡ ReadFault → ⊥
 told-no_fault form input written now status (inl told) is = elim told.2 [
   | inl all ↦ no_fault form input told.0 told.1 (sym all.0 ∙ is)
   | inr cut ↦ let failed = cut.0 in absurd (cc)

@@ -2,7 +2,7 @@
 
 ghost use Rattle.std.specs.Prelude.{◌≡◌, ◌≢◌, ◌<◌, ◌≤◌, ◌^◌, IfOk, length, true};
 ghost use Rattle.ib_edge.specs.Faults.{Rose};
-ghost use Rattle.ib_edge.specs.Told.{IsMemory, IsMemoryWhere, Told};
+ghost use Rattle.ib_edge.specs.Told.{IsOutOfMemory, IsOutOfMemoryWhere, Told};
 ghost use Rattle.ib_replay.specs.Files.{file_of};
 ghost use Rattle.ib_runs.specs.Outcomes.{HasRan};
 ghost use Rattle.ib_script.specs.Loads.{is_load};
@@ -37,7 +37,7 @@ fn file_of(alloc: Global, pages: u32, words: &[u64]) -> Result<Vec<u8>, AllocErr
 // Writes the file of the log of a run of a script.
 fn write_file<K: Sink>(alloc: Global, script: &Script, ran: &Ran, sink: &mut K) -> Status
     requires { HasRan script.now.sizes script.now.commands ran.now }
-    ensures told { Told (λ e. (e.status ≡ Status.Done) × IsRawText script.now e.text) IsMemory (K.written sink.old) (K.written sink.new) result }
+    ensures told { Told (λ e. (e.status ≡ Status.Done) × IsRawText script.now e.text) IsOutOfMemory (K.written sink.old) (K.written sink.new) result }
     ensures calm { result ≢ Status.WriteFault → K.faults sink.new ≡ K.faults sink.old }
     ensures write { result ≡ Status.WriteFault → Rose (K.faults sink.old) (K.faults sink.new) }
 {
@@ -60,7 +60,7 @@ fn run<K: Sink, G: Gate + Sync, R: Threads + Wait + Sync>(
     gate: &G,
 ) -> Status
     requires { IsSmall script.now }
-    ensures told { Told (λ e. (e.status ≡ Status.Done) × IsWrittenRun shape script.now e.text) IsMemory (K.written sink.old) (K.written sink.new) result }
+    ensures told { Told (λ e. (e.status ≡ Status.Done) × IsWrittenRun shape script.now e.text) IsOutOfMemory (K.written sink.old) (K.written sink.new) result }
     ensures calm { result ≢ Status.WriteFault → K.faults sink.new ≡ K.faults sink.old }
     ensures write { result ≡ Status.WriteFault → Rose (K.faults sink.old) (K.faults sink.new) }
 {
@@ -83,7 +83,7 @@ fn answer_script<K: Sink, G: Gate + Sync, R: Threads + Wait + Sync>(
     gate: &G,
 ) -> Status
     requires { length input.now ≤ INPUT_BYTES }
-    ensures told { Told (AnswersScript shape input.now) (IsMemoryWhere (MayLackScript input.now)) (K.written sink.old) (K.written sink.new) result }
+    ensures told { Told (AnswersScript shape input.now) (IsOutOfMemoryWhere (MayLackScript input.now)) (K.written sink.old) (K.written sink.new) result }
     ensures calm { result ≢ Status.WriteFault → K.faults sink.new ≡ K.faults sink.old }
     ensures write { result ≡ Status.WriteFault → Rose (K.faults sink.old) (K.faults sink.new) }
 {
@@ -102,7 +102,7 @@ fn answer_load<K: Sink, G: Gate + Sync, R: Threads + Wait + Sync>(
     gate: &G,
 ) -> Status
     requires { is_load load.commands load.seed load.sessions ≡ true }
-    ensures told { Told (λ e. (e.status ≡ Status.Done) × IsCountText load e.text) IsMemory (K.written sink.old) (K.written sink.new) result }
+    ensures told { Told (λ e. (e.status ≡ Status.Done) × IsCountText load e.text) IsOutOfMemory (K.written sink.old) (K.written sink.new) result }
     ensures calm { result ≢ Status.WriteFault → K.faults sink.new ≡ K.faults sink.old }
     ensures write { result ≡ Status.WriteFault → Rose (K.faults sink.old) (K.faults sink.new) }
 {
@@ -126,7 +126,7 @@ pub fn answer<K: Sink, G: Gate + Sync, R: Threads + Wait + Sync>(
 ) -> Status
     requires few { length input.now ≤ INPUT_BYTES }
     requires lawful { IsLawfulForm form }
-    ensures told { Told (AnswersInput form input.now) (IsMemoryWhere (MayLackInput form input.now)) (K.written sink.old) (K.written sink.new) result }
+    ensures told { Told (AnswersInput form input.now) (IsOutOfMemoryWhere (MayLackInput form input.now)) (K.written sink.old) (K.written sink.new) result }
     ensures calm { result ≢ Status.WriteFault → K.faults sink.new ≡ K.faults sink.old }
     ensures write { result ≡ Status.WriteFault → Rose (K.faults sink.old) (K.faults sink.new) }
 {

@@ -6,23 +6,23 @@ use Rattle.std.proofs.lemmas.Bool.Decides.{nat_tests}
 use Rattle.ib_map.specs.Keys.{end_rank}
 use Rattle.ib_heap.specs.declared.TheConstants.{MOST_RECORDS}
 use Rattle.ib_walk.specs.Pages.{PageMemory}
-use Rattle.ib_walk.specs.Walk.{Visit, sum_of, is_page}
+use Rattle.ib_walk.specs.Walk.{Visit, sum_of, counts_page}
 use Rattle.ib_walk.specs.Trees.{height_of, top_of, weight_of, IsLawful}
 use Rattle.ib_patch.specs.Patch.{on_written, off_written, children_weight, top, IsGoodAt}
-use Rattle.ib_walk.specs.Walk.{is_visit}
+use Rattle.ib_walk.specs.Walk.{counts_visit}
 use Rattle.ib_patch.specs.PatchTest.{Position, Positions, visit_of, at_page, positions_over, set_at, position_of, same_position, is_none, attach, children_at, height_below, detach_pages, root_at, set_roots, visit_at, then_do, visit_level, visit_levels, are_back, back_at, all_back, list_over, visited, IsListed, IsKeptBeside}
 use Rattle.ib_walk.proofs.ChoiceLaws.{Some-same, cond-eq, cond-ne}
-use Rattle.ib_walk.proofs.MeetLaws.{is_page-own}
+use Rattle.ib_walk.proofs.MeetLaws.{counts_page-own}
 use Rattle.ib_walk.proofs.TreeLaws.{times_met-le, weight_of-le, weight_of-two_le}
 use Rattle.ib_patch.proofs.RestLaws.{detach_pages-each}
 use Rattle.ib_tree.proofs.DetachLaws.{in_tree, in_tree-own, in_tree-plus, sum_of-children_at}
-use Rattle.ib_tree.proofs.PatchLaws.{IsGoodAt-tree, is_visit-own, weight-off_other}
+use Rattle.ib_tree.proofs.PatchLaws.{IsGoodAt-tree, counts_visit-own, weight_along-off_other}
 use Rattle.ib_tree.proofs.PatchedLaws.{AreKept, most_height-lt, written-cases}
 use Rattle.ib_tree.proofs.PositionLaws.{Stands, Stands-counted, at_page-le, counted-Stands, is_none-None, list_over-plus, list_over-same, list_over-weights, positions_over-set_at}
 use Rattle.ib_tree.proofs.RootLaws.{set_roots-cases}
 use Rattle.ib_tree.proofs.SoundLaws.{positions_over-before_levels, weight_of-on_written, weight_of-split}
 use Rattle.ib_tree.proofs.VisitedLaws.{Moved, VisitedLevel, VisitedLevel-visit, VisitedPage-visit, exactly}
-use Rattle.ib_tree.proofs.WeightLaws.{children_weight-zero, off_written-children_weight, weight-le, weight-same, weight-split, weight-step, weight-zero}
+use Rattle.ib_tree.proofs.WeightLaws.{children_weight-zero, off_written-children_weight, weight_along-le, weight_along-same, weight_along-split, weight_along-step, weight_along-zero}
 
 -- a weight above a height
 abbrev pub higher : ℕ → (ℕ → Visit → ℕ) → ℕ → Visit → ℕ
@@ -42,10 +42,10 @@ module _ (written : ℕ → Bool) (m new : PageMemory) (same : (p : ℕ) → wri
       let a = positions_over-before_levels written m new same bits roots law n few old kept ps listed good f root s l in
       let b = weight_of-split written m new same bits roots law n few old kept ps listed good f root in
       let c = weight_of-on_written written m new same bits roots law n few old kept ps listed good (children_weight m f) root s l in
-      let d = weight-step f new (height_of new root) (top_of root) in
-      let e = weight-split written (children_weight new f) new (height_of new root) (top_of root) in
+      let d = weight_along-step f new (height_of new root) (top_of root) in
+      let e = weight_along-split written (children_weight new f) new (height_of new root) (top_of root) in
       let g = stay root s l (children_weight new f) in
-      let h = weight-same (off_written written (children_weight new f)) (off_written written (children_weight m f)) m (height_of m root) (top_of root) (off_written-children_weight written m new same f) in
+      let h = weight_along-same (off_written written (children_weight new f)) (off_written written (children_weight m f)) m (height_of m root) (top_of root) (off_written-children_weight written m new same f) in
       let i = kept.table root s l f in
       omega arith
 
@@ -54,20 +54,20 @@ module _ (written : ℕ → Bool) (m new : PageMemory) (same : (p : ℕ) → wri
     pub within : (p : ℕ) (e : Position) → now p ≡ Some e → p < n
 
   -- an unwritten page that the new trees meet stood there before
-  Stands-before : (root h : ℕ) (v : Visit) → 0 < root → root ≤ roots → written v.page ≡ false → 0 < weight_of (is_visit h v) new root → Stands root h v old n
+  Stands-before : (root h : ℕ) (v : Visit) → 0 < root → root ≤ roots → written v.page ≡ false → 0 < weight_of (counts_visit h v) new root → Stands root h v old n
   Stands-before root h v s l w pos =
-      let a = stay root s l (is_visit h v) in
-      let b = weight-off_other written new (height_of new root) (top_of root) h v w in
-      let c = weight-off_other written m (height_of m root) (top_of root) h v w in
-      let d = kept.table root s l (is_visit h v) in
+      let a = stay root s l (counts_visit h v) in
+      let b = weight_along-off_other written new (height_of new root) (top_of root) h v w in
+      let c = weight_along-off_other written m (height_of m root) (top_of root) h v w in
+      let d = kept.table root s l (counts_visit h v) in
       Stands-counted root h v old n (omega arith)
 
-  in-table : (now : Positions) (p : ℕ) (d : Position) → now p ≡ Some d → p < n → 1 ≤ positions_over (is_page p) d.tree now n
+  in-table : (now : Positions) (p : ℕ) (d : Position) → now p ≡ Some d → p < n → 1 ≤ positions_over (counts_page p) d.tree now n
   in-table now p d e lt =
-      let a = at_page-le (is_page p) d.tree now n p lt in
-      let b = ap (at_page (is_page p) d.tree p) e in
-      let c = cond-eq {X = ℕ} d.tree d.tree (is_page p d.height (visit_of p d)) 0 refl in
-      let g = is_page-own p d.height (visit_of p d) refl in omega arith
+      let a = at_page-le (counts_page p) d.tree now n p lt in
+      let b = ap (at_page (counts_page p) d.tree p) e in
+      let c = cond-eq {X = ℕ} d.tree d.tree (counts_page p d.height (visit_of p d)) 0 refl in
+      let g = counts_page-own p d.height (visit_of p d) refl in omega arith
 
   -- the children find their places
   pub attach-some : (tree h : ℕ) → 0 < tree → tree ≤ roots → (Rest : (ℕ → Visit → ℕ) → ℕ → ℕ) (ks : List Visit) (now : Positions) → Valid now
@@ -100,11 +100,11 @@ module _ (written : ℕ → Bool) (m new : PageMemory) (same : (p : ℕ) → wri
       both true b e f = f
       both false b e f = e
 
-      here : 1 ≤ weight_of (is_visit h k) new tree
-      here = let a = all (is_visit h k) tree s l in let b = in_tree-own tree (is_visit h k h k + sum_of (is_visit h k h) ks) in let c = is_visit-own h k in omega arith
+      here : 1 ≤ weight_of (counts_visit h k) new tree
+      here = let a = all (counts_visit h k) tree s l in let b = in_tree-own tree (counts_visit h k h k + sum_of (counts_visit h k h) ks) in let c = counts_visit-own h k in omega arith
 
-      page-two : 1 + positions_over (is_page k.page) tree now n ≤ weight_of (is_page k.page) new tree
-      page-two = let a = all (is_page k.page) tree s l in let b = in_tree-own tree (is_page k.page h k + sum_of (is_page k.page h) ks) in let c = is_page-own k.page h k refl in omega arith
+      page-two : 1 + positions_over (counts_page k.page) tree now n ≤ weight_of (counts_page k.page) new tree
+      page-two = let a = all (counts_page k.page) tree s l in let b = in_tree-own tree (counts_page k.page h k + sum_of (counts_page k.page h) ks) in let c = counts_page-own k.page h k refl in omega arith
 
       within : k.page < n
       within = written-cases written k.page (k.page < n) (λ w. few k.page w) (λ w. (Stands-before tree h k s l w (let a = here in omega arith)).within)
@@ -115,12 +115,12 @@ module _ (written : ℕ → Bool) (m new : PageMemory) (same : (p : ℕ) → wri
           let a = in-table now k.page d e within in
           let b = page-two in
           let c = times_met-le (λ q. MOST_RECORDS) new bits-after roots k.page new-law in
-          let x = weight_of-le (is_page k.page) new tree roots s l in
+          let x = weight_of-le (counts_page k.page) new tree roots s l in
           elim (cases_eq d.tree tree) [
-            | inl z ↦ let y = ap (λ q. positions_over (is_page k.page) q now n) z in omega arith
+            | inl z ↦ let y = ap (λ q. positions_over (counts_page k.page) q now n) z in omega arith
             | inr ne ↦
-                let y = weight_of-two_le (is_page k.page) new d.tree tree roots t.0 t.1 s l ne in
-                let w = all (is_page k.page) d.tree t.0 t.1 in omega arith
+                let y = weight_of-two_le (counts_page k.page) new d.tree tree roots t.0 t.1 s l ne in
+                let w = all (counts_page k.page) d.tree t.0 t.1 in omega arith
           ]
 
       free : is_none (now k.page) ≡ true
@@ -152,7 +152,7 @@ module _ (written : ℕ → Bool) (m new : PageMemory) (same : (p : ℕ) → wri
       let r : h ≡ e.height = sym s in
       let same-height : position_of e.tree h (visit_of p e) ≡ e = λ i. record { tree = e.tree; height = r i; low = e.low; high = e.high } in
       let a = counted-Stands e.tree h (visit_of p e) now n (record { within = v.within p e at; is = at ∙ ap Some (sym same-height) }) in
-      let b = le (is_visit h (visit_of p e)) e.tree t.0 t.1 in
+      let b = le (counts_visit h (visit_of p e)) e.tree t.0 t.1 in
       good-is h (visit_of p e) (IsGoodAt-tree new (height_of new e.tree) (top_of e.tree) (new-law.trees e.tree t.0 t.1).0.tree h (visit_of p e) (omega arith))
 
   -- a weight of these heights and above doesn't see what is met below
@@ -225,7 +225,7 @@ module _ (written : ℕ → Bool) (m new : PageMemory) (same : (p : ℕ) → wri
       let b = r.sum f root s l in
       let c = weight_of-children_listed h now r (λ k v. cond (leb h k) (children_weight new f k v) 0) (λ k v lt. under k v lt) root s l in
       let d = list_over-plus (λ k v. cond (leb h k) (children_weight new f k v) 0) (higher h (children_weight new f)) (exactly h (children_weight new f)) root ps now (λ k v. parts k (children_weight new f k v)) in
-      let e = weight-le (on_written written (λ k v. cond (leb h k) (children_weight new f k v) 0)) (on_written written (children_weight new f)) new (height_of new root) (top_of root) (λ k v. less k v) in
+      let e = weight_along-le (on_written written (λ k v. cond (leb h k) (children_weight new f k v) 0)) (on_written written (children_weight new f)) new (height_of new root) (top_of root) (λ k v. less k v) in
       omega arith
     where
       under : (k : ℕ) (v : Visit) → k < h → cond (leb h k) (children_weight new f k v) 0 ≡ 0
@@ -341,16 +341,16 @@ module _ (written : ℕ → Bool) (m new : PageMemory) (same : (p : ℕ) → wri
 
           root-in : (p : ℕ) → 0 < p → p ≤ roots → p < n
           root-in p s l =
-              let a = kept.table p s l (is_visit (m p).level (top p)) in
-              let b = weight-step (is_visit (m p).level (top p)) m (height_of m p) (top_of p) in
-              let c = is_visit-own (m p).level (top p) in
+              let a = kept.table p s l (counts_visit (m p).level (top p)) in
+              let b = weight_along-step (counts_visit (m p).level (top p)) m (height_of m p) (top_of p) in
+              let c = counts_visit-own (m p).level (top p) in
               (Stands-counted p (m p).level (top p) old n (omega arith)).within
 
       all : (f : ℕ → Visit → ℕ) → ((k : ℕ) (v : Visit) → k < 7 → f k v ≡ 0) → (root : ℕ) → 0 < root → root ≤ roots → positions_over f root at-roots n ≡ weight_of f new root
       all f none root s l =
           let a = whole f root s l in
           let b = (new-law.trees root s l).1 in let c = most_height-lt roots in
-          let z = weight-zero (on_written written (children_weight new f)) new (height_of new root) (top_of root) (λ k v le. on_written-high (children_weight new f) 8 (λ k v lt. children_weight-zero new f k 7 v (λ j u e. none j u (omega arith))) k v (omega arith)) in
+          let z = weight_along-zero (on_written written (children_weight new f)) new (height_of new root) (top_of root) (λ k v le. on_written-high (children_weight new f) 8 (λ k v lt. children_weight-zero new f k 7 v (λ j u e. none j u (omega arith))) k v (omega arith)) in
           omega arith
 
       none-high : (f : ℕ → Visit → ℕ) (root : ℕ) → 0 < root → root ≤ roots → list_over (higher 7 (children_weight new f)) root ps at-roots ≡ 0
@@ -359,7 +359,7 @@ module _ (written : ℕ → Bool) (m new : PageMemory) (same : (p : ℕ) → wri
           let a = all (on_written written (higher 7 (children_weight new f))) hi root s l in
           let b = listed.all (higher 7 (children_weight new f)) root at-roots in
           let c = (new-law.trees root s l).1 in let d = most_height-lt roots in
-          let z = weight-zero (on_written written (higher 7 (children_weight new f))) new (height_of new root) (top_of root) (λ k v le. on_written-high (higher 7 (children_weight new f)) 8 (λ k v lt. low' k (children_weight new f k v) lt) k v (omega arith)) in
+          let z = weight_along-zero (on_written written (higher 7 (children_weight new f))) new (height_of new root) (top_of root) (λ k v le. on_written-high (higher 7 (children_weight new f)) 8 (λ k v lt. low' k (children_weight new f k v) lt) k v (omega arith)) in
           omega arith
         where
           low : (k x : ℕ) → k < 7 → cond (ltb 7 k) x 0 ≡ 0
@@ -395,12 +395,12 @@ module _ (written : ℕ → Bool) (m new : PageMemory) (same : (p : ℕ) → wri
 
       there : written k.page ≡ false → (written k.page || not (is_none (after k.page))) ≡ true
       there w =
-          let a = le (is_visit h k) in
-          let b = is_visit-own h k in
-          let c = stay tree s l (is_visit h k) in
-          let d = weight-off_other written new (height_of new tree) (top_of tree) h k w in
-          let e = weight-off_other written m (height_of m tree) (top_of tree) h k w in
-          let f = r.all (is_visit h k) (λ j u lt. absurd (omega arith)) tree s l in
+          let a = le (counts_visit h k) in
+          let b = counts_visit-own h k in
+          let c = stay tree s l (counts_visit h k) in
+          let d = weight_along-off_other written new (height_of new tree) (top_of tree) h k w in
+          let e = weight_along-off_other written m (height_of m tree) (top_of tree) h k w in
+          let f = r.all (counts_visit h k) (λ j u lt. absurd (omega arith)) tree s l in
           right (written k.page) (after k.page) (position_of tree h k) (Stands-counted tree h k after n (omega arith)).is
 
   pub all_back-reached : (after : Positions) → Reached 0 after → all_back written m old ps after ≡ true

@@ -10,13 +10,13 @@ use Rattle.ib_map.proofs.RiseLaws.{Rises-le, Rises-higher, Rises-left, Rises-rig
 use Rattle.ib_page.specs.Page.{PageValue, HoldsTree}
 use Rattle.ib_page.specs.Page.PageValue.{Malformed as MalformedValue, Free as FreeValue, Tree as TreeValue}
 use Rattle.ib_walk.specs.Pages.{Tree, PageMemory}
-use Rattle.ib_walk.specs.Walk.{Visit, children_of, children, below, records_in, sum_of, weight, is_page, IsNodeAt, AreNodes, AreLinked, first_page}
+use Rattle.ib_walk.specs.Walk.{Visit, children_of, children, below, records_along, sum_of, weight_along, counts_page, IsNodeAt, AreNodes, AreLinked, first_page}
 use Rattle.ib_walk.specs.Trees.{top_of, height_of, leaves_of, content_of, weight_of, IsTreeOf}
 use Rattle.ib_walk.specs.Words.{memory_of, state_of}
 use Rattle.ib_walk.proofs.ChoiceLaws.{Some-same}
-use Rattle.ib_walk.proofs.MeetLaws.{AreLinked-right, is_page-own, lowest-le_weight}
+use Rattle.ib_walk.proofs.MeetLaws.{AreLinked-right, counts_page-own, lowest-le_weight}
 use Rattle.ib_walk.proofs.TreeLaws.{weight_of-le, Rises-content_of}
-use Rattle.ib_walk.proofs.WalkLaws.{records_in-append}
+use Rattle.ib_walk.proofs.WalkLaws.{records_along-append}
 use Rattle.ib_patch.specs.PatchTest.{Position, Positions, at_page, positions_over}
 use Rattle.ib_patch.proofs.ChildLaws.{drop-slice_get}
 use Rattle.ib_patch.proofs.PassLaws.{bits_in-past}
@@ -52,7 +52,7 @@ pub below-children : (m : PageMemory) (depth : ℕ) (vs : List Visit) → below 
 below-children m zero vs = refl
 below-children m (suc depth) vs = below-children m depth (children m vs)
 
-level-le_weight : (page : ℕ) (m : PageMemory) (depth height : ℕ) (vs : List Visit) → depth ≤ height → sum_of (is_page page 0) (below m depth vs) ≤ weight (is_page page) m height vs
+level-le_weight : (page : ℕ) (m : PageMemory) (depth height : ℕ) (vs : List Visit) → depth ≤ height → sum_of (counts_page page 0) (below m depth vs) ≤ weight_along (counts_page page) m height vs
 level-le_weight page m zero zero vs le = omega arith
 level-le_weight page m zero (suc height) vs le = omega arith
 level-le_weight page m (suc depth) zero vs le = absurd (omega arith)
@@ -118,7 +118,7 @@ pub record IsWalked (m : PageMemory) (root count page : ℕ) (map : Pairs) : Typ
   front : List Visit
   back : List Visit
   is : leaves_of m root ≡ front ++ back
-  holds : map ≡ records_in m front
+  holds : map ≡ records_along m front
   here : page ≡ first_page back 0
   counted : length front ≡ count
 
@@ -131,9 +131,9 @@ module _ (images : List (List ℕ)) (root : ℕ) (has : HasRoot images root) whe
     low : 0 < page
     high : page < length images
 
-  met-inside : (page : ℕ) → 0 < weight_of (is_page page) (memory_of images) root → IsInside page
+  met-inside : (page : ℕ) → 0 < weight_of (counts_page page) (memory_of images) root → IsInside page
   met-inside page lt =
-      let times = weight_of-le (is_page page) (memory_of images) root has.roots has.some has.within in
+      let times = weight_of-le (counts_page page) (memory_of images) root has.roots has.some has.within in
       let met = has.lawful.law.met page in
       let bit = has.lawful.law.bit page in
       record {
@@ -147,10 +147,10 @@ module _ (images : List (List ℕ)) (root : ℕ) (has : HasRoot images root) whe
         ];
       }
 
-  begins-counted : (vs : List Visit) (page : ℕ) → BeginsWith vs page → 0 < sum_of (is_page page 0) vs
+  begins-counted : (vs : List Visit) (page : ℕ) → BeginsWith vs page → 0 < sum_of (counts_page page 0) vs
   begins-counted vs page begins =
-      let own = is_page-own page 0 begins.visit begins.here in
-      let is = ap (sum_of (is_page page 0)) begins.is in omega arith
+      let own = counts_page-own page 0 begins.visit begins.here in
+      let is = ap (sum_of (counts_page page 0)) begins.is in omega arith
 
   pub first-root : IsFirstAt (memory_of images) root 0 root
   first-root = record { begins = record { visit = record { page = root; low = 0; high = end_rank }; rest = []; is = refl; here = refl } }
@@ -207,9 +207,9 @@ module _ (images : List (List ℕ)) (root : ℕ) (has : HasRoot images root) whe
   back-inside : (count page : ℕ) (map : Pairs) (walked : IsWalked (memory_of images) root count page map) → BeginsWith walked.back page → IsInside page
   back-inside count page map walked begins =
       let counted = begins-counted walked.back page begins in
-      let more = sum_of-behind (is_page page 0) walked.front walked.back in
-      let is = ap (sum_of (is_page page 0)) walked.is in
-      let weighs = lowest-le_weight (is_page page) (memory_of images) (height_of (memory_of images) root) (top_of root) in
+      let more = sum_of-behind (counts_page page 0) walked.front walked.back in
+      let is = ap (sum_of (counts_page page 0)) walked.is in
+      let weighs = lowest-le_weight (counts_page page) (memory_of images) (height_of (memory_of images) root) (top_of root) in
       met-inside page (omega arith)
 
   pub walked-high : (count page : ℕ) (map : Pairs) → IsWalked (memory_of images) root count page map → page ≢ 0 → page < length images
@@ -217,19 +217,19 @@ module _ (images : List (List ℕ)) (root : ℕ) (has : HasRoot images root) whe
 
   -- the content is the map, the records of the page, and those of the leaves behind it
   split-content : (count page : ℕ) (map : Pairs) (walked : IsWalked (memory_of images) root count page map) (begins : BeginsWith walked.back page)
-      → content_of (memory_of images) root ≡ (map ++ (memory_of images page).records) ++ records_in (memory_of images) begins.rest
+      → content_of (memory_of images) root ≡ (map ++ (memory_of images page).records) ++ records_along (memory_of images) begins.rest
   split-content count page map walked begins =
-      ap (records_in (memory_of images)) (walked.is ∙ ap (λ vs. walked.front ++ vs) begins.is)
-      ∙ (records_in-append (memory_of images) walked.front (begins.visit ∷ begins.rest)
-      ∙ (ap (λ xs. xs ++ ((memory_of images begins.visit.page).records ++ records_in (memory_of images) begins.rest)) (sym walked.holds)
-      ∙ (ap (λ p. map ++ ((memory_of images p).records ++ records_in (memory_of images) begins.rest)) begins.here
-      ∙ sym (append_assoc map (memory_of images page).records (records_in (memory_of images) begins.rest)))))
+      ap (records_along (memory_of images)) (walked.is ∙ ap (λ vs. walked.front ++ vs) begins.is)
+      ∙ (records_along-append (memory_of images) walked.front (begins.visit ∷ begins.rest)
+      ∙ (ap (λ xs. xs ++ ((memory_of images begins.visit.page).records ++ records_along (memory_of images) begins.rest)) (sym walked.holds)
+      ∙ (ap (λ p. map ++ ((memory_of images p).records ++ records_along (memory_of images) begins.rest)) begins.here
+      ∙ sym (append_assoc map (memory_of images page).records (records_along (memory_of images) begins.rest)))))
 
   pub walked-rises : (count page : ℕ) (map : Pairs) → IsWalked (memory_of images) root count page map → page ≢ 0 → Rises 0 (map ++ (memory_of images page).records) end_rank
   walked-rises count page map walked ne =
       let begins = first-visit walked.back page walked.here ne in
       let records = map ++ (memory_of images page).records in
-      let rest = records_in (memory_of images) begins.rest in
+      let rest = records_along (memory_of images) begins.rest in
       let all = subst (λ xs. Rises 0 xs end_rank) (split-content count page map walked begins) (Rises-content_of (memory_of images) root tree) in
       Rises-higher 0 records (first_rank rest end_rank) end_rank (Rises-le (first_rank rest end_rank) rest end_rank (Rises-right 0 records rest end_rank all)) (Rises-left 0 records rest end_rank all)
 
@@ -243,16 +243,16 @@ module _ (images : List (List ℕ)) (root : ℕ) (has : HasRoot images root) whe
         back = begins.rest;
         is = back ∙ sym (append_assoc walked.front (begins.visit ∷ []) begins.rest);
         holds = ap (λ xs. xs ++ (memory_of images page).records) walked.holds
-            ∙ (ap (λ p. records_in (memory_of images) walked.front ++ (memory_of images p).records) (sym begins.here)
-            ∙ (ap (λ xs. records_in (memory_of images) walked.front ++ xs) (sym (append-nil (memory_of images begins.visit.page).records))
-            ∙ sym (records_in-append (memory_of images) walked.front (begins.visit ∷ []))));
+            ∙ (ap (λ p. records_along (memory_of images) walked.front ++ (memory_of images p).records) (sym begins.here)
+            ∙ (ap (λ xs. records_along (memory_of images) walked.front ++ xs) (sym (append-nil (memory_of images begins.visit.page).records))
+            ∙ sym (records_along-append (memory_of images) walked.front (begins.visit ∷ []))));
         here = ap (λ p. (memory_of images p).next) (sym begins.here) ∙ links.1;
         counted = length-append walked.front (begins.visit ∷ []) ∙ ap (λ n. n + 1) walked.counted;
       }
 
   none-left : (count page : ℕ) (map : Pairs) (walked : IsWalked (memory_of images) root count page map) → walked.back ≡ [] → map ≡ content_of (memory_of images) root
   none-left count page map walked none =
-      walked.holds ∙ ap (records_in (memory_of images)) (sym (walked.is ∙ (ap (λ vs. walked.front ++ vs) none ∙ append-nil walked.front)))
+      walked.holds ∙ ap (records_along (memory_of images)) (sym (walked.is ∙ (ap (λ vs. walked.front ++ vs) none ∙ append-nil walked.front)))
 
   -- the map has the content where no page follows, and where as many leaves were met as there are pages
   pub walked-end : (count : ℕ) (map : Pairs) → IsWalked (memory_of images) root count 0 map → map ≡ content_of (memory_of images) root

@@ -5,10 +5,10 @@ use Rattle.std.proofs.lemmas.Bool.{cases_eq, and_parts}
 use Rattle.ib_walk.specs.Pages.{PageMemory}
 use Rattle.ib_walk.specs.Walk.{Visit, sum_of}
 use Rattle.ib_patch.specs.Patch.{children_weight}
-use Rattle.ib_walk.specs.Walk.{is_visit}
+use Rattle.ib_walk.specs.Walk.{counts_visit}
 use Rattle.ib_patch.specs.PatchTest.{Position, Positions, visit_of, at_page, positions_over, set_at, is_none, detach, children_at, height_below, detach_at, detach_pages, are_back, back_at, all_back, list_over}
 use Rattle.ib_walk.proofs.ChoiceLaws.{cond-eq, cond-ne}
-use Rattle.ib_tree.proofs.PatchLaws.{is_visit-own}
+use Rattle.ib_tree.proofs.PatchLaws.{counts_visit-own}
 use Rattle.ib_tree.proofs.PositionLaws.{Stands-counted, positions_over-set_at}
 
 -- in a tree alone
@@ -42,9 +42,9 @@ module _ (n tree h : ℕ) (remains : (ℕ → Visit → ℕ) → ℕ → ℕ) wh
       none true = refl
       none false = refl
   Detached-detach (k ∷ ks) now all =
-      let a = all (is_visit h k) tree in
-      let b = in_tree-own tree (is_visit h k h k + sum_of (is_visit h k h) ks) in
-      let c = is_visit-own h k in
+      let a = all (counts_visit h k) tree in
+      let b = in_tree-own tree (counts_visit h k h k + sum_of (counts_visit h k h) ks) in
+      let c = counts_visit-own h k in
       let s = Stands-counted tree h k now n (omega arith) in
       let step : (f : ℕ → Visit → ℕ) (root : ℕ) → positions_over f root (set_at now k.page None) n + in_tree tree root (f h k) ≡ positions_over f root now n = λ f root.
       (let x = positions_over-set_at f root now n k.page None s.within in let y = ap (at_page f root k.page) s.is in omega arith) in

@@ -7,23 +7,23 @@ use Rattle.ib_map.specs.Pairs.{Pairs, Rises}
 use Rattle.ib_map.proofs.KeyLaws.{rank-greatest}
 use Rattle.ib_map.proofs.RiseLaws.{first_rank-between}
 use Rattle.ib_walk.specs.Pages.{PageMemory}
-use Rattle.ib_walk.specs.Walk.{Visit, children_of, children, below, sum_of, weight, IsNodeAt, IsLeafAt, AreNodes, IsTree, AreLinked, first_page, IsTiled}
+use Rattle.ib_walk.specs.Walk.{Visit, children_of, children, below, sum_of, weight_along, IsNodeAt, IsLeafAt, AreNodes, IsTree, AreLinked, first_page, IsTiled}
 use Rattle.ib_patch.specs.Patch.{LevelVisit, over, off_written, IsGoodAt}
-use Rattle.ib_walk.specs.Walk.{is_visit}
+use Rattle.ib_walk.specs.Walk.{counts_visit}
 use Rattle.ib_walk.proofs.ChoiceLaws.{cond-eq, cond-ne}
 use Rattle.ib_walk.proofs.WalkLaws.{AllByRecursion-append}
-use Rattle.ib_tree.proofs.WeightLaws.{sum_of-zero, weight-same, weight-split, weight-zero}
+use Rattle.ib_tree.proofs.WeightLaws.{sum_of-zero, weight_along-same, weight_along-split, weight_along-zero}
 
-pub is_visit-own : (h : ℕ) (v : Visit) → is_visit h v h v ≡ 1
-is_visit-own h v =
+pub counts_visit-own : (h : ℕ) (v : Visit) → counts_visit h v h v ≡ 1
+counts_visit-own h v =
     let a = eq-eqb h h refl in let b = eq-eqb v.page v.page refl in let c = eq-eqb v.low v.low refl in let d = eq-eqb v.high v.high refl in
     rw (a, b, c, d) refl
 
 pub visit-same : (u v : Visit) → u.page ≡ v.page → u.low ≡ v.low → u.high ≡ v.high → u ≡ v
 visit-same u v a b c = λ i. record { page = a i; low = b i; high = c i }
 
-pub is_visit-same : (h : ℕ) (v : Visit) (k : ℕ) (u : Visit) → 0 < is_visit h v k u → (k ≡ h) × (u ≡ v)
-is_visit-same h v k u some =
+pub counts_visit-same : (h : ℕ) (v : Visit) (k : ℕ) (u : Visit) → 0 < counts_visit h v k u → (k ≡ h) × (u ≡ v)
+counts_visit-same h v k u some =
     elim (cases_eq k h) [
       | inr ne ↦ absurd (let z = cond-ne {X = ℕ} k h (cond (eqb u.page v.page) (cond (eqb u.low v.low) (cond (eqb u.high v.high) 1 0) 0) 0) 0 ne in omega arith)
       | inl e ↦ elim (cases_eq u.page v.page) [
@@ -44,62 +44,62 @@ is_visit-same h v k u some =
       ]
     ]
 
-pub is_visit-height : (h : ℕ) (v : Visit) (k : ℕ) (u : Visit) → k ≢ h → is_visit h v k u ≡ 0
-is_visit-height h v k u ne = cond-ne {X = ℕ} k h (cond (eqb u.page v.page) (cond (eqb u.low v.low) (cond (eqb u.high v.high) 1 0) 0) 0) 0 ne
+pub counts_visit-height : (h : ℕ) (v : Visit) (k : ℕ) (u : Visit) → k ≢ h → counts_visit h v k u ≡ 0
+counts_visit-height h v k u ne = cond-ne {X = ℕ} k h (cond (eqb u.page v.page) (cond (eqb u.low v.low) (cond (eqb u.high v.high) 1 0) 0) 0) 0 ne
 
-pub AllByRecursion-visits : (P : Visit → Type 0) (h : ℕ) (vs : List Visit) → ((v : Visit) → 0 < sum_of (is_visit h v h) vs → P v) → AllByRecursion P vs
+pub AllByRecursion-visits : (P : Visit → Type 0) (h : ℕ) (vs : List Visit) → ((v : Visit) → 0 < sum_of (counts_visit h v h) vs → P v) → AllByRecursion P vs
 AllByRecursion-visits P h [] f = tt
-AllByRecursion-visits P h (v ∷ vs) f = (f v (let e = is_visit-own h v in omega arith), AllByRecursion-visits P h vs (λ u l. f u (omega arith)))
+AllByRecursion-visits P h (v ∷ vs) f = (f v (let e = counts_visit-own h v in omega arith), AllByRecursion-visits P h vs (λ u l. f u (omega arith)))
 
-pub AllByRecursion-over : (P : LevelVisit → Type 0) (ss : List LevelVisit) → ((s : LevelVisit) → 0 < over (is_visit s.height s.visit) ss → P s) → AllByRecursion P ss
+pub AllByRecursion-over : (P : LevelVisit → Type 0) (ss : List LevelVisit) → ((s : LevelVisit) → 0 < over (counts_visit s.height s.visit) ss → P s) → AllByRecursion P ss
 AllByRecursion-over P [] f = tt
-AllByRecursion-over P (s ∷ ss) f = (f s (let e = is_visit-own s.height s.visit in omega arith), AllByRecursion-over P ss (λ u l. f u (omega arith)))
+AllByRecursion-over P (s ∷ ss) f = (f s (let e = counts_visit-own s.height s.visit in omega arith), AllByRecursion-over P ss (λ u l. f u (omega arith)))
 
-pub sum_of-holds : (P : ℕ → Visit → Type 0) (h : ℕ) (vs : List Visit) → AllByRecursion (P h) vs → (k : ℕ) (v : Visit) → 0 < sum_of (is_visit k v h) vs → P k v
+pub sum_of-holds : (P : ℕ → Visit → Type 0) (h : ℕ) (vs : List Visit) → AllByRecursion (P h) vs → (k : ℕ) (v : Visit) → 0 < sum_of (counts_visit k v h) vs → P k v
 sum_of-holds P h [] a k v some = absurd (omega arith)
 sum_of-holds P h (u ∷ vs) a k v some =
-    elim (cases_lt 0 (is_visit k v h u)) [
-      | inl pos ↦ let e = is_visit-same k v h u pos in subst (λ j. P j v) e.0 (subst (P h) e.1 a.0)
+    elim (cases_lt 0 (counts_visit k v h u)) [
+      | inl pos ↦ let e = counts_visit-same k v h u pos in subst (λ j. P j v) e.0 (subst (P h) e.1 a.0)
       | inr non ↦ sum_of-holds P h vs a.1 k v (omega arith)
     ]
 
-pub over-holds : (P : ℕ → Visit → Type 0) (ss : List LevelVisit) → AllByRecursion (λ s. P s.height s.visit) ss → (k : ℕ) (v : Visit) → 0 < over (is_visit k v) ss → P k v
+pub over-holds : (P : ℕ → Visit → Type 0) (ss : List LevelVisit) → AllByRecursion (λ s. P s.height s.visit) ss → (k : ℕ) (v : Visit) → 0 < over (counts_visit k v) ss → P k v
 over-holds P [] a k v some = absurd (omega arith)
 over-holds P (s ∷ ss) a k v some =
-    elim (cases_lt 0 (is_visit k v s.height s.visit)) [
-      | inl pos ↦ let e = is_visit-same k v s.height s.visit pos in subst (λ j. P j v) e.0 (subst (P s.height) e.1 a.0)
+    elim (cases_lt 0 (counts_visit k v s.height s.visit)) [
+      | inl pos ↦ let e = counts_visit-same k v s.height s.visit pos in subst (λ j. P j v) e.0 (subst (P s.height) e.1 a.0)
       | inr non ↦ over-holds P ss a.1 k v (omega arith)
     ]
 
 -- a walk all of whose visits are good is a tree's
-pub IsTree-good : (m : PageMemory) (h : ℕ) (vs : List Visit) → ((k : ℕ) (v : Visit) → 0 < weight (is_visit k v) m h vs → IsGoodAt m k v) → IsTree m h vs
+pub IsTree-good : (m : PageMemory) (h : ℕ) (vs : List Visit) → ((k : ℕ) (v : Visit) → 0 < weight_along (counts_visit k v) m h vs → IsGoodAt m k v) → IsTree m h vs
 IsTree-good m zero vs f = record { nodes = tt; leaves = AllByRecursion-visits (IsLeafAt m) 0 vs (f 0) }
 IsTree-good m (suc h) vs f =
     let r = IsTree-good m h (children m vs) (λ k v l. f k v (omega arith)) in
     record { nodes = (AllByRecursion-visits (IsNodeAt m (suc h)) (suc h) vs (λ v l. f (suc h) v (omega arith)), r.nodes); leaves = r.leaves }
 
-pub IsGoodAt-tree : (m : PageMemory) (h : ℕ) (vs : List Visit) → IsTree m h vs → (k : ℕ) (v : Visit) → 0 < weight (is_visit k v) m h vs → IsGoodAt m k v
+pub IsGoodAt-tree : (m : PageMemory) (h : ℕ) (vs : List Visit) → IsTree m h vs → (k : ℕ) (v : Visit) → 0 < weight_along (counts_visit k v) m h vs → IsGoodAt m k v
 IsGoodAt-tree m zero vs t k v some = sum_of-holds (IsGoodAt m) 0 vs t.leaves k v some
 IsGoodAt-tree m (suc h) vs t k v some =
-    elim (cases_lt 0 (sum_of (is_visit k v (suc h)) vs)) [
+    elim (cases_lt 0 (sum_of (counts_visit k v (suc h)) vs)) [
       | inl pos ↦ sum_of-holds (IsGoodAt m) (suc h) vs t.nodes.0 k v pos
       | inr non ↦ IsGoodAt-tree m h (children m vs) (record { nodes = t.nodes.1; leaves = t.leaves }) k v (omega arith)
     ]
 
 -- a visit counts on its page alone
-pub is_visit-other : (h : ℕ) (v : Visit) (k : ℕ) (u : Visit) → u.page ≢ v.page → is_visit h v k u ≡ 0
-is_visit-other h v k u ne =
-    elim (cases_lt 0 (is_visit h v k u)) [
-      | inl pos ↦ absurd (ne (ap (λ (w : Visit). w.page) (is_visit-same h v k u pos).1))
+pub counts_visit-other : (h : ℕ) (v : Visit) (k : ℕ) (u : Visit) → u.page ≢ v.page → counts_visit h v k u ≡ 0
+counts_visit-other h v k u ne =
+    elim (cases_lt 0 (counts_visit h v k u)) [
+      | inl pos ↦ absurd (ne (ap (λ (w : Visit). w.page) (counts_visit-same h v k u pos).1))
       | inr non ↦ omega arith
     ]
 
 module _ (written : ℕ → Bool) where
-  pub off_written-visit : (b : Bool) (h : ℕ) (v : Visit) (k : ℕ) (u : Visit) → written v.page ≡ b → off_written written (is_visit h v) k u ≡ cond b 0 (is_visit h v k u)
+  pub off_written-visit : (b : Bool) (h : ℕ) (v : Visit) (k : ℕ) (u : Visit) → written v.page ≡ b → off_written written (counts_visit h v) k u ≡ cond b 0 (counts_visit h v k u)
   off_written-visit b h v k u e =
       elim (cases_eq u.page v.page) [
         | inl same ↦ let x : written u.page ≡ b = ap written same ∙ e in rw x refl
-        | inr ne ↦ let z = is_visit-other h v k u ne in rw z (both (written u.page) b)
+        | inr ne ↦ let z = counts_visit-other h v k u ne in rw z (both (written u.page) b)
       ]
     where
       both : (c d : Bool) → cond {A = ℕ} c 0 0 ≡ cond d 0 0
@@ -108,43 +108,43 @@ module _ (written : ℕ → Bool) where
       both false true = refl
       both false false = refl
 
-  pub off_written-le : (f : ℕ → Visit → ℕ) (m : PageMemory) (h : ℕ) (vs : List Visit) → weight (off_written written f) m h vs ≤ weight f m h vs
-  off_written-le f m h vs = let e = weight-split written f m h vs in omega arith
+  pub off_written-le : (f : ℕ → Visit → ℕ) (m : PageMemory) (h : ℕ) (vs : List Visit) → weight_along (off_written written f) m h vs ≤ weight_along f m h vs
+  off_written-le f m h vs = let e = weight_along-split written f m h vs in omega arith
 
-  pub weight-off_written : (m : PageMemory) (h : ℕ) (vs : List Visit) (k : ℕ) (v : Visit) → written v.page ≡ true → weight (off_written written (is_visit k v)) m h vs ≡ 0
-  weight-off_written m h vs k v e = weight-zero (off_written written (is_visit k v)) m h vs (λ j u l. off_written-visit true k v j u e)
+  pub weight_along-off_written : (m : PageMemory) (h : ℕ) (vs : List Visit) (k : ℕ) (v : Visit) → written v.page ≡ true → weight_along (off_written written (counts_visit k v)) m h vs ≡ 0
+  weight_along-off_written m h vs k v e = weight_along-zero (off_written written (counts_visit k v)) m h vs (λ j u l. off_written-visit true k v j u e)
 
-  pub weight-off_other : (m : PageMemory) (h : ℕ) (vs : List Visit) (k : ℕ) (v : Visit) → written v.page ≡ false → weight (off_written written (is_visit k v)) m h vs ≡ weight (is_visit k v) m h vs
-  weight-off_other m h vs k v e = weight-same (off_written written (is_visit k v)) (is_visit k v) m h vs (λ j u. off_written-visit false k v j u e)
+  pub weight_along-off_other : (m : PageMemory) (h : ℕ) (vs : List Visit) (k : ℕ) (v : Visit) → written v.page ≡ false → weight_along (off_written written (counts_visit k v)) m h vs ≡ weight_along (counts_visit k v) m h vs
+  weight_along-off_other m h vs k v e = weight_along-same (off_written written (counts_visit k v)) (counts_visit k v) m h vs (λ j u. off_written-visit false k v j u e)
 
-  pub over-other : (ss : List LevelVisit) → AllByRecursion (λ s. written s.visit.page ≡ true) ss → (k : ℕ) (v : Visit) → written v.page ≡ false → over (is_visit k v) ss ≡ 0
+  pub over-other : (ss : List LevelVisit) → AllByRecursion (λ s. written s.visit.page ≡ true) ss → (k : ℕ) (v : Visit) → written v.page ≡ false → over (counts_visit k v) ss ≡ 0
   over-other ss mine k v e =
-      elim (cases_lt 0 (over (is_visit k v) ss)) [
+      elim (cases_lt 0 (over (counts_visit k v) ss)) [
         | inl pos ↦ let t = over-holds (λ j u. written u.page ≡ true) ss mine k v pos in absurd (let x = sym e ∙ t in cc)
         | inr non ↦ omega arith
       ]
 
 -- the lowest level
-pub weight-lowest : (f : ℕ → Visit → ℕ) (m : PageMemory) (h : ℕ) (vs : List Visit) → ((k : ℕ) (v : Visit) → f (suc k) v ≡ 0) → weight f m h vs ≡ sum_of (f 0) (below m h vs)
-weight-lowest f m zero vs none = refl
-weight-lowest f m (suc h) vs none = let a = sum_of-zero (f (suc h)) vs (none h) in let r = weight-lowest f m h (children m vs) none in omega arith
+pub weight_along-lowest : (f : ℕ → Visit → ℕ) (m : PageMemory) (h : ℕ) (vs : List Visit) → ((k : ℕ) (v : Visit) → f (suc k) v ≡ 0) → weight_along f m h vs ≡ sum_of (f 0) (below m h vs)
+weight_along-lowest f m zero vs none = refl
+weight_along-lowest f m (suc h) vs none = let a = sum_of-zero (f (suc h)) vs (none h) in let r = weight_along-lowest f m h (children m vs) none in omega arith
 
 abbrev pub IsAmong : Visit → List Visit → Type 0
 IsAmong v [] = ⊥
 IsAmong v (x ∷ xs) = (x ≡ v) ⊎ IsAmong v xs
 
-pub IsAmong-counted : (v : Visit) (vs : List Visit) → 0 < sum_of (is_visit 0 v 0) vs → IsAmong v vs
+pub IsAmong-counted : (v : Visit) (vs : List Visit) → 0 < sum_of (counts_visit 0 v 0) vs → IsAmong v vs
 IsAmong-counted v [] some = absurd (omega arith)
 IsAmong-counted v (x ∷ xs) some =
-    elim (cases_lt 0 (is_visit 0 v 0 x)) [
-      | inl pos ↦ inl (is_visit-same 0 v 0 x pos).1
+    elim (cases_lt 0 (counts_visit 0 v 0 x)) [
+      | inl pos ↦ inl (counts_visit-same 0 v 0 x pos).1
       | inr non ↦ inr (IsAmong-counted v xs (omega arith))
     ]
 
-pub counted-IsAmong : (v : Visit) (vs : List Visit) → IsAmong v vs → 0 < sum_of (is_visit 0 v 0) vs
+pub counted-IsAmong : (v : Visit) (vs : List Visit) → IsAmong v vs → 0 < sum_of (counts_visit 0 v 0) vs
 counted-IsAmong v [] h = absurd h
 counted-IsAmong v (x ∷ xs) h = elim h [
-  | inl e ↦ let a = subst (λ u. is_visit 0 u 0 x ≡ 1) e (is_visit-own 0 x) in omega arith
+  | inl e ↦ let a = subst (λ u. counts_visit 0 u 0 x ≡ 1) e (counts_visit-own 0 x) in omega arith
   | inr r ↦ let a = counted-IsAmong v xs r in omega arith
 ]
 

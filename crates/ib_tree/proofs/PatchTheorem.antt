@@ -4,10 +4,10 @@ use Rattle.std.proofs.Common.{◌≡◌, ℕ, zero, suc, ◌+◌, ◌<◌, ◌�
 use Rattle.std.proofs.lemmas.Bool.{cases_lt, cases_eq}
 use Rattle.ib_map.specs.Keys.{end_rank}
 use Rattle.ib_walk.specs.Pages.{PageMemory}
-use Rattle.ib_walk.specs.Walk.{Visit, is_page, IsTiled}
+use Rattle.ib_walk.specs.Walk.{Visit, counts_page, IsTiled}
 use Rattle.ib_walk.specs.Trees.{leaves_of, weight_of, times_met, IsLawful}
 use Rattle.ib_patch.specs.Patch.{LevelVisit, over, on_written, off_written, IsGoodAt, IsLeafIn, IsLinkedAt, IsGrounded, IsPatched, times_in}
-use Rattle.ib_walk.specs.Walk.{is_visit}
+use Rattle.ib_walk.specs.Walk.{counts_visit}
 use Rattle.ib_patch.specs.PatchTest.{Position, Positions, visit_of, at_page, positions_over, position_of, is_none, detach_pages, root_at, set_roots, fresh_of, visited, IsListed, IsKeptBeside, IsLinkedBy, PassesTest}
 use Rattle.ib_walk.proofs.ChoiceLaws.{Some-same, cond-eq, cond-ne}
 use Rattle.ib_tree.proofs.CompleteLaws.{Reached, all_back-reached, visited-some}
@@ -64,23 +64,23 @@ IsTiled-prev low (x ∷ xs) high t v h ne = elim h [
 ]
 
 -- how often a written page is met is whether it has a position
-pub positions_over-page : (written : ℕ → Bool) (root : ℕ) (t : Positions) (n p : ℕ) → written p ≡ true → (p < n → positions_over (on_written written (is_page p)) root t n ≡ at_page (is_page p) root p (t p))
-    × (n ≤ p → positions_over (on_written written (is_page p)) root t n ≡ 0)
+pub positions_over-page : (written : ℕ → Bool) (root : ℕ) (t : Positions) (n p : ℕ) → written p ≡ true → (p < n → positions_over (on_written written (counts_page p)) root t n ≡ at_page (counts_page p) root p (t p))
+    × (n ≤ p → positions_over (on_written written (counts_page p)) root t n ≡ 0)
 positions_over-page written root t zero p w = ((λ l. absurd (omega arith)), (λ l. refl))
 positions_over-page written root t (suc n) p w =
     let r = positions_over-page written root t n p w in (
       (λ l. elim (cases_eq n p) [
-        | inl e ↦ let a = r.1 (omega arith) in let b = subst (λ q. at_page (on_written written (is_page p)) root q (t q) ≡ at_page (is_page p) root p (t p)) (sym e) (same (t p)) in omega arith
+        | inl e ↦ let a = r.1 (omega arith) in let b = subst (λ q. at_page (on_written written (counts_page p)) root q (t q) ≡ at_page (counts_page p) root p (t p)) (sym e) (same (t p)) in omega arith
         | inr ne ↦ let a = r.0 (omega (arith, ne)) in let b = other (t n) ne in omega arith
       ]),
       (λ l. let a = r.1 (omega arith) in let b = other (t n) (λ e. omega arith) in omega arith),
     )
   where
-    same : (o : Option Position) → at_page (on_written written (is_page p)) root p o ≡ at_page (is_page p) root p o
+    same : (o : Option Position) → at_page (on_written written (counts_page p)) root p o ≡ at_page (counts_page p) root p o
     same None = refl
     same (Some d) = rw w refl
 
-    other : (o : Option Position) → n ≢ p → at_page (on_written written (is_page p)) root n o ≡ 0
+    other : (o : Option Position) → n ≢ p → at_page (on_written written (counts_page p)) root n o ≡ 0
     other None ne = refl
     other (Some d) ne = let z : cond {A = ℕ} (eqb n p) 1 0 ≡ 0 = cond-ne {X = ℕ} n p 1 0 ne in
         elim (eqb d.tree root) as (λ c. cond {A = ℕ} c (cond {A = ℕ} (written n) (cond {A = ℕ} (eqb n p) 1 0) 0) 0 ≡ 0) [
@@ -89,16 +89,16 @@ positions_over-page written root t (suc n) p w =
         ]
 
 -- .. over all roots
-pub times_in-position : (fresh : ℕ → List LevelVisit) (roots p : ℕ) (o : Option Position) → ((r : ℕ) → 0 < r → r ≤ roots → over (is_page p) (fresh r) ≡ at_page (is_page p) r p o)
+pub times_in-position : (fresh : ℕ → List LevelVisit) (roots p : ℕ) (o : Option Position) → ((r : ℕ) → 0 < r → r ≤ roots → over (counts_page p) (fresh r) ≡ at_page (counts_page p) r p o)
     → ((e : Position) → o ≡ Some e → (0 < e.tree) × (e.tree ≤ roots)) → times_in fresh roots p ≡ cond (is_none o) 0 1
 times_in-position fresh roots p None h v = none roots (λ r s l. h r s l)
   where
-    none : (k : ℕ) → ((r : ℕ) → 0 < r → r ≤ k → over (is_page p) (fresh r) ≡ 0) → times_in fresh k p ≡ 0
+    none : (k : ℕ) → ((r : ℕ) → 0 < r → r ≤ k → over (counts_page p) (fresh r) ≡ 0) → times_in fresh k p ≡ 0
     none zero h = refl
     none (suc k) h = let a = h (suc k) (omega arith) (omega arith) in let b = none k (λ r s l. h r s (omega arith)) in omega arith
 times_in-position fresh roots p (Some d) h v = let t = v d refl in (up_to roots (λ r s l. h r s l)).0 t.1
   where
-    up_to : (k : ℕ) → ((r : ℕ) → 0 < r → r ≤ k → over (is_page p) (fresh r) ≡ at_page (is_page p) r p (Some d))
+    up_to : (k : ℕ) → ((r : ℕ) → 0 < r → r ≤ k → over (counts_page p) (fresh r) ≡ at_page (counts_page p) r p (Some d))
         → (d.tree ≤ k → times_in fresh k p ≡ 1) × (k < d.tree → times_in fresh k p ≡ 0)
     up_to zero h = ((λ l. absurd (let t = (v d refl).0 in omega arith)), (λ l. refl))
     up_to (suc k) h =
@@ -106,8 +106,8 @@ times_in-position fresh roots p (Some d) h v = let t = v d refl in (up_to roots 
         let a = h (suc k) (omega arith) (omega arith) in
         let one : cond {A = ℕ} (eqb p p) 1 0 ≡ 1 = cond-eq {X = ℕ} p p 1 0 refl in
         elim (cases_eq d.tree (suc k)) [
-          | inl e ↦ let b = cond-eq {X = ℕ} d.tree (suc k) (is_page p d.height (visit_of p d)) 0 e in let c = r.1 (omega arith) in ((λ l. omega arith), (λ l. absurd (omega arith)))
-          | inr ne ↦ let b = cond-ne {X = ℕ} d.tree (suc k) (is_page p d.height (visit_of p d)) 0 ne in
+          | inl e ↦ let b = cond-eq {X = ℕ} d.tree (suc k) (counts_page p d.height (visit_of p d)) 0 e in let c = r.1 (omega arith) in ((λ l. omega arith), (λ l. absurd (omega arith)))
+          | inr ne ↦ let b = cond-ne {X = ℕ} d.tree (suc k) (counts_page p d.height (visit_of p d)) 0 ne in
               ((λ l. let c = r.0 (omega (arith, ne)) in omega arith), (λ l. let c = r.1 (omega arith) in omega arith))
         ]
 
@@ -168,7 +168,7 @@ module _ (written : ℕ → Bool) (m new : PageMemory) (same : (p : ℕ) → wri
         let g = kept.table r s l (off_written written f) in
         omega arith
 
-    leaf-in : (r : ℕ) → 0 < r → r ≤ roots → (v : Visit) → 0 < weight_of (is_visit 0 v) new r → IsAmong v (leaves_of new r)
+    leaf-in : (r : ℕ) → 0 < r → r ≤ roots → (v : Visit) → 0 < weight_of (counts_visit 0 v) new r → IsAmong v (leaves_of new r)
     leaf-in r s l v pos = let a = weight_of-leaf v new r in IsAmong-counted v (leaves_of new r) (omega arith)
 
     linked-at : (r : ℕ) → 0 < r → r ≤ roots → (p : ℕ) → written p ≡ true → p < n → (e : Position) → table p ≡ Some e → e.tree ≡ r → e.height ≡ 0
@@ -177,9 +177,9 @@ module _ (written : ℕ → Bool) (m new : PageMemory) (same : (p : ℕ) → wri
         let k = t.linked p w e at z in
         let tree = IsTree-after written m new same r (law.trees r s l).0 (low-m r s l) (fresh_of ps table r) (IsGrounded-passes r s l) (levels r s l) in
         let ti = IsTiled-leaves_of new r tree in let ro = HasWidth-leaves_of new r tree in
-        let there : (w : Visit) → IsLeafIn written m r (fresh_of ps table r) w → IsAmong w (leaves_of new r) = λ w h. leaf-in r s l w (let a = weight_of-passes r s l (is_visit 0 w) in omega arith) in
+        let there : (w : Visit) → IsLeafIn written m r (fresh_of ps table r) w → IsAmong w (leaves_of new r) = λ w h. leaf-in r s l w (let a = weight_of-passes r s l (counts_visit 0 w) in omega arith) in
         let stand : (q : ℕ) (d : Position) → table q ≡ Some d → d.tree ≡ r → d.height ≡ 0 → IsAmong (visit_of q d) (leaves_of new r) = λ q d at' tr' z'. leaf-in r s l (visit_of q d)
-        (let a = weight_of-table r s l (is_visit 0 (visit_of q d)) in
+        (let a = weight_of-table r s l (counts_visit 0 (visit_of q d)) in
         let b = counted-Stands r 0 (visit_of q d) table n (record { within = in-n q d at'; is = at' ∙ ap Some (position-eta d r 0 tr' z') }) in omega arith) in
         record {
           first = k.first;
@@ -218,7 +218,7 @@ module _ (written : ℕ → Bool) (m new : PageMemory) (same : (p : ℕ) → wri
       );
       sound = t.sound;
       taken = λ p w. t.taken p w ∙ ap (λ k. k + cond (eqb p 0) 1 0) (sym (times_in-position (fresh_of ps table) roots p (table p) (λ r s l.
-          let a = over-fresh_of (is_page p) r ps table in let b = listed.all (is_page p) r table in let c = (positions_over-page written r table n p w).0 (few p w) in omega arith)
+          let a = over-fresh_of (counts_page p) r ps table in let b = listed.all (counts_page p) r table in let c = (positions_over-page written r table n p w).0 (few p w) in omega arith)
           (λ e at. trees-passes p e at)));
       once = t.once;
       few = t.few;
@@ -244,17 +244,17 @@ module _ (written : ℕ → Bool) (m new : PageMemory) (same : (p : ℕ) → wri
     met-is : (p : ℕ) → written p ≡ true → times_met new roots p ≡ cond (is_none (run.0 p)) 0 1
     met-is p w =
         sums roots (omega arith) ∙ times_in-position (λ r. fresh_of ps run.0 r) roots p (run.0 p) (λ r s l.
-        let a = over-fresh_of (is_page p) r ps run.0 in let b = listed.all (is_page p) r run.0 in let c = (positions_over-page written r run.0 n p w).0 (few p w) in omega arith)
+        let a = over-fresh_of (counts_page p) r ps run.0 in let b = listed.all (counts_page p) r run.0 in let c = (positions_over-page written r run.0 n p w).0 (few p w) in omega arith)
         (λ e at. run.2.valid.trees p e at)
       where
-        alone : (r k : ℕ) (q : Positions) → positions_over (is_page p) r q k ≡ positions_over (on_written written (is_page p)) r q k + positions_over (off_written written (is_page p)) r q k
-        alone r k q = positions_over-split written (is_page p) r q k
+        alone : (r k : ℕ) (q : Positions) → positions_over (counts_page p) r q k ≡ positions_over (on_written written (counts_page p)) r q k + positions_over (off_written written (counts_page p)) r q k
+        alone r k q = positions_over-split written (counts_page p) r q k
 
-        off_written-none : (r k : ℕ) (q : Positions) → positions_over (off_written written (is_page p)) r q k ≡ 0
+        off_written-none : (r k : ℕ) (q : Positions) → positions_over (off_written written (counts_page p)) r q k ≡ 0
         off_written-none r zero q = refl
         off_written-none r (suc k) q = let a = off_written-none r k q in let b = one k (q k) in omega arith
           where
-            one : (k : ℕ) (o : Option Position) → at_page (off_written written (is_page p)) r k o ≡ 0
+            one : (k : ℕ) (o : Option Position) → at_page (off_written written (counts_page p)) r k o ≡ 0
             one k None = refl
             one k (Some d) = elim (cases_eq k p) [
               | inl e ↦ let z : written k ≡ true = ap written e ∙ w in rw z (elim (eqb d.tree r) as (λ c. cond {A = ℕ} c 0 0 ≡ 0) [ true ↦ refl | false ↦ refl ])
@@ -268,9 +268,9 @@ module _ (written : ℕ → Bool) (m new : PageMemory) (same : (p : ℕ) → wri
         sums : (k : ℕ) → k ≤ roots → times_met new k p ≡ times_in (λ r. fresh_of ps run.0 r) k p
         sums zero le = refl
         sums (suc k) le =
-            let a = weighs (is_page p) (suc k) (omega arith) le in
+            let a = weighs (counts_page p) (suc k) (omega arith) le in
             let b = alone (suc k) n run.0 in let c = off_written-none (suc k) n run.0 in
-            let d = listed.all (is_page p) (suc k) run.0 in let e = over-fresh_of (is_page p) (suc k) ps run.0 in
+            let d = listed.all (counts_page p) (suc k) run.0 in let e = over-fresh_of (counts_page p) (suc k) ps run.0 in
             let r = sums k (omega arith) in omega arith
 
     linked-by : (p : ℕ) → written p ≡ true → (e : Position) → run.0 p ≡ Some e → e.height ≡ 0 → IsLinkedBy new end_rank run.0 p e
@@ -279,10 +279,10 @@ module _ (written : ℕ → Bool) (m new : PageMemory) (same : (p : ℕ) → wri
         let tn = (new-law.trees e.tree v.0 v.1).0 in
         let ti = IsTiled-leaves_of new e.tree tn.tree in let ro = HasWidth-leaves_of new e.tree tn.tree in
         let h : IsAmong (visit_of p e) (leaves_of new e.tree) = IsAmong-counted (visit_of p e) (leaves_of new e.tree)
-        (let a = weight_of-leaf (visit_of p e) new e.tree in let b = weighs (is_visit 0 (visit_of p e)) e.tree v.0 v.1 in
+        (let a = weight_of-leaf (visit_of p e) new e.tree in let b = weighs (counts_visit 0 (visit_of p e)) e.tree v.0 v.1 in
         let c = counted-Stands e.tree 0 (visit_of p e) run.0 n (record { within = run.2.valid.within p e at; is = at ∙ ap Some (position-eta e z) }) in omega arith) in
         let stand : (u : Visit) → IsAmong u (leaves_of new e.tree) → run.0 u.page ≡ Some (position_of e.tree 0 u) = λ u i.
-        (Stands-counted e.tree 0 u run.0 n (let a = counted-IsAmong u (leaves_of new e.tree) i in let b = weight_of-leaf u new e.tree in let c = weighs (is_visit 0 u) e.tree v.0 v.1 in omega arith)).is in
+        (Stands-counted e.tree 0 u run.0 n (let a = counted-IsAmong u (leaves_of new e.tree) i in let b = weight_of-leaf u new e.tree in let c = weighs (counts_visit 0 u) e.tree v.0 v.1 in omega arith)).is in
         record {
           first = λ q. prev-first new 0 0 (leaves_of new e.tree) end_rank 0 ti ro tn.linked (visit_of p e) h q;
           last = λ q. next-last new 0 0 (leaves_of new e.tree) end_rank 0 ti ro tn.linked (visit_of p e) h q;
@@ -320,5 +320,5 @@ module _ (written : ℕ → Bool) (m new : PageMemory) (same : (p : ℕ) → wri
         unwritten p w zero le = refl
         unwritten p w (suc k) le =
             let r = unwritten p w k (omega arith) in
-            let a = stay (suc k) (omega arith) le (is_page p) in
+            let a = stay (suc k) (omega arith) le (counts_page p) in
             let b = weight_of-off_other written new (suc k) p w in let c = weight_of-off_other written m (suc k) p w in omega arith

@@ -5,16 +5,16 @@ use Rattle.std.proofs.lemmas.Bool.{cases_eq, cases_lt}
 use Rattle.ib_map.specs.Keys.{end_rank}
 use Rattle.ib_heap.specs.declared.TheConstants.{MOST_RECORDS}
 use Rattle.ib_walk.specs.Pages.{Free, PageState, PageMemory, IsSound}
-use Rattle.ib_walk.specs.Walk.{Visit, sum_of, is_page, IsTree, AreLinked, IsTiled}
+use Rattle.ib_walk.specs.Walk.{Visit, sum_of, counts_page, IsTree, AreLinked, IsTiled}
 use Rattle.ib_walk.specs.Trees.{height_of, top_of, leaves_of, weight_of, times_met, IsTreeOf, IsLawful, most_height}
 use Rattle.ib_patch.specs.Patch.{LevelVisit, over, on_written, off_written, old_visits, IsGoodAt, IsLeafIn, IsLinkedAt, IsGrounded, IsPatch, times_in, IsPatched}
-use Rattle.ib_walk.specs.Walk.{is_visit}
+use Rattle.ib_walk.specs.Walk.{counts_visit}
 use Rattle.ib_walk.proofs.ChoiceLaws.{cond-ne}
 use Rattle.ib_walk.proofs.SearchLaws.{IsTiled-below}
 use Rattle.ib_walk.proofs.TreeLaws.{most_height-le, AreNodes-above}
 use Rattle.ib_walk.proofs.WalkLaws.{IsAlike-same, IsLeafAt-same, IsNodeAt-same}
-use Rattle.ib_tree.proofs.PatchLaws.{AllByRecursion-over, AreLinked-neighbours, AreNeighbours-linked, HasWidth, HasWidth-below, IsAmong, IsAmong-counted, IsGoodAt-tree, IsTree-good, counted-IsAmong, end_rank-some, is_visit-height, is_visit-other, is_visit-same, next-last, over-holds, over-other, prev-first, weight-lowest, weight-off_other, weight-off_written}
-use Rattle.ib_tree.proofs.WeightLaws.{IsBalanced-kept, over-written_below, weight-same, weight-split, weight-zero, weight_of-patched}
+use Rattle.ib_tree.proofs.PatchLaws.{AllByRecursion-over, AreLinked-neighbours, AreNeighbours-linked, HasWidth, HasWidth-below, IsAmong, IsAmong-counted, IsGoodAt-tree, IsTree-good, counted-IsAmong, end_rank-some, counts_visit-height, counts_visit-other, counts_visit-same, next-last, over-holds, over-other, prev-first, weight_along-lowest, weight_along-off_other, weight_along-off_written}
+use Rattle.ib_tree.proofs.WeightLaws.{IsBalanced-kept, over-written_below, weight_along-same, weight_along-split, weight_along-zero, weight_of-patched}
 
 pub IsGoodAt-same : (m new : PageMemory) (h : ℕ) (v : Visit) → new v.page ≡ m v.page → IsGoodAt m h v → IsGoodAt new h v
 IsGoodAt-same m new zero v e g = IsLeafAt-same m new v (IsAlike-same (new v.page) (m v.page) e) g
@@ -26,22 +26,22 @@ IsTiled-leaves_of m root t = IsTiled-below m (height_of m root) 0 0 (top_of root
 pub HasWidth-leaves_of : (m : PageMemory) (root : ℕ) → IsTree m (height_of m root) (top_of root) → AllByRecursion HasWidth (leaves_of m root)
 HasWidth-leaves_of m root t = HasWidth-below m (height_of m root) (top_of root) t.nodes (end_rank-some, tt)
 
-pub weight_of-leaf : (v : Visit) (m : PageMemory) (root : ℕ) → weight_of (is_visit 0 v) m root ≡ sum_of (is_visit 0 v 0) (leaves_of m root)
-weight_of-leaf v m root = weight-lowest (is_visit 0 v) m (height_of m root) (top_of root) (λ k u. high k u)
+pub weight_of-leaf : (v : Visit) (m : PageMemory) (root : ℕ) → weight_of (counts_visit 0 v) m root ≡ sum_of (counts_visit 0 v 0) (leaves_of m root)
+weight_of-leaf v m root = weight_along-lowest (counts_visit 0 v) m (height_of m root) (top_of root) (λ k u. high k u)
   where
-    high : (k : ℕ) (u : Visit) → is_visit 0 v (suc k) u ≡ 0
-    high k u = elim (cases_lt 0 (is_visit 0 v (suc k) u)) [ inl pos ↦ absurd (let e = (is_visit-same 0 v (suc k) u pos).0 in omega arith) | inr non ↦ omega arith ]
+    high : (k : ℕ) (u : Visit) → counts_visit 0 v (suc k) u ≡ 0
+    high k u = elim (cases_lt 0 (counts_visit 0 v (suc k) u)) [ inl pos ↦ absurd (let e = (counts_visit-same 0 v (suc k) u pos).0 in omega arith) | inr non ↦ omega arith ]
 
 -- whether a page is written
 pub written-cases : (written : ℕ → Bool) (n : ℕ) (P : Type 0) → (written n ≡ true → P) → (written n ≡ false → P) → P
 written-cases written n P a b = elim (written n) as (λ c. written n ≡ c → P) [ true ↦ λ e. a e | false ↦ λ e. b e ] refl
 
 module _ (written : ℕ → Bool) where
-  pub off_written-page : (b : Bool) (n k : ℕ) (u : Visit) → written n ≡ b → off_written written (is_page n) k u ≡ cond b 0 (is_page n k u)
+  pub off_written-page : (b : Bool) (n k : ℕ) (u : Visit) → written n ≡ b → off_written written (counts_page n) k u ≡ cond b 0 (counts_page n k u)
   off_written-page b n k u e =
       elim (cases_eq u.page n) [
         | inl same ↦ let x : written u.page ≡ b = ap written same ∙ e in rw x refl
-        | inr ne ↦ let z : is_page n k u ≡ 0 = cond-ne {X = ℕ} u.page n 1 0 ne in rw z (both (written u.page) b)
+        | inr ne ↦ let z : counts_page n k u ≡ 0 = cond-ne {X = ℕ} u.page n 1 0 ne in rw z (both (written u.page) b)
       ]
     where
       both : (c d : Bool) → cond {A = ℕ} c 0 0 ≡ cond d 0 0
@@ -50,24 +50,24 @@ module _ (written : ℕ → Bool) where
       both false true = refl
       both false false = refl
 
-  pub weight_of-off_written : (m : PageMemory) (root n : ℕ) → written n ≡ true → weight_of (off_written written (is_page n)) m root ≡ 0
-  weight_of-off_written m root n e = weight-zero (off_written written (is_page n)) m (height_of m root) (top_of root) (λ k u l. off_written-page true n k u e)
+  pub weight_of-off_written : (m : PageMemory) (root n : ℕ) → written n ≡ true → weight_of (off_written written (counts_page n)) m root ≡ 0
+  weight_of-off_written m root n e = weight_along-zero (off_written written (counts_page n)) m (height_of m root) (top_of root) (λ k u l. off_written-page true n k u e)
 
-  pub weight_of-off_other : (m : PageMemory) (root n : ℕ) → written n ≡ false → weight_of (off_written written (is_page n)) m root ≡ weight_of (is_page n) m root
-  weight_of-off_other m root n e = weight-same (off_written written (is_page n)) (is_page n) m (height_of m root) (top_of root) (λ k u. off_written-page false n k u e)
+  pub weight_of-off_other : (m : PageMemory) (root n : ℕ) → written n ≡ false → weight_of (off_written written (counts_page n)) m root ≡ weight_of (counts_page n) m root
+  weight_of-off_other m root n e = weight_along-same (off_written written (counts_page n)) (counts_page n) m (height_of m root) (top_of root) (λ k u. off_written-page false n k u e)
 
-  pub over-is_page : (ss : List LevelVisit) → AllByRecursion (λ s. written s.visit.page ≡ true) ss → (n : ℕ) → written n ≡ false → over (is_page n) ss ≡ 0
-  over-is_page [] mine n e = refl
-  over-is_page (s ∷ ss) mine n e =
-      let r = over-is_page ss mine.1 n e in
+  pub over-counts_page : (ss : List LevelVisit) → AllByRecursion (λ s. written s.visit.page ≡ true) ss → (n : ℕ) → written n ≡ false → over (counts_page n) ss ≡ 0
+  over-counts_page [] mine n e = refl
+  over-counts_page (s ∷ ss) mine n e =
+      let r = over-counts_page ss mine.1 n e in
       let ne : s.visit.page ≢ n = λ z. (let x = mine.0 in let y = ap written z in cc) in
       let z = cond-ne {X = ℕ} s.visit.page n 1 0 ne in omega arith
 
-  pub on_written-visit : (k : ℕ) (v : Visit) (j : ℕ) (u : Visit) → written v.page ≡ false → on_written written (is_visit k v) j u ≡ 0
+  pub on_written-visit : (k : ℕ) (v : Visit) (j : ℕ) (u : Visit) → written v.page ≡ false → on_written written (counts_visit k v) j u ≡ 0
   on_written-visit k v j u e =
       elim (cases_eq u.page v.page) [
         | inl same ↦ let x : written u.page ≡ false = ap written same ∙ e in rw x refl
-        | inr ne ↦ let z = is_visit-other k v j u ne in rw z (none (written u.page))
+        | inr ne ↦ let z = counts_visit-other k v j u ne in rw z (none (written u.page))
       ]
     where
       none : (c : Bool) → cond {A = ℕ} c 0 0 ≡ 0
@@ -79,14 +79,14 @@ module _ (written : ℕ → Bool) (m new : PageMemory) (same : (n : ℕ) → wri
     pub weight_of-after : (f : ℕ → Visit → ℕ) → weight_of f new root ≡ over f fresh + weight_of (off_written written f) m root
     weight_of-after = weight_of-patched written m new same root fresh p.balanced 8 low-m low-new p.low
 
-    good-after : (k : ℕ) (v : Visit) → 0 < weight_of (is_visit k v) new root → IsGoodAt new k v
+    good-after : (k : ℕ) (v : Visit) → 0 < weight_of (counts_visit k v) new root → IsGoodAt new k v
     good-after k v some =
-        let e = weight_of-after (is_visit k v) in
-        elim (cases_lt 0 (over (is_visit k v) fresh)) [
+        let e = weight_of-after (counts_visit k v) in
+        elim (cases_lt 0 (over (counts_visit k v) fresh)) [
           | inl pos ↦ over-holds (IsGoodAt new) fresh p.good k v pos
           | inr non ↦ written-cases written v.page (IsGoodAt new k v)
-              (λ w. absurd (let z = weight-off_written written m (height_of m root) (top_of root) k v w in omega arith))
-              (λ w. let z = weight-off_other written m (height_of m root) (top_of root) k v w in
+              (λ w. absurd (let z = weight_along-off_written written m (height_of m root) (top_of root) k v w in omega arith))
+              (λ w. let z = weight_along-off_other written m (height_of m root) (top_of root) k v w in
               IsGoodAt-same m new k v (same v.page w) (IsGoodAt-tree m (height_of m root) (top_of root) t.tree k v (omega arith)))
         ]
 
@@ -94,18 +94,18 @@ module _ (written : ℕ → Bool) (m new : PageMemory) (same : (n : ℕ) → wri
     IsTree-after = IsTree-good new (height_of new root) (top_of root) good-after
 
     pub IsLeafIn-after : (v : Visit) → IsAmong v (leaves_of new root) → IsLeafIn written m root fresh v
-    IsLeafIn-after v h = let a = counted-IsAmong v (leaves_of new root) h in let b = weight_of-leaf v new root in let c = weight_of-after (is_visit 0 v) in omega arith
+    IsLeafIn-after v h = let a = counted-IsAmong v (leaves_of new root) h in let b = weight_of-leaf v new root in let c = weight_of-after (counts_visit 0 v) in omega arith
 
     pub IsAmong-before : (v : Visit) → IsAmong v (leaves_of new root) → written v.page ≡ false → IsAmong v (leaves_of m root)
     IsAmong-before v h w =
         let a = IsLeafIn-after v h in
         let b = over-other written fresh p.mine 0 v w in
-        let c = weight-off_other written m (height_of m root) (top_of root) 0 v w in
+        let c = weight_along-off_other written m (height_of m root) (top_of root) 0 v w in
         let d = weight_of-leaf v m root in
         IsAmong-counted v (leaves_of m root) (omega arith)
 
     pub AreKept-after : (f : ℕ → Visit → ℕ) → weight_of (off_written written f) new root ≡ weight_of (off_written written f) m root
-    AreKept-after f = let a = weight_of-after (off_written written f) in let b = none fresh p.mine in let c = weight-same (off_written written (off_written written f)) (off_written written f) m (height_of m root) (top_of root) twice in omega arith
+    AreKept-after f = let a = weight_of-after (off_written written f) in let b = none fresh p.mine in let c = weight_along-same (off_written written (off_written written f)) (off_written written f) m (height_of m root) (top_of root) twice in omega arith
       where
         none : (ss : List LevelVisit) → AllByRecursion (λ s. written s.visit.page ≡ true) ss → over (off_written written f) ss ≡ 0
         none [] q = refl
@@ -117,7 +117,7 @@ module _ (written : ℕ → Bool) (m new : PageMemory) (same : (n : ℕ) → wri
     module _ (linked : AllByRecursion (λ s. s.height ≡ 0 → IsLinkedAt (IsLeafIn written m root fresh) new s.visit) fresh) where
       mine-linked : (v : Visit) → IsAmong v (leaves_of new root) → written v.page ≡ true → IsLinkedAt (IsLeafIn written m root fresh) new v
       mine-linked v h w =
-          let a = IsLeafIn-after v h in let z = weight-off_written written m (height_of m root) (top_of root) 0 v w in
+          let a = IsLeafIn-after v h in let z = weight_along-off_written written m (height_of m root) (top_of root) 0 v w in
           over-holds (λ k u. k ≡ 0 → IsLinkedAt (IsLeafIn written m root fresh) new u) fresh linked 0 v (omega arith) refl
 
       pub AreLinked-after : AreLinked new 0 (leaves_of new root) 0
@@ -150,24 +150,24 @@ module _ (written : ℕ → Bool) (m new : PageMemory) (same : (n : ℕ) → wri
     over-now f = over-written_below written f new (height_of new root) (top_of root)
 
     split-now : (f : ℕ → Visit → ℕ) → weight_of f new root ≡ over f (old_visits written new root) + weight_of (off_written written f) m root
-    split-now f = let a = weight-split written f new (height_of new root) (top_of root) in let b = over-now f in let c = kept f in omega arith
+    split-now f = let a = weight_along-split written f new (height_of new root) (top_of root) in let b = over-now f in let c = kept f in omega arith
 
     as-in : (v : Visit) → IsLeafIn written m root (old_visits written new root) v → IsAmong v (leaves_of new root)
-    as-in v h = let a = split-now (is_visit 0 v) in let b = weight_of-leaf v new root in IsAmong-counted v (leaves_of new root) (omega arith)
+    as-in v h = let a = split-now (counts_visit 0 v) in let b = weight_of-leaf v new root in IsAmong-counted v (leaves_of new root) (omega arith)
 
     pub IsPatch-lawful : IsPatch written m new root (old_visits written new root)
     IsPatch-lawful = record {
       grounded = record {
         balanced = IsBalanced-kept written m new same root kept;
         mine = AllByRecursion-over (λ s. written s.visit.page ≡ true) (old_visits written new root) (λ s l. written-cases written s.visit.page (written s.visit.page ≡ true) (λ w. w)
-            (λ w. absurd (let a = over-now (is_visit s.height s.visit) in
-            let z = weight-zero (on_written written (is_visit s.height s.visit)) new (height_of new root) (top_of root) (λ k u _. on_written-visit written s.height s.visit k u w) in omega arith)));
-        good = AllByRecursion-over (λ s. IsGoodAt new s.height s.visit) (old_visits written new root) (λ s l. let a = split-now (is_visit s.height s.visit) in
+            (λ w. absurd (let a = over-now (counts_visit s.height s.visit) in
+            let z = weight_along-zero (on_written written (counts_visit s.height s.visit)) new (height_of new root) (top_of root) (λ k u _. on_written-visit written s.height s.visit k u w) in omega arith)));
+        good = AllByRecursion-over (λ s. IsGoodAt new s.height s.visit) (old_visits written new root) (λ s l. let a = split-now (counts_visit s.height s.visit) in
             IsGoodAt-tree new (height_of new root) (top_of root) n.tree s.height s.visit (omega arith));
         low = AllByRecursion-over (λ s. s.height < 8) (old_visits written new root) (λ s l. elim (cases_lt s.height 8) [
           | inl lt ↦ lt
-          | inr ge ↦ absurd (let a = split-now (is_visit s.height s.visit) in
-              let z = weight-zero (is_visit s.height s.visit) new (height_of new root) (top_of root) (λ k u le. is_visit-height s.height s.visit k u (λ same. omega (arith, ge, low-new, le))) in omega arith)
+          | inr ge ↦ absurd (let a = split-now (counts_visit s.height s.visit) in
+              let z = weight_along-zero (counts_visit s.height s.visit) new (height_of new root) (top_of root) (λ k u le. counts_visit-height s.height s.visit k u (λ same. omega (arith, ge, low-new, le))) in omega arith)
         ]);
       };
       linked = AllByRecursion-over (λ s. s.height ≡ 0 → IsLinkedAt (IsLeafIn written m root (old_visits written new root)) new s.visit) (old_visits written new root) (λ s l z.
@@ -185,16 +185,16 @@ module _ (written : ℕ → Bool) (m new : PageMemory) (same : (n : ℕ) → wri
         rn : AllByRecursion HasWidth (leaves_of new root)
         rn = HasWidth-leaves_of new root n.tree
 
-        leaf-in : (s : LevelVisit) → 0 < over (is_visit s.height s.visit) (old_visits written new root) → s.height ≡ 0 → IsLeafIn written m root (old_visits written new root) s.visit
-        leaf-in s l z = let a : 0 < over (is_visit 0 s.visit) (old_visits written new root) = subst (λ h. 0 < over (is_visit h s.visit) (old_visits written new root)) z l in omega arith
+        leaf-in : (s : LevelVisit) → 0 < over (counts_visit s.height s.visit) (old_visits written new root) → s.height ≡ 0 → IsLeafIn written m root (old_visits written new root) s.visit
+        leaf-in s l z = let a : 0 < over (counts_visit 0 s.visit) (old_visits written new root) = subst (λ h. 0 < over (counts_visit h s.visit) (old_visits written new root)) z l in omega arith
 
-pub times_met-fresh : (written : ℕ → Bool) (new : PageMemory) (fresh : ℕ → List LevelVisit) (roots n : ℕ) → ((r : ℕ) → 0 < r → r ≤ roots → weight_of (is_page n) new r ≡ over (is_page n) (fresh r))
+pub times_met-fresh : (written : ℕ → Bool) (new : PageMemory) (fresh : ℕ → List LevelVisit) (roots n : ℕ) → ((r : ℕ) → 0 < r → r ≤ roots → weight_of (counts_page n) new r ≡ over (counts_page n) (fresh r))
     → times_met new roots n ≡ times_in fresh roots n
 times_met-fresh written new fresh zero n e = refl
 times_met-fresh written new fresh (suc roots) n e =
     let a = e (suc roots) (omega arith) (omega arith) in let r = times_met-fresh written new fresh roots n (λ q s l. e q s (omega arith)) in omega arith
 
-pub times_met-kept : (m new : PageMemory) (roots n : ℕ) → ((r : ℕ) → 0 < r → r ≤ roots → weight_of (is_page n) new r ≡ weight_of (is_page n) m r)
+pub times_met-kept : (m new : PageMemory) (roots n : ℕ) → ((r : ℕ) → 0 < r → r ≤ roots → weight_of (counts_page n) new r ≡ weight_of (counts_page n) m r)
     → times_met new roots n ≡ times_met m roots n
 times_met-kept m new zero n e = refl
 times_met-kept m new (suc roots) n e =
@@ -220,11 +220,11 @@ module _ (written : ℕ → Bool) (m new : PageMemory) (bits bits-after : ℕ �
     at r s l = weight_of-after written m new same r (law.trees r s l).0 (low-of r s l) (fresh r) (p.trees r s l).0.grounded (low-then r s l)
 
     met-written : (n : ℕ) → written n ≡ true → times_met new roots n ≡ times_in fresh roots n
-    met-written n w = times_met-fresh written new fresh roots n (λ r s l. let a = at r s l (is_page n) in let z = weight_of-off_written written m r n w in omega arith)
+    met-written n w = times_met-fresh written new fresh roots n (λ r s l. let a = at r s l (counts_page n) in let z = weight_of-off_written written m r n w in omega arith)
 
     met-other : (n : ℕ) → written n ≡ false → times_met new roots n ≡ times_met m roots n
-    met-other n w = times_met-kept m new roots n (λ r s l. let a = at r s l (is_page n) in let z = weight_of-off_other written m r n w in
-        let y = over-is_page written (fresh r) (p.trees r s l).0.grounded.mine n w in omega arith)
+    met-other n w = times_met-kept m new roots n (λ r s l. let a = at r s l (counts_page n) in let z = weight_of-off_other written m r n w in
+        let y = over-counts_page written (fresh r) (p.trees r s l).0.grounded.mine n w in omega arith)
 
     pub AreKept-patched : AreKept written m new roots
     AreKept-patched r s l = AreKept-after written m new same r (law.trees r s l).0 (low-of r s l) (fresh r) (p.trees r s l).0.grounded (low-then r s l)
@@ -246,8 +246,8 @@ module _ (written : ℕ → Bool) (m new : PageMemory) (bits bits-after : ℕ �
     low-now : (r : ℕ) → 0 < r → r ≤ roots → (new r).level < 8
     low-now r s l = let a = (new-law.trees r s l).1 in let b = most_height-lt roots in omega arith
 
-    over-is : (r n : ℕ) → 0 < r → r ≤ roots → written n ≡ true → weight_of (is_page n) new r ≡ over (is_page n) (old_visits written new r)
-    over-is r n s l w = let a = weight-split written (is_page n) new (height_of new r) (top_of r) in let b = over-written_below written (is_page n) new (height_of new r) (top_of r) in
+    over-is : (r n : ℕ) → 0 < r → r ≤ roots → written n ≡ true → weight_of (counts_page n) new r ≡ over (counts_page n) (old_visits written new r)
+    over-is r n s l w = let a = weight_along-split written (counts_page n) new (height_of new r) (top_of r) in let b = over-written_below written (counts_page n) new (height_of new r) (top_of r) in
         let c = weight_of-off_written written new r n w in omega arith
 
     pub IsPatched-lawful : IsPatched written m new bits bits-after roots (old_visits written new)
@@ -258,6 +258,6 @@ module _ (written : ℕ → Bool) (m new : PageMemory) (bits bits-after : ℕ �
       once = λ n w. new-law.bit n;
       few = λ n big w. new-law.few n big;
       freed = λ n w z. new-law.unmet n z;
-      others = λ n w. let a = times_met-kept m new roots n (λ r s l. sym (weight_of-off_other written new r n w) ∙ (kept r s l (is_page n) ∙ weight_of-off_other written m r n w)) in
+      others = λ n w. let a = times_met-kept m new roots n (λ r s l. sym (weight_of-off_other written new r n w) ∙ (kept r s l (counts_page n) ∙ weight_of-off_other written m r n w)) in
           new-law.met n ∙ (ap (λ k. k + cond (eqb n 0) 1 0) a ∙ sym (law.met n));
     }

@@ -1,11 +1,11 @@
 -- Sums over positions.
 use Rattle.std.proofs.Common.{◌≡◌, ℕ, zero, suc, ◌+◌, ◌<◌, ◌≤◌, inl, inr, true, false, cond, List, [], ◌∷◌, Option, Some, None, refl, sym, ap, subst, ◌∙◌, arith, eqb, ◌≢◌}
 use Rattle.std.proofs.lemmas.Bool.{cases_lt, cases_eq}
-use Rattle.ib_walk.specs.Walk.{Visit, is_page}
-use Rattle.ib_walk.specs.Walk.{is_visit}
+use Rattle.ib_walk.specs.Walk.{Visit, counts_page}
+use Rattle.ib_walk.specs.Walk.{counts_visit}
 use Rattle.ib_patch.specs.PatchTest.{Position, Positions, visit_of, at_page, positions_over, set_at, position_of, list_over, is_none}
 use Rattle.ib_walk.proofs.ChoiceLaws.{cond-eq, cond-ne}
-use Rattle.ib_tree.proofs.PatchLaws.{is_visit-own, is_visit-same}
+use Rattle.ib_tree.proofs.PatchLaws.{counts_visit-own, counts_visit-same}
 
 pub positions_over-same : (f : ℕ → Visit → ℕ) (root : ℕ) (a b : Positions) (n : ℕ) → ((p : ℕ) → p < n → a p ≡ b p) → positions_over f root a n ≡ positions_over f root b n
 positions_over-same f root a b zero e = refl
@@ -42,22 +42,22 @@ pub record Stands (root h : ℕ) (v : Visit) (table : Positions) (n : ℕ) : Typ
   pub within : v.page < n
   pub is : table v.page ≡ Some (position_of root h v)
 
-pub Stands-counted : (root h : ℕ) (v : Visit) (table : Positions) (n : ℕ) → 0 < positions_over (is_visit h v) root table n → Stands root h v table n
+pub Stands-counted : (root h : ℕ) (v : Visit) (table : Positions) (n : ℕ) → 0 < positions_over (counts_visit h v) root table n → Stands root h v table n
 Stands-counted root h v table zero some = absurd (omega arith)
 Stands-counted root h v table (suc n) some =
-    elim (cases_lt 0 (positions_over (is_visit h v) root table n)) [
+    elim (cases_lt 0 (positions_over (counts_visit h v) root table n)) [
       | inl pos ↦ let r = Stands-counted root h v table n pos in record { within = let x = r.within in omega arith; is = r.is }
       | inr non ↦ here (table n) refl (omega arith)
     ]
   where
-    here : (o : Option Position) → table n ≡ o → 0 < at_page (is_visit h v) root n o → Stands root h v table (suc n)
+    here : (o : Option Position) → table n ≡ o → 0 < at_page (counts_visit h v) root n o → Stands root h v table (suc n)
     here None e pos = absurd (omega arith)
     here (Some d) e pos =
         elim (cases_eq d.tree root) [
-          | inr ne ↦ absurd (let z = cond-ne {X = ℕ} d.tree root (is_visit h v d.height (visit_of n d)) 0 ne in omega arith)
+          | inr ne ↦ absurd (let z = cond-ne {X = ℕ} d.tree root (counts_visit h v d.height (visit_of n d)) 0 ne in omega arith)
           | inl t ↦
-              let z = cond-eq {X = ℕ} d.tree root (is_visit h v d.height (visit_of n d)) 0 t in
-              let s = is_visit-same h v d.height (visit_of n d) (omega arith) in
+              let z = cond-eq {X = ℕ} d.tree root (counts_visit h v d.height (visit_of n d)) 0 t in
+              let s = counts_visit-same h v d.height (visit_of n d) (omega arith) in
               let p : n ≡ v.page = ap (λ (u : Visit). u.page) s.1 in
               let lo : d.low ≡ v.low = ap (λ (u : Visit). u.low) s.1 in
               let hi : d.high ≡ v.high = ap (λ (u : Visit). u.high) s.1 in
@@ -65,25 +65,25 @@ Stands-counted root h v table (suc n) some =
               record { within = omega arith; is = subst (λ q. table q ≡ Some (position_of root h v)) p (e ∙ ap Some same) }
         ]
 
-pub counted-Stands : (root h : ℕ) (v : Visit) (table : Positions) (n : ℕ) → Stands root h v table n → 0 < positions_over (is_visit h v) root table n
+pub counted-Stands : (root h : ℕ) (v : Visit) (table : Positions) (n : ℕ) → Stands root h v table n → 0 < positions_over (counts_visit h v) root table n
 counted-Stands root h v table n s =
-    let a = at_page-le (is_visit h v) root table n v.page s.within in
-    let b = ap (at_page (is_visit h v) root v.page) s.is in
-    let c = cond-eq {X = ℕ} root root (is_visit h v h v) 0 refl in
-    let d = is_visit-own h v in
+    let a = at_page-le (counts_visit h v) root table n v.page s.within in
+    let b = ap (at_page (counts_visit h v) root v.page) s.is in
+    let c = cond-eq {X = ℕ} root root (counts_visit h v h v) 0 refl in
+    let d = counts_visit-own h v in
     omega arith
 
 -- a page that stands weighs at most once
-pub positions_over-none : (root page : ℕ) (table : Positions) (n : ℕ) → table page ≡ None → positions_over (is_page page) root table n ≡ 0
+pub positions_over-none : (root page : ℕ) (table : Positions) (n : ℕ) → table page ≡ None → positions_over (counts_page page) root table n ≡ 0
 positions_over-none root page table zero none = refl
 positions_over-none root page table (suc n) none =
     let r = positions_over-none root page table n none in
     elim (cases_eq n page) [
-      | inl e ↦ let a = ap (at_page (is_page page) root n) (subst (λ q. table q ≡ None) (sym e) none) in omega arith
+      | inl e ↦ let a = ap (at_page (counts_page page) root n) (subst (λ q. table q ≡ None) (sym e) none) in omega arith
       | inr ne ↦ let a = other (table n) ne in omega arith
     ]
   where
-    other : (o : Option Position) → n ≢ page → at_page (is_page page) root n o ≡ 0
+    other : (o : Option Position) → n ≢ page → at_page (counts_page page) root n o ≡ 0
     other None ne = refl
     other (Some d) ne = let z : cond {A = ℕ} (eqb n page) 1 0 ≡ 0 = cond-ne {X = ℕ} n page 1 0 ne in elim (eqb d.tree root) as (λ b. cond {A = ℕ} b (cond {A = ℕ} (eqb n page) 1 0) 0 ≡ 0) [ true ↦ z | false ↦ refl ]
 

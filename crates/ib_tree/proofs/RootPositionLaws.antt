@@ -3,7 +3,7 @@ use Rattle.std.proofs.Common.{◌≡◌, ℕ, zero, suc, ◌+◌, ◌<◌, ◌�
 use Rattle.std.proofs.lemmas.Bool.{cases_eq}
 use Rattle.std.specs.Prelude.{◌&&◌}
 use Rattle.ib_walk.specs.Pages.{PageMemory}
-use Rattle.ib_walk.specs.Walk.{Visit, weight}
+use Rattle.ib_walk.specs.Walk.{Visit, weight_along}
 use Rattle.ib_walk.specs.Trees.{top_of, weight_of}
 use Rattle.ib_patch.specs.Patch.{top}
 use Rattle.ib_patch.specs.PatchTest.{Position, Positions, visit_of, at_page, positions_over, children_at, detach, detach_at, detach_pages, are_back, back_at, all_back, IsKeptBeside}
@@ -71,7 +71,7 @@ module _ (f : ℕ → Visit → ℕ) (root n : ℕ) where
 pub IsKeptBeside-opening : (m : PageMemory) (n roots : ℕ) → ((r : ℕ) → 0 < r → r ≤ roots → (m r).level ≡ 0) → roots < n → IsKeptBeside m roots n (opening_positions roots)
 IsKeptBeside-opening m n roots leaf lt = record {
   table = λ root some le f.
-      let weighs : weight_of f m root ≡ f 0 (top root) + 0 = ap (λ h. weight f m h (top_of root)) (leaf root some le) in
+      let weighs : weight_of f m root ≡ f 0 (top root) + 0 = ap (λ h. weight_along f m h (top_of root)) (leaf root some le) in
       let counted = with-root f root n roots lt some le in omega arith;
   few = λ page le. opening_positions-above roots page (omega arith);
   trees = λ page e at. let found = IsRootPosition-met roots page e at in (found.some, found.few);

@@ -8,14 +8,14 @@ use Rattle.ib_map.specs.Keys.{MapKey, rank, end_rank}
 use Rattle.ib_map.specs.Pairs.{Pairs, Rises, put, without, value_at}
 use Rattle.ib_map.proofs.RiseLaws.{Rises-le}
 use Rattle.ib_walk.specs.Pages.{PageState, PageMemory}
-use Rattle.ib_walk.specs.Walk.{Visit, records_in, IsLeafAt, IsTiled, IsTree}
+use Rattle.ib_walk.specs.Walk.{Visit, records_along, IsLeafAt, IsTiled, IsTree}
 use Rattle.ib_walk.specs.Trees.{height_of, top_of, leaves_of, content_of, IsTreeOf}
 use Rattle.ib_patch.specs.Patch.{LevelVisit, over, IsGrounded, slice, IsSliced}
-use Rattle.ib_walk.specs.Walk.{is_visit}
+use Rattle.ib_walk.specs.Walk.{counts_visit}
 use Rattle.ib_walk.specs.Search.{leaf_for, IsPageFor}
-use Rattle.ib_walk.proofs.SearchLaws.{Rises-records_in, value_at-records_in}
+use Rattle.ib_walk.proofs.SearchLaws.{Rises-records_along, value_at-records_along}
 use Rattle.ib_walk.proofs.TreeLaws.{IsPageFor-leaf}
-use Rattle.ib_tree.proofs.PatchLaws.{AllByRecursion-over, HasWidth, IsAmong, IsAmong-counted, IsTiled-within, counted-IsAmong, over-holds, weight-off_written}
+use Rattle.ib_tree.proofs.PatchLaws.{AllByRecursion-over, HasWidth, IsAmong, IsAmong-counted, IsTiled-within, counted-IsAmong, over-holds, weight_along-off_written}
 use Rattle.ib_tree.proofs.PatchedLaws.{HasWidth-leaves_of, IsAmong-before, IsTiled-leaves_of, IsTree-after, weight_of-after, weight_of-leaf, written-cases}
 
 pub slice-within : (low : ℕ) (xs : Pairs) (high : ℕ) (lo hi : ℕ) → lo ≤ low → high ≤ hi → Rises low xs high → slice xs lo hi ≡ xs
@@ -125,21 +125,21 @@ slice-without key (x ∷ xs) lo hi o =
     ]
 
 -- a leaf has the content's slice
-pub slice-records_in : (m : PageMemory) (low : ℕ) (vs : List Visit) (high : ℕ) → AllByRecursion (IsLeafAt m) vs → IsTiled low vs high → AllByRecursion HasWidth vs → (v : Visit) → IsAmong v vs
-    → slice (records_in m vs) v.low v.high ≡ (m v.page).records
-slice-records_in m low [] high h t r v i = absurd i
-slice-records_in m low (x ∷ xs) high h t r v i =
-    let a = slice-append (m x.page).records (records_in m xs) v.low v.high in
+pub slice-records_along : (m : PageMemory) (low : ℕ) (vs : List Visit) (high : ℕ) → AllByRecursion (IsLeafAt m) vs → IsTiled low vs high → AllByRecursion HasWidth vs → (v : Visit) → IsAmong v vs
+    → slice (records_along m vs) v.low v.high ≡ (m v.page).records
+slice-records_along m low [] high h t r v i = absurd i
+slice-records_along m low (x ∷ xs) high h t r v i =
+    let a = slice-append (m x.page).records (records_along m xs) v.low v.high in
     let w = h.0.within in
-    let c = Rises-records_in m x.high xs high h.1 t.1 in
+    let c = Rises-records_along m x.high xs high h.1 t.1 in
     elim i [
       | inl e ↦
-          subst (λ (u : Visit). slice (records_in m (x ∷ xs)) u.low u.high ≡ (m u.page).records) e
-          (slice-append (m x.page).records (records_in m xs) x.low x.high ∙ (ap (λ ys. ys ++ slice (records_in m xs) x.low x.high) (slice-within x.low (m x.page).records x.high x.low x.high (omega arith) (omega arith) w)
-          ∙ (ap (λ ys. (m x.page).records ++ ys) (slice-above x.high (records_in m xs) high x.low x.high (omega arith) c) ∙ append-none (m x.page).records)))
+          subst (λ (u : Visit). slice (records_along m (x ∷ xs)) u.low u.high ≡ (m u.page).records) e
+          (slice-append (m x.page).records (records_along m xs) x.low x.high ∙ (ap (λ ys. ys ++ slice (records_along m xs) x.low x.high) (slice-within x.low (m x.page).records x.high x.low x.high (omega arith) (omega arith) w)
+          ∙ (ap (λ ys. (m x.page).records ++ ys) (slice-above x.high (records_along m xs) high x.low x.high (omega arith) c) ∙ append-none (m x.page).records)))
       | inr j ↦
           let q = IsTiled-within x.high xs high t.1 r.1 v j in
-          a ∙ (ap (λ ys. ys ++ slice (records_in m xs) v.low v.high) (slice-below x.low (m x.page).records x.high v.low v.high q.0 w) ∙ slice-records_in m x.high xs high h.1 t.1 r.1 v j)
+          a ∙ (ap (λ ys. ys ++ slice (records_along m xs) v.low v.high) (slice-below x.low (m x.page).records x.high v.low v.high q.0 w) ∙ slice-records_along m x.high xs high h.1 t.1 r.1 v j)
     ]
   where
     append-none : (xs : Pairs) → xs ++ [] ≡ xs
@@ -147,15 +147,15 @@ slice-records_in m low (x ∷ xs) high h t r v i =
     append-none (x ∷ xs) = ap (λ ys. x ∷ ys) (append-none xs)
 
 -- leaves that have a list's slices hold that list
-pub records_in-slices : (m : PageMemory) (low : ℕ) (vs : List Visit) (high : ℕ) (target : Pairs) (a b : ℕ) → Rises a target b → IsTiled low vs high → AllByRecursion HasWidth vs
-    → ((v : Visit) → IsAmong v vs → (m v.page).records ≡ slice target v.low v.high) → records_in m vs ≡ slice target low high
-records_in-slices m low [] high target a b ri t r e = sym (slice-empty target low high (let x = t in omega arith))
-records_in-slices m low (x ∷ xs) high target a b ri t r e =
-    let ih = records_in-slices m x.high xs high target a b ri t.1 r.1 (λ v i. e v (inr i)) in
+pub records_along-slices : (m : PageMemory) (low : ℕ) (vs : List Visit) (high : ℕ) (target : Pairs) (a b : ℕ) → Rises a target b → IsTiled low vs high → AllByRecursion HasWidth vs
+    → ((v : Visit) → IsAmong v vs → (m v.page).records ≡ slice target v.low v.high) → records_along m vs ≡ slice target low high
+records_along-slices m low [] high target a b ri t r e = sym (slice-empty target low high (let x = t in omega arith))
+records_along-slices m low (x ∷ xs) high target a b ri t r e =
+    let ih = records_along-slices m x.high xs high target a b ri t.1 r.1 (λ v i. e v (inr i)) in
     let h = e x (inl refl) in
     let top = tiled-top x.high xs high t.1 r.1 in
     let s = slice-split a target b x.low x.high high ri (let q = r.0 in omega arith) top in
-    ap (λ ys. ys ++ records_in m xs) h ∙ (ap (λ ys. slice target x.low x.high ++ ys) ih ∙ (s ∙ ap (λ q. slice target q high) t.0))
+    ap (λ ys. ys ++ records_along m xs) h ∙ (ap (λ ys. slice target x.low x.high ++ ys) ih ∙ (s ∙ ap (λ q. slice target q high) t.0))
   where
     tiled-top : (low : ℕ) (vs : List Visit) (high : ℕ) → IsTiled low vs high → AllByRecursion HasWidth vs → low ≤ high
     tiled-top low [] high t r = let x = t in omega arith
@@ -182,25 +182,25 @@ module _ (written : ℕ → Bool) (m new : PageMemory) (same : (n : ℕ) → wri
   tree : IsTree new (height_of new root) (top_of root)
   tree = IsTree-after written m new same root t low-m fresh p low-new
 
-  leaf-in : (v : Visit) → 0 < over (is_visit 0 v) fresh → IsAmong v (leaves_of new root)
-  leaf-in v pos = let a = weight_of-after written m new same root t low-m fresh p low-new (is_visit 0 v) in let b = weight_of-leaf v new root in IsAmong-counted v (leaves_of new root) (omega arith)
+  leaf-in : (v : Visit) → 0 < over (counts_visit 0 v) fresh → IsAmong v (leaves_of new root)
+  leaf-in v pos = let a = weight_of-after written m new same root t low-m fresh p low-new (counts_visit 0 v) in let b = weight_of-leaf v new root in IsAmong-counted v (leaves_of new root) (omega arith)
 
-  fresh-in : (v : Visit) → IsAmong v (leaves_of new root) → written v.page ≡ true → 0 < over (is_visit 0 v) fresh
+  fresh-in : (v : Visit) → IsAmong v (leaves_of new root) → written v.page ≡ true → 0 < over (counts_visit 0 v) fresh
   fresh-in v i w =
-      let a = weight_of-after written m new same root t low-m fresh p low-new (is_visit 0 v) in let b = weight_of-leaf v new root in let c = counted-IsAmong v (leaves_of new root) i in
-      let d = weight-off_written written m (height_of m root) (top_of root) 0 v w in omega arith
+      let a = weight_of-after written m new same root t low-m fresh p low-new (counts_visit 0 v) in let b = weight_of-leaf v new root in let c = counted-IsAmong v (leaves_of new root) i in
+      let d = weight_along-off_written written m (height_of m root) (top_of root) 0 v w in omega arith
 
   old-slice : (v : Visit) → IsAmong v (leaves_of new root) → written v.page ≡ false → (new v.page).records ≡ slice (content_of m root) v.low v.high
   old-slice v i w =
       let o = IsAmong-before written m new same root t low-m fresh p low-new v i w in
-      ap (λ (q : PageState). q.records) (same v.page w) ∙ sym (slice-records_in m 0 (leaves_of m root) end_rank t.tree.leaves (IsTiled-leaves_of m root t.tree) (HasWidth-leaves_of m root t.tree) v o)
+      ap (λ (q : PageState). q.records) (same v.page w) ∙ sym (slice-records_along m 0 (leaves_of m root) end_rank t.tree.leaves (IsTiled-leaves_of m root t.tree) (HasWidth-leaves_of m root t.tree) v o)
 
   pub content_of-sliced : IsSliced new fresh target key → content_of new root ≡ target
   content_of-sliced s =
       let ti = IsTiled-leaves_of new root tree in let ro = HasWidth-leaves_of new root tree in
       let home = leaf-in s.there.0 s.there.1 in
       let mine = over-holds (λ h v. written v.page ≡ true) fresh p.mine 0 s.there.0 s.there.1 in
-      records_in-slices new 0 (leaves_of new root) end_rank target 0 end_rank rises ti ro (λ v i. written-cases written v.page ((new v.page).records ≡ slice target v.low v.high)
+      records_along-slices new 0 (leaves_of new root) end_rank target 0 end_rank rises ti ro (λ v i. written-cases written v.page ((new v.page).records ≡ slice target v.low v.high)
       (λ w. over-holds (λ h v. h ≡ 0 → (new v.page).records ≡ slice target v.low v.high) fresh s.each 0 v (fresh-in v i w) refl)
       (λ w. old-slice v i w ∙ sym (elsewhere v.low v.high (outside v i w ti ro s home mine))))
       ∙ slice-within 0 target end_rank 0 end_rank (omega arith) (omega arith) rises
@@ -225,9 +225,9 @@ module _ (written : ℕ → Bool) (m new : PageMemory) (same : (n : ℕ) → wri
       let i : IsAmong pl.visit (leaves_of new root) = subst (IsAmong pl.visit) (sym pl.is) (in-middle pl.before pl.visit pl.behind) in
       record {
         each = AllByRecursion-over (λ s. s.height ≡ 0 → (new s.visit.page).records ≡ slice target s.visit.low s.visit.high) fresh (λ s pos z.
-            let pos' = subst (λ h. 0 < over (is_visit h s.visit) fresh) z pos in
-            sym (slice-records_in new 0 (leaves_of new root) end_rank tn.tree.leaves ti ro s.visit (leaf-in s.visit pos')) ∙ ap (λ xs. slice xs s.visit.low s.visit.high) e);
-        there = (pl.visit, written-cases written pl.visit.page (0 < over (is_visit 0 pl.visit) fresh) (λ w. fresh-in pl.visit i w) (λ w. absurd (differs (same-value pl i w))), pl.low, pl.high);
+            let pos' = subst (λ h. 0 < over (counts_visit h s.visit) fresh) z pos in
+            sym (slice-records_along new 0 (leaves_of new root) end_rank tn.tree.leaves ti ro s.visit (leaf-in s.visit pos')) ∙ ap (λ xs. slice xs s.visit.low s.visit.high) e);
+        there = (pl.visit, written-cases written pl.visit.page (0 < over (counts_visit 0 pl.visit) fresh) (λ w. fresh-in pl.visit i w) (λ w. absurd (differs (same-value pl i w))), pl.low, pl.high);
       }
     where
       in-middle : (xs : List Visit) (v : Visit) (ys : List Visit) → IsAmong v (xs ++ v ∷ ys)
@@ -236,10 +236,10 @@ module _ (written : ℕ → Bool) (m new : PageMemory) (same : (n : ℕ) → wri
 
       same-value : (pl : IsPageFor key (leaves_of new root) (leaf_for new key root)) → IsAmong pl.visit (leaves_of new root) → written pl.visit.page ≡ false → value_at key target ≡ value_at key (content_of m root)
       same-value pl i w =
-          let a = value_at-records_in new key 0 (leaves_of new root) end_rank (leaf_for new key root) tn.tree.leaves (IsTiled-leaves_of new root tn.tree) pl in
+          let a = value_at-records_along new key 0 (leaves_of new root) end_rank (leaf_for new key root) tn.tree.leaves (IsTiled-leaves_of new root tn.tree) pl in
           let o = IsAmong-before written m new same root t low-m fresh p low-new pl.visit i w in
           let q = in-split (leaves_of m root) pl.visit o in
-          let b = value_at-records_in m key 0 (leaves_of m root) end_rank pl.visit.page t.tree.leaves (IsTiled-leaves_of m root t.tree) (record { before = q.0; visit = pl.visit; behind = q.1; is = q.2; here = refl; low = pl.low; high = pl.high }) in
+          let b = value_at-records_along m key 0 (leaves_of m root) end_rank pl.visit.page t.tree.leaves (IsTiled-leaves_of m root t.tree) (record { before = q.0; visit = pl.visit; behind = q.1; is = q.2; here = refl; low = pl.low; high = pl.high }) in
           ap (value_at key) (sym e) ∙ (a ∙ (ap (λ n. value_at key (new n).records) (sym pl.here) ∙ (ap (λ (g : PageState). value_at key g.records) (same pl.visit.page w) ∙ sym b)))
         where
           in-split : (vs : List Visit) (v : Visit) → IsAmong v vs → (before : List Visit) × (behind : List Visit) × (vs ≡ before ++ v ∷ behind)

@@ -9,17 +9,17 @@ use Rattle.ib_walk.specs.Pages.{PageMemory}
 use Rattle.ib_walk.specs.Walk.{Visit}
 use Rattle.ib_walk.specs.Trees.{height_of, top_of, weight_of, IsLawful}
 use Rattle.ib_patch.specs.Patch.{LevelVisit, over, on_written, off_written, old_visits, children_weight, top, IsGoodAt, IsBalanced}
-use Rattle.ib_walk.specs.Walk.{is_visit}
+use Rattle.ib_walk.specs.Walk.{counts_visit}
 use Rattle.ib_patch.specs.PatchTest.{Position, Positions, visit_of, at_page, positions_over, is_none, detach_pages, root_at, set_roots, all_back, list_over, visit_in, fresh_of, visited, IsListed, IsKeptBeside}
 use Rattle.ib_walk.proofs.ChoiceLaws.{Some-same, cond-eq, cond-ne}
 use Rattle.ib_patch.proofs.RestLaws.{detach_pages-each}
 use Rattle.ib_tree.proofs.DetachLaws.{DetachedPages-detach, detach_pages-unwritten}
-use Rattle.ib_tree.proofs.PatchLaws.{is_visit-height, is_visit-own}
+use Rattle.ib_tree.proofs.PatchLaws.{counts_visit-height, counts_visit-own}
 use Rattle.ib_tree.proofs.PatchedLaws.{most_height-lt, written-cases}
 use Rattle.ib_tree.proofs.PositionLaws.{Stands-counted, counted-Stands}
 use Rattle.ib_tree.proofs.RootLaws.{AreRoots, positions_over-set_roots, set_roots-cases, set_roots-unwritten}
 use Rattle.ib_tree.proofs.VisitedLaws.{IsPageIn, VisitedLevels, VisitedLevels-visit, upto}
-use Rattle.ib_tree.proofs.WeightLaws.{over-append, over-written_below, weight-split, weight-step, weight-zero}
+use Rattle.ib_tree.proofs.WeightLaws.{over-append, over-written_below, weight_along-split, weight_along-step, weight_along-zero}
 
 pub over-fresh_of : (f : ℕ → Visit → ℕ) (root : ℕ) (ps : List ℕ) (t : Positions) → over f (fresh_of ps t root) ≡ list_over f root ps t
 over-fresh_of f root [] t = refl
@@ -89,7 +89,7 @@ module _ (written : ℕ → Bool) (m new : PageMemory) (same : (p : ℕ) → wri
   top_weight f root = cond (ltb 0 root && leb root roots) (f (m root).level (top root)) 0
 
   pub weight_of-split : (f : ℕ → Visit → ℕ) (root : ℕ) → weight_of f m root ≡ f (m root).level (top root) + (weight_of (on_written written (children_weight m f)) m root + weight_of (off_written written (children_weight m f)) m root)
-  weight_of-split f root = let a = weight-step f m (height_of m root) (top_of root) in let b = weight-split written (children_weight m f) m (height_of m root) (top_of root) in omega arith
+  weight_of-split f root = let a = weight_along-step f m (height_of m root) (top_of root) in let b = weight_along-split written (children_weight m f) m (height_of m root) (top_of root) in omega arith
 
   pub weight_of-on_written : (f : ℕ → Visit → ℕ) (root : ℕ) → 0 < root → root ≤ roots → weight_of (on_written written f) m root ≡ list_over f root ps old
   weight_of-on_written f root s l = kept.table root s l (on_written written f) ∙ listed.all f root old
@@ -125,9 +125,9 @@ module _ (written : ℕ → Bool) (m new : PageMemory) (same : (p : ℕ) → wri
 
   pub AreRoots-detached : AreRoots written new end_rank n m same few roots (detach_pages m old ps old)
   AreRoots-detached r s l =
-      let a = (DetachedPages-detach m old n top_weight ps old within-old).rest (is_visit (m r).level (top r)) r in
-      let b = top_weight-root r s l (is_visit (m r).level (top r)) in
-      let c = is_visit-own (m r).level (top r) in
+      let a = (DetachedPages-detach m old n top_weight ps old within-old).rest (counts_visit (m r).level (top r)) r in
+      let b = top_weight-root r s l (counts_visit (m r).level (top r)) in
+      let c = counts_visit-own (m r).level (top r) in
       (Stands-counted r (m r).level (top r) (detach_pages m old ps old) n (omega arith)).is
 
   -- before the heights are visited
@@ -176,10 +176,10 @@ module _ (written : ℕ → Bool) (m new : PageMemory) (same : (p : ℕ) → wri
         old-height p e at =
             let t = kept.trees p e at in
             let s = counted-Stands e.tree e.height (visit_of p e) old n (record { within = within p e at; is = at }) in
-            let a = kept.table e.tree t.0 t.1 (is_visit e.height (visit_of p e)) in
+            let a = kept.table e.tree t.0 t.1 (counts_visit e.height (visit_of p e)) in
             elim (cases_lt (m e.tree).level e.height) [
               | inr le ↦ let b = (law.trees e.tree t.0 t.1).1 in let c = most_height-lt roots in omega arith
-              | inl g ↦ absurd (let z = weight-zero (is_visit e.height (visit_of p e)) m (height_of m e.tree) (top_of e.tree) (λ k v l. is_visit-height e.height (visit_of p e) k v (λ same. omega arith)) in omega arith)
+              | inl g ↦ absurd (let z = weight_along-zero (counts_visit e.height (visit_of p e)) m (height_of m e.tree) (top_of e.tree) (λ k v l. counts_visit-height e.height (visit_of p e) k v (λ same. omega arith)) in omega arith)
             ]
           where
             within : (p : ℕ) (e : Position) → old p ≡ Some e → p < n
@@ -203,7 +203,7 @@ module _ (written : ℕ → Bool) (m new : PageMemory) (same : (p : ℕ) → wri
         let b = levels-visited.weighs f root in
         let c = whole (children_weight new f) root ps in
         let d = kept.table root s l f in
-        let e = weight-split written f m (height_of m root) (top_of root) in
+        let e = weight_along-split written f m (height_of m root) (top_of root) in
         let g = over-written_below written f m (height_of m root) (top_of root) in
         let h = weight_of-on_written (children_weight m f) root s l in
         let i = over-written_below written (children_weight m f) m (height_of m root) (top_of root) in

@@ -4,46 +4,46 @@ use Rattle.std.proofs.lemmas.Bool.{cases_lt, cases_eq, lt-ltb, le-ltb}
 use Rattle.std.proofs.lemmas.Bool.Decides.{nat_tests}
 use Rattle.ib_map.specs.Keys.{end_rank}
 use Rattle.ib_walk.specs.Pages.{PageMemory}
-use Rattle.ib_walk.specs.Walk.{Visit, children, sum_of, weight, is_page}
+use Rattle.ib_walk.specs.Walk.{Visit, children, sum_of, weight_along, counts_page}
 use Rattle.ib_walk.specs.Trees.{height_of, top_of, weight_of, IsLawful}
 use Rattle.ib_patch.specs.Patch.{off_written, IsGoodAt}
-use Rattle.ib_walk.specs.Walk.{is_visit}
+use Rattle.ib_walk.specs.Walk.{counts_visit}
 use Rattle.ib_patch.specs.PatchTest.{Positions, IsListed, IsKeptBeside, PassesTest}
 use Rattle.ib_map.specs.Space.{has_pages}
 use Rattle.ib_map.specs.declared.TheConstants.{MOST_PAGES}
 use Rattle.ib_page.specs.declared.space.TheConstants.{MAPPED_PAGES}
-use Rattle.ib_walk.specs.Trees.{opening as opening_pages, opening_bits, free_page}
+use Rattle.ib_walk.specs.Trees.{opening_pages, opening_bits, free_page}
 use Rattle.ib_walk.specs.Words.{pages_of, bits_of, IsLawfulMemory}
 use Rattle.ib_tree.specs.PageLists.{is_below, pages_below}
 use Rattle.ib_tree.specs.Tests.{TellsGood, opening_positions, PassesWhole}
-use Rattle.ib_walk.proofs.MeetLaws.{is_page-own}
+use Rattle.ib_walk.proofs.MeetLaws.{counts_page-own}
 use Rattle.ib_walk.proofs.OpeningLaws.{IsLawful-opening}
 use Rattle.ib_walk.proofs.TreeLaws.{weight_of-le}
 use Rattle.ib_tree.proofs.ListLaws.{IsListed-below}
 use Rattle.ib_tree.proofs.RootPositionLaws.{IsKeptBeside-opening}
-use Rattle.ib_tree.proofs.PatchLaws.{is_visit-other, is_visit-own}
+use Rattle.ib_tree.proofs.PatchLaws.{counts_visit-other, counts_visit-own}
 use Rattle.ib_tree.proofs.PatchTheorem.{test-complete, test-sound}
-use Rattle.ib_tree.proofs.WeightLaws.{weight-le}
+use Rattle.ib_tree.proofs.WeightLaws.{weight_along-le}
 
-sum-none : (f : Visit → ℕ) (h : ℕ) (vs : List Visit) → ((v : Visit) → 0 < sum_of (is_visit h v h) vs → f v ≡ 0) → sum_of f vs ≡ 0
+sum-none : (f : Visit → ℕ) (h : ℕ) (vs : List Visit) → ((v : Visit) → 0 < sum_of (counts_visit h v h) vs → f v ≡ 0) → sum_of f vs ≡ 0
 sum-none f h [] e = refl
-sum-none f h (v ∷ vs) e = let a = e v (let s = is_visit-own h v in omega arith) in let r = sum-none f h vs (λ u l. e u (omega arith)) in omega arith
+sum-none f h (v ∷ vs) e = let a = e v (let s = counts_visit-own h v in omega arith) in let r = sum-none f h vs (λ u l. e u (omega arith)) in omega arith
 
 -- what weighs nothing on any visit
-pub weight-none : (f : ℕ → Visit → ℕ) (m : PageMemory) (h : ℕ) (vs : List Visit) → ((k : ℕ) (v : Visit) → 0 < weight (is_visit k v) m h vs → f k v ≡ 0) → weight f m h vs ≡ 0
-weight-none f m zero vs e = sum-none (f 0) 0 vs (e 0)
-weight-none f m (suc h) vs e =
+pub weight_along-none : (f : ℕ → Visit → ℕ) (m : PageMemory) (h : ℕ) (vs : List Visit) → ((k : ℕ) (v : Visit) → 0 < weight_along (counts_visit k v) m h vs → f k v ≡ 0) → weight_along f m h vs ≡ 0
+weight_along-none f m zero vs e = sum-none (f 0) 0 vs (e 0)
+weight_along-none f m (suc h) vs e =
     let a = sum-none (f (suc h)) (suc h) vs (λ v l. e (suc h) v (omega arith)) in
-    let b = weight-none f m h (children m vs) (λ k v l. e k v (omega arith)) in omega arith
+    let b = weight_along-none f m h (children m vs) (λ k v l. e k v (omega arith)) in omega arith
 
-pub is_visit-le_page : (h : ℕ) (v : Visit) (k : ℕ) (u : Visit) → is_visit h v k u ≤ is_page v.page k u
-is_visit-le_page h v k u =
+pub counts_visit-le_page : (h : ℕ) (v : Visit) (k : ℕ) (u : Visit) → counts_visit h v k u ≤ counts_page v.page k u
+counts_visit-le_page h v k u =
     elim (cases_eq u.page v.page) [
-      | inr ne ↦ let z = is_visit-other h v k u ne in omega arith
-      | inl e ↦ let o = is_page-own v.page k u e in let a = most h v k u in omega arith
+      | inr ne ↦ let z = counts_visit-other h v k u ne in omega arith
+      | inl e ↦ let o = counts_page-own v.page k u e in let a = most h v k u in omega arith
     ]
   where
-    most : (h : ℕ) (v : Visit) (k : ℕ) (u : Visit) → is_visit h v k u ≤ 1
+    most : (h : ℕ) (v : Visit) (k : ℕ) (u : Visit) → counts_visit h v k u ≤ 1
     most h v k u = elim (eqb k h) as (λ a. cond {A = ℕ} a (cond {A = ℕ} (eqb u.page v.page) (cond {A = ℕ} (eqb u.low v.low) (cond {A = ℕ} (eqb u.high v.high) 1 0) 0) 0) 0 ≤ 1) [
       | false ↦ omega arith
       | true ↦ elim (eqb u.page v.page) as (λ a. cond {A = ℕ} a (cond {A = ℕ} (eqb u.low v.low) (cond {A = ℕ} (eqb u.high v.high) 1 0) 0) 0 ≤ 1) [
@@ -59,9 +59,9 @@ is_visit-le_page h v k u =
 pub weight_of-beyond : (m : PageMemory) (bits : ℕ → ℕ) (roots n : ℕ) → IsLawful m bits roots → ((p : ℕ) → n ≤ p → bits p ≡ 0) → (root : ℕ) → 0 < root → root ≤ roots
     → (f : ℕ → Visit → ℕ) → weight_of (off_written (is_below n) f) m root ≡ 0
 weight_of-beyond m bits roots n law end root s l f =
-    weight-none (off_written (is_below n) f) m (height_of m root) (top_of root) (λ k v pos.
-    let a = weight-le (is_visit k v) (is_page v.page) m (height_of m root) (top_of root) (is_visit-le_page k v) in
-    let b = weight_of-le (is_page v.page) m root roots s l in
+    weight_along-none (off_written (is_below n) f) m (height_of m root) (top_of root) (λ k v pos.
+    let a = weight_along-le (counts_visit k v) (counts_page v.page) m (height_of m root) (top_of root) (counts_visit-le_page k v) in
+    let b = weight_of-le (counts_page v.page) m root roots s l in
     let c = law.met v.page in
     elim (cases_lt v.page n) [
       | inl lt ↦ let t = lt-ltb v.page n lt in rw t refl

@@ -9,7 +9,7 @@ use Rattle.ib_map.specs.Space.{has_pages}
 use Rattle.ib_map.specs.declared.TheConstants.{PAGE_WORDS, LEAST_PAGES, MOST_PAGES}
 use Rattle.ib_page.specs.Memory.{image_at, word_at}
 use Rattle.ib_page.specs.Space.{is_taken, IsSpacePage}
-use Rattle.ib_walk.specs.Trees.{most_height, opening as opening_pages, opening_bits}
+use Rattle.ib_walk.specs.Trees.{most_height, opening_pages, opening_bits}
 use Rattle.ib_walk.specs.Words.{memory_of, bits_of, IsLawfulMemory}
 use Rattle.ib_patch.specs.declared.position.PagePosition.{PagePosition}
 use Rattle.ib_patch.specs.PageTests.{PassesAt, bit_of}

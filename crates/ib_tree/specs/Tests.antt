@@ -11,7 +11,7 @@ use Rattle.ib_logrec.specs.Law.{PageRange}
 use Rattle.ib_logrec.specs.Log.{memory_after, history_of, map_of}
 use Rattle.ib_walk.specs.Pages.{PageMemory}
 use Rattle.ib_walk.specs.Walk.{Visit}
-use Rattle.ib_walk.specs.Trees.{IsLawful, opening as opening_pages, opening_bits}
+use Rattle.ib_walk.specs.Trees.{IsLawful, opening_pages, opening_bits}
 use Rattle.ib_walk.specs.Words.{image_of, pages_of, bits_of}
 use Rattle.ib_patch.specs.Patch.{IsGoodAt, IsSliced}
 use Rattle.ib_patch.specs.PatchTest.{Position, Positions, set_at, fresh_of, IsListed, IsKeptBeside, PassesTest}

@@ -4,7 +4,7 @@
 ghost use Rattle.std.specs.Prelude.{◌≡◌, ◌<◌, ◌≤◌, ◌^◌, ◌↔◌, ℕ, length, IsTrue, true, None};
 ghost use Rattle.ib_map.specs.Keys.{end_rank};
 ghost use Rattle.ib_page.specs.Memory.{image_at, word_at};
-ghost use Rattle.ib_walk.specs.Trees.{opening as opening_pages};
+ghost use Rattle.ib_walk.specs.Trees.{opening_pages};
 ghost use Rattle.ib_walk.specs.Words.{memory_of, IsLawfulMemory};
 ghost use Rattle.ib_patch.specs.PatchTest.{set_roots, visited};
 ghost use Rattle.ib_patch.specs.Positions.{is_good_at, marks_of, positions_of, IsStep};

@@ -8,7 +8,7 @@ use Rattle.ib_map.specs.Keys.{MapKey, rank, end_rank}
 use Rattle.ib_map.specs.Pairs.{Pairs}
 use Rattle.ib_map.specs.Pairs.{first_rank}
 use Rattle.ib_page.specs.Work.{WorkPage, changed_of, with_page}
-use Rattle.ib_merge.specs.Deletes.{nodes_of}
+use Rattle.ib_merge.specs.Deletes.{nodes_on_path}
 use Rattle.ib_merge.proofs.WayLaws.{nodes-few, nodes-same}
 
 -- what holds of the image of a page holds where another page is put in
@@ -40,8 +40,8 @@ pub all-at : (P : ℕ → Type 0) (xs : List ℕ) (k : ℕ) → length xs ≤ k 
 all-at P xs k long at = All-from_get_or P xs 0 (λ i lt. at i (omega arith))
 
 -- what holds of each page of a path but the last
-pub nodes-all : (P : ℕ → Type 0) (path : List ℕ) (k : ℕ) → length path ≤ k + 1 → ((i : ℕ) → i < k → P (get_or path i 0)) → All P (nodes_of path)
-nodes-all P path k long at = All-from_get_or P (nodes_of path) 0 (λ i lt. subst P (sym (nodes-same path i (nodes-few path i lt))) (at i (let c = nodes-few path i lt in omega arith)))
+pub nodes-all : (P : ℕ → Type 0) (path : List ℕ) (k : ℕ) → length path ≤ k + 1 → ((i : ℕ) → i < k → P (get_or path i 0)) → All P (nodes_on_path path)
+nodes-all P path k long at = All-from_get_or P (nodes_on_path path) 0 (λ i lt. subst P (sym (nodes-same path i (nodes-few path i lt))) (at i (let c = nodes-few path i lt in omega arith)))
 
 -- a node's first key is its first rank
 pub first-le : (key : MapKey) (xs : Pairs) → 0 < length xs → IsSomeAnd (slice_get xs 0) (λ r. rank r.0 ≤ rank key) → first_rank xs end_rank ≤ rank key

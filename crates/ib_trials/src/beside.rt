@@ -3,7 +3,7 @@
 ghost use Rattle.std.specs.Prelude.{◌<◌, length, IsTrue, IfSome};
 ghost use Rattle.std.specs.List.{All};
 ghost use Rattle.ib_plans.specs.Agreement.{IsThere};
-ghost use Rattle.ib_merge.specs.Deletes.{HasSiblings, HasNext, nodes_of};
+ghost use Rattle.ib_merge.specs.Deletes.{HasSiblings, HasNext, nodes_on_path};
 ghost use Rattle.ib_trials.specs.Reads.{IsReadFrom, HasBehind};
 
 use crate::pages::{beside_in, has_page, image_at, is_node_for, load, next_of, page_number};
@@ -57,7 +57,7 @@ pub(crate) fn load_next(rt: &impl Abort, work: &mut WorkSet, memory: &[Image], p
 // Whether the pages beside those of a path are in the work set, and the leaves behind them.
 pub(crate) fn has_siblings(work: &WorkSet, path: &[u32], key: Key) -> bool
     requires { 0 < length path.now }
-    ensures { IsTrue result → All (HasSiblings key work.now) (nodes_of path.now) × All (HasBehind key work.now) (nodes_of path.now) }
+    ensures { IsTrue result → All (HasSiblings key work.now) (nodes_on_path path.now) × All (HasBehind key work.now) (nodes_on_path path.now) }
 {
     for height in 0..path.len() - 1 {
         if !has_beside(work, path[height], key) {

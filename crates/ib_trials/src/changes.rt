@@ -6,7 +6,7 @@ ghost use Rattle.ib_map.specs.declared.TheConstants.{LEAST_PAGES, MOST_PAGES};
 ghost use Rattle.ib_page.specs.Memory.{word_at};
 ghost use Rattle.ib_walk.specs.Words.{bits_of, memory_of, IsLawfulMemory};
 ghost use Rattle.ib_plans.specs.Agreement.{HasTreePages, IsThere};
-ghost use Rattle.ib_merge.specs.Deletes.{HasSiblings, HasNext, nodes_of};
+ghost use Rattle.ib_merge.specs.Deletes.{HasSiblings, HasNext, nodes_on_path};
 ghost use Rattle.ib_split.specs.Inserts.{HasFresh};
 ghost use Rattle.ib_trials.specs.Reads.{IsRead, HasBehind};
 
@@ -130,8 +130,8 @@ fn check_insert(rt: &impl Abort, work: &WorkSet, path: &Path, fresh: &Path)
 fn check_delete(rt: &impl Abort, work: &WorkSet, path: &Path, key: Key)
     requires { 0 < length path.now }
     ensures path { HasTreePages path.now work.now }
-    ensures siblings { All (HasSiblings key work.now) (nodes_of path.now) }
-    ensures behind { All (HasBehind key work.now) (nodes_of path.now) }
+    ensures siblings { All (HasSiblings key work.now) (nodes_on_path path.now) }
+    ensures behind { All (HasBehind key work.now) (nodes_on_path path.now) }
     ensures space { IsThere work.now 0 }
 {
     assert!(rt; has_tree_pages(work, path.pages()));

@@ -27,6 +27,15 @@ words_at-same words new place (suc n) same =
     let rest = words_at-same words new (place + 1) n (λ q l h. same q (omega arith) (omega arith)) in
     cc
 
+length-words_at : (words : ℕ → ℕ) (place n : ℕ) → length (words_at words place n) ≡ n
+length-words_at words place zero = refl
+length-words_at words place (suc n) = ap suc (length-words_at words (place + 1) n)
+
+-- a page has all its words
+pub length-image_of : (words : ℕ → ℕ) (page : ℕ) → length (image_of words page) ≡ PAGE_WORDS
+unfolding image_of
+length-image_of words page = length-words_at words (page * PAGE_WORDS) PAGE_WORDS
+
 -- the words of a page that are those of an image are the image
 pub image_of-list : (words : ℕ → ℕ) (page : ℕ) (image : List ℕ) → length image ≡ PAGE_WORDS
     → ((index : ℕ) → index < PAGE_WORDS → words (word_place page index) ≡ get_or image index 0) → image_of words page ≡ image

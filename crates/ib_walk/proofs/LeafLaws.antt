@@ -6,13 +6,13 @@ use Rattle.ib_map.specs.Keys.{MapKey, rank, end_rank}
 use Rattle.ib_map.specs.Pairs.{Pairs, Rises, put, value_at}
 use Rattle.ib_heap.specs.declared.TheConstants.{MOST_RECORDS}
 use Rattle.ib_walk.specs.Pages.{Tree, PageState, PageMemory, IsSound}
-use Rattle.ib_walk.specs.Walk.{Visit, below, records_in, sum_of, weight, is_page, IsLeafAt, AreNodes, AreLinked, IsTiled}
+use Rattle.ib_walk.specs.Walk.{Visit, below, records_along, sum_of, weight_along, counts_page, IsLeafAt, AreNodes, AreLinked, IsTiled}
 use Rattle.ib_walk.specs.Search.{leaf_for, IsPageFor}
 use Rattle.ib_walk.specs.Trees.{top_of, height_of, leaves_of, content_of, weight_of, IsTreeOf, IsLawfulUpTo, IsLawful}
 use Rattle.ib_map.proofs.PairLaws.{put-behind, put-before, Rises-put, length-put}
-use Rattle.ib_walk.proofs.WalkLaws.{AllByRecursion-left, AllByRecursion-right, AllByRecursion-append, records_in-append, records_in-same, IsAlike, leaves-same, IsSameTree}
+use Rattle.ib_walk.proofs.WalkLaws.{AllByRecursion-left, AllByRecursion-right, AllByRecursion-append, records_along-append, records_along-same, IsAlike, leaves-same, IsSameTree}
 use Rattle.ib_walk.proofs.MeetLaws.{sum_of-own, lowest-le_weight, AllByRecursion-other, AllByRecursion-met, IsSameTree-met, AreLinked-same, HasLinks}
-use Rattle.ib_walk.proofs.SearchLaws.{above-zero, Rises-records_in, AllByRecursion-at, upper-nodes, upper-lowest, upper-weight, IsTiled-left, IsTiled-right}
+use Rattle.ib_walk.proofs.SearchLaws.{above-zero, Rises-records_along, AllByRecursion-at, upper-nodes, upper-lowest, upper-weight, IsTiled-left, IsTiled-right}
 use Rattle.ib_walk.proofs.TreeLaws.{weight_of-le, weight_of-two_le, weight_all-same, IsPageFor-leaf, IsTiled-leaves, times_met-le, AreNodes-above}
 
 -- the records of the key's leaf give way to others that fit every range that has the key and those before
@@ -58,11 +58,11 @@ module _ (m new : PageMemory) (key : MapKey) (page : ℕ) (edit : IsLeafEdit m n
   -- the tree that has the leaf
   pub record EditedTree (height root : ℕ) : Type 0 where
     pub tree : IsTreeOf new height root
-    pub weighs : (f : ℕ → Visit → ℕ) → weight f new height (top_of root) ≡ weight f m height (top_of root)
+    pub weighs : (f : ℕ → Visit → ℕ) → weight_along f new height (top_of root) ≡ weight_along f m height (top_of root)
     pub lowest : below new height (top_of root) ≡ below m height (top_of root)
 
   pub EditedTree-edit : (height root : ℕ) → (m page).level ≡ 0 → IsTreeOf m height root → IsPageFor key (below m height (top_of root)) page
-      → weight (is_page page) m height (top_of root) ≤ 1 → EditedTree height root
+      → weight_along (counts_page page) m height (top_of root) ≤ 1 → EditedTree height root
   EditedTree-edit height root leaf t p once =
       let up = AreNodes-above m height (top_of root) t.tree.nodes in
       let same : (n : ℕ) → (m n).kind ≡ Tree → 0 < (m n).level → IsAlike (new n) (m n) =
@@ -73,10 +73,10 @@ module _ (m new : PageMemory) (key : MapKey) (page : ℕ) (edit : IsLeafEdit m n
       subst (λ n. below new n (top_of root) ≡ below m height (top_of root)) at-zero (upper-lowest m new 0 same height (top_of root) up) in
       let all = subst (AllByRecursion (IsLeafAt m)) p.is t.tree.leaves in
       let here = sum_of-own page 0 p.before p.visit p.behind p.here in
-      let less = lowest-le_weight (is_page page) m height (top_of root) in
-      let total = ap (sum_of (is_page page 0)) p.is in
-      let none_before : sum_of (is_page page 0) p.before ≡ 0 = omega arith in
-      let none_behind : sum_of (is_page page 0) p.behind ≡ 0 = omega arith in
+      let less = lowest-le_weight (counts_page page) m height (top_of root) in
+      let total = ap (sum_of (counts_page page 0)) p.is in
+      let none_before : sum_of (counts_page page 0) p.before ≡ 0 = omega arith in
+      let none_behind : sum_of (counts_page page 0) p.behind ≡ 0 = omega arith in
       let before = leaves-same m new p.before (AllByRecursion-other (λ n. IsAlike (new n) (m n)) page 0 p.before none_before alike-other) (AllByRecursion-left (IsLeafAt m) p.before (p.visit ∷ p.behind) all) in
       let rest = AllByRecursion-right (IsLeafAt m) p.before (p.visit ∷ p.behind) all in
       let behind = leaves-same m new p.behind (AllByRecursion-other (λ n. IsAlike (new n) (m n)) page 0 p.behind none_behind alike-other) rest.1 in
@@ -93,7 +93,7 @@ module _ (m new : PageMemory) (key : MapKey) (page : ℕ) (edit : IsLeafEdit m n
           linked = subst (λ vs. AreLinked new 0 vs 0) (sym lowest)
               (AreLinked-same m new 0 (below m height (top_of root)) 0 (AllByRecursion-met (λ n. HasLinks (new n) (m n)) 0 (below m height (top_of root)) (λ n l. links-kept n)) t.linked);
         };
-        weighs = λ f. let P : ℕ → Type 0 = λ n. weight f new n (top_of root) + sum_of (f 0) (below m height (top_of root)) ≡ weight f m n (top_of root) + sum_of (f 0) (below m height (top_of root)) in
+        weighs = λ f. let P : ℕ → Type 0 = λ n. weight_along f new n (top_of root) + sum_of (f 0) (below m height (top_of root)) ≡ weight_along f m n (top_of root) + sum_of (f 0) (below m height (top_of root)) in
             let r = subst P at-zero (upper-weight m new 0 same f height (top_of root) up) in omega arith;
         lowest = lowest;
       }
@@ -113,16 +113,16 @@ module _ (most : ℕ → ℕ) (m new : PageMemory) (bits : ℕ → ℕ) (roots :
       subst (λ q. (m q).level ≡ 0) place.here leaf.level
 
   -- the leaf is met in its own tree, and so in no other
-  pub leaf_for-met : 1 ≤ weight_of (is_page (leaf_for m key root)) m root
+  pub leaf_for-met : 1 ≤ weight_of (counts_page (leaf_for m key root)) m root
   leaf_for-met =
       let here = sum_of-own (leaf_for m key root) 0 place.before place.visit place.behind place.here in
-      let less = lowest-le_weight (is_page (leaf_for m key root)) m (height_of m root) (top_of root) in
-      let total = ap (sum_of (is_page (leaf_for m key root) 0)) place.is in
+      let less = lowest-le_weight (counts_page (leaf_for m key root)) m (height_of m root) (top_of root) in
+      let total = ap (sum_of (counts_page (leaf_for m key root) 0)) place.is in
       omega arith
 
-  leaf-once : weight_of (is_page (leaf_for m key root)) m root ≤ 1
+  leaf-once : weight_of (counts_page (leaf_for m key root)) m root ≤ 1
   leaf-once =
-      let a = weight_of-le (is_page (leaf_for m key root)) m root roots some le in
+      let a = weight_of-le (counts_page (leaf_for m key root)) m root roots some le in
       let b = times_met-le most m bits roots (leaf_for m key root) law in omega arith
 
   edited : EditedTree m new key (leaf_for m key root) edit (height_of m root) root
@@ -133,10 +133,10 @@ module _ (most : ℕ → ℕ) (m new : PageMemory) (bits : ℕ → ℕ) (roots :
   other-tree r s l ne =
       IsSameTree-met m new (height_of m r) (top_of r)
       (λ n at. alike-other m new key (leaf_for m key root) edit n (λ e.
-      let a = weight_of-two_le (is_page (leaf_for m key root)) m r root roots s l some le ne in
+      let a = weight_of-two_le (counts_page (leaf_for m key root)) m r root roots s l some le ne in
       let b = times_met-le most m bits roots (leaf_for m key root) law in
       let c = leaf_for-met in
-      let d = ap (λ q. weight (is_page q) m (height_of m r) (top_of r)) e in omega arith))
+      let d = ap (λ q. weight_along (counts_page q) m (height_of m r) (top_of r)) e in omega arith))
       (law.trees r s l).0.tree
 
   new-tree : (r : ℕ) → 0 < r → r ≤ roots → IsTreeOf new (height_of m r) r
@@ -157,9 +157,9 @@ module _ (most : ℕ → ℕ) (m new : PageMemory) (bits : ℕ → ℕ) (roots :
   pub weight_of-edit : (f : ℕ → Visit → ℕ) (r : ℕ) → 0 < r → r ≤ roots → weight_of f new r ≡ weight_of f m r
   weight_of-edit f r s l =
       let e = height_of-edit r in
-      ap (λ n. weight f new n (top_of r)) e ∙
+      ap (λ n. weight_along f new n (top_of r)) e ∙
       elim (cases_eq r root) [
-        | inl same ↦ subst (λ q. weight f new (height_of m q) (top_of q) ≡ weight f m (height_of m q) (top_of q)) (sym same) (edited.weighs f)
+        | inl same ↦ subst (λ q. weight_along f new (height_of m q) (top_of q) ≡ weight_along f m (height_of m q) (top_of q)) (sym same) (edited.weighs f)
         | inr ne ↦ (other-tree r s l ne).weighs f
       ]
 
@@ -181,11 +181,11 @@ module _ (most : ℕ → ℕ) (m new : PageMemory) (bits : ℕ → ℕ) (roots :
     ];
     trees = λ r s l. let e = height_of-edit r in
         (subst (λ h. IsTreeOf new h r) (sym e) (new-tree r s l), let b = (law.trees r s l).1 in omega arith);
-    met = λ n. let e = law.met n in let s = weight_all-same (is_page n) m new roots (λ r a b. weight_of-edit (is_page n) r a b) in omega arith;
+    met = λ n. let e = law.met n in let s = weight_all-same (counts_page n) m new roots (λ r a b. weight_of-edit (counts_page n) r a b) in omega arith;
     bit = law.bit;
     few = law.few;
     unmet = λ n none. let ne : n ≢ leaf_for m key root = λ e.
-        (let a = weight_of-le (is_page (leaf_for m key root)) m root roots some le in
+        (let a = weight_of-le (counts_page (leaf_for m key root)) m root roots some le in
         let b = law.met (leaf_for m key root) in
         let c = leaf_for-met in
         let d = ap bits e in omega arith) in
@@ -194,7 +194,7 @@ module _ (most : ℕ → ℕ) (m new : PageMemory) (bits : ℕ → ℕ) (roots :
 
   pub content_of-other : (r : ℕ) → 0 < r → r ≤ roots → r ≢ root → content_of new r ≡ content_of m r
   content_of-other r s l ne = let e = height_of-edit r in
-      ap (λ n. records_in new (below new n (top_of r))) e ∙ (other-tree r s l ne).holds
+      ap (λ n. records_along new (below new n (top_of r))) e ∙ (other-tree r s l ne).holds
 
   pub Around-edit : Around m new key root (leaf_for m key root)
   Around-edit =
@@ -202,25 +202,25 @@ module _ (most : ℕ → ℕ) (m new : PageMemory) (bits : ℕ → ℕ) (roots :
       let tiles = subst (λ ws. IsTiled 0 ws end_rank) place.is (IsTiled-leaves m root tree) in
       let rest = AllByRecursion-right (IsLeafAt m) place.before (place.visit ∷ place.behind) all in
       let here = sum_of-own (leaf_for m key root) 0 place.before place.visit place.behind place.here in
-      let less = lowest-le_weight (is_page (leaf_for m key root)) m (height_of m root) (top_of root) in
-      let total = ap (sum_of (is_page (leaf_for m key root) 0)) place.is in
+      let less = lowest-le_weight (counts_page (leaf_for m key root)) m (height_of m root) (top_of root) in
+      let total = ap (sum_of (counts_page (leaf_for m key root) 0)) place.is in
       let once = leaf-once in
       let same = alike-other m new key (leaf_for m key root) edit in
-      let before = records_in-same m new place.before (AllByRecursion-other (λ n. IsAlike (new n) (m n)) (leaf_for m key root) 0 place.before (omega arith) same) in
-      let behind = records_in-same m new place.behind (AllByRecursion-other (λ n. IsAlike (new n) (m n)) (leaf_for m key root) 0 place.behind (omega arith) same) in
+      let before = records_along-same m new place.before (AllByRecursion-other (λ n. IsAlike (new n) (m n)) (leaf_for m key root) 0 place.before (omega arith) same) in
+      let behind = records_along-same m new place.behind (AllByRecursion-other (λ n. IsAlike (new n) (m n)) (leaf_for m key root) 0 place.behind (omega arith) same) in
       record {
         low = place.visit.low;
         high = place.visit.high;
-        before = records_in m place.before;
-        behind = records_in m place.behind;
-        old = ap (records_in m) place.is ∙ (records_in-append m place.before (place.visit ∷ place.behind) ∙
-            ap (λ q. records_in m place.before ++ ((m q).records ++ records_in m place.behind)) place.here);
-        changed = ap (λ n. records_in new (below new n (top_of root))) (height_of-edit root) ∙ (ap (records_in new) (edited.lowest ∙ place.is) ∙
-            (records_in-append new place.before (place.visit ∷ place.behind) ∙
-            (rw (before, behind) (ap (λ q. records_in m place.before ++ ((new q).records ++ records_in m place.behind)) place.here))));
-        rises_before = Rises-records_in m 0 place.before place.visit.low (AllByRecursion-left (IsLeafAt m) place.before (place.visit ∷ place.behind) all)
+        before = records_along m place.before;
+        behind = records_along m place.behind;
+        old = ap (records_along m) place.is ∙ (records_along-append m place.before (place.visit ∷ place.behind) ∙
+            ap (λ q. records_along m place.before ++ ((m q).records ++ records_along m place.behind)) place.here);
+        changed = ap (λ n. records_along new (below new n (top_of root))) (height_of-edit root) ∙ (ap (records_along new) (edited.lowest ∙ place.is) ∙
+            (records_along-append new place.before (place.visit ∷ place.behind) ∙
+            (rw (before, behind) (ap (λ q. records_along m place.before ++ ((new q).records ++ records_along m place.behind)) place.here))));
+        rises_before = Rises-records_along m 0 place.before place.visit.low (AllByRecursion-left (IsLeafAt m) place.before (place.visit ∷ place.behind) all)
             (IsTiled-left 0 place.before place.visit place.behind end_rank tiles);
-        rises_behind = Rises-records_in m place.visit.high place.behind end_rank rest.1 (IsTiled-right 0 place.before place.visit place.behind end_rank tiles);
+        rises_behind = Rises-records_along m place.visit.high place.behind end_rank rest.1 (IsTiled-right 0 place.before place.visit place.behind end_rank tiles);
         le = place.low;
         lt = place.high;
       }

@@ -5,11 +5,11 @@ use Rattle.std.proofs.lemmas.Bool.{cases_lt, lt-ltb, le-ltb}
 use Rattle.ib_map.specs.Keys.{MapKey, rank}
 use Rattle.ib_map.specs.Pairs.{Pairs, Rises, value_at, first_rank}
 use Rattle.ib_walk.specs.Pages.{Tree, PageMemory}
-use Rattle.ib_walk.specs.Walk.{Visit, children_of, children, below, records_in, weight, IsNodeAt, IsLeafAt, AreNodes, IsTree, IsTiled}
+use Rattle.ib_walk.specs.Walk.{Visit, children_of, children, below, records_along, weight_along, IsNodeAt, IsLeafAt, AreNodes, IsTree, IsTiled}
 use Rattle.ib_walk.specs.Search.{child_for, page_below, IsPageFor}
 use Rattle.ib_map.proofs.RiseLaws.{Rises-append}
 use Rattle.ib_map.proofs.PairLaws.{value_at-behind, value_at-before}
-use Rattle.ib_walk.proofs.WalkLaws.{AllByRecursion-left, AllByRecursion-right, children-append, records_in-append, IsAlike, AreAlike-nodes, nodes-same, children-same}
+use Rattle.ib_walk.proofs.WalkLaws.{AllByRecursion-left, AllByRecursion-right, children-append, records_along-append, IsAlike, AreAlike-nodes, nodes-same, children-same}
 
 -- `depth` levels above `height`
 abbrev pub above : ℕ → ℕ → ℕ
@@ -51,10 +51,10 @@ module _ (m new : PageMemory) (height : ℕ) (same : (p : ℕ) → (m p).kind �
       ap (below new (above depth height)) (children-same m new vs (upper-alike depth vs h.0)) ∙ upper-lowest depth (children m vs) h.1
 
   pub upper-weight : (f : ℕ → Visit → ℕ) (depth : ℕ) (vs : List Visit) → AreNodes m (above depth height) vs
-      → weight f new (above depth height) vs + weight f m height (below m depth vs) ≡ weight f m (above depth height) vs + weight f new height (below m depth vs)
+      → weight_along f new (above depth height) vs + weight_along f m height (below m depth vs) ≡ weight_along f m (above depth height) vs + weight_along f new height (below m depth vs)
   upper-weight f zero vs h = omega arith
   upper-weight f (suc depth) vs h =
-      let e = ap (weight f new (above depth height)) (children-same m new vs (upper-alike depth vs h.0)) in
+      let e = ap (weight_along f new (above depth height)) (children-same m new vs (upper-alike depth vs h.0)) in
       let r = upper-weight f depth (children m vs) h.1 in omega arith
 
 pub below-above : (m : PageMemory) (depth height : ℕ) (vs : List Visit) → below m (above depth height) vs ≡ below m height (below m depth vs)
@@ -146,11 +146,11 @@ IsTiled-below m (suc depth) height low vs high h t =
     IsTiled-below m depth height low (children m vs) high h.1 (IsTiled-children m (suc (above depth height)) low vs high h.0 t)
 
 -- the content ascends
-pub Rises-records_in : (m : PageMemory) (low : ℕ) (vs : List Visit) (high : ℕ) → AllByRecursion (IsLeafAt m) vs → IsTiled low vs high → Rises low (records_in m vs) high
-Rises-records_in m low [] high h t = omega arith
-Rises-records_in m low (v ∷ vs) high h t =
-    Rises-append low (m v.page).records v.high (records_in m vs) high (subst (λ n. Rises n (m v.page).records v.high) t.0 h.0.within)
-    (Rises-records_in m v.high vs high h.1 t.1)
+pub Rises-records_along : (m : PageMemory) (low : ℕ) (vs : List Visit) (high : ℕ) → AllByRecursion (IsLeafAt m) vs → IsTiled low vs high → Rises low (records_along m vs) high
+Rises-records_along m low [] high h t = omega arith
+Rises-records_along m low (v ∷ vs) high h t =
+    Rises-append low (m v.page).records v.high (records_along m vs) high (subst (λ n. Rises n (m v.page).records v.high) t.0 h.0.within)
+    (Rises-records_along m v.high vs high h.1 t.1)
 
 pub IsTiled-left : (low : ℕ) (xs : List Visit) (v : Visit) (ys : List Visit) (high : ℕ) → IsTiled low (xs ++ v ∷ ys) high → IsTiled low xs v.low
 IsTiled-left low [] v ys high t = sym t.0
@@ -161,14 +161,14 @@ IsTiled-right low [] v ys high t = t.1
 IsTiled-right low (x ∷ xs) v ys high t = IsTiled-right x.high xs v ys high t.1
 
 -- the content has the key where its leaf has it, and the same value
-pub value_at-records_in : (m : PageMemory) (key : MapKey) (low : ℕ) (vs : List Visit) (high : ℕ) (page : ℕ) → AllByRecursion (IsLeafAt m) vs → IsTiled low vs high → IsPageFor key vs page
-    → value_at key (records_in m vs) ≡ value_at key (m page).records
-value_at-records_in m key low vs high page h t p =
+pub value_at-records_along : (m : PageMemory) (key : MapKey) (low : ℕ) (vs : List Visit) (high : ℕ) (page : ℕ) → AllByRecursion (IsLeafAt m) vs → IsTiled low vs high → IsPageFor key vs page
+    → value_at key (records_along m vs) ≡ value_at key (m page).records
+value_at-records_along m key low vs high page h t p =
     let all = subst (AllByRecursion (IsLeafAt m)) p.is h in
     let tiles = subst (λ ws. IsTiled low ws high) p.is t in
-    let a = Rises-records_in m low p.before p.visit.low (AllByRecursion-left (IsLeafAt m) p.before (p.visit ∷ p.behind) all) (IsTiled-left low p.before p.visit p.behind high tiles) in
+    let a = Rises-records_along m low p.before p.visit.low (AllByRecursion-left (IsLeafAt m) p.before (p.visit ∷ p.behind) all) (IsTiled-left low p.before p.visit p.behind high tiles) in
     let rest = AllByRecursion-right (IsLeafAt m) p.before (p.visit ∷ p.behind) all in
-    let b = Rises-records_in m p.visit.high p.behind high rest.1 (IsTiled-right low p.before p.visit p.behind high tiles) in
-    let c = value_at-behind key low (records_in m p.before) p.visit.low (records_in m (p.visit ∷ p.behind)) a p.low in
-    let d = value_at-before key (m p.visit.page).records p.visit.high (records_in m p.behind) high b p.high in
-    ap (λ ws. value_at key (records_in m ws)) p.is ∙ (ap (value_at key) (records_in-append m p.before (p.visit ∷ p.behind)) ∙ (c ∙ (d ∙ ap (λ q. value_at key (m q).records) p.here)))
+    let b = Rises-records_along m p.visit.high p.behind high rest.1 (IsTiled-right low p.before p.visit p.behind high tiles) in
+    let c = value_at-behind key low (records_along m p.before) p.visit.low (records_along m (p.visit ∷ p.behind)) a p.low in
+    let d = value_at-before key (m p.visit.page).records p.visit.high (records_along m p.behind) high b p.high in
+    ap (λ ws. value_at key (records_along m ws)) p.is ∙ (ap (value_at key) (records_along-append m p.before (p.visit ∷ p.behind)) ∙ (c ∙ (d ∙ ap (λ q. value_at key (m q).records) p.here)))

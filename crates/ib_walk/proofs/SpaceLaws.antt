@@ -17,8 +17,8 @@ use Rattle.ib_walk.specs.Opening.{opening_word}
 use Rattle.ib_heap.specs.declared.TheConstants.{MOST_RECORDS}
 use Rattle.ib_page.specs.declared.space.TheConstants.{MAPPED_PAGES}
 use Rattle.ib_walk.specs.Pages.{PageState, PageMemory, IsSound}
-use Rattle.ib_walk.specs.Walk.{below, records_in}
-use Rattle.ib_walk.specs.Trees.{top_of, height_of, content_of, times_met, most_height, IsTreeOf, IsLawful, opening, opening_bits, free_page, empty_leaf}
+use Rattle.ib_walk.specs.Walk.{below, records_along}
+use Rattle.ib_walk.specs.Trees.{top_of, height_of, content_of, times_met, most_height, IsTreeOf, IsLawful, opening_pages, opening_bits, free_page, empty_leaf}
 use Rattle.ib_walk.specs.Words.{state_of, image_of, pages_of, bits_of, IsLawfulMemory}
 use Rattle.ib_map.proofs.WriteLaws.{page_at-word, index_at-word}
 use Rattle.ib_walk.proofs.ImageLaws.{length-free_page_words, image_of-list, pages_of-image}
@@ -81,7 +81,7 @@ module _ (pages : ℕ) (fits : has_pages pages ≡ true) where
       ]
 
   -- what the opening memory says of pages beside page 0 is what lawful trees ask
-  moved : (new : PageMemory) → ((n : ℕ) → n ≢ 0 → new n ≡ opening 1 n) → IsLawful new (opening_bits 1) 1
+  moved : (new : PageMemory) → ((n : ℕ) → n ≢ 0 → new n ≡ opening_pages 1 n) → IsLawful new (opening_bits 1) 1
   moved new same =
       let law = IsLawful-opening 1 (omega arith) in
       let root : new 1 ≡ empty_leaf = same 1 (λ e. omega arith) in
@@ -94,7 +94,7 @@ module _ (pages : ℕ) (fits : has_pages pages ≡ true) where
         unmet = λ n none. ap (λ p. p.kind) (same n (λ z. let b : opening_bits 1 0 ≡ 0 = ap (opening_bits 1) (sym z) ∙ none in omega (arith, b))) ∙ law.unmet n none;
       }
     where
-      times : new 1 ≡ empty_leaf → (n : ℕ) → times_met (opening 1) 1 n ≡ times_met new 1 n
+      times : new 1 ≡ empty_leaf → (n : ℕ) → times_met (opening_pages 1) 1 n ≡ times_met new 1 n
       times root n = let e : height_of new 1 ≡ 0 = ap (λ p. p.level) root in rw e refl
 
       tree : new 1 ≡ empty_leaf → IsTreeOf new 0 1
@@ -115,12 +115,12 @@ module _ (pages : ℕ) (fits : has_pages pages ≡ true) where
     law = subst (λ bits. IsLawful (pages_of opening_word) bits 1) (λ i n. sym (bits_of-opening n) i) (moved (pages_of opening_word) same);
   }
     where
-      same : (n : ℕ) → n ≢ 0 → pages_of opening_word n ≡ opening 1 n
+      same : (n : ℕ) → n ≢ 0 → pages_of opening_word n ≡ opening_pages 1 n
       same n ne = elim (cases_eq n 1) [
-        | inl is ↦ pages_of-root n is ∙ sym (ap (opening 1) is)
+        | inl is ↦ pages_of-root n is ∙ sym (ap (opening_pages 1) is)
         | inr other ↦ let far : 1 < n = omega (arith, ne, other) in let yes = lt-ltb 1 n far in pages_of-other n far ∙ rw yes refl
       ]
 
 pub content_of-opening : content_of (pages_of opening_word) 1 ≡ []
 content_of-opening = let e = pages_of-root 1 refl in
-    ap (λ h. records_in (pages_of opening_word) (below (pages_of opening_word) h (top_of 1))) (ap (λ (p : PageState). p.level) e) ∙ ap (λ (p : PageState). p.records ++ []) e
+    ap (λ h. records_along (pages_of opening_word) (below (pages_of opening_word) h (top_of 1))) (ap (λ (p : PageState). p.level) e) ∙ ap (λ (p : PageState). p.records ++ []) e

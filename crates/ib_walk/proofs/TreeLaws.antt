@@ -8,7 +8,7 @@ use Rattle.ib_walk.specs.Pages.{PageMemory}
 use Rattle.ib_walk.specs.Walk.{Visit, AreNodes, IsTiled}
 use Rattle.ib_walk.specs.Trees.{top_of, height_of, leaves_of, content_of, weight_of, weight_all, times_met, most_height, IsTreeOf, IsLawfulUpTo}
 use Rattle.ib_walk.specs.Search.{leaf_for, IsPageFor}
-use Rattle.ib_walk.proofs.SearchLaws.{above, above-zero, IsPageFor-below, IsTiled-below, value_at-records_in, Rises-records_in}
+use Rattle.ib_walk.proofs.SearchLaws.{above, above-zero, IsPageFor-below, IsTiled-below, value_at-records_along, Rises-records_along}
 
 pub weight_of-le : (f : ℕ → Visit → ℕ) (m : PageMemory) (root roots : ℕ) → 0 < root → root ≤ roots → weight_of f m root ≤ weight_all f m roots
 weight_of-le f m root zero some le = absurd (omega arith)
@@ -60,13 +60,13 @@ IsTiled-leaves m root t =
     IsTiled-below m (height_of m root) 0 0 (top_of root) end_rank (AreNodes-above m (height_of m root) (top_of root) t.tree.nodes) (refl, refl)
 
 pub Rises-content_of : (m : PageMemory) (root : ℕ) → IsTreeOf m (height_of m root) root → Rises 0 (content_of m root) end_rank
-Rises-content_of m root t = Rises-records_in m 0 (leaves_of m root) end_rank t.tree.leaves (IsTiled-leaves m root t)
+Rises-content_of m root t = Rises-records_along m 0 (leaves_of m root) end_rank t.tree.leaves (IsTiled-leaves m root t)
 
 -- what a search on the key's leaf finds is what the content has
 pub value_at-content_of : (m : PageMemory) (key : MapKey) (root : ℕ) → rank key < end_rank → IsTreeOf m (height_of m root) root
     → value_at key (content_of m root) ≡ value_at key (m (leaf_for m key root)).records
 value_at-content_of m key root lt t =
-    value_at-records_in m key 0 (leaves_of m root) end_rank (leaf_for m key root) t.tree.leaves (IsTiled-leaves m root t) (IsPageFor-leaf m key root lt t)
+    value_at-records_along m key 0 (leaves_of m root) end_rank (leaf_for m key root) t.tree.leaves (IsTiled-leaves m root t) (IsPageFor-leaf m key root lt t)
 
 -- a page is met at most once
 pub times_met-le : (most : ℕ → ℕ) (m : PageMemory) (bits : ℕ → ℕ) (roots : ℕ) (n : ℕ) → IsLawfulUpTo most m bits roots → times_met m roots n ≤ 1

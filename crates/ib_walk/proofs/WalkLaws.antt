@@ -4,7 +4,7 @@ use Rattle.std.proofs.Common.{◌≡◌, ℕ, zero, suc, ◌+◌, ◌<◌, ◌�
 use Rattle.ib_map.specs.Keys.{rank}
 use Rattle.ib_map.specs.Pairs.{Pairs, Rises, first_rank}
 use Rattle.ib_walk.specs.Pages.{Tree, PageState, PageMemory}
-use Rattle.ib_walk.specs.Walk.{Visit, children_of, children, below, records_in, sum_of, weight, IsNodeAt, IsLeafAt, IsTree}
+use Rattle.ib_walk.specs.Walk.{Visit, children_of, children, below, records_along, sum_of, weight_along, IsNodeAt, IsLeafAt, IsTree}
 
 module _ {X : Type 0} (P : X → Type 0) where
   pub AllByRecursion-append : (xs ys : List X) → AllByRecursion P xs → AllByRecursion P ys → AllByRecursion P (xs ++ ys)
@@ -29,9 +29,9 @@ children_of-append (x ∷ []) [] high = refl
 children_of-append (x ∷ []) (y ∷ ys) high = refl
 children_of-append (x ∷ w ∷ xs) ys high = ap (λ vs. record { page = x.1; low = rank x.0; high = rank w.0 } ∷ vs) (children_of-append (w ∷ xs) ys high)
 
-pub records_in-append : (m : PageMemory) (xs ys : List Visit) → records_in m (xs ++ ys) ≡ records_in m xs ++ records_in m ys
-records_in-append m [] ys = refl
-records_in-append m (x ∷ xs) ys = ap (λ zs. (m x.page).records ++ zs) (records_in-append m xs ys) ∙ sym (append_assoc (m x.page).records (records_in m xs) (records_in m ys))
+pub records_along-append : (m : PageMemory) (xs ys : List Visit) → records_along m (xs ++ ys) ≡ records_along m xs ++ records_along m ys
+records_along-append m [] ys = refl
+records_along-append m (x ∷ xs) ys = ap (λ zs. (m x.page).records ++ zs) (records_along-append m xs ys) ∙ sym (append_assoc (m x.page).records (records_along m xs) (records_along m ys))
 
 pub children-append : (m : PageMemory) (xs ys : List Visit) → children m (xs ++ ys) ≡ children m xs ++ children m ys
 children-append m [] ys = refl
@@ -41,12 +41,12 @@ pub below-append : (m : PageMemory) (depth : ℕ) (xs ys : List Visit) → below
 below-append m zero xs ys = refl
 below-append m (suc depth) xs ys = ap (below m depth) (children-append m xs ys) ∙ below-append m depth (children m xs) (children m ys)
 
-pub weight-append : (f : ℕ → Visit → ℕ) (m : PageMemory) (height : ℕ) (xs ys : List Visit) → weight f m height (xs ++ ys) ≡ weight f m height xs + weight f m height ys
-weight-append f m zero xs ys = sum_of-append (f zero) xs ys
-weight-append f m (suc height) xs ys =
-    let r = weight-append f m height (children m xs) (children m ys) in
+pub weight_along-append : (f : ℕ → Visit → ℕ) (m : PageMemory) (height : ℕ) (xs ys : List Visit) → weight_along f m height (xs ++ ys) ≡ weight_along f m height xs + weight_along f m height ys
+weight_along-append f m zero xs ys = sum_of-append (f zero) xs ys
+weight_along-append f m (suc height) xs ys =
+    let r = weight_along-append f m height (children m xs) (children m ys) in
     let s = sum_of-append (f (suc height)) xs ys in
-    let t = ap (weight f m height) (children-append m xs ys) in
+    let t = ap (weight_along f m height) (children-append m xs ys) in
     omega arith
 
 -- what a walk reads of a page
@@ -67,9 +67,9 @@ module _ (m new : PageMemory) where
   children-same [] h = refl
   children-same (v ∷ vs) h = let e = h.0.records in let r = children-same vs h.1 in cc
 
-  pub records_in-same : (vs : List Visit) → AreAlike vs → records_in new vs ≡ records_in m vs
-  records_in-same [] h = refl
-  records_in-same (v ∷ vs) h = let e = h.0.records in let r = records_in-same vs h.1 in cc
+  pub records_along-same : (vs : List Visit) → AreAlike vs → records_along new vs ≡ records_along m vs
+  records_along-same [] h = refl
+  records_along-same (v ∷ vs) h = let e = h.0.records in let r = records_along-same vs h.1 in cc
 
   pub IsNodeAt-same : (height : ℕ) (v : Visit) → IsAlike (new v.page) (m v.page) → IsNodeAt m height v → IsNodeAt new height v
   IsNodeAt-same height v a h = record {
@@ -107,8 +107,8 @@ module _ (m new : PageMemory) where
 pub record IsSameTree (m new : PageMemory) (height : ℕ) (vs : List Visit) : Type 0 where
   pub tree : IsTree new height vs
   pub lowest : below new height vs ≡ below m height vs
-  pub holds : records_in new (below new height vs) ≡ records_in m (below m height vs)
-  pub weighs : (f : ℕ → Visit → ℕ) → weight f new height vs ≡ weight f m height vs
+  pub holds : records_along new (below new height vs) ≡ records_along m (below m height vs)
+  pub weighs : (f : ℕ → Visit → ℕ) → weight_along f new height vs ≡ weight_along f m height vs
 
 pub IsSameTree-below : (m new : PageMemory) (height : ℕ) (vs : List Visit) → ((p : ℕ) → (m p).kind ≡ Tree → (m p).level ≤ height → IsAlike (new p) (m p))
     → IsTree m height vs → IsSameTree m new height vs
@@ -117,7 +117,7 @@ IsSameTree-below m new zero vs same t =
     record {
       tree = record { nodes = tt; leaves = leaves-same m new vs a t.leaves };
       lowest = refl;
-      holds = records_in-same m new vs a;
+      holds = records_along-same m new vs a;
       weighs = λ f. refl;
     }
 IsSameTree-below m new (suc height) vs same t =

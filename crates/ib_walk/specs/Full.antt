@@ -41,14 +41,14 @@ abbrev pub is_too_high : PageMemory → MapKey → ℕ → Bool
 is_too_high memory key root = is_root_full memory key root && (height_of memory root == MOST_LEVEL)
 
 -- the free pages among so many from a page on
-abbrev pub free_from : (ℕ → ℕ) → ℕ → ℕ → List ℕ
-free_from bits page zero = []
-free_from bits page (suc n) = if bits page == 0 then page ∷ free_from bits (page + 1) n else free_from bits (page + 1) n
+abbrev pub free_pages_from : (ℕ → ℕ) → ℕ → ℕ → List ℕ
+free_pages_from bits page zero = []
+free_pages_from bits page (suc n) = if bits page == 0 then page ∷ free_pages_from bits (page + 1) n else free_pages_from bits (page + 1) n
 
 -- how many pages of the space are free
 abbrev pub free_of : (ℕ → ℕ) → ℕ → ℕ
-free_of bits pages = length (free_from bits 0 pages)
+free_of bits pages = length (free_pages_from bits 0 pages)
 
 -- the lowest free pages
 abbrev pub chosen : (ℕ → ℕ) → ℕ → ℕ → List ℕ
-chosen bits pages need = take need (free_from bits 0 pages)
+chosen bits pages need = take need (free_pages_from bits 0 pages)

@@ -5,7 +5,7 @@ use Rattle.ib_map.specs.Pairs.{Pairs}
 use Rattle.ib_heap.specs.declared.TheConstants.{MOST_LEVEL, MOST_RECORDS}
 use Rattle.ib_page.specs.declared.space.TheConstants.{MAPPED_PAGES}
 use Rattle.ib_walk.specs.Pages.{Free, Tree, PageState, PageMemory, IsSound}
-use Rattle.ib_walk.specs.Walk.{Visit, below, records_in, weight, is_page, IsTree, AreLinked}
+use Rattle.ib_walk.specs.Walk.{Visit, below, records_along, weight_along, counts_page, IsTree, AreLinked}
 
 -- the root with the range of all keys
 abbrev pub top_of : ℕ → List Visit
@@ -19,11 +19,11 @@ abbrev pub leaves_of : PageMemory → ℕ → List Visit
 leaves_of memory root = below memory (height_of memory root) (top_of root)
 
 abbrev pub content_of : PageMemory → ℕ → Pairs
-content_of memory root = records_in memory (leaves_of memory root)
+content_of memory root = records_along memory (leaves_of memory root)
 
 -- what all visits of the tree weigh
 abbrev pub weight_of : (ℕ → Visit → ℕ) → PageMemory → ℕ → ℕ
-weight_of f memory root = weight f memory (height_of memory root) (top_of root)
+weight_of f memory root = weight_along f memory (height_of memory root) (top_of root)
 
 -- over the trees of the roots 1 to `roots`
 abbrev pub weight_all : (ℕ → Visit → ℕ) → PageMemory → ℕ → ℕ
@@ -32,7 +32,7 @@ weight_all f memory (suc roots) = weight_of f memory (suc roots) + weight_all f 
 
 -- how often a page is met
 abbrev pub times_met : PageMemory → ℕ → ℕ → ℕ
-times_met memory roots page = weight_all (is_page page) memory roots
+times_met memory roots page = weight_all (counts_page page) memory roots
 
 -- the tree of this height under a root, with its leaves linked
 pub record IsTreeOf (memory : PageMemory) (height root : ℕ) : Type 0 where
@@ -65,8 +65,8 @@ abbrev pub free_page : PageState
 free_page = record { kind = Free; level = 0; prev = 0; next = 0; clock = 0; records = [] }
 
 -- pages 0 to `roots` are empty leaves, and all pages behind them are free. What stands for page 0 counts for nothing
-abbrev pub opening : ℕ → PageMemory
-opening roots n = if nat_lt roots n then free_page else empty_leaf
+abbrev pub opening_pages : ℕ → PageMemory
+opening_pages roots n = if nat_lt roots n then free_page else empty_leaf
 
 abbrev pub opening_bits : ℕ → ℕ → ℕ
 opening_bits roots n = if nat_lt roots n then 0 else 1

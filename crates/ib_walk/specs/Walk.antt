@@ -27,26 +27,26 @@ below memory zero vs = vs
 below memory (suc depth) vs = below memory depth (children memory vs)
 
 -- the records of these pages in order
-abbrev pub records_in : PageMemory → List Visit → Pairs
-records_in memory [] = []
-records_in memory (v ∷ vs) = (memory v.page).records ++ records_in memory vs
+abbrev pub records_along : PageMemory → List Visit → Pairs
+records_along memory [] = []
+records_along memory (v ∷ vs) = (memory v.page).records ++ records_along memory vs
 
 abbrev pub sum_of : (Visit → ℕ) → List Visit → ℕ
 sum_of f [] = 0
 sum_of f (v ∷ vs) = f v + sum_of f vs
 
 -- what the visits of these levels weigh together, each by its height
-abbrev pub weight : (ℕ → Visit → ℕ) → PageMemory → ℕ → List Visit → ℕ
-weight f memory zero vs = sum_of (f zero) vs
-weight f memory (suc height) vs = sum_of (f (suc height)) vs + weight f memory height (children memory vs)
+abbrev pub weight_along : (ℕ → Visit → ℕ) → PageMemory → ℕ → List Visit → ℕ
+weight_along f memory zero vs = sum_of (f zero) vs
+weight_along f memory (suc height) vs = sum_of (f (suc height)) vs + weight_along f memory height (children memory vs)
 
 -- a visit of this page counts 1
-abbrev pub is_page : ℕ → ℕ → Visit → ℕ
-is_page page height v = if v.page == page then 1 else 0
+abbrev pub counts_page : ℕ → ℕ → Visit → ℕ
+counts_page page height v = if v.page == page then 1 else 0
 
 -- a visit of this page and range at this height counts 1
-abbrev pub is_visit : ℕ → Visit → ℕ → Visit → ℕ
-is_visit h v k u = if k == h then (if u.page == v.page then (if u.low == v.low then (if u.high == v.high then 1 else 0) else 0) else 0) else 0
+abbrev pub counts_visit : ℕ → Visit → ℕ → Visit → ℕ
+counts_visit h v k u = if k == h then (if u.page == v.page then (if u.low == v.low then (if u.high == v.high then 1 else 0) else 0) else 0) else 0
 
 pub record IsNodeAt (memory : PageMemory) (height : ℕ) (v : Visit) : Type 0 where
   pub kind : (memory v.page).kind ≡ Tree

@@ -1,6 +1,7 @@
 -- The equation of the lock word over its counts, and the word as a cell of the shared table.
-use Rattle.std.specs.Prelude.{◌≡◌, ◌↔◌, ℕ, suc, ◌+◌, ◌-◌, ◌<◌, ◌≤◌, ℤ, pos, negsuc, ◌-ℤ◌}
-use Rattle.ib_word.specs.declared.word.TheConstants.{X_LOCK_DECR, WORD_BIAS, MOST_READERS, MOST_X}
+use Rattle.std.specs.Prelude.{◌≡◌, ◌↔◌, ℕ, suc, ◌+◌, ◌-◌, ◌<◌, ◌≤◌, Bool, ◌||◌, ℤ, pos, negsuc, neg_ℤ, ◌-ℤ◌}
+use Rattle.std.specs.Ordering.{int_eq}
+use Rattle.ib_word.specs.declared.word.TheConstants.{X_LOCK_DECR, X_LOCK_HALF_DECR, WORD_BIAS, MOST_READERS, MOST_X}
 use Rattle.ib_word.specs.Weight.{weight}
 
 -- the word of a latch off which this much was taken
@@ -11,6 +12,10 @@ word_less taken = pos X_LOCK_DECR -ℤ pos taken
 -- writer counts as one X
 abbrev pub word_of : ℕ → ℕ → ℕ → ℤ
 word_of s sx x = word_less (weight s sx x)
+
+-- a next writer owns X at the word, which is 0 or minus HALF: no reader is left
+abbrev pub is_drained : ℤ → Bool
+is_drained w = int_eq w (pos 0) || int_eq w (neg_ℤ (pos X_LOCK_HALF_DECR))
 
 -- the counts that a latch can have: a session reads once at most, and nobody reads beside a
 -- second X

@@ -1,8 +1,8 @@
 //! The twelve states that a lock word tells apart.
 
 ghost use Rattle.std.specs.Prelude.{◌≡◌, ℕ, ◌⊎◌, ◌↔◌, pos, neg_ℤ, IsTrue};
-ghost use Rattle.ib_word.specs.Word.{IsCounted, IsWithin, word_of};
-ghost use Rattle.ib_word.specs.State.{state_of};
+ghost use Rattle.ib_word.specs.Word.{IsCounted, IsWithin, is_drained, word_of};
+ghost use Rattle.ib_word.specs.State.{word_state_of};
 
 use crate::word::{LockWord, X_LOCK_DECR, X_LOCK_HALF_DECR};
 
@@ -41,7 +41,7 @@ pub enum WordState {
 pub fn classify(w: LockWord) -> WordState
     requires { IsCounted w.0 }
     ensures state { (s sx x : ℕ) → IsWithin s sx x → w.0 ≡ word_of s sx x
-        → result ≡ state_of s sx x }
+        → result ≡ word_state_of s sx x }
 {
     let free = X_LOCK_DECR as i32;
     let half = X_LOCK_HALF_DECR as i32;
@@ -83,9 +83,10 @@ pub fn classify(w: LockWord) -> WordState
     }
 }
 
-/// Whether a release of S that left this word owes the next writer a signal: there is one, and
-/// its last reader is gone (sync0rw, `rw_lock_s_unlock_func`).
-pub fn owes_ex(new: LockWord) -> bool
+/// Whether a next writer owns X at the word: there is one, and its last reader is gone, so that the
+/// release of S that left it owes the next writer a signal (sync0rw, `rw_lock_s_unlock_func`).
+pub fn is_drained(new: LockWord) -> bool
+    ensures test { result ≡ is_drained new.0 }
     ensures word { IsTrue result ↔ ((new.0 ≡ pos 0) ⊎ (new.0 ≡ neg_ℤ (pos X_LOCK_HALF_DECR))) }
     ensures counted { (s sx x : ℕ) → IsWithin s sx x → new.0 ≡ word_of s sx x
         → (IsTrue result ↔ ((s ≡ 0) × (x ≡ 1))) }

@@ -6,7 +6,7 @@ use mathlib.Core.Logic.{dite}
 use native.Mathlib.Decide.{ℕ_discrete}
 use Rattle.ib_levels.specs.declared.holding.Holding.{Holding}
 use Rattle.ib_levels.specs.declared.level.Level.TheVariants.{Log}
-use Rattle.ib_levels.specs.Holding.{hold, on, changed}
+use Rattle.ib_levels.specs.Holding.{hold, on, changed_on}
 use Rattle.ib_levels.proofs.Counts.{on-cons, on-none, part-here, part-away}
 use Rattle.ib_core.specs.Takings.{count_of, one_fewer}
 use Rattle.ib_core.proofs.holdings.each_one_fewer.Goals as goal
@@ -30,7 +30,7 @@ has_all l f (h ∷ held) (suc i) d within single has here =
     (λ n. let p = part-away l f h n in has_all l f held i d (omega arith) (omega arith) (omega arith) here)
 
 -- what the loop has not come to is as it was
-not_yet : (l : ℕ) (f : Holding → Holding) (held : List Holding) (i : ℕ) (d : Holding) → get_or (changed l f (take i held) ++ drop i held) i d ≡ get_or held i d
+not_yet : (l : ℕ) (f : Holding → Holding) (held : List Holding) (i : ℕ) (d : Holding) → get_or (changed_on l f (take i held) ++ drop i held) i d ≡ get_or held i d
 not_yet l f [] zero d = refl
 not_yet l f [] (suc i) d = refl
 not_yet l f (h ∷ held) zero d = refl

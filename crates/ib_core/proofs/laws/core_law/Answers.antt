@@ -4,7 +4,7 @@ use Rattle.std.proofs.lemmas.List.{length-replicate}
 use mathlib.Core.Logic.{dite}
 use native.Mathlib.Decide.{ℕ_discrete}
 use Rattle.ib_core.specs.Sessions.{idle}
-use Rattle.ib_core.specs.Machine.{marks_at, opening}
+use Rattle.ib_core.specs.Machine.{marks_at, opening_state}
 use Rattle.ib_core.proofs.InWords.{compatible, sx_owner_named, x_owner_named, next_writer_named, word_of_counts, event_kept, run_kept, opening_good}
 use Rattle.ib_core.proofs.Totals.{readers_few}
 use Rattle.ib_core.proofs.laws.core_law.Goals as goal
@@ -14,7 +14,7 @@ returns-clause-each c state action few among good = event_kept state action few 
 
 pub returns-clause-runs : goal.returns-clause-runs
 returns-clause-runs c sessions latches actions few among =
-    run_kept (opening sessions latches) actions (let n = length-replicate sessions idle in omega arith) among (opening_good sessions latches)
+    run_kept (opening_state sessions latches) actions (let n = length-replicate sessions idle in omega arith) among (opening_good sessions latches)
 
 pub returns-clause-readers : goal.returns-clause-readers
 returns-clause-readers c state latch good = readers_few latch state.sessions good.proper

@@ -2,7 +2,7 @@
 use Rattle.std.proofs.Common.{◌∷◌, ◌++◌, [], ◌∙◌, subst, ap, arith}
 use Rattle.ib_levels.specs.declared.level.Level.TheVariants.{IndexTree}
 use Rattle.ib_core.specs.declared.session.Session.{Session}
-use Rattle.ib_rule.specs.declared.memory.Memory.{Memory}
+use Rattle.ib_rule.specs.declared.memory.Knowledge.{Knowledge}
 use Rattle.ib_rule.specs.Pass.{PassState}
 use Rattle.ib_rule.specs.Views.{is_watched}
 use Rattle.ib_cursor.specs.Claims.{claim_grant}
@@ -36,4 +36,4 @@ returns-clause-claimed g c =
     let p : PassState = c.args.mtr.now.pass.now in
     let idle = none_granted c.args.mtr.now.latches.now p c.requires.mtr c.requires.memo in
     let held = ap (λ (a : Session). a.held) c.take.ensures.taken.taken.session ∙ ap (λ (a : Session). a.held ++ hold_of claim_grant ∷ []) idle.session in
-    c.look.ensures.started (ap (λ (m : Memory). is_watched 1 m.since) c.take.ensures.taken.taken.memory ∙ c.requires.unwatched) held
+    c.look.ensures.started (ap (λ (m : Knowledge). is_watched 1 m.since) c.take.ensures.taken.taken.memory ∙ c.requires.unwatched) held

@@ -11,13 +11,13 @@ use Rattle.ib_cursor.proofs.claim.left_link.Goals as goal
 
 pub read-requires-clause-page : goal.read-requires-clause-page
 read-requires-clause-page g c =
-    let key : Sizes = c.args.mtr.now.latches.now.sizes in
-    (page_image key g.L.Trees.ROOTS (g.L.Law.lawful key.pages) (by_place g.L.Law.opening key.pages) c.shape_of.ensures.shapes c.args.sought.root c.requires.some c.requires.root c.args.sought.key c.requires.key c.args.mtr.now.pass.now.view.memory.seen c.args.leaf 0 c.requires.at.known.legal c.requires.at.way).there
+    let sizes : Sizes = c.args.mtr.now.latches.now.sizes in
+    (page_image sizes g.L.Trees.ROOTS (g.L.Law.lawful sizes.pages) (by_place g.L.Law.opening sizes.pages) c.shape_of.ensures.shapes c.args.sought.root c.requires.some c.requires.root c.args.sought.key c.requires.key c.args.mtr.now.pass.now.view.memory.seen c.args.leaf 0 c.requires.at.known.legal c.requires.at.way).there
 
 pub read-requires-clause-held : goal.read-requires-clause-held
 read-requires-clause-held g c =
-    let key : Sizes = c.args.mtr.now.latches.now.sizes in
-    at_held key (g.L.Law.lawful key.pages) (by_place g.L.Law.opening key.pages) c.args.sought.root c.args.sought.key (claim_grant ∷ []) c.args.leaf 0 S c.args.mtr.now.pass.now c.requires.at
+    let sizes : Sizes = c.args.mtr.now.latches.now.sizes in
+    at_held sizes (g.L.Law.lawful sizes.pages) (by_place g.L.Law.opening sizes.pages) c.args.sought.root c.args.sought.key (claim_grant ∷ []) c.args.leaf 0 S c.args.mtr.now.pass.now c.requires.at
 
 pub read-requires-clause-absent : goal.read-requires-clause-absent
 read-requires-clause-absent g c = ap (changed_of c.args.leaf) c.requires.at.work
@@ -27,15 +27,15 @@ read-requires-clause-few g c = let none = ap length c.requires.at.work in omega 
 
 pub left_of-left-requires-clause-loaded : goal.left_of-left-requires-clause-loaded
 left_of-left-requires-clause-loaded g c =
-    let key : Sizes = c.args.mtr.now.latches.now.sizes in
+    let sizes : Sizes = c.args.mtr.now.latches.now.sizes in
     let p = c.args.mtr.now.pass.now in let q = c.read.new.mtr.pass.now in
     let l = c.read.ensures in
-    (l.loaded.image, left_loaded key g.L.Trees.ROOTS (g.L.Law.lawful key.pages) (by_place g.L.Law.opening key.pages) c.shape_of.ensures.shapes c.args.sought.root c.requires.some c.requires.root c.args.sought.key c.requires.key c.args.leaf p q c.requires.at c.requires.claimed l.glanced l.memo l.session l.grants l.loaded, left_formed key g.L.Trees.ROOTS (g.L.Law.lawful key.pages) (by_place g.L.Law.opening key.pages) c.shape_of.ensures.shapes c.args.sought.root c.requires.some c.requires.root c.args.sought.key c.requires.key c.args.leaf p q c.requires.at c.requires.claimed l.glanced l.memo l.session l.grants l.loaded)
+    (l.loaded.image, left_loaded sizes g.L.Trees.ROOTS (g.L.Law.lawful sizes.pages) (by_place g.L.Law.opening sizes.pages) c.shape_of.ensures.shapes c.args.sought.root c.requires.some c.requires.root c.args.sought.key c.requires.key c.args.leaf p q c.requires.at c.requires.claimed l.glanced l.memo l.session l.grants l.loaded, left_formed sizes g.L.Trees.ROOTS (g.L.Law.lawful sizes.pages) (by_place g.L.Law.opening sizes.pages) c.shape_of.ensures.shapes c.args.sought.root c.requires.some c.requires.root c.args.sought.key c.requires.key c.args.leaf p q c.requires.at c.requires.claimed l.glanced l.memo l.session l.grants l.loaded)
 
 pub returns-clause-linked : goal.returns-clause-linked
 returns-clause-linked g c =
-    let key : Sizes = c.args.mtr.now.latches.now.sizes in
+    let sizes : Sizes = c.args.mtr.now.latches.now.sizes in
     let p = c.args.mtr.now.pass.now in let q = c.read.new.mtr.pass.now in
     let l = c.read.ensures in
-    left_linked key g.L.Trees.ROOTS (g.L.Law.lawful key.pages) (by_place g.L.Law.opening key.pages) c.shape_of.ensures.shapes c.args.sought.root c.requires.some c.requires.root c.args.sought.key c.requires.key c.args.leaf p q c.requires.at c.requires.claimed l.glanced l.memo l.session l.grants l.loaded c.left_of-left.result c.forget.new.self.pass.now
-    (c.left_of-left.ensures l.loaded.image (left_loaded key g.L.Trees.ROOTS (g.L.Law.lawful key.pages) (by_place g.L.Law.opening key.pages) c.shape_of.ensures.shapes c.args.sought.root c.requires.some c.requires.root c.args.sought.key c.requires.key c.args.leaf p q c.requires.at c.requires.claimed l.glanced l.memo l.session l.grants l.loaded)) c.forget.ensures.forgotten
+    left_linked sizes g.L.Trees.ROOTS (g.L.Law.lawful sizes.pages) (by_place g.L.Law.opening sizes.pages) c.shape_of.ensures.shapes c.args.sought.root c.requires.some c.requires.root c.args.sought.key c.requires.key c.args.leaf p q c.requires.at c.requires.claimed l.glanced l.memo l.session l.grants l.loaded c.left_of-left.result c.forget.new.self.pass.now
+    (c.left_of-left.ensures l.loaded.image (left_loaded sizes g.L.Trees.ROOTS (g.L.Law.lawful sizes.pages) (by_place g.L.Law.opening sizes.pages) c.shape_of.ensures.shapes c.args.sought.root c.requires.some c.requires.root c.args.sought.key c.requires.key c.args.leaf p q c.requires.at c.requires.claimed l.glanced l.memo l.session l.grants l.loaded)) c.forget.ensures.forgotten

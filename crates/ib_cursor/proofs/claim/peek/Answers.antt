@@ -16,59 +16,59 @@ use Rattle.ib_cursor.proofs.claim.peek.Goals as goal
 
 pub stand-requires-clause-page : goal.stand-requires-clause-page
 stand-requires-clause-page g c =
-    let key : Sizes = c.args.mtr.now.latches.now.sizes in
-    peek_inside key g.L.Trees.ROOTS (g.L.Law.lawful key.pages) (by_place g.L.Law.opening key.pages) c.shape_of.ensures.shapes c.args.sought.root c.requires.some c.requires.root c.args.sought.key c.requires.key c.args.page c.requires.way.0 c.args.mtr.now.pass.now c.requires.index c.requires.way.1
+    let sizes : Sizes = c.args.mtr.now.latches.now.sizes in
+    peek_inside sizes g.L.Trees.ROOTS (g.L.Law.lawful sizes.pages) (by_place g.L.Law.opening sizes.pages) c.shape_of.ensures.shapes c.args.sought.root c.requires.some c.requires.root c.args.sought.key c.requires.key c.args.page c.requires.way.0 c.args.mtr.now.pass.now c.requires.index c.requires.way.1
 
 pub stand-requires-clause-grows : goal.stand-requires-clause-grows
 stand-requires-clause-grows g c = may_grow (claim_grant ∷ []) c.args.mtr.now.pass.now c.requires.index.grants c.requires.room (omega arith)
 
 pub stand-requires-clause-may : goal.stand-requires-clause-may
 stand-requires-clause-may g c =
-    let key : Sizes = c.args.mtr.now.latches.now.sizes in
-    peek_may key g.L.Trees.ROOTS (g.L.Law.lawful key.pages) (by_place g.L.Law.opening key.pages) c.shape_of.ensures.shapes c.args.sought.root c.requires.some c.requires.root c.args.sought.key c.requires.key c.args.page c.requires.way.0 c.args.mtr.now.pass.now c.requires.index c.requires.way.1
+    let sizes : Sizes = c.args.mtr.now.latches.now.sizes in
+    peek_may sizes g.L.Trees.ROOTS (g.L.Law.lawful sizes.pages) (by_place g.L.Law.opening sizes.pages) c.shape_of.ensures.shapes c.args.sought.root c.requires.some c.requires.root c.args.sought.key c.requires.key c.args.page c.requires.way.0 c.args.mtr.now.pass.now c.requires.index c.requires.way.1
 
 pub level_of-level-requires-clause-can : goal.level_of-level-requires-clause-can
 level_of-level-requires-clause-can g c =
-    let key : Sizes = c.args.mtr.now.latches.now.sizes in
+    let sizes : Sizes = c.args.mtr.now.latches.now.sizes in
     let p : PassState = c.args.mtr.now.pass.now in let q : PassState = c.stand.new.mtr.pass.now in
     let n : ℕ = c.requires.way.0 in
     let keeps = c.stand.ensures.keeps c.requires.index.claimed in
-    let at = peek_at key g.L.Trees.ROOTS (g.L.Law.lawful key.pages) (by_place g.L.Law.opening key.pages) c.shape_of.ensures.shapes c.args.sought.root c.requires.some c.requires.root c.args.sought.key c.requires.key c.args.page n p c.requires.index c.requires.way.1 q c.stand.ensures.stood keeps in
-    let sizes = ap (λ m. m.now.sizes) c.stand.ensures.latches in
-    let image = page_image key g.L.Trees.ROOTS (g.L.Law.lawful key.pages) (by_place g.L.Law.opening key.pages) c.shape_of.ensures.shapes c.args.sought.root c.requires.some c.requires.root c.args.sought.key c.requires.key q.view.memory.seen c.args.page n at.known.legal at.way in
+    let at = peek_at sizes g.L.Trees.ROOTS (g.L.Law.lawful sizes.pages) (by_place g.L.Law.opening sizes.pages) c.shape_of.ensures.shapes c.args.sought.root c.requires.some c.requires.root c.args.sought.key c.requires.key c.args.page n p c.requires.index c.requires.way.1 q c.stand.ensures.stood keeps in
+    let same_sizes = ap (λ m. m.now.sizes) c.stand.ensures.latches in
+    let image = page_image sizes g.L.Trees.ROOTS (g.L.Law.lawful sizes.pages) (by_place g.L.Law.opening sizes.pages) c.shape_of.ensures.shapes c.args.sought.root c.requires.some c.requires.root c.args.sought.key c.requires.key q.view.memory.seen c.args.page n at.known.legal at.way in
     record {
       mtr = c.stand.ensures.mtr;
-      there = subst (λ (s : Sizes). c.args.page < s.pages) (sym sizes) image.there;
-      held = at_held key (g.L.Law.lawful key.pages) (by_place g.L.Law.opening key.pages) c.args.sought.root c.args.sought.key (claim_grant ∷ []) c.args.page n S q at;
+      there = subst (λ (s : Sizes). c.args.page < s.pages) (sym same_sizes) image.there;
+      held = at_held sizes (g.L.Law.lawful sizes.pages) (by_place g.L.Law.opening sizes.pages) c.args.sought.root c.args.sought.key (claim_grant ∷ []) c.args.page n S q at;
       watched = at.watched;
     }
 
 pub level_of-level-requires-clause-tree : goal.level_of-level-requires-clause-tree
 level_of-level-requires-clause-tree g c =
-    let key : Sizes = c.args.mtr.now.latches.now.sizes in
+    let sizes : Sizes = c.args.mtr.now.latches.now.sizes in
     let p : PassState = c.args.mtr.now.pass.now in let q : PassState = c.stand.new.mtr.pass.now in
     let n : ℕ = c.requires.way.0 in
     let keeps = c.stand.ensures.keeps c.requires.index.claimed in
-    let at = peek_at key g.L.Trees.ROOTS (g.L.Law.lawful key.pages) (by_place g.L.Law.opening key.pages) c.shape_of.ensures.shapes c.args.sought.root c.requires.some c.requires.root c.args.sought.key c.requires.key c.args.page n p c.requires.index c.requires.way.1 q c.stand.ensures.stood keeps in
-    let sizes = ap (λ m. m.now.sizes) c.stand.ensures.latches in
-    let image = page_image key g.L.Trees.ROOTS (g.L.Law.lawful key.pages) (by_place g.L.Law.opening key.pages) c.shape_of.ensures.shapes c.args.sought.root c.requires.some c.requires.root c.args.sought.key c.requires.key q.view.memory.seen c.args.page n at.known.legal at.way in
-    subst (λ (s : Sizes). IsTreePage (image_of (memory_after (by_place g.L.Law.opening s.pages) c.stand.new.mtr.pass.now.view.memory.seen) c.args.page)) (sym sizes) image.image.tree
+    let at = peek_at sizes g.L.Trees.ROOTS (g.L.Law.lawful sizes.pages) (by_place g.L.Law.opening sizes.pages) c.shape_of.ensures.shapes c.args.sought.root c.requires.some c.requires.root c.args.sought.key c.requires.key c.args.page n p c.requires.index c.requires.way.1 q c.stand.ensures.stood keeps in
+    let same_sizes = ap (λ m. m.now.sizes) c.stand.ensures.latches in
+    let image = page_image sizes g.L.Trees.ROOTS (g.L.Law.lawful sizes.pages) (by_place g.L.Law.opening sizes.pages) c.shape_of.ensures.shapes c.args.sought.root c.requires.some c.requires.root c.args.sought.key c.requires.key q.view.memory.seen c.args.page n at.known.legal at.way in
+    subst (λ (s : Sizes). IsTreePage (image_of (memory_after (by_place g.L.Law.opening s.pages) c.stand.new.mtr.pass.now.view.memory.seen) c.args.page)) (sym same_sizes) image.image.tree
 
 pub link_here-link-requires-clause-at : goal.link_here-link-requires-clause-at
 link_here-link-requires-clause-at g c =
-    let key : Sizes = c.args.mtr.now.latches.now.sizes in
+    let sizes : Sizes = c.args.mtr.now.latches.now.sizes in
     let p : PassState = c.args.mtr.now.pass.now in let q : PassState = c.stand.new.mtr.pass.now in
     let n : ℕ = c.requires.way.0 in
     let keeps = c.stand.ensures.keeps c.requires.index.claimed in
-    let at = peek_at key g.L.Trees.ROOTS (g.L.Law.lawful key.pages) (by_place g.L.Law.opening key.pages) c.shape_of.ensures.shapes c.args.sought.root c.requires.some c.requires.root c.args.sought.key c.requires.key c.args.page n p c.requires.index c.requires.way.1 q c.stand.ensures.stood keeps in
-    let sizes = ap (λ m. m.now.sizes) c.stand.ensures.latches in
-    let image = page_image key g.L.Trees.ROOTS (g.L.Law.lawful key.pages) (by_place g.L.Law.opening key.pages) c.shape_of.ensures.shapes c.args.sought.root c.requires.some c.requires.root c.args.sought.key c.requires.key q.view.memory.seen c.args.page n at.known.legal at.way in
-    let level : c.level_of-level.result ≡ level_of (image_of (memory_after (by_place g.L.Law.opening key.pages) q.view.memory.seen) c.args.page) =
-    subst (λ (s : Sizes). c.level_of-level.result ≡ level_of (image_of (memory_after (by_place g.L.Law.opening s.pages) c.stand.new.mtr.pass.now.view.memory.seen) c.args.page)) sizes c.level_of-level.ensures.level in
+    let at = peek_at sizes g.L.Trees.ROOTS (g.L.Law.lawful sizes.pages) (by_place g.L.Law.opening sizes.pages) c.shape_of.ensures.shapes c.args.sought.root c.requires.some c.requires.root c.args.sought.key c.requires.key c.args.page n p c.requires.index c.requires.way.1 q c.stand.ensures.stood keeps in
+    let same_sizes = ap (λ m. m.now.sizes) c.stand.ensures.latches in
+    let image = page_image sizes g.L.Trees.ROOTS (g.L.Law.lawful sizes.pages) (by_place g.L.Law.opening sizes.pages) c.shape_of.ensures.shapes c.args.sought.root c.requires.some c.requires.root c.args.sought.key c.requires.key q.view.memory.seen c.args.page n at.known.legal at.way in
+    let level : c.level_of-level.result ≡ level_of (image_of (memory_after (by_place g.L.Law.opening sizes.pages) q.view.memory.seen) c.args.page) =
+    subst (λ (s : Sizes). c.level_of-level.result ≡ level_of (image_of (memory_after (by_place g.L.Law.opening s.pages) c.stand.new.mtr.pass.now.view.memory.seen) c.args.page)) same_sizes c.level_of-level.ensures.level in
     let r : PassState = c.level_of-level.new.mtr.pass.now in
-    let there : IsAt key (g.L.Law.lawful key.pages) (by_place g.L.Law.opening key.pages) c.args.sought.root c.args.sought.key (claim_grant ∷ []) c.args.page c.level_of-level.result S r =
-    at_read key (g.L.Law.lawful key.pages) (by_place g.L.Law.opening key.pages) c.args.sought.root c.args.sought.key (claim_grant ∷ []) c.args.page c.level_of-level.result S q r
-    (subst (λ k. IsAt key (g.L.Law.lawful key.pages) (by_place g.L.Law.opening key.pages) c.args.sought.root c.args.sought.key (claim_grant ∷ []) c.args.page k S q) (sym image.height ∙ sym level) at) c.level_of-level.ensures.read in
+    let there : IsAt sizes (g.L.Law.lawful sizes.pages) (by_place g.L.Law.opening sizes.pages) c.args.sought.root c.args.sought.key (claim_grant ∷ []) c.args.page c.level_of-level.result S r =
+    at_read sizes (g.L.Law.lawful sizes.pages) (by_place g.L.Law.opening sizes.pages) c.args.sought.root c.args.sought.key (claim_grant ∷ []) c.args.page c.level_of-level.result S q r
+    (subst (λ k. IsAt sizes (g.L.Law.lawful sizes.pages) (by_place g.L.Law.opening sizes.pages) c.args.sought.root c.args.sought.key (claim_grant ∷ []) c.args.page k S q) (sym image.height ∙ sym level) at) c.level_of-level.ensures.read in
     let both = ap (λ m. m.now.sizes) (c.level_of-level.ensures.latches ∙ c.stand.ensures.latches) in
     subst (λ (s : Sizes). IsAt s (g.L.Law.lawful s.pages) (by_place g.L.Law.opening s.pages) c.args.sought.root c.args.sought.key (claim_grant ∷ []) c.args.page c.level_of-level.result S r) (sym both) there
 
@@ -80,23 +80,23 @@ release_at-requires-clause-at g c = let l = ap length c.link_here-link.ensures.l
 
 pub returns-clause-peeked : goal.returns-clause-peeked
 returns-clause-peeked g c =
-    let key : Sizes = c.args.mtr.now.latches.now.sizes in
+    let sizes : Sizes = c.args.mtr.now.latches.now.sizes in
     let p : PassState = c.args.mtr.now.pass.now in let q : PassState = c.stand.new.mtr.pass.now in
     let n : ℕ = c.requires.way.0 in
     let keeps = c.stand.ensures.keeps c.requires.index.claimed in
-    let at = peek_at key g.L.Trees.ROOTS (g.L.Law.lawful key.pages) (by_place g.L.Law.opening key.pages) c.shape_of.ensures.shapes c.args.sought.root c.requires.some c.requires.root c.args.sought.key c.requires.key c.args.page n p c.requires.index c.requires.way.1 q c.stand.ensures.stood keeps in
-    let sizes = ap (λ m. m.now.sizes) c.stand.ensures.latches in
-    let image = page_image key g.L.Trees.ROOTS (g.L.Law.lawful key.pages) (by_place g.L.Law.opening key.pages) c.shape_of.ensures.shapes c.args.sought.root c.requires.some c.requires.root c.args.sought.key c.requires.key q.view.memory.seen c.args.page n at.known.legal at.way in
-    let level : c.level_of-level.result ≡ level_of (image_of (memory_after (by_place g.L.Law.opening key.pages) q.view.memory.seen) c.args.page) =
-    subst (λ (s : Sizes). c.level_of-level.result ≡ level_of (image_of (memory_after (by_place g.L.Law.opening s.pages) c.stand.new.mtr.pass.now.view.memory.seen) c.args.page)) sizes c.level_of-level.ensures.level in
+    let at = peek_at sizes g.L.Trees.ROOTS (g.L.Law.lawful sizes.pages) (by_place g.L.Law.opening sizes.pages) c.shape_of.ensures.shapes c.args.sought.root c.requires.some c.requires.root c.args.sought.key c.requires.key c.args.page n p c.requires.index c.requires.way.1 q c.stand.ensures.stood keeps in
+    let same_sizes = ap (λ m. m.now.sizes) c.stand.ensures.latches in
+    let image = page_image sizes g.L.Trees.ROOTS (g.L.Law.lawful sizes.pages) (by_place g.L.Law.opening sizes.pages) c.shape_of.ensures.shapes c.args.sought.root c.requires.some c.requires.root c.args.sought.key c.requires.key q.view.memory.seen c.args.page n at.known.legal at.way in
+    let level : c.level_of-level.result ≡ level_of (image_of (memory_after (by_place g.L.Law.opening sizes.pages) q.view.memory.seen) c.args.page) =
+    subst (λ (s : Sizes). c.level_of-level.result ≡ level_of (image_of (memory_after (by_place g.L.Law.opening s.pages) c.stand.new.mtr.pass.now.view.memory.seen) c.args.page)) same_sizes c.level_of-level.ensures.level in
     let r : PassState = c.level_of-level.new.mtr.pass.now in
-    let there : IsAt key (g.L.Law.lawful key.pages) (by_place g.L.Law.opening key.pages) c.args.sought.root c.args.sought.key (claim_grant ∷ []) c.args.page c.level_of-level.result S r =
-    at_read key (g.L.Law.lawful key.pages) (by_place g.L.Law.opening key.pages) c.args.sought.root c.args.sought.key (claim_grant ∷ []) c.args.page c.level_of-level.result S q r
-    (subst (λ k. IsAt key (g.L.Law.lawful key.pages) (by_place g.L.Law.opening key.pages) c.args.sought.root c.args.sought.key (claim_grant ∷ []) c.args.page k S q) (sym image.height ∙ sym level) at) c.level_of-level.ensures.read in
+    let there : IsAt sizes (g.L.Law.lawful sizes.pages) (by_place g.L.Law.opening sizes.pages) c.args.sought.root c.args.sought.key (claim_grant ∷ []) c.args.page c.level_of-level.result S r =
+    at_read sizes (g.L.Law.lawful sizes.pages) (by_place g.L.Law.opening sizes.pages) c.args.sought.root c.args.sought.key (claim_grant ∷ []) c.args.page c.level_of-level.result S q r
+    (subst (λ k. IsAt sizes (g.L.Law.lawful sizes.pages) (by_place g.L.Law.opening sizes.pages) c.args.sought.root c.args.sought.key (claim_grant ∷ []) c.args.page k S q) (sym image.height ∙ sym level) at) c.level_of-level.ensures.read in
     let both = ap (λ m. m.now.sizes) (c.level_of-level.ensures.latches ∙ c.stand.ensures.latches) in
     let s : PassState = c.link_here-link.new.mtr.pass.now in
     let linked = subst (λ (k : Sizes). NamesLink k (g.L.Law.lawful k.pages) (by_place g.L.Law.opening k.pages) c.args.sought.root c.args.sought.key c.args.page c.level_of-level.result c.link_here-link.result r s) both c.link_here-link.ensures.linked in
-    let here = subst (λ k. (NamesLink key (g.L.Law.lawful key.pages) (by_place g.L.Law.opening key.pages) c.args.sought.root c.args.sought.key c.args.page k c.link_here-link.result q s)) (level ∙ image.height)
-    (peek_linked key (g.L.Law.lawful key.pages) (by_place g.L.Law.opening key.pages) c.args.sought.root c.args.sought.key c.args.page c.level_of-level.result c.link_here-link.result q r s keeps.claimed c.level_of-level.ensures.read linked) in
-    subst (λ k. HasPeeked key (g.L.Law.lawful key.pages) (by_place g.L.Law.opening key.pages) c.args.sought.root c.args.sought.key c.args.page k c.link_here-link.result p c.release_at.new.self.pass.now) (sym image.height ∙ sym level)
-    (peeked key g.L.Trees.ROOTS (g.L.Law.lawful key.pages) (by_place g.L.Law.opening key.pages) c.shape_of.ensures.shapes c.args.sought.root c.requires.some c.requires.root c.args.sought.key c.requires.key c.args.page n p c.requires.index c.requires.way.1 q c.stand.ensures.stood keeps c.link_here-link.result s c.release_at.new.self.pass.now here c.release_at.ensures.released)
+    let here = subst (λ k. (NamesLink sizes (g.L.Law.lawful sizes.pages) (by_place g.L.Law.opening sizes.pages) c.args.sought.root c.args.sought.key c.args.page k c.link_here-link.result q s)) (level ∙ image.height)
+    (peek_linked sizes (g.L.Law.lawful sizes.pages) (by_place g.L.Law.opening sizes.pages) c.args.sought.root c.args.sought.key c.args.page c.level_of-level.result c.link_here-link.result q r s keeps.claimed c.level_of-level.ensures.read linked) in
+    subst (λ k. HasPeeked sizes (g.L.Law.lawful sizes.pages) (by_place g.L.Law.opening sizes.pages) c.args.sought.root c.args.sought.key c.args.page k c.link_here-link.result p c.release_at.new.self.pass.now) (sym image.height ∙ sym level)
+    (peeked sizes g.L.Trees.ROOTS (g.L.Law.lawful sizes.pages) (by_place g.L.Law.opening sizes.pages) c.shape_of.ensures.shapes c.args.sought.root c.requires.some c.requires.root c.args.sought.key c.requires.key c.args.page n p c.requires.index c.requires.way.1 q c.stand.ensures.stood keeps c.link_here-link.result s c.release_at.new.self.pass.now here c.release_at.ensures.released)

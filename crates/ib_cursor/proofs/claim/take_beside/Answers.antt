@@ -15,32 +15,32 @@ one-there page ne = ap (λ b. cond b [] (page ∷ [])) (ne_eqb page 0 ne)
 
 pub returns-then-page-eq0-clause-taken : goal.returns-then-page-eq0-clause-taken
 returns-then-page-eq0-clause-taken g c = λ held more w.
-    let key : Sizes = c.args.mtr.now.latches.now.sizes in
+    let sizes : Sizes = c.args.mtr.now.latches.now.sizes in
     let e = none-there c.args.page c.if-page-eq0.true in
-    subst (λ ps. HasTakenMore key (g.L.Law.lawful key.pages) (by_place g.L.Law.opening key.pages) held ps c.args.mtr.now.pass.now c.args.mtr.now.pass.now) (sym e)
-    (more_none key (g.L.Law.lawful key.pages) (by_place g.L.Law.opening key.pages) held c.args.mtr.now.pass.now w.holds)
+    subst (λ ps. HasTakenMore sizes (g.L.Law.lawful sizes.pages) (by_place g.L.Law.opening sizes.pages) held ps c.args.mtr.now.pass.now c.args.mtr.now.pass.now) (sym e)
+    (more_none sizes (g.L.Law.lawful sizes.pages) (by_place g.L.Law.opening sizes.pages) held c.args.mtr.now.pass.now w.holds)
 
 pub take_page-requires-clause-page : goal.take_page-requires-clause-page
 take_page-requires-clause-page g c =
-    let key : Sizes = c.args.mtr.now.latches.now.sizes in
+    let sizes : Sizes = c.args.mtr.now.latches.now.sizes in
     let r = c.requires.ready in
-    (can_first key (g.L.Law.lawful key.pages) (by_place g.L.Law.opening key.pages) r.0 c.args.page r.1 c.args.mtr.now.pass.now
-    (subst (λ ps. WillTake key (g.L.Law.lawful key.pages) (by_place g.L.Law.opening key.pages) r.0 (ps ++ r.1) c.args.mtr.now.pass.now) (one-there c.args.page c.if-page-eq0.false) r.2)).1
+    (can_first sizes (g.L.Law.lawful sizes.pages) (by_place g.L.Law.opening sizes.pages) r.0 c.args.page r.1 c.args.mtr.now.pass.now
+    (subst (λ ps. WillTake sizes (g.L.Law.lawful sizes.pages) (by_place g.L.Law.opening sizes.pages) r.0 (ps ++ r.1) c.args.mtr.now.pass.now) (one-there c.args.page c.if-page-eq0.false) r.2)).1
 
 pub take_page-requires-clause-holds : goal.take_page-requires-clause-holds
 take_page-requires-clause-holds g c =
-    let key : Sizes = c.args.mtr.now.latches.now.sizes in
+    let sizes : Sizes = c.args.mtr.now.latches.now.sizes in
     let r = c.requires.ready in (
       r.0,
-      (can_first key (g.L.Law.lawful key.pages) (by_place g.L.Law.opening key.pages) r.0 c.args.page r.1 c.args.mtr.now.pass.now
-          (subst (λ ps. WillTake key (g.L.Law.lawful key.pages) (by_place g.L.Law.opening key.pages) r.0 (ps ++ r.1) c.args.mtr.now.pass.now) (one-there c.args.page c.if-page-eq0.false) r.2)).0,
+      (can_first sizes (g.L.Law.lawful sizes.pages) (by_place g.L.Law.opening sizes.pages) r.0 c.args.page r.1 c.args.mtr.now.pass.now
+          (subst (λ ps. WillTake sizes (g.L.Law.lawful sizes.pages) (by_place g.L.Law.opening sizes.pages) r.0 (ps ++ r.1) c.args.mtr.now.pass.now) (one-there c.args.page c.if-page-eq0.false) r.2)).0,
     )
 
 pub returns-clause-taken : goal.returns-clause-taken
 returns-clause-taken g c = λ held more w.
-    let key : Sizes = c.args.mtr.now.latches.now.sizes in
+    let sizes : Sizes = c.args.mtr.now.latches.now.sizes in
     let e = one-there c.args.page c.if-page-eq0.false in
-    let can = can_first key (g.L.Law.lawful key.pages) (by_place g.L.Law.opening key.pages) held c.args.page more c.args.mtr.now.pass.now
-    (subst (λ ps. WillTake key (g.L.Law.lawful key.pages) (by_place g.L.Law.opening key.pages) held (ps ++ more) c.args.mtr.now.pass.now) e w) in
-    subst (λ ps. HasTakenMore key (g.L.Law.lawful key.pages) (by_place g.L.Law.opening key.pages) held ps c.args.mtr.now.pass.now c.take_page.new.mtr.pass.now) (sym e)
-    (more_one key (g.L.Law.lawful key.pages) (by_place g.L.Law.opening key.pages) held c.args.page c.args.mtr.now.pass.now c.take_page.new.mtr.pass.now (c.take_page.ensures.taken held can.0))
+    let can = can_first sizes (g.L.Law.lawful sizes.pages) (by_place g.L.Law.opening sizes.pages) held c.args.page more c.args.mtr.now.pass.now
+    (subst (λ ps. WillTake sizes (g.L.Law.lawful sizes.pages) (by_place g.L.Law.opening sizes.pages) held (ps ++ more) c.args.mtr.now.pass.now) e w) in
+    subst (λ ps. HasTakenMore sizes (g.L.Law.lawful sizes.pages) (by_place g.L.Law.opening sizes.pages) held ps c.args.mtr.now.pass.now c.take_page.new.mtr.pass.now) (sym e)
+    (more_one sizes (g.L.Law.lawful sizes.pages) (by_place g.L.Law.opening sizes.pages) held c.args.page c.args.mtr.now.pass.now c.take_page.new.mtr.pass.now (c.take_page.ensures.taken held can.0))

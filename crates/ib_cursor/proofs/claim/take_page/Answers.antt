@@ -25,20 +25,20 @@ take-requires-clause-grows g c =
 
 pub take-requires-clause-may : goal.take-requires-clause-may
 take-requires-clause-may g c =
-    let key : Sizes = c.args.mtr.now.latches.now.sizes in
-    subst (λ (l : Latch). CanWish l.0 TreeNode c.args.mtr.now.pass.now.view.session) (sym c.page.ensures) (page_may key (g.L.Law.lawful key.pages) (by_place g.L.Law.opening key.pages) c.requires.holds.0 c.args.page c.args.mtr.now.pass.now c.requires.holds.1)
+    let sizes : Sizes = c.args.mtr.now.latches.now.sizes in
+    subst (λ (l : Latch). CanWish l.0 TreeNode c.args.mtr.now.pass.now.view.session) (sym c.page.ensures) (page_may sizes (g.L.Law.lawful sizes.pages) (by_place g.L.Law.opening sizes.pages) c.requires.holds.0 c.args.page c.args.mtr.now.pass.now c.requires.holds.1)
 
 pub read-requires-clause-absent : goal.read-requires-clause-absent
 read-requires-clause-absent g c =
-    let key : Sizes = c.args.mtr.now.latches.now.sizes in
-    ap (λ (r : PassState). changed_of c.args.page r.work) c.take.ensures.taken.pass ∙ page_absent key (g.L.Law.lawful key.pages) (by_place g.L.Law.opening key.pages) c.requires.holds.0 c.args.page c.args.mtr.now.pass.now c.requires.holds.1
+    let sizes : Sizes = c.args.mtr.now.latches.now.sizes in
+    ap (λ (r : PassState). changed_of c.args.page r.work) c.take.ensures.taken.pass ∙ page_absent sizes (g.L.Law.lawful sizes.pages) (by_place g.L.Law.opening sizes.pages) c.requires.holds.0 c.args.page c.args.mtr.now.pass.now c.requires.holds.1
 
 pub returns-clause-taken : goal.returns-clause-taken
 returns-clause-taken g c = λ held can.
-    let key : Sizes = c.args.mtr.now.latches.now.sizes in
+    let sizes : Sizes = c.args.mtr.now.latches.now.sizes in
     let p = c.args.mtr.now.pass.now in let q = c.take.new.mtr.pass.now in let r = c.read.new.mtr.pass.now in
     let taken = subst (λ (l : Latch). HasTaken (record { latch = l.0; mode = X; level = TreeNode }) p q) c.page.ensures c.take.ensures.taken in
     let same = ap (λ m. m.now.sizes) c.take.ensures.latches in
     let l = c.read.ensures in
-    page_taken key (g.L.Law.lawful key.pages) (by_place g.L.Law.opening key.pages) held c.args.page p can q r c.requires.mtr.held taken (subst (λ (k : Sizes). HasGlanced k (g.L.Law.lawful k.pages) q r) same l.glanced) l.memo l.session l.grants
+    page_taken sizes (g.L.Law.lawful sizes.pages) (by_place g.L.Law.opening sizes.pages) held c.args.page p can q r c.requires.mtr.held taken (subst (λ (k : Sizes). HasGlanced k (g.L.Law.lawful k.pages) q r) same l.glanced) l.memo l.session l.grants
     (subst (λ (k : Sizes). HasPage (by_place g.L.Law.opening k.pages) c.args.page q r) same l.loaded) l.mtr.held

@@ -27,27 +27,27 @@ take-requires-clause-may g c =
 
 pub returns-then-level-gt0-clause-down : goal.returns-then-level-gt0-clause-down
 returns-then-level-gt0-clause-down g c =
-    let key : Sizes = c.args.mtr.now.latches.now.sizes in
+    let sizes : Sizes = c.args.mtr.now.latches.now.sizes in
     let p : PassState = c.args.mtr.now.pass.now in let q : PassState = c.take.new.mtr.pass.now in let r : PassState = c.stand_on_root-level.new.mtr.pass.now in
     let same = ap (λ m. m.now.sizes) c.take.ensures.latches in
     let seen = subst (λ (s : Sizes). HasSeen s (g.L.Law.lawful s.pages) q r) same c.stand_on_root-level.ensures.seen in
     let here = subst (λ (s : Sizes). IsAt s (g.L.Law.lawful s.pages) (by_place g.L.Law.opening s.pages) c.args.sought.root c.args.sought.key (index_grant ∷ []) c.args.sought.root c.stand_on_root-level.result S r) same c.stand_on_root-level.ensures.here in
-    down_root key (g.L.Law.lawful key.pages) (by_place g.L.Law.opening key.pages) c.args.sought.root c.args.sought.key (is_exclusive c.args.search) c.stand_on_root-level.result p q r
+    down_root sizes (g.L.Law.lawful sizes.pages) (by_place g.L.Law.opening sizes.pages) c.args.sought.root c.args.sought.key (is_exclusive c.args.search) c.stand_on_root-level.result p q r
     (λ _. c.if-level-gt0.true) c.stand_on_root-level.ensures.low c.take.ensures.taken seen here c.stand_on_root-level.ensures.grants
 
 pub returns-in-Find-clause-down : goal.returns-in-Find-clause-down
 returns-in-Find-clause-down g c =
-    let key : Sizes = c.args.mtr.now.latches.now.sizes in
+    let sizes : Sizes = c.args.mtr.now.latches.now.sizes in
     let p : PassState = c.args.mtr.now.pass.now in let q : PassState = c.take.new.mtr.pass.now in let r : PassState = c.stand_on_root-level.new.mtr.pass.now in
     let same = ap (λ m. m.now.sizes) c.take.ensures.latches in
     let seen = subst (λ (s : Sizes). HasSeen s (g.L.Law.lawful s.pages) q r) same c.stand_on_root-level.ensures.seen in
     let here = subst (λ (s : Sizes). IsAt s (g.L.Law.lawful s.pages) (by_place g.L.Law.opening s.pages) c.args.sought.root c.args.sought.key (index_grant ∷ []) c.args.sought.root c.stand_on_root-level.result S r) same c.stand_on_root-level.ensures.here in
-    down_root key (g.L.Law.lawful key.pages) (by_place g.L.Law.opening key.pages) c.args.sought.root c.args.sought.key (is_exclusive c.args.search) c.stand_on_root-level.result p q r
+    down_root sizes (g.L.Law.lawful sizes.pages) (by_place g.L.Law.opening sizes.pages) c.args.sought.root c.args.sought.key (is_exclusive c.args.search) c.stand_on_root-level.result p q r
     (λ e. let f : is_exclusive c.args.search ≡ false = ap is_exclusive c.in-Find.is in absurd (cc)) c.stand_on_root-level.ensures.low c.take.ensures.taken seen here c.stand_on_root-level.ensures.grants
 
 pub returns-in-ModifyLeaf-clause-down : goal.returns-in-ModifyLeaf-clause-down
 returns-in-ModifyLeaf-clause-down g c =
-    let key : Sizes = c.args.mtr.now.latches.now.sizes in
+    let sizes : Sizes = c.args.mtr.now.latches.now.sizes in
     let p : PassState = c.args.mtr.now.pass.now in let q : PassState = c.take.new.mtr.pass.now in let r : PassState = c.stand_on_root-level.new.mtr.pass.now in
     let same = ap (λ m. m.now.sizes) c.take.ensures.latches in
     let seen = subst (λ (s : Sizes). HasSeen s (g.L.Law.lawful s.pages) q r) same c.stand_on_root-level.ensures.seen in
@@ -59,6 +59,6 @@ returns-in-ModifyLeaf-clause-down g c =
     let again = subst (λ (k : Sizes). HasSeen k (g.L.Law.lawful k.pages) s t) still c.stand_on_root.ensures.seen in
     let later = subst (λ (s : Sizes). c.stand_on_root.result ≡ height_of (pages_after (by_place g.L.Law.opening s.pages) c.stand_on_root.new.mtr.pass.now.view.memory.seen) c.args.sought.root) still c.stand_on_root.ensures.height in
     let there = subst (λ (s : Sizes). IsAt s (g.L.Law.lawful s.pages) (by_place g.L.Law.opening s.pages) c.args.sought.root c.args.sought.key (index_grant ∷ []) c.args.sought.root c.stand_on_root.result X t) still c.stand_on_root.ensures.here in
-    subst (λ b. IsDown key (g.L.Law.lawful key.pages) (by_place g.L.Law.opening key.pages) c.args.sought.root c.args.sought.key (index_grant ∷ []) b 0 c.args.sought.root c.stand_on_root.result p t) (sym (ap is_exclusive c.in-ModifyLeaf.is))
-    (down_again key (g.L.Law.lawful key.pages) (by_place g.L.Law.opening key.pages) c.args.sought.root c.args.sought.key c.stand_on_root-level.result c.stand_on_root.result p q r s t
+    subst (λ b. IsDown sizes (g.L.Law.lawful sizes.pages) (by_place g.L.Law.opening sizes.pages) c.args.sought.root c.args.sought.key (index_grant ∷ []) b 0 c.args.sought.root c.stand_on_root.result p t) (sym (ap is_exclusive c.in-ModifyLeaf.is))
+    (down_again sizes (g.L.Law.lawful sizes.pages) (by_place g.L.Law.opening sizes.pages) c.args.sought.root c.args.sought.key c.stand_on_root-level.result c.stand_on_root.result p q r s t
     (let z = c.if-level-gt0.false in omega arith) c.stand_on_root.ensures.low c.take.ensures.taken seen height c.stand_on_root-level.ensures.grants gave again later there c.stand_on_root.ensures.grants)

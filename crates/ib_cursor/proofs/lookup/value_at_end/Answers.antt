@@ -17,41 +17,41 @@ use Rattle.ib_cursor.proofs.lookup.value_at_end.Goals as goal
 
 pub value_of-requires-clause-can : goal.value_of-requires-clause-can
 value_of-requires-clause-can g c =
-    let key : Sizes = c.args.mtr.now.latches.now.sizes in
-    let has : has_pages key.pages ≡ true = subst (λ (s : Sizes). has_pages s.pages ≡ true) c.geometry.ensures (subst (λ n. has_pages n ≡ true) c.pages.ensures.pages c.pages.ensures.in_range) in
-    let laws = laws_of key.pages g.L.Trees.ROOTS (g.L.Law.lawful key.pages) (by_place g.L.Law.opening key.pages) (g.L.Law.range key.pages) (λ xs ys. g.met.L.Law.begins key.pages xs ys has)
-    (λ log. c.trees_law.ensures.memory key.pages log has) (λ xs e page r. g.met.L.Law.stays key.pages xs e page r has) (λ log page r. c.trees_law.ensures.range key.pages log page r) in
+    let sizes : Sizes = c.args.mtr.now.latches.now.sizes in
+    let has : has_pages sizes.pages ≡ true = subst (λ (s : Sizes). has_pages s.pages ≡ true) c.geometry.ensures (subst (λ n. has_pages n ≡ true) c.pages.ensures.pages c.pages.ensures.in_range) in
+    let laws = laws_of sizes.pages g.L.Trees.ROOTS (g.L.Law.lawful sizes.pages) (by_place g.L.Law.opening sizes.pages) (g.L.Law.range sizes.pages) (λ xs ys. g.met.L.Law.begins sizes.pages xs ys has)
+    (λ log. c.trees_law.ensures.memory sizes.pages log has) (λ xs e page r. g.met.L.Law.stays sizes.pages xs e page r has) (λ log page r. c.trees_law.ensures.range sizes.pages log page r) in
     let lt = rank-lt_end c.args.key c.ranges.key.fits in
     let q : PassState = c.args.mtr.now.pass.now in
     let p = c.requires.come.0 in let d = c.requires.come.1 in
     let at : c.unwrap-leaf.result ≡ d.leaf = last_of_path c.last.result c.unwrap-leaf.result c.args.path.now d.front d.leaf d.ends c.last.ensures.last c.unwrap-leaf.ensures in
     record {
       mtr = c.requires.mtr;
-      there = subst (λ (n : ℕ). n < key.pages) (sym at) (leaf_image key g.L.Trees.ROOTS (g.L.Law.lawful key.pages) (by_place g.L.Law.opening key.pages) laws 1 (omega arith) c.requires.root c.args.key lt false c.args.path.now p q d).there;
-      held = subst (λ (n : ℕ). 0 < holdings (n + 2) q.view.session) (sym at) (leaf_held key g.L.Trees.ROOTS (g.L.Law.lawful key.pages) (by_place g.L.Law.opening key.pages) laws 1 (omega arith) c.requires.root c.args.key lt false c.args.path.now p q d);
+      there = subst (λ (n : ℕ). n < sizes.pages) (sym at) (leaf_image sizes g.L.Trees.ROOTS (g.L.Law.lawful sizes.pages) (by_place g.L.Law.opening sizes.pages) laws 1 (omega arith) c.requires.root c.args.key lt false c.args.path.now p q d).there;
+      held = subst (λ (n : ℕ). 0 < holdings (n + 2) q.view.session) (sym at) (leaf_held sizes g.L.Trees.ROOTS (g.L.Law.lawful sizes.pages) (by_place g.L.Law.opening sizes.pages) laws 1 (omega arith) c.requires.root c.args.key lt false c.args.path.now p q d);
       watched = subst (λ (n : ℕ). is_watched (n + 2) q.view.memory.since ≡ true) (sym at) d.watched;
     }
 
 pub value_of-requires-clause-tree : goal.value_of-requires-clause-tree
 value_of-requires-clause-tree g c =
-    let key : Sizes = c.args.mtr.now.latches.now.sizes in
-    let has : has_pages key.pages ≡ true = subst (λ (s : Sizes). has_pages s.pages ≡ true) c.geometry.ensures (subst (λ n. has_pages n ≡ true) c.pages.ensures.pages c.pages.ensures.in_range) in
-    let laws = laws_of key.pages g.L.Trees.ROOTS (g.L.Law.lawful key.pages) (by_place g.L.Law.opening key.pages) (g.L.Law.range key.pages) (λ xs ys. g.met.L.Law.begins key.pages xs ys has)
-    (λ log. c.trees_law.ensures.memory key.pages log has) (λ xs e page r. g.met.L.Law.stays key.pages xs e page r has) (λ log page r. c.trees_law.ensures.range key.pages log page r) in
+    let sizes : Sizes = c.args.mtr.now.latches.now.sizes in
+    let has : has_pages sizes.pages ≡ true = subst (λ (s : Sizes). has_pages s.pages ≡ true) c.geometry.ensures (subst (λ n. has_pages n ≡ true) c.pages.ensures.pages c.pages.ensures.in_range) in
+    let laws = laws_of sizes.pages g.L.Trees.ROOTS (g.L.Law.lawful sizes.pages) (by_place g.L.Law.opening sizes.pages) (g.L.Law.range sizes.pages) (λ xs ys. g.met.L.Law.begins sizes.pages xs ys has)
+    (λ log. c.trees_law.ensures.memory sizes.pages log has) (λ xs e page r. g.met.L.Law.stays sizes.pages xs e page r has) (λ log page r. c.trees_law.ensures.range sizes.pages log page r) in
     let lt = rank-lt_end c.args.key c.ranges.key.fits in
     let q : PassState = c.args.mtr.now.pass.now in
     let p = c.requires.come.0 in let d = c.requires.come.1 in
     let at : c.unwrap-leaf.result ≡ d.leaf = last_of_path c.last.result c.unwrap-leaf.result c.args.path.now d.front d.leaf d.ends c.last.ensures.last c.unwrap-leaf.ensures in
-    subst (λ (n : ℕ). IsTreePage (image_of (memory_after (by_place g.L.Law.opening key.pages) q.view.memory.seen) n)) (sym at) (leaf_image key g.L.Trees.ROOTS (g.L.Law.lawful key.pages) (by_place g.L.Law.opening key.pages) laws 1 (omega arith) c.requires.root c.args.key lt false c.args.path.now p q d).image.tree
+    subst (λ (n : ℕ). IsTreePage (image_of (memory_after (by_place g.L.Law.opening sizes.pages) q.view.memory.seen) n)) (sym at) (leaf_image sizes g.L.Trees.ROOTS (g.L.Law.lawful sizes.pages) (by_place g.L.Law.opening sizes.pages) laws 1 (omega arith) c.requires.root c.args.key lt false c.args.path.now p q d).image.tree
 
 pub returns-clause-found : goal.returns-clause-found
 returns-clause-found g c = λ p d.
-    let key : Sizes = c.args.mtr.now.latches.now.sizes in
-    let has : has_pages key.pages ≡ true = subst (λ (s : Sizes). has_pages s.pages ≡ true) c.geometry.ensures (subst (λ n. has_pages n ≡ true) c.pages.ensures.pages c.pages.ensures.in_range) in
-    let laws = laws_of key.pages g.L.Trees.ROOTS (g.L.Law.lawful key.pages) (by_place g.L.Law.opening key.pages) (g.L.Law.range key.pages) (λ xs ys. g.met.L.Law.begins key.pages xs ys has)
-    (λ log. c.trees_law.ensures.memory key.pages log has) (λ xs e page r. g.met.L.Law.stays key.pages xs e page r has) (λ log page r. c.trees_law.ensures.range key.pages log page r) in
+    let sizes : Sizes = c.args.mtr.now.latches.now.sizes in
+    let has : has_pages sizes.pages ≡ true = subst (λ (s : Sizes). has_pages s.pages ≡ true) c.geometry.ensures (subst (λ n. has_pages n ≡ true) c.pages.ensures.pages c.pages.ensures.in_range) in
+    let laws = laws_of sizes.pages g.L.Trees.ROOTS (g.L.Law.lawful sizes.pages) (by_place g.L.Law.opening sizes.pages) (g.L.Law.range sizes.pages) (λ xs ys. g.met.L.Law.begins sizes.pages xs ys has)
+    (λ log. c.trees_law.ensures.memory sizes.pages log has) (λ xs e page r. g.met.L.Law.stays sizes.pages xs e page r has) (λ log page r. c.trees_law.ensures.range sizes.pages log page r) in
     let lt = rank-lt_end c.args.key c.ranges.key.fits in
     let q : PassState = c.args.mtr.now.pass.now in
     let at : c.unwrap-leaf.result ≡ d.leaf = last_of_path c.last.result c.unwrap-leaf.result c.args.path.now d.front d.leaf d.ends c.last.ensures.last c.unwrap-leaf.ensures in
-    found key g.L.Trees.ROOTS (g.L.Law.lawful key.pages) (by_place g.L.Law.opening key.pages) laws 1 (omega arith) c.requires.root c.args.key lt c.args.path.now p q d c.requires.none c.value_of.result
-    (c.value_of.ensures.value ∙ ap (λ (n : ℕ). value_at c.args.key (records_of (image_of (memory_after (by_place g.L.Law.opening key.pages) q.view.memory.seen) n))) at) c.value_of.new.mtr.pass.now c.value_of.ensures.read
+    found sizes g.L.Trees.ROOTS (g.L.Law.lawful sizes.pages) (by_place g.L.Law.opening sizes.pages) laws 1 (omega arith) c.requires.root c.args.key lt c.args.path.now p q d c.requires.none c.value_of.result
+    (c.value_of.ensures.value ∙ ap (λ (n : ℕ). value_at c.args.key (records_of (image_of (memory_after (by_place g.L.Law.opening sizes.pages) q.view.memory.seen) n))) at) c.value_of.new.mtr.pass.now c.value_of.ensures.read

@@ -21,23 +21,23 @@ use Rattle.ib_cursor.proofs.next.next_leaf.Goals as goal
 
 pub right_of-next-requires-clause-loaded : goal.right_of-next-requires-clause-loaded
 right_of-next-requires-clause-loaded g c =
-    let key : Sizes = c.args.mtr.now.latches.now.sizes in
-    let has : has_pages key.pages ≡ true = subst (λ (s : Sizes). has_pages s.pages ≡ true) c.geometry.ensures (subst (λ n. has_pages n ≡ true) c.pages.ensures.pages c.pages.ensures.in_range) in
-    let laws = laws_of key.pages g.L.Trees.ROOTS (g.L.Law.lawful key.pages) (by_place g.L.Law.opening key.pages) (g.L.Law.range key.pages) (λ xs ys. g.met.L.Law.begins key.pages xs ys has)
-    (λ log. c.trees_law.ensures.memory key.pages log has) (λ xs e page r. g.met.L.Law.stays key.pages xs e page r has) (λ log page r. c.trees_law.ensures.range key.pages log page r) in
+    let sizes : Sizes = c.args.mtr.now.latches.now.sizes in
+    let has : has_pages sizes.pages ≡ true = subst (λ (s : Sizes). has_pages s.pages ≡ true) c.geometry.ensures (subst (λ n. has_pages n ≡ true) c.pages.ensures.pages c.pages.ensures.in_range) in
+    let laws = laws_of sizes.pages g.L.Trees.ROOTS (g.L.Law.lawful sizes.pages) (by_place g.L.Law.opening sizes.pages) (g.L.Law.range sizes.pages) (λ xs ys. g.met.L.Law.begins sizes.pages xs ys has)
+    (λ log. c.trees_law.ensures.memory sizes.pages log has) (λ xs e page r. g.met.L.Law.stays sizes.pages xs e page r has) (λ log page r. c.trees_law.ensures.range sizes.pages log page r) in
     let p : PassState = c.args.mtr.now.pass.now in
     let h = c.requires.held in
-    (h.image, ap (changed_of c.args.leaf) h.holds.work ∙ there_in c.args.leaf h.image, held_formed key g.L.Trees.ROOTS (g.L.Law.lawful key.pages) (by_place g.L.Law.opening key.pages) laws h.front c.args.leaf h.image h.range p h.holds)
+    (h.image, ap (changed_of c.args.leaf) h.holds.work ∙ there_in c.args.leaf h.image, held_formed sizes g.L.Trees.ROOTS (g.L.Law.lawful sizes.pages) (by_place g.L.Law.opening sizes.pages) laws h.front c.args.leaf h.image h.range p h.holds)
 
 pub page-requires : goal.page-requires
 page-requires g c =
-    let key : Sizes = c.args.mtr.now.latches.now.sizes in
-    let has : has_pages key.pages ≡ true = subst (λ (s : Sizes). has_pages s.pages ≡ true) c.geometry.ensures (subst (λ n. has_pages n ≡ true) c.pages.ensures.pages c.pages.ensures.in_range) in
-    let laws = laws_of key.pages g.L.Trees.ROOTS (g.L.Law.lawful key.pages) (by_place g.L.Law.opening key.pages) (g.L.Law.range key.pages) (λ xs ys. g.met.L.Law.begins key.pages xs ys has)
-    (λ log. c.trees_law.ensures.memory key.pages log has) (λ xs e page r. g.met.L.Law.stays key.pages xs e page r has) (λ log page r. c.trees_law.ensures.range key.pages log page r) in
+    let sizes : Sizes = c.args.mtr.now.latches.now.sizes in
+    let has : has_pages sizes.pages ≡ true = subst (λ (s : Sizes). has_pages s.pages ≡ true) c.geometry.ensures (subst (λ n. has_pages n ≡ true) c.pages.ensures.pages c.pages.ensures.in_range) in
+    let laws = laws_of sizes.pages g.L.Trees.ROOTS (g.L.Law.lawful sizes.pages) (by_place g.L.Law.opening sizes.pages) (g.L.Law.range sizes.pages) (λ xs ys. g.met.L.Law.begins sizes.pages xs ys has)
+    (λ log. c.trees_law.ensures.memory sizes.pages log has) (λ xs e page r. g.met.L.Law.stays sizes.pages xs e page r has) (λ log page r. c.trees_law.ensures.range sizes.pages log page r) in
     let p : PassState = c.args.mtr.now.pass.now in
     let h = c.requires.held in
-    few_pages key.pages c.args.leaf has (held_inside key g.L.Trees.ROOTS (g.L.Law.lawful key.pages) (by_place g.L.Law.opening key.pages) laws h.front c.args.leaf h.image h.range p h.holds)
+    few_pages sizes.pages c.args.leaf has (held_inside sizes g.L.Trees.ROOTS (g.L.Law.lawful sizes.pages) (by_place g.L.Law.opening sizes.pages) laws h.front c.args.leaf h.image h.range p h.holds)
 
 pub unwrap-at-requires : goal.unwrap-at-requires
 unwrap-at-requires g c =
@@ -46,56 +46,56 @@ unwrap-at-requires g c =
 
 pub page-requires-2 : goal.page-requires-2
 page-requires-2 g c =
-    let key : Sizes = c.args.mtr.now.latches.now.sizes in
-    let has : has_pages key.pages ≡ true = subst (λ (s : Sizes). has_pages s.pages ≡ true) c.geometry.ensures (subst (λ n. has_pages n ≡ true) c.pages.ensures.pages c.pages.ensures.in_range) in
-    let laws = laws_of key.pages g.L.Trees.ROOTS (g.L.Law.lawful key.pages) (by_place g.L.Law.opening key.pages) (g.L.Law.range key.pages) (λ xs ys. g.met.L.Law.begins key.pages xs ys has)
-    (λ log. c.trees_law.ensures.memory key.pages log has) (λ xs e page r. g.met.L.Law.stays key.pages xs e page r has) (λ log page r. c.trees_law.ensures.range key.pages log page r) in
+    let sizes : Sizes = c.args.mtr.now.latches.now.sizes in
+    let has : has_pages sizes.pages ≡ true = subst (λ (s : Sizes). has_pages s.pages ≡ true) c.geometry.ensures (subst (λ n. has_pages n ≡ true) c.pages.ensures.pages c.pages.ensures.in_range) in
+    let laws = laws_of sizes.pages g.L.Trees.ROOTS (g.L.Law.lawful sizes.pages) (by_place g.L.Law.opening sizes.pages) (g.L.Law.range sizes.pages) (λ xs ys. g.met.L.Law.begins sizes.pages xs ys has)
+    (λ log. c.trees_law.ensures.memory sizes.pages log has) (λ xs e page r. g.met.L.Law.stays sizes.pages xs e page r has) (λ log page r. c.trees_law.ensures.range sizes.pages log page r) in
     let p : PassState = c.args.mtr.now.pass.now in
     let h = c.requires.held in
     let loaded = ap (changed_of c.args.leaf) h.holds.work ∙ there_in c.args.leaf h.image in
     let link = c.right_of-next.ensures h.image loaded in
     let some : next_of h.image ≢ 0 = λ z. c.if-next-eq0.false (link ∙ z) in
-    few_pages key.pages c.right_of-next.result has (subst (λ (n : ℕ). n < key.pages) (sym link) (next_inside key g.L.Trees.ROOTS (g.L.Law.lawful key.pages) (by_place g.L.Law.opening key.pages) laws h.front c.args.leaf h.image h.range p h.holds some))
+    few_pages sizes.pages c.right_of-next.result has (subst (λ (n : ℕ). n < sizes.pages) (sym link) (next_inside sizes g.L.Trees.ROOTS (g.L.Law.lawful sizes.pages) (by_place g.L.Law.opening sizes.pages) laws h.front c.args.leaf h.image h.range p h.holds some))
 
 pub take-requires-clause-latch : goal.take-requires-clause-latch
 take-requires-clause-latch g c =
-    let key : Sizes = c.args.mtr.now.latches.now.sizes in
-    let has : has_pages key.pages ≡ true = subst (λ (s : Sizes). has_pages s.pages ≡ true) c.geometry.ensures (subst (λ n. has_pages n ≡ true) c.pages.ensures.pages c.pages.ensures.in_range) in
-    let laws = laws_of key.pages g.L.Trees.ROOTS (g.L.Law.lawful key.pages) (by_place g.L.Law.opening key.pages) (g.L.Law.range key.pages) (λ xs ys. g.met.L.Law.begins key.pages xs ys has)
-    (λ log. c.trees_law.ensures.memory key.pages log has) (λ xs e page r. g.met.L.Law.stays key.pages xs e page r has) (λ log page r. c.trees_law.ensures.range key.pages log page r) in
+    let sizes : Sizes = c.args.mtr.now.latches.now.sizes in
+    let has : has_pages sizes.pages ≡ true = subst (λ (s : Sizes). has_pages s.pages ≡ true) c.geometry.ensures (subst (λ n. has_pages n ≡ true) c.pages.ensures.pages c.pages.ensures.in_range) in
+    let laws = laws_of sizes.pages g.L.Trees.ROOTS (g.L.Law.lawful sizes.pages) (by_place g.L.Law.opening sizes.pages) (g.L.Law.range sizes.pages) (λ xs ys. g.met.L.Law.begins sizes.pages xs ys has)
+    (λ log. c.trees_law.ensures.memory sizes.pages log has) (λ xs e page r. g.met.L.Law.stays sizes.pages xs e page r has) (λ log page r. c.trees_law.ensures.range sizes.pages log page r) in
     let p : PassState = c.args.mtr.now.pass.now in
     let h = c.requires.held in
     let loaded = ap (changed_of c.args.leaf) h.holds.work ∙ there_in c.args.leaf h.image in
     let link = c.right_of-next.ensures h.image loaded in
     let some : next_of h.image ≢ 0 = λ z. c.if-next-eq0.false (link ∙ z) in
-    let inside = next_inside key g.L.Trees.ROOTS (g.L.Law.lawful key.pages) (by_place g.L.Law.opening key.pages) laws h.front c.args.leaf h.image h.range p h.holds some in
-    subst (λ (l : Latch). l.0 < key.pages + 2) (sym c.page-2.ensures) (omega arith)
+    let inside = next_inside sizes g.L.Trees.ROOTS (g.L.Law.lawful sizes.pages) (by_place g.L.Law.opening sizes.pages) laws h.front c.args.leaf h.image h.range p h.holds some in
+    subst (λ (l : Latch). l.0 < sizes.pages + 2) (sym c.page-2.ensures) (omega arith)
 
 pub read-requires-clause-page : goal.read-requires-clause-page
 read-requires-clause-page g c =
-    let key : Sizes = c.args.mtr.now.latches.now.sizes in
-    let has : has_pages key.pages ≡ true = subst (λ (s : Sizes). has_pages s.pages ≡ true) c.geometry.ensures (subst (λ n. has_pages n ≡ true) c.pages.ensures.pages c.pages.ensures.in_range) in
-    let laws = laws_of key.pages g.L.Trees.ROOTS (g.L.Law.lawful key.pages) (by_place g.L.Law.opening key.pages) (g.L.Law.range key.pages) (λ xs ys. g.met.L.Law.begins key.pages xs ys has)
-    (λ log. c.trees_law.ensures.memory key.pages log has) (λ xs e page r. g.met.L.Law.stays key.pages xs e page r has) (λ log page r. c.trees_law.ensures.range key.pages log page r) in
+    let sizes : Sizes = c.args.mtr.now.latches.now.sizes in
+    let has : has_pages sizes.pages ≡ true = subst (λ (s : Sizes). has_pages s.pages ≡ true) c.geometry.ensures (subst (λ n. has_pages n ≡ true) c.pages.ensures.pages c.pages.ensures.in_range) in
+    let laws = laws_of sizes.pages g.L.Trees.ROOTS (g.L.Law.lawful sizes.pages) (by_place g.L.Law.opening sizes.pages) (g.L.Law.range sizes.pages) (λ xs ys. g.met.L.Law.begins sizes.pages xs ys has)
+    (λ log. c.trees_law.ensures.memory sizes.pages log has) (λ xs e page r. g.met.L.Law.stays sizes.pages xs e page r has) (λ log page r. c.trees_law.ensures.range sizes.pages log page r) in
     let p : PassState = c.args.mtr.now.pass.now in
     let h = c.requires.held in
     let loaded = ap (changed_of c.args.leaf) h.holds.work ∙ there_in c.args.leaf h.image in
     let link = c.right_of-next.ensures h.image loaded in
     let some : next_of h.image ≢ 0 = λ z. c.if-next-eq0.false (link ∙ z) in
-    subst (λ (s : Sizes). c.right_of-next.result < s.pages) (sym (ap (λ m. m.now.sizes) c.take.ensures.latches)) (subst (λ (n : ℕ). n < key.pages) (sym link) (next_inside key g.L.Trees.ROOTS (g.L.Law.lawful key.pages) (by_place g.L.Law.opening key.pages) laws h.front c.args.leaf h.image h.range p h.holds some))
+    subst (λ (s : Sizes). c.right_of-next.result < s.pages) (sym (ap (λ m. m.now.sizes) c.take.ensures.latches)) (subst (λ (n : ℕ). n < sizes.pages) (sym link) (next_inside sizes g.L.Trees.ROOTS (g.L.Law.lawful sizes.pages) (by_place g.L.Law.opening sizes.pages) laws h.front c.args.leaf h.image h.range p h.holds some))
 
 pub read-requires-clause-absent : goal.read-requires-clause-absent
 read-requires-clause-absent g c =
-    let key : Sizes = c.args.mtr.now.latches.now.sizes in
-    let has : has_pages key.pages ≡ true = subst (λ (s : Sizes). has_pages s.pages ≡ true) c.geometry.ensures (subst (λ n. has_pages n ≡ true) c.pages.ensures.pages c.pages.ensures.in_range) in
-    let laws = laws_of key.pages g.L.Trees.ROOTS (g.L.Law.lawful key.pages) (by_place g.L.Law.opening key.pages) (g.L.Law.range key.pages) (λ xs ys. g.met.L.Law.begins key.pages xs ys has)
-    (λ log. c.trees_law.ensures.memory key.pages log has) (λ xs e page r. g.met.L.Law.stays key.pages xs e page r has) (λ log page r. c.trees_law.ensures.range key.pages log page r) in
+    let sizes : Sizes = c.args.mtr.now.latches.now.sizes in
+    let has : has_pages sizes.pages ≡ true = subst (λ (s : Sizes). has_pages s.pages ≡ true) c.geometry.ensures (subst (λ n. has_pages n ≡ true) c.pages.ensures.pages c.pages.ensures.in_range) in
+    let laws = laws_of sizes.pages g.L.Trees.ROOTS (g.L.Law.lawful sizes.pages) (by_place g.L.Law.opening sizes.pages) (g.L.Law.range sizes.pages) (λ xs ys. g.met.L.Law.begins sizes.pages xs ys has)
+    (λ log. c.trees_law.ensures.memory sizes.pages log has) (λ xs e page r. g.met.L.Law.stays sizes.pages xs e page r has) (λ log page r. c.trees_law.ensures.range sizes.pages log page r) in
     let p : PassState = c.args.mtr.now.pass.now in
     let h = c.requires.held in
     let loaded = ap (changed_of c.args.leaf) h.holds.work ∙ there_in c.args.leaf h.image in
     let link = c.right_of-next.ensures h.image loaded in
     let some : next_of h.image ≢ 0 = λ z. c.if-next-eq0.false (link ∙ z) in
-    let other = next_other key g.L.Trees.ROOTS (g.L.Law.lawful key.pages) (by_place g.L.Law.opening key.pages) laws h.front c.args.leaf h.image h.range p h.holds some (h.may some) in
+    let other = next_other sizes g.L.Trees.ROOTS (g.L.Law.lawful sizes.pages) (by_place g.L.Law.opening sizes.pages) laws h.front c.args.leaf h.image h.range p h.holds some (h.may some) in
     ap (λ (r : PassState). changed_of c.right_of-next.result r.work) c.take.ensures.taken.pass
     ∙ (ap (changed_of c.right_of-next.result) h.holds.work ∙ absent_in c.args.leaf c.right_of-next.result h.image (λ e. other (sym link ∙ e)))
 
@@ -110,10 +110,10 @@ release_at-requires-clause-at g c =
 
 pub returns-clause-next : goal.returns-clause-next
 returns-clause-next g c = λ h.
-    let key : Sizes = c.args.mtr.now.latches.now.sizes in
-    let has : has_pages key.pages ≡ true = subst (λ (s : Sizes). has_pages s.pages ≡ true) c.geometry.ensures (subst (λ n. has_pages n ≡ true) c.pages.ensures.pages c.pages.ensures.in_range) in
-    let laws = laws_of key.pages g.L.Trees.ROOTS (g.L.Law.lawful key.pages) (by_place g.L.Law.opening key.pages) (g.L.Law.range key.pages) (λ xs ys. g.met.L.Law.begins key.pages xs ys has)
-    (λ log. c.trees_law.ensures.memory key.pages log has) (λ xs e page r. g.met.L.Law.stays key.pages xs e page r has) (λ log page r. c.trees_law.ensures.range key.pages log page r) in
+    let sizes : Sizes = c.args.mtr.now.latches.now.sizes in
+    let has : has_pages sizes.pages ≡ true = subst (λ (s : Sizes). has_pages s.pages ≡ true) c.geometry.ensures (subst (λ n. has_pages n ≡ true) c.pages.ensures.pages c.pages.ensures.in_range) in
+    let laws = laws_of sizes.pages g.L.Trees.ROOTS (g.L.Law.lawful sizes.pages) (by_place g.L.Law.opening sizes.pages) (g.L.Law.range sizes.pages) (λ xs ys. g.met.L.Law.begins sizes.pages xs ys has)
+    (λ log. c.trees_law.ensures.memory sizes.pages log has) (λ xs e page r. g.met.L.Law.stays sizes.pages xs e page r has) (λ log page r. c.trees_law.ensures.range sizes.pages log page r) in
     let p : PassState = c.args.mtr.now.pass.now in
     let loaded = ap (changed_of c.args.leaf) h.holds.work ∙ there_in c.args.leaf h.image in
     let link = c.right_of-next.ensures h.image loaded in
@@ -123,7 +123,7 @@ returns-clause-next g c = λ h.
     let same = ap (λ m. m.now.sizes) c.take.ensures.latches in
     let taken = subst (λ (l : Latch). HasTaken (record { latch = l.0; mode = S; level = TreeNode }) p q) (c.page-2.ensures ∙ ap (λ (n : ℕ). let l : Latch = record { 0 = n + 2 } in l) link) c.take.ensures.taken in
     let seen = subst (λ (k : Sizes). HasSeen k (g.L.Law.lawful k.pages) q s) same c.read.ensures.glanced.seen in
-    let page = subst (λ (n : ℕ). HasPage (by_place g.L.Law.opening key.pages) n q s) link (subst (λ (k : Sizes). HasPage (by_place g.L.Law.opening k.pages) c.right_of-next.result q s) same c.read.ensures.loaded) in
-    subst (λ (n : ℕ). HoldsNext key (g.L.Law.lawful key.pages) (by_place g.L.Law.opening key.pages) g.L.Trees.ROOTS h.front c.args.leaf h.image h.range n p t) (sym link)
-    (stepped key g.L.Trees.ROOTS (g.L.Law.lawful key.pages) (by_place g.L.Law.opening key.pages) laws h.front c.args.leaf h.image h.range p h.holds some (h.may some) q s t taken seen c.read.ensures.memo c.read.ensures.session c.read.ensures.grants page
+    let page = subst (λ (n : ℕ). HasPage (by_place g.L.Law.opening sizes.pages) n q s) link (subst (λ (k : Sizes). HasPage (by_place g.L.Law.opening k.pages) c.right_of-next.result q s) same c.read.ensures.loaded) in
+    subst (λ (n : ℕ). HoldsNext sizes (g.L.Law.lawful sizes.pages) (by_place g.L.Law.opening sizes.pages) g.L.Trees.ROOTS h.front c.args.leaf h.image h.range n p t) (sym link)
+    (stepped sizes g.L.Trees.ROOTS (g.L.Law.lawful sizes.pages) (by_place g.L.Law.opening sizes.pages) laws h.front c.args.leaf h.image h.range p h.holds some (h.may some) q s t taken seen c.read.ensures.memo c.read.ensures.session c.read.ensures.grants page
     (subst (λ (n : ℕ). IsReleasedAt n s t) at c.release_at.ensures.released))

@@ -24,75 +24,75 @@ try_latch-requires-clause-may g c =
 
 pub returns-in-Err-clause-hindered : goal.returns-in-Err-clause-hindered
 returns-in-Err-clause-hindered g c =
-    let key : Sizes = c.args.mtr.now.latches.now.sizes in let p : PassState = c.args.mtr.now.pass.now in
-    hindered_index key (g.L.Law.lawful key.pages) (by_place g.L.Law.opening key.pages) c.args.sought.root c.args.sought.key c.in-Err.fault p c.try_latch.new.mtr.pass.now (none_granted c.args.mtr.now.latches.now p c.requires.mtr c.requires.memo) c.requires.none c.in-Err.ensures.vain
+    let sizes : Sizes = c.args.mtr.now.latches.now.sizes in let p : PassState = c.args.mtr.now.pass.now in
+    hindered_index sizes (g.L.Law.lawful sizes.pages) (by_place g.L.Law.opening sizes.pages) c.args.sought.root c.args.sought.key c.in-Err.fault p c.try_latch.new.mtr.pass.now (none_granted c.args.mtr.now.latches.now p c.requires.mtr c.requires.memo) c.requires.none c.in-Err.ensures.vain
 
 pub returns-in-Err-try_root-clause-hindered : goal.returns-in-Err-try_root-clause-hindered
 returns-in-Err-try_root-clause-hindered g c =
-    let key : Sizes = c.args.mtr.now.latches.now.sizes in let p : PassState = c.args.mtr.now.pass.now in
+    let sizes : Sizes = c.args.mtr.now.latches.now.sizes in let p : PassState = c.args.mtr.now.pass.now in
     let q : PassState = c.try_latch.new.mtr.pass.now in let r : PassState = c.try_root.new.mtr.pass.now in
     let stop = subst (λ (s : Sizes). IsStopped s (g.L.Law.lawful s.pages) (by_place g.L.Law.opening s.pages) c.args.sought.root c.args.sought.key c.in-Err-try_root.fault q r) (ap (λ m. m.now.sizes) c.try_latch.ensures.latches) c.in-Err-try_root.ensures.stopped in
-    hindered_root key (g.L.Law.lawful key.pages) (by_place g.L.Law.opening key.pages) c.args.sought.root c.args.sought.key c.in-Err-try_root.fault p q r c.release_at.new.self.pass.now (none_granted c.args.mtr.now.latches.now p c.requires.mtr c.requires.memo) c.requires.none c.in-Ok.ensures.taken c.try_latch.ensures.looks stop c.release_at.ensures.released
+    hindered_root sizes (g.L.Law.lawful sizes.pages) (by_place g.L.Law.opening sizes.pages) c.args.sought.root c.args.sought.key c.in-Err-try_root.fault p q r c.release_at.new.self.pass.now (none_granted c.args.mtr.now.latches.now p c.requires.mtr c.requires.memo) c.requires.none c.in-Ok.ensures.taken c.try_latch.ensures.looks stop c.release_at.ensures.released
 
 pub loop-level-init : goal.loop-level-init
 loop-level-init g c =
-    let key : Sizes = c.args.mtr.now.latches.now.sizes in let p : PassState = c.args.mtr.now.pass.now in
+    let sizes : Sizes = c.args.mtr.now.latches.now.sizes in let p : PassState = c.args.mtr.now.pass.now in
     let q : PassState = c.try_latch.new.mtr.pass.now in let r : PassState = c.try_root.new.mtr.pass.now in
     let same = ap (λ m. m.now.sizes) c.try_latch.ensures.latches in
     let seen = subst (λ (s : Sizes). HasSeen s (g.L.Law.lawful s.pages) q r) same c.in-Ok-try_root.ensures.seen in
     let here = subst (λ (s : Sizes). IsAt s (g.L.Law.lawful s.pages) (by_place g.L.Law.opening s.pages) c.args.sought.root c.args.sought.key (index_grant ∷ []) c.args.sought.root c.in-Ok-try_root.level S r) same c.in-Ok-try_root.ensures.here in
-    let down = down_root key (g.L.Law.lawful key.pages) (by_place g.L.Law.opening key.pages) c.args.sought.root c.args.sought.key false c.in-Ok-try_root.level p q r (λ e. absurd (cc)) c.in-Ok-try_root.ensures.low c.in-Ok.ensures.taken seen here c.in-Ok-try_root.ensures.grants in
+    let down = down_root sizes (g.L.Law.lawful sizes.pages) (by_place g.L.Law.opening sizes.pages) c.args.sought.root c.args.sought.key false c.in-Ok-try_root.level p q r (λ e. absurd (cc)) c.in-Ok-try_root.ensures.low c.in-Ok.ensures.taken seen here c.in-Ok-try_root.ensures.grants in
     record {
       mtr = c.try_root.ensures.mtr;
       latches = c.try_root.ensures.latches ∙ c.try_latch.ensures.latches;
       pass = c.try_root.ensures.pass ∙ c.try_latch.ensures.pass;
-      down = subst (λ n. IsDown key (g.L.Law.lawful key.pages) (by_place g.L.Law.opening key.pages) c.args.sought.root c.args.sought.key (index_grant ∷ []) false n c.args.sought.root c.in-Ok-try_root.level p r) (sym (ap length c.new-path.ensures)) down;
+      down = subst (λ n. IsDown sizes (g.L.Law.lawful sizes.pages) (by_place g.L.Law.opening sizes.pages) c.args.sought.root c.args.sought.key (index_grant ∷ []) false n c.args.sought.root c.in-Ok-try_root.level p r) (sym (ap length c.new-path.ensures)) down;
       looks = let a = c.try_latch.ensures.looks in let b = c.try_root.ensures.looks in omega arith;
     }
 
 pub loop-level-preserved : goal.loop-level-preserved
 loop-level-preserved g c =
-    let key : Sizes = c.args.mtr.now.latches.now.sizes in let p : PassState = c.args.mtr.now.pass.now in
+    let sizes : Sizes = c.args.mtr.now.latches.now.sizes in let p : PassState = c.args.mtr.now.pass.now in
     let q : PassState = c.loop-level.mtr.pass.now in let r : PassState = c.try_down.new.mtr.pass.now in
     let inv = c.loop-level.invariant in
     let n : ℕ = c.loop-level.level - 1 in
     let up : c.loop-level.level ≡ suc n = omega (arith, c.loop-level-test.true) in
     let same = ap (λ m. m.now.sizes) inv.latches in
     let here = subst (λ (s : Sizes). IsAt s (g.L.Law.lawful s.pages) (by_place g.L.Law.opening s.pages) c.args.sought.root c.args.sought.key (index_grant ∷ []) c.in-Ok-try_down.child n S r) same c.in-Ok-try_down.ensures.here in
-    let step = down_step key (g.L.Law.lawful key.pages) (by_place g.L.Law.opening key.pages) c.args.sought.root c.args.sought.key false false (length c.loop-level.path) c.loop-level.page c.in-Ok-try_down.child n p q r refl
-    (subst (λ l. IsDown key (g.L.Law.lawful key.pages) (by_place g.L.Law.opening key.pages) c.args.sought.root c.args.sought.key (index_grant ∷ []) false (length c.loop-level.path) c.loop-level.page l p q) up inv.down)
+    let step = down_step sizes (g.L.Law.lawful sizes.pages) (by_place g.L.Law.opening sizes.pages) c.args.sought.root c.args.sought.key false false (length c.loop-level.path) c.loop-level.page c.in-Ok-try_down.child n p q r refl
+    (subst (λ l. IsDown sizes (g.L.Law.lawful sizes.pages) (by_place g.L.Law.opening sizes.pages) c.args.sought.root c.args.sought.key (index_grant ∷ []) false (length c.loop-level.path) c.loop-level.page l p q) up inv.down)
     here c.in-Ok-try_down.ensures.went c.in-Ok-try_down.ensures.grants in
     let long = ap length c.push.ensures ∙ length-append c.loop-level.path (c.loop-level.page ∷ []) in
     record {
       mtr = c.try_down.ensures.mtr;
       latches = c.try_down.ensures.latches ∙ inv.latches;
       pass = c.try_down.ensures.pass ∙ inv.pass;
-      down = subst (λ k. IsDown key (g.L.Law.lawful key.pages) (by_place g.L.Law.opening key.pages) c.args.sought.root c.args.sought.key (index_grant ∷ []) false k c.in-Ok-try_down.child n p r) (sym long) step;
+      down = subst (λ k. IsDown sizes (g.L.Law.lawful sizes.pages) (by_place g.L.Law.opening sizes.pages) c.args.sought.root c.args.sought.key (index_grant ∷ []) false k c.in-Ok-try_down.child n p r) (sym long) step;
       looks = let a = inv.looks in let b = c.try_down.ensures.looks in omega arith;
     }
 
 pub returns-in-Err-try_down-clause-hindered : goal.returns-in-Err-try_down-clause-hindered
 returns-in-Err-try_down-clause-hindered g c =
-    let key : Sizes = c.args.mtr.now.latches.now.sizes in let p : PassState = c.args.mtr.now.pass.now in
+    let sizes : Sizes = c.args.mtr.now.latches.now.sizes in let p : PassState = c.args.mtr.now.pass.now in
     let q : PassState = c.loop-level.mtr.pass.now in let r : PassState = c.try_down.new.mtr.pass.now in
     let inv = c.loop-level.invariant in
     let stop = subst (λ (s : Sizes). IsStopped s (g.L.Law.lawful s.pages) (by_place g.L.Law.opening s.pages) c.args.sought.root c.args.sought.key c.in-Err-try_down.fault q r) (ap (λ m. m.now.sizes) inv.latches) c.in-Err-try_down.ensures.stopped in
-    hindered_below key (g.L.Law.lawful key.pages) (by_place g.L.Law.opening key.pages) c.args.sought.root c.args.sought.key c.in-Err-try_down.fault (length c.loop-level.path) c.loop-level.page c.loop-level.level p q r c.release_at-in-Err-try_down.new.self.pass.now c.release_at-in-Err-try_down-2.new.self.pass.now
+    hindered_below sizes (g.L.Law.lawful sizes.pages) (by_place g.L.Law.opening sizes.pages) c.args.sought.root c.args.sought.key c.in-Err-try_down.fault (length c.loop-level.path) c.loop-level.page c.loop-level.level p q r c.release_at-in-Err-try_down.new.self.pass.now c.release_at-in-Err-try_down-2.new.self.pass.now
     inv.down inv.looks stop c.release_at-in-Err-try_down.ensures.released c.release_at-in-Err-try_down-2.ensures.released
 
 pub returns-clause-come : goal.returns-clause-come
 returns-clause-come g c =
-    let key : Sizes = c.args.mtr.now.latches.now.sizes in
+    let sizes : Sizes = c.args.mtr.now.latches.now.sizes in
     let p : PassState = c.args.mtr.now.pass.now in let q : PassState = c.loop-level.mtr.pass.now in let inv = c.loop-level.invariant in
     let low : c.loop-level.level ≡ 0 = (let z = c.loop-level-test.false in omega arith) in
-    let down = subst (λ n. IsDown key (g.L.Law.lawful key.pages) (by_place g.L.Law.opening key.pages) c.args.sought.root c.args.sought.key (index_grant ∷ []) false (length c.loop-level.path) c.loop-level.page n p q) low inv.down in
-    come key (g.L.Law.lawful key.pages) (by_place g.L.Law.opening key.pages) c.args.sought.root c.args.sought.key false (length c.loop-level.path) c.loop-level.page p q c.release_at-2.new.self.pass.now down c.release_at-2.ensures.released
+    let down = subst (λ n. IsDown sizes (g.L.Law.lawful sizes.pages) (by_place g.L.Law.opening sizes.pages) c.args.sought.root c.args.sought.key (index_grant ∷ []) false (length c.loop-level.path) c.loop-level.page n p q) low inv.down in
+    come sizes (g.L.Law.lawful sizes.pages) (by_place g.L.Law.opening sizes.pages) c.args.sought.root c.args.sought.key false (length c.loop-level.path) c.loop-level.page p q c.release_at-2.new.self.pass.now down c.release_at-2.ensures.released
     c.loop-level.path c.push-2.new.self refl c.push-2.ensures
 
 pub returns-clause-none : goal.returns-clause-none
 returns-clause-none g c =
-    let key : Sizes = c.args.mtr.now.latches.now.sizes in
+    let sizes : Sizes = c.args.mtr.now.latches.now.sizes in
     let p : PassState = c.args.mtr.now.pass.now in let q : PassState = c.loop-level.mtr.pass.now in let inv = c.loop-level.invariant in
     let low : c.loop-level.level ≡ 0 = (let z = c.loop-level-test.false in omega arith) in
-    let down = subst (λ n. IsDown key (g.L.Law.lawful key.pages) (by_place g.L.Law.opening key.pages) c.args.sought.root c.args.sought.key (index_grant ∷ []) false (length c.loop-level.path) c.loop-level.page n p q) low inv.down in
-    come_work key (g.L.Law.lawful key.pages) (by_place g.L.Law.opening key.pages) c.args.sought.root c.args.sought.key false (length c.loop-level.path) c.loop-level.page p q c.release_at-2.new.self.pass.now down c.release_at-2.ensures.released
+    let down = subst (λ n. IsDown sizes (g.L.Law.lawful sizes.pages) (by_place g.L.Law.opening sizes.pages) c.args.sought.root c.args.sought.key (index_grant ∷ []) false (length c.loop-level.path) c.loop-level.page n p q) low inv.down in
+    come_work sizes (g.L.Law.lawful sizes.pages) (by_place g.L.Law.opening sizes.pages) c.args.sought.root c.args.sought.key false (length c.loop-level.path) c.loop-level.page p q c.release_at-2.new.self.pass.now down c.release_at-2.ensures.released

@@ -23,154 +23,154 @@ use Rattle.ib_cursor.proofs.nowait.try_down.Goals as goal
 
 pub child_of-child-requires-clause-can : goal.child_of-child-requires-clause-can
 child_of-child-requires-clause-can g c =
-    let key : Sizes = c.args.mtr.now.latches.now.sizes in
-    let has : has_pages key.pages ≡ true = subst (λ (s : Sizes). has_pages s.pages ≡ true) c.geometry.ensures (subst (λ n. has_pages n ≡ true) c.pages.ensures.pages c.pages.ensures.in_range) in
-    let laws = laws_of key.pages g.L.Trees.ROOTS (g.L.Law.lawful key.pages) (by_place g.L.Law.opening key.pages) (g.L.Law.range key.pages) (λ xs ys. g.met.L.Law.begins key.pages xs ys has)
-    (λ log. c.trees_law.ensures.memory key.pages log has) (λ xs e page r. g.met.L.Law.stays key.pages xs e page r has) (λ log page r. c.trees_law.ensures.range key.pages log page r) in
+    let sizes : Sizes = c.args.mtr.now.latches.now.sizes in
+    let has : has_pages sizes.pages ≡ true = subst (λ (s : Sizes). has_pages s.pages ≡ true) c.geometry.ensures (subst (λ n. has_pages n ≡ true) c.pages.ensures.pages c.pages.ensures.in_range) in
+    let laws = laws_of sizes.pages g.L.Trees.ROOTS (g.L.Law.lawful sizes.pages) (by_place g.L.Law.opening sizes.pages) (g.L.Law.range sizes.pages) (λ xs ys. g.met.L.Law.begins sizes.pages xs ys has)
+    (λ log. c.trees_law.ensures.memory sizes.pages log has) (λ xs e page r. g.met.L.Law.stays sizes.pages xs e page r has) (λ log page r. c.trees_law.ensures.range sizes.pages log page r) in
     let n : ℕ = c.args.level - 1 in
     let up : c.args.level ≡ suc n = omega (arith, c.requires.node) in
     let p : PassState = c.args.mtr.now.pass.now in
-    let here = subst (λ l. IsAt key (g.L.Law.lawful key.pages) (by_place g.L.Law.opening key.pages) c.args.sought.root c.args.sought.key (index_grant ∷ []) c.args.page l c.requires.here.mode p) up c.requires.here.here in
+    let here = subst (λ l. IsAt sizes (g.L.Law.lawful sizes.pages) (by_place g.L.Law.opening sizes.pages) c.args.sought.root c.args.sought.key (index_grant ∷ []) c.args.page l c.requires.here.mode p) up c.requires.here.here in
     record {
       mtr = c.requires.mtr;
-      there = (at_image key g.L.Trees.ROOTS (g.L.Law.lawful key.pages) (by_place g.L.Law.opening key.pages) laws c.args.sought.root c.requires.some c.requires.root c.args.sought.key c.requires.key (index_grant ∷ []) c.args.page (suc n) c.requires.here.mode p here).there;
-      held = at_held key (g.L.Law.lawful key.pages) (by_place g.L.Law.opening key.pages) c.args.sought.root c.args.sought.key (index_grant ∷ []) c.args.page (suc n) c.requires.here.mode p here;
+      there = (at_image sizes g.L.Trees.ROOTS (g.L.Law.lawful sizes.pages) (by_place g.L.Law.opening sizes.pages) laws c.args.sought.root c.requires.some c.requires.root c.args.sought.key c.requires.key (index_grant ∷ []) c.args.page (suc n) c.requires.here.mode p here).there;
+      held = at_held sizes (g.L.Law.lawful sizes.pages) (by_place g.L.Law.opening sizes.pages) c.args.sought.root c.args.sought.key (index_grant ∷ []) c.args.page (suc n) c.requires.here.mode p here;
       watched = here.watched;
     }
 
 pub child_of-child-requires-clause-tree : goal.child_of-child-requires-clause-tree
 child_of-child-requires-clause-tree g c =
-    let key : Sizes = c.args.mtr.now.latches.now.sizes in
-    let has : has_pages key.pages ≡ true = subst (λ (s : Sizes). has_pages s.pages ≡ true) c.geometry.ensures (subst (λ n. has_pages n ≡ true) c.pages.ensures.pages c.pages.ensures.in_range) in
-    let laws = laws_of key.pages g.L.Trees.ROOTS (g.L.Law.lawful key.pages) (by_place g.L.Law.opening key.pages) (g.L.Law.range key.pages) (λ xs ys. g.met.L.Law.begins key.pages xs ys has)
-    (λ log. c.trees_law.ensures.memory key.pages log has) (λ xs e page r. g.met.L.Law.stays key.pages xs e page r has) (λ log page r. c.trees_law.ensures.range key.pages log page r) in
+    let sizes : Sizes = c.args.mtr.now.latches.now.sizes in
+    let has : has_pages sizes.pages ≡ true = subst (λ (s : Sizes). has_pages s.pages ≡ true) c.geometry.ensures (subst (λ n. has_pages n ≡ true) c.pages.ensures.pages c.pages.ensures.in_range) in
+    let laws = laws_of sizes.pages g.L.Trees.ROOTS (g.L.Law.lawful sizes.pages) (by_place g.L.Law.opening sizes.pages) (g.L.Law.range sizes.pages) (λ xs ys. g.met.L.Law.begins sizes.pages xs ys has)
+    (λ log. c.trees_law.ensures.memory sizes.pages log has) (λ xs e page r. g.met.L.Law.stays sizes.pages xs e page r has) (λ log page r. c.trees_law.ensures.range sizes.pages log page r) in
     let n : ℕ = c.args.level - 1 in
     let up : c.args.level ≡ suc n = omega (arith, c.requires.node) in
     let p : PassState = c.args.mtr.now.pass.now in
-    let here = subst (λ l. IsAt key (g.L.Law.lawful key.pages) (by_place g.L.Law.opening key.pages) c.args.sought.root c.args.sought.key (index_grant ∷ []) c.args.page l c.requires.here.mode p) up c.requires.here.here in
-    (at_image key g.L.Trees.ROOTS (g.L.Law.lawful key.pages) (by_place g.L.Law.opening key.pages) laws c.args.sought.root c.requires.some c.requires.root c.args.sought.key c.requires.key (index_grant ∷ []) c.args.page (suc n) c.requires.here.mode p here).image.tree
+    let here = subst (λ l. IsAt sizes (g.L.Law.lawful sizes.pages) (by_place g.L.Law.opening sizes.pages) c.args.sought.root c.args.sought.key (index_grant ∷ []) c.args.page l c.requires.here.mode p) up c.requires.here.here in
+    (at_image sizes g.L.Trees.ROOTS (g.L.Law.lawful sizes.pages) (by_place g.L.Law.opening sizes.pages) laws c.args.sought.root c.requires.some c.requires.root c.args.sought.key c.requires.key (index_grant ∷ []) c.args.page (suc n) c.requires.here.mode p here).image.tree
 
 pub child_of-child-requires-clause-first : goal.child_of-child-requires-clause-first
 child_of-child-requires-clause-first g c =
-    let key : Sizes = c.args.mtr.now.latches.now.sizes in
-    let has : has_pages key.pages ≡ true = subst (λ (s : Sizes). has_pages s.pages ≡ true) c.geometry.ensures (subst (λ n. has_pages n ≡ true) c.pages.ensures.pages c.pages.ensures.in_range) in
-    let laws = laws_of key.pages g.L.Trees.ROOTS (g.L.Law.lawful key.pages) (by_place g.L.Law.opening key.pages) (g.L.Law.range key.pages) (λ xs ys. g.met.L.Law.begins key.pages xs ys has)
-    (λ log. c.trees_law.ensures.memory key.pages log has) (λ xs e page r. g.met.L.Law.stays key.pages xs e page r has) (λ log page r. c.trees_law.ensures.range key.pages log page r) in
+    let sizes : Sizes = c.args.mtr.now.latches.now.sizes in
+    let has : has_pages sizes.pages ≡ true = subst (λ (s : Sizes). has_pages s.pages ≡ true) c.geometry.ensures (subst (λ n. has_pages n ≡ true) c.pages.ensures.pages c.pages.ensures.in_range) in
+    let laws = laws_of sizes.pages g.L.Trees.ROOTS (g.L.Law.lawful sizes.pages) (by_place g.L.Law.opening sizes.pages) (g.L.Law.range sizes.pages) (λ xs ys. g.met.L.Law.begins sizes.pages xs ys has)
+    (λ log. c.trees_law.ensures.memory sizes.pages log has) (λ xs e page r. g.met.L.Law.stays sizes.pages xs e page r has) (λ log page r. c.trees_law.ensures.range sizes.pages log page r) in
     let n : ℕ = c.args.level - 1 in
     let up : c.args.level ≡ suc n = omega (arith, c.requires.node) in
     let p : PassState = c.args.mtr.now.pass.now in
-    let here = subst (λ l. IsAt key (g.L.Law.lawful key.pages) (by_place g.L.Law.opening key.pages) c.args.sought.root c.args.sought.key (index_grant ∷ []) c.args.page l c.requires.here.mode p) up c.requires.here.here in
-    (at_image key g.L.Trees.ROOTS (g.L.Law.lawful key.pages) (by_place g.L.Law.opening key.pages) laws c.args.sought.root c.requires.some c.requires.root c.args.sought.key c.requires.key (index_grant ∷ []) c.args.page (suc n) c.requires.here.mode p here).first (omega arith)
+    let here = subst (λ l. IsAt sizes (g.L.Law.lawful sizes.pages) (by_place g.L.Law.opening sizes.pages) c.args.sought.root c.args.sought.key (index_grant ∷ []) c.args.page l c.requires.here.mode p) up c.requires.here.here in
+    (at_image sizes g.L.Trees.ROOTS (g.L.Law.lawful sizes.pages) (by_place g.L.Law.opening sizes.pages) laws c.args.sought.root c.requires.some c.requires.root c.args.sought.key c.requires.key (index_grant ∷ []) c.args.page (suc n) c.requires.here.mode p here).first (omega arith)
 
 pub child_of-child-requires-clause-small : goal.child_of-child-requires-clause-small
 child_of-child-requires-clause-small g c =
-    let key : Sizes = c.args.mtr.now.latches.now.sizes in
-    let has : has_pages key.pages ≡ true = subst (λ (s : Sizes). has_pages s.pages ≡ true) c.geometry.ensures (subst (λ n. has_pages n ≡ true) c.pages.ensures.pages c.pages.ensures.in_range) in
-    let laws = laws_of key.pages g.L.Trees.ROOTS (g.L.Law.lawful key.pages) (by_place g.L.Law.opening key.pages) (g.L.Law.range key.pages) (λ xs ys. g.met.L.Law.begins key.pages xs ys has)
-    (λ log. c.trees_law.ensures.memory key.pages log has) (λ xs e page r. g.met.L.Law.stays key.pages xs e page r has) (λ log page r. c.trees_law.ensures.range key.pages log page r) in
+    let sizes : Sizes = c.args.mtr.now.latches.now.sizes in
+    let has : has_pages sizes.pages ≡ true = subst (λ (s : Sizes). has_pages s.pages ≡ true) c.geometry.ensures (subst (λ n. has_pages n ≡ true) c.pages.ensures.pages c.pages.ensures.in_range) in
+    let laws = laws_of sizes.pages g.L.Trees.ROOTS (g.L.Law.lawful sizes.pages) (by_place g.L.Law.opening sizes.pages) (g.L.Law.range sizes.pages) (λ xs ys. g.met.L.Law.begins sizes.pages xs ys has)
+    (λ log. c.trees_law.ensures.memory sizes.pages log has) (λ xs e page r. g.met.L.Law.stays sizes.pages xs e page r has) (λ log page r. c.trees_law.ensures.range sizes.pages log page r) in
     let n : ℕ = c.args.level - 1 in
     let up : c.args.level ≡ suc n = omega (arith, c.requires.node) in
     let p : PassState = c.args.mtr.now.pass.now in
-    let here = subst (λ l. IsAt key (g.L.Law.lawful key.pages) (by_place g.L.Law.opening key.pages) c.args.sought.root c.args.sought.key (index_grant ∷ []) c.args.page l c.requires.here.mode p) up c.requires.here.here in
-    let inside = child_inside key g.L.Trees.ROOTS (g.L.Law.lawful key.pages) (by_place g.L.Law.opening key.pages) laws c.args.sought.root c.requires.some c.requires.root c.args.sought.key c.requires.key c.args.page n c.requires.here.mode p here in few key.pages _ has inside
+    let here = subst (λ l. IsAt sizes (g.L.Law.lawful sizes.pages) (by_place g.L.Law.opening sizes.pages) c.args.sought.root c.args.sought.key (index_grant ∷ []) c.args.page l c.requires.here.mode p) up c.requires.here.here in
+    let inside = child_inside sizes g.L.Trees.ROOTS (g.L.Law.lawful sizes.pages) (by_place g.L.Law.opening sizes.pages) laws c.args.sought.root c.requires.some c.requires.root c.args.sought.key c.requires.key c.args.page n c.requires.here.mode p here in few sizes.pages _ has inside
 
 pub try_stand-requires-clause-page : goal.try_stand-requires-clause-page
 try_stand-requires-clause-page g c =
-    let key : Sizes = c.args.mtr.now.latches.now.sizes in
-    let has : has_pages key.pages ≡ true = subst (λ (s : Sizes). has_pages s.pages ≡ true) c.geometry.ensures (subst (λ n. has_pages n ≡ true) c.pages.ensures.pages c.pages.ensures.in_range) in
-    let laws = laws_of key.pages g.L.Trees.ROOTS (g.L.Law.lawful key.pages) (by_place g.L.Law.opening key.pages) (g.L.Law.range key.pages) (λ xs ys. g.met.L.Law.begins key.pages xs ys has)
-    (λ log. c.trees_law.ensures.memory key.pages log has) (λ xs e page r. g.met.L.Law.stays key.pages xs e page r has) (λ log page r. c.trees_law.ensures.range key.pages log page r) in
+    let sizes : Sizes = c.args.mtr.now.latches.now.sizes in
+    let has : has_pages sizes.pages ≡ true = subst (λ (s : Sizes). has_pages s.pages ≡ true) c.geometry.ensures (subst (λ n. has_pages n ≡ true) c.pages.ensures.pages c.pages.ensures.in_range) in
+    let laws = laws_of sizes.pages g.L.Trees.ROOTS (g.L.Law.lawful sizes.pages) (by_place g.L.Law.opening sizes.pages) (g.L.Law.range sizes.pages) (λ xs ys. g.met.L.Law.begins sizes.pages xs ys has)
+    (λ log. c.trees_law.ensures.memory sizes.pages log has) (λ xs e page r. g.met.L.Law.stays sizes.pages xs e page r has) (λ log page r. c.trees_law.ensures.range sizes.pages log page r) in
     let n : ℕ = c.args.level - 1 in
     let up : c.args.level ≡ suc n = omega (arith, c.requires.node) in
     let p : PassState = c.args.mtr.now.pass.now in
-    let here = subst (λ l. IsAt key (g.L.Law.lawful key.pages) (by_place g.L.Law.opening key.pages) c.args.sought.root c.args.sought.key (index_grant ∷ []) c.args.page l c.requires.here.mode p) up c.requires.here.here in
+    let here = subst (λ l. IsAt sizes (g.L.Law.lawful sizes.pages) (by_place g.L.Law.opening sizes.pages) c.args.sought.root c.args.sought.key (index_grant ∷ []) c.args.page l c.requires.here.mode p) up c.requires.here.here in
     subst (λ (s : Sizes). c.child_of-child.result < s.pages) (sym (ap (λ m. m.now.sizes) c.child_of-child.ensures.latches))
-    (subst (λ k. k < key.pages) (sym c.child_of-child.ensures.child) (child_inside key g.L.Trees.ROOTS (g.L.Law.lawful key.pages) (by_place g.L.Law.opening key.pages) laws c.args.sought.root c.requires.some c.requires.root c.args.sought.key c.requires.key c.args.page n c.requires.here.mode p here))
+    (subst (λ k. k < sizes.pages) (sym c.child_of-child.ensures.child) (child_inside sizes g.L.Trees.ROOTS (g.L.Law.lawful sizes.pages) (by_place g.L.Law.opening sizes.pages) laws c.args.sought.root c.requires.some c.requires.root c.args.sought.key c.requires.key c.args.page n c.requires.here.mode p here))
 
 pub try_stand-requires-clause-may : goal.try_stand-requires-clause-may
 try_stand-requires-clause-may g c =
-    let key : Sizes = c.args.mtr.now.latches.now.sizes in
-    let has : has_pages key.pages ≡ true = subst (λ (s : Sizes). has_pages s.pages ≡ true) c.geometry.ensures (subst (λ n. has_pages n ≡ true) c.pages.ensures.pages c.pages.ensures.in_range) in
-    let laws = laws_of key.pages g.L.Trees.ROOTS (g.L.Law.lawful key.pages) (by_place g.L.Law.opening key.pages) (g.L.Law.range key.pages) (λ xs ys. g.met.L.Law.begins key.pages xs ys has)
-    (λ log. c.trees_law.ensures.memory key.pages log has) (λ xs e page r. g.met.L.Law.stays key.pages xs e page r has) (λ log page r. c.trees_law.ensures.range key.pages log page r) in
+    let sizes : Sizes = c.args.mtr.now.latches.now.sizes in
+    let has : has_pages sizes.pages ≡ true = subst (λ (s : Sizes). has_pages s.pages ≡ true) c.geometry.ensures (subst (λ n. has_pages n ≡ true) c.pages.ensures.pages c.pages.ensures.in_range) in
+    let laws = laws_of sizes.pages g.L.Trees.ROOTS (g.L.Law.lawful sizes.pages) (by_place g.L.Law.opening sizes.pages) (g.L.Law.range sizes.pages) (λ xs ys. g.met.L.Law.begins sizes.pages xs ys has)
+    (λ log. c.trees_law.ensures.memory sizes.pages log has) (λ xs e page r. g.met.L.Law.stays sizes.pages xs e page r has) (λ log page r. c.trees_law.ensures.range sizes.pages log page r) in
     let n : ℕ = c.args.level - 1 in
     let up : c.args.level ≡ suc n = omega (arith, c.requires.node) in
     let p : PassState = c.args.mtr.now.pass.now in
-    let here = subst (λ l. IsAt key (g.L.Law.lawful key.pages) (by_place g.L.Law.opening key.pages) c.args.sought.root c.args.sought.key (index_grant ∷ []) c.args.page l c.requires.here.mode p) up c.requires.here.here in
+    let here = subst (λ l. IsAt sizes (g.L.Law.lawful sizes.pages) (by_place g.L.Law.opening sizes.pages) c.args.sought.root c.args.sought.key (index_grant ∷ []) c.args.page l c.requires.here.mode p) up c.requires.here.here in
     let p1 : PassState = c.child_of-child.new.mtr.pass.now in
-    let at = at_read key (g.L.Law.lawful key.pages) (by_place g.L.Law.opening key.pages) c.args.sought.root c.args.sought.key (index_grant ∷ []) c.args.page (suc n) c.requires.here.mode p p1 here c.child_of-child.ensures.read in
-    let is = c.child_of-child.ensures.child ∙ ap (λ (log : List Entry). child_for c.args.sought.key 0 (records_of (image_of (memory_after (by_place g.L.Law.opening key.pages) log) c.args.page))) (sym (beside_read p p1 c.child_of-child.ensures.read).seen) in
-    child_may key g.L.Trees.ROOTS (g.L.Law.lawful key.pages) (by_place g.L.Law.opening key.pages) laws c.args.sought.root c.requires.some c.requires.root c.args.sought.key c.requires.key c.args.page n c.requires.here.mode p1 at c.child_of-child.result is
+    let at = at_read sizes (g.L.Law.lawful sizes.pages) (by_place g.L.Law.opening sizes.pages) c.args.sought.root c.args.sought.key (index_grant ∷ []) c.args.page (suc n) c.requires.here.mode p p1 here c.child_of-child.ensures.read in
+    let is = c.child_of-child.ensures.child ∙ ap (λ (log : List Entry). child_for c.args.sought.key 0 (records_of (image_of (memory_after (by_place g.L.Law.opening sizes.pages) log) c.args.page))) (sym (beside_read p p1 c.child_of-child.ensures.read).seen) in
+    child_may sizes g.L.Trees.ROOTS (g.L.Law.lawful sizes.pages) (by_place g.L.Law.opening sizes.pages) laws c.args.sought.root c.requires.some c.requires.root c.args.sought.key c.requires.key c.args.page n c.requires.here.mode p1 at c.child_of-child.result is
 
 pub returns-in-Ok-clause-here : goal.returns-in-Ok-clause-here
 returns-in-Ok-clause-here g c =
-    let key : Sizes = c.args.mtr.now.latches.now.sizes in
-    let has : has_pages key.pages ≡ true = subst (λ (s : Sizes). has_pages s.pages ≡ true) c.geometry.ensures (subst (λ n. has_pages n ≡ true) c.pages.ensures.pages c.pages.ensures.in_range) in
-    let laws = laws_of key.pages g.L.Trees.ROOTS (g.L.Law.lawful key.pages) (by_place g.L.Law.opening key.pages) (g.L.Law.range key.pages) (λ xs ys. g.met.L.Law.begins key.pages xs ys has)
-    (λ log. c.trees_law.ensures.memory key.pages log has) (λ xs e page r. g.met.L.Law.stays key.pages xs e page r has) (λ log page r. c.trees_law.ensures.range key.pages log page r) in
+    let sizes : Sizes = c.args.mtr.now.latches.now.sizes in
+    let has : has_pages sizes.pages ≡ true = subst (λ (s : Sizes). has_pages s.pages ≡ true) c.geometry.ensures (subst (λ n. has_pages n ≡ true) c.pages.ensures.pages c.pages.ensures.in_range) in
+    let laws = laws_of sizes.pages g.L.Trees.ROOTS (g.L.Law.lawful sizes.pages) (by_place g.L.Law.opening sizes.pages) (g.L.Law.range sizes.pages) (λ xs ys. g.met.L.Law.begins sizes.pages xs ys has)
+    (λ log. c.trees_law.ensures.memory sizes.pages log has) (λ xs e page r. g.met.L.Law.stays sizes.pages xs e page r has) (λ log page r. c.trees_law.ensures.range sizes.pages log page r) in
     let n : ℕ = c.args.level - 1 in
     let up : c.args.level ≡ suc n = omega (arith, c.requires.node) in
     let p : PassState = c.args.mtr.now.pass.now in
-    let here = subst (λ l. IsAt key (g.L.Law.lawful key.pages) (by_place g.L.Law.opening key.pages) c.args.sought.root c.args.sought.key (index_grant ∷ []) c.args.page l c.requires.here.mode p) up c.requires.here.here in
+    let here = subst (λ l. IsAt sizes (g.L.Law.lawful sizes.pages) (by_place g.L.Law.opening sizes.pages) c.args.sought.root c.args.sought.key (index_grant ∷ []) c.args.page l c.requires.here.mode p) up c.requires.here.here in
     let p1 : PassState = c.child_of-child.new.mtr.pass.now in
-    let at = at_read key (g.L.Law.lawful key.pages) (by_place g.L.Law.opening key.pages) c.args.sought.root c.args.sought.key (index_grant ∷ []) c.args.page (suc n) c.requires.here.mode p p1 here c.child_of-child.ensures.read in
-    let is = c.child_of-child.ensures.child ∙ ap (λ (log : List Entry). child_for c.args.sought.key 0 (records_of (image_of (memory_after (by_place g.L.Law.opening key.pages) log) c.args.page))) (sym (beside_read p p1 c.child_of-child.ensures.read).seen) in
+    let at = at_read sizes (g.L.Law.lawful sizes.pages) (by_place g.L.Law.opening sizes.pages) c.args.sought.root c.args.sought.key (index_grant ∷ []) c.args.page (suc n) c.requires.here.mode p p1 here c.child_of-child.ensures.read in
+    let is = c.child_of-child.ensures.child ∙ ap (λ (log : List Entry). child_for c.args.sought.key 0 (records_of (image_of (memory_after (by_place g.L.Law.opening sizes.pages) log) c.args.page))) (sym (beside_read p p1 c.child_of-child.ensures.read).seen) in
     let p2 : PassState = c.try_stand.new.mtr.pass.now in let p3 : PassState = c.release_at.new.self.pass.now in
     let stood = subst (λ (s : Sizes). HasStood s (g.L.Law.lawful s.pages) (page_grant c.child_of-child.result S) p1 p2) (ap (λ m. m.now.sizes) c.child_of-child.ensures.latches) c.in-Ok.ensures.stood in
-    child_at key g.L.Trees.ROOTS (g.L.Law.lawful key.pages) (by_place g.L.Law.opening key.pages) laws c.args.sought.root c.requires.some c.requires.root c.args.sought.key c.requires.key c.args.page n c.requires.here.mode p1 at c.child_of-child.result is S p2 stood p3 c.release_at.ensures.released
+    child_at sizes g.L.Trees.ROOTS (g.L.Law.lawful sizes.pages) (by_place g.L.Law.opening sizes.pages) laws c.args.sought.root c.requires.some c.requires.root c.args.sought.key c.requires.key c.args.page n c.requires.here.mode p1 at c.child_of-child.result is S p2 stood p3 c.release_at.ensures.released
 
 pub returns-in-Ok-clause-went : goal.returns-in-Ok-clause-went
 returns-in-Ok-clause-went g c =
-    let key : Sizes = c.args.mtr.now.latches.now.sizes in
-    let has : has_pages key.pages ≡ true = subst (λ (s : Sizes). has_pages s.pages ≡ true) c.geometry.ensures (subst (λ n. has_pages n ≡ true) c.pages.ensures.pages c.pages.ensures.in_range) in
-    let laws = laws_of key.pages g.L.Trees.ROOTS (g.L.Law.lawful key.pages) (by_place g.L.Law.opening key.pages) (g.L.Law.range key.pages) (λ xs ys. g.met.L.Law.begins key.pages xs ys has)
-    (λ log. c.trees_law.ensures.memory key.pages log has) (λ xs e page r. g.met.L.Law.stays key.pages xs e page r has) (λ log page r. c.trees_law.ensures.range key.pages log page r) in
+    let sizes : Sizes = c.args.mtr.now.latches.now.sizes in
+    let has : has_pages sizes.pages ≡ true = subst (λ (s : Sizes). has_pages s.pages ≡ true) c.geometry.ensures (subst (λ n. has_pages n ≡ true) c.pages.ensures.pages c.pages.ensures.in_range) in
+    let laws = laws_of sizes.pages g.L.Trees.ROOTS (g.L.Law.lawful sizes.pages) (by_place g.L.Law.opening sizes.pages) (g.L.Law.range sizes.pages) (λ xs ys. g.met.L.Law.begins sizes.pages xs ys has)
+    (λ log. c.trees_law.ensures.memory sizes.pages log has) (λ xs e page r. g.met.L.Law.stays sizes.pages xs e page r has) (λ log page r. c.trees_law.ensures.range sizes.pages log page r) in
     let n : ℕ = c.args.level - 1 in
     let up : c.args.level ≡ suc n = omega (arith, c.requires.node) in
     let p : PassState = c.args.mtr.now.pass.now in
-    let here = subst (λ l. IsAt key (g.L.Law.lawful key.pages) (by_place g.L.Law.opening key.pages) c.args.sought.root c.args.sought.key (index_grant ∷ []) c.args.page l c.requires.here.mode p) up c.requires.here.here in
+    let here = subst (λ l. IsAt sizes (g.L.Law.lawful sizes.pages) (by_place g.L.Law.opening sizes.pages) c.args.sought.root c.args.sought.key (index_grant ∷ []) c.args.page l c.requires.here.mode p) up c.requires.here.here in
     let p1 : PassState = c.child_of-child.new.mtr.pass.now in
-    let at = at_read key (g.L.Law.lawful key.pages) (by_place g.L.Law.opening key.pages) c.args.sought.root c.args.sought.key (index_grant ∷ []) c.args.page (suc n) c.requires.here.mode p p1 here c.child_of-child.ensures.read in
-    let is = c.child_of-child.ensures.child ∙ ap (λ (log : List Entry). child_for c.args.sought.key 0 (records_of (image_of (memory_after (by_place g.L.Law.opening key.pages) log) c.args.page))) (sym (beside_read p p1 c.child_of-child.ensures.read).seen) in
+    let at = at_read sizes (g.L.Law.lawful sizes.pages) (by_place g.L.Law.opening sizes.pages) c.args.sought.root c.args.sought.key (index_grant ∷ []) c.args.page (suc n) c.requires.here.mode p p1 here c.child_of-child.ensures.read in
+    let is = c.child_of-child.ensures.child ∙ ap (λ (log : List Entry). child_for c.args.sought.key 0 (records_of (image_of (memory_after (by_place g.L.Law.opening sizes.pages) log) c.args.page))) (sym (beside_read p p1 c.child_of-child.ensures.read).seen) in
     let p2 : PassState = c.try_stand.new.mtr.pass.now in let p3 : PassState = c.release_at.new.self.pass.now in
     let stood = subst (λ (s : Sizes). HasStood s (g.L.Law.lawful s.pages) (page_grant c.child_of-child.result S) p1 p2) (ap (λ m. m.now.sizes) c.child_of-child.ensures.latches) c.in-Ok.ensures.stood in
-    went_both p p1 p3 (went_beside p p1 (beside_read p p1 c.child_of-child.ensures.read)) (child_went key g.L.Trees.ROOTS (g.L.Law.lawful key.pages) (by_place g.L.Law.opening key.pages) laws c.args.sought.root c.requires.some c.requires.root c.args.sought.key c.requires.key c.args.page n c.requires.here.mode p1 at c.child_of-child.result is S p2 stood p3 c.release_at.ensures.released)
+    went_both p p1 p3 (went_beside p p1 (beside_read p p1 c.child_of-child.ensures.read)) (child_went sizes g.L.Trees.ROOTS (g.L.Law.lawful sizes.pages) (by_place g.L.Law.opening sizes.pages) laws c.args.sought.root c.requires.some c.requires.root c.args.sought.key c.requires.key c.args.page n c.requires.here.mode p1 at c.child_of-child.result is S p2 stood p3 c.release_at.ensures.released)
 
 pub returns-in-Ok-clause-grants : goal.returns-in-Ok-clause-grants
 returns-in-Ok-clause-grants g c =
-    let key : Sizes = c.args.mtr.now.latches.now.sizes in
-    let has : has_pages key.pages ≡ true = subst (λ (s : Sizes). has_pages s.pages ≡ true) c.geometry.ensures (subst (λ n. has_pages n ≡ true) c.pages.ensures.pages c.pages.ensures.in_range) in
-    let laws = laws_of key.pages g.L.Trees.ROOTS (g.L.Law.lawful key.pages) (by_place g.L.Law.opening key.pages) (g.L.Law.range key.pages) (λ xs ys. g.met.L.Law.begins key.pages xs ys has)
-    (λ log. c.trees_law.ensures.memory key.pages log has) (λ xs e page r. g.met.L.Law.stays key.pages xs e page r has) (λ log page r. c.trees_law.ensures.range key.pages log page r) in
+    let sizes : Sizes = c.args.mtr.now.latches.now.sizes in
+    let has : has_pages sizes.pages ≡ true = subst (λ (s : Sizes). has_pages s.pages ≡ true) c.geometry.ensures (subst (λ n. has_pages n ≡ true) c.pages.ensures.pages c.pages.ensures.in_range) in
+    let laws = laws_of sizes.pages g.L.Trees.ROOTS (g.L.Law.lawful sizes.pages) (by_place g.L.Law.opening sizes.pages) (g.L.Law.range sizes.pages) (λ xs ys. g.met.L.Law.begins sizes.pages xs ys has)
+    (λ log. c.trees_law.ensures.memory sizes.pages log has) (λ xs e page r. g.met.L.Law.stays sizes.pages xs e page r has) (λ log page r. c.trees_law.ensures.range sizes.pages log page r) in
     let n : ℕ = c.args.level - 1 in
     let up : c.args.level ≡ suc n = omega (arith, c.requires.node) in
     let p : PassState = c.args.mtr.now.pass.now in
-    let here = subst (λ l. IsAt key (g.L.Law.lawful key.pages) (by_place g.L.Law.opening key.pages) c.args.sought.root c.args.sought.key (index_grant ∷ []) c.args.page l c.requires.here.mode p) up c.requires.here.here in
+    let here = subst (λ l. IsAt sizes (g.L.Law.lawful sizes.pages) (by_place g.L.Law.opening sizes.pages) c.args.sought.root c.args.sought.key (index_grant ∷ []) c.args.page l c.requires.here.mode p) up c.requires.here.here in
     let p1 : PassState = c.child_of-child.new.mtr.pass.now in
-    let at = at_read key (g.L.Law.lawful key.pages) (by_place g.L.Law.opening key.pages) c.args.sought.root c.args.sought.key (index_grant ∷ []) c.args.page (suc n) c.requires.here.mode p p1 here c.child_of-child.ensures.read in
-    let is = c.child_of-child.ensures.child ∙ ap (λ (log : List Entry). child_for c.args.sought.key 0 (records_of (image_of (memory_after (by_place g.L.Law.opening key.pages) log) c.args.page))) (sym (beside_read p p1 c.child_of-child.ensures.read).seen) in
+    let at = at_read sizes (g.L.Law.lawful sizes.pages) (by_place g.L.Law.opening sizes.pages) c.args.sought.root c.args.sought.key (index_grant ∷ []) c.args.page (suc n) c.requires.here.mode p p1 here c.child_of-child.ensures.read in
+    let is = c.child_of-child.ensures.child ∙ ap (λ (log : List Entry). child_for c.args.sought.key 0 (records_of (image_of (memory_after (by_place g.L.Law.opening sizes.pages) log) c.args.page))) (sym (beside_read p p1 c.child_of-child.ensures.read).seen) in
     let p2 : PassState = c.try_stand.new.mtr.pass.now in let p3 : PassState = c.release_at.new.self.pass.now in
     let stood = subst (λ (s : Sizes). HasStood s (g.L.Law.lawful s.pages) (page_grant c.child_of-child.result S) p1 p2) (ap (λ m. m.now.sizes) c.child_of-child.ensures.latches) c.in-Ok.ensures.stood in
-    child_grants key g.L.Trees.ROOTS (g.L.Law.lawful key.pages) (by_place g.L.Law.opening key.pages) laws c.args.sought.root c.requires.some c.requires.root c.args.sought.key c.requires.key c.args.page n c.requires.here.mode p1 at c.child_of-child.result is S p2 stood p3 c.release_at.ensures.released ∙ ap (λ (r : PassState). with_grant (Some S) r.view.grants) c.child_of-child.ensures.read.same
+    child_grants sizes g.L.Trees.ROOTS (g.L.Law.lawful sizes.pages) (by_place g.L.Law.opening sizes.pages) laws c.args.sought.root c.requires.some c.requires.root c.args.sought.key c.requires.key c.args.page n c.requires.here.mode p1 at c.child_of-child.result is S p2 stood p3 c.release_at.ensures.released ∙ ap (λ (r : PassState). with_grant (Some S) r.view.grants) c.child_of-child.ensures.read.same
 
 pub returns-in-Err-clause-stopped : goal.returns-in-Err-clause-stopped
 returns-in-Err-clause-stopped g c =
-    let key : Sizes = c.args.mtr.now.latches.now.sizes in
-    let has : has_pages key.pages ≡ true = subst (λ (s : Sizes). has_pages s.pages ≡ true) c.geometry.ensures (subst (λ n. has_pages n ≡ true) c.pages.ensures.pages c.pages.ensures.in_range) in
-    let laws = laws_of key.pages g.L.Trees.ROOTS (g.L.Law.lawful key.pages) (by_place g.L.Law.opening key.pages) (g.L.Law.range key.pages) (λ xs ys. g.met.L.Law.begins key.pages xs ys has)
-    (λ log. c.trees_law.ensures.memory key.pages log has) (λ xs e page r. g.met.L.Law.stays key.pages xs e page r has) (λ log page r. c.trees_law.ensures.range key.pages log page r) in
+    let sizes : Sizes = c.args.mtr.now.latches.now.sizes in
+    let has : has_pages sizes.pages ≡ true = subst (λ (s : Sizes). has_pages s.pages ≡ true) c.geometry.ensures (subst (λ n. has_pages n ≡ true) c.pages.ensures.pages c.pages.ensures.in_range) in
+    let laws = laws_of sizes.pages g.L.Trees.ROOTS (g.L.Law.lawful sizes.pages) (by_place g.L.Law.opening sizes.pages) (g.L.Law.range sizes.pages) (λ xs ys. g.met.L.Law.begins sizes.pages xs ys has)
+    (λ log. c.trees_law.ensures.memory sizes.pages log has) (λ xs e page r. g.met.L.Law.stays sizes.pages xs e page r has) (λ log page r. c.trees_law.ensures.range sizes.pages log page r) in
     let n : ℕ = c.args.level - 1 in
     let up : c.args.level ≡ suc n = omega (arith, c.requires.node) in
     let p : PassState = c.args.mtr.now.pass.now in
-    let here = subst (λ l. IsAt key (g.L.Law.lawful key.pages) (by_place g.L.Law.opening key.pages) c.args.sought.root c.args.sought.key (index_grant ∷ []) c.args.page l c.requires.here.mode p) up c.requires.here.here in
+    let here = subst (λ l. IsAt sizes (g.L.Law.lawful sizes.pages) (by_place g.L.Law.opening sizes.pages) c.args.sought.root c.args.sought.key (index_grant ∷ []) c.args.page l c.requires.here.mode p) up c.requires.here.here in
     let p1 : PassState = c.child_of-child.new.mtr.pass.now in
-    let at = at_read key (g.L.Law.lawful key.pages) (by_place g.L.Law.opening key.pages) c.args.sought.root c.args.sought.key (index_grant ∷ []) c.args.page (suc n) c.requires.here.mode p p1 here c.child_of-child.ensures.read in
-    let is = c.child_of-child.ensures.child ∙ ap (λ (log : List Entry). child_for c.args.sought.key 0 (records_of (image_of (memory_after (by_place g.L.Law.opening key.pages) log) c.args.page))) (sym (beside_read p p1 c.child_of-child.ensures.read).seen) in
+    let at = at_read sizes (g.L.Law.lawful sizes.pages) (by_place g.L.Law.opening sizes.pages) c.args.sought.root c.args.sought.key (index_grant ∷ []) c.args.page (suc n) c.requires.here.mode p p1 here c.child_of-child.ensures.read in
+    let is = c.child_of-child.ensures.child ∙ ap (λ (log : List Entry). child_for c.args.sought.key 0 (records_of (image_of (memory_after (by_place g.L.Law.opening sizes.pages) log) c.args.page))) (sym (beside_read p p1 c.child_of-child.ensures.read).seen) in
     let p2 : PassState = c.try_stand.new.mtr.pass.now in
     let vain = subst (λ (s : Sizes). IsInVain s (g.L.Law.lawful s.pages) (c.child_of-child.result + 2) c.in-Err.fault p1 p2) (ap (λ m. m.now.sizes) c.child_of-child.ensures.latches) c.in-Err.ensures.vain in
     record {
       page = c.child_of-child.result;
       level = n;
-      vain = vain_read key (g.L.Law.lawful key.pages) (c.child_of-child.result + 2) c.in-Err.fault p p1 p2 c.child_of-child.ensures.read vain;
-      way = child_on key g.L.Trees.ROOTS (g.L.Law.lawful key.pages) (by_place g.L.Law.opening key.pages) laws c.args.sought.root c.requires.some c.requires.root c.args.sought.key c.requires.key c.args.page n c.requires.here.mode p1 at c.child_of-child.result is p2 vain.seen;
+      vain = vain_read sizes (g.L.Law.lawful sizes.pages) (c.child_of-child.result + 2) c.in-Err.fault p p1 p2 c.child_of-child.ensures.read vain;
+      way = child_on sizes g.L.Trees.ROOTS (g.L.Law.lawful sizes.pages) (by_place g.L.Law.opening sizes.pages) laws c.args.sought.root c.requires.some c.requires.root c.args.sought.key c.requires.key c.args.page n c.requires.here.mode p1 at c.child_of-child.result is p2 vain.seen;
     }

@@ -9,9 +9,9 @@ use Rattle.ib_cursor.proofs.nowait.try_latch.Goals as goal
 
 pub returns-in-Err-clause-vain : goal.returns-in-Err-clause-vain
 returns-in-Err-clause-vain g c =
-    let key : Sizes = c.args.mtr.now.latches.now.sizes in
+    let sizes : Sizes = c.args.mtr.now.latches.now.sizes in
     let p : PassState = c.args.mtr.now.pass.now in let q : PassState = c.try_s_latch.new.self.pass.now in let r : PassState = c.look.new.mtr.pass.now in
     let seen = subst (λ (s : Sizes). HasSeen s (g.L.Law.lawful s.pages) q r) (ap (λ m. m.now.sizes) c.try_s_latch.ensures.latches) c.look.ensures.glanced.seen in
-    subst (λ f. IsInVain key (g.L.Law.lawful key.pages) c.args.latch.0 f p r) (sym c.of.ensures)
-    (vain_try key (g.L.Law.lawful key.pages) c.args.latch c.args.level c.in-Err.fault p q r c.in-Err.ensures.not_granted c.in-Err.ensures.refused c.in-Err.ensures.tried
+    subst (λ f. IsInVain sizes (g.L.Law.lawful sizes.pages) c.args.latch.0 f p r) (sym c.of.ensures)
+    (vain_try sizes (g.L.Law.lawful sizes.pages) c.args.latch c.args.level c.in-Err.fault p q r c.in-Err.ensures.not_granted c.in-Err.ensures.refused c.in-Err.ensures.tried
     seen c.look.ensures.memo c.look.ensures.session c.look.ensures.grants c.look.ensures.work c.look.ensures.looks)

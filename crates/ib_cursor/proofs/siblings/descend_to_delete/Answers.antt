@@ -18,11 +18,11 @@ use Rattle.ib_cursor.proofs.siblings.descend_to_delete.Goals as goal
 
 pub read_way-way-requires-clause-index : goal.read_way-way-requires-clause-index
 read_way-way-requires-clause-index g c =
-    let key : Sizes = c.args.mtr.now.latches.now.sizes in
+    let sizes : Sizes = c.args.mtr.now.latches.now.sizes in
     let lt = rank-lt_end c.args.key c.ranges.key.fits in
     let p : PassState = c.args.mtr.now.pass.now in let q : PassState = c.claim_index.new.mtr.pass.now in
     let idle = none_granted c.args.mtr.now.latches.now p c.requires.mtr c.requires.memo in
-    subst (λ (s : Sizes). HasIndex s (g.L.Law.lawful s.pages) q) (sym (ap (λ m. m.now.sizes) c.claim_index.ensures.latches)) (start_index key g.L.Trees.ROOTS (g.L.Law.lawful key.pages) (by_place g.L.Law.opening key.pages) c.shape_of.ensures.shapes c.args.root c.requires.some c.requires.root c.args.key lt [] 0 0 p q q q q idle c.requires.none c.claim_index.ensures.stood c.claim_index.ensures.claimed)
+    subst (λ (s : Sizes). HasIndex s (g.L.Law.lawful s.pages) q) (sym (ap (λ m. m.now.sizes) c.claim_index.ensures.latches)) (start_index sizes g.L.Trees.ROOTS (g.L.Law.lawful sizes.pages) (by_place g.L.Law.opening sizes.pages) c.shape_of.ensures.shapes c.args.root c.requires.some c.requires.root c.args.key lt [] 0 0 p q q q q idle c.requires.none c.claim_index.ensures.stood c.claim_index.ensures.claimed)
 
 pub read_way-way-requires-clause-key : goal.read_way-way-requires-clause-key
 read_way-way-requires-clause-key g c = rank-lt_end c.args.key c.ranges.key.fits
@@ -32,7 +32,7 @@ take_rows-last-requires-clause-key g c = rank-lt_end c.args.key c.ranges.key.fit
 
 pub right_of-behind-requires-clause-loaded : goal.right_of-behind-requires-clause-loaded
 right_of-behind-requires-clause-loaded g c =
-    let key : Sizes = c.args.mtr.now.latches.now.sizes in
+    let sizes : Sizes = c.args.mtr.now.latches.now.sizes in
     let lt = rank-lt_end c.args.key c.ranges.key.fits in
     let q : PassState = c.claim_index.new.mtr.pass.now in let r : PassState = c.read_way-way.new.mtr.pass.now in let s : PassState = c.take_rows-last.new.mtr.pass.now in
     let path = c.read_way-way.result.path in let last = c.take_rows-last.result in
@@ -40,14 +40,14 @@ right_of-behind-requires-clause-loaded g c =
     let w = c.read_way-way.ensures.way in
     let first = ap (λ m. m.now.sizes) c.claim_index.ensures.latches in
     let read = subst (λ (k : Sizes). HasReadWay k (g.L.Law.lawful k.pages) (by_place g.L.Law.opening k.pages) c.args.root c.args.key path c.read_way-way.result.leaf c.read_way-way.result.left q r) first w in
-    let long = way_long key g.L.Trees.ROOTS (g.L.Law.lawful key.pages) (by_place g.L.Law.opening key.pages) c.shape_of.ensures.shapes c.args.root c.requires.some c.requires.root c.args.key lt path c.read_way-way.result.leaf c.read_way-way.result.left q r read in
+    let long = way_long sizes g.L.Trees.ROOTS (g.L.Law.lawful sizes.pages) (by_place g.L.Law.opening sizes.pages) c.shape_of.ensures.shapes c.args.root c.requires.some c.requires.root c.args.key lt path c.read_way-way.result.leaf c.read_way-way.result.left q r read in
     let rows = subst (λ (k : Sizes). HasTakenRows k (g.L.Law.lawful k.pages) (by_place g.L.Law.opening k.pages) c.args.root c.args.key path (length path - 1) last r s) second c.take_rows-last.ensures.taken in
-    let link = behind_link key g.L.Trees.ROOTS (g.L.Law.lawful key.pages) (by_place g.L.Law.opening key.pages) c.shape_of.ensures.shapes c.args.root c.requires.some c.requires.root c.args.key lt path (length path - 1) last r s long.0 rows long.1 in
+    let link = behind_link sizes g.L.Trees.ROOTS (g.L.Law.lawful sizes.pages) (by_place g.L.Law.opening sizes.pages) c.shape_of.ensures.shapes c.args.root c.requires.some c.requires.root c.args.key lt path (length path - 1) last r s long.0 rows long.1 in
     (link.image, link.there, link.formed)
 
 pub take_beside-requires-clause-room : goal.take_beside-requires-clause-room
 take_beside-requires-clause-room g c =
-    let key : Sizes = c.args.mtr.now.latches.now.sizes in
+    let sizes : Sizes = c.args.mtr.now.latches.now.sizes in
     let lt = rank-lt_end c.args.key c.ranges.key.fits in
     let q : PassState = c.claim_index.new.mtr.pass.now in let r : PassState = c.read_way-way.new.mtr.pass.now in let s : PassState = c.take_rows-last.new.mtr.pass.now in
     let path = c.read_way-way.result.path in let last = c.take_rows-last.result in
@@ -55,15 +55,15 @@ take_beside-requires-clause-room g c =
     let w = c.read_way-way.ensures.way in
     let first = ap (λ m. m.now.sizes) c.claim_index.ensures.latches in
     let read = subst (λ (k : Sizes). HasReadWay k (g.L.Law.lawful k.pages) (by_place g.L.Law.opening k.pages) c.args.root c.args.key path c.read_way-way.result.leaf c.read_way-way.result.left q r) first w in
-    let long = way_long key g.L.Trees.ROOTS (g.L.Law.lawful key.pages) (by_place g.L.Law.opening key.pages) c.shape_of.ensures.shapes c.args.root c.requires.some c.requires.root c.args.key lt path c.read_way-way.result.leaf c.read_way-way.result.left q r read in
+    let long = way_long sizes g.L.Trees.ROOTS (g.L.Law.lawful sizes.pages) (by_place g.L.Law.opening sizes.pages) c.shape_of.ensures.shapes c.args.root c.requires.some c.requires.root c.args.key lt path c.read_way-way.result.leaf c.read_way-way.result.left q r read in
     let rows = subst (λ (k : Sizes). HasTakenRows k (g.L.Law.lawful k.pages) (by_place g.L.Law.opening k.pages) c.args.root c.args.key path (length path - 1) last r s) second c.take_rows-last.ensures.taken in
-    let more = rows_room key g.L.Trees.ROOTS (g.L.Law.lawful key.pages) (by_place g.L.Law.opening key.pages) c.shape_of.ensures.shapes c.args.root c.requires.some c.requires.root c.args.key lt path (length path - 1) last r s long.0 rows in
+    let more = rows_room sizes g.L.Trees.ROOTS (g.L.Law.lawful sizes.pages) (by_place g.L.Law.opening sizes.pages) c.shape_of.ensures.shapes c.args.root c.requires.some c.requires.root c.args.key lt path (length path - 1) last r s long.0 rows in
     let gs = c.claim_index.ensures.stood.grants in let a = ap (λ (g : Grants). g.s) gs in let b = ap (λ (g : Grants). g.sx) gs in let d = ap (λ (g : Grants). g.x) gs in let room = c.requires.room in
     let e = w.s in let f = w.sx in let h = w.x in omega arith
 
 pub take_beside-requires-clause-ready : goal.take_beside-requires-clause-ready
 take_beside-requires-clause-ready g c =
-    let key : Sizes = c.args.mtr.now.latches.now.sizes in
+    let sizes : Sizes = c.args.mtr.now.latches.now.sizes in
     let lt = rank-lt_end c.args.key c.ranges.key.fits in
     let q : PassState = c.claim_index.new.mtr.pass.now in let r : PassState = c.read_way-way.new.mtr.pass.now in let s : PassState = c.take_rows-last.new.mtr.pass.now in
     let path = c.read_way-way.result.path in let last = c.take_rows-last.result in
@@ -71,19 +71,19 @@ take_beside-requires-clause-ready g c =
     let w = c.read_way-way.ensures.way in
     let first = ap (λ m. m.now.sizes) c.claim_index.ensures.latches in
     let read = subst (λ (k : Sizes). HasReadWay k (g.L.Law.lawful k.pages) (by_place g.L.Law.opening k.pages) c.args.root c.args.key path c.read_way-way.result.leaf c.read_way-way.result.left q r) first w in
-    let long = way_long key g.L.Trees.ROOTS (g.L.Law.lawful key.pages) (by_place g.L.Law.opening key.pages) c.shape_of.ensures.shapes c.args.root c.requires.some c.requires.root c.args.key lt path c.read_way-way.result.leaf c.read_way-way.result.left q r read in
+    let long = way_long sizes g.L.Trees.ROOTS (g.L.Law.lawful sizes.pages) (by_place g.L.Law.opening sizes.pages) c.shape_of.ensures.shapes c.args.root c.requires.some c.requires.root c.args.key lt path c.read_way-way.result.leaf c.read_way-way.result.left q r read in
     let rows = subst (λ (k : Sizes). HasTakenRows k (g.L.Law.lawful k.pages) (by_place g.L.Law.opening k.pages) c.args.root c.args.key path (length path - 1) last r s) second c.take_rows-last.ensures.taken in
-    let link = behind_link key g.L.Trees.ROOTS (g.L.Law.lawful key.pages) (by_place g.L.Law.opening key.pages) c.shape_of.ensures.shapes c.args.root c.requires.some c.requires.root c.args.key lt path (length path - 1) last r s long.0 rows long.1 in
-    let next = (pages_after (by_place g.L.Law.opening key.pages) s.view.memory.seen last).next in
-    let held = rows_held key g.L.Trees.ROOTS (g.L.Law.lawful key.pages) (by_place g.L.Law.opening key.pages) c.shape_of.ensures.shapes c.args.root c.requires.some c.requires.root c.args.key lt path (length path - 1) last r s long.0 rows in
+    let link = behind_link sizes g.L.Trees.ROOTS (g.L.Law.lawful sizes.pages) (by_place g.L.Law.opening sizes.pages) c.shape_of.ensures.shapes c.args.root c.requires.some c.requires.root c.args.key lt path (length path - 1) last r s long.0 rows long.1 in
+    let next = (pages_after (by_place g.L.Law.opening sizes.pages) s.view.memory.seen last).next in
+    let held = rows_held sizes g.L.Trees.ROOTS (g.L.Law.lawful sizes.pages) (by_place g.L.Law.opening sizes.pages) c.shape_of.ensures.shapes c.args.root c.requires.some c.requires.root c.args.key lt path (length path - 1) last r s long.0 rows in
     let is : c.right_of-behind.result ≡ next = c.right_of-behind.ensures link.image link.there ∙ link.right_is in
-    let will = subst (λ n. WillTake key (g.L.Law.lawful key.pages) (by_place g.L.Law.opening key.pages) held (beside n ++ []) s) (sym is) (behind_will key g.L.Trees.ROOTS (g.L.Law.lawful key.pages) (by_place g.L.Law.opening key.pages) c.shape_of.ensures.shapes c.args.root c.requires.some c.requires.root c.args.key lt path (length path - 1) last r s long.0 rows long.1) in
+    let will = subst (λ n. WillTake sizes (g.L.Law.lawful sizes.pages) (by_place g.L.Law.opening sizes.pages) held (beside n ++ []) s) (sym is) (behind_will sizes g.L.Trees.ROOTS (g.L.Law.lawful sizes.pages) (by_place g.L.Law.opening sizes.pages) c.shape_of.ensures.shapes c.args.root c.requires.some c.requires.root c.args.key lt path (length path - 1) last r s long.0 rows long.1) in
     let third = ap (λ m. m.now.sizes) (c.take_rows-last.ensures.latches ∙ (c.read_way-way.ensures.latches ∙ c.claim_index.ensures.latches)) in
     subst (λ (k : Sizes). (held : List ℕ) × (more : List ℕ) × WillTake k (g.L.Law.lawful k.pages) (by_place g.L.Law.opening k.pages) held (beside c.right_of-behind.result ++ more) s) (sym third) (held, [], will)
 
 pub returns-clause-claimed : goal.returns-clause-claimed
 returns-clause-claimed g c =
-    let key : Sizes = c.args.mtr.now.latches.now.sizes in
+    let sizes : Sizes = c.args.mtr.now.latches.now.sizes in
     let lt = rank-lt_end c.args.key c.ranges.key.fits in
     let q : PassState = c.claim_index.new.mtr.pass.now in let r : PassState = c.read_way-way.new.mtr.pass.now in let s : PassState = c.take_rows-last.new.mtr.pass.now in
     let path = c.read_way-way.result.path in let last = c.take_rows-last.result in
@@ -91,29 +91,29 @@ returns-clause-claimed g c =
     let w = c.read_way-way.ensures.way in
     let first = ap (λ m. m.now.sizes) c.claim_index.ensures.latches in
     let read = subst (λ (k : Sizes). HasReadWay k (g.L.Law.lawful k.pages) (by_place g.L.Law.opening k.pages) c.args.root c.args.key path c.read_way-way.result.leaf c.read_way-way.result.left q r) first w in
-    let long = way_long key g.L.Trees.ROOTS (g.L.Law.lawful key.pages) (by_place g.L.Law.opening key.pages) c.shape_of.ensures.shapes c.args.root c.requires.some c.requires.root c.args.key lt path c.read_way-way.result.leaf c.read_way-way.result.left q r read in
+    let long = way_long sizes g.L.Trees.ROOTS (g.L.Law.lawful sizes.pages) (by_place g.L.Law.opening sizes.pages) c.shape_of.ensures.shapes c.args.root c.requires.some c.requires.root c.args.key lt path c.read_way-way.result.leaf c.read_way-way.result.left q r read in
     let rows = subst (λ (k : Sizes). HasTakenRows k (g.L.Law.lawful k.pages) (by_place g.L.Law.opening k.pages) c.args.root c.args.key path (length path - 1) last r s) second c.take_rows-last.ensures.taken in
-    let link = behind_link key g.L.Trees.ROOTS (g.L.Law.lawful key.pages) (by_place g.L.Law.opening key.pages) c.shape_of.ensures.shapes c.args.root c.requires.some c.requires.root c.args.key lt path (length path - 1) last r s long.0 rows long.1 in
-    let next = (pages_after (by_place g.L.Law.opening key.pages) s.view.memory.seen last).next in
-    let held = rows_held key g.L.Trees.ROOTS (g.L.Law.lawful key.pages) (by_place g.L.Law.opening key.pages) c.shape_of.ensures.shapes c.args.root c.requires.some c.requires.root c.args.key lt path (length path - 1) last r s long.0 rows in
+    let link = behind_link sizes g.L.Trees.ROOTS (g.L.Law.lawful sizes.pages) (by_place g.L.Law.opening sizes.pages) c.shape_of.ensures.shapes c.args.root c.requires.some c.requires.root c.args.key lt path (length path - 1) last r s long.0 rows long.1 in
+    let next = (pages_after (by_place g.L.Law.opening sizes.pages) s.view.memory.seen last).next in
+    let held = rows_held sizes g.L.Trees.ROOTS (g.L.Law.lawful sizes.pages) (by_place g.L.Law.opening sizes.pages) c.shape_of.ensures.shapes c.args.root c.requires.some c.requires.root c.args.key lt path (length path - 1) last r s long.0 rows in
     let is : c.right_of-behind.result ≡ next = c.right_of-behind.ensures link.image link.there ∙ link.right_is in
-    let will = subst (λ n. WillTake key (g.L.Law.lawful key.pages) (by_place g.L.Law.opening key.pages) held (beside n ++ []) s) (sym is) (behind_will key g.L.Trees.ROOTS (g.L.Law.lawful key.pages) (by_place g.L.Law.opening key.pages) c.shape_of.ensures.shapes c.args.root c.requires.some c.requires.root c.args.key lt path (length path - 1) last r s long.0 rows long.1) in
+    let will = subst (λ n. WillTake sizes (g.L.Law.lawful sizes.pages) (by_place g.L.Law.opening sizes.pages) held (beside n ++ []) s) (sym is) (behind_will sizes g.L.Trees.ROOTS (g.L.Law.lawful sizes.pages) (by_place g.L.Law.opening sizes.pages) c.shape_of.ensures.shapes c.args.root c.requires.some c.requires.root c.args.key lt path (length path - 1) last r s long.0 rows long.1) in
     let third = ap (λ m. m.now.sizes) (c.take_rows-last.ensures.latches ∙ (c.read_way-way.ensures.latches ∙ c.claim_index.ensures.latches)) in
     let t : PassState = c.take_beside.new.mtr.pass.now in
     let taken = subst (λ (k : Sizes). (held more : List ℕ) → WillTake k (g.L.Law.lawful k.pages) (by_place g.L.Law.opening k.pages) held (beside c.right_of-behind.result ++ more) s
     → HasTakenMore k (g.L.Law.lawful k.pages) (by_place g.L.Law.opening k.pages) held (beside c.right_of-behind.result) s t) third c.take_beside.ensures.taken held [] will in
-    let more = subst (λ n. HasTakenMore key (g.L.Law.lawful key.pages) (by_place g.L.Law.opening key.pages) held (beside n) s t) is taken in
+    let more = subst (λ n. HasTakenMore sizes (g.L.Law.lawful sizes.pages) (by_place g.L.Law.opening sizes.pages) held (beside n) s t) is taken in
     let p : PassState = c.args.mtr.now.pass.now in
     let idle = none_granted c.args.mtr.now.latches.now p c.requires.mtr c.requires.memo in
-    let all = all_taken key g.L.Trees.ROOTS (g.L.Law.lawful key.pages) (by_place g.L.Law.opening key.pages) c.shape_of.ensures.shapes c.args.root c.requires.some c.requires.root c.args.key lt path (length path - 1) last r s long.0 rows long.1 t more in (
+    let all = all_taken sizes g.L.Trees.ROOTS (g.L.Law.lawful sizes.pages) (by_place g.L.Law.opening sizes.pages) c.shape_of.ensures.shapes c.args.root c.requires.some c.requires.root c.args.key lt path (length path - 1) last r s long.0 rows long.1 t more in (
       held ++ beside next,
-      claimed_with key g.L.Trees.ROOTS (g.L.Law.lawful key.pages) (by_place g.L.Law.opening key.pages) c.shape_of.ensures.shapes c.args.root c.requires.some c.requires.root c.args.key lt path c.read_way-way.result.leaf c.read_way-way.result.left p q r s t idle c.requires.none c.claim_index.ensures.stood c.claim_index.ensures.claimed read (held ++ beside next) t all,
-      all_siblings key g.L.Trees.ROOTS (g.L.Law.lawful key.pages) (by_place g.L.Law.opening key.pages) c.shape_of.ensures.shapes c.args.root c.requires.some c.requires.root c.args.key lt path (length path - 1) last r s long.0 rows long.1 t more,
+      claimed_with sizes g.L.Trees.ROOTS (g.L.Law.lawful sizes.pages) (by_place g.L.Law.opening sizes.pages) c.shape_of.ensures.shapes c.args.root c.requires.some c.requires.root c.args.key lt path c.read_way-way.result.leaf c.read_way-way.result.left p q r s t idle c.requires.none c.claim_index.ensures.stood c.claim_index.ensures.claimed read (held ++ beside next) t all,
+      all_siblings sizes g.L.Trees.ROOTS (g.L.Law.lawful sizes.pages) (by_place g.L.Law.opening sizes.pages) c.shape_of.ensures.shapes c.args.root c.requires.some c.requires.root c.args.key lt path (length path - 1) last r s long.0 rows long.1 t more,
     )
 
 pub returns-clause-alone : goal.returns-clause-alone
 returns-clause-alone g c =
-    let key : Sizes = c.args.mtr.now.latches.now.sizes in
+    let sizes : Sizes = c.args.mtr.now.latches.now.sizes in
     let lt = rank-lt_end c.args.key c.ranges.key.fits in
     let q : PassState = c.claim_index.new.mtr.pass.now in let r : PassState = c.read_way-way.new.mtr.pass.now in let s : PassState = c.take_rows-last.new.mtr.pass.now in
     let path = c.read_way-way.result.path in let last = c.take_rows-last.result in
@@ -121,16 +121,16 @@ returns-clause-alone g c =
     let w = c.read_way-way.ensures.way in
     let first = ap (λ m. m.now.sizes) c.claim_index.ensures.latches in
     let read = subst (λ (k : Sizes). HasReadWay k (g.L.Law.lawful k.pages) (by_place g.L.Law.opening k.pages) c.args.root c.args.key path c.read_way-way.result.leaf c.read_way-way.result.left q r) first w in
-    let long = way_long key g.L.Trees.ROOTS (g.L.Law.lawful key.pages) (by_place g.L.Law.opening key.pages) c.shape_of.ensures.shapes c.args.root c.requires.some c.requires.root c.args.key lt path c.read_way-way.result.leaf c.read_way-way.result.left q r read in
+    let long = way_long sizes g.L.Trees.ROOTS (g.L.Law.lawful sizes.pages) (by_place g.L.Law.opening sizes.pages) c.shape_of.ensures.shapes c.args.root c.requires.some c.requires.root c.args.key lt path c.read_way-way.result.leaf c.read_way-way.result.left q r read in
     let rows = subst (λ (k : Sizes). HasTakenRows k (g.L.Law.lawful k.pages) (by_place g.L.Law.opening k.pages) c.args.root c.args.key path (length path - 1) last r s) second c.take_rows-last.ensures.taken in
-    let link = behind_link key g.L.Trees.ROOTS (g.L.Law.lawful key.pages) (by_place g.L.Law.opening key.pages) c.shape_of.ensures.shapes c.args.root c.requires.some c.requires.root c.args.key lt path (length path - 1) last r s long.0 rows long.1 in
-    let next = (pages_after (by_place g.L.Law.opening key.pages) s.view.memory.seen last).next in
-    let held = rows_held key g.L.Trees.ROOTS (g.L.Law.lawful key.pages) (by_place g.L.Law.opening key.pages) c.shape_of.ensures.shapes c.args.root c.requires.some c.requires.root c.args.key lt path (length path - 1) last r s long.0 rows in
+    let link = behind_link sizes g.L.Trees.ROOTS (g.L.Law.lawful sizes.pages) (by_place g.L.Law.opening sizes.pages) c.shape_of.ensures.shapes c.args.root c.requires.some c.requires.root c.args.key lt path (length path - 1) last r s long.0 rows long.1 in
+    let next = (pages_after (by_place g.L.Law.opening sizes.pages) s.view.memory.seen last).next in
+    let held = rows_held sizes g.L.Trees.ROOTS (g.L.Law.lawful sizes.pages) (by_place g.L.Law.opening sizes.pages) c.shape_of.ensures.shapes c.args.root c.requires.some c.requires.root c.args.key lt path (length path - 1) last r s long.0 rows in
     let is : c.right_of-behind.result ≡ next = c.right_of-behind.ensures link.image link.there ∙ link.right_is in
-    let will = subst (λ n. WillTake key (g.L.Law.lawful key.pages) (by_place g.L.Law.opening key.pages) held (beside n ++ []) s) (sym is) (behind_will key g.L.Trees.ROOTS (g.L.Law.lawful key.pages) (by_place g.L.Law.opening key.pages) c.shape_of.ensures.shapes c.args.root c.requires.some c.requires.root c.args.key lt path (length path - 1) last r s long.0 rows long.1) in
+    let will = subst (λ n. WillTake sizes (g.L.Law.lawful sizes.pages) (by_place g.L.Law.opening sizes.pages) held (beside n ++ []) s) (sym is) (behind_will sizes g.L.Trees.ROOTS (g.L.Law.lawful sizes.pages) (by_place g.L.Law.opening sizes.pages) c.shape_of.ensures.shapes c.args.root c.requires.some c.requires.root c.args.key lt path (length path - 1) last r s long.0 rows long.1) in
     let third = ap (λ m. m.now.sizes) (c.take_rows-last.ensures.latches ∙ (c.read_way-way.ensures.latches ∙ c.claim_index.ensures.latches)) in
     let t : PassState = c.take_beside.new.mtr.pass.now in
     let taken = subst (λ (k : Sizes). (held more : List ℕ) → WillTake k (g.L.Law.lawful k.pages) (by_place g.L.Law.opening k.pages) held (beside c.right_of-behind.result ++ more) s
     → HasTakenMore k (g.L.Law.lawful k.pages) (by_place g.L.Law.opening k.pages) held (beside c.right_of-behind.result) s t) third c.take_beside.ensures.taken held [] will in
-    let more = subst (λ n. HasTakenMore key (g.L.Law.lawful key.pages) (by_place g.L.Law.opening key.pages) held (beside n) s t) is taken in
+    let more = subst (λ n. HasTakenMore sizes (g.L.Law.lawful sizes.pages) (by_place g.L.Law.opening sizes.pages) held (beside n) s t) is taken in
     more.holds.claimed

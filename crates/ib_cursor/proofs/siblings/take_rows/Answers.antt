@@ -14,20 +14,20 @@ use Rattle.ib_cursor.proofs.siblings.take_rows.Goals as goal
 
 pub take_page-requires-clause-page : goal.take_page-requires-clause-page
 take_page-requires-clause-page g c =
-    let key : Sizes = c.args.mtr.now.latches.now.sizes in
-    (root_can key g.L.Trees.ROOTS (g.L.Law.lawful key.pages) (by_place g.L.Law.opening key.pages) c.shape_of.ensures.shapes c.args.sought.root c.requires.some c.requires.root c.args.sought.key c.requires.key c.args.mtr.now.pass.now c.requires.index).1
+    let sizes : Sizes = c.args.mtr.now.latches.now.sizes in
+    (root_can sizes g.L.Trees.ROOTS (g.L.Law.lawful sizes.pages) (by_place g.L.Law.opening sizes.pages) c.shape_of.ensures.shapes c.args.sought.root c.requires.some c.requires.root c.args.sought.key c.requires.key c.args.mtr.now.pass.now c.requires.index).1
 
 pub take_page-requires-clause-holds : goal.take_page-requires-clause-holds
 take_page-requires-clause-holds g c =
-    let key : Sizes = c.args.mtr.now.latches.now.sizes in
-    ([], (root_can key g.L.Trees.ROOTS (g.L.Law.lawful key.pages) (by_place g.L.Law.opening key.pages) c.shape_of.ensures.shapes c.args.sought.root c.requires.some c.requires.root c.args.sought.key c.requires.key c.args.mtr.now.pass.now c.requires.index).0)
+    let sizes : Sizes = c.args.mtr.now.latches.now.sizes in
+    ([], (root_can sizes g.L.Trees.ROOTS (g.L.Law.lawful sizes.pages) (by_place g.L.Law.opening sizes.pages) c.shape_of.ensures.shapes c.args.sought.root c.requires.some c.requires.root c.args.sought.key c.requires.key c.args.mtr.now.pass.now c.requires.index).0)
 
 pub loop-at-init : goal.loop-at-init
 loop-at-init g c =
-    let key : Sizes = c.args.mtr.now.latches.now.sizes in
+    let sizes : Sizes = c.args.mtr.now.latches.now.sizes in
     let p : PassState = c.args.mtr.now.pass.now in let q : PassState = c.take_page.new.mtr.pass.now in
-    let can = (root_can key g.L.Trees.ROOTS (g.L.Law.lawful key.pages) (by_place g.L.Law.opening key.pages) c.shape_of.ensures.shapes c.args.sought.root c.requires.some c.requires.root c.args.sought.key c.requires.key p c.requires.index).0 in
-    let rows = rows_first key g.L.Trees.ROOTS (g.L.Law.lawful key.pages) (by_place g.L.Law.opening key.pages) c.shape_of.ensures.shapes c.args.sought.root c.requires.some c.requires.root c.args.sought.key c.requires.key c.args.path.now p q c.requires.way (c.take_page.ensures.taken [] can) in
+    let can = (root_can sizes g.L.Trees.ROOTS (g.L.Law.lawful sizes.pages) (by_place g.L.Law.opening sizes.pages) c.shape_of.ensures.shapes c.args.sought.root c.requires.some c.requires.root c.args.sought.key c.requires.key p c.requires.index).0 in
+    let rows = rows_first sizes g.L.Trees.ROOTS (g.L.Law.lawful sizes.pages) (by_place g.L.Law.opening sizes.pages) c.shape_of.ensures.shapes c.args.sought.root c.requires.some c.requires.root c.args.sought.key c.requires.key c.args.path.now p q c.requires.way (c.take_page.ensures.taken [] can) in
     record {
       mtr = c.take_page.ensures.mtr;
       latches = c.take_page.ensures.latches;
@@ -38,47 +38,47 @@ loop-at-init g c =
 
 pub take_row-last-requires-clause-room : goal.take_row-last-requires-clause-room
 take_row-last-requires-clause-room g c =
-    let key : Sizes = c.args.mtr.now.latches.now.sizes in
+    let sizes : Sizes = c.args.mtr.now.latches.now.sizes in
     let inv = c.loop-at.invariant in
-    let more = rows_room key g.L.Trees.ROOTS (g.L.Law.lawful key.pages) (by_place g.L.Law.opening key.pages) c.shape_of.ensures.shapes c.args.sought.root c.requires.some c.requires.root c.args.sought.key c.requires.key c.args.path.now c.loop-at.at c.loop-at.last c.args.mtr.now.pass.now c.loop-at.mtr.pass.now c.pages-pages.ensures.few inv.taken in
+    let more = rows_room sizes g.L.Trees.ROOTS (g.L.Law.lawful sizes.pages) (by_place g.L.Law.opening sizes.pages) c.shape_of.ensures.shapes c.args.sought.root c.requires.some c.requires.root c.args.sought.key c.requires.key c.args.path.now c.loop-at.at c.loop-at.last c.args.mtr.now.pass.now c.loop-at.mtr.pass.now c.pages-pages.ensures.few inv.taken in
     let room = c.requires.room in omega arith
 
 pub take_row-last-requires-clause-ready : goal.take_row-last-requires-clause-ready
 take_row-last-requires-clause-ready g c =
-    let key : Sizes = c.args.mtr.now.latches.now.sizes in
+    let sizes : Sizes = c.args.mtr.now.latches.now.sizes in
     let p : PassState = c.args.mtr.now.pass.now in let q : PassState = c.loop-at.mtr.pass.now in
     let inv = c.loop-at.invariant in
     let page = get_or c.pages-pages.result.now c.loop-at.at 0 in
     let up : c.loop-at.at + 1 < length c.args.path.now = let a = ap length c.pages-pages.ensures.pages in let b = c.loop-at-test.true in omega arith in
     let is : inv.taken.node ≡ page = sym (ap (λ ps. get_or ps c.loop-at.at 0) c.pages-pages.ensures.pages
-    ∙ row_node key g.L.Trees.ROOTS (g.L.Law.lawful key.pages) (by_place g.L.Law.opening key.pages) c.shape_of.ensures.shapes c.args.sought.root c.requires.some c.requires.root c.args.sought.key c.requires.key c.args.path.now c.loop-at.at c.loop-at.last p q c.pages-pages.ensures.few inv.taken up) in
-    let can = row_can key g.L.Trees.ROOTS (g.L.Law.lawful key.pages) (by_place g.L.Law.opening key.pages) c.shape_of.ensures.shapes c.args.sought.root c.requires.some c.requires.root c.args.sought.key c.requires.key c.args.path.now c.loop-at.at c.loop-at.last p q c.pages-pages.ensures.few inv.taken up in
-    let held = rows_held key g.L.Trees.ROOTS (g.L.Law.lawful key.pages) (by_place g.L.Law.opening key.pages) c.shape_of.ensures.shapes c.args.sought.root c.requires.some c.requires.root c.args.sought.key c.requires.key c.args.path.now c.loop-at.at c.loop-at.last p q c.pages-pages.ensures.few inv.taken in
+    ∙ row_node sizes g.L.Trees.ROOTS (g.L.Law.lawful sizes.pages) (by_place g.L.Law.opening sizes.pages) c.shape_of.ensures.shapes c.args.sought.root c.requires.some c.requires.root c.args.sought.key c.requires.key c.args.path.now c.loop-at.at c.loop-at.last p q c.pages-pages.ensures.few inv.taken up) in
+    let can = row_can sizes g.L.Trees.ROOTS (g.L.Law.lawful sizes.pages) (by_place g.L.Law.opening sizes.pages) c.shape_of.ensures.shapes c.args.sought.root c.requires.some c.requires.root c.args.sought.key c.requires.key c.args.path.now c.loop-at.at c.loop-at.last p q c.pages-pages.ensures.few inv.taken up in
+    let held = rows_held sizes g.L.Trees.ROOTS (g.L.Law.lawful sizes.pages) (by_place g.L.Law.opening sizes.pages) c.shape_of.ensures.shapes c.args.sought.root c.requires.some c.requires.root c.args.sought.key c.requires.key c.args.path.now c.loop-at.at c.loop-at.last p q c.pages-pages.ensures.few inv.taken in
     subst (λ (s : Sizes). (held : List ℕ) × CanTakeRow s (g.L.Law.lawful s.pages) (by_place g.L.Law.opening s.pages) c.args.sought.key held page q) (sym (ap (λ m. m.now.sizes) inv.latches))
-    (held, subst (λ n. CanTakeRow key (g.L.Law.lawful key.pages) (by_place g.L.Law.opening key.pages) c.args.sought.key held n q) is can)
+    (held, subst (λ n. CanTakeRow sizes (g.L.Law.lawful sizes.pages) (by_place g.L.Law.opening sizes.pages) c.args.sought.key held n q) is can)
 
 pub loop-at-preserved : goal.loop-at-preserved
 loop-at-preserved g c =
-    let key : Sizes = c.args.mtr.now.latches.now.sizes in
+    let sizes : Sizes = c.args.mtr.now.latches.now.sizes in
     let p : PassState = c.args.mtr.now.pass.now in let q : PassState = c.loop-at.mtr.pass.now in let t : PassState = c.take_row-last.new.mtr.pass.now in
     let inv = c.loop-at.invariant in
     let page = get_or c.pages-pages.result.now c.loop-at.at 0 in
     let up : c.loop-at.at + 1 < length c.args.path.now = let a = ap length c.pages-pages.ensures.pages in let b = c.loop-at-test.true in omega arith in
     let is : page ≡ inv.taken.node = ap (λ ps. get_or ps c.loop-at.at 0) c.pages-pages.ensures.pages
-    ∙ row_node key g.L.Trees.ROOTS (g.L.Law.lawful key.pages) (by_place g.L.Law.opening key.pages) c.shape_of.ensures.shapes c.args.sought.root c.requires.some c.requires.root c.args.sought.key c.requires.key c.args.path.now c.loop-at.at c.loop-at.last p q c.pages-pages.ensures.few inv.taken up in
-    let can = row_can key g.L.Trees.ROOTS (g.L.Law.lawful key.pages) (by_place g.L.Law.opening key.pages) c.shape_of.ensures.shapes c.args.sought.root c.requires.some c.requires.root c.args.sought.key c.requires.key c.args.path.now c.loop-at.at c.loop-at.last p q c.pages-pages.ensures.few inv.taken up in
-    let held = rows_held key g.L.Trees.ROOTS (g.L.Law.lawful key.pages) (by_place g.L.Law.opening key.pages) c.shape_of.ensures.shapes c.args.sought.root c.requires.some c.requires.root c.args.sought.key c.requires.key c.args.path.now c.loop-at.at c.loop-at.last p q c.pages-pages.ensures.few inv.taken in
+    ∙ row_node sizes g.L.Trees.ROOTS (g.L.Law.lawful sizes.pages) (by_place g.L.Law.opening sizes.pages) c.shape_of.ensures.shapes c.args.sought.root c.requires.some c.requires.root c.args.sought.key c.requires.key c.args.path.now c.loop-at.at c.loop-at.last p q c.pages-pages.ensures.few inv.taken up in
+    let can = row_can sizes g.L.Trees.ROOTS (g.L.Law.lawful sizes.pages) (by_place g.L.Law.opening sizes.pages) c.shape_of.ensures.shapes c.args.sought.root c.requires.some c.requires.root c.args.sought.key c.requires.key c.args.path.now c.loop-at.at c.loop-at.last p q c.pages-pages.ensures.few inv.taken up in
+    let held = rows_held sizes g.L.Trees.ROOTS (g.L.Law.lawful sizes.pages) (by_place g.L.Law.opening sizes.pages) c.shape_of.ensures.shapes c.args.sought.root c.requires.some c.requires.root c.args.sought.key c.requires.key c.args.path.now c.loop-at.at c.loop-at.last p q c.pages-pages.ensures.few inv.taken in
     let same = ap (λ m. m.now.sizes) inv.latches in
-    let m = pages_after (by_place g.L.Law.opening key.pages) q.view.memory.seen in
+    let m = pages_after (by_place g.L.Law.opening sizes.pages) q.view.memory.seen in
     let taken = subst (λ (s : Sizes). (held : List ℕ) → CanTakeRow s (g.L.Law.lawful s.pages) (by_place g.L.Law.opening s.pages) c.args.sought.key held page q
     → HasTakenMore s (g.L.Law.lawful s.pages) (by_place g.L.Law.opening s.pages) held (with_siblings (pages_after (by_place g.L.Law.opening s.pages) q.view.memory.seen) c.args.sought.key page) q t) same c.take_row-last.ensures.taken in
-    let one = subst (λ n. (held : List ℕ) → CanTakeRow key (g.L.Law.lawful key.pages) (by_place g.L.Law.opening key.pages) c.args.sought.key held n q
-    → HasTakenMore key (g.L.Law.lawful key.pages) (by_place g.L.Law.opening key.pages) held (with_siblings m c.args.sought.key n) q t) is taken held can in
+    let one = subst (λ n. (held : List ℕ) → CanTakeRow sizes (g.L.Law.lawful sizes.pages) (by_place g.L.Law.opening sizes.pages) c.args.sought.key held n q
+    → HasTakenMore sizes (g.L.Law.lawful sizes.pages) (by_place g.L.Law.opening sizes.pages) held (with_siblings m c.args.sought.key n) q t) is taken held can in
     let last = subst (λ n. c.take_row-last.result ≡ last_of (with_siblings m c.args.sought.key n)) is (subst (λ (s : Sizes). c.take_row-last.result ≡ last_of (with_siblings (pages_after (by_place g.L.Law.opening s.pages) q.view.memory.seen) c.args.sought.key page)) same c.take_row-last.ensures.last) in
     record {
       mtr = c.take_row-last.ensures.mtr;
       latches = c.take_row-last.ensures.latches ∙ inv.latches;
       pass = c.take_row-last.ensures.pass ∙ inv.pass;
       within = let a = ap length c.pages-pages.ensures.pages in let b = c.loop-at-test.true in omega arith;
-      taken = row_more key g.L.Trees.ROOTS (g.L.Law.lawful key.pages) (by_place g.L.Law.opening key.pages) c.shape_of.ensures.shapes c.args.sought.root c.requires.some c.requires.root c.args.sought.key c.requires.key c.args.path.now c.loop-at.at c.loop-at.last p q c.pages-pages.ensures.few inv.taken up t c.take_row-last.result one last;
+      taken = row_more sizes g.L.Trees.ROOTS (g.L.Law.lawful sizes.pages) (by_place g.L.Law.opening sizes.pages) c.shape_of.ensures.shapes c.args.sought.root c.requires.some c.requires.root c.args.sought.key c.requires.key c.args.path.now c.loop-at.at c.loop-at.last p q c.pages-pages.ensures.few inv.taken up t c.take_row-last.result one last;
     }

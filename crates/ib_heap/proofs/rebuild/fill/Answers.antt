@@ -5,7 +5,7 @@ use Rattle.ib_map.specs.Keys.{end_rank}
 use Rattle.ib_map.specs.Pairs.{Pairs, Rises, put, value_at, place_of}
 use Rattle.ib_heap.specs.Page.{HoldsTree, page_in}
 use Rattle.ib_heap.specs.Form.{page_of}
-use Rattle.ib_heap.specs.Image.{with_records, records_of}
+use Rattle.ib_heap.specs.Image.{value_with_records, records_of}
 use Rattle.ib_heap.specs.Heap.{read_heap}
 use Rattle.ib_heap.specs.Put.{put_in, place_for}
 use Rattle.ib_heap.specs.Filled.{filled}
@@ -15,7 +15,7 @@ use Rattle.ib_heap.proofs.RecordsLaws.{holds-with, records-with, with-with, with
 use Rattle.ib_heap.proofs.rebuild.fill.Goals as goal
 
 -- what a page holds after some records
-module _ (ws vs : List ℕ) (rs : Pairs) (i : ℕ) (holds : HoldsTree (page_of ws)) (is : page_of vs ≡ with_records (take i rs) (page_of ws)) where
+module _ (ws vs : List ℕ) (rs : Pairs) (i : ℕ) (holds : HoldsTree (page_of ws)) (is : page_of vs ≡ value_with_records (take i rs) (page_of ws)) where
   still-tree : HoldsTree (page_of vs)
   still-tree = subst HoldsTree (sym is) (holds-with (take i rs) (page_of ws) holds)
 
@@ -26,11 +26,11 @@ module _ (ws vs : List ℕ) (rs : Pairs) (i : ℕ) (holds : HoldsTree (page_of w
   next-absent : Rises 0 rs end_rank → i < length rs → value_at (get_or rs i (0, 0)).0 (records_of vs) ≡ None
   next-absent rises lt = ap (λ (xs : Pairs). value_at (get_or rs i (0, 0)).0 xs) so-far ∙ is-absent (take i rs) (get_or rs i (0, 0)) (take-rises 0 rs end_rank i (0, 0) rises lt)
 
-  next-put : Rises 0 rs end_rank → i < length rs → with_records (put (get_or rs i (0, 0)).0 (get_or rs i (0, 0)).1 (records_of vs)) (page_of vs) ≡ with_records (take (i + 1) rs) (page_of ws)
+  next-put : Rises 0 rs end_rank → i < length rs → value_with_records (put (get_or rs i (0, 0)).0 (get_or rs i (0, 0)).1 (records_of vs)) (page_of vs) ≡ value_with_records (take (i + 1) rs) (page_of ws)
   next-put rises lt =
       let r = get_or rs i (0, 0) in
       let all : put r.0 r.1 (records_of vs) ≡ take (i + 1) rs = ap (λ (xs : Pairs). put r.0 r.1 xs) so-far ∙ (is-put-last (take i rs) r (take-rises 0 rs end_rank i (0, 0) rises lt) ∙ sym (take_more rs i (0, 0) lt)) in
-      ap (λ (xs : Pairs). with_records xs (page_of vs)) all ∙ (ap (λ v. with_records (take (i + 1) rs) v) is ∙ with-with (take (i + 1) rs) (take i rs) (page_of ws))
+      ap (λ (xs : Pairs). value_with_records xs (page_of vs)) all ∙ (ap (λ v. value_with_records (take (i + 1) rs) v) is ∙ with-with (take (i + 1) rs) (take i rs) (page_of ws))
 
   next-place : Rises 0 rs end_rank → i < length rs → place_of (get_or rs i (0, 0)).0 (records_of vs) ≡ i
   next-place rises lt =
@@ -38,7 +38,7 @@ module _ (ws vs : List ℕ) (rs : Pairs) (i : ℕ) (holds : HoldsTree (page_of w
 
 pub loop-record-init : goal.loop-record-init
 loop-record-init c = record {
-  page = sym (ap (λ (rs : Pairs). with_records rs (page_of c.args.words.now)) (sym c.requires.none) ∙ with-same (page_of c.args.words.now));
+  page = sym (ap (λ (rs : Pairs). value_with_records rs (page_of c.args.words.now)) (sym c.requires.none) ∙ with-same (page_of c.args.words.now));
   heap = c.requires.heap ∙ sym filled-none;
   rest = λ i le. c.requires.rest i (omega arith);
 }

@@ -3,7 +3,7 @@ use Rattle.std.proofs.Common.{◌∙◌, sym, ap, subst}
 use Rattle.ib_map.specs.Keys.{end_rank}
 use Rattle.ib_map.specs.Pairs.{Pairs, Rises}
 use Rattle.ib_heap.specs.Form.{page_of}
-use Rattle.ib_heap.specs.Image.{records_of, with_records}
+use Rattle.ib_heap.specs.Image.{records_of, value_with_records}
 use Rattle.ib_heap.proofs.FormLaws.{formed-tree, head_read}
 use Rattle.ib_heap.proofs.SeekLaws.{records_ascend}
 use Rattle.ib_heap.proofs.FillLaws.{all-of}
@@ -19,5 +19,5 @@ rebuild-requires-clause-ascends c =
 
 pub returns-clause-page : goal.returns-clause-page
 returns-clause-page c =
-    c.rebuild.ensures.page ∙ (ap (λ (xs : Pairs). with_records xs (page_of c.args.words.now)) (all-of (records_of c.args.words.now) _ _ c.copy_all-len.result c.copy_all-len.ensures.records c.copy_all-len.ensures.count)
+    c.rebuild.ensures.page ∙ (ap (λ (xs : Pairs). value_with_records xs (page_of c.args.words.now)) (all-of (records_of c.args.words.now) _ _ c.copy_all-len.result c.copy_all-len.ensures.records c.copy_all-len.ensures.count)
     ∙ with-same (page_of c.args.words.now))

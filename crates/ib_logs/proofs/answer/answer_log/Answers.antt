@@ -1,7 +1,7 @@
 use Rattle.std.proofs.Common.{◌≡◌, ◌⊎◌, ℕ, List, [], Option, None, ap, inl, inr, refl}
 use Rattle.std.specs.Prelude.{Err}
 use Rattle.std.specs.Io.KnownBytes.{Appends}
-use Rattle.ib_edge.specs.Told.{IsMemoryWhere, IsWritten, Told, ends}
+use Rattle.ib_edge.specs.Told.{IsOutOfMemoryWhere, IsWritten, Told, ends}
 use Rattle.ib_edge.specs.declared.status.Status.{Status}
 use Rattle.ib_edge.specs.declared.status.Status.TheVariants.{BadLog, Done, Memory}
 use Rattle.ib_logrec.specs.declared.fault.LogFault.{LogFault}
@@ -21,7 +21,7 @@ returns-in-Ok-clause-told g c =
 -- a refused log is told by its first fault, and want of memory, where the file has none, writes nothing
 refused : (fault : LogFault) (input : List ℕ) (written now : Option (List ℕ)) (status : Status) → (fault ≡ OutOfMemory) ⊎ IsRawFault input fault → (fault ≡ OutOfMemory → file_fault input ≡ None)
     → ((fault ≡ OutOfMemory → ⊥) → IsWritten (ends BadLog (bad_log_line fault)) written now status) → (fault ≡ OutOfMemory → (status ≡ Memory) × Appends written now [])
-    → Told (AnswersLog input) (IsMemoryWhere (file_fault input ≡ None)) written now status
+    → Told (AnswersLog input) (IsOutOfMemoryWhere (file_fault input ≡ None)) written now status
 refused OutOfMemory input written now status found none told memory = let m = memory refl in inr ((m.0, none refl), m.1)
 refused fault input written now status (inl is) none told memory = let m = memory is in inr ((m.0, none is), m.1)
 refused fault input written now status (inr found) none told memory = inl (ends BadLog (bad_log_line fault), inr (fault, found, refl), told (λ is. cc))

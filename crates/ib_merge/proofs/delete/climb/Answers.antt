@@ -7,7 +7,7 @@ use Rattle.ib_page.specs.Image.{IsTreePage, records_of, level_of}
 use Rattle.ib_plans.specs.declared.TheConstants.{FEWEST_RECORDS}
 use Rattle.ib_plans.specs.Agreement.{state_or_free}
 use Rattle.ib_plans.proofs.EditLaws.{IsSome-and, state-records, state-level, there-is}
-use Rattle.ib_merge.specs.Deletes.{IsClimbedForAll}
+use Rattle.ib_merge.specs.Deletes.{IsDeleteClimbedForAll}
 use Rattle.ib_merge.proofs.ClimbLaws.{IsAtForAll, path-some, path-tree, starts, below-tree, node-chooses, node-stops_long, node-stops_none, node-merges, node-steps, root-of_tree, root-can_lift, root-ends, root-ends_lifted}
 use Rattle.ib_merge.proofs.delete.climb.Goals as goal
 
@@ -91,7 +91,7 @@ lift-requires c =
 pub returns-then-is_single : goal.returns-then-is_single
 returns-then-is_single c =
     let h : c.loop-height.height ≡ length c.args.path.now - 1 = omega arith in
-    subst (λ (xs : List ℕ). IsClimbedForAll c.args.path.now c.args.key xs c.args.work.now c.lift.new.work) (sym c.push-then-is_single.ensures)
+    subst (λ (xs : List ℕ). IsDeleteClimbedForAll c.args.path.now c.args.key xs c.args.work.now c.lift.new.work) (sym c.push-then-is_single.ensures)
     (root-ends_lifted c.args.path.now c.args.key c.args.work.now c.requires.can c.loop-height.freed c.loop-height.work
     (subst (λ n. IsAtForAll c.args.path.now c.args.key n c.loop-height.freed c.args.work.now c.loop-height.work) h c.loop-height.invariant.0)
     (single-there c.image_of-2.result.now _ c.is_single.result c.image_of-2.ensures c.is_single.ensures ∙ c.if-is_single.true) c.lift.result c.lift.new.work c.lift.ensures.child c.lift.ensures.lifted)

@@ -7,7 +7,7 @@ use Rattle.ib_page.specs.Image.{IsTreePage, records_of}
 use Rattle.ib_page.specs.Work.{WorkPage, changed_of}
 use Rattle.ib_plans.specs.Agreement.{state_or_free, memory_in, last_of}
 use Rattle.ib_plans.proofs.EditLaws.{state-records, there-is}
-use Rattle.ib_merge.specs.Deletes.{CanDelete, IsClimbedForAll, MayGivePages, GivesPages}
+use Rattle.ib_merge.specs.Deletes.{CanDelete, IsDeleteClimbedForAll, MayGivePages, GivesPages}
 use Rattle.ib_merge.proofs.ClimbLaws.{path-some, path-tree}
 use Rattle.ib_merge.proofs.FinishLaws.{may-give, given-reads, planned-all}
 use Rattle.ib_plans.proofs.PathListLaws.{last_of-at}
@@ -42,7 +42,7 @@ pub give_pages-requires : goal.give_pages-requires
 give_pages-requires c some =
     subst (λ (ps : List ℕ). MayGivePages ps c.climb-freed.new.work) (sym c.pages-3.ensures.pages)
     (may-give c.args.path.now c.args.key c.args.work.now c.requires c.climb-freed.result c.climb-freed.new.work
-    (subst (λ (ps : List ℕ). IsClimbedForAll ps c.args.key c.climb-freed.result c.args.work.now c.climb-freed.new.work) c.pages-2.ensures.pages c.climb-freed.ensures)
+    (subst (λ (ps : List ℕ). IsDeleteClimbedForAll ps c.args.key c.climb-freed.result c.args.work.now c.climb-freed.new.work) c.pages-2.ensures.pages c.climb-freed.ensures)
     (λ z. some (c.pages-3.ensures.pages ∙ z)))
 
 pub returns-clause-value : goal.returns-clause-value
@@ -53,7 +53,7 @@ returns-clause-value c =
 pub returns-clause-planned : goal.returns-clause-planned
 returns-clause-planned c pages roots root memory bits a =
     planned-all c.args.path.now c.args.key c.args.work.now c.requires c.climb-freed.result c.climb-freed.new.work
-    (subst (λ (ps : List ℕ). IsClimbedForAll ps c.args.key c.climb-freed.result c.args.work.now c.climb-freed.new.work) c.pages-2.ensures.pages c.climb-freed.ensures)
+    (subst (λ (ps : List ℕ). IsDeleteClimbedForAll ps c.args.key c.climb-freed.result c.args.work.now c.climb-freed.new.work) c.pages-2.ensures.pages c.climb-freed.ensures)
     c.give_pages.new.work (λ z. c.give_pages.ensures.none (c.pages-3.ensures.pages ∙ z))
     (λ some. subst (λ (ps : List ℕ). GivesPages ps c.climb-freed.new.work c.give_pages.new.work) c.pages-3.ensures.pages (c.give_pages.ensures.given (λ z. some (sym c.pages-3.ensures.pages ∙ z))))
     pages roots root memory bits a
@@ -61,7 +61,7 @@ returns-clause-planned c pages roots root memory bits a =
 pub returns-clause-reads : goal.returns-clause-reads
 returns-clause-reads c =
     given-reads c.args.path.now c.args.key c.args.work.now c.requires c.climb-freed.result c.climb-freed.new.work
-    (subst (λ (ps : List ℕ). IsClimbedForAll ps c.args.key c.climb-freed.result c.args.work.now c.climb-freed.new.work) c.pages-2.ensures.pages c.climb-freed.ensures)
+    (subst (λ (ps : List ℕ). IsDeleteClimbedForAll ps c.args.key c.climb-freed.result c.args.work.now c.climb-freed.new.work) c.pages-2.ensures.pages c.climb-freed.ensures)
     c.give_pages.new.work (λ z. c.give_pages.ensures.none (c.pages-3.ensures.pages ∙ z))
     (λ some. subst (λ (ps : List ℕ). GivesPages ps c.climb-freed.new.work c.give_pages.new.work) c.pages-3.ensures.pages (c.give_pages.ensures.given (λ z. some (sym c.pages-3.ensures.pages ∙ z))))
 

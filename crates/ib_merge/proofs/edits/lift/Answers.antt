@@ -7,11 +7,10 @@ use Rattle.ib_page.specs.Form.{page_of}
 use Rattle.ib_page.specs.Image.{IsTreePage, records_of}
 use Rattle.ib_page.specs.Work.{changed_of, with_changed}
 use Rattle.ib_walk.proofs.ChoiceLaws.{Some-same}
-use Rattle.ib_plans.specs.Merge.{freed_page}
+use Rattle.ib_plans.specs.Merge.{freed_page, lowered}
 use Rattle.ib_plans.specs.Agreement.{Sets, state_or_free, memory_in}
 use Rattle.ib_plans.proofs.EditLaws.{changed_of-same, changed_of-other, IsSome-and, state-records}
 use Rattle.ib_plans.proofs.MoveLaws.{filled-now}
-use Rattle.ib_merge.specs.Deletes.{lowered}
 use Rattle.ib_merge.proofs.MergeEdits.{lift-moved}
 use Rattle.ib_merge.proofs.edits.lift.Goals as goal
 

@@ -16,21 +16,21 @@ use Rattle.ib_rule.proofs.Words.{tells_by}
 use Rattle.ib_rule.proofs.laws.latch_law.Goals as goal
 
 pub returns-clause-good : goal.returns-clause-good
-returns-clause-good g c key s kept = (kept.latches.good, readers_few g.L.Law.lawful g.L.Law.opening key s kept)
+returns-clause-good g c sizes s kept = (kept.latches.good, readers_few g.L.Law.lawful g.L.Law.opening sizes s kept)
 
 pub returns-clause-counted : goal.returns-clause-counted
-returns-clause-counted g c key s latch kept inside =
-    tells_by (latches_of key) s.words latch inside (sessions_in_state s) kept.latches Lock ∙ word_of_counts (marks_in (latches_of key) s.words) (sessions_in_state s) latch kept.latches.good
+returns-clause-counted g c sizes s latch kept inside =
+    tells_by (latches_of sizes) s.words latch inside (sessions_in_state s) kept.latches Lock ∙ word_of_counts (marks_in (latches_of sizes) s.words) (sessions_in_state s) latch kept.latches.good
 
 pub returns-clause-compatible : goal.returns-clause-compatible
-returns-clause-compatible g c key s latch kept = compatible (marks_in (latches_of key) s.words) (sessions_in_state s) kept.latches.good latch
+returns-clause-compatible g c sizes s latch kept = compatible (marks_in (latches_of sizes) s.words) (sessions_in_state s) kept.latches.good latch
 
 pub returns-clause-one_next_writer : goal.returns-clause-one_next_writer
-returns-clause-one_next_writer g c key s latch i j a b kept at bt next next' = dite (ℕ_discrete i j) (λ e. e)
-    (λ n. absurd ((((compatible (marks_in (latches_of key) s.words) (sessions_in_state s) kept.latches.good latch).beside i j a b at bt n).one_next next).2 next'))
+returns-clause-one_next_writer g c sizes s latch i j a b kept at bt next next' = dite (ℕ_discrete i j) (λ e. e)
+    (λ n. absurd ((((compatible (marks_in (latches_of sizes) s.words) (sessions_in_state s) kept.latches.good latch).beside i j a b at bt n).one_next next).2 next'))
 
 pub returns-clause-orderly : goal.returns-clause-orderly
-returns-clause-orderly g c key s i a kept at = (kept.latches.good.proper i a at).orderly
+returns-clause-orderly g c sizes s i a kept at = (kept.latches.good.proper i a at).orderly
 
 found_writer : (latches : ℕ) (words : List ℕ) (v : View) (latch : ℕ) (ks : List ℕ) → AllByRecursion (IsWriter latches words v) ks → Stores latch ks → slice_index words (writer_place latch) ≡ number_in v.role
 found_writer latches words v latch [] all stores = absurd stores
@@ -39,7 +39,7 @@ found_writer latches words v latch (k ∷ ks) all stores = ⊎_elim
     (λ (rest : Stores latch ks). found_writer latches words v latch ks all.1 rest) stores
 
 pub returns-clause-writer : goal.returns-clause-writer
-returns-clause-writer g c key s latch i v kept at stores = found_writer (latches_of key) s.words v latch v.written (kept.writers i v at) stores
+returns-clause-writer g c sizes s latch i v kept at stores = found_writer (latches_of sizes) s.words v latch v.written (kept.writers i v at) stores
 
 pub returns-clause-raises : goal.returns-clause-raises
-returns-clause-raises g c key s latch kept inside = raises_few g.L.Law.lawful g.L.Law.opening key s kept latch inside
+returns-clause-raises g c sizes s latch kept inside = raises_few g.L.Law.lawful g.L.Law.opening sizes s kept latch inside

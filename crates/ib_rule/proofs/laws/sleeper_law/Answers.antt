@@ -6,10 +6,10 @@ use Rattle.ib_rule.specs.Laws.{sessions_in_state}
 use Rattle.ib_rule.proofs.laws.sleeper_law.Goals as goal
 
 pub returns-clause-sleepers : goal.returns-clause-sleepers
-returns-clause-sleepers g c key s latch i a mode level kept at waits grantable = sleeper_signalled (marks_in (latches_of key) s.words) (sessions_in_state s) kept.latches.good latch i a mode level at waits grantable
+returns-clause-sleepers g c sizes s latch i a mode level kept at waits grantable = sleeper_signalled (marks_in (latches_of sizes) s.words) (sessions_in_state s) kept.latches.good latch i a mode level at waits grantable
 
 pub returns-clause-next_writers : goal.returns-clause-next_writers
-returns-clause-next_writers g c key s latch i a level kept at waits none = next_signalled (marks_in (latches_of key) s.words) (sessions_in_state s) kept.latches.good latch i a level at waits none
+returns-clause-next_writers g c sizes s latch i a level kept at waits none = next_signalled (marks_in (latches_of sizes) s.words) (sessions_in_state s) kept.latches.good latch i a level at waits none
 
 pub returns-clause-flag : goal.returns-clause-flag
-returns-clause-flag g c key s latch i a mode level kept at waits = flag_stands (marks_in (latches_of key) s.words) (sessions_in_state s) kept.latches.good latch i a mode level at waits
+returns-clause-flag g c sizes s latch i a mode level kept at waits = flag_stands (marks_in (latches_of sizes) s.words) (sessions_in_state s) kept.latches.good latch i a mode level at waits

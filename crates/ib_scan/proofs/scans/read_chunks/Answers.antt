@@ -14,13 +14,13 @@ use Rattle.ib_scan.proofs.scans.read_chunks.Goals as goal
 
 pub scan_from-stop-requires-clause-begins : goal.scan_from-stop-requires-clause-begins
 scan_from-stop-requires-clause-begins g c =
-    let key : Sizes = c.args.latches.now.sizes in let p : PassState = c.args.pass.now in let q : PassState = c.descend_at-path.new.mtr.pass.now in
+    let sizes : Sizes = c.args.latches.now.sizes in let p : PassState = c.args.pass.now in let q : PassState = c.descend_at-path.new.mtr.pass.now in
     let first = ap (λ l. l.now.sizes) c.start-mtr.ensures.latches in
     let same = ap (λ m. m.now.sizes) c.descend_at-path.ensures.latches ∙ first in
     let laws = subst (λ (k : Sizes). Laws k.pages g.L.Trees.ROOTS (g.L.Law.lawful k.pages) (by_place g.L.Law.opening k.pages)) first c.trees_of.ensures.laws in
     let on = subst (λ (k : Sizes). HasDescended k (g.L.Law.lawful k.pages) (by_place g.L.Law.opening k.pages) c.args.sought.root c.args.sought.low false c.descend_at-path.result c.start-mtr.result.pass.now q) first c.descend_at-path.ensures.descended in
-    let d = subst (λ (s : PassState). HasDescended key (g.L.Law.lawful key.pages) (by_place g.L.Law.opening key.pages) c.args.sought.root c.args.sought.low false c.descend_at-path.result s q) c.start-mtr.ensures.started on in
-    let at = begins key g.L.Trees.ROOTS (g.L.Law.lawful key.pages) (by_place g.L.Law.opening key.pages) laws c.args.sought.root c.requires.some c.requires.root c.args.sought.low c.args.sought.high c.requires.key c.requires.ascends
+    let d = subst (λ (s : PassState). HasDescended sizes (g.L.Law.lawful sizes.pages) (by_place g.L.Law.opening sizes.pages) c.args.sought.root c.args.sought.low false c.descend_at-path.result s q) c.start-mtr.ensures.started on in
+    let at = begins sizes g.L.Trees.ROOTS (g.L.Law.lawful sizes.pages) (by_place g.L.Law.opening sizes.pages) laws c.args.sought.root c.requires.some c.requires.root c.args.sought.low c.args.sought.high c.requires.key c.requires.ascends
     c.args.out.now c.descend_at-path.result (started p) q d c.requires.room in
     let last = ap (λ ps. get_or ps (c.len.result - 1) 0) c.pages.ensures.pages ∙ path_last c.descend_at-path.result d.come.front d.come.leaf c.len.result d.come.ends c.len.ensures.count in
     let there = subst (λ (k : Sizes). IsScannedTo k (g.L.Law.lawful k.pages) (by_place g.L.Law.opening k.pages) g.L.Trees.ROOTS c.args.sought.root d.come.leaf c.args.sought.low c.args.sought.low c.args.sought.high c.args.out.now c.args.out.now q q) (sym same) at in
@@ -29,16 +29,16 @@ scan_from-stop-requires-clause-begins g c =
 
 pub returns-clause-scanned : goal.returns-clause-scanned
 returns-clause-scanned g c =
-    let key : Sizes = c.args.latches.now.sizes in let p : PassState = c.args.pass.now in let q : PassState = c.descend_at-path.new.mtr.pass.now in
+    let sizes : Sizes = c.args.latches.now.sizes in let p : PassState = c.args.pass.now in let q : PassState = c.descend_at-path.new.mtr.pass.now in
     let r : PassState = c.scan_from-stop.new.mtr.pass.now in let s : PassState = c.release_at.new.self.pass.now in
     let first = ap (λ l. l.now.sizes) c.start-mtr.ensures.latches in
     let same = ap (λ m. m.now.sizes) c.descend_at-path.ensures.latches ∙ first in
     let on = subst (λ (k : Sizes). HasDescended k (g.L.Law.lawful k.pages) (by_place g.L.Law.opening k.pages) c.args.sought.root c.args.sought.low false c.descend_at-path.result c.start-mtr.result.pass.now q) first c.descend_at-path.ensures.descended in
-    let d = subst (λ (o : PassState). HasDescended key (g.L.Law.lawful key.pages) (by_place g.L.Law.opening key.pages) c.args.sought.root c.args.sought.low false c.descend_at-path.result o q) c.start-mtr.ensures.started on in
+    let d = subst (λ (o : PassState). HasDescended sizes (g.L.Law.lawful sizes.pages) (by_place g.L.Law.opening sizes.pages) c.args.sought.root c.args.sought.low false c.descend_at-path.result o q) c.start-mtr.ensures.started on in
     let ran = subst (λ (k : Sizes). MatchOption c.scan_from-stop.result
     (HasRunToEnd k (g.L.Law.lawful k.pages) (by_place g.L.Law.opening k.pages) c.args.sought.root c.args.sought.low c.args.sought.high c.args.out.now c.scan_from-stop.new.out q r)
     (λ next. HasRunToStop k (g.L.Law.lawful k.pages) (by_place g.L.Law.opening k.pages) c.args.sought.root c.args.sought.low c.args.sought.high next c.args.out.now c.scan_from-stop.new.out q r)) same c.scan_from-stop.ensures.scanned in
-    let h = leaf_left key (g.L.Law.lawful key.pages) (by_place g.L.Law.opening key.pages) c.args.sought.root c.args.sought.low c.args.sought.high c.args.out.now c.scan_from-stop.new.out q r c.scan_from-stop.result ran in
+    let h = leaf_left sizes (g.L.Law.lawful sizes.pages) (by_place g.L.Law.opening sizes.pages) c.args.sought.root c.args.sought.low c.args.sought.high c.args.out.now c.scan_from-stop.new.out q r c.scan_from-stop.result ran in
     let left = last_step h.leaf h.image r s h.front c.release_at.ensures.released in
-    scanned_by key (g.L.Law.lawful key.pages) (by_place g.L.Law.opening key.pages) c.args.sought.root c.args.sought.low c.args.sought.high c.descend_at-path.result c.args.out.now c.scan_from-stop.new.out p q r s _ d left.aside
+    scanned_by sizes (g.L.Law.lawful sizes.pages) (by_place g.L.Law.opening sizes.pages) c.args.sought.root c.args.sought.low c.args.sought.high c.descend_at-path.result c.args.out.now c.scan_from-stop.new.out p q r s _ d left.aside
     (search rules ∙ c.finish.ensures.finished) c.scan_from-stop.result ran

@@ -10,9 +10,9 @@ use Rattle.ib_scan.proofs.scans.scan.Goals as goal
 
 pub returns-clause-fits : goal.returns-clause-fits
 returns-clause-fits g c = λ le.
-    let key : Sizes = c.args.latches.now.sizes in
-    let has : has_pages key.pages ≡ true = search rules in
-    if_any (λ answer. (h : HasScanned key (g.L.Law.lawful key.pages) (by_place g.L.Law.opening key.pages) 1 c.args.low c.args.high answer c.args.out.now c.scan_at.new.out c.args.pass.now c.scan_at.new.pass)
-    → FitsSeen key (by_place g.L.Law.opening key.pages) answer h.gone.spans c.args.pass.now c.scan_at.new.pass) c.scan_at.result
-    (λ answer. scan_fits key (g.L.Law.lawful key.pages) (by_place g.L.Law.opening key.pages) (λ xs ys. g.met.L.Law.begins key.pages xs ys has) (λ log. c.trees_law.ensures.content key.pages log has) c.args.low c.args.high c.ranges.high.fits le
+    let sizes : Sizes = c.args.latches.now.sizes in
+    let has : has_pages sizes.pages ≡ true = search rules in
+    if_any (λ answer. (h : HasScanned sizes (g.L.Law.lawful sizes.pages) (by_place g.L.Law.opening sizes.pages) 1 c.args.low c.args.high answer c.args.out.now c.scan_at.new.out c.args.pass.now c.scan_at.new.pass)
+    → FitsSeen sizes (by_place g.L.Law.opening sizes.pages) answer h.gone.spans c.args.pass.now c.scan_at.new.pass) c.scan_at.result
+    (λ answer. scan_fits sizes (g.L.Law.lawful sizes.pages) (by_place g.L.Law.opening sizes.pages) (λ xs ys. g.met.L.Law.begins sizes.pages xs ys has) (λ log. c.trees_law.ensures.content sizes.pages log has) c.args.low c.args.high c.ranges.high.fits le
     answer c.args.out.now c.scan_at.new.out c.args.pass.now c.scan_at.new.pass)

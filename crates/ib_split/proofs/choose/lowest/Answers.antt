@@ -2,9 +2,9 @@
 use Rattle.std.proofs.Common.{◌≡◌, ◌<◌, ◌∙◌, ◌+◌, ℕ, true, false, [], ◌∷◌, ◌++◌, length, length-append, append_assoc, refl, Option, Some, None, ap, sym, subst, arith}
 use Rattle.std.specs.Prelude.{IsSome, IsNone, IfSome, ◌↔◌}
 use Rattle.ib_page.specs.Space.{is_taken}
-use Rattle.ib_walk.specs.Full.{free_from}
+use Rattle.ib_walk.specs.Full.{free_pages_from}
 use Rattle.ib_plans.specs.Agreement.{bits_in}
-use Rattle.ib_split.proofs.FreeLaws.{free_from-none, bits_in-taken, free-taken}
+use Rattle.ib_split.proofs.FreeLaws.{free_pages_from-none, bits_in-taken, free-taken}
 use Rattle.ib_split.proofs.choose.lowest.Goals as goal
 
 some-unless : (o : Option ℕ) (P : Type 0) → IsNone o ↔ P → (P → ⊥) → IsSome o
@@ -14,9 +14,9 @@ some-unless (Some x) P none not = refl
 pub unwrap-page-requires : goal.unwrap-page-requires
 unwrap-page-requires c =
     some-unless c.lowest_free.result _ c.lowest_free.ensures.none (λ all.
-    let none = free_from-none (bits_in c.args.pages c.loop-taken.space) 0 c.args.pages (λ q le lt. bits_in-taken c.args.pages c.loop-taken.space q (omega arith) (all q (omega arith))) in
+    let none = free_pages_from-none (bits_in c.args.pages c.loop-taken.space) 0 c.args.pages (λ q le lt. bits_in-taken c.args.pages c.loop-taken.space q (omega arith) (all q (omega arith))) in
     let whole = ap length c.loop-taken.invariant.0 in
-    let parts = length-append c.loop-taken.path (free_from (bits_in c.args.pages c.loop-taken.space) 0 c.args.pages) in
+    let parts = length-append c.loop-taken.path (free_pages_from (bits_in c.args.pages c.loop-taken.space) 0 c.args.pages) in
     let nothing = ap length none in
     let count = c.loop-taken.invariant.1 in let lt = c.loop-taken-test.true in let free = c.requires.free in omega arith)
 
@@ -35,7 +35,7 @@ loop-taken-preserved c =
     c.take.ensures in
     let count : length c.push.new.self ≡ c.loop-taken._taken + 1 = let l = ap length c.push.ensures in let a = length-append c.loop-taken.path (c.unwrap-page.result ∷ []) in let n = c.loop-taken.invariant.1 in omega arith in (
       c.loop-taken.invariant.0 ∙ (ap (λ xs. c.loop-taken.path ++ xs) taken
-          ∙ (sym (append_assoc c.loop-taken.path (c.unwrap-page.result ∷ []) (free_from (bits_in c.args.pages c.take.new.self) 0 c.args.pages))
-          ∙ ap (λ xs. xs ++ free_from (bits_in c.args.pages c.take.new.self) 0 c.args.pages) (sym c.push.ensures))),
+          ∙ (sym (append_assoc c.loop-taken.path (c.unwrap-page.result ∷ []) (free_pages_from (bits_in c.args.pages c.take.new.self) 0 c.args.pages))
+          ∙ ap (λ xs. xs ++ free_pages_from (bits_in c.args.pages c.take.new.self) 0 c.args.pages) (sym c.push.ensures))),
       count,
     )

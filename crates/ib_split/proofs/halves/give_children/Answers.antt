@@ -11,7 +11,7 @@ use Rattle.ib_heap.proofs.FilledLaws.{filled-more}
 use Rattle.ib_page.specs.Page.{PageValue, HoldsTree, page_in}
 use Rattle.ib_page.specs.Page.PageValue.{Malformed, Free, Tree}
 use Rattle.ib_page.specs.Form.{page_of}
-use Rattle.ib_page.specs.Image.{records_of, with_records, with_level}
+use Rattle.ib_page.specs.Image.{records_of, value_with_records, with_level}
 use Rattle.ib_split.proofs.HalfLaws.{put-done, records-with_level, records-with_records}
 use Rattle.ib_split.proofs.halves.give_children.Goals as goal
 
@@ -29,7 +29,7 @@ returns-clause-heap c =
     c.insert.ensures.duplicate c.insert.ensures.full c.insert.ensures.never_missing c.insert.ensures.heap in
     let one : read_heap c.insert.new.self ≡ filled 1 =
     first-put ∙ (ap (λ (rs : Pairs). put_in (place_of LEAST rs) (read_heap c.set_level.new.self)) none ∙ (ap (put_in 0) (c.set_level.ensures.heap ∙ c.requires.empty_heap) ∙ filled-more 0)) in
-    let page : page_of c.insert.new.self ≡ with_records (put LEAST c.args.left (records_of c.set_level.new.self)) (page_of c.set_level.new.self) =
+    let page : page_of c.insert.new.self ≡ value_with_records (put LEAST c.args.left (records_of c.set_level.new.self)) (page_of c.set_level.new.self) =
     put-done _ c.insert.result LEAST (records_of c.set_level.new.self) (ap (value_at LEAST) none) (let l = ap (λ (rs : Pairs). length rs) none in omega arith)
     c.insert.ensures.duplicate c.insert.ensures.full c.insert.ensures.never_missing c.insert.ensures.inserted in
     let records : records_of c.insert.new.self ≡ (LEAST, c.args.left) ∷ [] =

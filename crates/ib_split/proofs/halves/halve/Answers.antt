@@ -5,7 +5,7 @@ use Rattle.ib_heap.specs.declared.TheConstants.{MOST_RECORDS}
 use Rattle.ib_heap.specs.Filled.{filled}
 use Rattle.ib_page.specs.Form.{page_of}
 use Rattle.ib_page.specs.Page.{page_in}
-use Rattle.ib_page.specs.Image.{records_of, with_records}
+use Rattle.ib_page.specs.Image.{records_of, value_with_records}
 use Rattle.ib_plans.specs.declared.TheConstants.{LEFT_RECORDS}
 use Rattle.ib_plans.specs.Split.{left_part, right_part}
 use Rattle.ib_split.proofs.HalfLaws.{take-put_low, drop-put_low, take-put_high, drop-put_high, OnOk-put, value_at-take, value_at-drop, records-with_records, put-twice}
@@ -23,11 +23,11 @@ returns-then-place_in-lt-LEFT_RECORDS-clause-left c =
 
 pub returns-then-place_in-lt-LEFT_RECORDS-clause-right : goal.returns-then-place_in-lt-LEFT_RECORDS-clause-right
 returns-then-place_in-lt-LEFT_RECORDS-clause-right c =
-    c.cut.ensures.right ∙ ap (λ (rs : Pairs). with_records rs (page_of c.args.right.now)) (sym (drop-put_low c.args.key c.args.value (LEFT_RECORDS - 1) (records_of c.args.left.now) (let e = c.place_in.ensures in let l = c.if-place_in-lt-LEFT_RECORDS.true in omega arith)))
+    c.cut.ensures.right ∙ ap (λ (rs : Pairs). value_with_records rs (page_of c.args.right.now)) (sym (drop-put_low c.args.key c.args.value (LEFT_RECORDS - 1) (records_of c.args.left.now) (let e = c.place_in.ensures in let l = c.if-place_in-lt-LEFT_RECORDS.true in omega arith)))
 
 pub returns-else-place_in-lt-LEFT_RECORDS-clause-left : goal.returns-else-place_in-lt-LEFT_RECORDS-clause-left
 returns-else-place_in-lt-LEFT_RECORDS-clause-left c =
-    c.cut-else-place_in-lt-LEFT_RECORDS.ensures.left ∙ ap (λ (rs : Pairs). with_records rs (page_of c.args.left.now)) (sym (take-put_high c.args.key c.args.value LEFT_RECORDS (records_of c.args.left.now) (let e = c.place_in.ensures in let l = c.if-place_in-lt-LEFT_RECORDS.false in omega arith)))
+    c.cut-else-place_in-lt-LEFT_RECORDS.ensures.left ∙ ap (λ (rs : Pairs). value_with_records rs (page_of c.args.left.now)) (sym (take-put_high c.args.key c.args.value LEFT_RECORDS (records_of c.args.left.now) (let e = c.place_in.ensures in let l = c.if-place_in-lt-LEFT_RECORDS.false in omega arith)))
 
 pub returns-else-place_in-lt-LEFT_RECORDS-clause-right : goal.returns-else-place_in-lt-LEFT_RECORDS-clause-right
 returns-else-place_in-lt-LEFT_RECORDS-clause-right c =

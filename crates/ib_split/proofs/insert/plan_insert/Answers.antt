@@ -7,13 +7,13 @@ use Rattle.ib_map.specs.Pairs.{value_at}
 use Rattle.ib_page.specs.Work.{WorkPage}
 use Rattle.ib_walk.specs.Full.{need_of, chosen}
 use Rattle.ib_plans.specs.Agreement.{memory_in, reads_of, last_of}
-use Rattle.ib_split.specs.Inserts.{CanInsert, IsClimbedForAll, IsPlannedForAll, MayTakePages, TakesPages}
+use Rattle.ib_split.specs.Inserts.{CanInsert, IsInsertClimbedForAll, IsPlannedInsertForAll, MayTakePages, TakesPages}
 use Rattle.ib_split.proofs.Climbing.{has-room}
 use Rattle.ib_split.proofs.Planning.{AreFresh-take, chosen-below, planned-alone, may-take, planned-taken}
 use Rattle.ib_split.proofs.insert.plan_insert.Goals as goal
 
 -- where a path was climbed, page 0 makes it the plan
-module _ (path fresh : List ℕ) (key : MapKey) (value used : ℕ) (old mid : List WorkPage) (can : CanInsert path fresh key old) (climbed : IsClimbedForAll path fresh key value used old mid)
+module _ (path fresh : List ℕ) (key : MapKey) (value used : ℕ) (old mid : List WorkPage) (can : CanInsert path fresh key old) (climbed : IsInsertClimbedForAll path fresh key value used old mid)
     (few : used ≤ length fresh) where
   count : length (take used fresh) ≡ used
   count = let t = length-take used fresh in omega arith
@@ -21,7 +21,7 @@ module _ (path fresh : List ℕ) (key : MapKey) (value used : ℕ) (old mid : Li
   below : (pages : ℕ) (bits : ℕ → ℕ) (need : ℕ) → fresh ≡ chosen bits pages need → AllByRecursion (λ q. q < pages) (take used fresh)
   below pages bits need is = subst (λ xs. AllByRecursion (λ q. q < pages) (take used xs)) (sym is) (chosen-below bits pages need used)
 
-  alone : used ≡ 0 → IsPlannedForAll path fresh key value old mid
+  alone : used ≡ 0 → IsPlannedInsertForAll path fresh key value old mid
   alone none pages roots root m bits agrees fits =
       planned-alone pages agrees.few (take used fresh) m _ bits _ _ _ old mid (climbed pages roots root m bits agrees fits) agrees.space
       (below pages bits (need_of m key root) fits.chosen_are) (let c = count in omega arith)
@@ -33,7 +33,7 @@ module _ (path fresh : List ℕ) (key : MapKey) (value used : ℕ) (old mid : Li
       (below can.pages can.bits (need_of can.memory key can.root) can.fits.chosen_are) (let c = count in omega arith)
       (can.images.space_there (omega arith)) (AreFresh-take used fresh can.bits x.free) can.clocks.1
 
-  taken : 0 < used → (new : List WorkPage) → TakesPages (take used fresh) mid new → IsPlannedForAll path fresh key value old new
+  taken : 0 < used → (new : List WorkPage) → TakesPages (take used fresh) mid new → IsPlannedInsertForAll path fresh key value old new
   taken some new takes pages roots root m bits agrees fits =
       planned-taken pages agrees.few (take used fresh) m _ bits _ _ _ old mid (climbed pages roots root m bits agrees fits) agrees.space
       (below pages bits (need_of m key root) fits.chosen_are) (let c = count in omega arith) new takes
@@ -45,9 +45,9 @@ module _ (path fresh : List ℕ) (key : MapKey) (value used : ℕ) (old mid : Li
   reads-taken some new takes = (taken some new takes can.pages can.roots can.root can.memory can.bits can.agrees can.fits).reads
 
 -- the climb is along the path and over the fresh pages
-climb-of : (path path2 fresh fresh2 : List ℕ) (key : MapKey) (value used : ℕ) (old mid : List WorkPage) → path2 ≡ path → fresh2 ≡ fresh → IsClimbedForAll path2 fresh2 key value used old mid → IsClimbedForAll path fresh key value used old mid
+climb-of : (path path2 fresh fresh2 : List ℕ) (key : MapKey) (value used : ℕ) (old mid : List WorkPage) → path2 ≡ path → fresh2 ≡ fresh → IsInsertClimbedForAll path2 fresh2 key value used old mid → IsInsertClimbedForAll path fresh key value used old mid
 climb-of path path2 fresh fresh2 key value used old mid p f climbed =
-    subst (λ xs. IsClimbedForAll path xs key value used old mid) f (subst (λ xs. IsClimbedForAll xs fresh2 key value used old mid) p climbed)
+    subst (λ xs. IsInsertClimbedForAll path xs key value used old mid) f (subst (λ xs. IsInsertClimbedForAll xs fresh2 key value used old mid) p climbed)
 
 none-of : (o : Option ℕ) → is_some o ≡ false → o ≡ None
 none-of None e = refl

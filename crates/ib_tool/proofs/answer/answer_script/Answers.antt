@@ -2,7 +2,7 @@ use Rattle.std.proofs.Common.{◌≡◌, ℕ, List, ap, inl, inr}
 use Rattle.std.specs.Prelude.{Err, None}
 use Rattle.ib_edge.proofs.Telling.{owed_good, told_as, told_fault}
 use Rattle.ib_edge.specs.Lines.{readings_by}
-use Rattle.ib_edge.specs.Told.{Ending, IsMemory, IsMemoryWhere}
+use Rattle.ib_edge.specs.Told.{Ending, IsOutOfMemory, IsOutOfMemoryWhere}
 use Rattle.ib_edge.specs.declared.status.Status.TheVariants.{Done}
 use Rattle.ib_script.specs.Script.{IsScript, ScriptValue, first_fault, reading_of}
 use Rattle.ib_tool.specs.Answers.{AnswersScript, IsScriptText, MayLackScript}
@@ -18,7 +18,7 @@ owed_output shape input script e good is owed =
 pub returns-in-Ok-clause-told : goal.returns-in-Ok-clause-told
 returns-in-Ok-clause-told g c =
     let script = c.in-Ok.script in
-    told_as (λ e. (e.status ≡ Done) × IsWrittenRun c.args.shape script e.text) (AnswersScript c.args.shape c.args.input.now) IsMemory (IsMemoryWhere (MayLackScript c.args.input.now))
+    told_as (λ e. (e.status ≡ Done) × IsWrittenRun c.args.shape script e.text) (AnswersScript c.args.shape c.args.input.now) IsOutOfMemory (IsOutOfMemoryWhere (MayLackScript c.args.input.now))
     (λ e owed. owed_output c.args.shape c.args.input.now script e c.in-Ok.ensures.good c.in-Ok.ensures.script owed) (λ s calm. (calm, inr c.in-Ok.ensures.good)) _ _ _ c.run.ensures.told
 
 pub returns-in-Err-clause-told : goal.returns-in-Err-clause-told

@@ -3,14 +3,14 @@ use Rattle.std.proofs.Common.{◌+◌, ◌<◌, ◌≤◌, ℕ, List, length, ge
 use Rattle.std.specs.List.{All}
 use Rattle.ib_map.specs.Keys.{MapKey}
 use Rattle.ib_page.specs.Work.{WorkPage}
-use Rattle.ib_merge.specs.Deletes.{HasSiblings, nodes_of}
+use Rattle.ib_merge.specs.Deletes.{HasSiblings, nodes_on_path}
 use Rattle.ib_trials.specs.Reads.{HasBehind}
 use Rattle.ib_trials.proofs.ReadLaws.{nodes-all}
 use Rattle.ib_trials.proofs.beside.has_siblings.Goals as goal
 
 both : (key : MapKey) (work : List WorkPage) (path : List ℕ) (k : ℕ) → length path ≤ k + 1
     → ((i : ℕ) → i < k → HasSiblings key work (get_or path i 0) × HasBehind key work (get_or path i 0))
-    → All (HasSiblings key work) (nodes_of path) × All (HasBehind key work) (nodes_of path)
+    → All (HasSiblings key work) (nodes_on_path path) × All (HasBehind key work) (nodes_on_path path)
 both key work path k long at = (nodes-all (HasSiblings key work) path k long (λ i lt. (at i lt).0), nodes-all (HasBehind key work) path k long (λ i lt. (at i lt).1))
 
 pub returns : goal.returns

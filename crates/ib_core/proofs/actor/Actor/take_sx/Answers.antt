@@ -3,7 +3,7 @@ use Rattle.std.proofs.Common.{ap, arith}
 use Rattle.std.proofs.lemmas.Int.{ints}
 use Rattle.ib_word.specs.declared.word.LockWord.{LockWord}
 use Rattle.ib_levels.specs.declared.level.Mode.TheVariants.{Sx}
-use Rattle.ib_levels.specs.Holding.{changed}
+use Rattle.ib_levels.specs.Holding.{changed_on}
 use Rattle.ib_core.specs.Actor.{session_of}
 use Rattle.ib_core.specs.Takings.{one_more}
 use Rattle.ib_core.proofs.Weighs.{first_sx_taken, further_sx_taken, sum_moves}
@@ -14,6 +14,6 @@ pub returns-clause-weighs : goal.returns-clause-weighs
 returns-clause-weighs c =
     let single = c.requires.can.proper.single c.args.latch.0 in
     elim c.if-mine-eq0-3.branch [
-      | then-mine-eq0-3 w ↦ let at = ap (λ (k : LockWord). k.0) w.word-is in let t = first_sx_taken c.args.latch.0 (session_of c.args.self.now) single (omega (arith, c.else-mine-eq0.either)) (omega arith) in sum_moves c.args.latch.0 c.args.word.now.0 (session_of c.args.self.now) _ _ (changed c.args.latch.0 (one_more Sx) c.args.self.now.held.items) c.add_one.ensures.items (omega (arith, ints))
-      | else-mine-eq0-3 w ↦ let at = ap (λ (k : LockWord). k.0) w.word-is in let t = further_sx_taken c.args.latch.0 (session_of c.args.self.now) single (omega (arith, c.else-mine-eq0.either)) (omega arith) in sum_moves c.args.latch.0 c.args.word.now.0 (session_of c.args.self.now) _ _ (changed c.args.latch.0 (one_more Sx) c.args.self.now.held.items) c.add_one.ensures.items (omega (arith, ints))
+      | then-mine-eq0-3 w ↦ let at = ap (λ (k : LockWord). k.0) w.word-is in let t = first_sx_taken c.args.latch.0 (session_of c.args.self.now) single (omega (arith, c.else-mine-eq0.either)) (omega arith) in sum_moves c.args.latch.0 c.args.word.now.0 (session_of c.args.self.now) _ _ (changed_on c.args.latch.0 (one_more Sx) c.args.self.now.held.items) c.add_one.ensures.items (omega (arith, ints))
+      | else-mine-eq0-3 w ↦ let at = ap (λ (k : LockWord). k.0) w.word-is in let t = further_sx_taken c.args.latch.0 (session_of c.args.self.now) single (omega (arith, c.else-mine-eq0.either)) (omega arith) in sum_moves c.args.latch.0 c.args.word.now.0 (session_of c.args.self.now) _ _ (changed_on c.args.latch.0 (one_more Sx) c.args.self.now.held.items) c.add_one.ensures.items (omega (arith, ints))
     ]

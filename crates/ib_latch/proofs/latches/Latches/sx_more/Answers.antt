@@ -11,5 +11,5 @@ pub store_writer-requires-clause-claims : goal.store_writer-requires-clause-clai
 store_writer-requires-clause-claims g c =
     let s = claims_are c.args.latch.0 c.args.pass.now.view.session in
     let k = claims_kept Sx c.args.latch.0 c.args.pass.now.view.session.held in
-    let e = ap (λ (p : PassState). p.view.session.held) c.sx_off_under_x.ensures.taken in
+    let e = ap (λ (p : PassState). p.view.session.held) c.take_sx_under_x.ensures.taken in
     subst (λ (held : List Holding). 0 < on c.args.latch.0 (λ h. h.sx + h.x) held) (sym e) (omega arith)

@@ -4,7 +4,7 @@ use Rattle.ib_word.specs.Word.{cell_of}
 use Rattle.ib_core.specs.declared.session.Session.{Session}
 use Rattle.ib_core.specs.Responses.{latch_of}
 use Rattle.ib_core.specs.Turns.{word_for}
-use Rattle.ib_rule.specs.declared.kind.Kind.TheVariants.{Try}
+use Rattle.ib_rule.specs.declared.kind.StepKind.TheVariants.{Try}
 use Rattle.ib_rule.specs.Afterwards.{tried_on}
 use Rattle.ib_rule.specs.Pass.{PassState, with_view}
 use Rattle.ib_rule.specs.Steps.{view_after}

@@ -15,8 +15,8 @@ act-end-requires-clause-allowed g c = end_allowed g.L.Law.lawful g.L.Law.opening
 
 pub returns-clause-looked : goal.returns-clause-looked
 returns-clause-looked g c =
-    let key : Sizes = c.self.inside.table.shared.key in
+    let sizes : Sizes = c.self.inside.table.shared.key in
     let mine = ap (λ (p : PassState). p.view) c.pass.view_is in
-    let sizes = c.self.invariant.key ∙ ap (λ (o : SpaceState). o.sizes) c.self.view_is in
-    subst (λ (z : Sizes × View). IsLook z.0 (g.L.Law.lawful z.0.pages) z.1 c.act-end.new.seat.me.0.memory.seen) (λ j. (sizes j, mine j))
-    (looked key (g.L.Law.lawful key.pages) (by_place g.L.Law.opening key.pages) c.pass.inside.seat.me.0 c.act-end.result c.act-end.new.seat.me.0.memory.seen c.act-end.ensures.told.0.view.1)
+    let same_sizes = c.self.invariant.key ∙ ap (λ (o : SpaceState). o.sizes) c.self.view_is in
+    subst (λ (z : Sizes × View). IsLook z.0 (g.L.Law.lawful z.0.pages) z.1 c.act-end.new.seat.me.0.memory.seen) (λ j. (same_sizes j, mine j))
+    (looked sizes (g.L.Law.lawful sizes.pages) (by_place g.L.Law.opening sizes.pages) c.pass.inside.seat.me.0 c.act-end.result c.act-end.new.seat.me.0.memory.seen c.act-end.ensures.told.0.view.1)

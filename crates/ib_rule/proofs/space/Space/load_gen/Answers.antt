@@ -1,6 +1,6 @@
 use Rattle.std.proofs.Common.{refl, ap, ◌∙◌}
 use Rattle.ib_core.specs.Turns.{word_for}
-use Rattle.ib_rule.specs.declared.kind.Kind.TheVariants.{Turn}
+use Rattle.ib_rule.specs.declared.kind.StepKind.TheVariants.{Turn}
 use Rattle.ib_rule.specs.Pass.{with_view}
 use Rattle.ib_rule.specs.Steps.{view_after}
 use Rattle.ib_rule.proofs.MarkSteps.{gen_step, gen_word}

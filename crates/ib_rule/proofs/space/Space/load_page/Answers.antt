@@ -1,7 +1,7 @@
 -- The pass knows more of the page, and nothing else of it is changed.
 use Rattle.std.proofs.Common.{◌++◌, refl, ap}
 use Rattle.ib_map.specs.declared.TheConstants.{PAGE_WORDS}
-use Rattle.ib_rule.specs.declared.memory.Memory.{Memory}
+use Rattle.ib_rule.specs.declared.memory.Knowledge.{Knowledge}
 use Rattle.ib_rule.specs.Loads.{loads_below}
 use Rattle.ib_rule.specs.Pass.{PassState}
 use Rattle.ib_rule.proofs.Passing.{pass_knows}
@@ -19,7 +19,7 @@ load_words-requires-clause-may g c =
 
 pub invariant_of-pass : goal.invariant_of-pass
 invariant_of-pass g c =
-    let before : Memory = c.pass.inside.seat.me.0.memory in
+    let before : Knowledge = c.pass.inside.seat.me.0.memory in
     let told = c.load_words.ensures in
     let front = c.pass.invariant.front in
     pass_knows c.pass.inside _ (record before { loaded = loads_below c.args.page c.load_words.new.out PAGE_WORDS ++ before.loaded }) c.pass.invariant

@@ -1,7 +1,7 @@
 use Rattle.std.proofs.Common.{ap, ◌∙◌}
 use Rattle.ib_core.specs.declared.session.Session.{Session}
 use Rattle.ib_core.specs.Turns.{word_for}
-use Rattle.ib_rule.specs.declared.kind.Kind.TheVariants.{Turn}
+use Rattle.ib_rule.specs.declared.kind.StepKind.TheVariants.{Turn}
 use Rattle.ib_rule.specs.Pass.{PassState, with_view}
 use Rattle.ib_rule.specs.Steps.{view_after}
 use Rattle.ib_rule.specs.Conditions.{flag_event}

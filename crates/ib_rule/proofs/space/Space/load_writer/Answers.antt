@@ -1,12 +1,14 @@
 use Rattle.std.proofs.Common.{◌<◌, true, refl, ap, ◌∙◌, sym, subst, arith}
+use Rattle.ib_core.specs.declared.event.Event.{Event}
 use Rattle.ib_core.specs.declared.event.Event.TheVariants.{Usx}
 use Rattle.ib_core.specs.Sessions.{claims}
 use Rattle.ib_core.proofs.OnLatch.{counted}
 use Rattle.ib_core.specs.declared.latch_word.LatchWord.TheVariants.{Writer}
-use Rattle.ib_core.specs.Turns.{Leaves, word_for}
-use Rattle.ib_rule.specs.declared.kind.Kind.TheVariants.{Turn}
+use Rattle.ib_core.specs.Turns.{Leaves, turn_at, word_for}
+use Rattle.ib_rule.specs.declared.kind.StepKind.TheVariants.{Turn}
 use Rattle.ib_rule.specs.Pass.{with_view}
 use Rattle.ib_rule.specs.Steps.{view_after}
+use Rattle.ib_rule.specs.Told.{IsEvent}
 use Rattle.ib_rule.specs.Conditions.{CanTake, writer_event}
 use Rattle.ib_rule.proofs.MarkSteps.{writer_step, writer_word}
 use Rattle.ib_rule.proofs.Outcomes.{counted_back_view, counted_sx_view}
@@ -18,6 +20,17 @@ turn-requires-clause-word g c = ap (λ e. word_for e c.args.pass.now.view.sessio
 
 pub turn-requires-clause-step : goal.turn-requires-clause-step
 turn-requires-clause-step g c = λ proper n found. subst (λ e. CanTake e c.args.pass.now.view n × Leaves Writer e c.args.pass.now.view.session n n) (sym c.writer_event-event.ensures) (writer_step c.args.pass.now.view c.args.latch.0 n c.args.back c.requires.grows)
+
+pub returns-clause-turn : goal.returns-clause-turn
+returns-clause-turn g c =
+    let v = c.args.pass.now.view in let n = c.turn.result.0 in let e = c.writer_event-event.ensures in (
+      n,
+      (
+        c.turn.ensures.view ∙ ap (λ (f : Event). with_view c.args.pass.now (view_after (Turn f) n v)) e,
+        subst (λ (f : Event). IsEvent f v.session (turn_at f n v.session).answer c.turn.new.pass.view.session) e
+            (subst (λ a. IsEvent c.writer_event-event.result v.session a c.turn.new.pass.view.session) c.turn.ensures.answer c.turn.ensures.event),
+      ),
+    )
 
 pub returns-clause-taken : goal.returns-clause-taken
 returns-clause-taken g c = λ further.

@@ -2,11 +2,11 @@ use Rattle.std.proofs.Common.{refl, ap, ◌∙◌}
 use Rattle.ib_core.specs.declared.event.Event.TheVariants.{Ux}
 use Rattle.ib_rule.specs.Pass.{with_view}
 use Rattle.ib_rule.proofs.LockSteps.{last_x_step}
-use Rattle.ib_rule.specs.declared.kind.Kind.TheVariants.{Turn}
+use Rattle.ib_rule.specs.declared.kind.StepKind.TheVariants.{Turn}
 use Rattle.ib_rule.specs.Steps.{view_after}
 use Rattle.ib_rule.proofs.Outcomes.{x_back_view}
 use Rattle.ib_rule.proofs.Results.{last_x_session}
-use Rattle.ib_rule.proofs.space.Space.x_on.Goals as goal
+use Rattle.ib_rule.proofs.space.Space.give_x.Goals as goal
 
 pub turn-found-requires-clause-step : goal.turn-found-requires-clause-step
 turn-found-requires-clause-step g c = λ proper n found. last_x_step c.args.pass.now.view c.args.latch.0 n c.requires.free proper c.requires.last found

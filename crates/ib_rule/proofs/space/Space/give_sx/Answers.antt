@@ -2,12 +2,12 @@ use Rattle.std.proofs.Common.{◌-◌, refl, ap, ◌∙◌}
 use Rattle.ib_word.specs.Word.{cell_of}
 use Rattle.ib_word.specs.declared.word.TheConstants.{X_LOCK_HALF_DECR}
 use Rattle.ib_core.specs.declared.event.Event.TheVariants.{Usx}
-use Rattle.ib_rule.specs.declared.kind.Kind.TheVariants.{Turn}
+use Rattle.ib_rule.specs.declared.kind.StepKind.TheVariants.{Turn}
 use Rattle.ib_rule.specs.Steps.{view_after}
 use Rattle.ib_rule.specs.Pass.{with_view}
 use Rattle.ib_rule.proofs.Outcomes.{sx_back_view}
 use Rattle.ib_rule.proofs.Results.{last_sx_session}
-use Rattle.ib_rule.proofs.space.Space.sx_on.Goals as goal
+use Rattle.ib_rule.proofs.space.Space.give_sx.Goals as goal
 
 pub returns-clause-left : goal.returns-clause-left
 returns-clause-left g c =

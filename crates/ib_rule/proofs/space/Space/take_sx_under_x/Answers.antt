@@ -4,7 +4,7 @@ use Rattle.ib_core.proofs.OnLatch.{counted}
 use Rattle.ib_rule.specs.Pass.{with_view}
 use Rattle.ib_rule.proofs.LockSteps.{sx_under_x_step}
 use Rattle.ib_rule.proofs.Outcomes.{further_sx_view}
-use Rattle.ib_rule.proofs.space.Space.sx_off_under_x.Goals as goal
+use Rattle.ib_rule.proofs.space.Space.take_sx_under_x.Goals as goal
 
 pub turn-found-requires-clause-step : goal.turn-found-requires-clause-step
 turn-found-requires-clause-step g c = λ proper n found. sx_under_x_step c.args.pass.now.view c.args.latch.0 n c.requires.free proper c.requires.grows c.requires.owns_x c.requires.no_sx found

@@ -3,7 +3,7 @@ use Rattle.ib_core.specs.Sessions.{holdings, x_grants}
 use Rattle.ib_rule.specs.Pass.{PassState, with_view}
 use Rattle.ib_rule.proofs.LockSteps.{either_small, further_x_step}
 use Rattle.ib_rule.proofs.Outcomes.{further_x_view}
-use Rattle.ib_rule.proofs.space.Space.x_off_again.Goals as goal
+use Rattle.ib_rule.proofs.space.Space.take_x_again.Goals as goal
 
 pub counts-requires : goal.counts-requires
 counts-requires g c = subst (λ a. holdings c.args.latch.0 a ≤ 1) (sym c.pass.invariant.session) (c.pass.invariant.proper.single c.args.latch.0)

@@ -3,11 +3,11 @@ use Rattle.ib_core.specs.Sessions.{holdings, x_grants}
 use Rattle.ib_core.specs.declared.event.Event.TheVariants.{Ux}
 use Rattle.ib_rule.specs.Pass.{PassState, with_view}
 use Rattle.ib_rule.proofs.LockSteps.{either_small, x_back_step}
-use Rattle.ib_rule.specs.declared.kind.Kind.TheVariants.{Turn}
+use Rattle.ib_rule.specs.declared.kind.StepKind.TheVariants.{Turn}
 use Rattle.ib_rule.specs.Steps.{view_after}
 use Rattle.ib_rule.proofs.Outcomes.{x_back_view}
 use Rattle.ib_rule.proofs.Results.{x_back_session}
-use Rattle.ib_rule.proofs.space.Space.x_on_again.Goals as goal
+use Rattle.ib_rule.proofs.space.Space.give_x_again.Goals as goal
 
 pub counts-requires : goal.counts-requires
 counts-requires g c = subst (λ a. holdings c.args.latch.0 a ≤ 1) (sym c.pass.invariant.session) (c.pass.invariant.proper.single c.args.latch.0)

@@ -4,12 +4,12 @@ use Rattle.ib_core.proofs.OnLatch.{counted}
 use Rattle.ib_word.specs.Word.{cell_of}
 use Rattle.ib_word.specs.declared.word.TheConstants.{X_LOCK_HALF_DECR}
 use Rattle.ib_core.specs.declared.event.Event.TheVariants.{Usx}
-use Rattle.ib_rule.specs.declared.kind.Kind.TheVariants.{Turn}
+use Rattle.ib_rule.specs.declared.kind.StepKind.TheVariants.{Turn}
 use Rattle.ib_rule.specs.Steps.{view_after}
 use Rattle.ib_rule.specs.Pass.{with_view}
 use Rattle.ib_rule.proofs.Outcomes.{sx_back_view}
 use Rattle.ib_rule.proofs.Results.{sx_back_session}
-use Rattle.ib_rule.proofs.space.Space.sx_on_under_x.Goals as goal
+use Rattle.ib_rule.proofs.space.Space.give_sx_under_x.Goals as goal
 
 pub returns-clause-left : goal.returns-clause-left
 returns-clause-left g c =

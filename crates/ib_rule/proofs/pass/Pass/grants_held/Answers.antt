@@ -2,7 +2,7 @@ use Rattle.std.proofs.Common.{ℕ, ◌≤◌, ap, ◌∙◌, sym, subst}
 use Rattle.ib_core.specs.declared.session.Session.{Session}
 use Rattle.ib_core.specs.Sessions.{holdings}
 use Rattle.ib_rule.proofs.HeldNow.{held_few}
-use Rattle.ib_rule.proofs.pass.Pass.held.Goals as goal
+use Rattle.ib_rule.proofs.pass.Pass.grants_held.Goals as goal
 
 pub grants_of-requires : goal.grants_of-requires
 grants_of-requires c =
