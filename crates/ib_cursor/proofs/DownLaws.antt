@@ -1,7 +1,7 @@
 -- How far a descent has come: at the root, one level lower, and at its end.
-use Rattle.std.specs.Prelude.{◌==◌, ◌&&◌, not, IfSome, slice_get}
+use Rattle.std.specs.Prelude.{◌==◌, ◌&&◌, nat_lt, not, IfSome, slice_get}
 use Rattle.std.proofs.Common.{◌≡◌, ◌≢◌, inl, inr, ℕ, suc, ◌+◌, ◌-◌, ◌<◌, ◌≤◌, Bool, true, false, List, [], ◌∷◌, ◌++◌, Option, Some, length, refl, sym, ap, subst, ◌∙◌, arith, append_assoc, append-nil, length-append, eq-eqb, ne_eqb}
-use Rattle.std.proofs.lemmas.Bool.{cases_eq}
+use Rattle.std.proofs.lemmas.Bool.{cases_eq, cases_lt, le-ltb, lt-ltb}
 use Rattle.ib_map.specs.Keys.{MapKey, rank, end_rank}
 use Rattle.ib_map.proofs.HistoryLaws.{slice_get-last}
 use Rattle.ib_heap.specs.declared.TheConstants.{MOST_LEVEL}
@@ -55,6 +55,17 @@ and-false : (b : Bool) → (b && false) ≡ false
 and-false true = refl
 and-false false = refl
 
+and-true : (b : Bool) → (b && true) ≡ b
+and-true true = refl
+and-true false = refl
+
+-- a path with pages above its last one has several
+shift-lt : (above many : ℕ) → many ≡ above + 1 → nat_lt 1 many ≡ nat_lt 0 above
+shift-lt above many is = elim (cases_lt 0 above) [
+  | inl lt ↦ lt-ltb 1 many (omega arith) ∙ sym (lt-ltb 0 above lt)
+  | inr le ↦ le-ltb 1 many (omega arith) ∙ sym (le-ltb 0 above le)
+]
+
 -- what was raised stays so
 pub raised_more : (opening : ℕ → ℕ) (root : ℕ) (front seen more new : List Entry) → new ≡ seen ++ more → WasRaised opening root front seen → WasRaised opening root front new
 raised_more opening root front seen more new e r = record {
@@ -92,6 +103,11 @@ down_step sizes lawful opening root key exclusive b above page child level p q r
       finds = λ e. let f = down.finds e in let f0 = f.0 in let f1 = f.1 in let z : b ≡ false = none e in
           let s1 : one_if (not b) ≡ 1 = ap (λ (b : Bool). one_if (not b)) z in let x1 : one_if b ≡ 0 = ap one_if z in (omega arith, omega arith);
       s = let t = down.s in omega arith;
+      changes = λ e.
+          let t = down.changes e in
+          let was : one_if (nat_lt 0 above && (suc level == 0)) ≡ 0 = ap (λ (c : Bool). one_if (nat_lt 0 above && c)) (ne_eqb (suc level) 0 (λ z. omega arith)) ∙ ap one_if (and-false (nat_lt 0 above)) in
+          let now : one_if (nat_lt 0 (above + 1) && (level == 0)) ≡ one_if b =
+          ap (λ (c : Bool). one_if (c && (level == 0))) (lt-ltb 0 (above + 1) (omega arith)) ∙ sym (ap one_if (is ∙ ap (λ (c : Bool). c && (level == 0)) e)) in omega arith;
       x = λ e. elim (cases_eq level 0) [
         | inl z ↦
             let t : (level == 0) ≡ true = eq-eqb level 0 z in let x1 : one_if b ≡ 1 = ap one_if (low e z) in
@@ -132,6 +148,7 @@ down_root sizes lawful opening root key exclusive level p q r node low taken see
       sx = sx;
       finds = λ e. (omega arith, x);
       s = omega arith;
+      changes = λ e. let none : one_if (nat_lt 0 0 && (level == 0)) ≡ 0 = refl in omega arith;
       x = λ e. let n = node e in let t : (level == 0) ≡ false = ne_eqb level 0 (λ z. omega arith) in let o : one_if (level == 0) ≡ 0 = ap one_if t in inl (omega arith);
       few = omega arith;
     }
@@ -165,6 +182,7 @@ down_again sizes lawful opening root key first level p q r s t leaf low taken se
       sx = gsx;
       finds = λ e. absurd (cc);
       s = omega arith;
+      changes = λ e. let none : one_if (nat_lt 0 0 && (level == 0)) ≡ 0 = refl in omega arith;
       x = λ e. elim (cases_eq level 0) [
         | inl z ↦ let o : one_if (level == 0) ≡ 1 = ap one_if (eq-eqb level 0 z) in inl (omega arith)
         | inr ne ↦ let o : one_if (level == 0) ≡ 0 = ap one_if (ne_eqb level 0 ne) in inr (
@@ -221,6 +239,9 @@ module _ (sizes : Sizes) (lawful : List Entry → Type 0) (opening : ℕ → ℕ
         sx = gsx ∙ down.sx;
         finds = λ e. let f = down.finds e in let f0 = f.0 in let f1 = f.1 in (omega arith, omega arith);
         s = let t = down.s in let h = down.short in omega arith;
+        changes = λ e.
+            let t = down.changes e in
+            let same : one_if (nat_lt 1 (length path)) ≡ one_if (nat_lt 0 above && (0 == 0)) = ap one_if (shift-lt above (length path) (omega arith) ∙ sym (and-true (nat_lt 0 above))) in omega arith;
         x = λ e. elim (down.x e) [
           | inl y ↦ inl (let y1 : q.view.grants.x ≡ p.view.grants.x + 1 = y in omega arith)
           | inr y ↦ inr (let y1 : q.view.grants.x ≡ p.view.grants.x + 1 + 1 = y.0 in omega arith, subst (WasRaised opening root p.view.memory.seen) (sym gave.beside.seen) y.1)
@@ -263,6 +284,7 @@ module _ (sizes : Sizes) (roots : ℕ) (lawful : List Entry → Type 0) (opening
           sx = gsx ∙ come.sx;
           finds = λ e. let f = come.finds e in let f0 = f.0 in let f1 = f.1 in (omega arith, omega arith);
           s = let t = come.s in omega arith;
+          changes = λ e. let t = come.changes e in omega arith;
           x = λ e. elim (come.x e) [
             | inl y ↦ inl (let y1 : q.view.grants.x ≡ p.view.grants.x + 1 = y in omega arith)
             | inr y ↦ inr (let y1 : q.view.grants.x ≡ p.view.grants.x + 2 = y.0 in omega arith, raised_more opening root p.view.memory.seen q.view.memory.seen seen.went.more s.view.memory.seen seen.went.seen y.1)

@@ -43,6 +43,7 @@ module _ (sizes : Sizes) (roots : ℕ) (lawful : List Entry → Type 0) (opening
       known = record { legal = come.known.legal; room = come.known.room; mine = come.known.mine };
       sx = come.sx;
       finds = come.finds;
+      changes = come.changes;
       s = come.s;
       x = come.x;
     };

@@ -1,11 +1,12 @@
 -- What a session holds by its grants, with one more and with one fewer.
 use Rattle.std.specs.List.{All, AllByRecursion, remove}
 use Rattle.std.specs.Prelude.{sum_by, nat_lt, ◌==◌, ◌||◌, not, filter, slice_get, IsSomeAnd}
-use Rattle.std.proofs.Common.{◌≡◌, ◌≢◌, ℕ, ◌+◌, ◌<◌, ◌^◌, Bool, true, false, cond, List, [], ◌∷◌, ◌++◌, map, Some, length, refl, sym, ap, subst, ◌∙◌, arith, eq-eqb, ne_eqb}
+use Rattle.std.proofs.Common.{◌≡◌, ◌≢◌, ℕ, ◌+◌, ◌<◌, ◌^◌, Bool, true, false, cond, List, [], ◌∷◌, ◌++◌, map, Option, Some, None, length, refl, sym, ap, subst, ◌∙◌, arith, eq-eqb, ne_eqb}
 use Rattle.std.proofs.lemmas.List.{map-append}
 use Rattle.std.proofs.lemmas.List.Elements.{All-nil, All-cons}
 use Rattle.std.proofs.lemmas.List.Sums.{sum_by-cons}
 use Rattle.ib_levels.specs.declared.holding.Holding.{Holding}
+use Rattle.ib_levels.specs.declared.latch.Latch.{Latch}
 use Rattle.ib_levels.specs.declared.level.Level.{Level}
 use Rattle.ib_levels.specs.declared.level.Mode.{Mode}
 use Rattle.ib_levels.specs.declared.level.Mode.TheVariants.{S, Sx, X}
@@ -171,6 +172,14 @@ module _ (front : List Grant) (g : Grant) (back : List Grant) (p q : PassState) 
     memo = ap (λ (r : PassState). r.memo) released_is ∙ (ap (λ ms. remove ms (length front)) has.memo ∙ memo-without g front back);
     session = ap (λ (r : PassState). r.view.session) released_is ∙ ap (λ (hs : List Holding). let a : Session = record { held = hs; phase = Free } in a) held-left;
   }
+
+-- a release looks at no lock word
+pub released-looks : (at : ℕ) (p q : PassState) → IsReleasedAt at p q → q.view.looks.count ≡ p.view.looks.count
+released-looks at p q is = go (slice_get p.memo at) is
+  where
+    go : (o : Option (Latch × Mode)) → IsSomeAnd o (λ g. q ≡ released_at at g p) → q.view.looks.count ≡ p.view.looks.count
+    go None h = absurd h
+    go (Some g) h = ap (λ (s : PassState). s.view.looks.count) h
 
 -- a mini-transaction with an empty memo has no grants
 pub none_granted : (space : SpaceState) (p : PassState) → IsMtr space p → p.memo ≡ [] → HasGrants [] p

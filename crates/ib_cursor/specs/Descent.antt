@@ -1,5 +1,5 @@
 -- What a descent keeps, and where it ends.
-use Rattle.std.specs.Prelude.{◌≡◌, ◌⊎◌, ℕ, ◌+◌, ◌<◌, ◌≤◌, Bool, true, false, ◌==◌, if◌then◌else◌, List, [], ◌∷◌, ◌++◌, length, Option}
+use Rattle.std.specs.Prelude.{◌≡◌, ◌⊎◌, ℕ, ◌+◌, ◌<◌, ◌≤◌, Bool, true, false, ◌==◌, ◌&&◌, nat_lt, if◌then◌else◌, List, [], ◌∷◌, ◌++◌, length, Option}
 use Rattle.ib_map.specs.Keys.{MapKey}
 use Rattle.ib_map.specs.Pairs.{value_at}
 use Rattle.ib_map.specs.declared.TheConstants.{PAGE_WORDS}
@@ -61,6 +61,7 @@ pub record IsDown (sizes : Sizes) (lawful : List Entry → Type 0) (opening : �
   pub sx : q.view.grants.sx ≡ p.view.grants.sx
   pub finds : exclusive ≡ false → (q.view.grants.s ≡ p.view.grants.s + 2 + above) × (q.view.grants.x ≡ p.view.grants.x)
   pub s : q.view.grants.s ≤ p.view.grants.s + 2 + above
+  pub changes : exclusive ≡ true → q.view.grants.s + one_if (nat_lt 0 above && (level == 0)) ≡ p.view.grants.s + 2 + above
   pub x : exclusive ≡ true → AddsX opening root level p q
   pub few : total q.view.grants ≤ total p.view.grants + 3 + above
 
@@ -71,7 +72,7 @@ pub record HasPage (opening : ℕ → ℕ) (page : ℕ) (p q : PassState) : Type
   pub is_page : IsPageAfter opening q.view.memory.seen page image
   pub work : q.work ≡ with_read page image p.work
 
--- a descent has come to the key's leaf: it is the last page of the path, in the tree after all seen. It alone is held, in S or X, with a look at the log's end since
+-- a descent has come to the key's leaf: it is the last page of the path, in the tree after all seen. It alone is held, in S or X, with a look at the log's end since. S was taken once of the index and of each page of the path, but not of a leaf below another page that is taken in X
 pub record HasCome (sizes : Sizes) (lawful : List Entry → Type 0) (opening : ℕ → ℕ) (root : ℕ) (key : MapKey) (exclusive : Bool) (path : List ℕ) (p q : PassState) : Type 0 where
   pub leaf : ℕ
   pub front : List ℕ
@@ -85,6 +86,7 @@ pub record HasCome (sizes : Sizes) (lawful : List Entry → Type 0) (opening : �
   pub sx : q.view.grants.sx ≡ p.view.grants.sx
   pub finds : exclusive ≡ false → (q.view.grants.s ≡ p.view.grants.s + 1 + length path) × (q.view.grants.x ≡ p.view.grants.x)
   pub s : q.view.grants.s ≤ p.view.grants.s + 9
+  pub changes : exclusive ≡ true → q.view.grants.s + one_if (nat_lt 1 (length path)) ≡ p.view.grants.s + 1 + length path
   pub x : exclusive ≡ true → (q.view.grants.x ≡ p.view.grants.x + 1) ⊎ ((q.view.grants.x ≡ p.view.grants.x + 2) × WasRaised opening root p.view.memory.seen q.view.memory.seen)
 
 -- the descent is over: it has come to the leaf, and the leaf alone is loaded

@@ -1,6 +1,7 @@
 //! A key looked up on its leaf, where it lies.
 
-ghost use Rattle.std.specs.Prelude.{◌≡◌, ◌+◌, ◌≤◌, ◌^◌, [], false, IfErr, IfOk};
+ghost use Rattle.std.specs.Prelude.{◌≡◌, ◌+◌, ◌*◌, ◌≤◌, ◌^◌, [], false, IfErr, IfOk};
+ghost use Rattle.ib_heap.specs.declared.TheConstants.{MOST_LEVEL};
 ghost use Rattle.ib_logrec.specs.Log.{by_place};
 ghost use Rattle.ib_rule.specs.Pass.{PassState};
 ghost use Rattle.ib_rule.specs.Views.{total};
@@ -38,6 +39,7 @@ fn value_at_end<L: Trees, S: Sleep>(mtr: &mut Mtr<'_, L, S>, path: &Path, key: K
         mtr.old.pass.now → HasFound mtr.old.latches.now.sizes
         (L.lawful mtr.old.latches.now.sizes.pages)
         (by_place L.opening mtr.old.latches.now.sizes.pages) 1 key result p mtr.new.pass.now }
+    ensures looks { mtr.new.pass.now.view.looks.count ≡ mtr.old.pass.now.view.looks.count }
 {
     L::trees_law();
     let _ = mtr.geometry().pages();
@@ -70,7 +72,7 @@ pub fn find<L: Trees, R: Wait>(rt: &R, mtr: &mut Mtr<'_, L, Parkers>, key: Key) 
 /// The same without waiting: each latch is tried (`rw_lock_s_lock_nowait`). Where one is refused, the log's
 /// end is looked at, and then the latches are given up: memo and work set are empty again. `Busy` and
 /// `Raced` tell the latch that was not had, the index or a page of the key's way, and the words of the
-/// try.
+/// try. There are two looks at most for each latch of the longest way that a tree can have.
 pub fn find_nowait<L: Trees, S: Sleep>(
     mtr: &mut Mtr<'_, L, S>,
     key: Key,
@@ -91,6 +93,8 @@ pub fn find_nowait<L: Trees, S: Sleep>(
         (L.lawful mtr.old.latches.now.sizes.pages)
         (by_place L.opening mtr.old.latches.now.sizes.pages) 1 key fault
         mtr.old.pass.now mtr.new.pass.now) }
+    ensures looks { mtr.new.pass.now.view.looks.count
+        ≤ mtr.old.pass.now.view.looks.count + 2 * (MOST_LEVEL + 2) }
 {
     let path = come_to_leaf_nowait(mtr, Sought { root: 1, key })?;
     Ok(value_at_end(mtr, &path, key))

@@ -1,6 +1,6 @@
 //! The descent that does not wait.
 
-ghost use Rattle.std.specs.Prelude.{◌≡◌, ◌+◌, ◌-◌, ◌<◌, ◌≤◌, ◌^◌, ◌∷◌, [], false, Some, IfErr, IfOk, OnOk};
+ghost use Rattle.std.specs.Prelude.{◌≡◌, ◌+◌, ◌-◌, ◌*◌, ◌<◌, ◌≤◌, ◌^◌, ◌∷◌, [], false, Some, IfErr, IfOk, OnOk};
 ghost use Rattle.ib_map.specs.Keys.{rank, end_rank};
 ghost use Rattle.ib_levels.specs.declared.level.Mode.TheVariants.{S as ModeS};
 ghost use Rattle.ib_levels.specs.declared.level.Level.TheVariants.{TreeNode};
@@ -46,6 +46,8 @@ fn try_latch<L: Law, S: Sleep>(
         (L.lawful mtr.old.latches.now.sizes.pages) latch.0 fault
         mtr.old.pass.now mtr.new.pass.now) }
     ensures looks { mtr.old.pass.now.view.looks.count ≤ mtr.new.pass.now.view.looks.count }
+    ensures few { mtr.new.pass.now.view.looks.count
+        ≤ mtr.old.pass.now.view.looks.count + 2 }
 {
     match mtr.try_s_latch(latch, level) {
         Ok(()) => Ok(()),
@@ -72,6 +74,8 @@ fn try_stand<L: Law, S: Sleep>(mtr: &mut Mtr<'_, L, S>, page: u32) -> Result<(),
         (L.lawful mtr.old.latches.now.sizes.pages) (page + 2) fault
         mtr.old.pass.now mtr.new.pass.now) }
     ensures looks { mtr.old.pass.now.view.looks.count ≤ mtr.new.pass.now.view.looks.count }
+    ensures few { mtr.new.pass.now.view.looks.count
+        ≤ mtr.old.pass.now.view.looks.count + 2 }
 {
     let _ = mtr.geometry().pages();
     try_latch(mtr, Latch::page(page), Level::TreeNode)?;
@@ -105,6 +109,8 @@ fn try_root<L: Trees, S: Sleep>(mtr: &mut Mtr<'_, L, S>, sought: Sought) -> Resu
         (by_place L.opening mtr.old.latches.now.sizes.pages) sought.root sought.key fault
         mtr.old.pass.now mtr.new.pass.now) }
     ensures looks { mtr.old.pass.now.view.looks.count ≤ mtr.new.pass.now.view.looks.count }
+    ensures few { mtr.new.pass.now.view.looks.count
+        ≤ mtr.old.pass.now.view.looks.count + 2 }
 {
     L::trees_law();
     let _ = mtr.geometry().pages();
@@ -146,6 +152,8 @@ fn try_down<L: Trees, S: Sleep>(
         (by_place L.opening mtr.old.latches.now.sizes.pages) sought.root sought.key fault
         mtr.old.pass.now mtr.new.pass.now) }
     ensures looks { mtr.old.pass.now.view.looks.count ≤ mtr.new.pass.now.view.looks.count }
+    ensures few { mtr.new.pass.now.view.looks.count
+        ≤ mtr.old.pass.now.view.looks.count + 2 }
 {
     L::trees_law();
     let _ = mtr.geometry().pages();
@@ -185,6 +193,8 @@ pub(crate) fn come_to_leaf_nowait<L: Trees, S: Sleep>(
         (L.lawful mtr.old.latches.now.sizes.pages)
         (by_place L.opening mtr.old.latches.now.sizes.pages) sought.root sought.key fault
         mtr.old.pass.now mtr.new.pass.now) }
+    ensures few { mtr.new.pass.now.view.looks.count
+        ≤ mtr.old.pass.now.view.looks.count + 2 * (MOST_LEVEL + 2) }
 {
     match try_latch(mtr, Latch::INDEX, Level::IndexTree) {
         Ok(()) => {}

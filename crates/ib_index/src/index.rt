@@ -1,7 +1,8 @@
 //! One tree that sessions share: how it is opened and closed, and how sessions come, look keys up and go.
 
-ghost use Rattle.std.specs.Prelude.{◌≡◌, ◌↔◌, ℕ, ◌+◌, ◌-◌, ◌≤◌, ◌^◌, true, [], ◌∷◌, length, Err, IsTrue, IfOk, IfErr};
+ghost use Rattle.std.specs.Prelude.{◌≡◌, ◌↔◌, ℕ, ◌+◌, ◌-◌, ◌*◌, ◌≤◌, ◌^◌, true, [], ◌∷◌, length, Err, IsTrue, IfOk, IfErr};
 ghost use mathlib.Core.List.{IsPrefix};
+ghost use Rattle.ib_heap.specs.declared.TheConstants.{MOST_LEVEL};
 ghost use Rattle.ib_core.specs.Sessions.{idle};
 ghost use Rattle.ib_logrec.specs.Log.{by_place};
 ghost use Rattle.ib_rule.specs.declared.view.Role.TheVariants.{Session};
@@ -146,7 +147,8 @@ impl<S: Sleep> Index<S> {
     /// Looks a key up without waiting: each latch is tried (`rw_lock_s_lock_nowait`). Where one is refused,
     /// the log's end is looked at and then all latches are given up; `Busy` and `Raced` tell the latch that
     /// was not had, the index or a page of the key's way, and the words of the last looks, both of this
-    /// call. The session holds nothing before and after.
+    /// call. There are two looks at most for each latch of the longest way that a tree can have. The session
+    /// holds nothing before and after.
     pub fn get_nowait(&self, pass: &mut Pass, key: Key) -> Result<Record, NowaitFault>
         requires own { IsOf self.now pass.old }
         requires idle { pass.old.view.session ≡ idle }
@@ -161,6 +163,8 @@ impl<S: Sleep> Index<S> {
         ensures hindered { IfErr result (λ fault. IsHindered self.now.sizes
             (IsKeptLog self.now.sizes.pages) (by_place opening self.now.sizes.pages) 1 key fault
             pass.old pass.new) }
+        ensures looks { pass.new.view.looks.count
+            ≤ pass.old.view.looks.count + 2 * (MOST_LEVEL + 2) }
     {
         nowait::get_nowait(&self.latches, pass, key)
     }

@@ -49,6 +49,8 @@ pub(crate) fn look_up<L: Trees, S: Sleep>(
     ensures own { IsOf mtr.entry.latches.now mtr.exit.1.0.now }
     ensures idle { mtr.exit.1.0.now.view.session ≡ idle }
     ensures scratch { IsTrue mtr.exit.1.0.now.has_scratch }
+    ensures looks { mtr.exit.1.0.now.view.looks.count
+        ≡ mtr.entry.pass.now.view.looks.count }
 {
     L::trees_law();
     let _ = mtr.geometry().pages();

@@ -1,6 +1,7 @@
 //! Lookups that do not wait.
 
-ghost use Rattle.std.specs.Prelude.{◌≡◌, ◌+◌, ◌≤◌, ◌^◌, IsTrue, IfOk, IfErr};
+ghost use Rattle.std.specs.Prelude.{◌≡◌, ◌+◌, ◌*◌, ◌≤◌, ◌^◌, IsTrue, IfOk, IfErr};
+ghost use Rattle.ib_heap.specs.declared.TheConstants.{MOST_LEVEL};
 ghost use Rattle.ib_core.specs.Sessions.{idle};
 ghost use Rattle.ib_logrec.specs.Log.{by_place};
 ghost use Rattle.ib_rule.specs.Pass.{IsOf};
@@ -36,6 +37,8 @@ pub(crate) fn get_nowait<L: Trees, S: Sleep>(
     ensures hindered { IfErr result (λ fault. IsHindered latches.now.sizes
         (L.lawful latches.now.sizes.pages) (by_place L.opening latches.now.sizes.pages) 1 key fault
         pass.old pass.new) }
+    ensures looks { pass.new.view.looks.count
+        ≤ pass.old.view.looks.count + 2 * (MOST_LEVEL + 2) }
 {
     let mut mtr = Mtr::start(latches, pass);
     match find_nowait(&mut mtr, key) {

@@ -63,3 +63,7 @@ ended_so p q is known rests closed =
 pub ended_by : (p q r : PassState) → q ≡ released_to 0 (with_work [] p) → r ≡ finished q → KnowsHeld r.view → r.view.session ≡ idle → p.view.memory.append ≡ None
     → HasEnded p p.view.grants p.view.memory.seen p.view.memory.own p.view.memory.ends r
 ended_by p q r given ended known rests closed = ended_so p r (ended ∙ ap finished given) known rests closed
+
+-- .. and no lock word was looked at
+pub ended_looks : (p q r : PassState) → q ≡ released_to 0 (with_work [] p) → r ≡ finished q → r.view.looks.count ≡ p.view.looks.count
+ended_looks p q r given ended = ap (λ (s : PassState). s.view.looks.count) (ended ∙ ap finished given) ∙ (kept_by_releases p.memo p.view).looks

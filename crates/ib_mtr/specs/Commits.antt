@@ -74,9 +74,10 @@ pub record IsFull (sizes : Sizes) (lawful : List Entry → Type 0) (p : PassStat
   pub short : sizes.log_words < used log + ENTRY_WORDS
   pub ended : HasEnded p (commit_grants p) log p.view.memory.own (one_end_more p (length log)) q
 
--- it ended without a change, having looked at the log's end once more
+-- it ended without a change, having looked at the log's end once more, and at no lock word
 pub record HasRead (sizes : Sizes) (lawful : List Entry → Type 0) (p : PassState) (answer : ℕ) (q : PassState) : Type 0 where
   pub log : List Entry
   pub looked : IsLook sizes lawful p.view log
   pub place : answer ≡ length log
   pub ended : HasEnded p p.view.grants log p.view.memory.own (one_end_more p answer) q
+  pub looks : q.view.looks.count ≡ p.view.looks.count

@@ -55,3 +55,6 @@ returns-clause-found g c = λ p d.
     let at : c.unwrap-leaf.result ≡ d.leaf = last_of_path c.last.result c.unwrap-leaf.result c.args.path.now d.front d.leaf d.ends c.last.ensures.last c.unwrap-leaf.ensures in
     found sizes g.L.Trees.ROOTS (g.L.Law.lawful sizes.pages) (by_place g.L.Law.opening sizes.pages) laws 1 (omega arith) c.requires.root c.args.key lt c.args.path.now p q d c.requires.none c.value_of.result
     (c.value_of.ensures.value ∙ ap (λ (n : ℕ). value_at c.args.key (records_of (image_of (memory_after (by_place g.L.Law.opening sizes.pages) q.view.memory.seen) n))) at) c.value_of.new.mtr.pass.now c.value_of.ensures.read
+
+pub returns-clause-looks : goal.returns-clause-looks
+returns-clause-looks g c = ap (λ (r : PassState). r.view.looks.count) c.value_of.ensures.read.same

@@ -9,7 +9,7 @@ use Rattle.ib_cursor.specs.Grants.{index_grant}
 use Rattle.ib_cursor.specs.Going.{HasSeen}
 use Rattle.ib_cursor.specs.Descent.{IsAt, IsDown}
 use Rattle.ib_cursor.specs.Hindrance.{IsStopped}
-use Rattle.ib_cursor.proofs.GrantLaws.{none_granted, can_wish, may_grow}
+use Rattle.ib_cursor.proofs.GrantLaws.{none_granted, can_wish, may_grow, released-looks}
 use Rattle.ib_cursor.proofs.HinderLaws.{hindered_index, hindered_root, hindered_below}
 use Rattle.ib_cursor.proofs.DownLaws.{down_root, down_step, come, come_work}
 use Rattle.ib_cursor.proofs.nowait.come_to_leaf_nowait.Goals as goal
@@ -48,6 +48,7 @@ loop-level-init g c =
       pass = c.try_root.ensures.pass ∙ c.try_latch.ensures.pass;
       down = subst (λ n. IsDown sizes (g.L.Law.lawful sizes.pages) (by_place g.L.Law.opening sizes.pages) c.args.sought.root c.args.sought.key (index_grant ∷ []) false n c.args.sought.root c.in-Ok-try_root.level p r) (sym (ap length c.new-path.ensures)) down;
       looks = let a = c.try_latch.ensures.looks in let b = c.try_root.ensures.looks in omega arith;
+      few = let a = c.try_latch.ensures.few in let b = c.try_root.ensures.few in let l = c.in-Ok-try_root.ensures.low in omega arith;
     }
 
 pub loop-level-preserved : goal.loop-level-preserved
@@ -69,6 +70,7 @@ loop-level-preserved g c =
       pass = c.try_down.ensures.pass ∙ inv.pass;
       down = subst (λ k. IsDown sizes (g.L.Law.lawful sizes.pages) (by_place g.L.Law.opening sizes.pages) c.args.sought.root c.args.sought.key (index_grant ∷ []) false k c.in-Ok-try_down.child n p r) (sym long) step;
       looks = let a = inv.looks in let b = c.try_down.ensures.looks in omega arith;
+      few = let a = inv.few in let b = c.try_down.ensures.few in omega (arith, up);
     }
 
 pub returns-in-Err-try_down-clause-hindered : goal.returns-in-Err-try_down-clause-hindered
@@ -96,3 +98,20 @@ returns-clause-none g c =
     let low : c.loop-level.level ≡ 0 = (let z = c.loop-level-test.false in omega arith) in
     let down = subst (λ n. IsDown sizes (g.L.Law.lawful sizes.pages) (by_place g.L.Law.opening sizes.pages) c.args.sought.root c.args.sought.key (index_grant ∷ []) false (length c.loop-level.path) c.loop-level.page n p q) low inv.down in
     come_work sizes (g.L.Law.lawful sizes.pages) (by_place g.L.Law.opening sizes.pages) c.args.sought.root c.args.sought.key false (length c.loop-level.path) c.loop-level.page p q c.release_at-2.new.self.pass.now down c.release_at-2.ensures.released
+
+pub returns-in-Err-try_root-clause-few : goal.returns-in-Err-try_root-clause-few
+returns-in-Err-try_root-clause-few g c =
+    let a = c.try_latch.ensures.few in let b = c.try_root.ensures.few in
+    let d = released-looks 0 c.try_root.new.mtr.pass.now c.release_at.new.self.pass.now c.release_at.ensures.released in omega arith
+
+pub returns-in-Err-try_down-clause-few : goal.returns-in-Err-try_down-clause-few
+returns-in-Err-try_down-clause-few g c =
+    let a = c.loop-level.invariant.few in let b = c.try_down.ensures.few in
+    let d = released-looks 1 c.try_down.new.mtr.pass.now c.release_at-in-Err-try_down.new.self.pass.now c.release_at-in-Err-try_down.ensures.released in
+    let e = released-looks 0 c.release_at-in-Err-try_down.new.self.pass.now c.release_at-in-Err-try_down-2.new.self.pass.now c.release_at-in-Err-try_down-2.ensures.released in
+    omega (arith, c.loop-level-test.true)
+
+pub returns-clause-few : goal.returns-clause-few
+returns-clause-few g c =
+    let a = c.loop-level.invariant.few in
+    let d = released-looks 0 c.loop-level.mtr.pass.now c.release_at-2.new.self.pass.now c.release_at-2.ensures.released in omega arith

@@ -1,5 +1,6 @@
 -- How far the descent has come; the level falls.
-use Rattle.std.proofs.Common.{◌≡◌, ◌≤◌, ◌∷◌, [], false, length}
+use Rattle.std.proofs.Common.{◌≡◌, ◌+◌, ◌*◌, ◌≤◌, ◌∷◌, [], false, length}
+use Rattle.ib_heap.specs.declared.TheConstants.{MOST_LEVEL}
 use Rattle.ib_logrec.specs.Log.{by_place}
 use Rattle.ib_mtr.specs.Mtr.{IsMtr}
 use Rattle.ib_cursor.specs.Descent.{IsDown}
@@ -14,6 +15,7 @@ invariant-loop-level g l = record {
   down : IsDown l.fn.mtr.latches.now.sizes (g.L.Law.lawful l.fn.mtr.latches.now.sizes.pages) (by_place g.L.Law.opening l.fn.mtr.latches.now.sizes.pages) l.sought.root l.sought.key (index_grant ∷ []) false
       (length l.path) l.page l.level l.fn.mtr.pass.now l.mtr.pass.now;
   looks : l.fn.mtr.pass.now.view.looks.count ≤ l.mtr.pass.now.view.looks.count;
+  few : l.mtr.pass.now.view.looks.count + 2 * l.level ≤ l.fn.mtr.pass.now.view.looks.count + 2 * (MOST_LEVEL + 2);
 }
 
 abbrev pub decreases-loop-level : goal.decreases-loop-level

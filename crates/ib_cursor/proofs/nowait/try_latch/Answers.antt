@@ -1,10 +1,11 @@
 -- A refused try, and the look after it.
-use Rattle.std.proofs.Common.{ap, subst, sym}
+use Rattle.std.proofs.Common.{◌≡◌, ◌+◌, ap, arith, subst, sym}
 use Rattle.ib_layout.specs.Geometry.{Sizes}
+use Rattle.ib_rule.specs.declared.looks.Looks.{Looks}
 use Rattle.ib_rule.specs.Pass.{PassState}
 use Rattle.ib_cursor.specs.Going.{HasSeen}
 use Rattle.ib_cursor.specs.Hindrance.{IsInVain}
-use Rattle.ib_cursor.proofs.HinderLaws.{vain_try}
+use Rattle.ib_cursor.proofs.HinderLaws.{looks_of-few, vain_try}
 use Rattle.ib_cursor.proofs.nowait.try_latch.Goals as goal
 
 pub returns-in-Err-clause-vain : goal.returns-in-Err-clause-vain
@@ -15,3 +16,13 @@ returns-in-Err-clause-vain g c =
     subst (λ f. IsInVain sizes (g.L.Law.lawful sizes.pages) c.args.latch.0 f p r) (sym c.of.ensures)
     (vain_try sizes (g.L.Law.lawful sizes.pages) c.args.latch c.args.level c.in-Err.fault p q r c.in-Err.ensures.not_granted c.in-Err.ensures.refused c.in-Err.ensures.tried
     seen c.look.ensures.memo c.look.ensures.session c.look.ensures.grants c.look.ensures.work c.look.ensures.looks)
+
+pub returns-in-Ok-clause-few : goal.returns-in-Ok-clause-few
+returns-in-Ok-clause-few g c =
+    let p : PassState = c.args.mtr.now.pass.now in let q : PassState = c.try_s_latch.new.self.pass.now in
+    let won : q.view.looks.count ≡ p.view.looks.count + 1 + 1 = ap (λ (s : PassState). s.view.looks.count) c.in-Ok.ensures.tried.1.1 in omega arith
+
+pub returns-in-Err-clause-few : goal.returns-in-Err-clause-few
+returns-in-Err-clause-few g c =
+    let more = c.in-Err.ensures.refused.looks in let few = looks_of-few c.in-Err.fault in
+    let same = ap (λ (k : Looks). k.count) c.look.ensures.looks in omega arith

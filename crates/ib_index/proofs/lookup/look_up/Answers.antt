@@ -19,3 +19,6 @@ returns-clause-looked_up g c = λ p h.
     let lt = rank-lt_end c.args.key c.ranges.key.fits in
     looked_up sizes g.L.Trees.ROOTS (g.L.Law.lawful sizes.pages) (by_place g.L.Law.opening sizes.pages) laws c.requires.root (λ log. c.trees_law.ensures.content sizes.pages log has) c.args.key lt c.args.value p c.args.mtr.pass.now h
     c.commit_read-place.result c.commit_read-place.new.self.1.0 (subst (λ (r : PassState). r.view.role ≡ Session r.number) c.pass.ensures c.number.ensures.session) c.commit_read-place.ensures c.reply_of-reply.result c.reply_of-reply.ensures
+
+pub returns-clause-looks : goal.returns-clause-looks
+returns-clause-looks g c = c.commit_read-place.ensures.looks
