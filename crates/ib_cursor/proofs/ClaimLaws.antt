@@ -14,9 +14,9 @@ use Rattle.ib_rule.specs.declared.memory.Knowledge.{Knowledge}
 use Rattle.ib_rule.specs.declared.view.Role.TheVariants.{Session as SessionRole}
 use Rattle.ib_rule.specs.Memory.{conflicts}
 use Rattle.ib_rule.specs.Pass.{PassState}
-use Rattle.ib_rule.specs.Roles.{number_in}
+use Rattle.ib_rule.specs.Roles.{session_number_of}
 use Rattle.ib_rule.specs.Stores.{IsHarmless}
-use Rattle.ib_rule.specs.Views.{is_watched, starts}
+use Rattle.ib_rule.specs.Views.{is_watched, watches_from}
 use Rattle.ib_rule.proofs.Lists.{or_says}
 use Rattle.ib_mtr.specs.Loads.{HasLooked, HasLoadedPage}
 use Rattle.ib_cursor.specs.Claims.{claim_grant}
@@ -64,9 +64,9 @@ claimed-right (s ∷ ss) ts is = by_first (claimed-right ss ts is) (s.claims && 
 claims-of : (a : Session) → a.held ≡ hold_of claim_grant ∷ [] → nat_lt 0 (claims 1 a) ≡ true
 claims-of a is = ap (λ (hs : List Holding). let b : Session = record { held = hs; phase = a.phase } in nat_lt 0 (claims 1 b)) is
 
-started-by : (a : Session) (n : ℕ) (ss : List Since) → is_watched 1 ss ≡ false → a.held ≡ hold_of claim_grant ∷ [] → is_claimed (starts a a.held ss n) ≡ true
+started-by : (a : Session) (n : ℕ) (ss : List Since) → is_watched 1 ss ≡ false → a.held ≡ hold_of claim_grant ∷ [] → is_claimed (watches_from a a.held ss n) ≡ true
 started-by a n ss none is =
-    ap (λ (hs : List Holding). is_claimed (starts a hs ss n)) is
+    ap (λ (hs : List Holding). is_claimed (watches_from a hs ss n)) is
     ∙ (ap (λ b. is_claimed (cond b [] (record { latch = 1; claims = nat_lt 0 (claims 1 a); place = n } ∷ []))) none
     ∙ ap (λ c. (c && true) || false) (claims-of a is))
 
@@ -76,9 +76,9 @@ glanced_by sizes lawful opening p q role look = record {
   keeps = λ is. record {
     more = look.looked.others;
     seen = sym look.looked.longer;
-    single = singles (number_in p.view.role) p.view.memory.since look.looked.others is look.looked.harmless;
+    single = singles (session_number_of p.view.role) p.view.memory.since look.looked.others is look.looked.harmless;
     claimed = ap (λ (r : PassState). is_claimed r.view.memory.since) look.pass
-        ∙ claimed-left p.view.memory.since (starts p.view.session p.view.session.held p.view.memory.since (length q.view.memory.seen)) is;
+        ∙ claimed-left p.view.memory.since (watches_from p.view.session p.view.session.held p.view.memory.since (length q.view.memory.seen)) is;
   };
 }
 
@@ -88,9 +88,9 @@ glanced_loaded sizes lawful opening page p q role load = record {
   keeps = λ is. record {
     more = load.looked.others;
     seen = sym load.looked.longer;
-    single = singles (number_in p.view.role) p.view.memory.since load.looked.others is load.looked.harmless;
+    single = singles (session_number_of p.view.role) p.view.memory.since load.looked.others is load.looked.harmless;
     claimed = ap (λ (r : PassState). is_claimed r.view.memory.since) load.pass
-        ∙ claimed-left p.view.memory.since (starts p.view.session p.view.session.held p.view.memory.since (length q.view.memory.seen)) is;
+        ∙ claimed-left p.view.memory.since (watches_from p.view.session p.view.session.held p.view.memory.since (length q.view.memory.seen)) is;
   };
 }
 
@@ -98,7 +98,7 @@ pub started_by : (sizes : Sizes) (lawful : List Entry → Type 0) (opening : ℕ
     → p.view.session.held ≡ hold_of claim_grant ∷ [] → is_claimed q.view.memory.since ≡ true
 started_by sizes lawful opening p q look none held =
     ap (λ (r : PassState). is_claimed r.view.memory.since) look.pass
-    ∙ claimed-right p.view.memory.since (starts p.view.session p.view.session.held p.view.memory.since (length q.view.memory.seen)) (started-by p.view.session (length q.view.memory.seen) p.view.memory.since none held)
+    ∙ claimed-right p.view.memory.since (watches_from p.view.session p.view.session.held p.view.memory.since (length q.view.memory.seen)) (started-by p.view.session (length q.view.memory.seen) p.view.memory.since none held)
 
 -- looks one after the other
 single-append : (xs ys : List Entry) → AreSingle xs → AreSingle ys → AreSingle (xs ++ ys)

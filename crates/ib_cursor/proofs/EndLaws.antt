@@ -21,7 +21,7 @@ use Rattle.ib_walk.specs.Words.{bits_of}
 use Rattle.ib_walk.proofs.TreeLaws.{weight_of-le}
 use Rattle.ib_plans.specs.Agreement.{way_down, way_of}
 use Rattle.ib_tree.specs.Logs.{HasRange, pages_after}
-use Rattle.ib_tree.specs.PageLists.{is_among, AreOnce}
+use Rattle.ib_tree.specs.PageLists.{is_listed, AreOnce}
 use Rattle.ib_cursor.specs.Way.{IsOnWay}
 use Rattle.std.proofs.lemmas.List.Elements.{All-nil, All-cons, All-head, All-tail}
 use Rattle.ib_levels.specs.declared.level.Mode.TheVariants.{Sx}
@@ -66,11 +66,11 @@ loaded_some page (w ∷ ws) = by_test (w.page == page) (loaded_some page ws)
     by_test false r = r
 
 -- pages on lower levels are not this one
-none-lower : (m : PageMemory) (level page : ℕ) (ps : List ℕ) → (m page).level ≡ suc level → AllByRecursion (λ n. (m n).level ≤ level) ps → is_among ps page ≡ false
+none-lower : (m : PageMemory) (level page : ℕ) (ps : List ℕ) → (m page).level ≡ suc level → AllByRecursion (λ n. (m n).level ≤ level) ps → is_listed ps page ≡ false
 none-lower m level page [] at low = refl
 none-lower m level page (p ∷ ps) at low =
     let differ : (p == page) ≡ false = ne_eqb p page (λ e. let z = ap (λ n. (m n).level) e in let l = low.0 in omega arith) in
-    ap (λ t. t || is_among ps page) differ ∙ none-lower m level page ps at low.1
+    ap (λ t. t || is_listed ps page) differ ∙ none-lower m level page ps at low.1
 
 wider : (m : PageMemory) (a b : ℕ) (ps : List ℕ) → a ≤ b → AllByRecursion (λ n. (m n).level ≤ a) ps → AllByRecursion (λ n. (m n).level ≤ b) ps
 wider m a b [] le low = tt
@@ -151,17 +151,17 @@ module _ (sizes : Sizes) (roots : ℕ) (lawful : List Entry → Type 0) (opening
               ((inside leaf 0 o, ap (λ t. t || false) differ, (inside-met (m leaf).next b.0, refl, tt)), (let l = level-is leaf 0 o in omega arith, (let l = b.2 in omega arith, tt)))
         ]
 
-        none-right : (page : ℕ) → page ≢ leaf → (m leaf).next ≢ page → is_among (leaf ∷ beside (m leaf).next) page ≡ false
+        none-right : (page : ℕ) → page ≢ leaf → (m leaf).next ≢ page → is_listed (leaf ∷ beside (m leaf).next) page ≡ false
         none-right page a b = elim (cases_eq (m leaf).next 0) [
           | inl z ↦
               let e : beside (m leaf).next ≡ [] = ap (λ b. cond b [] ((m leaf).next ∷ [])) (eq-eqb (m leaf).next 0 z) in
               let d : (leaf == page) ≡ false = ne_eqb leaf page (λ q. a (sym q)) in
-              ap (λ ps. is_among (leaf ∷ ps) page) e ∙ ap (λ t. t || false) d
+              ap (λ ps. is_listed (leaf ∷ ps) page) e ∙ ap (λ t. t || false) d
           | inr ne ↦
               let e : beside (m leaf).next ≡ (m leaf).next ∷ [] = ap (λ b. cond b [] ((m leaf).next ∷ [])) (ne_eqb (m leaf).next 0 ne) in
               let d : (leaf == page) ≡ false = ne_eqb leaf page (λ q. a (sym q)) in
               let f : ((m leaf).next == page) ≡ false = ne_eqb (m leaf).next page b in
-              ap (λ ps. is_among (leaf ∷ ps) page) e ∙ (ap (λ t. t || (((m leaf).next == page) || false)) d ∙ ap (λ t. t || false) f)
+              ap (λ ps. is_listed (leaf ∷ ps) page) e ∙ (ap (λ t. t || (((m leaf).next == page) || false)) d ∙ ap (λ t. t || false) f)
         ]
 
         by_left : ((m leaf).prev ≡ 0) ⊎ ((m leaf).prev ≢ 0) → AreOnce (beside (m leaf).prev ++ leaf ∷ beside (m leaf).next) sizes.pages × AllByRecursion (λ n. (m n).level ≤ 0) (beside (m leaf).prev ++ leaf ∷ beside (m leaf).next)

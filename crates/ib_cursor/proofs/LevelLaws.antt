@@ -13,7 +13,7 @@ use Rattle.ib_walk.proofs.WalkLaws.{AllByRecursion-append}
 use Rattle.ib_plans.specs.Agreement.{last_of, way_down, way_of}
 use Rattle.ib_plans.proofs.MetLaws.{root-met}
 use Rattle.ib_plans.proofs.PathListLaws.{length-way_down}
-use Rattle.ib_tree.specs.PageLists.{is_among, AreOnce}
+use Rattle.ib_tree.specs.PageLists.{is_listed, AreOnce}
 use Rattle.ib_cursor.specs.Way.{IsOnWay}
 use Rattle.ib_cursor.specs.Claims.{beside}
 use Rattle.ib_cursor.specs.Siblings.{with_siblings}
@@ -22,11 +22,11 @@ use Rattle.ib_cursor.proofs.OnceLaws.{among_append}
 use Rattle.ib_cursor.proofs.RowLaws.{IsRowPage, siblings_once, siblings_row, child_among, behind_once, some_siblings}
 
 -- lists of pages by their levels
-not-among : (m : PageMemory) (level page : ℕ) (ps : List ℕ) → (m page).level ≡ level → AllByRecursion (λ n. (m n).level < level) ps → is_among ps page ≡ false
+not-among : (m : PageMemory) (level page : ℕ) (ps : List ℕ) → (m page).level ≡ level → AllByRecursion (λ n. (m n).level < level) ps → is_listed ps page ≡ false
 not-among m level page [] at low = refl
 not-among m level page (p ∷ ps) at low =
     let differ : (p == page) ≡ false = ne_eqb p page (λ e. let z = ap (λ n. (m n).level) e in let l = low.0 in omega arith) in
-    ap (λ t. t || is_among ps page) differ ∙ not-among m level page ps at low.1
+    ap (λ t. t || is_listed ps page) differ ∙ not-among m level page ps at low.1
 
 -- one level above others
 level-once : (m : PageMemory) (level pages : ℕ) (xs ys : List ℕ) → AreOnce xs pages → AllByRecursion (IsRowPage m level) xs → AreOnce ys pages → AllByRecursion (λ n. (m n).level < level) ys → AreOnce (xs ++ ys) pages
@@ -43,12 +43,12 @@ row-low m level [] row = tt
 row-low m level (x ∷ xs) row = (let l = row.0.at in omega arith, row-low m level xs row.1)
 
 -- the last page of a list is one of it, and is what each page of it is
-pub last_among : (xs : List ℕ) → 0 < length xs → is_among xs (last_of xs) ≡ true
+pub last_among : (xs : List ℕ) → 0 < length xs → is_listed xs (last_of xs) ≡ true
 last_among [] some = absurd (omega arith)
 last_among (x ∷ []) some = ap (λ t. t || false) (eq-eqb x x refl)
 last_among (x ∷ y ∷ ys) some = by_first (x == last_of (y ∷ ys)) (last_among (y ∷ ys) (omega arith))
   where
-    by_first : (t : Bool) → is_among (y ∷ ys) (last_of (y ∷ ys)) ≡ true → (t || is_among (y ∷ ys) (last_of (y ∷ ys))) ≡ true
+    by_first : (t : Bool) → is_listed (y ∷ ys) (last_of (y ∷ ys)) ≡ true → (t || is_listed (y ∷ ys) (last_of (y ∷ ys))) ≡ true
     by_first true r = refl
     by_first false r = r
 
@@ -64,28 +64,28 @@ last_append (x ∷ []) (y ∷ ys) some = refl
 last_append (x ∷ z ∷ zs) ys some = last_append (z ∷ zs) ys some
 
 -- what is one of a part is one of the whole
-pub among_right : (xs ys : List ℕ) (n : ℕ) → is_among ys n ≡ true → is_among (xs ++ ys) n ≡ true
+pub among_right : (xs ys : List ℕ) (n : ℕ) → is_listed ys n ≡ true → is_listed (xs ++ ys) n ≡ true
 among_right [] ys n e = e
 among_right (x ∷ xs) ys n e = by_first (x == n) (among_right xs ys n e)
   where
-    by_first : (t : Bool) → is_among (xs ++ ys) n ≡ true → (t || is_among (xs ++ ys) n) ≡ true
+    by_first : (t : Bool) → is_listed (xs ++ ys) n ≡ true → (t || is_listed (xs ++ ys) n) ≡ true
     by_first true r = refl
     by_first false r = r
 
-pub among-left : (xs ys : List ℕ) (n : ℕ) → is_among xs n ≡ true → is_among (xs ++ ys) n ≡ true
+pub among-left : (xs ys : List ℕ) (n : ℕ) → is_listed xs n ≡ true → is_listed (xs ++ ys) n ≡ true
 among-left [] ys n e = cc
 among-left (x ∷ xs) ys n e = by_first (x == n) e (among-left xs ys n)
   where
-    by_first : (t : Bool) → (t || is_among xs n) ≡ true → (is_among xs n ≡ true → is_among (xs ++ ys) n ≡ true) → (t || is_among (xs ++ ys) n) ≡ true
+    by_first : (t : Bool) → (t || is_listed xs n) ≡ true → (is_listed xs n ≡ true → is_listed (xs ++ ys) n ≡ true) → (t || is_listed (xs ++ ys) n) ≡ true
     by_first true e later = refl
     by_first false e later = later e
 
-among-child : (xs ys : List ℕ) (child n : ℕ) → is_among xs child ≡ true → is_among (child ∷ ys) n ≡ true → is_among (xs ++ ys) n ≡ true
+among-child : (xs ys : List ℕ) (child n : ℕ) → is_listed xs child ≡ true → is_listed (child ∷ ys) n ≡ true → is_listed (xs ++ ys) n ≡ true
 among-child xs ys child n here e = by_first (cases_eq child n)
   where
-    by_first : (child ≡ n) ⊎ (child ≢ n) → is_among (xs ++ ys) n ≡ true
-    by_first (inl is) = among-left xs ys n (subst (λ k. is_among xs k ≡ true) is here)
-    by_first (inr ne) = among_right xs ys n (ap (λ t. t || is_among ys n) (sym (ne_eqb child n ne)) ∙ e)
+    by_first : (child ≡ n) ⊎ (child ≢ n) → is_listed (xs ++ ys) n ≡ true
+    by_first (inl is) = among-left xs ys n (subst (λ k. is_listed xs k ≡ true) is here)
+    by_first (inr ne) = among_right xs ys n (ap (λ t. t || is_listed ys n) (sym (ne_eqb child n ne)) ∙ e)
 
 -- the first of a list, and the others
 abbrev pub first-of : List ℕ → ℕ
@@ -153,7 +153,7 @@ module _ (pages : ℕ) (m : PageMemory) (bits : ℕ → ℕ) (roots : ℕ) (law 
 
   -- the nodes of a way are among them
   nodes-among : (level page : ℕ) → IsOnWay m root key page level → (above : List ℕ) (node : ℕ) (rest : List ℕ) → way_down m key level page ≡ above ++ node ∷ rest
-      → AllByRecursion (λ n. is_among (page ∷ flat_map (with_siblings m key) above) n ≡ true) (above ++ node ∷ [])
+      → AllByRecursion (λ n. is_listed (page ∷ flat_map (with_siblings m key) above) n ≡ true) (above ++ node ∷ [])
   nodes-among level page o [] node rest is =
       let e : page ≡ node = first level is in
       (ap (λ t. t || false) (eq-eqb page node e), tt)
@@ -168,10 +168,10 @@ module _ (pages : ℕ) (m : PageMemory) (bits : ℕ → ℕ) (roots : ℕ) (law 
       let here = child_among pages m bits roots law root some le within key lt page level o in
       let r = nodes-among level child (child_on-way m root key page level o) xs node rest (ap others-of is) in
       let all = flat_map (with_siblings m key) xs in
-      let more : AllByRecursion (λ n. is_among (with_siblings m key page ++ all) n ≡ true) (xs ++ node ∷ []) =
-      each (λ n. is_among (child ∷ all) n ≡ true) (λ n. is_among (with_siblings m key page ++ all) n ≡ true) (xs ++ node ∷ []) (λ n. among-child (with_siblings m key page) all child n here) r in
-      subst (λ k. AllByRecursion (λ n. is_among (page ∷ (with_siblings m key k ++ all)) n ≡ true) (k ∷ (xs ++ node ∷ []))) e
-      (ap (λ t. t || is_among (with_siblings m key page ++ all) page) (eq-eqb page page refl), each (λ n. is_among (with_siblings m key page ++ all) n ≡ true) (λ n. is_among (page ∷ (with_siblings m key page ++ all)) n ≡ true) (xs ++ node ∷ []) (λ n. among_right (page ∷ []) (with_siblings m key page ++ all) n) more)
+      let more : AllByRecursion (λ n. is_listed (with_siblings m key page ++ all) n ≡ true) (xs ++ node ∷ []) =
+      each (λ n. is_listed (child ∷ all) n ≡ true) (λ n. is_listed (with_siblings m key page ++ all) n ≡ true) (xs ++ node ∷ []) (λ n. among-child (with_siblings m key page) all child n here) r in
+      subst (λ k. AllByRecursion (λ n. is_listed (page ∷ (with_siblings m key k ++ all)) n ≡ true) (k ∷ (xs ++ node ∷ []))) e
+      (ap (λ t. t || is_listed (with_siblings m key page ++ all) page) (eq-eqb page page refl), each (λ n. is_listed (with_siblings m key page ++ all) n ≡ true) (λ n. is_listed (page ∷ (with_siblings m key page ++ all)) n ≡ true) (xs ++ node ∷ []) (λ n. among_right (page ∷ []) (with_siblings m key page ++ all) n) more)
     where
       each : (P Q : ℕ → Type 0) (ps : List ℕ) → ((n : ℕ) → P n → Q n) → AllByRecursion P ps → AllByRecursion Q ps
       each P Q [] f h = tt
@@ -193,7 +193,7 @@ module _ (pages : ℕ) (m : PageMemory) (bits : ℕ → ℕ) (roots : ℕ) (law 
         let r = below-once (height_of m root) root (root_on-way m root key) above node rest down tail once low in
         (root-in, not-among m (height_of m root) root (flat_map (with_siblings m key) above ++ tail) refl r.1, r.0)
 
-    pub way_among : AllByRecursion (λ n. is_among (root ∷ flat_map (with_siblings m key) above) n ≡ true) (above ++ node ∷ [])
+    pub way_among : AllByRecursion (λ n. is_listed (root ∷ flat_map (with_siblings m key) above) n ≡ true) (above ++ node ∷ [])
     way_among = nodes-among (height_of m root) root (root_on-way m root key) above node rest down
 
     pub node_kind : (m node).kind ≡ Tree

@@ -9,34 +9,34 @@ use Rattle.ib_walk.specs.Trees.{top_of, height_of, leaves_of, weight_of, IsLawfu
 use Rattle.ib_walk.proofs.MeetLaws.{counts_page-own, lowest-le_weight}
 use Rattle.ib_walk.proofs.WalkLaws.{sum_of-append}
 use Rattle.ib_walk.proofs.TreeLaws.{weight_of-le, times_met-le}
-use Rattle.ib_tree.specs.PageLists.{is_among, AreOnce}
+use Rattle.ib_tree.specs.PageLists.{is_listed, AreOnce}
 use Rattle.ib_cursor.proofs.NextLaws.{IsLeaf}
 use Rattle.ib_rule.proofs.Lists.{or_denies}
 
 -- lists of pages, each once
-pub among_append : (xs ys : List ℕ) (page : ℕ) → is_among xs page ≡ false → is_among ys page ≡ false → is_among (xs ++ ys) page ≡ false
+pub among_append : (xs ys : List ℕ) (page : ℕ) → is_listed xs page ≡ false → is_listed ys page ≡ false → is_listed (xs ++ ys) page ≡ false
 among_append [] ys page a b = b
 among_append (x ∷ xs) ys page a b = by_first (x == page) a (among_append xs ys page)
   where
-    by_first : (t : Bool) → (t || is_among xs page) ≡ false → (is_among xs page ≡ false → is_among ys page ≡ false → is_among (xs ++ ys) page ≡ false) → (t || is_among (xs ++ ys) page) ≡ false
+    by_first : (t : Bool) → (t || is_listed xs page) ≡ false → (is_listed xs page ≡ false → is_listed ys page ≡ false → is_listed (xs ++ ys) page ≡ false) → (t || is_listed (xs ++ ys) page) ≡ false
     by_first true a later = cc
     by_first false a later = later a b
 
-pub among_parts : (xs ys : List ℕ) (page : ℕ) → is_among (xs ++ ys) page ≡ false → (is_among xs page ≡ false) × (is_among ys page ≡ false)
+pub among_parts : (xs ys : List ℕ) (page : ℕ) → is_listed (xs ++ ys) page ≡ false → (is_listed xs page ≡ false) × (is_listed ys page ≡ false)
 among_parts [] ys page e = (refl, e)
 among_parts (x ∷ xs) ys page e =
-    let n = or_denies (x == page) (is_among (xs ++ ys) page) e in let r = among_parts xs ys page n.1 in
-    (ap (λ t. t || is_among xs page) n.0 ∙ r.0, r.1)
+    let n = or_denies (x == page) (is_listed (xs ++ ys) page) e in let r = among_parts xs ys page n.1 in
+    (ap (λ t. t || is_listed xs page) n.0 ∙ r.0, r.1)
 
 -- a page behind others is none of them
-pub once_here : (xs : List ℕ) (page : ℕ) (ys : List ℕ) (pages : ℕ) → AreOnce (xs ++ page ∷ ys) pages → (is_among xs page ≡ false) × (page < pages)
+pub once_here : (xs : List ℕ) (page : ℕ) (ys : List ℕ) (pages : ℕ) → AreOnce (xs ++ page ∷ ys) pages → (is_listed xs page ≡ false) × (page < pages)
 once_here [] page ys pages o = (refl, o.0)
 once_here (x ∷ xs) page ys pages o =
     let r = once_here xs page ys pages o.2 in
     let n = among_parts xs (page ∷ ys) x o.1 in
-    let h = or_denies (page == x) (is_among ys x) n.1 in
+    let h = or_denies (page == x) (is_listed ys x) n.1 in
     let differ : (x == page) ≡ false = ne_eqb x page (λ e. let y : (page == x) ≡ true = eq-eqb page x (sym e) in let z : true ≡ false = sym y ∙ h.0 in cc) in
-    (ap (λ t. t || is_among xs page) differ ∙ r.0, r.1)
+    (ap (λ t. t || is_listed xs page) differ ∙ r.0, r.1)
 
 -- the leaves beside a leaf
 last-at : (m : PageMemory) (prev : ℕ) (before : List Visit) (v : Visit) (behind : List Visit) (next : ℕ) → AreLinked m prev (before ++ v ∷ behind) next

@@ -20,7 +20,7 @@ use Rattle.ib_plans.specs.Merge.{Siblings, siblings_of}
 use Rattle.ib_plans.proofs.LevelLaws.{AllByRecursion-both, above-sum, below-le_weight, below-zero, level-le_weight}
 use Rattle.ib_plans.proofs.MetLaws.{met-some}
 use Rattle.ib_plans.proofs.SiblingRecordLaws.{HasSiblings, HasSiblings-of, one_or_none}
-use Rattle.ib_tree.specs.PageLists.{is_among, AreOnce}
+use Rattle.ib_tree.specs.PageLists.{is_listed, AreOnce}
 use Rattle.ib_cursor.specs.Way.{IsOnWay}
 use Rattle.ib_cursor.specs.Claims.{beside}
 use Rattle.ib_cursor.specs.Siblings.{child_if, with_siblings}
@@ -30,11 +30,11 @@ abbrev pub pages_in : List Visit → List ℕ
 pages_in vs = map (λ v. v.page) vs
 
 -- pages that are counted once at most are each there once
-none-counted : (n : ℕ) (vs : List Visit) → sum_of (counts_page n 0) vs ≡ 0 → is_among (pages_in vs) n ≡ false
+none-counted : (n : ℕ) (vs : List Visit) → sum_of (counts_page n 0) vs ≡ 0 → is_listed (pages_in vs) n ≡ false
 none-counted n [] z = refl
 none-counted n (v ∷ vs) z = elim (cases_eq v.page n) [
   | inl e ↦ absurd (let o = counts_page-own n 0 v e in omega arith)
-  | inr ne ↦ ap (λ t. t || is_among (pages_in vs) n) (ne_eqb v.page n ne) ∙ none-counted n vs (omega (arith, z))
+  | inr ne ↦ ap (λ t. t || is_listed (pages_in vs) n) (ne_eqb v.page n ne) ∙ none-counted n vs (omega (arith, z))
 ]
 
 once-counted : (pages : ℕ) (vs : List Visit) → ((n : ℕ) → sum_of (counts_page n 0) vs ≤ 1) → AllByRecursion (λ v. v.page < pages) vs → AreOnce (pages_in vs) pages
@@ -113,11 +113,11 @@ few_siblings m key node =
     let t = siblings_of key (m node).records in let a = length-append (child_if t.left) (t.here.1 ∷ child_if t.right) in let b = one-at_most t.left in let c = one-at_most t.right in omega arith
 
 -- a page between others is one of them
-among-middle : (xs : List ℕ) (page : ℕ) (ys : List ℕ) (n : ℕ) → page ≡ n → is_among (xs ++ page ∷ ys) n ≡ true
-among-middle [] page ys n e = ap (λ t. t || is_among ys n) (eq-eqb page n e)
+among-middle : (xs : List ℕ) (page : ℕ) (ys : List ℕ) (n : ℕ) → page ≡ n → is_listed (xs ++ page ∷ ys) n ≡ true
+among-middle [] page ys n e = ap (λ t. t || is_listed ys n) (eq-eqb page n e)
 among-middle (x ∷ xs) page ys n e = by_first (x == n) (among-middle xs page ys n e)
   where
-    by_first : (t : Bool) → is_among (xs ++ page ∷ ys) n ≡ true → (t || is_among (xs ++ page ∷ ys) n) ≡ true
+    by_first : (t : Bool) → is_listed (xs ++ page ∷ ys) n ≡ true → (t || is_listed (xs ++ page ∷ ys) n) ≡ true
     by_first true r = refl
     by_first false r = r
 
@@ -217,7 +217,7 @@ module _ (pages : ℕ) (m : PageMemory) (bits : ℕ → ℕ) (roots : ℕ) (law 
   siblings_row = subst (AllByRecursion (IsRowPage m level)) mids-are (row-pages (IsRowPage m level) mids (AllByRecursion-left (λ v. IsRowPage m level v.page) mids back both-are))
 
   -- the key's child is one of them
-  pub child_among : is_among (with_siblings m key node) (child_for key 0 (m node).records) ≡ true
+  pub child_among : is_listed (with_siblings m key node) (child_for key 0 (m node).records) ≡ true
   child_among = among-middle (child_if trio.left) trio.here.1 (child_if trio.right) (child_for key 0 (m node).records) siblings.here
 
   -- the leaf behind the last one is none of them

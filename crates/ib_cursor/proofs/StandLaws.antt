@@ -19,10 +19,10 @@ use Rattle.ib_rule.specs.declared.view.Role.{Role}
 use Rattle.ib_rule.specs.declared.view.Role.TheVariants.{Session as SessionRole}
 use Rattle.ib_rule.specs.Memory.{entries_of}
 use Rattle.ib_rule.specs.Pass.{PassState, with_view}
-use Rattle.ib_rule.specs.Roles.{number_in}
+use Rattle.ib_rule.specs.Roles.{session_number_of}
 use Rattle.ib_rule.specs.Views.{is_watched}
 use Rattle.ib_rule.proofs.Watching.{untouched, watched_after}
-use Rattle.ib_latch.specs.Tries.{IsTaken, MayClaim, held_with}
+use Rattle.ib_latch.specs.Tries.{HasTakenGrant, MayClaim, held_with}
 use Rattle.ib_frames.specs.Reads.{with_page_loaded}
 use Rattle.ib_mtr.specs.Loads.{HasLoadedPage, HasLooked}
 use Rattle.ib_mtr.specs.Mtr.{with_memo}
@@ -39,10 +39,10 @@ fresh_held mode l v a none =
 
 pub taken_claim : (mode : Mode) (l : ℕ) (v : Level) (p q : PassState) → CanWish l v p.view.session
     → q ≡ with_memo (p.memo ++ memo_of (record { latch = l; mode = mode; level = v }) ∷ []) (with_view p q.view)
-    → IsTaken mode (held_with mode l v p.view.session) Free p.view q.view → HasTaken (record { latch = l; mode = mode; level = v }) p q
+    → HasTakenGrant mode (held_with mode l v p.view.session) Free p.view q.view → HasTaken (record { latch = l; mode = mode; level = v }) p q
 taken_claim mode l v p q may pass taken = record {
   pass = pass;
-  taken = subst (λ (held : List Holding). IsTaken mode held Free p.view q.view) (fresh_held mode l v p.view.session may.none) taken;
+  taken = subst (λ (held : List Holding). HasTakenGrant mode held Free p.view q.view) (fresh_held mode l v p.view.session may.none) taken;
 }
 
 -- how far a call went
@@ -135,9 +135,9 @@ seen_by sizes lawful opening p q role look =
       known = record {
         legal = look.looked.legal;
         room = look.looked.room;
-        mine = ap (λ n. entries_of n q.view.memory.seen) number ∙ (ap (λ (r : Role). entries_of (number_in r) q.view.memory.seen) (sym role) ∙ (look.looked.mine ∙ sym own));
+        mine = ap (λ n. entries_of n q.view.memory.seen) number ∙ (ap (λ (r : Role). entries_of (session_number_of r) q.view.memory.seen) (sym role) ∙ (look.looked.mine ∙ sym own));
       };
-      steady = λ page watched. untouched (number_in p.view.role) page p.view.memory.since look.looked.others watched look.looked.harmless;
+      steady = λ page watched. untouched (session_number_of p.view.role) page p.view.memory.since look.looked.others watched look.looked.harmless;
       watched = λ l held. subst (λ (r : PassState). is_watched l r.view.memory.since ≡ true) (sym is)
           (watched_after q.view.memory.seen p.view l (subst (λ (r : PassState). 0 < holdings l r.view.session) is held));
     }
@@ -184,9 +184,9 @@ seen_loaded sizes lawful opening page p q role load =
       known = record {
         legal = load.looked.legal;
         room = load.looked.room;
-        mine = ap (λ n. entries_of n q.view.memory.seen) number ∙ (ap (λ (r : Role). entries_of (number_in r) q.view.memory.seen) (sym role) ∙ (load.looked.mine ∙ sym own));
+        mine = ap (λ n. entries_of n q.view.memory.seen) number ∙ (ap (λ (r : Role). entries_of (session_number_of r) q.view.memory.seen) (sym role) ∙ (load.looked.mine ∙ sym own));
       };
-      steady = λ page watched. untouched (number_in p.view.role) page p.view.memory.since load.looked.others watched load.looked.harmless;
+      steady = λ page watched. untouched (session_number_of p.view.role) page p.view.memory.since load.looked.others watched load.looked.harmless;
       watched = λ l held. subst (λ (r : PassState). is_watched l r.view.memory.since ≡ true) (sym is)
           (watched_after q.view.memory.seen (with_page_loaded page load.image p.view) l (subst (λ (r : PassState). 0 < holdings l r.view.session) is held));
     }

@@ -34,7 +34,7 @@ use Rattle.ib_tree.specs.Logs.{pages_after}
 use Rattle.ib_cursor.proofs.PageLaws.{tree_image}
 use Rattle.ib_map.proofs.WriteLaws.{page_at-word}
 use Rattle.ib_walk.proofs.ImageLaws.{image_of-list, pages_of-same}
-use Rattle.ib_tree.specs.PageLists.{is_among, AreOnce}
+use Rattle.ib_tree.specs.PageLists.{is_listed, AreOnce}
 use Rattle.ib_mtr.specs.Loads.{IsPageAfter}
 use Rattle.ib_mtr.proofs.Images.{All-with_page}
 use Rattle.ib_cursor.specs.Claims.{claim_grant, IsAsRead, beside}
@@ -62,9 +62,9 @@ loaded-more page q (p ∷ ps) = by_test (loaded-more page q ps) (nat_lt p.page q
     by_test r true = ap (λ t. (p.page == page) || t) r ∙ turned (p.page == page) (q.page == page) (is_loaded page ps)
     by_test r false = refl
 
-pub among-more : (held : List ℕ) (new page : ℕ) → is_among (held ++ new ∷ []) page ≡ ((new == page) || is_among held page)
+pub among-more : (held : List ℕ) (new page : ℕ) → is_listed (held ++ new ∷ []) page ≡ ((new == page) || is_listed held page)
 among-more [] new page = refl
-among-more (x ∷ xs) new page = ap (λ t. (x == page) || t) (among-more xs new page) ∙ turned (x == page) (new == page) (is_among xs page)
+among-more (x ∷ xs) new page = ap (λ t. (x == page) || t) (among-more xs new page) ∙ turned (x == page) (new == page) (is_listed xs page)
   where
     turned : (a b c : Bool) → (a || (b || c)) ≡ (b || (a || c))
     turned true true c = refl
@@ -84,10 +84,10 @@ absent_loaded page [] none = refl
 absent_loaded page (p ∷ ps) none = let n = or_denies (p.page == page) (is_loaded page ps) none in ap (λ b. cond b (Some p.changed) (changed_of page ps)) n.0 ∙ absent_loaded page ps n.1
 
 -- a page that is none of these has another latch
-away-pages : (held : List ℕ) (page : ℕ) → is_among held page ≡ false → IsAway (page + 2) (page_grants held)
+away-pages : (held : List ℕ) (page : ℕ) → is_listed held page ≡ false → IsAway (page + 2) (page_grants held)
 away-pages [] page none = tt
 away-pages (x ∷ xs) page none =
-    let n = or_denies (x == page) (is_among xs page) none in
+    let n = or_denies (x == page) (is_listed xs page) none in
     ((λ e. let y : (x == page) ≡ true = eq-eqb x page (omega (arith, e)) in absurd (let z : true ≡ false = sym y ∙ n.0 in cc)), away-pages xs page n.1)
 
 follow-pages : (held : List ℕ) → AllByRecursion (λ (g : Grant). may_follow g.level TreeNode ≡ true) (page_grants held)
@@ -187,11 +187,11 @@ pub steady_both : (opening : ℕ → ℕ) (held more : List ℕ) (p q r : PassSt
 steady_both opening [] more p q r a b = tt
 steady_both opening (n ∷ ns) more p q r a b = (b.0 ∙ a.0, steady_both opening ns more p q r a.1 b.1)
 
-pub steady_at : (opening : ℕ → ℕ) (held : List ℕ) (p q : PassState) → AreSteady opening held p q → (page : ℕ) → is_among held page ≡ true → pages_after opening q.view.memory.seen page ≡ pages_after opening p.view.memory.seen page
+pub steady_at : (opening : ℕ → ℕ) (held : List ℕ) (p q : PassState) → AreSteady opening held p q → (page : ℕ) → is_listed held page ≡ true → pages_after opening q.view.memory.seen page ≡ pages_after opening p.view.memory.seen page
 steady_at opening [] p q steady page is = cc
 steady_at opening (n ∷ ns) p q steady page is = elim (cases_eq n page) [
   | inl e ↦ subst (λ k. pages_after opening q.view.memory.seen k ≡ pages_after opening p.view.memory.seen k) e steady.0
-  | inr ne ↦ steady_at opening ns p q steady.1 page (ap (λ b. b || is_among ns page) (sym (ne_eqb n page ne)) ∙ is)
+  | inr ne ↦ steady_at opening ns p q steady.1 page (ap (λ b. b || is_listed ns page) (sym (ne_eqb n page ne)) ∙ is)
 ]
 
 -- one page after the other
@@ -311,7 +311,7 @@ pub record IsRightLink (opening : ℕ → ℕ) (p : PassState) (page right : ℕ
   pub formed : IsFormed image
   pub right_is : next_of image ≡ right
 
-pub right_link : (sizes : Sizes) (lawful : List Entry → Type 0) (opening : ℕ → ℕ) (held : List ℕ) (page right : ℕ) (p : PassState) → HoldsClaimed sizes lawful opening held p → is_among held page ≡ true
+pub right_link : (sizes : Sizes) (lawful : List Entry → Type 0) (opening : ℕ → ℕ) (held : List ℕ) (page right : ℕ) (p : PassState) → HoldsClaimed sizes lawful opening held p → is_listed held page ≡ true
     → (pages_after opening p.view.memory.seen page).kind ≡ Tree → (pages_after opening p.view.memory.seen page).next ≡ right → IsRightLink opening p page right
 right_link sizes lawful opening held page right p h among kind next =
     let f = found opening p page p.work h.read (h.loaded page ∙ among) in
@@ -319,8 +319,8 @@ right_link sizes lawful opening held page right p h among kind next =
     let t = tree_image (memory_after opening p.view.memory.seen) page kind in
     record { image = f.image; there = f.there; formed = formed-tree f.image (subst IsTreePage is t.tree); right_is = sym (ap next_of is) ∙ (sym t.next ∙ next) }
 
-pub among_last : (held : List ℕ) (page : ℕ) → is_among (held ++ page ∷ []) page ≡ true
-among_last held page = among-more held page page ∙ ap (λ b. b || is_among held page) (eq-eqb page page refl)
+pub among_last : (held : List ℕ) (page : ℕ) → is_listed (held ++ page ∷ []) page ≡ true
+among_last held page = among-more held page page ∙ ap (λ b. b || is_listed held page) (eq-eqb page page refl)
 
 pub beside_few : (page : ℕ) → length (beside page) ≤ 1
 beside_few page = by_test (page == 0)

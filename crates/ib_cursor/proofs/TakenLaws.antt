@@ -18,7 +18,7 @@ use Rattle.ib_walk.proofs.WalkLaws.{AllByRecursion-left}
 use Rattle.ib_plans.specs.Agreement.{last_of, way_down, way_of}
 use Rattle.ib_plans.proofs.MetLaws.{root-met}
 use Rattle.ib_tree.specs.Logs.{pages_after}
-use Rattle.ib_tree.specs.PageLists.{is_among, AreOnce}
+use Rattle.ib_tree.specs.PageLists.{is_listed, AreOnce}
 use Rattle.ib_cursor.specs.Way.{IsOnWay}
 use Rattle.ib_cursor.specs.Claims.{beside}
 use Rattle.ib_cursor.specs.Going.{IsKnown}
@@ -48,7 +48,7 @@ rows-few m key [] = omega arith
 rows-few m key (p ∷ ps) = let a = length-append (with_siblings m key p) (flat_map (with_siblings m key) ps) in let b = few_siblings m key p in let c = rows-few m key ps in omega arith
 
 -- pages that are held are as they were
-steady-all : (opening : ℕ → ℕ) (held : List ℕ) (p q : PassState) → AreSteady opening held p q → (ps : List ℕ) → AllByRecursion (λ n. is_among held n ≡ true) ps
+steady-all : (opening : ℕ → ℕ) (held : List ℕ) (p q : PassState) → AreSteady opening held p q → (ps : List ℕ) → AllByRecursion (λ n. is_listed held n ≡ true) ps
     → AllByRecursion (λ n. pages_after opening q.view.memory.seen n ≡ pages_after opening p.view.memory.seen n) ps
 steady-all opening held p q steady [] among = tt
 steady-all opening held p q steady (n ∷ ns) among = (steady_at opening held p q steady n among.0, steady-all opening held p q steady ns among.1)
@@ -92,7 +92,7 @@ module _ (sizes : Sizes) (roots : ℕ) (lawful : List Entry → Type 0) (opening
     within : (n : ℕ) → 1 ≤ weight_of (counts_page n) m root → n < sizes.pages
     within n met = inside-met sizes roots lawful opening shape root some le key lt q.view.memory.seen known.legal n met
 
-    among : AllByRecursion (λ n. is_among rows_held n ≡ true) (rows.above ++ rows.node ∷ [])
+    among : AllByRecursion (λ n. is_listed rows_held n ≡ true) (rows.above ++ rows.node ∷ [])
     among = way_among sizes.pages m (bits_of sizes.pages (memory_after opening q.view.memory.seen)) roots law root some le within key lt path rows.above rows.node rows.rest rows.way rows.is
 
     many : length path ≡ count + 1 + length rows.rest
@@ -133,7 +133,7 @@ module _ (sizes : Sizes) (roots : ℕ) (lawful : List Entry → Type 0) (opening
             first = is.first (omega arith);
           }
         where
-          last-in : (xs : List ℕ) (node : ℕ) → AllByRecursion (λ n. is_among rows_held n ≡ true) (xs ++ node ∷ []) → is_among rows_held node ≡ true
+          last-in : (xs : List ℕ) (node : ℕ) → AllByRecursion (λ n. is_listed rows_held n ≡ true) (xs ++ node ∷ []) → is_listed rows_held node ≡ true
           last-in [] node a = a.0
           last-in (x ∷ xs) node a = last-in xs node a.1
 
@@ -175,8 +175,8 @@ module _ (sizes : Sizes) (roots : ℕ) (lawful : List Entry → Type 0) (opening
       once : AreOnce (rows_held ++ beside (m (last_of rows_held)).next) sizes.pages × ((m (last_of rows_held)).kind ≡ Tree)
       once = all_once sizes.pages m (bits_of sizes.pages (memory_after opening q.view.memory.seen)) roots law root some le within key lt path rows.above rows.node rows.way ends
 
-      held-last : is_among rows_held last ≡ true
-      held-last = subst (λ n. is_among rows_held n ≡ true) (sym rows.last_is) (last_among rows_held (omega arith))
+      held-last : is_listed rows_held last ≡ true
+      held-last = subst (λ n. is_listed rows_held n ≡ true) (sym rows.last_is) (last_among rows_held (omega arith))
 
       pub behind_link : IsRightLink opening q last next
       behind_link = right_link sizes lawful opening rows_held last next q rows.taken.holds held-last (subst (λ n. (m n).kind ≡ Tree) (sym rows.last_is) once.1) refl

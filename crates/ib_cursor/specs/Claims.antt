@@ -11,7 +11,7 @@ use Rattle.ib_logrec.specs.declared.entry.Entry.{Entry}
 use Rattle.ib_walk.specs.Pages.{PageMemory}
 use Rattle.ib_plans.specs.Agreement.{way_of}
 use Rattle.ib_tree.specs.Logs.{pages_after}
-use Rattle.ib_tree.specs.PageLists.{is_among}
+use Rattle.ib_tree.specs.PageLists.{is_listed}
 use Rattle.ib_rule.specs.Pass.{PassState}
 use Rattle.ib_rule.specs.Views.{is_watched}
 use Rattle.ib_mtr.specs.Loads.{IsPageAfter}
@@ -34,7 +34,7 @@ pub record HasClaimed (sizes : Sizes) (lawful : List Entry → Type 0) (opening 
   pub grants : HasGrants (claim_grant ∷ map (λ page. page_grant page X) held) q
   pub claimed : is_watched 1 q.view.memory.since ≡ true
   pub watched : AllByRecursion (λ page. is_watched (page + 2) q.view.memory.since ≡ true) held
-  pub there : (page : ℕ) → IsSome (changed_of page q.work) ↔ (is_among held page ≡ true)
+  pub there : (page : ℕ) → IsSome (changed_of page q.work) ↔ (is_listed held page ≡ true)
   pub count : length q.work ≡ length held
   pub read : All (IsAsRead opening q.view.memory.seen) q.work
   pub went : WentOn p q

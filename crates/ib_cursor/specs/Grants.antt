@@ -10,7 +10,7 @@ use Rattle.ib_levels.specs.declared.level.Mode.TheVariants.{S}
 use Rattle.ib_core.specs.declared.phase.Phase.TheVariants.{Free}
 use Rattle.ib_core.specs.Takings.{first_holding}
 use Rattle.ib_rule.specs.Pass.{PassState, with_view}
-use Rattle.ib_latch.specs.Tries.{IsTaken}
+use Rattle.ib_latch.specs.Tries.{HasTakenGrant}
 use Rattle.ib_mtr.specs.Mtr.{with_memo}
 
 -- a grant on a latch, at the level at which it was taken
@@ -44,4 +44,4 @@ IsAway l gs = AllByRecursion (λ g. g.latch ≢ l) gs
 -- one grant more is on top of the memo, on a latch of which nothing was held, and nothing else is changed but looks
 pub record HasTaken (g : Grant) (p q : PassState) : Type 0 where
   pub pass : q ≡ with_memo (p.memo ++ memo_of g ∷ []) (with_view p q.view)
-  pub taken : IsTaken g.mode (p.view.session.held ++ hold_of g ∷ []) Free p.view q.view
+  pub taken : HasTakenGrant g.mode (p.view.session.held ++ hold_of g ∷ []) Free p.view q.view

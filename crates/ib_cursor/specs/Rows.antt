@@ -7,7 +7,7 @@ use Rattle.ib_logrec.specs.declared.entry.Entry.{Entry}
 use Rattle.ib_walk.specs.Pages.{Tree}
 use Rattle.ib_plans.specs.Agreement.{last_of, way_of}
 use Rattle.ib_tree.specs.Logs.{pages_after}
-use Rattle.ib_tree.specs.PageLists.{is_among}
+use Rattle.ib_tree.specs.PageLists.{is_listed}
 use Rattle.ib_rule.specs.Pass.{PassState}
 use Rattle.ib_cursor.specs.Siblings.{with_siblings}
 use Rattle.ib_cursor.specs.Takings.{WillTake, HasTakenMore}
@@ -15,7 +15,7 @@ use Rattle.ib_cursor.specs.Takings.{WillTake, HasTakenMore}
 -- one of the pages that are held is a node of the key, and the pages of its row may be taken
 pub record CanTakeRow (sizes : Sizes) (lawful : List Entry → Type 0) (opening : ℕ → ℕ) (key : MapKey) (held : List ℕ) (node : ℕ) (p : PassState) : Type 0 where
   pub will : WillTake sizes lawful opening held (with_siblings (pages_after opening p.view.memory.seen) key node) p
-  pub there : is_among held node ≡ true
+  pub there : is_listed held node ≡ true
   pub kind : (pages_after opening p.view.memory.seen node).kind ≡ Tree
   pub first : IsSomeAnd (slice_get (pages_after opening p.view.memory.seen node).records 0) (λ r. rank r.0 ≤ rank key)
 

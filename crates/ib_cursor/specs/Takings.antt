@@ -7,7 +7,7 @@ use Rattle.ib_layout.specs.Geometry.{Sizes}
 use Rattle.ib_logrec.specs.declared.entry.Entry.{Entry}
 use Rattle.ib_walk.specs.Pages.{Tree}
 use Rattle.ib_tree.specs.Logs.{pages_after}
-use Rattle.ib_tree.specs.PageLists.{is_among, AreOnce}
+use Rattle.ib_tree.specs.PageLists.{is_listed, AreOnce}
 use Rattle.ib_rule.specs.Pass.{PassState}
 use Rattle.ib_rule.specs.Views.{is_watched, with_grant}
 use Rattle.ib_cursor.specs.Grants.{Grant, page_grant, HasGrants}
@@ -33,7 +33,7 @@ pub record HoldsClaimed (sizes : Sizes) (lawful : List Entry → Type 0) (openin
   pub grants : HasGrants (claim_grant ∷ page_grants held) p
   pub claimed : is_claimed p.view.memory.since ≡ true
   pub watched : AllByRecursion (λ page. is_watched (page + 2) p.view.memory.since ≡ true) held
-  pub loaded : (page : ℕ) → is_loaded page p.work ≡ is_among held page
+  pub loaded : (page : ℕ) → is_loaded page p.work ≡ is_listed held page
   pub count : length p.work ≡ length held
   pub read : All (IsHeldPage opening p) p.work
   pub known : IsKnown sizes lawful p
@@ -41,7 +41,7 @@ pub record HoldsClaimed (sizes : Sizes) (lawful : List Entry → Type 0) (openin
 -- .. and one more, which is none of them, may be taken
 pub record CanTakePage (sizes : Sizes) (lawful : List Entry → Type 0) (opening : ℕ → ℕ) (held : List ℕ) (page : ℕ) (p : PassState) : Type 0 where
   pub holds : HoldsClaimed sizes lawful opening held p
-  pub other : is_among held page ≡ false
+  pub other : is_listed held page ≡ false
   pub few : length held < 24
 
 -- each of these pages is as it was

@@ -18,8 +18,8 @@ abbrev pub ConsumesAtMost : Option (List ℕ) → Option (List ℕ) → ℕ → 
 ConsumesAtMost old new limit = (bs : List ℕ) × Consumes old new bs × (length bs ≤ limit)
 
 -- Reading ends with all of an input within the limit, with more than the limit, or earlier by a fault or for want of memory.
-abbrev pub Reads : {A : Type 0} → Option (List ℕ) → Option (List ℕ) → ℕ → Result (Vec ℕ A) ReadError → Type 0
-Reads old new limit (Ok input) = ReadsAll old new limit input.items
-Reads old new limit (Err TooLarge) = ConsumesMore old new limit
-Reads old new limit (Err Fault) = ConsumesAtMost old new limit
-Reads old new limit (Err Memory) = Unit {0}
+abbrev pub ReadsWhole : {A : Type 0} → Option (List ℕ) → Option (List ℕ) → ℕ → Result (Vec ℕ A) ReadError → Type 0
+ReadsWhole old new limit (Ok input) = ReadsAll old new limit input.items
+ReadsWhole old new limit (Err TooLarge) = ConsumesMore old new limit
+ReadsWhole old new limit (Err Fault) = ConsumesAtMost old new limit
+ReadsWhole old new limit (Err Memory) = Unit {0}

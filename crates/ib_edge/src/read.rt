@@ -2,7 +2,7 @@
 
 ghost use Rattle.std.specs.Prelude.{◌≡◌, ◌≢◌, ◌≤◌, ◌+◌, Err, vec_len, IfOk, IsErrOf};
 ghost use Rattle.ib_edge.specs.Faults.{Rose};
-ghost use Rattle.ib_edge.specs.Input.{ConsumesAtMost, Reads};
+ghost use Rattle.ib_edge.specs.Input.{ConsumesAtMost, ReadsWhole};
 
 use crate::source::Source;
 use std::alloc::{AllocError, Global};
@@ -44,7 +44,7 @@ pub fn read_all<S: Source>(
     source: &mut S,
     limit: usize,
 ) -> Result<Vec<u8>, ReadError>
-    ensures reads { Reads (S.left source.old) (S.left source.new) limit result }
+    ensures reads { ReadsWhole (S.left source.old) (S.left source.new) limit result }
     ensures within { ConsumesAtMost (S.left source.old) (S.left source.new) (limit + PIECE_BYTES) }
     ensures later { S.faults source.old ≤ S.faults source.new }
     ensures calm { result ≢ Err ReadError.Fault → S.faults source.new ≡ S.faults source.old }

@@ -11,7 +11,7 @@ use Rattle.ib_edge.specs.Lines.{fields_of}
 use Rattle.ib_edge.specs.declared.line_kind.LineKind.{LineKind}
 use Rattle.ib_edge.specs.declared.line_kind.LineKind.TheVariants.{Latch}
 use Rattle.ib_events.specs.EventText.{level_text, mode_text, step_text}
-use Rattle.ib_events.specs.Events.{IsInRange, event_of, event_on_latch, event_reading_of, event_reading_of_fields, event_word, latch_in, level_in, level_numbered, mode_in}
+use Rattle.ib_events.specs.Events.{IsEventInRange, event_of, event_on_latch, event_reading_of, event_reading_of_fields, event_word, latch_in, level_in, level_numbered, mode_in}
 use Rattle.ib_events.specs.declared.event_line.EventLine.TheVariants.{Skipped, Event as EventOf}
 use Rattle.ib_events.specs.declared.event_line.EventWord.{EventWord}
 use Rattle.ib_events.specs.declared.event_line.EventWord.TheVariants.{S as WordS, Sx as WordSx, X as WordX, Arm as WordArm, OnLatch}
@@ -119,7 +119,7 @@ module _ (first : List ℕ) (session : ℕ) (named : session_in first ≡ Ok ses
   step-read (Clear latch) few = on-latch (codes "clear") WordClear latch refl few
   step-read (Raise latch) few = on-latch (codes "raise") WordRaise latch refl few
 
-pub event-read : (session : ℕ) (event : Event) → IsInRange (session, event) → event_reading_of (decimal session ++ codes " " ++ step_text event) ≡ Ok (EventOf session event)
+pub event-read : (session : ℕ) (event : Event) → IsEventInRange (session, event) → event_reading_of (decimal session ++ codes " " ++ step_text event) ≡ Ok (EventOf session event)
 event-read session event range =
     let small : session < 2 ^ 64 = let few = range.1 in omega arith in
     let rest : List ℕ = 32 ∷ step_text event in

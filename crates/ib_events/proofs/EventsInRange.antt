@@ -8,7 +8,7 @@ use Rattle.ib_core.specs.declared.event.Event.TheVariants.{S, Sx, X, Arm}
 use Rattle.ib_core.specs.Responses.{latch_of}
 use Rattle.ib_levels.specs.declared.level.Level.{Level}
 use Rattle.ib_levels.specs.declared.level.Mode.{Mode}
-use Rattle.ib_events.specs.Events.{EventReading, IsInRange, events_in, event_of, event_on_latch, event_word, event_reading_of, event_reading_of_fields, latch_in, latch_in_mode, level_in, mode_in}
+use Rattle.ib_events.specs.Events.{EventReading, IsEventInRange, events_in, event_of, event_on_latch, event_word, event_reading_of, event_reading_of_fields, latch_in, latch_in_mode, level_in, mode_in}
 use Rattle.ib_edge.specs.Fields.{◌>>=◌, number_in, one_field, session_in, two_fields}
 use Rattle.ib_edge.specs.Lines.{fields_of}
 use Rattle.ib_edge.specs.Lines.{is_skipped}
@@ -110,7 +110,7 @@ event-range WordArm fields event is =
     rw (sym same) at (mode-range fields read.0 read.1)
 event-range (OnLatch word) fields event is = made-alone (event_on_latch word) (latch-on word) fields event is
 
-fields-range : (fields : List (List ℕ)) (session : ℕ) (event : Event) → event_reading_of_fields fields ≡ Ok (EventOf session event) → IsInRange (session, event)
+fields-range : (fields : List (List ℕ)) (session : ℕ) (event : Event) → event_reading_of_fields fields ≡ Ok (EventOf session event) → IsEventInRange (session, event)
 fields-range [] session event is = absurd (cc)
 fields-range (n ∷ []) session event is = absurd (cc)
 fields-range (n ∷ word ∷ fields) session event is =
@@ -123,19 +123,19 @@ fields-range (n ∷ word ∷ fields) session event is =
     let latch : latch_of event ≤ MOST_LATCH = rw same-event at (event-range second.0 fields third.0 third.1) in
     (sessions.0, sessions.1, latch)
 
-line-range : (line : List ℕ) (session : ℕ) (event : Event) → event_reading_of line ≡ Ok (EventOf session event) → IsInRange (session, event)
+line-range : (line : List ℕ) (session : ℕ) (event : Event) → event_reading_of line ≡ Ok (EventOf session event) → IsEventInRange (session, event)
 line-range line session event = go (is_skipped line)
   where
-    go : (b : Bool) → cond {A = EventReading} b (Ok Skipped) (event_reading_of_fields (fields_of line)) ≡ Ok (EventOf session event) → IsInRange (session, event)
+    go : (b : Bool) → cond {A = EventReading} b (Ok Skipped) (event_reading_of_fields (fields_of line)) ≡ Ok (EventOf session event) → IsEventInRange (session, event)
     go true is = absurd (cc)
     go false is = fields-range (fields_of line) session event is
 
-one-more : (reading : EventReading) (readings : List EventReading) → ((session : ℕ) (event : Event) → reading ≡ Ok (EventOf session event) → IsInRange (session, event))
-    → AllByRecursion IsInRange (events_in readings) → AllByRecursion IsInRange (events_in (reading ∷ readings))
+one-more : (reading : EventReading) (readings : List EventReading) → ((session : ℕ) (event : Event) → reading ≡ Ok (EventOf session event) → IsEventInRange (session, event))
+    → AllByRecursion IsEventInRange (events_in readings) → AllByRecursion IsEventInRange (events_in (reading ∷ readings))
 one-more (Ok (EventOf session event)) readings known all = (known session event refl, all)
 one-more (Ok Skipped) readings known all = all
 one-more (Err kind) readings known all = all
 
-pub events-in-range : (lines : List (List ℕ)) → AllByRecursion IsInRange (events_in (map event_reading_of lines))
+pub events-in-range : (lines : List (List ℕ)) → AllByRecursion IsEventInRange (events_in (map event_reading_of lines))
 events-in-range [] = tt
 events-in-range (line ∷ lines) = one-more (event_reading_of line) (map event_reading_of lines) (line-range line) (events-in-range lines)

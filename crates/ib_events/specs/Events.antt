@@ -115,8 +115,8 @@ abbrev pub event_reading_of : List ℕ → EventReading
 event_reading_of line = if is_skipped line then Ok Skipped else event_reading_of_fields (fields_of line)
 
 -- an event of a session that there is, on a latch that there is
-abbrev pub IsInRange : ℕ × Event → Type 0
-IsInRange at = (1 ≤ at.0) × (at.0 ≤ MOST_SCRIPT_SESSIONS) × (latch_of at.1 ≤ MOST_LATCH)
+abbrev pub IsEventInRange : ℕ × Event → Type 0
+IsEventInRange at = (1 ≤ at.0) × (at.0 ≤ MOST_SCRIPT_SESSIONS) × (latch_of at.1 ≤ MOST_LATCH)
 
 -- a line with an event
 abbrev pub is_event : EventReading → Bool

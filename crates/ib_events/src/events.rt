@@ -2,7 +2,7 @@
 
 ghost use Rattle.std.specs.Prelude.{◌≡◌, ◌≤◌, ◌-◌, ◌<◌, ◌^◌, ◌+◌, ℕ, None, Some, Ok, Err, [], ◌∷◌, ◌++◌, length, vec_len, IfOk, OnOk};
 ghost use Rattle.std.specs.List.{AllByRecursion};
-ghost use Rattle.ib_events.specs.Events.{IsInRange, TakesEvent, event_fault, event_fault_behind, event_reading_of, events_in, is_event};
+ghost use Rattle.ib_events.specs.Events.{IsEventInRange, TakesEvent, event_fault, event_fault_behind, event_reading_of, events_in, is_event};
 ghost use Rattle.ib_edge.specs.Lines.{MayLackMemory, readings_by};
 ghost use Rattle.ib_edge.specs.declared.line_kind.LineKind.{LineKind};
 
@@ -23,13 +23,13 @@ impl Model for Events {
     ghost use Rattle.ib_core.specs.declared.event.Event.{Event};
     ghost use Rattle.ib_events.specs.declared.event_line.TheConstants.{MOST_EVENTS};
     ghost use Rattle.std.specs.List.{AllByRecursion};
-    ghost use Rattle.ib_events.specs.Events.{IsInRange};
+    ghost use Rattle.ib_events.specs.Events.{IsEventInRange};
 
     ghost Value = { List (ℕ × Event) };
 
     ghost view = { λ events. events.list.items };
 
-    ghost invariant = { λ events. (vec_len events.list ≤ MOST_EVENTS) × AllByRecursion IsInRange events.list.items };
+    ghost invariant = { λ events. (vec_len events.list ≤ MOST_EVENTS) × AllByRecursion IsEventInRange events.list.items };
 }
 
 impl Events {
@@ -37,7 +37,7 @@ impl Events {
     pub fn list(&self) -> &[(u32, Event)]
         ensures list { result.now ≡ self.now }
         ensures few { length self.now ≤ MOST_EVENTS }
-        ensures in_range { AllByRecursion IsInRange self.now }
+        ensures in_range { AllByRecursion IsEventInRange self.now }
     {
         &self.list
     }

@@ -6,7 +6,7 @@ ghost use Rattle.ib_edge.specs.Faults.{Rose};
 ghost use Rattle.ib_edge.specs.Told.{IsOutOfMemory, Told, ends};
 ghost use Rattle.ib_edge.specs.Writer.{Puts};
 ghost use Rattle.ib_edge.specs.declared.line_kind.TheConstants.{MOST_SCRIPT_SESSIONS as SESSIONS};
-ghost use Rattle.ib_events.specs.Events.{IsInRange};
+ghost use Rattle.ib_events.specs.Events.{IsEventInRange};
 ghost use Rattle.ib_events.specs.Latching.{latch_output, lines_from};
 ghost use Rattle.ib_events.specs.declared.event_line.TheConstants.{MOST_EVENTS, MOST_LATCH};
 
@@ -22,7 +22,7 @@ fn print_events<K: Sink>(writer: &mut Writer<'_, K>, core: &mut Core, events: &[
     requires sessions { length core.old.state.sessions ≡ SESSIONS }
     requires latches { length core.old.state.marks ≡ MOST_LATCH + 1 }
     requires steps { core.old.steps + length events.now ≤ MOST_EVENTS }
-    requires in_range { AllByRecursion IsInRange events.now }
+    requires in_range { AllByRecursion IsEventInRange events.now }
     ensures puts { Puts K.written K.faults writer.old writer.new (lines_from core.old.state events.now) }
 {
     for &(session, event) in events {

@@ -26,7 +26,7 @@ use Rattle.ib_logrec.proofs.WordLaws.{word_of_entry-place, word_of_entry-value}
 use Rattle.ib_rule.specs.declared.pass.TheConstants.{ENTRY_WORDS}
 use Rattle.ib_rule.specs.declared.memory.OpenAppend.{OpenAppend}
 use Rattle.ib_rule.specs.declared.view.Role.TheVariants.{Session}
-use Rattle.ib_rule.specs.Roles.{number_in}
+use Rattle.ib_rule.specs.Roles.{session_number_of}
 use Rattle.ib_rule.specs.Pass.{PassState, with_view}
 use Rattle.ib_rule.specs.Stores.{IsReady, Begins, appending}
 use Rattle.ib_rule.specs.Writing.{MayStore, entry_of}
@@ -81,7 +81,7 @@ module _ (sizes : Sizes) (lawful : List Entry → Type 0) (p : PassState) (chang
         spelled = subst (λ (e : Entry). IsPrefix (words_of_entry e) words) (sym is) spelled;
         ready = subst (λ (e : Entry). IsReady sizes lawful p.view e) (sym is) record {
           fits = record {
-            named = sym (ap number_in role);
+            named = sym (ap session_number_of role);
             counted = refl;
             grammar = in_grammar;
             free = may.free;

@@ -12,7 +12,7 @@ use Rattle.ib_walk.specs.Search.{child_for}
 use Rattle.ib_walk.specs.Trees.{IsTreeOf, height_of}
 use Rattle.ib_plans.specs.Agreement.{Agrees, IsThere, last_of, memory_in, way_down}
 use Rattle.ib_split.proofs.WayLaws.{path-last}
-use Rattle.ib_tree.specs.PageLists.{AreOnce, is_among}
+use Rattle.ib_tree.specs.PageLists.{AreOnce, is_listed}
 use Rattle.ib_tree.specs.TreeLog.{opening}
 use Rattle.ib_kept.specs.Kept.{IsKeptLog}
 use Rattle.ib_kept.specs.LeafChange.{kept_pages}
@@ -71,19 +71,19 @@ module _ (sizes : Sizes) (fits : has_pages sizes.pages ≡ true) (key : MapKey) 
   tree : IsTreeOf m (height_of m 1) 1
   tree = (agreement.lawful.trees 1 (omega arith) (omega arith)).0
 
-  held-is : (n : ℕ) → is_among held n ≡ (is_among w.front n || (is_among (beside (m w.leaf).prev) n || ((w.leaf == n) || is_among (beside (m w.leaf).next) n)))
+  held-is : (n : ℕ) → is_listed held n ≡ (is_listed w.front n || (is_listed (beside (m w.leaf).prev) n || ((w.leaf == n) || is_listed (beside (m w.leaf).next) n)))
   held-is n =
-      ap (λ ns. is_among ns n) w.are ∙ (among-both w.front (beside (m w.leaf).prev ++ w.leaf ∷ beside (m w.leaf).next) n
-      ∙ ap (λ b. is_among w.front n || b) (among-both (beside (m w.leaf).prev) (w.leaf ∷ beside (m w.leaf).next) n))
+      ap (λ ns. is_listed ns n) w.are ∙ (among-both w.front (beside (m w.leaf).prev ++ w.leaf ∷ beside (m w.leaf).next) n
+      ∙ ap (λ b. is_listed w.front n || b) (among-both (beside (m w.leaf).prev) (w.leaf ∷ beside (m w.leaf).next) n))
 
-  way-held : (n : ℕ) → is_among path n ≡ true → is_among held n ≡ true
+  way-held : (n : ℕ) → is_listed path n ≡ true → is_listed held n ≡ true
   way-held n among =
-      let two = sym (ap (λ ns. is_among ns n) w.ends ∙ among-both w.front (w.leaf ∷ []) n) ∙ among in
-      held-is n ∙ or-path (is_among w.front n) (is_among (beside (m w.leaf).prev) n) (w.leaf == n) (is_among (beside (m w.leaf).next) n) two
+      let two = sym (ap (λ ns. is_listed ns n) w.ends ∙ among-both w.front (w.leaf ∷ []) n) ∙ among in
+      held-is n ∙ or-path (is_listed w.front n) (is_listed (beside (m w.leaf).prev) n) (w.leaf == n) (is_listed (beside (m w.leaf).next) n) two
 
-  next-held : (m w.leaf).next ≢ 0 → is_among held (m w.leaf).next ≡ true
+  next-held : (m w.leaf).next ≢ 0 → is_listed held (m w.leaf).next ≡ true
   next-held ne =
-      held-is (m w.leaf).next ∙ or-next (is_among w.front (m w.leaf).next) (is_among (beside (m w.leaf).prev) (m w.leaf).next) (w.leaf == (m w.leaf).next) (is_among (beside (m w.leaf).next) (m w.leaf).next) (beside-own (m w.leaf).next ne)
+      held-is (m w.leaf).next ∙ or-next (is_listed w.front (m w.leaf).next) (is_listed (beside (m w.leaf).prev) (m w.leaf).next) (w.leaf == (m w.leaf).next) (is_listed (beside (m w.leaf).next) (m w.leaf).next) (beside-own (m w.leaf).next ne)
 
   last-is : last_of path ≡ w.leaf
   last-is = ap last_of w.ends ∙ last-of w.front w.leaf
@@ -102,7 +102,7 @@ module _ (sizes : Sizes) (fits : has_pages sizes.pages ≡ true) (key : MapKey) 
     (bit_on-way m bits 1 1 key page level agreement.lawful (omega arith) (omega arith) lt o).0,
   )
 
-  path-kind : (n level page : ℕ) → IsOnWay m 1 key page level → is_among (way_down m key level page) n ≡ true → IsPageOfTree m n
+  path-kind : (n level page : ℕ) → IsOnWay m 1 key page level → is_listed (way_down m key level page) n ≡ true → IsPageOfTree m n
   path-kind n zero page o among = elim (cases_eq page n) [
     | inl e ↦ subst (IsPageOfTree m) e (own-kind 0 page o)
     | inr ne ↦ let z : false ≡ true = sym (ap (λ b. b || false) (ne_eqb page n ne)) ∙ among in cc
@@ -110,20 +110,20 @@ module _ (sizes : Sizes) (fits : has_pages sizes.pages ≡ true) (key : MapKey) 
   path-kind n (suc level) page o among = elim (cases_eq page n) [
     | inl e ↦ subst (IsPageOfTree m) e (own-kind (suc level) page o)
     | inr ne ↦ path-kind n level (child_for key 0 (m page).records) (child_on-way m 1 key page level o)
-        (sym (ap (λ b. b || is_among (way_down m key level (child_for key 0 (m page).records)) n) (ne_eqb page n ne)) ∙ among)
+        (sym (ap (λ b. b || is_listed (way_down m key level (child_for key 0 (m page).records)) n) (ne_eqb page n ne)) ∙ among)
   ]
 
-  way-kind : (n : ℕ) → is_among path n ≡ true → IsPageOfTree m n
-  way-kind n among = path-kind n (height_of m 1) 1 (root_on-way m 1 key) (sym (ap (λ ns. is_among ns n) c.way) ∙ among)
+  way-kind : (n : ℕ) → is_listed path n ≡ true → IsPageOfTree m n
+  way-kind n among = path-kind n (height_of m 1) 1 (root_on-way m 1 key) (sym (ap (λ ns. is_listed ns n) c.way) ∙ among)
 
   beside-is : AreBeside m 1 w.leaf
   beside-is = beside-leaf sizes 1 (IsKeptLog sizes.pages) start shape 1 (omega arith) (omega arith) key lt q.view.memory.seen c.known.legal w.leaf leaf-on
 
-  held-kind : (n : ℕ) → is_among held n ≡ true → IsPageOfTree m n
-  held-kind n among = elim (or-cases (is_among w.front n) (is_among (beside (m w.leaf).prev) n) (w.leaf == n) (is_among (beside (m w.leaf).next) n) (sym (held-is n) ∙ among)) [
-    | inl front ↦ way-kind n (ap (λ ns. is_among ns n) w.ends ∙ (among-both w.front (w.leaf ∷ []) n ∙ ap (λ b. b || ((w.leaf == n) || false)) front))
+  held-kind : (n : ℕ) → is_listed held n ≡ true → IsPageOfTree m n
+  held-kind n among = elim (or-cases (is_listed w.front n) (is_listed (beside (m w.leaf).prev) n) (w.leaf == n) (is_listed (beside (m w.leaf).next) n) (sym (held-is n) ∙ among)) [
+    | inl front ↦ way-kind n (ap (λ ns. is_listed ns n) w.ends ∙ (among-both w.front (w.leaf ∷ []) n ∙ ap (λ b. b || ((w.leaf == n) || false)) front))
     | inr (inl prev) ↦ let b = among-beside (m w.leaf).prev n prev in subst (IsPageOfTree m) b.0 ((beside-is.left b.1).3, b.1)
-    | inr (inr (inl leaf)) ↦ way-kind n (ap (λ ns. is_among ns n) w.ends ∙ (among-both w.front (w.leaf ∷ []) n ∙ or_true (is_among w.front n) ((w.leaf == n) || false) (ap (λ b. b || false) leaf)))
+    | inr (inr (inl leaf)) ↦ way-kind n (ap (λ ns. is_listed ns n) w.ends ∙ (among-both w.front (w.leaf ∷ []) n ∙ or_true (is_listed w.front n) ((w.leaf == n) || false) (ap (λ b. b || false) leaf)))
     | inr (inr (inr next)) ↦ let b = among-beside (m w.leaf).next n next in subst (IsPageOfTree m) b.0 ((beside-is.right b.1).3, b.1)
   ]
 

@@ -16,7 +16,7 @@ use Rattle.ib_rule.specs.declared.view.Role.{Role}
 use Rattle.ib_rule.specs.declared.view.Role.TheVariants.{Session}
 use Rattle.ib_rule.specs.Memory.{entries_of}
 use Rattle.ib_rule.specs.Pass.{PassState}
-use Rattle.ib_rule.specs.Roles.{number_in}
+use Rattle.ib_rule.specs.Roles.{session_number_of}
 use Rattle.ib_rule.specs.Stores.{IsLook}
 use Rattle.ib_mtr.specs.Commits.{HasEnded}
 use Rattle.ib_cursor.specs.Going.{IsKnown, WentOn}
@@ -111,5 +111,5 @@ module _ (sizes : Sizes) (lawful : List Entry → Type 0) (q r : PassState) (log
       record {
         legal = subst lawful (sym seen) looked.legal;
         room = subst (λ (es : List Entry). used es ≤ sizes.log_words) (sym seen) looked.room;
-        mine = ap (λ n. entries_of n r.view.memory.seen) number ∙ (ap (entries_of q.number) seen ∙ (ap (λ (s : Role). entries_of (number_in s) log) (sym role) ∙ (looked.mine ∙ sym own)));
+        mine = ap (λ n. entries_of n r.view.memory.seen) number ∙ (ap (entries_of q.number) seen ∙ (ap (λ (s : Role). entries_of (session_number_of s) log) (sym role) ∙ (looked.mine ∙ sym own)));
       }

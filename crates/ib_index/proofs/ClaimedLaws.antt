@@ -22,7 +22,7 @@ use Rattle.ib_walk.specs.Trees.{IsTreeOf, height_of}
 use Rattle.ib_walk.specs.Words.{bits_of}
 use Rattle.ib_plans.specs.Agreement.{Agrees, HasTreePages, IsThere, last_of, memory_in, state_or_free, way_down}
 use Rattle.ib_split.proofs.WayLaws.{path-length}
-use Rattle.ib_tree.specs.PageLists.{is_among}
+use Rattle.ib_tree.specs.PageLists.{is_listed}
 use Rattle.ib_tree.specs.TreeLog.{opening}
 use Rattle.ib_kept.specs.Kept.{IsKeptLog}
 use Rattle.ib_kept.specs.LeafChange.{kept_pages}
@@ -47,30 +47,30 @@ bools-same true b h = sym (h.0 refl)
 bools-same false true h = h.1 refl
 bools-same false false h = refl
 
-pub among-both : (xs ys : List ℕ) (n : ℕ) → is_among (xs ++ ys) n ≡ (is_among xs n || is_among ys n)
+pub among-both : (xs ys : List ℕ) (n : ℕ) → is_listed (xs ++ ys) n ≡ (is_listed xs n || is_listed ys n)
 among-both xs ys n = list_any-append (λ (p : ℕ). p == n) xs ys
 
-pub each-among : (P : ℕ → Type 0) (ns : List ℕ) (n : ℕ) → AllByRecursion P ns → is_among ns n ≡ true → P n
+pub each-among : (P : ℕ → Type 0) (ns : List ℕ) (n : ℕ) → AllByRecursion P ns → is_listed ns n ≡ true → P n
 each-among P [] n all is = cc
 each-among P (x ∷ xs) n all is = elim (cases_eq x n) [
   | inl e ↦ subst P e all.0
-  | inr ne ↦ each-among P xs n all.1 (sym (ap (λ b. b || is_among xs n) (ne_eqb x n ne)) ∙ is)
+  | inr ne ↦ each-among P xs n all.1 (sym (ap (λ b. b || is_listed xs n) (ne_eqb x n ne)) ∙ is)
 ]
 
-pub among-beside : (l n : ℕ) → is_among (beside l) n ≡ true → (l ≡ n) × (l ≢ 0)
+pub among-beside : (l n : ℕ) → is_listed (beside l) n ≡ true → (l ≡ n) × (l ≢ 0)
 among-beside l n among = elim (cases_eq l 0) [
-  | inl z ↦ let e : beside l ≡ [] = ap (λ b. cond b [] (l ∷ [])) (eq-eqb l 0 z) in let bad : false ≡ true = sym (ap (λ ns. is_among ns n) e) ∙ among in cc
+  | inl z ↦ let e : beside l ≡ [] = ap (λ b. cond b [] (l ∷ [])) (eq-eqb l 0 z) in let bad : false ≡ true = sym (ap (λ ns. is_listed ns n) e) ∙ among in cc
   | inr ne ↦
       let e : beside l ≡ l ∷ [] = ap (λ b. cond b [] (l ∷ [])) (ne_eqb l 0 ne) in
-      let has : ((l == n) || false) ≡ true = sym (ap (λ ns. is_among ns n) e) ∙ among in
+      let has : ((l == n) || false) ≡ true = sym (ap (λ ns. is_listed ns n) e) ∙ among in
       elim (cases_eq l n) [
         | inl same ↦ (same, ne)
         | inr apart ↦ let bad : false ≡ true = sym (ap (λ b. b || false) (ne_eqb l n apart)) ∙ has in cc
       ]
 ]
 
-pub beside-own : (n : ℕ) → n ≢ 0 → is_among (beside n) n ≡ true
-beside-own n ne = ap (λ (b : Bool). is_among (cond b [] (n ∷ [])) n) (ne_eqb n 0 ne) ∙ ap (λ b. b || false) (eq-eqb n n refl)
+pub beside-own : (n : ℕ) → n ≢ 0 → is_listed (beside n) n ≡ true
+beside-own n ne = ap (λ (b : Bool). is_listed (cond b [] (n ∷ [])) n) (ne_eqb n 0 ne) ∙ ap (λ b. b || false) (eq-eqb n n refl)
 
 loaded-each : (P : ℕ → Type 0) (ws : List WorkPage) → ((n : ℕ) → is_loaded n ws ≡ true → P n) → All (λ w. P w.page) ws
 loaded-each P [] f = All-nil (λ w. P w.page)
@@ -120,8 +120,8 @@ module _ (sizes : Sizes) (fits : has_pages sizes.pages ≡ true) (key : MapKey) 
   lt : rank key < end_rank
   lt = rank-lt_end key is
 
-  loaded-is : (n : ℕ) → is_loaded n q.work ≡ is_among held n
-  loaded-is n = bools-same (is_loaded n q.work) (is_among held n) ((λ l. (c.there n).0 ((loaded_some n q.work).1 l)), (λ a. (loaded_some n q.work).0 ((c.there n).1 a)))
+  loaded-is : (n : ℕ) → is_loaded n q.work ≡ is_listed held n
+  loaded-is n = bools-same (is_loaded n q.work) (is_listed held n) ((λ l. (c.there n).0 ((loaded_some n q.work).1 l)), (λ a. (loaded_some n q.work).0 ((c.there n).1 a)))
 
   pub standing : StandsOnWay sizes key path q
   standing = record {
@@ -156,48 +156,48 @@ module _ (sizes : Sizes) (fits : has_pages sizes.pages ≡ true) (key : MapKey) 
       let ne = (bit_on-way m way_bits 1 1 key n level agreed.lawful (omega arith) (omega arith) lt o).0 in
       tree-some (changed_of n q.work) there (ap (λ s. s.kind) (agreed.same n ne there) ∙ (page_on-way m 1 key n level tree lt o).kind)
 
-  trees-down : (level n : ℕ) → IsOnWay m 1 key n level → ((k : ℕ) → is_among (way_down m key level n) k ≡ true → IsThere q.work k) → HasTreePages (way_down m key level n) q.work
+  trees-down : (level n : ℕ) → IsOnWay m 1 key n level → ((k : ℕ) → is_listed (way_down m key level n) k ≡ true → IsThere q.work k) → HasTreePages (way_down m key level n) q.work
   trees-down zero n o there = All-cons (λ k. IsSomeAnd (changed_of k q.work) IsTreePage) n [] (tree-at n 0 o (there n (ap (λ b. b || false) (eq-eqb n n refl)))) (All-nil (λ k. IsSomeAnd (changed_of k q.work) IsTreePage))
   trees-down (suc level) n o there =
       let child = child_for key 0 (m n).records in
       All-cons (λ k. IsSomeAnd (changed_of k q.work) IsTreePage) n (way_down m key level child)
-      (tree-at n (suc level) o (there n (ap (λ b. b || is_among (way_down m key level child) n) (eq-eqb n n refl))))
-      (trees-down level child (child_on-way m 1 key n level o) (λ k among. there k (or_true (n == k) (is_among (way_down m key level child) k) among)))
+      (tree-at n (suc level) o (there n (ap (λ b. b || is_listed (way_down m key level child) n) (eq-eqb n n refl))))
+      (trees-down level child (child_on-way m 1 key n level o) (λ k among. there k (or_true (n == k) (is_listed (way_down m key level child) k) among)))
 
-  module _ (ways : (n : ℕ) → is_among path n ≡ true → is_among held n ≡ true) (each : (n : ℕ) → is_among held n ≡ true → IsPageOfTree m n) where
+  module _ (ways : (n : ℕ) → is_listed path n ≡ true → is_listed held n ≡ true) (each : (n : ℕ) → is_listed held n ≡ true → IsPageOfTree m n) where
     -- what is held is there, as it is in the tree
-    pub held-there : (n : ℕ) → is_among held n ≡ true → IsThere q.work n
+    pub held-there : (n : ℕ) → is_listed held n ≡ true → IsThere q.work n
     held-there n among = (c.there n).1 among
 
-    pub held-same : (n : ℕ) → is_among held n ≡ true → memory_in q.work n ≡ m n
+    pub held-same : (n : ℕ) → is_listed held n ≡ true → memory_in q.work n ≡ m n
     held-same n among = agreed.same n (each n among).1 (held-there n among)
 
     pub held-kinds : (n : ℕ) → IsThere q.work n → (memory_in q.work n).kind ≡ Tree
     held-kinds n there = let k = each n ((c.there n).0 there) in ap (λ s. s.kind) (agreed.same n k.1 there) ∙ k.0
 
-    pub held-zero : is_among held 0 ≡ false
-    held-zero = go (is_among held 0) refl
+    pub held-zero : is_listed held 0 ≡ false
+    held-zero = go (is_listed held 0) refl
       where
-        go : (b : Bool) → is_among held 0 ≡ b → is_among held 0 ≡ false
+        go : (b : Bool) → is_listed held 0 ≡ b → is_listed held 0 ≡ false
         go true among = absurd ((each 0 among).1 refl)
         go false none = none
 
     trees : HasTreePages path q.work
-    trees = subst (λ ns. HasTreePages ns q.work) (sym c.way) (trees-down (height_of m 1) 1 (root_on-way m 1 key) (λ k among. held-there k (ways k (ap (λ ns. is_among ns k) c.way ∙ among))))
+    trees = subst (λ ns. HasTreePages ns q.work) (sym c.way) (trees-down (height_of m 1) 1 (root_on-way m 1 key) (λ k among. held-there k (ways k (ap (λ ns. is_listed ns k) c.way ∙ among))))
 
-    last-among : (ns : List ℕ) → 0 < length ns → is_among ns (last_of ns) ≡ true
+    last-among : (ns : List ℕ) → 0 < length ns → is_listed ns (last_of ns) ≡ true
     last-among [] some = absurd (omega arith)
     last-among (x ∷ []) some = ap (λ b. b || false) (eq-eqb x x refl)
-    last-among (x ∷ y ∷ ys) some = or_true (x == last_of (y ∷ ys)) (is_among (y ∷ ys) (last_of (y ∷ ys))) (last-among (y ∷ ys) (omega arith))
+    last-among (x ∷ y ∷ ys) some = or_true (x == last_of (y ∷ ys)) (is_listed (y ∷ ys) (last_of (y ∷ ys))) (last-among (y ∷ ys) (omega arith))
 
-    pub last-held : is_among held (last_of path) ≡ true
+    pub last-held : is_listed held (last_of path) ≡ true
     last-held = ways (last_of path) (last-among path (let l = way-long in omega arith))
 
     pub growing : IsGrowing sizes key path (tree_pages held) q
     growing = record {
       at = standing;
       grants = subst (λ gs. HasGrants (claim_grant ∷ gs) q) (grants-same held) c.grants;
-      loaded = λ n. loaded-is n ∙ ap (λ ns. is_among ns n) (sym (pages-same held));
+      loaded = λ n. loaded-is n ∙ ap (λ ns. is_listed ns n) (sym (pages-same held));
       count = c.count ∙ sym (length-map held (λ page. (page, TreeNode)));
       within = loaded-each (λ n. n < sizes.pages) q.work (λ n there. inside n (each n (sym (loaded-is n) ∙ there)).0);
       trees = trees;

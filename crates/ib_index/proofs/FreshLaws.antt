@@ -17,7 +17,7 @@ use Rattle.ib_walk.specs.Pages.{Free, PageMemory, Tree}
 use Rattle.ib_walk.proofs.ChoiceLaws.{cond-eq, cond-ne}
 use Rattle.ib_plans.specs.Agreement.{Agrees, HasBits, IsThere, bits_in, memory_in, state_or_free}
 use Rattle.ib_plans.proofs.MetLaws.{clear-some}
-use Rattle.ib_tree.specs.PageLists.{AreOnce, is_among}
+use Rattle.ib_tree.specs.PageLists.{AreOnce, is_listed}
 use Rattle.ib_rule.specs.declared.looks.Grants.{Grants}
 use Rattle.ib_rule.specs.Pass.{PassState}
 use Rattle.ib_cursor.specs.Grants.{Grant}
@@ -59,11 +59,11 @@ follow-tree [] = tt
 follow-tree (h ∷ hs) = (refl, follow-tree hs)
 
 -- the pages that are chosen are free, and each is another one
-above-none : (n : ℕ) (bits : ℕ → ℕ) (xs : List ℕ) → AllByRecursion (λ q. (n + 1 ≤ q) × (bits q ≡ 0)) xs → is_among xs n ≡ false
+above-none : (n : ℕ) (bits : ℕ → ℕ) (xs : List ℕ) → AllByRecursion (λ q. (n + 1 ≤ q) × (bits q ≡ 0)) xs → is_listed xs n ≡ false
 above-none n bits [] all = refl
 above-none n bits (x ∷ xs) all =
     let a = all.0.0 in
-    ap (λ b. b || is_among xs n) (ne_eqb x n (λ e. omega arith)) ∙ above-none n bits xs all.1
+    ap (λ b. b || is_listed xs n) (ne_eqb x n (λ e. omega arith)) ∙ above-none n bits xs all.1
 
 lower : (n : ℕ) (bits : ℕ → ℕ) (xs : List ℕ) → AllByRecursion (λ q. (n + 1 ≤ q) × (bits q ≡ 0)) xs → AllByRecursion (λ q. (n ≤ q) × (bits q ≡ 0)) xs
 lower n bits [] all = tt
@@ -89,17 +89,17 @@ free-once bits page (suc n) (suc k) =
           (subst (AreOnce (take (suc k) (free_pages_from bits (page + 1) n))) end r.0, lower page bits (take (suc k) (free_pages_from bits (page + 1) n)) r.1)
     ]
 
-free-none : (bits : ℕ → ℕ) (n : ℕ) (xs : List ℕ) → bits n ≢ 0 → AllByRecursion (λ q. (0 ≤ q) × (bits q ≡ 0)) xs → is_among xs n ≡ false
+free-none : (bits : ℕ → ℕ) (n : ℕ) (xs : List ℕ) → bits n ≢ 0 → AllByRecursion (λ q. (0 ≤ q) × (bits q ≡ 0)) xs → is_listed xs n ≡ false
 free-none bits n [] set all = refl
-free-none bits n (x ∷ xs) set all = ap (λ b. b || is_among xs n) (ne_eqb x n (λ e. set (ap bits (sym e) ∙ all.0.1))) ∙ free-none bits n xs set all.1
+free-none bits n (x ∷ xs) set all = ap (λ b. b || is_listed xs n) (ne_eqb x n (λ e. set (ap bits (sym e) ∙ all.0.1))) ∙ free-none bits n xs set all.1
 
-once-join : (xs ys : List ℕ) (pages : ℕ) → AreOnce xs pages → AreOnce ys pages → AllByRecursion (λ x. is_among ys x ≡ false) xs → AreOnce (xs ++ ys) pages
+once-join : (xs ys : List ℕ) (pages : ℕ) → AreOnce xs pages → AreOnce ys pages → AllByRecursion (λ x. is_listed ys x ≡ false) xs → AreOnce (xs ++ ys) pages
 once-join [] ys pages a b c = b
 once-join (x ∷ xs) ys pages a b c = (a.0, among_append xs ys x a.1 c.0, once-join xs ys pages a.2 b c.1)
 
-pub each-of : (P : ℕ → Type 0) (xs : List ℕ) → ((n : ℕ) → is_among xs n ≡ true → P n) → AllByRecursion P xs
+pub each-of : (P : ℕ → Type 0) (xs : List ℕ) → ((n : ℕ) → is_listed xs n ≡ true → P n) → AllByRecursion P xs
 each-of P [] f = tt
-each-of P (x ∷ xs) f = (f x (ap (λ b. b || is_among xs x) (eq-eqb x x refl)), each-of P xs (λ n among. f n (later (x == n) (is_among xs n) among)))
+each-of P (x ∷ xs) f = (f x (ap (λ b. b || is_listed xs x) (eq-eqb x x refl)), each-of P xs (λ n among. f n (later (x == n) (is_listed xs n) among)))
   where
     later : (a b : Bool) → b ≡ true → (a || b) ≡ true
     later true b h = refl
@@ -115,16 +115,16 @@ module _ (pages : ℕ) (key : MapKey) (path held : List ℕ) (work : List WorkPa
       let free = agrees.lawful.unmet n z in
       let bad : Tree ≡ Free = sym kind ∙ (ap (λ s. s.kind) (agrees.same n ne there) ∙ free) in cc
 
-  pub fresh-once : (need : ℕ) → 0 < pages → AreOnce held pages → is_among held 0 ≡ false → ((n : ℕ) → is_among held n ≡ true → IsThere work n × ((memory_in work n).kind ≡ Tree) × (n ≢ 0))
+  pub fresh-once : (need : ℕ) → 0 < pages → AreOnce held pages → is_listed held 0 ≡ false → ((n : ℕ) → is_listed held n ≡ true → IsThere work n × ((memory_in work n).kind ≡ Tree) × (n ≢ 0))
       → AreOnce (held ++ 0 ∷ chosen bits pages need) pages
   fresh-once need some once none kinds =
       let f = free-once bits 0 pages need in
       let end : 0 + pages ≡ pages = omega arith in
       once-join held (0 ∷ chosen bits pages need) pages once
       (some, free-none bits 0 (chosen bits pages need) set-zero f.1, subst (AreOnce (chosen bits pages need)) end f.0)
-      (each-of (λ x. is_among (0 ∷ chosen bits pages need) x ≡ false) held (λ x among.
+      (each-of (λ x. is_listed (0 ∷ chosen bits pages need) x ≡ false) held (λ x among.
       let k = kinds x among in
-      ap (λ b. b || is_among (chosen bits pages need) x) (ne_eqb 0 x (λ e. k.2 (sym e))) ∙ free-none bits x (chosen bits pages need) (set-tree x k.0 k.1 k.2) f.1))
+      ap (λ b. b || is_listed (chosen bits pages need) x) (ne_eqb 0 x (λ e. k.2 (sym e))) ∙ free-none bits x (chosen bits pages need) (set-tree x k.0 k.1 k.2) f.1))
 
 -- the first of them were taken, and one more may be
 module _ (sizes : Sizes) (key : MapKey) (path held fresh items : List ℕ) (at : ℕ) (p q : PassState) (same : items ≡ fresh) (within : at < length items) (once : AreOnce (held ++ 0 ∷ fresh) sizes.pages)
@@ -143,11 +143,11 @@ module _ (sizes : Sizes) (key : MapKey) (path held fresh items : List ℕ) (at :
       ap (λ ns. held ++ 0 ∷ ns) (sym (take-append-drop (at + 1) fresh) ∙ (ap (λ ns. ns ++ drop (at + 1) fresh) one-more ∙ append_assoc (take at fresh) (get_or items at 0 ∷ []) (drop (at + 1) fresh)))
       ∙ sym (append_assoc held (0 ∷ take at fresh) (get_or items at 0 ∷ drop (at + 1) fresh))
 
-  here : (is_among (held ++ 0 ∷ take at fresh) (get_or items at 0) ≡ false) × (get_or items at 0 < sizes.pages)
+  here : (is_listed (held ++ 0 ∷ take at fresh) (get_or items at 0) ≡ false) × (get_or items at 0 < sizes.pages)
   here = once_here (held ++ 0 ∷ take at fresh) (get_or items at 0) (drop (at + 1) fresh) sizes.pages (subst (λ ns. AreOnce ns sizes.pages) whole once)
 
-  pub new-other : is_among (pages_held (space_pages held ++ new_pages (take at fresh))) (get_or items at 0) ≡ false
-  new-other = ap (λ ns. is_among ns (get_or items at 0)) (all-are held (take at fresh)) ∙ here.0
+  pub new-other : is_listed (pages_held (space_pages held ++ new_pages (take at fresh))) (get_or items at 0) ≡ false
+  new-other = ap (λ ns. is_listed ns (get_or items at 0)) (all-are held (take at fresh)) ∙ here.0
 
   pub new-inside : get_or items at 0 < sizes.pages
   new-inside = here.1

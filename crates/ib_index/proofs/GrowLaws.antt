@@ -21,7 +21,7 @@ use Rattle.ib_logrec.specs.Log.{by_place}
 use Rattle.ib_map.proofs.WriteLaws.{page_at-word}
 use Rattle.ib_plans.specs.Agreement.{IsThere, last_of, memory_in, reads_of, state_or_free}
 use Rattle.ib_plans.proofs.EditLaws.{IsSome-and}
-use Rattle.ib_tree.specs.PageLists.{is_among}
+use Rattle.ib_tree.specs.PageLists.{is_listed}
 use Rattle.ib_tree.specs.TreeLog.{opening}
 use Rattle.ib_kept.specs.Kept.{IsKeptLog}
 use Rattle.ib_rule.specs.declared.memory.Knowledge.{Knowledge}
@@ -76,14 +76,14 @@ changed-kept n page image ps none there = elim (cases_eq page n) [
 ]
 
 -- no grant is on the latch of a page that is none of these
-away-held : (held : List (ℕ × Level)) (page : ℕ) → is_among (pages_held held) page ≡ false → IsAway (page + 2) (map held_grant held)
+away-held : (held : List (ℕ × Level)) (page : ℕ) → is_listed (pages_held held) page ≡ false → IsAway (page + 2) (map held_grant held)
 away-held [] page none = tt
 away-held (h ∷ hs) page none =
-    let n = or_denies (h.0 == page) (is_among (pages_held hs) page) none in
+    let n = or_denies (h.0 == page) (is_listed (pages_held hs) page) none in
     ((λ e. let y : (h.0 == page) ≡ true = eq-eqb h.0 page (omega (arith, e)) in let z : true ≡ false = sym y ∙ n.0 in cc), away-held hs page n.1)
 
 -- the pages of the tree, as they are held
-pub among-tree : (held : List ℕ) (n : ℕ) → is_among (pages_held (tree_pages held)) n ≡ is_among held n
+pub among-tree : (held : List ℕ) (n : ℕ) → is_listed (pages_held (tree_pages held)) n ≡ is_listed held n
 among-tree [] n = refl
 among-tree (x ∷ xs) n = ap (λ b. (x == n) || b) (among-tree xs n)
 
@@ -99,7 +99,7 @@ trees-kept : (P : ℕ → Type 0) (Q : ℕ → Type 0) (ns : List ℕ) → ((n :
 trees-kept P Q ns f all = λ i d lt. f _ (all i d lt)
 
 module _ (sizes : Sizes) (key : MapKey) (path : List ℕ) (held : List (ℕ × Level)) (page : ℕ) (level : Level) (p : PassState)
-    (can : IsGrowing sizes key path held p) (other : is_among (pages_held held) page ≡ false) where
+    (can : IsGrowing sizes key path held p) (other : is_listed (pages_held held) page ≡ false) where
   abbrev start : ℕ → ℕ
   start = by_place opening sizes.pages
 
@@ -157,7 +157,7 @@ module _ (sizes : Sizes) (key : MapKey) (path : List ℕ) (held : List (ℕ × L
         };
         grants = all-grants;
         loaded = λ n. ap (is_loaded n) work-is ∙ (loaded-more n (record { page = page; before = load.image; changed = load.image }) p.work
-            ∙ (ap (λ t. (page == n) || t) (can.loaded n) ∙ sym (ap (λ ns. is_among ns n) (map-append (λ (h : ℕ × Level). h.0) held ((page, level) ∷ [])) ∙ among-more (pages_held held) page n)));
+            ∙ (ap (λ t. (page == n) || t) (can.loaded n) ∙ sym (ap (λ ns. is_listed ns n) (map-append (λ (h : ℕ × Level). h.0) held ((page, level) ∷ [])) ∙ among-more (pages_held held) page n)));
         count = let a = ap length work-is in let b = long-more (record { page = page; before = load.image; changed = load.image }) p.work in let c = can.count in let d = length-append held ((page, level) ∷ []) in omega arith;
         within = subst (All (λ w. w.page < sizes.pages)) (sym work-is) (All-with_page (λ w. w.page < sizes.pages) (record { page = page; before = load.image; changed = load.image }) p.work inside can.within);
         trees = trees-kept (λ n. IsSomeAnd (changed_of n p.work) IsTreePage) (λ n. IsSomeAnd (changed_of n r.work) IsTreePage) path

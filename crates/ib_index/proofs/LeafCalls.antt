@@ -36,7 +36,7 @@ use Rattle.ib_rule.specs.declared.looks.Grants.{Grants}
 use Rattle.ib_rule.specs.declared.memory.Knowledge.{Knowledge}
 use Rattle.ib_rule.specs.Memory.{entries_of}
 use Rattle.ib_rule.specs.Pass.{PassState, IsOf}
-use Rattle.ib_rule.specs.Roles.{number_in}
+use Rattle.ib_rule.specs.Roles.{session_number_of}
 use Rattle.ib_rule.specs.Space.{SpaceState}
 use Rattle.ib_rule.specs.Stores.{IsLook}
 use Rattle.ib_mtr.specs.Commits.{HasCommitted, HasEnded, HasRead, IsFull, commit_entry, commit_grants}
@@ -118,8 +118,8 @@ module _ (space : SpaceState) (key : MapKey) (is : IsKey key) (leaf : ℕ) (p q 
   sizes-q : q.sizes ≡ space.sizes
   sizes-q = h.went.sizes ∙ own.sizes
 
-  number-in : number_in q.view.role ≡ q.number
-  number-in = ap number_in h.seated.role
+  number-in : session_number_of q.view.role ≡ q.number
+  number-in = ap session_number_of h.seated.role
 
   -- a call that ends there without a change
   module _ (place : ℕ) (r : PassState) (read : HasRead sizes (IsKeptLog sizes.pages) q place r) where
@@ -132,17 +132,17 @@ module _ (space : SpaceState) (key : MapKey) (is : IsKey key) (leaf : ℕ) (p q 
     page-r : leaf_page sizes key r ≡ leaf_page sizes key q
     page-r =
         ap (λ (log : List Entry). kept_pages sizes.pages log (leaf_after sizes.pages log key)) seen-r
-        ∙ page-stays sizes h.seated.fits key is leaf q h.at (number_in q.view.role) read.looked.others read.looked.harmless legal-r
+        ∙ page-stays sizes h.seated.fits key is leaf q h.at (session_number_of q.view.role) read.looked.others read.looked.harmless legal-r
 
     leaf-r : leaf ≡ the_leaf sizes key r
     leaf-r =
-        leaf-stays sizes h.seated.fits key is leaf q h.at (number_in q.view.role) read.looked.others read.looked.harmless legal-r
+        leaf-stays sizes h.seated.fits key is leaf q h.at (session_number_of q.view.role) read.looked.others read.looked.harmless legal-r
         ∙ sym (ap (λ (log : List Entry). leaf_after sizes.pages log key) seen-r)
 
     value-r : value_at key (map_of r.view.memory.seen) ≡ value_at key (leaf_page sizes key q).records
     value-r =
         ap (λ (log : List Entry). value_at key (map_of log)) seen-r
-        ∙ value-stays sizes h.seated.fits key is leaf q h.at (number_in q.view.role) read.looked.others read.looked.harmless legal-r
+        ∙ value-stays sizes h.seated.fits key is leaf q h.at (session_number_of q.view.role) read.looked.others read.looked.harmless legal-r
 
     pub idle-read : IsIdle space r
     idle-read = ended-idle space q r q.view.grants read.log q.view.memory.own (q.view.memory.ends ++ place ∷ []) table-q sizes-q read.ended
@@ -201,12 +201,12 @@ module _ (space : SpaceState) (key : MapKey) (is : IsKey key) (leaf : ℕ) (p q 
     page-f : leaf_page sizes key r ≡ leaf_page sizes key q
     page-f =
         ap (λ (log : List Entry). kept_pages sizes.pages log (leaf_after sizes.pages log key)) seen-f
-        ∙ page-stays sizes h.seated.fits key is leaf q h.at (number_in q.view.role) f.looked.others f.looked.harmless legal-f
+        ∙ page-stays sizes h.seated.fits key is leaf q h.at (session_number_of q.view.role) f.looked.others f.looked.harmless legal-f
 
     value-f : value_at key (map_of r.view.memory.seen) ≡ value_at key (leaf_page sizes key q).records
     value-f =
         ap (λ (log : List Entry). value_at key (map_of log)) seen-f
-        ∙ value-stays sizes h.seated.fits key is leaf q h.at (number_in q.view.role) f.looked.others f.looked.harmless legal-f
+        ∙ value-stays sizes h.seated.fits key is leaf q h.at (session_number_of q.view.role) f.looked.others f.looked.harmless legal-f
 
     -- of the pass with its pages as they were
     ended-f : HasEnded q (commit_grants q) f.log q.view.memory.own (q.view.memory.ends ++ length f.log ∷ []) r
@@ -311,7 +311,7 @@ module _ (space : SpaceState) (key : MapKey) (is : IsKey key) (leaf : ℕ) (p q 
     value-c : value_at key (map_of c.log) ≡ value_at key (leaf_page sizes key q).records
     value-c =
         ap (λ (log : List Entry). value_at key (map_of log)) (sym c.looked.longer)
-        ∙ value-stays sizes h.seated.fits key is leaf q h.at (number_in q.view.role) c.looked.others c.looked.harmless (subst (IsKeptLog sizes.pages) (sym c.looked.longer) c.looked.legal)
+        ∙ value-stays sizes h.seated.fits key is leaf q h.at (session_number_of q.view.role) c.looked.others c.looked.harmless (subst (IsKeptLog sizes.pages) (sym c.looked.longer) c.looked.legal)
 
     history-c : history_of r.view.memory.seen ≡ history_of c.log ++ logged e ∷ []
     history-c = ap history_of seen-c ∙ history_of-push c.log e
@@ -387,9 +387,9 @@ module _ (space : SpaceState) (key : MapKey) (is : IsKey key) (leaf : ℕ) (p q 
   leaf-kind why log look has =
       let legal = subst (IsKeptLog sizes.pages) (sym look.longer) look.legal in
       let there : HasLeaf sizes why key (q.view.memory.seen ++ look.others) = subst (HasLeaf sizes why key) (sym look.longer) has in
-      subst (why leaf) (page-stays sizes h.seated.fits key is leaf q h.at (number_in q.view.role) look.others look.harmless legal)
+      subst (why leaf) (page-stays sizes h.seated.fits key is leaf q h.at (session_number_of q.view.role) look.others look.harmless legal)
       (subst (λ n. why n (kept_pages sizes.pages (q.view.memory.seen ++ look.others) (leaf_after sizes.pages (q.view.memory.seen ++ look.others) key)))
-      (sym (leaf-stays sizes h.seated.fits key is leaf q h.at (number_in q.view.role) look.others look.harmless legal)) there)
+      (sym (leaf-stays sizes h.seated.fits key is leaf q h.at (session_number_of q.view.role) look.others look.harmless legal)) there)
 
   -- so the change needed the leaf alone where it was answered
   pub alone-read : (why : ℕ → PageState → Type 0) (place : ℕ) (r : PassState) → HasRead sizes (IsKeptLog sizes.pages) q place r → (why leaf (leaf_page sizes key q) → ⊥) → NeededLeaf sizes why key place r

@@ -19,7 +19,7 @@ use Rattle.ib_rule.specs.declared.memory.Knowledge.{Knowledge}
 use Rattle.ib_rule.specs.declared.view.Role.TheVariants.{Session as SessionRole}
 use Rattle.ib_rule.specs.declared.looks.Grants.{Grants}
 use Rattle.ib_rule.specs.Pass.{PassState}
-use Rattle.ib_rule.specs.Roles.{number_in}
+use Rattle.ib_rule.specs.Roles.{session_number_of}
 use Rattle.ib_rule.proofs.Watching.{untouched}
 use Rattle.ib_walk.specs.Trees.{content_of}
 use Rattle.ib_walk.specs.Search.{leaf_for}
@@ -69,7 +69,7 @@ module _ (sizes : Sizes) (roots : ℕ) (lawful : List Entry → Type 0) (opening
       log-is = ap (λ (m : Knowledge). m.seen) read.ended.memory ∙ sym read.looked.longer
 
       calm : AllByRecursion (λ e. touches found.come.leaf e.writes ≡ false) read.looked.others
-      calm = untouched (number_in q.view.role) found.come.leaf q.view.memory.since read.looked.others found.come.watched read.looked.harmless
+      calm = untouched (session_number_of q.view.role) found.come.leaf q.view.memory.since read.looked.others found.come.watched read.looked.harmless
 
       legal : lawful (q.view.memory.seen ++ read.looked.others)
       legal = subst lawful (sym read.looked.longer) read.looked.legal

@@ -13,7 +13,7 @@ use Rattle.ib_walk.specs.Pages.{PageMemory}
 use Rattle.ib_walk.specs.Trees.{height_of}
 use Rattle.ib_plans.specs.Agreement.{Agrees, IsThere, bits_in, state_or_free}
 use Rattle.ib_split.specs.Inserts.{HasFresh}
-use Rattle.ib_tree.specs.PageLists.{AreOnce, is_among}
+use Rattle.ib_tree.specs.PageLists.{AreOnce, is_listed}
 use Rattle.ib_kept.proofs.LeadLaws.{low-enough}
 use Rattle.ib_rule.specs.declared.looks.Grants.{Grants}
 use Rattle.ib_rule.specs.Pass.{PassState}
@@ -68,7 +68,7 @@ module _ (sizes : Sizes) (fits : has_pages sizes.pages ≡ true) (key : MapKey) 
   unfolding image
   image-there = (some-image (changed_of 0 s.work) g.there).1
 
-  tree-there : (n : ℕ) → is_among come.held n ≡ true → IsThere q.work n
+  tree-there : (n : ℕ) → is_listed come.held n ≡ true → IsThere q.work n
   tree-there n among = (loaded_some n q.work).1 (come.growing.loaded n ∙ (among-tree come.held n ∙ among))
 
   pub space-once : (fresh : List ℕ) → fresh ≡ chosen (bits_in sizes.pages image) sizes.pages need → AreOnce (come.held ++ 0 ∷ fresh) sizes.pages
@@ -78,7 +78,7 @@ module _ (sizes : Sizes) (fits : has_pages sizes.pages ≡ true) (key : MapKey) 
       subst (λ xs. AreOnce (come.held ++ 0 ∷ xs) sizes.pages) (sym (are ∙ ap (λ b. chosen b sizes.pages need) bits))
       (fresh-once sizes.pages key path come.held s.work _ _ a need (some-pages sizes.pages fits) come.once come.zero (λ n among.
       let there = tree-there n among in
-      (subst IsSome (sym (g.same n there)) there, ap (λ o. (state_or_free o).kind) (g.same n there) ∙ come.kinds n there, (λ z. let bad : true ≡ false = sym among ∙ (ap (is_among come.held) z ∙ come.zero) in cc))))
+      (subst IsSome (sym (g.same n there)) there, ap (λ o. (state_or_free o).kind) (g.same n there) ∙ come.kinds n there, (λ z. let bad : true ≡ false = sym among ∙ (ap (is_listed come.held) z ∙ come.zero) in cc))))
 
   module _ (needs : NeedsPages sizes.pages key path need q.work) where
     -- they were taken

@@ -15,7 +15,7 @@ use Rattle.ib_walk.specs.Words.{bits_of}
 use Rattle.ib_plans.specs.Agreement.{IsThere, last_of, memory_in, state_or_free}
 use Rattle.ib_plans.specs.Merge.{siblings_of}
 use Rattle.ib_merge.specs.Deletes.{CanDelete, HasDeleteImages, HasNext, HasSiblings, nodes_on_path}
-use Rattle.ib_tree.specs.PageLists.{is_among}
+use Rattle.ib_tree.specs.PageLists.{is_listed}
 use Rattle.ib_tree.specs.TreeLog.{opening}
 use Rattle.ib_kept.specs.LeafChange.{kept_pages}
 use Rattle.ib_rule.specs.declared.looks.Grants.{Grants}
@@ -98,10 +98,10 @@ pub record IsReadyToShrink (sizes : Sizes) (key : MapKey) (path : List ℕ) (val
 
 module _ (sizes : Sizes) (key : MapKey) (is : IsKey key) (path : List ℕ) (value : ℕ) (p q t : PassState) (come : HasComeToSiblings sizes key path p q)
     (old : Sizes) (same : old ≡ sizes)
-    (taken : IsGrowing old key path (tree_pages come.held) q → is_among come.held 0 ≡ false → HasGrown old key path (tree_pages come.held) 0 Space q t)
+    (taken : IsGrowing old key path (tree_pages come.held) q → is_listed come.held 0 ≡ false → HasGrown old key path (tree_pages come.held) 0 Space q t)
     (seats : IsSeated old t) (there : value_at key (memory_in q.work (last_of path)).records ≡ Some value) where
   grown : HasGrown sizes key path (tree_pages come.held) 0 Space q t
-  grown = subst (λ (k : Sizes). IsGrowing k key path (tree_pages come.held) q → is_among come.held 0 ≡ false → HasGrown k key path (tree_pages come.held) 0 Space q t) same taken come.growing come.zero
+  grown = subst (λ (k : Sizes). IsGrowing k key path (tree_pages come.held) q → is_listed come.held 0 ≡ false → HasGrown k key path (tree_pages come.held) 0 Space q t) same taken come.growing come.zero
 
   seated-t : IsSeated sizes t
   seated-t = subst (λ (k : Sizes). IsSeated k t) same seats

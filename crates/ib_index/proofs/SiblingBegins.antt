@@ -17,7 +17,7 @@ use Rattle.ib_plans.specs.Agreement.{Agrees, IsThere, last_of, memory_in, way_do
 use Rattle.ib_plans.specs.Merge.{Siblings, siblings_of}
 use Rattle.ib_plans.proofs.LinkLaws.{NextLeaf-leaf_for}
 use Rattle.ib_merge.specs.Deletes.{HasNext, nodes_on_path}
-use Rattle.ib_tree.specs.PageLists.{is_among}
+use Rattle.ib_tree.specs.PageLists.{is_listed}
 use Rattle.ib_tree.specs.TreeLog.{opening}
 use Rattle.ib_kept.specs.Kept.{IsKeptLog}
 use Rattle.ib_kept.specs.LeafChange.{kept_pages}
@@ -35,18 +35,18 @@ use Rattle.ib_index.proofs.SiblingWays.{among-flat, behind-page, last-levels, la
 use Rattle.ib_mtr.proofs.Lists.{or_true}
 
 -- lists of pages
-among-child : (o : Option (MapKey × ℕ)) (x : MapKey × ℕ) → o ≡ Some x → is_among (child_if o) x.1 ≡ true
-among-child o x is = subst (λ q. is_among (child_if q) x.1 ≡ true) (sym is) (ap (λ b. b || false) (eq-eqb x.1 x.1 refl))
+among-child : (o : Option (MapKey × ℕ)) (x : MapKey × ℕ) → o ≡ Some x → is_listed (child_if o) x.1 ≡ true
+among-child o x is = subst (λ q. is_listed (child_if q) x.1 ≡ true) (sym is) (ap (λ b. b || false) (eq-eqb x.1 x.1 refl))
 
 -- the nodes of a path are pages of it
-nodes-among : (ns : List ℕ) (n : ℕ) → is_among (nodes_on_path ns) n ≡ true → is_among ns n ≡ true
+nodes-among : (ns : List ℕ) (n : ℕ) → is_listed (nodes_on_path ns) n ≡ true → is_listed ns n ≡ true
 nodes-among [] n h = cc
 nodes-among (x ∷ []) n h = cc
 nodes-among (x ∷ y ∷ ys) n h = elim (cases_eq x n) [
-  | inl e ↦ ap (λ b. b || is_among (y ∷ ys) n) (eq-eqb x n e)
+  | inl e ↦ ap (λ b. b || is_listed (y ∷ ys) n) (eq-eqb x n e)
   | inr ne ↦
       let no = ne_eqb x n ne in
-      ap (λ b. b || is_among (y ∷ ys) n) no ∙ nodes-among (y ∷ ys) n (sym (ap (λ b. b || is_among (nodes_on_path (y ∷ ys)) n) no) ∙ h)
+      ap (λ b. b || is_listed (y ∷ ys) n) no ∙ nodes-among (y ∷ ys) n (sym (ap (λ b. b || is_listed (nodes_on_path (y ∷ ys)) n) no) ∙ h)
 ]
 
 -- the way has nodes exactly where its root is one
@@ -87,16 +87,16 @@ module _ (sizes : Sizes) (fits : has_pages sizes.pages ≡ true) (key : MapKey) 
   held-are : held ≡ levels ++ beside (m (last_of levels)).next
   held-are = w.behind ∙ ap (λ ns. ns ++ beside (m (last_of ns)).next) levels-are
 
-  level-held : (n : ℕ) → is_among levels n ≡ true → is_among held n ≡ true
-  level-held n among = ap (λ ns. is_among ns n) held-are ∙ (among-both levels (beside (m (last_of levels)).next) n ∙ ap (λ b. b || is_among (beside (m (last_of levels)).next) n) among)
+  level-held : (n : ℕ) → is_listed levels n ≡ true → is_listed held n ≡ true
+  level-held n among = ap (λ ns. is_listed ns n) held-are ∙ (among-both levels (beside (m (last_of levels)).next) n ∙ ap (λ b. b || is_listed (beside (m (last_of levels)).next) n) among)
 
-  next-held : (m (last_of levels)).next ≢ 0 → is_among held (m (last_of levels)).next ≡ true
+  next-held : (m (last_of levels)).next ≢ 0 → is_listed held (m (last_of levels)).next ≡ true
   next-held ne =
       let n = (m (last_of levels)).next in
-      ap (λ ns. is_among ns n) held-are ∙ (among-both levels (beside n) n ∙ or_true (is_among levels n) (is_among (beside n) n) (beside-own n ne))
+      ap (λ ns. is_listed ns n) held-are ∙ (among-both levels (beside n) n ∙ or_true (is_listed levels n) (is_listed (beside n) n) (beside-own n ne))
 
-  way-held : (n : ℕ) → is_among path n ≡ true → is_among held n ≡ true
-  way-held n among = level-held n (way-among m bits agreement.lawful key lt (height_of m 1) 1 n top (sym (ap (λ ns. is_among ns n) c.way) ∙ among))
+  way-held : (n : ℕ) → is_listed path n ≡ true → is_listed held n ≡ true
+  way-held n among = level-held n (way-among m bits agreement.lawful key lt (height_of m 1) 1 n top (sym (ap (λ ns. is_listed ns n) c.way) ∙ among))
 
   -- the last page of the levels: the root, or the last of the children of the lowest node
   lowest : (d : ℕ) → height_of m 1 ≡ suc d → IsOnWay m 1 key (page_below m key d 1) 1
@@ -119,50 +119,50 @@ module _ (sizes : Sizes) (fits : has_pages sizes.pages ≡ true) (key : MapKey) 
   ]
 
   -- all that is held are pages of the tree
-  held-kind : (n : ℕ) → is_among held n ≡ true → IsPageOfTree m n
-  held-kind n among = go (is_among levels n) refl (sym (ap (λ ns. is_among ns n) held-are ∙ among-both levels (beside (m (last_of levels)).next) n) ∙ among)
+  held-kind : (n : ℕ) → is_listed held n ≡ true → IsPageOfTree m n
+  held-kind n among = go (is_listed levels n) refl (sym (ap (λ ns. is_listed ns n) held-are ∙ among-both levels (beside (m (last_of levels)).next) n) ∙ among)
     where
       all : AllByRecursion (IsPageOfTree m) levels
       all = (way-page m bits agreement.lawful key lt (height_of m 1) 1 top, levels-down m bits agreement.lawful key lt (height_of m 1) 1 top)
 
-      go : (b : Bool) → is_among levels n ≡ b → (is_among levels n || is_among (beside (m (last_of levels)).next) n) ≡ true → IsPageOfTree m n
+      go : (b : Bool) → is_listed levels n ≡ b → (is_listed levels n || is_listed (beside (m (last_of levels)).next) n) ≡ true → IsPageOfTree m n
       go true here either = each-among (IsPageOfTree m) levels n all here
       go false away either =
-          let b = among-beside (m (last_of levels)).next n (sym (ap (λ b. b || is_among (beside (m (last_of levels)).next) n) away) ∙ either) in
+          let b = among-beside (m (last_of levels)).next n (sym (ap (λ b. b || is_listed (beside (m (last_of levels)).next) n) away) ∙ either) in
           subst (IsPageOfTree m) b.0 (behind-kind b.1)
 
-  there : (n : ℕ) → is_among held n ≡ true → IsThere q.work n
+  there : (n : ℕ) → is_listed held n ≡ true → IsThere q.work n
   there = held-there sizes fits key is path held p q c claims way-held held-kind
 
-  same-page : (n : ℕ) → is_among held n ≡ true → memory_in q.work n ≡ m n
+  same-page : (n : ℕ) → is_listed held n ≡ true → memory_in q.work n ≡ m n
   same-page = held-same sizes fits key is path held p q c claims way-held held-kind
 
   -- of a node of the way
-  module _ (parent : ℕ) (among : is_among nodes parent ≡ true) where
+  module _ (parent : ℕ) (among : is_listed nodes parent ≡ true) where
     abbrev t : Siblings
     t = siblings_of key (m parent).records
 
     parent-on : (k : ℕ) × IsOnWay m 1 key parent (suc k)
     parent-on = node-on m bits agreement.lawful key lt (height_of m 1) 1 parent top among
 
-    side-held : (n : ℕ) → is_among (with_siblings m key parent) n ≡ true → is_among held n ≡ true
-    side-held n h = level-held n (or_true (1 == n) (is_among (flat_map (with_siblings m key) nodes) n) (among-flat (with_siblings m key) nodes parent n among h))
+    side-held : (n : ℕ) → is_listed (with_siblings m key parent) n ≡ true → is_listed held n ≡ true
+    side-held n h = level-held n (or_true (1 == n) (is_listed (flat_map (with_siblings m key) nodes) n) (among-flat (with_siblings m key) nodes parent n among h))
 
-    left-held : (x : MapKey × ℕ) → t.left ≡ Some x → is_among held x.1 ≡ true
-    left-held x eq = side-held x.1 (among-both (child_if t.left) (t.here.1 ∷ child_if t.right) x.1 ∙ ap (λ b. b || is_among (t.here.1 ∷ child_if t.right) x.1) (among-child t.left x eq))
+    left-held : (x : MapKey × ℕ) → t.left ≡ Some x → is_listed held x.1 ≡ true
+    left-held x eq = side-held x.1 (among-both (child_if t.left) (t.here.1 ∷ child_if t.right) x.1 ∙ ap (λ b. b || is_listed (t.here.1 ∷ child_if t.right) x.1) (among-child t.left x eq))
 
-    here-held : is_among held t.here.1 ≡ true
+    here-held : is_listed held t.here.1 ≡ true
     here-held = side-held t.here.1 (among-both (child_if t.left) (t.here.1 ∷ child_if t.right) t.here.1
-        ∙ or_true (is_among (child_if t.left) t.here.1) (is_among (t.here.1 ∷ child_if t.right) t.here.1) (ap (λ b. b || is_among (child_if t.right) t.here.1) (eq-eqb t.here.1 t.here.1 refl)))
+        ∙ or_true (is_listed (child_if t.left) t.here.1) (is_listed (t.here.1 ∷ child_if t.right) t.here.1) (ap (λ b. b || is_listed (child_if t.right) t.here.1) (eq-eqb t.here.1 t.here.1 refl)))
 
-    right-held : (x : MapKey × ℕ) → t.right ≡ Some x → is_among held x.1 ≡ true
+    right-held : (x : MapKey × ℕ) → t.right ≡ Some x → is_listed held x.1 ≡ true
     right-held x eq = side-held x.1 (among-both (child_if t.left) (t.here.1 ∷ child_if t.right) x.1
-        ∙ or_true (is_among (child_if t.left) x.1) (is_among (t.here.1 ∷ child_if t.right) x.1) (or_true (t.here.1 == x.1) (is_among (child_if t.right) x.1) (among-child t.right x eq)))
+        ∙ or_true (is_listed (child_if t.left) x.1) (is_listed (t.here.1 ∷ child_if t.right) x.1) (or_true (t.here.1 == x.1) (is_listed (child_if t.right) x.1) (among-child t.right x eq)))
 
-    last-held : is_among held (last_beside m key parent) ≡ true
+    last-held : is_listed held (last_beside m key parent) ≡ true
     last-held = go t.right refl
       where
-        go : (o : Option (MapKey × ℕ)) → t.right ≡ o → is_among held (last_child o t.here) ≡ true
+        go : (o : Option (MapKey × ℕ)) → t.right ≡ o → is_listed held (last_child o t.here) ≡ true
         go None eq = here-held
         go (Some x) eq = right-held x eq
 
@@ -190,8 +190,8 @@ module _ (sizes : Sizes) (fits : has_pages sizes.pages ≡ true) (key : MapKey) 
         by_right None both = both
         by_right (Some x) both = both
 
-    node-held : is_among held parent ≡ true
-    node-held = way-held parent (ap (λ ns. is_among ns parent) c.way ∙ nodes-among (way_of m key 1) parent among)
+    node-held : is_listed held parent ≡ true
+    node-held = way-held parent (ap (λ ns. is_listed ns parent) c.way ∙ nodes-among (way_of m key 1) parent among)
 
     has-children : HasChildren key q.work parent
     has-children =

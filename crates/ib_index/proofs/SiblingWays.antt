@@ -17,7 +17,7 @@ use Rattle.ib_plans.proofs.LinkLaws.{NextLeaf-leaf_for}
 use Rattle.ib_plans.proofs.SiblingLaws.{SiblingPages, SiblingPages-path}
 use Rattle.ib_plans.proofs.SiblingRecordLaws.{HasSiblings, HasSiblings-of, one_or_none}
 use Rattle.ib_merge.specs.Deletes.{nodes_on_path}
-use Rattle.ib_tree.specs.PageLists.{is_among}
+use Rattle.ib_tree.specs.PageLists.{is_listed}
 use Rattle.ib_plans.proofs.LevelLaws.{above-sum}
 use Rattle.ib_cursor.specs.Siblings.{child_if, with_siblings}
 use Rattle.ib_cursor.specs.Way.{IsOnWay}
@@ -35,11 +35,11 @@ abbrev pub last_beside : PageMemory → MapKey → ℕ → ℕ
 last_beside m key parent = let t = siblings_of key (m parent).records in last_child t.right t.here
 
 -- lists of pages
-pub among-flat : (f : ℕ → List ℕ) (ns : List ℕ) (parent n : ℕ) → is_among ns parent ≡ true → is_among (f parent) n ≡ true → is_among (flat_map f ns) n ≡ true
+pub among-flat : (f : ℕ → List ℕ) (ns : List ℕ) (parent n : ℕ) → is_listed ns parent ≡ true → is_listed (f parent) n ≡ true → is_listed (flat_map f ns) n ≡ true
 among-flat f [] parent n there h = cc
 among-flat f (x ∷ xs) parent n there h = elim (cases_eq x parent) [
-  | inl e ↦ among-left (f x) (flat_map f xs) n (subst (λ p. is_among (f p) n ≡ true) (sym e) h)
-  | inr ne ↦ among_right (f x) (flat_map f xs) n (among-flat f xs parent n (sym (ap (λ b. b || is_among xs parent) (ne_eqb x parent ne)) ∙ there) h)
+  | inl e ↦ among-left (f x) (flat_map f xs) n (subst (λ p. is_listed (f p) n ≡ true) (sym e) h)
+  | inr ne ↦ among_right (f x) (flat_map f xs) n (among-flat f xs parent n (sym (ap (λ b. b || is_listed xs parent) (ne_eqb x parent ne)) ∙ there) h)
 ]
 
 -- the last page of lists behind each other
@@ -164,39 +164,39 @@ module _ (m : PageMemory) (bits : ℕ → ℕ) (law : IsLawful m bits 1) (key : 
       (sides level page o) (levels-down level child (child_on-way m 1 key page level o)))
 
   -- .. and the way is among them
-  pub way-among : (level page n : ℕ) → IsOnWay m 1 key page level → is_among (way_down m key level page) n ≡ true
-      → is_among (page ∷ flat_map (with_siblings m key) (nodes_on_path (way_down m key level page))) n ≡ true
+  pub way-among : (level page n : ℕ) → IsOnWay m 1 key page level → is_listed (way_down m key level page) n ≡ true
+      → is_listed (page ∷ flat_map (with_siblings m key) (nodes_on_path (way_down m key level page))) n ≡ true
   way-among zero page n o h = h
   way-among (suc level) page n o h =
       let child = child_for key 0 (m page).records in
       let rest = flat_map (with_siblings m key) (nodes_on_path (way_down m key level child)) in
-      subst (λ ns. is_among (page ∷ flat_map (with_siblings m key) ns) n ≡ true) (sym (nodes-down m key level page)) (elim (cases_eq page n) [
-        | inl e ↦ ap (λ b. b || is_among (with_siblings m key page ++ rest) n) (eq-eqb page n e)
+      subst (λ ns. is_listed (page ∷ flat_map (with_siblings m key) ns) n ≡ true) (sym (nodes-down m key level page)) (elim (cases_eq page n) [
+        | inl e ↦ ap (λ b. b || is_listed (with_siblings m key page ++ rest) n) (eq-eqb page n e)
         | inr ne ↦
             let no = ne_eqb page n ne in
-            let r = way-among level child n (child_on-way m 1 key page level o) (sym (ap (λ b. b || is_among (way_down m key level child) n) no) ∙ h) in
-            ap (λ b. b || is_among (with_siblings m key page ++ rest) n) no ∙ below n (cases_eq child n) r
+            let r = way-among level child n (child_on-way m 1 key page level o) (sym (ap (λ b. b || is_listed (way_down m key level child) n) no) ∙ h) in
+            ap (λ b. b || is_listed (with_siblings m key page ++ rest) n) no ∙ below n (cases_eq child n) r
       ])
     where
       below : (n : ℕ) → (child_for key 0 (m page).records ≡ n) ⊎ (child_for key 0 (m page).records ≢ n)
-          → is_among (child_for key 0 (m page).records ∷ flat_map (with_siblings m key) (nodes_on_path (way_down m key level (child_for key 0 (m page).records)))) n ≡ true
-          → is_among (with_siblings m key page ++ flat_map (with_siblings m key) (nodes_on_path (way_down m key level (child_for key 0 (m page).records)))) n ≡ true
+          → is_listed (child_for key 0 (m page).records ∷ flat_map (with_siblings m key) (nodes_on_path (way_down m key level (child_for key 0 (m page).records)))) n ≡ true
+          → is_listed (with_siblings m key page ++ flat_map (with_siblings m key) (nodes_on_path (way_down m key level (child_for key 0 (m page).records)))) n ≡ true
       below n (inl e) r =
           let t = siblings_of key (m page).records in
           let here : t.here.1 ≡ n = (records level page o).here ∙ e in
           among-left (with_siblings m key page) (flat_map (with_siblings m key) (nodes_on_path (way_down m key level (child_for key 0 (m page).records)))) n
-          (among_right (child_if t.left) (t.here.1 ∷ child_if t.right) n (ap (λ b. b || is_among (child_if t.right) n) (eq-eqb t.here.1 n here)))
+          (among_right (child_if t.left) (t.here.1 ∷ child_if t.right) n (ap (λ b. b || is_listed (child_if t.right) n) (eq-eqb t.here.1 n here)))
       below n (inr ne) r =
           among_right (with_siblings m key page) (flat_map (with_siblings m key) (nodes_on_path (way_down m key level (child_for key 0 (m page).records)))) n
-          (sym (ap (λ b. b || is_among (flat_map (with_siblings m key) (nodes_on_path (way_down m key level (child_for key 0 (m page).records)))) n) (ne_eqb (child_for key 0 (m page).records) n ne)) ∙ r)
+          (sym (ap (λ b. b || is_listed (flat_map (with_siblings m key) (nodes_on_path (way_down m key level (child_for key 0 (m page).records)))) n) (ne_eqb (child_for key 0 (m page).records) n ne)) ∙ r)
 
   -- each node of the way stands on it above the leaf
-  pub node-on : (level page n : ℕ) → IsOnWay m 1 key page level → is_among (nodes_on_path (way_down m key level page)) n ≡ true → (k : ℕ) × IsOnWay m 1 key n (suc k)
+  pub node-on : (level page n : ℕ) → IsOnWay m 1 key page level → is_listed (nodes_on_path (way_down m key level page)) n ≡ true → (k : ℕ) × IsOnWay m 1 key n (suc k)
   node-on zero page n o h = cc
   node-on (suc level) page n o h =
       let child = child_for key 0 (m page).records in
-      let has : is_among (page ∷ nodes_on_path (way_down m key level child)) n ≡ true = sym (ap (λ ns. is_among ns n) (nodes-down m key level page)) ∙ h in
+      let has : is_listed (page ∷ nodes_on_path (way_down m key level child)) n ≡ true = sym (ap (λ ns. is_listed ns n) (nodes-down m key level page)) ∙ h in
       elim (cases_eq page n) [
         | inl e ↦ (level, subst (λ p. IsOnWay m 1 key p (suc level)) e o)
-        | inr ne ↦ node-on level child n (child_on-way m 1 key page level o) (sym (ap (λ b. b || is_among (nodes_on_path (way_down m key level child)) n) (ne_eqb page n ne)) ∙ has)
+        | inr ne ↦ node-on level child n (child_on-way m 1 key page level o) (sym (ap (λ b. b || is_listed (nodes_on_path (way_down m key level child)) n) (ne_eqb page n ne)) ∙ has)
       ]

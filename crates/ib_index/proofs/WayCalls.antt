@@ -29,7 +29,7 @@ use Rattle.ib_frames.specs.declared.appends.LogFull.{LogFull}
 use Rattle.ib_rule.specs.declared.memory.Knowledge.{Knowledge}
 use Rattle.ib_rule.specs.Memory.{entries_of}
 use Rattle.ib_rule.specs.Pass.{PassState}
-use Rattle.ib_rule.specs.Roles.{number_in}
+use Rattle.ib_rule.specs.Roles.{session_number_of}
 use Rattle.ib_rule.specs.Stores.{IsLook}
 use Rattle.ib_mtr.specs.Commits.{HasCommitted, HasEnded, HasRead, IsFull, commit_entry, commit_grants}
 use Rattle.ib_mtr.specs.Mtr.{with_work}
@@ -57,11 +57,11 @@ module _ (sizes : Sizes) (key : MapKey) (is : IsKey key) (path : List ℕ) (held
     pub value-l : value_at key (map_of log) ≡ value_there
     value-l =
         ap (λ (log : List Entry). value_at key (map_of log)) (sym look.longer)
-        ∙ value-then sizes key is path held q can seated look.others (number_in q.view.role) look.harmless legal-l
+        ∙ value-then sizes key is path held q can seated look.others (session_number_of q.view.role) look.harmless legal-l
 
     pub agrees-l : Agrees sizes.pages 1 1 key path q.work (kept_pages sizes.pages log) (bits_of sizes.pages (memory_after start log))
     agrees-l = subst (λ (log : List Entry). Agrees sizes.pages 1 1 key path q.work (kept_pages sizes.pages log) (bits_of sizes.pages (memory_after start log))) look.longer
-        (agrees-then sizes key is path held q can seated look.others (number_in q.view.role) look.harmless legal-l)
+        (agrees-then sizes key is path held q can seated look.others (session_number_of q.view.role) look.harmless legal-l)
 
   -- the call ended without a change
   module _ (place : ℕ) (r : PassState) (read : HasRead sizes (IsKeptLog sizes.pages) q place r) where

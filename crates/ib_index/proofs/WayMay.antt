@@ -28,7 +28,7 @@ use Rattle.ib_walk.specs.Words.{bits_of}
 use Rattle.ib_plans.specs.Agreement.{Agrees, last_of, memory_in, reads_of}
 use Rattle.ib_split.proofs.WayLaws.{path-last, path-page}
 use Rattle.ib_walk.proofs.SearchLaws.{above-zero}
-use Rattle.ib_tree.specs.PageLists.{is_among}
+use Rattle.ib_tree.specs.PageLists.{is_listed}
 use Rattle.ib_tree.specs.TreeLog.{opening}
 use Rattle.ib_kept.specs.Kept.{IsKeptLog}
 use Rattle.ib_kept.specs.LeafChange.{kept_pages}
@@ -50,13 +50,13 @@ use Rattle.ib_index.proofs.LeafCommits.{own-behind}
 use Rattle.ib_index.proofs.WorkLaws.{none-same, pages-same, reads-same}
 
 -- X is held on each of the pages
-held-x : (held : List (ℕ × Level)) (page : ℕ) → is_among (pages_held held) page ≡ true → 0 < on (page + 2) (λ h. h.x) (map hold_of (map held_grant held))
+held-x : (held : List (ℕ × Level)) (page : ℕ) → is_listed (pages_held held) page ≡ true → 0 < on (page + 2) (λ h. h.x) (map hold_of (map held_grant held))
 held-x [] page is = cc
 held-x (h ∷ hs) page is =
     let c = on-cons (page + 2) (λ h. h.x) (hold_of (held_grant h)) (map hold_of (map held_grant hs)) in
     elim (cases_eq h.0 page) [
       | inl e ↦ let p = part-here (page + 2) (λ h. h.x) (hold_of (held_grant h)) (hold-latch (held_grant h) ∙ ap (λ n. n + 2) e) in omega arith
-      | inr ne ↦ let r = held-x hs page (sym (ap (λ b. b || is_among (pages_held hs) page) (ne_eqb h.0 page ne)) ∙ is) in omega arith
+      | inr ne ↦ let r = held-x hs page (sym (ap (λ b. b || is_listed (pages_held hs) page) (ne_eqb h.0 page ne)) ∙ is) in omega arith
     ]
 
 away-low : (l : ℕ) (held : List (ℕ × Level)) → l < 2 → IsAway l (map held_grant held)

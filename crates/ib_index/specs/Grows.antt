@@ -14,7 +14,7 @@ use Rattle.ib_walk.specs.Full.{free_of, is_too_high, need_of}
 use Rattle.ib_walk.specs.Pages.{PageMemory, Tree}
 use Rattle.ib_split.specs.Inserts.{HasFresh}
 use Rattle.ib_merge.specs.Deletes.{HasNext}
-use Rattle.ib_tree.specs.PageLists.{AreOnce, is_among}
+use Rattle.ib_tree.specs.PageLists.{AreOnce, is_listed}
 use Rattle.ib_tree.specs.TreeLog.{opening}
 use Rattle.ib_kept.specs.Kept.{IsKeptLog}
 use Rattle.ib_kept.specs.LeafChange.{kept_pages}
@@ -44,7 +44,7 @@ pages_held held = map (λ h. h.0) held
 pub record IsGrowing (sizes : Sizes) (key : MapKey) (path : List ℕ) (held : List (ℕ × Level)) (p : PassState) : Type 0 where
   pub at : StandsOnWay sizes key path p
   pub grants : HasGrants (claim_grant ∷ map held_grant held) p
-  pub loaded : (page : ℕ) → is_loaded page p.work ≡ is_among (pages_held held) page
+  pub loaded : (page : ℕ) → is_loaded page p.work ≡ is_listed (pages_held held) page
   pub count : length p.work ≡ length held
   pub within : All (λ w. w.page < sizes.pages) p.work
   pub trees : HasTreePages path p.work
@@ -68,7 +68,7 @@ pub record HasComeToWay (sizes : Sizes) (key : MapKey) (path : List ℕ) (p q : 
   pub growing : IsGrowing sizes key path (tree_pages held) q
   pub next : HasNext q.work (last_of path)
   pub kinds : (n : ℕ) → IsThere q.work n → (memory_in q.work n).kind ≡ Tree
-  pub zero : is_among held 0 ≡ false
+  pub zero : is_listed held 0 ≡ false
   pub once : AreOnce held sizes.pages
   pub few : length held ≤ 10
   pub went : WentOn p q

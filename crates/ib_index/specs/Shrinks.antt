@@ -7,7 +7,7 @@ use Rattle.ib_page.specs.Work.{WorkPage}
 use Rattle.ib_plans.specs.Agreement.{IsThere, memory_in}
 use Rattle.ib_plans.specs.Merge.{siblings_of}
 use Rattle.ib_merge.specs.Deletes.{HasNext, HasSiblings, nodes_on_path}
-use Rattle.ib_tree.specs.PageLists.{is_among}
+use Rattle.ib_tree.specs.PageLists.{is_listed}
 use Rattle.ib_rule.specs.Pass.{PassState}
 use Rattle.ib_rule.specs.Views.{total}
 use Rattle.ib_cursor.specs.Going.{WentOn}
@@ -28,7 +28,7 @@ pub record HasComeToSiblings (sizes : Sizes) (key : MapKey) (path : List ℕ) (p
   pub held : List ℕ
   pub growing : IsGrowing sizes key path (tree_pages held) q
   pub children : All (HasChildren key q.work) (nodes_on_path path)
-  pub zero : is_among held 0 ≡ false
+  pub zero : is_listed held 0 ≡ false
   pub few : length held ≤ 23
   pub went : WentOn p q
   pub looked : 0 < length went.added

@@ -16,7 +16,7 @@ ghost use Rattle.ib_walk.specs.Pages.{PageMemory};
 ghost use Rattle.ib_plans.specs.declared.fault.TreeFault.{TreeFault};
 ghost use Rattle.ib_plans.specs.Agreement.{Agrees, HasTreePages, IsThere, bits_in, last_of, memory_in, reads_of};
 ghost use Rattle.ib_split.specs.Inserts.{CanInsert, IsPlannedInsertForAll};
-ghost use Rattle.ib_tree.specs.PageLists.{AreOnce, is_among};
+ghost use Rattle.ib_tree.specs.PageLists.{AreOnce, is_listed};
 ghost use Rattle.ib_tree.specs.TreeLog.{opening};
 ghost use Rattle.ib_kept.specs.Kept.{IsKeptLog};
 ghost use Rattle.ib_rule.specs.Conditions.{MayGrow};
@@ -82,7 +82,7 @@ fn take_at<R: Wait>(rt: &R, mtr: &mut Work<'_>, page: u32, level: Level)
     ensures pass { mtr.new.pass.ghost_name ≡ mtr.old.pass.ghost_name }
     ensures grown { (key : MapKey) → IsKey key → (path : List ℕ) → (held : List (ℕ × LevelValue))
         → IsGrowing mtr.old.latches.now.sizes key path held mtr.old.pass.now
-        → is_among (pages_held held) page ≡ false
+        → is_listed (pages_held held) page ≡ false
         → HasGrown mtr.old.latches.now.sizes key path held page level mtr.old.pass.now mtr.new.pass.now }
 {
     let _ = mtr.geometry().pages();
@@ -142,12 +142,12 @@ pub(crate) fn take_space<R: Wait>(rt: &R, mtr: &mut Work<'_>)
     requires room { total mtr.old.pass.now.view.grants < 2 ^ 52 }
     requires ready { (key : MapKey) × (path : List ℕ) × (held : List ℕ)
         × IsGrowing mtr.old.latches.now.sizes key path (tree_pages held) mtr.old.pass.now
-        × (is_among held 0 ≡ false) × (length held ≤ 23) }
+        × (is_listed held 0 ≡ false) × (length held ≤ 23) }
     ensures mtr { IsMtr mtr.new.latches.now mtr.new.pass.now }
     ensures latches { mtr.new.latches ≡ mtr.old.latches }
     ensures pass { mtr.new.pass.ghost_name ≡ mtr.old.pass.ghost_name }
     ensures grown { (key : MapKey) → IsKey key → (path : List ℕ) → (held : List ℕ)
-        → IsGrowing mtr.old.latches.now.sizes key path (tree_pages held) mtr.old.pass.now → is_among held 0 ≡ false
+        → IsGrowing mtr.old.latches.now.sizes key path (tree_pages held) mtr.old.pass.now → is_listed held 0 ≡ false
         → HasGrown mtr.old.latches.now.sizes key path (tree_pages held) 0 Space mtr.old.pass.now mtr.new.pass.now }
 {
     let _ = mtr.geometry().pages();

@@ -24,7 +24,7 @@ use Rattle.ib_rule.specs.Pass.{PassState, with_view}
 use Rattle.ib_rule.specs.Views.{with_looks}
 use Rattle.ib_latch.specs.declared.tries.Reserve.{Reserve}
 use Rattle.ib_latch.specs.declared.tries.Reserve.TheVariants.{Owned, Next as NextWriter}
-use Rattle.ib_latch.specs.Tries.{IsTaken, first_session, looked_at, lost_at, phase_by, phase_of, reserve_at, upgraded, won_with}
+use Rattle.ib_latch.specs.Tries.{HasTakenGrant, first_session, looked_at, lost_at, phase_by, phase_of, reserve_at, upgraded, won_with}
 use Rattle.ib_latch.specs.Waits.{EndsAsReserved, EndsOwned, IsStill, IsUpgraded, IsWon, reserved_by}
 use Rattle.ib_latch.proofs.Takes.{won_taken}
 
@@ -100,7 +100,7 @@ as_reserved l v w k at before last_two = by_test (is_drained (w.0 -ℤ pos X_LOC
 -- X that was taken beside one's own SX, at a word
 pub upgraded_is : (l : ℕ) (w : LockWord) (r : Reserve) (p q : PassState) → r ≡ reserve_at (w.0 -ℤ pos X_LOCK_DECR) → q ≡ won_with X l w (upgraded l p.view.session.held w) (looked_at l w p) → IsUpgraded l r p q
 upgraded_is l w r p q came is = record {
-  taken = subst (λ (r : Reserve). IsTaken X (changed_on l (one_more X) p.view.session.held) (phase_of l (level_on l Log p.view.session.held) r) p.view q.view) (sym came) (won_taken X l w (upgraded l p.view.session.held w) p q is);
+  taken = subst (λ (r : Reserve). HasTakenGrant X (changed_on l (one_more X) p.view.session.held) (phase_of l (level_on l Log p.view.session.held) r) p.view q.view) (sym came) (won_taken X l w (upgraded l p.view.session.held w) p q is);
   owns_x = subst (λ (q : PassState). EndsAsReserved l q.view.session.phase q.view.looks) (sym is) (as_reserved l (level_on l Log p.view.session.held) w (tried_on l w w (looked_on l w p.view)).looks p.view.looks.steps p.view.looks.all refl);
   signed = subst (λ (q : PassState). Stores l q.view.written) (sym is) (inl refl);
   looks = let more = ap (λ (q : PassState). q.view.looks.count) is in omega arith;
@@ -137,7 +137,7 @@ module _ (l : ℕ) (v : Level) (w : LockWord) (p q : PassState) where
   won_is mode r given came is =
       let looks = ap (λ (q : PassState). q.view.looks) is ∙ won_looks mode (first_session mode l v p.view.session.held w) in
       record {
-        taken = subst (λ (f : Phase). IsTaken mode (holding_too mode l v p.view.session.held) f p.view q.view) (won_phase mode ∙ ap (phase_of l v) (sym came)) (won_taken mode l w (first_session mode l v p.view.session.held w) p q is);
+        taken = subst (λ (f : Phase). HasTakenGrant mode (holding_too mode l v p.view.session.held) f p.view q.view) (won_phase mode ∙ ap (phase_of l v) (sym came)) (won_taken mode l w (first_session mode l v p.view.session.held w) p q is);
         won = record { word = w; given = given; at = p.view.looks.steps; before = p.view.looks.all; last_two = ap (λ (k : Looks). k.all) looks };
         owned = λ other. came ∙ won_owned mode other;
         owns_x = λ is_x. won_owns mode is_x is;

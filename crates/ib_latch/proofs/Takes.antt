@@ -18,7 +18,7 @@ use Rattle.ib_rule.specs.Afterwards.{granted, looked_on, phased, tried_on, word_
 use Rattle.ib_rule.specs.Views.{with_grant}
 use Rattle.ib_rule.specs.Pass.{PassState, with_view}
 use Rattle.ib_latch.specs.declared.tries.Reserve.TheVariants.{Owned, Next as NextWriter}
-use Rattle.ib_latch.specs.Tries.{IsTaken, looked_at, phase_of, reserve_at, signed_on, won_with}
+use Rattle.ib_latch.specs.Tries.{HasTakenGrant, looked_at, phase_of, reserve_at, signed_on, won_with}
 
 -- a session that is free is as before after a look
 pub free_look : (l n : ℕ) (v : View) → v.session.phase ≡ Free → phased (word_loaded l n v.session v.session.phase) v ≡ v
@@ -33,7 +33,7 @@ reserving_is l v w held = by_test (is_drained w)
     by_test false = refl
 
 -- a grant taken in one step
-pub granted_taken : (mode : Mode) (a : Session) (p q : PassState) (v : View) → q ≡ with_view p (granted mode a v) → v.grants ≡ p.view.grants → v.memory ≡ p.view.memory → IsTaken mode a.held a.phase p.view q.view
+pub granted_taken : (mode : Mode) (a : Session) (p q : PassState) (v : View) → q ≡ with_view p (granted mode a v) → v.grants ≡ p.view.grants → v.memory ≡ p.view.memory → HasTakenGrant mode a.held a.phase p.view q.view
 granted_taken mode a p q v is grants memory = record {
   session = ap (λ (q : PassState). q.view.session) is;
   grants = ap (λ (q : PassState). q.view.grants) is ∙ ap (with_grant (Some mode)) grants;
@@ -41,7 +41,7 @@ granted_taken mode a p q v is grants memory = record {
 }
 
 -- what was taken is taken when the writer is stored
-pub signed_taken : (mode : Mode) (held : List Holding) (phase : Phase) (u : View) (l : ℕ) (p q : PassState) → q ≡ signed_on l p → IsTaken mode held phase u p.view → IsTaken mode held phase u q.view
+pub signed_taken : (mode : Mode) (held : List Holding) (phase : Phase) (u : View) (l : ℕ) (p q : PassState) → q ≡ signed_on l p → HasTakenGrant mode held phase u p.view → HasTakenGrant mode held phase u q.view
 signed_taken mode held phase u l p q is taken = record {
   session = ap (λ (q : PassState). q.view.session) is ∙ taken.session;
   grants = ap (λ (q : PassState). q.view.grants) is ∙ taken.grants;
@@ -49,7 +49,7 @@ signed_taken mode held phase u l p q is taken = record {
 }
 
 -- a try that was won
-pub won_taken : (mode : Mode) (l : ℕ) (w : LockWord) (a : Session) (p q : PassState) → q ≡ won_with mode l w a (looked_at l w p) → IsTaken mode a.held a.phase p.view q.view
+pub won_taken : (mode : Mode) (l : ℕ) (w : LockWord) (a : Session) (p q : PassState) → q ≡ won_with mode l w a (looked_at l w p) → HasTakenGrant mode a.held a.phase p.view q.view
 won_taken S l w a p q is = granted_taken S a p q (tried_on l w w (looked_on l w p.view)) is refl refl
 won_taken Sx l w a p q is = signed_taken Sx a.held a.phase p.view l _ q is (granted_taken Sx a p _ (tried_on l w w (looked_on l w p.view)) refl refl refl)
 won_taken X l w a p q is = signed_taken X a.held a.phase p.view l _ q is (granted_taken X a p _ (tried_on l w w (looked_on l w p.view)) refl refl refl)

@@ -119,7 +119,7 @@ pub record IsUnchanged (more : ℕ) (before after : View) : Type 0 where
   pub looks : after.looks.count ≡ before.looks.count + more
 
 -- one more grant of the mode: this is held then, in this phase, and of the log and the pages as much is known as before
-pub record IsTaken (mode : Mode) (held : List Holding) (phase : Phase) (before after : View) : Type 0 where
+pub record HasTakenGrant (mode : Mode) (held : List Holding) (phase : Phase) (before after : View) : Type 0 where
   pub session : after.session ≡ record { held = held; phase = phase }
   pub grants : after.grants ≡ with_grant (Some mode) before.grants
   pub memory : after.memory ≡ before.memory

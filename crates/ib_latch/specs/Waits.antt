@@ -25,7 +25,7 @@ use Rattle.ib_latch.specs.declared.tries.Reserve.{Reserve}
 use Rattle.ib_latch.specs.declared.tries.Reserve.TheVariants.{Owned}
 use Rattle.ib_latch.specs.declared.tries.TryFault.{TryFault}
 use Rattle.ib_latch.specs.declared.tries.TryFault.TheVariants.{Busy, Raced}
-use Rattle.ib_latch.specs.Tries.{IsTaken, first_session, looked_at, lost_at, phase_of, reserve_at, won_with}
+use Rattle.ib_latch.specs.Tries.{HasTakenGrant, first_session, looked_at, lost_at, phase_of, reserve_at, won_with}
 
 -- what a first grant of the mode at a word came to
 abbrev pub reserved_by : Mode → ℤ → Reserve
@@ -86,7 +86,7 @@ EndsAsReserved l p looks = Unit {0}
 
 -- a first grant of the mode, by a won exchange, which came to this
 pub record IsWon (mode : Mode) (l : ℕ) (v : Level) (r : Reserve) (p q : PassState) : Type 0 where
-  pub taken : IsTaken mode (holding_too mode l v p.view.session.held) (phase_of l v r) p.view q.view
+  pub taken : HasTakenGrant mode (holding_too mode l v p.view.session.held) (phase_of l v r) p.view q.view
   pub won : EndsWon (is_given_at mode) l q.view.looks
   pub owned : mode ≢ ModeX → r ≡ Owned
   pub owns_x : mode ≡ ModeX → EndsAsReserved l q.view.session.phase q.view.looks
@@ -95,7 +95,7 @@ pub record IsWon (mode : Mode) (l : ℕ) (v : Level) (r : Reserve) (p q : PassSt
 
 -- X taken beside one's own SX alone, by a won exchange, which came to this
 pub record IsUpgraded (l : ℕ) (r : Reserve) (p q : PassState) : Type 0 where
-  pub taken : IsTaken ModeX (changed_on l (one_more ModeX) p.view.session.held) (phase_of l (level_on l Log p.view.session.held) r) p.view q.view
+  pub taken : HasTakenGrant ModeX (changed_on l (one_more ModeX) p.view.session.held) (phase_of l (level_on l Log p.view.session.held) r) p.view q.view
   pub owns_x : EndsAsReserved l q.view.session.phase q.view.looks
   pub signed : Stores l q.view.written
   pub looks : p.view.looks.count ≤ q.view.looks.count

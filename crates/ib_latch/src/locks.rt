@@ -12,7 +12,7 @@ ghost use Rattle.ib_core.specs.Takings.{holding_too, is_given_at, one_more};
 ghost use Rattle.ib_rule.specs.Conditions.{MayGrow};
 ghost use Rattle.ib_rule.specs.Laws.{Stores};
 ghost use Rattle.ib_rule.specs.Pass.{IsOf, with_view};
-ghost use Rattle.ib_latch.specs.Tries.{IsTaken, MayClaim, held_with};
+ghost use Rattle.ib_latch.specs.Tries.{HasTakenGrant, MayClaim, held_with};
 ghost use Rattle.ib_latch.specs.Waits.{EndsAsReserved, EndsOwned, EndsOwning, EndsWon, HasReserved, IsStill, IsUpgraded, IsWon};
 
 use crate::arming::reserved;
@@ -145,7 +145,7 @@ impl<L: Law> Latches<L, Parkers> {
         requires may { CanWish latch.0 level pass.old.view.session }
         ensures own { IsOf self.now pass.new }
         ensures same { pass.new ≡ with_view pass.old pass.new.view }
-        ensures taken { IsTaken ModeS
+        ensures taken { HasTakenGrant ModeS
             (holding_too ModeS latch.0 level pass.old.view.session.held) Free pass.old.view
             pass.new.view }
         ensures won { EndsWon (is_given_at ModeS) latch.0 pass.new.view.looks }
@@ -164,7 +164,7 @@ impl<L: Law> Latches<L, Parkers> {
         requires may { MayClaim latch.0 level pass.old.view.session }
         ensures own { IsOf self.now pass.new }
         ensures same { pass.new ≡ with_view pass.old pass.new.view }
-        ensures taken { IsTaken ModeSx
+        ensures taken { HasTakenGrant ModeSx
             (held_with ModeSx latch.0 level pass.old.view.session) Free pass.old.view
             pass.new.view }
         ensures won { claims latch.0 pass.old.view.session ≡ 0
@@ -192,7 +192,7 @@ impl<L: Law> Latches<L, Parkers> {
         requires may { MayClaim latch.0 level pass.old.view.session }
         ensures own { IsOf self.now pass.new }
         ensures same { pass.new ≡ with_view pass.old pass.new.view }
-        ensures taken { IsTaken ModeX (held_with ModeX latch.0 level pass.old.view.session)
+        ensures taken { HasTakenGrant ModeX (held_with ModeX latch.0 level pass.old.view.session)
             Free pass.old.view pass.new.view }
         ensures ends { x_grants latch.0 pass.old.view.session ≡ 0
             → EndsOwning (sx_grants latch.0 pass.new.view.session) latch.0
@@ -265,7 +265,7 @@ impl<L: Law> Latches<L, Parkers> {
         requires may { CanWish latch.0 level pass.old.view.session }
         ensures own { IsOf self.now pass.new }
         ensures same { pass.new ≡ with_view pass.old pass.new.view }
-        ensures taken { IsTaken ModeX
+        ensures taken { HasTakenGrant ModeX
             (holding_too ModeX latch.0 level pass.old.view.session.held) Free pass.old.view
             pass.new.view }
         ensures ends { EndsOwning (sx_grants latch.0 pass.new.view.session) latch.0
@@ -287,7 +287,7 @@ impl<L: Law> Latches<L, Parkers> {
         requires no_x { x_grants latch.0 pass.old.view.session ≡ 0 }
         ensures own { IsOf self.now pass.new }
         ensures same { pass.new ≡ with_view pass.old pass.new.view }
-        ensures taken { IsTaken ModeX
+        ensures taken { HasTakenGrant ModeX
             (changed_on latch.0 (one_more ModeX) pass.old.view.session.held) Free pass.old.view
             pass.new.view }
         ensures ends { EndsOwning (sx_grants latch.0 pass.new.view.session) latch.0

@@ -16,7 +16,7 @@ ghost use Rattle.ib_core.specs.Takings.{holding_too, is_given_at, level_on, one_
 ghost use Rattle.ib_rule.specs.Conditions.{MayGrow, MayTry};
 ghost use Rattle.ib_rule.specs.Laws.{Stores};
 ghost use Rattle.ib_rule.specs.Pass.{IsOf, with_view};
-ghost use Rattle.ib_latch.specs.Tries.{IsClaim, IsFirstTry, IsReadyTry, IsReserveOf, IsSxMore, IsTaken, IsTryAt, IsTryOf, IsUnchanged, IsXMore, MayClaim, first_session, held_with, is_free_word, level_with, looked_at, looks_of, lost_at, phase_by, phase_of, reserve_at, upgraded, won_with};
+ghost use Rattle.ib_latch.specs.Tries.{IsClaim, IsFirstTry, IsReadyTry, IsReserveOf, IsSxMore, HasTakenGrant, IsTryAt, IsTryOf, IsUnchanged, IsXMore, MayClaim, first_session, held_with, is_free_word, level_with, looked_at, looks_of, lost_at, phase_by, phase_of, reserve_at, upgraded, won_with};
 
 use crate::latches::Latches;
 use crate::sleep::Sleep;
@@ -87,7 +87,7 @@ impl<L: Law, S: Sleep> Latches<L, S> {
         ensures own { IsOf self.now pass.new }
         ensures same { pass.new ≡ with_view pass.old pass.new.view }
         ensures tried { IsFirstTry ModeS latch.0 level pass.old result pass.new }
-        ensures taken { IsOk result → IsTaken ModeS
+        ensures taken { IsOk result → HasTakenGrant ModeS
             (holding_too ModeS latch.0 level pass.old.view.session.held) Free pass.old.view
             pass.new.view }
         ensures refused { IfErr result (λ fault. IsUnchanged (looks_of fault) pass.old.view
@@ -116,7 +116,7 @@ impl<L: Law, S: Sleep> Latches<L, S> {
             → IsFirstTry ModeSx latch.0 level pass.old result pass.new }
         ensures more { 0 < claims latch.0 pass.old.view.session
             → (result ≡ Ok tt) × IsSxMore latch.0 pass.old pass.new }
-        ensures taken { IsOk result → IsTaken ModeSx
+        ensures taken { IsOk result → HasTakenGrant ModeSx
             (held_with ModeSx latch.0 level pass.old.view.session) Free pass.old.view
             pass.new.view }
         ensures signed { IsOk result → sx_grants latch.0 pass.old.view.session ≡ 0
@@ -153,7 +153,7 @@ impl<L: Law, S: Sleep> Latches<L, S> {
             (first_session ModeX latch.0 level pass.old.view.session.held) pass.old result pass.new }
         ensures more { 0 < x_grants latch.0 pass.old.view.session
             → (result ≡ Ok tt) × IsXMore latch.0 pass.old pass.new }
-        ensures taken { IsOk result → IsTaken ModeX
+        ensures taken { IsOk result → HasTakenGrant ModeX
             (held_with ModeX latch.0 level pass.old.view.session) Free pass.old.view
             pass.new.view }
         ensures signed { IsOk result → Stores latch.0 pass.new.view.written }
@@ -198,7 +198,7 @@ impl<L: Law, S: Sleep> Latches<L, S> {
             pass.old result pass.new }
         ensures more { 0 < x_grants latch.0 pass.old.view.session
             → (result ≡ Ok Reserve.Owned) × IsXMore latch.0 pass.old pass.new }
-        ensures taken { IfOk result (λ reserve. IsTaken ModeX
+        ensures taken { IfOk result (λ reserve. HasTakenGrant ModeX
             (held_with ModeX latch.0 level pass.old.view.session)
             (phase_of latch.0 (level_with latch.0 level pass.old.view.session) reserve)
             pass.old.view pass.new.view) }
@@ -256,7 +256,7 @@ impl<L: Law, S: Sleep> Latches<L, S> {
         ensures tried { IsTryAt (is_given_at mode) mode latch.0
             (first_session mode latch.0 level pass.old.view.session.held) pass.old result
             pass.new }
-        ensures taken { IfOk result (λ w. IsTaken mode
+        ensures taken { IfOk result (λ w. HasTakenGrant mode
             (holding_too mode latch.0 level pass.old.view.session.held)
             (phase_by mode latch.0 level w.0) pass.old.view pass.new.view) }
     {
@@ -282,7 +282,7 @@ impl<L: Law, S: Sleep> Latches<L, S> {
         requires may { CanWish latch.0 level pass.old.view.session }
         ensures tried { IsTryAt is_free_word ModeX latch.0
             (first_session ModeX latch.0 level pass.old.view.session.held) pass.old result pass.new }
-        ensures taken { IsOk result → IsTaken ModeX
+        ensures taken { IsOk result → HasTakenGrant ModeX
             (holding_too ModeX latch.0 level pass.old.view.session.held) Free pass.old.view
             pass.new.view }
     {
@@ -321,7 +321,7 @@ impl<L: Law, S: Sleep> Latches<L, S> {
             → IsTryAt is_above_0 ModeX latch.0
             (upgraded latch.0 pass.old.view.session.held) pass.old result pass.new }
         ensures above { IfOk result (λ w. is_above_0 w.0 ≡ true) }
-        ensures taken { IfOk result (λ w. IsTaken ModeX
+        ensures taken { IfOk result (λ w. HasTakenGrant ModeX
             (held_with ModeX latch.0 level pass.old.view.session)
             (phase_of latch.0 (level_with latch.0 level pass.old.view.session)
             (reserve_at (w.0 -ℤ pos X_LOCK_DECR))) pass.old.view pass.new.view) }
@@ -346,7 +346,7 @@ impl<L: Law, S: Sleep> Latches<L, S> {
         requires no_x { x_grants latch.0 pass.old.view.session ≡ 0 }
         ensures tried { IsTryAt is_above_0 ModeX latch.0
             (upgraded latch.0 pass.old.view.session.held) pass.old result pass.new }
-        ensures taken { IfOk result (λ w. IsTaken ModeX
+        ensures taken { IfOk result (λ w. HasTakenGrant ModeX
             (changed_on latch.0 (one_more ModeX) pass.old.view.session.held)
             (phase_of latch.0 (level_on latch.0 Log pass.old.view.session.held)
             (reserve_at (w.0 -ℤ pos X_LOCK_DECR))) pass.old.view pass.new.view) }
@@ -391,7 +391,7 @@ impl<L: Law, S: Sleep> Latches<L, S> {
         requires grows { MayGrow pass.old.view }
         requires claims { 0 < claims latch.0 pass.old.view.session }
         ensures more { IsSxMore latch.0 pass.old pass.new }
-        ensures taken { IsTaken ModeSx
+        ensures taken { HasTakenGrant ModeSx
             (changed_on latch.0 (one_more ModeSx) pass.old.view.session.held) Free pass.old.view
             pass.new.view }
     {
@@ -411,7 +411,7 @@ impl<L: Law, S: Sleep> Latches<L, S> {
         requires grows { MayGrow pass.old.view }
         requires owns { 0 < x_grants latch.0 pass.old.view.session }
         ensures more { IsXMore latch.0 pass.old pass.new }
-        ensures taken { IsTaken ModeX
+        ensures taken { HasTakenGrant ModeX
             (changed_on latch.0 (one_more ModeX) pass.old.view.session.held) Free pass.old.view
             pass.new.view }
     {

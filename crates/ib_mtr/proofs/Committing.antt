@@ -30,11 +30,11 @@ use Rattle.ib_rule.specs.declared.view.Role.TheVariants.{Session}
 use Rattle.ib_rule.specs.declared.view.View.{View}
 use Rattle.ib_rule.specs.Memory.{LoadedFact, entries_of}
 use Rattle.ib_rule.specs.Pass.{PassState, with_view}
-use Rattle.ib_rule.specs.Roles.{number_in}
+use Rattle.ib_rule.specs.Roles.{session_number_of}
 use Rattle.ib_rule.specs.Stores.{IsHarmless, IsLook, appending}
 use Rattle.ib_rule.specs.Views.{reaching}
 use Rattle.ib_rule.proofs.Watching.{watched_after}
-use Rattle.ib_latch.specs.Tries.{IsTaken, held_with}
+use Rattle.ib_latch.specs.Tries.{HasTakenGrant, held_with}
 use Rattle.ib_frames.specs.Appends.{MayAppend, entry_by, entry_for}
 use Rattle.ib_frames.specs.Reads.{AreRight, IsLoadedImage}
 use Rattle.ib_mtr.specs.Commits.{HasCommitted, HasEnded, HasRead, IsFull, MayCommit, commit_entry, commit_grants, one_end_more}
@@ -47,11 +47,11 @@ pub look_before : (sizes : Sizes) (lawful : List Entry → Type 0) (v w : View) 
 look_before sizes lawful v w log role memory look = record {
   others = look.others;
   longer = ap (λ (m : Knowledge). m.seen ++ look.others) (sym memory) ∙ look.longer;
-  harmless = subst (λ (m : Knowledge). AllByRecursion (IsHarmless (number_in v.role) m.since) look.others) memory
-      (subst (λ (r : Role). AllByRecursion (IsHarmless (number_in r) w.memory.since) look.others) role look.harmless);
+  harmless = subst (λ (m : Knowledge). AllByRecursion (IsHarmless (session_number_of v.role) m.since) look.others) memory
+      (subst (λ (r : Role). AllByRecursion (IsHarmless (session_number_of r) w.memory.since) look.others) role look.harmless);
   legal = look.legal;
   room = look.room;
-  mine = ap (λ (r : Role). entries_of (number_in r) log) (sym role) ∙ look.mine ∙ ap (λ (m : Knowledge). m.own) memory;
+  mine = ap (λ (r : Role). entries_of (session_number_of r) log) (sym role) ∙ look.mine ∙ ap (λ (m : Knowledge). m.own) memory;
 }
 
 -- a mini-transaction that ended from a later state of its pass
@@ -91,7 +91,7 @@ module _ (a b : CoreSession) (proper : IsProper a) (same : b.held ≡ held_with 
 
 -- the pass p, with X on the log latch the pass p1, and after a look at the log's end the pass p2
 module _ (sizes : Sizes) (lawful : List Entry → Type 0) (opening : ℕ → ℕ) (change : Change) (p p1 p2 : PassState) (proper : IsProper p.view.session) (role : p.view.role ≡ Session p.number) (role1 : p1.view.role ≡ Session p1.number)
-    (memo1 : p1 ≡ record p { view = p1.view; memo = p1.memo }) (taken : IsTaken X (held_with X 0 Log p.view.session) Free p.view p1.view) (counts : p.view.looks.count ≤ p1.view.looks.count)
+    (memo1 : p1 ≡ record p { view = p1.view; memo = p1.memo }) (taken : HasTakenGrant X (held_with X 0 Log p.view.session) Free p.view p1.view) (counts : p.view.looks.count ≤ p1.view.looks.count)
     (looks : IsLook sizes lawful p1.view p2.view.memory.seen) (is : p2 ≡ with_view p1 (reaching p2.view.memory.seen p1.view)) where
   log : List Entry
   log = p2.view.memory.seen
@@ -138,7 +138,7 @@ module _ (sizes : Sizes) (lawful : List Entry → Type 0) (opening : ℕ → ℕ
       let held : p2.view.session.held ≡ held_with X 0 Log p.view.session = ap (λ (q : PassState). q.view.session.held) is ∙ ap (λ (a : CoreSession). a.held) taken.session in
       let on_log = x_on_log p.view.session p2.view.session proper held in
       let session1 : p2.view.session ≡ p1.view.session = ap (λ (q : PassState). q.view.session) is in
-      let harmless = subst (λ (n : ℕ). AllByRecursion (IsHarmless n p.view.memory.since) looked.others) (ap number_in role) looked.harmless in
+      let harmless = subst (λ (n : ℕ). AllByRecursion (IsHarmless n p.view.memory.since) looked.others) (ap session_number_of role) looked.harmless in
       let legal = may.legal looked.others harmless (subst lawful (sym looked.longer) looked.legal) in record {
         free = ap (λ (q : PassState). q.view.session.phase) is ∙ ap (λ (a : CoreSession). a.phase) taken.session;
         log_x = on_log;
@@ -209,7 +209,7 @@ module _ (sizes : Sizes) (lawful : List Entry → Type 0) (opening : ℕ → ℕ
         }
       where
         mine : entries_of p.number p2.view.memory.seen ≡ p.view.memory.own
-        mine = ap (λ (r : Role). entries_of (number_in r) p2.view.memory.seen) (sym role) ∙ looked.mine
+        mine = ap (λ (r : Role). entries_of (session_number_of r) p2.view.memory.seen) (sym role) ∙ looked.mine
 
         itself : entries_of p.number (commit_entry p change ∷ []) ≡ commit_entry p change ∷ []
         itself = ap (λ b. Rattle.std.proofs.Common.cond b (commit_entry p change ∷ []) []) (eq-eqb p.number p.number refl)

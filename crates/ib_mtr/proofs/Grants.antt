@@ -19,7 +19,7 @@ use Rattle.ib_core.specs.Sessions.{claims, holdings, reads, sx_grants, x_grants}
 use Rattle.ib_core.specs.Takings.{count_of, first_holding, holding_too, one_fewer, one_more}
 use Rattle.ib_core.proofs.OnLatch.{counted, counts_changed, held_by_grant, one_more-latch, one_fewer-latch}
 use Rattle.ib_latch.specs.Tries.{held_with}
-use Rattle.ib_mtr.specs.Memo.{HasExactly, grants_of, same_mode, times}
+use Rattle.ib_mtr.specs.Memo.{HasExactly, grants_of, same_mode, times_in_memo}
 use Rattle.ib_mtr.specs.Mtr.{held_after}
 
 -- one where a grant of this mode is on the latch, and it is of that mode
@@ -27,10 +27,10 @@ abbrev pub hit : Mode → ℕ → Mode → ℕ → ℕ
 hit m k mode l = cond ((l == k) && same_mode m mode) 1 0
 
 -- the memo with one grant more, and with one fewer
-pub times-push : (m : Mode) (k : ℕ) (memo : List (Latch × Mode)) (g : Latch × Mode) → times m k (memo ++ g ∷ []) ≡ times m k memo + hit m k g.1 g.0.0
+pub times-push : (m : Mode) (k : ℕ) (memo : List (Latch × Mode)) (g : Latch × Mode) → times_in_memo m k (memo ++ g ∷ []) ≡ times_in_memo m k memo + hit m k g.1 g.0.0
 times-push m k memo g = sum_by_push _ memo g
 
-pub times-remove : (m : Mode) (k : ℕ) (memo : List (Latch × Mode)) (at : ℕ) (g : Latch × Mode) → slice_get memo at ≡ Some g → times m k (remove memo at) + hit m k g.1 g.0.0 ≡ times m k memo
+pub times-remove : (m : Mode) (k : ℕ) (memo : List (Latch × Mode)) (at : ℕ) (g : Latch × Mode) → slice_get memo at ≡ Some g → times_in_memo m k (remove memo at) + hit m k g.1 g.0.0 ≡ times_in_memo m k memo
 times-remove m k memo at g is =
     let e = sum_by-remove (λ (g : Latch × Mode). cond ((g.0.0 == k) && same_mode m g.1) 1 0) memo at g (slice_get_within memo at g is) in
     let same = ap (λ (g : Latch × Mode). hit m k g.1 g.0.0) (get_or_from_slice_get memo at g g is) in omega arith

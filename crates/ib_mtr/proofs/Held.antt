@@ -18,7 +18,7 @@ use Rattle.ib_core.specs.Sessions.{holdings, idle, reads, sx_grants, x_grants}
 use Rattle.ib_core.proofs.OnLatch.{counted, held_by_grant}
 use Rattle.ib_rule.specs.Conditions.{held_now}
 use Rattle.ib_rule.specs.Gauges.{mode_held}
-use Rattle.ib_mtr.specs.Memo.{HasExactly, same_mode, times}
+use Rattle.ib_mtr.specs.Memo.{HasExactly, same_mode, times_in_memo}
 
 -- how many grants on the latch a memo has, of any mode
 abbrev on_latch : ℕ → List (Latch × Mode) → ℕ
@@ -30,7 +30,7 @@ one_mode true Sx = refl
 one_mode true X = refl
 one_mode false m = refl
 
-by_modes : (k : ℕ) (memo : List (Latch × Mode)) → times S k memo + times Sx k memo + times X k memo ≡ on_latch k memo
+by_modes : (k : ℕ) (memo : List (Latch × Mode)) → times_in_memo S k memo + times_in_memo Sx k memo + times_in_memo X k memo ≡ on_latch k memo
 by_modes k [] = refl
 by_modes k (g ∷ memo) =
     let s = sum_by-cons (λ (g : Latch × Mode). cond ((g.0.0 == k) && same_mode S g.1) 1 0) g memo in

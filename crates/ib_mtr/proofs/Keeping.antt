@@ -18,7 +18,7 @@ use Rattle.ib_rule.specs.declared.pass.TheConstants.{MOST_HELD}
 use Rattle.ib_rule.specs.Conditions.{MayGrow}
 use Rattle.ib_rule.specs.Pass.{PassState, IsOf, with_view}
 use Rattle.ib_rule.specs.Space.{SpaceState}
-use Rattle.ib_latch.specs.Tries.{IsTaken, IsUnchanged, held_with}
+use Rattle.ib_latch.specs.Tries.{HasTakenGrant, IsUnchanged, held_with}
 use Rattle.ib_frames.specs.Reads.{IsLoadedImage}
 use Rattle.ib_mtr.specs.Memo.{HasExactly}
 use Rattle.ib_mtr.specs.Mtr.{IsMtr, IsUnchangedOn, pages_left, released, released_at, with_memo, with_work, without_grant}
@@ -67,7 +67,7 @@ memo_room space p q mtr grows same =
 
 -- a grant, on top of the memo
 pub granted : (space : SpaceState) (p q r : PassState) (mode : Mode) (latch : Latch) (v : Level) → IsMtr space p → latch.0 < latches_of space.sizes
-    → q ≡ with_view p q.view → IsTaken mode (held_with mode latch.0 v p.view.session) Free p.view q.view → IsProper q.view.session
+    → q ≡ with_view p q.view → HasTakenGrant mode (held_with mode latch.0 v p.view.session) Free p.view q.view → IsProper q.view.session
     → r ≡ with_memo (q.memo ++ (latch, mode) ∷ []) q → IsMtr space r
 granted space p q r mode latch v mtr low same taken proper more =
     let now : q.view.session.held ≡ held_with mode latch.0 v p.view.session = ap (λ (a : Session). a.held) taken.session in

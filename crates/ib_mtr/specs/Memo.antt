@@ -21,8 +21,8 @@ same_mode X Sx = false
 same_mode X X = true
 
 -- how many grants of the mode on the latch a memo has
-abbrev pub times : Mode → ℕ → List (Latch × Mode) → ℕ
-times mode l memo = count_by (λ g. (g.0.0 == l) && same_mode mode g.1) memo
+abbrev pub times_in_memo : Mode → ℕ → List (Latch × Mode) → ℕ
+times_in_memo mode l memo = count_by (λ g. (g.0.0 == l) && same_mode mode g.1) memo
 
 -- how many grants of the mode a session has on the latch
 abbrev pub grants_of : Mode → ℕ → Session → ℕ
@@ -30,7 +30,7 @@ grants_of mode l a = on l (count_of mode) a.held
 
 -- a session has exactly the grants of the memo: on each latch, and of each mode, as many
 pub record HasExactly (memo : List (Latch × Mode)) (a : Session) : Type 0 where
-  pub counts : (mode : Mode) (l : ℕ) → grants_of mode l a ≡ times mode l memo
+  pub counts : (mode : Mode) (l : ℕ) → grants_of mode l a ≡ times_in_memo mode l memo
 
 -- the newest grant on the latch stands at this place
 pub record IsNewest (latch : Latch) (at : ℕ) (memo : List (Latch × Mode)) : Type 0 where

@@ -10,7 +10,7 @@ ghost use Rattle.ib_core.specs.Takings.{holding_too, is_given_at};
 ghost use Rattle.ib_rule.specs.Conditions.{MayGrow};
 ghost use Rattle.ib_rule.specs.Laws.{Stores};
 ghost use Rattle.ib_rule.specs.Pass.{with_view};
-ghost use Rattle.ib_latch.specs.Tries.{IsTaken, MayClaim, held_with};
+ghost use Rattle.ib_latch.specs.Tries.{HasTakenGrant, MayClaim, held_with};
 ghost use Rattle.ib_latch.specs.Waits.{EndsOwning, EndsWon};
 ghost use Rattle.ib_mtr.specs.Mtr.{IsMtr, with_memo};
 
@@ -34,7 +34,7 @@ impl<'a, L: Law> Mtr<'a, L, Parkers> {
         ensures granted { self.new.pass.now
             ≡ with_memo (self.old.pass.now.memo ++ (latch, Mode.S) ∷ [])
             (with_view self.old.pass.now self.new.pass.now.view) }
-        ensures taken { IsTaken ModeS
+        ensures taken { HasTakenGrant ModeS
             (holding_too ModeS latch.0 level self.old.pass.now.view.session.held) Free
             self.old.pass.now.view self.new.pass.now.view }
         ensures won { EndsWon (is_given_at ModeS) latch.0 self.new.pass.now.view.looks }
@@ -57,7 +57,7 @@ impl<'a, L: Law> Mtr<'a, L, Parkers> {
         ensures granted { self.new.pass.now
             ≡ with_memo (self.old.pass.now.memo ++ (latch, Mode.Sx) ∷ [])
             (with_view self.old.pass.now self.new.pass.now.view) }
-        ensures taken { IsTaken ModeSx
+        ensures taken { HasTakenGrant ModeSx
             (held_with ModeSx latch.0 level self.old.pass.now.view.session) Free
             self.old.pass.now.view self.new.pass.now.view }
         ensures won { claims latch.0 self.old.pass.now.view.session ≡ 0
@@ -83,7 +83,7 @@ impl<'a, L: Law> Mtr<'a, L, Parkers> {
         ensures granted { self.new.pass.now
             ≡ with_memo (self.old.pass.now.memo ++ (latch, Mode.X) ∷ [])
             (with_view self.old.pass.now self.new.pass.now.view) }
-        ensures taken { IsTaken ModeX
+        ensures taken { HasTakenGrant ModeX
             (held_with ModeX latch.0 level self.old.pass.now.view.session) Free
             self.old.pass.now.view self.new.pass.now.view }
         ensures ends { x_grants latch.0 self.old.pass.now.view.session ≡ 0

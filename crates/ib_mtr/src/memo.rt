@@ -12,7 +12,7 @@ ghost use Rattle.ib_core.specs.Takings.{holding_too};
 ghost use Rattle.ib_page.specs.Work.{before_of, changed_of};
 ghost use Rattle.ib_rule.specs.Conditions.{MayGrow};
 ghost use Rattle.ib_rule.specs.Pass.{IsOf, with_view};
-ghost use Rattle.ib_latch.specs.Tries.{IsFirstTry, IsTaken, IsUnchanged, looks_of};
+ghost use Rattle.ib_latch.specs.Tries.{IsFirstTry, HasTakenGrant, IsUnchanged, looks_of};
 ghost use Rattle.ib_mtr.specs.Memo.{IsNewest, grants_of};
 ghost use Rattle.ib_mtr.specs.Mtr.{IsMtr, IsReleasedAt, IsUnchangedOn, MayRelease, pages_left, released, released_to, with_memo, with_work};
 
@@ -43,7 +43,7 @@ impl<'a, L: Law, S: Sleep> Mtr<'a, L, S> {
             ≡ with_view self.old.pass.now self.new.pass.now.view) }
         ensures tried { IsFirstTry ModeS latch.0 level self.old.pass.now result
             (with_memo self.old.pass.now.memo self.new.pass.now) }
-        ensures taken { IsOk result → IsTaken ModeS
+        ensures taken { IsOk result → HasTakenGrant ModeS
             (holding_too ModeS latch.0 level self.old.pass.now.view.session.held) Free
             self.old.pass.now.view self.new.pass.now.view }
         ensures refused { IfErr result (λ fault. IsUnchanged (looks_of fault)

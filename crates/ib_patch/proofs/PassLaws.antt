@@ -15,25 +15,25 @@ use Rattle.ib_walk.specs.Words.{state_of, image_of, pages_of, bits_of, memory_of
 use Rattle.ib_patch.specs.PatchTest.{Positions, visited, all_back}
 use Rattle.ib_patch.specs.PageTests.{PassesAt, bit_of}
 use Rattle.ib_patch.specs.Positions.{is_good_at, marks_of, positions_of}
-use Rattle.ib_patch.specs.TreeMemory.{TreeMemory, IsTreeMemory, PassesAtAll, IsTreePatch, bits_in}
+use Rattle.ib_patch.specs.TreeMemory.{TreeMemory, IsTreeMemory, PassesAtAll, IsTreePatch, image_bits}
 use Rattle.ib_walk.proofs.ImageLaws.{image_of-images}
 use Rattle.ib_patch.proofs.MemoryLaws.{image_of-same, memory_of-same}
 use Rattle.ib_patch.proofs.PositionLaws.{marks_of-within, positions_of-past}
 use Rattle.ib_patch.proofs.ListedLaws.{listed-each, listed-mine}
 
 -- the bit of a page that is there, and of one that is not
-pub bits_in-there : (images : List (List ℕ)) (page : ℕ) → page < length images → length (image_at images 0) ≡ PAGE_WORDS → bits_in images page ≡ bit_of (is_taken (image_at images 0) page)
+pub image_bits-there : (images : List (List ℕ)) (page : ℕ) → page < length images → length (image_at images 0) ≡ PAGE_WORDS → image_bits images page ≡ bit_of (is_taken (image_at images 0) page)
 unfolding bits_of
-bits_in-there images page lt whole =
+image_bits-there images page lt whole =
     cond-true (ltb page (length images)) _ 0 (lt-ltb page (length images) lt) ∙ ap (λ (ws : List ℕ). bit_of (is_taken ws page)) (image_of-images images 0 whole)
 
-pub bits_in-past : (images : List (List ℕ)) (page : ℕ) → length images ≤ page → bits_in images page ≡ 0
+pub image_bits-past : (images : List (List ℕ)) (page : ℕ) → length images ≤ page → image_bits images page ≡ 0
 unfolding bits_of
-bits_in-past images page le = cond-false (ltb page (length images)) _ 0 (le-ltb page (length images) le)
+image_bits-past images page le = cond-false (ltb page (length images)) _ 0 (le-ltb page (length images) le)
 
-bits_in-same : (before after : List (List ℕ)) (page : ℕ) → length after ≡ length before → image_at after 0 ≡ image_at before 0 → bits_in after page ≡ bits_in before page
+image_bits-same : (before after : List (List ℕ)) (page : ℕ) → length after ≡ length before → image_at after 0 ≡ image_at before 0 → image_bits after page ≡ image_bits before page
 unfolding bits_of
-bits_in-same before after page size same =
+image_bits-same before after page size same =
     ap (λ n. bits_of n (word_at after) page) size ∙ ap (λ (ws : List ℕ). cond (ltb page (length before)) (cond (is_taken ws page) 1 0) 0) (image_of-same after before 0 same)
 
 pub bit-once : (b : Bool) → bit_of b ≤ 1
@@ -69,21 +69,21 @@ met-few t kept page le = positions_of-past t.met_before page (let size = kept.me
 
 module _ (t : TreeMemory) (kept : IsTreeMemory t) (whole_before : length (image_at t.before 0) ≡ PAGE_WORDS) (whole_after : length (image_at t.after 0) ≡ PAGE_WORDS)
     (table : Positions) (key : MapKey) (target : Pairs) where
-  there : (p : ℕ) → marks_of t.written p ≡ true → bits_in t.after p ≡ bit_of (is_taken (image_at t.after 0) p)
-  there p w = bits_in-there t.after p (let lt = written-few t kept p w in let size = kept.after in omega arith) whole_after
+  there : (p : ℕ) → marks_of t.written p ≡ true → image_bits t.after p ≡ bit_of (is_taken (image_at t.after 0) p)
+  there p w = image_bits-there t.after p (let lt = written-few t kept p w in let size = kept.after in omega arith) whole_after
 
   module _ (h : PassesAtAll t.before t.after table t.written t.pages key target) where
     at : (p : ℕ) → marks_of t.written p ≡ true → PassesAt (memory_of t.after) end_rank table (bit_of (is_taken (image_at t.after 0) p)) p
     at p w = listed-each (marks_of t.written) t.pages (length t.before) p (λ q. PassesAt (memory_of t.after) end_rank table (bit_of (is_taken (image_at t.after 0) q)) q) kept.listed (written-few t kept p w) w h.each
 
-    others : (p : ℕ) → marks_of t.written p ≡ false → bits_in t.after p ≡ bits_in t.before p
+    others : (p : ℕ) → marks_of t.written p ≡ false → image_bits t.after p ≡ image_bits t.before p
     others p w = elim (cases_lt p (length t.before)) [
-      | inr past ↦ bits_in-past t.after p (let size = kept.after in omega arith) ∙ sym (bits_in-past t.before p past)
+      | inr past ↦ image_bits-past t.after p (let size = kept.after in omega arith) ∙ sym (image_bits-past t.before p past)
       | inl lt ↦ elim (cases_Bool (marks_of t.written 0)) [
-        | inr fails ↦ bits_in-same t.before t.after p kept.after (kept.same 0 fails)
+        | inr fails ↦ image_bits-same t.before t.after p kept.after (kept.same 0 fails)
         | inl holds ↦
             let same = (h.space holds).1 p (let size = kept.written in omega arith) w in
-            bits_in-there t.after p (let size = kept.after in omega arith) whole_after ∙ (ap bit_of same ∙ sym (bits_in-there t.before p lt whole_before))
+            image_bits-there t.after p (let size = kept.after in omega arith) whole_after ∙ (ap bit_of same ∙ sym (image_bits-there t.before p lt whole_before))
       ]
     ]
 
@@ -118,8 +118,8 @@ module _ (t : TreeMemory) (kept : IsTreeMemory t) (whole_before : length (image_
     space = λ w. (
       subst (IsSpacePage (length t.after)) (image_of-images t.after 0 whole_after) (h.space w),
       λ p lt off. bit-apart _ _ (
-          sym (bits_in-there t.after p (let a = kept.written in let b = kept.after in omega arith) whole_after)
-          ∙ (h.passes.others p off ∙ bits_in-there t.before p (let a = kept.written in omega arith) whole_before)),
+          sym (image_bits-there t.after p (let a = kept.written in let b = kept.after in omega arith) whole_after)
+          ∙ (h.passes.others p off ∙ image_bits-there t.before p (let a = kept.written in omega arith) whole_before)),
     );
     sliced = h.sliced;
   }

@@ -45,8 +45,8 @@ abbrev pub opening_positions : Positions
 opening_positions = set_at (λ page. None) 1 (Some (record { tree = 1; height = 0; low = 0; high = end_rank }))
 
 -- the bits of a space's pages
-abbrev pub bits_in : List (List ℕ) → ℕ → ℕ
-bits_in images = bits_of (length images) (word_at images)
+abbrev pub image_bits : List (List ℕ) → ℕ → ℕ
+image_bits images = bits_of (length images) (word_at images)
 
 -- what is asked of the written pages at these positions, beside the visits: each passes by itself, page 0 keeps the bits of the others, and the
 -- leaves have what the target has
@@ -58,7 +58,7 @@ pub record PassesAtAll (before after : List (List ℕ)) (table : Positions) (wri
 -- The pages after the entry pass the test, with these positions: those that it writes make one tree with the others, have what the
 -- target has, and leave a space page
 pub record IsTreePatch (t : TreeMemory) (table : Positions) (key : MapKey) (target : Pairs) : Type 0 where
-  pub passes : PassesTest (marks_of t.written) (memory_of t.before) (memory_of t.after) (is_good_at (memory_of t.after)) (bits_in t.before) (bits_in t.after)
+  pub passes : PassesTest (marks_of t.written) (memory_of t.before) (memory_of t.after) (is_good_at (memory_of t.after)) (image_bits t.before) (image_bits t.after)
       1 end_rank t.pages (positions_of t.met_before) table
   pub sliced : IsSliced (memory_of t.after) (fresh_of t.pages table 1) target key
   pub space : marks_of t.written 0 ≡ true → IsSpacePage (length t.after) (image_of (word_at t.after) 0)

@@ -17,7 +17,7 @@ use Rattle.ib_logrec.specs.declared.fault.LogFault.TheVariants.{OutOfMemory}
 use Rattle.ib_logrec.specs.Grammar.{IsFault}
 use Rattle.ib_logrec.proofs.EntryLaws.{IsFault-none}
 use Rattle.ib_replay.specs.declared.file.TheConstants.{FILE_FORM}
-use Rattle.ib_replay.specs.Files.{LogFile, AreWords, word_bytes, file_of, number_at, file_fault}
+use Rattle.ib_replay.specs.Files.{LogFile, AreWords, word_bytes, file_of, file_number, file_fault}
 
 abbrev pub AreBytes : List ℕ → Type 0
 AreBytes bytes = (i : ℕ) → get_or bytes i 0 < 256
@@ -103,18 +103,18 @@ module _ (pages : ℕ) (words : List ℕ) where
   unfolding file_of
   length-file_of = length-word_bytes (FILE_FORM ∷ pages ∷ words) ∙ omega arith
 
-  number_at-0 : number_at (file_of pages words) 0 ≡ FILE_FORM
+  file_number-0 : file_number (file_of pages words) 0 ≡ FILE_FORM
   unfolding file_of
-  number_at-0 = big_number-words FILE_FORM (pages ∷ words) (omega arith)
+  file_number-0 = big_number-words FILE_FORM (pages ∷ words) (omega arith)
 
-  number_at-1 : pages < 2 ^ 64 → number_at (file_of pages words) 1 ≡ pages
+  file_number-1 : pages < 2 ^ 64 → file_number (file_of pages words) 1 ≡ pages
   unfolding file_of
-  number_at-1 fits =
+  file_number-1 fits =
       let behind : drop 8 (word_bytes (FILE_FORM ∷ pages ∷ words)) ≡ word_bytes (pages ∷ words) =
       ap (drop 8) (flat_map-cons (big_bytes 8) FILE_FORM (pages ∷ words)) ∙ drop_at (big_bytes 8 FILE_FORM) (word_bytes (pages ∷ words)) 8 (length-bytes_high_first 8 FILE_FORM) in
       ap (big_number 8) behind ∙ big_number-words pages words fits
 
-no_fault : (bytes : List ℕ) → length bytes % 8 ≡ 0 → 16 ≤ length bytes → number_at bytes 0 ≡ FILE_FORM → has_pages (number_at bytes 1) ≡ true → file_fault bytes ≡ None
+no_fault : (bytes : List ℕ) → length bytes % 8 ≡ 0 → 16 ≤ length bytes → file_number bytes 0 ≡ FILE_FORM → has_pages (file_number bytes 1) ≡ true → file_fault bytes ≡ None
 unfolding file_fault
 no_fault bytes whole long form has = rw (eq-eqb _ _ whole, le-leb _ _ long, eq-eqb _ _ form, has) refl
 
@@ -128,7 +128,7 @@ has_pages-fits pages has = below pages (leb-true pages MOST_PAGES (and_parts (na
 pub file_fault-none : (pages : ℕ) (words : List ℕ) → has_pages pages ≡ true → file_fault (file_of pages words) ≡ None
 file_fault-none pages words has =
     let size = length-file_of pages words in
-    no_fault (file_of pages words) (omega arith) (omega arith) (number_at-0 pages words) (ap has_pages (number_at-1 pages words (has_pages-fits pages has)) ∙ has)
+    no_fault (file_of pages words) (omega arith) (omega arith) (file_number-0 pages words) (ap has_pages (file_number-1 pages words (has_pages-fits pages has)) ∙ has)
 
 -- what is read of a file is the log that it is the file of
 pub only_log : (bytes : List ℕ) (r : Result LogFile LogFault) → IfOk r (λ log. bytes ≡ file_of log.pages log.words) → IfOk r (λ log. has_pages log.pages ≡ true)

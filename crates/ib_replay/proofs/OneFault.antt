@@ -10,7 +10,7 @@ use Rattle.ib_logrec.specs.Law.{AreInGrammar}
 use Rattle.ib_logrec.specs.Log.{log_words}
 use Rattle.ib_replay.specs.declared.log_replay.Replayed.{Replayed}
 use Rattle.ib_replay.specs.Files.{file_fault}
-use Rattle.ib_replay.specs.Replays.{fault_behind, IsFirstOf, IsFirstFault}
+use Rattle.ib_replay.specs.Replays.{log_fault_behind, IsFirstOf, IsFirstFault}
 use Rattle.ib_replay.specs.RawLogs.{IsRawLog, IsReplayed, IsWordFault, IsRawFault}
 use Rattle.ib_replay.proofs.FileLaws.{file_fault-none, file_of-one, has_pages-fits}
 use Rattle.ib_replay.proofs.OnlyLog.{same_rest, no_fault_behind, not_first_fault, log_words-one}
@@ -60,9 +60,9 @@ pub first_fault-one : (pages : ℕ) (words : List ℕ) (a b : LogFault) → IsFi
 first_fault-one pages words a b is_a is_b =
     elim (fronts pages is_a.front is_b.front is_a.rest is_b.rest is_a.lawful.grammar is_b.lawful.grammar (sym is_a.parts ∙ is_b.parts)) [
       | inl both ↦
-          let here = subst (λ (front : List Entry). IsFirstOf pages front (entry_in is_b.rest) (fault_behind pages front is_b.rest) a) both.0
-          (subst (λ (rest : List ℕ). IsFirstOf pages is_a.front (entry_in rest) (fault_behind pages is_a.front rest) a) both.1 is_a.found) in
-          IsFirstOf-one pages is_b.front (entry_in is_b.rest) (fault_behind pages is_b.front is_b.rest) a b here is_b.found
+          let here = subst (λ (front : List Entry). IsFirstOf pages front (entry_in is_b.rest) (log_fault_behind pages front is_b.rest) a) both.0
+          (subst (λ (rest : List ℕ). IsFirstOf pages is_a.front (entry_in rest) (log_fault_behind pages is_a.front rest) a) both.1 is_a.found) in
+          IsFirstOf-one pages is_b.front (entry_in is_b.rest) (log_fault_behind pages is_b.front is_b.rest) a b here is_b.found
       | inr (inl on) ↦ absurd (no_fault_behind pages is_a.front on.more is_b.front on.entry is_a.rest on.tail a is_b.lawful on.parts on.spelled on.is is_a.found)
       | inr (inr on) ↦ absurd (no_fault_behind pages is_b.front on.more is_a.front on.entry is_b.rest on.tail b is_a.lawful on.parts on.spelled on.is is_b.found)
     ]

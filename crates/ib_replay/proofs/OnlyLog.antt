@@ -23,7 +23,7 @@ use Rattle.ib_walk.specs.Opening.{opening_word}
 use Rattle.ib_tree.specs.Logs.{IsTreeEntry}
 use Rattle.ib_tree.specs.TreeLog.{IsTreeLog}
 use Rattle.ib_tree.proofs.OpeningLaws.{by_place-opening}
-use Rattle.ib_replay.specs.Replays.{change_fault, fault_behind, IsFirstOf, IsFirstFault, IsReplayFault}
+use Rattle.ib_replay.specs.Replays.{change_fault, log_fault_behind, IsFirstOf, IsFirstFault, IsReplayFault}
 
 -- what begins with an entry's words goes on with what stands behind them
 pub same_rest : (pages : ℕ) (e f : Entry) (x y : List ℕ) → IsInGrammar pages e → IsInGrammar pages f → words_of_entry e ++ x ≡ words_of_entry f ++ y → (e ≡ f) × (x ≡ y)
@@ -70,12 +70,12 @@ no_change_fault place front e legal =
 
 -- behind a front of a lawful log stand the words of its next entry, and nothing is wrong with them
 pub no_fault_behind : (pages : ℕ) (front more log : List Entry) (e : Entry) (rest tail : List ℕ) (fault : LogFault) → IsTreeLog pages log → log ≡ front ++ e ∷ more → rest ≡ words_of_entry e ++ tail → IsInGrammar pages e
-    → IsFirstOf pages front (entry_in rest) (fault_behind pages front rest) fault → ⊥
+    → IsFirstOf pages front (entry_in rest) (log_fault_behind pages front rest) fault → ⊥
 no_fault_behind pages front more log e rest tail fault lawful parts spelled is first =
     let read : entry_in rest ≡ e = ap entry_in spelled ∙ entry_in-words e tail is.most_writes in
     let words : fault_at pages (used front) rest ≡ None = ap (fault_at pages (used front)) spelled ∙ fault_at-words pages (used front) e tail is in
     let legal = legal_next front more e (subst (λ (l : List Entry). IsLegalHistory (history_of l)) parts lawful.legal) in
-    let none : fault_behind pages front rest ≡ None = rw (words, read) (no_change_fault (used front) front e legal) in
+    let none : log_fault_behind pages front rest ≡ None = rw (words, read) (no_change_fault (used front) front e legal) in
     let found = subst (λ (o : Option LogFault). IsFirstOf pages front (entry_in rest) o fault) none first in
     let entry : IsTreeEntry pages 1 opening_word front e = subst (λ (start : ℕ → ℕ). IsTreeEntry pages 1 start front e) (by_place-opening pages) (lawful.entries front e more parts) in
     found.none (subst (IsTreeEntry pages 1 opening_word front) (sym read) entry)

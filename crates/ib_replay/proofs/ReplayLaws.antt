@@ -29,7 +29,7 @@ use Rattle.ib_patch.specs.Positions.{positions_of}
 use Rattle.ib_tree.specs.Logs.{IsTreeEntry}
 use Rattle.ib_tree.specs.TreeLog.{opening, IsTreeLog, IsLawfulLog-none}
 use Rattle.ib_tree.proofs.LogLaws.{map_of-push, map_of-with}
-use Rattle.ib_replay.specs.Replays.{change_fault, change_fault_behind, fault_behind, IsFirstOf, IsFirstFault, IsReplayFault}
+use Rattle.ib_replay.specs.Replays.{change_fault, change_fault_behind, log_fault_behind, IsFirstOf, IsFirstFault, IsReplayFault}
 use Rattle.ib_replay.specs.TreeSteps.{AreTreePages, IsNext}
 use Rattle.ib_replay.proofs.TreeSteps.{AreTreePages-opening, IsTreeLog-push}
 
@@ -60,10 +60,10 @@ module _ (pages : ℕ) (words : List ℕ) (place : ℕ) (log : List Entry) (tree
     change-here = let count = reached.counts e.session (omega (arith, is.most_session)) in rw (reached.size, ← count, ← reached.map) refl
 
     -- nothing is wrong with the words, so what is wrong there is of the change
-    fault-here : fault_behind pages log (drop place words) ≡ change_fault place (get_or counts e.session 0) map e
+    fault-here : log_fault_behind pages log (drop place words) ≡ change_fault place (get_or counts e.session 0) map e
     fault-here = rw (no-words-fault, read) (sym change-here)
 
-    first-here : (fault : LogFault) → place < length words → IsFirstOf pages log (entry_in (drop place words)) (fault_behind pages log (drop place words)) fault → IsFirstFault pages words fault
+    first-here : (fault : LogFault) → place < length words → IsFirstOf pages log (entry_in (drop place words)) (log_fault_behind pages log (drop place words)) fault → IsFirstFault pages words fault
     first-here fault lt found = record {
       front = log;
       rest = drop place words;

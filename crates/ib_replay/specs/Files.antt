@@ -25,13 +25,13 @@ unfoldable pub file_of : ℕ → List ℕ → List ℕ
 file_of pages words = word_bytes (FILE_FORM ∷ pages ∷ words)
 
 -- number i of a file
-abbrev pub number_at : List ℕ → ℕ → ℕ
-number_at bytes i = big_number 8 (drop (8 * i) bytes)
+abbrev pub file_number : List ℕ → ℕ → ℕ
+file_number bytes i = big_number 8 (drop (8 * i) bytes)
 
 -- the first fault of a file
 unfoldable pub file_fault : List ℕ → Option LogFault
 file_fault bytes =
     unless (length bytes % 8 == 0) (OddLength (length bytes))
     or unless (nat_le 16 (length bytes)) (Short 0)
-    or unless (number_at bytes 0 == FILE_FORM) (BadFile 0 (number_at bytes 0))
-    or unless (has_pages (number_at bytes 1)) (BadFile 1 (number_at bytes 1))
+    or unless (file_number bytes 0 == FILE_FORM) (BadFile 0 (file_number bytes 0))
+    or unless (has_pages (file_number bytes 1)) (BadFile 1 (file_number bytes 1))

@@ -33,8 +33,8 @@ abbrev pub change_fault_behind : List Entry → Entry → Option LogFault
 change_fault_behind log e = change_fault (used log) (length (changes_of e.session (history_of log))) (map_with [] (history_of log)) e
 
 -- what is wrong with the words behind a log, as far as it is computed: their grammar, then number and change
-abbrev pub fault_behind : ℕ → List Entry → List ℕ → Option LogFault
-fault_behind pages log words = fault_at pages (used log) words or change_fault_behind log (entry_in words)
+abbrev pub log_fault_behind : ℕ → List Entry → List ℕ → Option LogFault
+log_fault_behind pages log words = fault_at pages (used log) words or change_fault_behind log (entry_in words)
 
 -- the fault that an entry behind a log leaves no lawful tree
 pub record IsTreeFault (pages : ℕ) (log : List Entry) (e : Entry) (fault : LogFault) : Type 0 where
@@ -53,7 +53,7 @@ pub record IsFirstFault (pages : ℕ) (words : List ℕ) (fault : LogFault) : Ty
   pub lawful : IsTreeLog pages front
   pub parts : words ≡ log_words front ++ rest
   pub more : 0 < length rest
-  pub found : IsFirstOf pages front (entry_in rest) (fault_behind pages front rest) fault
+  pub found : IsFirstOf pages front (entry_in rest) (log_fault_behind pages front rest) fault
 
 -- or want of memory
 abbrev pub IsReplayFault : ℕ → List ℕ → LogFault → Type 0

@@ -24,11 +24,11 @@ use Rattle.ib_rule.specs.declared.memory.OpenAppend.{OpenAppend}
 use Rattle.ib_rule.specs.declared.view.View.{View}
 use Rattle.std.specs.List.{AllByRecursion}
 use Rattle.ib_rule.specs.Memory.{IsAppending}
-use Rattle.ib_rule.specs.Roles.{live, bears, is_drawn, drawn_in, ended_in, number_in}
+use Rattle.ib_rule.specs.Roles.{live, bears, is_drawn, drawn_in, ended_in, session_number_of}
 use Rattle.ib_rule.specs.Views.{role_of, session_in_view}
 use Rattle.ib_rule.specs.Rule.{RuleHolds}
 
-bears_own : (r : Role) → 0 < number_in r → bears (number_in r) r ≡ 1
+bears_own : (r : Role) → 0 < session_number_of r → bears (session_number_of r) r ≡ 1
 bears_own (Space d es) h = absurd (omega arith)
 bears_own (Fresh n) h = ap (λ b. cond {A = ℕ} b 1 0) (eq-eqb n n refl)
 bears_own (Seated n) h = ap (λ b. cond {A = ℕ} b 1 0) (eq-eqb n n refl)
@@ -76,29 +76,29 @@ module _ (lawful : ℕ → List Entry → Type 0) (opening : ℕ → ℕ → ℕ
   pub closed : (i j : ℕ) (u v : View) → get_elem? s.views i ≡ some u → get_elem? s.views j ≡ some v → i ≢ j → 0 < holdings 0 u.session → v.memory.append ≡ None
   closed i j u v d e n held = none v.memory.append (kept.memory.follows j v e).append
     where
-      none : (o : Option OpenAppend) → IsAppending sizes (lawful sizes.pages) s.words kept.log (number_in v.role) v.session v.memory o → o ≡ None
+      none : (o : Option OpenAppend) → IsAppending sizes (lawful sizes.pages) s.words kept.log (session_number_of v.role) v.session v.memory o → o ≡ None
       none None w = refl
       none (Some o) w = let z = alone j i v u e d (λ k. n (sym k)) w.fits.free 0 w.fits.log_x in absurd (omega arith)
 
   -- a number is borne is_drawn
-  pub apart : (i j : ℕ) (u v : View) → get_elem? s.views i ≡ some u → get_elem? s.views j ≡ some v → i ≢ j → 0 < number_in u.role → number_in u.role ≢ number_in v.role
+  pub apart : (i j : ℕ) (u v : View) → get_elem? s.views i ≡ some u → get_elem? s.views j ≡ some v → i ≢ j → 0 < session_number_of u.role → session_number_of u.role ≢ session_number_of v.role
   apart i j u v d e n some_number same =
-      let m : ℕ = number_in u.role in
+      let m : ℕ = session_number_of u.role in
       let roles : List Role = map role_of s.views in
       let two = two_of (bears m) roles i j u.role v.role (at_map role_of s.views i u d) (at_map role_of s.views j v e) n in
       let a = bears_own u.role some_number in
-      let b : bears (number_in u.role) v.role ≡ 1 = subst (λ k. bears k v.role ≡ 1) (sym same) (bears_own v.role (let z = same in omega arith)) in
+      let b : bears (session_number_of u.role) v.role ≡ 1 = subst (λ k. bears k v.role ≡ 1) (sym same) (bears_own v.role (let z = same in omega arith)) in
       let p = kept.sessions.numbered m in let q = once_most m (sum_by drawn_in roles) some_number in absurd (omega arith)
 
-  pub drawn : (i : ℕ) (u : View) → get_elem? s.views i ≡ some u → 0 < number_in u.role → number_in u.role ≤ sum_by drawn_in (map role_of s.views)
+  pub drawn : (i : ℕ) (u : View) → get_elem? s.views i ≡ some u → 0 < session_number_of u.role → session_number_of u.role ≤ sum_by drawn_in (map role_of s.views)
   drawn i u d some_number =
       let roles : List Role = map role_of s.views in
-      let one = one_of (bears (number_in u.role)) roles i u.role (at_map role_of s.views i u d) in
-      let a = bears_own u.role some_number in let p = kept.sessions.numbered (number_in u.role) in
-      once_drawn (number_in u.role) (sum_by drawn_in roles) (omega arith)
+      let one = one_of (bears (session_number_of u.role)) roles i u.role (at_map role_of s.views i u d) in
+      let a = bears_own u.role some_number in let p = kept.sessions.numbered (session_number_of u.role) in
+      once_drawn (session_number_of u.role) (sum_by drawn_in roles) (omega arith)
 
   -- .. and not by a session that has ended
-  pub apart_ended : (i j : ℕ) (u v : View) → get_elem? s.views i ≡ some u → get_elem? s.views j ≡ some v → 0 < number_in u.role → AllByRecursion (λ e. number_in u.role ≢ e.number) (ended_in v.role)
+  pub apart_ended : (i j : ℕ) (u v : View) → get_elem? s.views i ≡ some u → get_elem? s.views j ≡ some v → 0 < session_number_of u.role → AllByRecursion (λ e. session_number_of u.role ≢ e.number) (ended_in v.role)
   apart_ended i j u v d e some_number = by_role v.role (at_map role_of s.views j v e)
     where
       each : (m : ℕ) (es : List Ended) → sum_by (λ (e : Ended). cond {A = ℕ} (e.number == m) 1 0) es ≡ 0 → AllByRecursion (λ (e : Ended). m ≢ e.number) es
@@ -109,27 +109,27 @@ module _ (lawful : ℕ → List Entry → Type 0) (opening : ℕ → ℕ → ℕ
         each m es (let c = Rattle.std.proofs.lemmas.List.Sums.sum_by-cons (λ (e : Ended). cond {A = ℕ} (e.number == m) 1 0) x es in omega arith),
       )
 
-      by_role : (r : Role) → get_elem? (map role_of s.views) j ≡ some r → AllByRecursion (λ e. number_in u.role ≢ e.number) (ended_in r)
-      by_role (Space k es) at = each (number_in u.role) es (
-          let m : ℕ = number_in u.role in
+      by_role : (r : Role) → get_elem? (map role_of s.views) j ≡ some r → AllByRecursion (λ e. session_number_of u.role ≢ e.number) (ended_in r)
+      by_role (Space k es) at = each (session_number_of u.role) es (
+          let m : ℕ = session_number_of u.role in
           let roles : List Role = map role_of s.views in
           let other : i ≢ j = λ here. differ u.role (Space k es) some_number refl (Rattle.ib_core.proofs.Places.same_at roles j u.role (Space k es) (subst (λ i. get_elem? roles i ≡ some u.role) here (at_map role_of s.views i u d)) at) in
           let two = two_of (bears m) roles i j u.role (Space k es) (at_map role_of s.views i u d) at other in
           let a = bears_own u.role some_number in
           let p = kept.sessions.numbered m in let q = once_most m (sum_by drawn_in roles) some_number in omega arith)
         where
-          differ : (r q : Role) → 0 < number_in r → number_in q ≡ 0 → r ≡ q → ⊥
-          differ r q h z same = let e = ap number_in same in absurd (omega arith)
+          differ : (r q : Role) → 0 < session_number_of r → session_number_of q ≡ 0 → r ≡ q → ⊥
+          differ r q h z same = let e = ap session_number_of same in absurd (omega arith)
       by_role (Fresh n) at = tt
       by_role (Seated n) at = tt
       by_role Spent at = tt
       by_role Note at = tt
 
   -- a session has a number
-  pub number_live : (i : ℕ) (u : View) → get_elem? s.views i ≡ some u → (live u.role ≡ 0 → ⊥) → 0 < number_in u.role
+  pub number_live : (i : ℕ) (u : View) → get_elem? s.views i ≡ some u → (live u.role ≡ 0 → ⊥) → 0 < session_number_of u.role
   number_live i u d none = by_role u.role refl
     where
-      by_role : (r : Role) → u.role ≡ r → 0 < number_in r
+      by_role : (r : Role) → u.role ≡ r → 0 < session_number_of r
       by_role (Space k es) is = absurd (none (ap live is))
       by_role (Fresh n) is = absurd (none (ap live is))
       by_role Spent is = absurd (none (ap live is))
@@ -143,5 +143,5 @@ module _ (lawful : ℕ → List Entry → Type 0) (opening : ℕ → ℕ → ℕ
           (λ z. omega arith)
 
   -- who owns X on the log latch is a session, with a number
-  pub numbered : (i : ℕ) (u : View) → get_elem? s.views i ≡ some u → 0 < x_grants 0 u.session → 0 < number_in u.role
+  pub numbered : (i : ℕ) (u : View) → get_elem? s.views i ≡ some u → 0 < x_grants 0 u.session → 0 < session_number_of u.role
   numbered i u d x = number_live i u d (λ dead. let z = ap (λ (a : Session). x_grants 0 a) (kept.idles i u d dead) in absurd (omega arith))

@@ -23,7 +23,7 @@ use Rattle.ib_rule.specs.declared.looks.Grants.{Grants}
 use Rattle.ib_rule.specs.declared.memory.OpenAppend.{OpenAppend}
 use Rattle.ib_rule.specs.declared.view.View.{View}
 use Rattle.ib_rule.specs.Memory.{base, IsAppending, stored_in}
-use Rattle.ib_rule.specs.Roles.{live, sessions_in, drawn_in, number_in}
+use Rattle.ib_rule.specs.Roles.{live, sessions_in, drawn_in, session_number_of}
 use Rattle.ib_rule.specs.Views.{role_of, space_at}
 use Rattle.ib_rule.specs.Rule.{RuleHolds}
 use Rattle.ib_rule.specs.Closed.{used_in, IsClosed}
@@ -58,7 +58,7 @@ module _ (lawful : ℕ → List Entry → Type 0) (opening : ℕ → ℕ → ℕ
       let c = kept.sessions.all_stand in let q = drawn_is in
       none (kept.idles i u e (dead u.role (omega arith))) u.memory.append (kept.memory.follows i u e).append)
     where
-      none : u.session ≡ Rattle.ib_core.specs.Sessions.idle → (o : Option OpenAppend) → IsAppending sizes (lawful sizes.pages) s.words kept.log (number_in u.role) u.session u.memory o → o ≡ None
+      none : u.session ≡ Rattle.ib_core.specs.Sessions.idle → (o : Option OpenAppend) → IsAppending sizes (lawful sizes.pages) s.words kept.log (session_number_of u.role) u.session u.memory o → o ≡ None
       none still None w = refl
       none still (Some o) w = let x = w.fits.log_x in let z = ap (λ (a : Session). x_grants 0 a) still in absurd (omega arith)
 

@@ -19,7 +19,7 @@ use Rattle.ib_rule.specs.declared.view.View.{View}
 use Rattle.ib_rule.specs.Memory.{SinceFact, stored_in, Follows}
 use Rattle.std.specs.List.{AllByRecursion}
 use Rattle.ib_rule.specs.Views.{total, role_of, session_in_view, with_looks, with_memory}
-use Rattle.ib_rule.specs.Roles.{sessions_in, SessionsPart, number_in}
+use Rattle.ib_rule.specs.Roles.{sessions_in, SessionsPart, session_number_of}
 use Rattle.ib_rule.specs.Rule.{LatchPart, PaidPart, WriterPart, IsWriter, IsIdle, RuleHolds}
 use Rattle.ib_core.specs.Debts.{debt}
 use Rattle.ib_rule.proofs.Stays.{view_part}
@@ -28,7 +28,7 @@ use Rattle.ib_rule.proofs.Turning.{map_same}
 module _ (lawful : ℕ → List Entry → Type 0) (opening : ℕ → ℕ → ℕ → ℕ) (sizes : Sizes) where
   -- a step that changes no word and no more of its view than that keeps the rule
   pub knows : (s : State (Unit {0}) View) (kept : RuleHolds lawful opening sizes s) (id : ℕ) (v : View) → get_elem? s.views id ≡ some v → (p n' : ℕ) (looks : Looks) (m : Knowledge) (cs : List (ℕ × Unit {0})) → set s.words p n' ≡ s.words
-      → Follows sizes (lawful sizes.pages) (by_place opening sizes.pages) s.words kept.log (number_in v.role) v.session m → ((q : ℕ) → stored_in m.append q ≡ false → stored_in v.memory.append q ≡ false)
+      → Follows sizes (lawful sizes.pages) (by_place opening sizes.pages) s.words kept.log (session_number_of v.role) v.session m → ((q : ℕ) → stored_in m.append q ≡ false → stored_in v.memory.append q ≡ false)
       → RuleHolds lawful opening sizes (stepped s p n' id cs (with_looks looks (with_memory m v)) keeps)
   knows s kept id v at p n' looks m cs same follows closed =
       let w : View = with_looks looks (with_memory m v) in record {

@@ -25,7 +25,7 @@ use Rattle.ib_rule.specs.declared.view.View.{View}
 use Rattle.std.specs.List.{AllByRecursion}
 use Rattle.ib_rule.specs.Memory.{entries_of, stored_in, IsAppending}
 use Rattle.ib_rule.specs.Views.{total, role_of, session_in_view, nothing_seen, with_memory, longer, forgets, note_of, with_note, nobody}
-use Rattle.ib_rule.specs.Roles.{sessions_in, uncounted, drawn_in, is_space, bears, is_drawn, SessionsPart, number_in}
+use Rattle.ib_rule.specs.Roles.{sessions_in, uncounted, drawn_in, is_space, bears, is_drawn, SessionsPart, session_number_of}
 use Rattle.ib_rule.specs.Rule.{LatchPart, IsWriter, IsIdle, RuleHolds}
 use Rattle.ib_core.specs.Debts.{debt}
 use Rattle.ib_rule.specs.Told.{tells}
@@ -152,8 +152,8 @@ module _ (lawful : ℕ → List Entry → Type 0) (opening : ℕ → ℕ → ℕ
             record {
               met = (f.seen, (g.seen, tt));
               seen = seen;
-              mine = λ h. ((f.mine h).0, between (number_in v.role) v.memory.own v.memory.seen (longer v.memory.seen w.memory.seen) k.log mine seen (f.mine h).1 (f.mine h).0);
-              since = old_since (number_in v.role) (length v.memory.seen) (length (longer v.memory.seen w.memory.seen)) v.session k.log (far mine) v.memory.since f.since;
+              mine = λ h. ((f.mine h).0, between (session_number_of v.role) v.memory.own v.memory.seen (longer v.memory.seen w.memory.seen) k.log mine seen (f.mine h).1 (f.mine h).0);
+              since = old_since (session_number_of v.role) (length v.memory.seen) (length (longer v.memory.seen w.memory.seen)) v.session k.log (far mine) v.memory.since f.since;
               loaded = f.loaded;
               append = appends_on s.words k.log v.memory.append mine seen f.append;
             }
@@ -165,7 +165,7 @@ module _ (lawful : ℕ → List Entry → Type 0) (opening : ℕ → ℕ → ℕ
     where
       -- who has an open append has seen the whole log, and has no more to see
       appends_on : (words : List ℕ) (log : List Entry) (o : Option OpenAppend) → IsPrefix v.memory.seen (longer v.memory.seen w.memory.seen) → IsPrefix (longer v.memory.seen w.memory.seen) log
-          → IsAppending sizes (lawful sizes.pages) words log (number_in v.role) v.session v.memory o → IsAppending sizes (lawful sizes.pages) words log (number_in v.role) v.session (with_note v w).memory o
+          → IsAppending sizes (lawful sizes.pages) words log (session_number_of v.role) v.session v.memory o → IsAppending sizes (lawful sizes.pages) words log (session_number_of v.role) v.session (with_note v w).memory o
       appends_on words log None mine seen on = tt
       appends_on words log (Some o) mine seen on = record {
         fits = on.fits;
@@ -207,7 +207,7 @@ module _ (lawful : ℕ → List Entry → Type 0) (opening : ℕ → ℕ → ℕ
         all_in s k [] p q mine = tt
         all_in s k (xs ∷ xss) p q mine = (prefix_of xs me.0.memory.seen k.log p.0 mine q.0, all_in s k xss p.1 q.1 mine)
 
-        still : (log : List Entry) (words : List ℕ) (o : Rattle.std.specs.Prelude.Option Rattle.ib_rule.specs.declared.memory.OpenAppend.OpenAppend) → IsAppending sizes (lawful sizes.pages) words log (number_in me.0.role) me.0.session me.0.memory o
-            → IsAppending sizes (lawful sizes.pages) words log (number_in me.0.role) me.0.session (forgets me.0.memory) o
+        still : (log : List Entry) (words : List ℕ) (o : Rattle.std.specs.Prelude.Option Rattle.ib_rule.specs.declared.memory.OpenAppend.OpenAppend) → IsAppending sizes (lawful sizes.pages) words log (session_number_of me.0.role) me.0.session me.0.memory o
+            → IsAppending sizes (lawful sizes.pages) words log (session_number_of me.0.role) me.0.session (forgets me.0.memory) o
         still log words None w = tt
         still log words (Rattle.std.specs.Prelude.Some o) w = record { fits = w.fits; whole = w.whole; pages_done = w.pages_done; words_done = w.words_done }

@@ -43,7 +43,7 @@ use Rattle.ib_rule.specs.Views.{KnowsHeld, total, role_of, session_in_view, turn
 use Rattle.ib_rule.specs.declared.memory.Since.{Since}
 use Rattle.ib_rule.specs.declared.memory.Loaded.{Loaded}
 use Rattle.ib_rule.specs.Rule.{IsWriter, marks_in, LatchPart, IsIdle, RuleHolds}
-use Rattle.ib_rule.specs.Roles.{number_in, live, sessions_in, SessionsPart}
+use Rattle.ib_rule.specs.Roles.{session_number_of, live, sessions_in, SessionsPart}
 use Rattle.ib_rule.specs.Told.{CanBe, Happens, tells}
 use Rattle.ib_rule.specs.Conditions.{CanTake}
 use Rattle.ib_rule.proofs.Words.{tells_by, place_fits, set_same, marks_away, marks_here, lock_away, lock_else, front, flag_after}
@@ -203,7 +203,7 @@ module _ (lawful : ℕ → List Entry → Type 0) (opening : ℕ → ℕ → ℕ
           (aside_keeps lawful opening sizes s kept id me.0 at l inside (lock_place l) (slice_index s.words (lock_place l)) (looks_after (Recheck l) me.0.session (slice_index s.words (lock_place l)) me.0.looks) me.1 (set_same s.words (lock_place l) (place_fits sizes s.words l Lock kept.sized inside)), refl)
 
   -- the session's number is stored as the writer
-  pub store_allowed : (l number : ℕ) → l < latches_of sizes → (live me.0.role ≡ 0 → ⊥) → me.0.memory.append ≡ None → 0 < claims l me.0.session → number ≡ number_in me.0.role
+  pub store_allowed : (l number : ℕ) → l < latches_of sizes → (live me.0.role ≡ 0 → ⊥) → me.0.memory.append ≡ None → 0 < claims l me.0.session → number ≡ session_number_of me.0.role
       → Allows (RuleHolds lawful opening sizes) slots id me (writer_place l) (λ _. number) (tells lawful opening sizes entry (StoreWriter l) me)
   store_allowed l number inside alive closed claims' mine s kept sized at fits =
       let w : View = signed l me.0 in
@@ -251,13 +251,13 @@ module _ (lawful : ℕ → List Entry → Type 0) (opening : ℕ → ℕ → ℕ
           (λ q. subst (λ k. marks_in latches (set words (writer_place l) number) k ≡ marks_in latches words k) q (marks_here latches words l number Writer inside fit))
           (λ d. marks_away latches words l number Writer k d)) j
 
-      mine_write : (s : State (Unit {0}) View) (l number : ℕ) → writer_place l < length s.words → number ≡ number_in me.0.role → (xs : List ℕ) → AllByRecursion (IsWriter (latches_of sizes) s.words me.0) xs → AllByRecursion (IsWriter (latches_of sizes) (set s.words (writer_place l) number) (signed l me.0)) xs
+      mine_write : (s : State (Unit {0}) View) (l number : ℕ) → writer_place l < length s.words → number ≡ session_number_of me.0.role → (xs : List ℕ) → AllByRecursion (IsWriter (latches_of sizes) s.words me.0) xs → AllByRecursion (IsWriter (latches_of sizes) (set s.words (writer_place l) number) (signed l me.0)) xs
       mine_write s l number fit mine [] each = tt
       mine_write s l number fit mine (x ∷ xs) each = (
         (
           each.0.0,
           dite (ℕ_discrete l x)
-              (λ q. subst (λ x. slice_index (set s.words (writer_place l) number) (writer_place x) ≡ number_in me.0.role) q (get_or-set_same s.words (writer_place l) number 0 fit ∙ mine))
+              (λ q. subst (λ x. slice_index (set s.words (writer_place l) number) (writer_place x) ≡ session_number_of me.0.role) q (get_or-set_same s.words (writer_place l) number 0 fit ∙ mine))
               (λ d. get_or-set_other s.words (writer_place l) (writer_place x) number 0 (λ e. d (omega arith)) ∙ each.0.1),
           each.0.2,
         ),
@@ -300,6 +300,6 @@ module _ (lawful : ℕ → List Entry → Type 0) (opening : ℕ → ℕ → ℕ
   pub recheck_allowed_at : (p l : ℕ) → p ≡ lock_place l → l < latches_of sizes → (live me.0.role ≡ 0 → ⊥) → me.0.memory.append ≡ None → Allows (RuleHolds lawful opening sizes) slots id me p (λ n. n) (tells lawful opening sizes entry (Recheck l) me)
   recheck_allowed_at p l at inside alive closed = subst (λ p. Allows (RuleHolds lawful opening sizes) slots id me p (λ n. n) (tells lawful opening sizes entry (Recheck l) me)) (sym at) (recheck_allowed l inside alive closed)
 
-  pub store_allowed_at : (p l number : ℕ) → p ≡ writer_place l → l < latches_of sizes → (live me.0.role ≡ 0 → ⊥) → me.0.memory.append ≡ None → 0 < claims l me.0.session → number ≡ number_in me.0.role
+  pub store_allowed_at : (p l number : ℕ) → p ≡ writer_place l → l < latches_of sizes → (live me.0.role ≡ 0 → ⊥) → me.0.memory.append ≡ None → 0 < claims l me.0.session → number ≡ session_number_of me.0.role
       → Allows (RuleHolds lawful opening sizes) slots id me p (λ _. number) (tells lawful opening sizes entry (StoreWriter l) me)
   store_allowed_at p l number at inside alive closed claims' mine = subst (λ p. Allows (RuleHolds lawful opening sizes) slots id me p (λ _. number) (tells lawful opening sizes entry (StoreWriter l) me)) (sym at) (store_allowed l number inside alive closed claims' mine)

@@ -28,8 +28,8 @@ use Rattle.ib_rule.specs.declared.memory.Since.{Since}
 use Rattle.ib_rule.specs.declared.memory.OpenAppend.{OpenAppend}
 use Rattle.ib_rule.specs.declared.view.View.{View}
 use Rattle.ib_rule.specs.Memory.{conflicts, base, page_places, latch_at, SinceFact, IsAppending, stored_in, has}
-use Rattle.ib_rule.specs.Roles.{live, number_in}
-use Rattle.ib_rule.specs.Views.{loading, reaching, is_watched, starts}
+use Rattle.ib_rule.specs.Roles.{live, session_number_of}
+use Rattle.ib_rule.specs.Views.{loading, reaching, is_watched, watches_from}
 use Rattle.ib_rule.specs.Rule.{RuleHolds}
 use Rattle.ib_rule.specs.Told.{tells}
 use Rattle.ib_rule.proofs.Alone.{alone, number_live}
@@ -52,7 +52,7 @@ module _ (lawful : ℕ → List Entry → Type 0) (opening : ℕ → ℕ → ℕ
         ap (λ (u : View). stored_in u.memory.append q) is ∙ ap (λ o. stored_in o q) closed)
         (λ away. by_append away u.memory.append (kept.memory.follows i u e).append)
       where
-        by_append : id ≢ i → (o : Option OpenAppend) → IsAppending sizes (lawful sizes.pages) s.words kept.log (number_in u.role) u.session u.memory o → stored_in o q ≡ false
+        by_append : id ≢ i → (o : Option OpenAppend) → IsAppending sizes (lawful sizes.pages) s.words kept.log (session_number_of u.role) u.session u.memory o → stored_in o q ≡ false
         by_append away None w = refl
         by_append away (Some o) w = by_test (has q o.places) refl
           where
@@ -80,13 +80,13 @@ module _ (lawful : ℕ → List Entry → Type 0) (opening : ℕ → ℕ → ℕ
           loaded = f.loaded;
         } in
         ap (λ log. memory_after (by_place opening sizes.pages) log q) (sym look.longer)
-        ∙ word_stays (by_place opening sizes.pages) v.memory.seen look.others q (untouched (number_in v.role) (page_at q) v.memory.since look.others watched look.harmless)
+        ∙ word_stays (by_place opening sizes.pages) v.memory.seen look.others q (untouched (session_number_of v.role) (page_at q) v.memory.since look.others watched look.harmless)
 
   -- each latch that is held has a since from now on
-  starts_right : (v : View) (n : ℕ) (log : List Entry) (hs : List Holding) (ss : List Since) → ((l : ℕ) → on l (λ h. 1) hs ≤ holdings l v.session) → AllByRecursion (SinceFact n v.session (length log) log) (starts v.session hs ss (length log))
+  starts_right : (v : View) (n : ℕ) (log : List Entry) (hs : List Holding) (ss : List Since) → ((l : ℕ) → on l (λ h. 1) hs ≤ holdings l v.session) → AllByRecursion (SinceFact n v.session (length log) log) (watches_from v.session hs ss (length log))
   starts_right v n log [] ss within = tt
   starts_right v n log (h ∷ hs) ss within =
-      choose (λ xs. AllByRecursion (SinceFact n v.session (length log) log) xs) (is_watched h.latch.0 ss) (starts v.session hs ss (length log)) _
+      choose (λ xs. AllByRecursion (SinceFact n v.session (length log) log) xs) (is_watched h.latch.0 ss) (watches_from v.session hs ss (length log)) _
       (λ _. starts_right v n log hs ss (λ l. let a = on-cons l (λ h. 1) h hs in let b = within l in omega arith))
       (λ _. (
         (
@@ -112,7 +112,7 @@ module _ (lawful : ℕ → List Entry → Type 0) (opening : ℕ → ℕ → ℕ
           mine = f.mine;
           since = f.since;
           loaded = ((held, λ _. found_right s k id me.0 at q inside closed held), f.loaded);
-          append = subst (λ o. IsAppending sizes (lawful sizes.pages) s.words k.log (number_in me.0.role) me.0.session (loading q n me.0).memory o) (sym closed) tt;
+          append = subst (λ o. IsAppending sizes (lawful sizes.pages) s.words k.log (session_number_of me.0.role) me.0.session (loading q n me.0).memory o) (sym closed) tt;
         }
         (λ q h. h) in (
           loading q n me.0,
@@ -186,9 +186,9 @@ module _ (lawful : ℕ → List Entry → Type 0) (opening : ℕ → ℕ → ℕ
           met = f.met;
           seen = ([], nil_append k.log);
           mine = λ h. ((f.mine h).0, (f.mine h).0);
-          since = each_append (SinceFact (number_in me.0.role) me.0.session (length k.log) k.log) me.0.memory.since _
-              (old_since (number_in me.0.role) (length me.0.memory.seen) (length k.log) me.0.session k.log short me.0.memory.since f.since)
-              (starts_right me.0 (number_in me.0.role) k.log me.0.session.held me.0.memory.since (λ l. omega arith));
+          since = each_append (SinceFact (session_number_of me.0.role) me.0.session (length k.log) k.log) me.0.memory.since _
+              (old_since (session_number_of me.0.role) (length me.0.memory.seen) (length k.log) me.0.session k.log short me.0.memory.since f.since)
+              (starts_right me.0 (session_number_of me.0.role) k.log me.0.session.held me.0.memory.since (λ l. omega arith));
           loaded = f.loaded;
           append = still s.words k.log me.0.memory.append f.append;
         }
@@ -223,7 +223,7 @@ module _ (lawful : ℕ → List Entry → Type 0) (opening : ℕ → ℕ → ℕ
           ),
         )
       where
-        still : (words : List ℕ) (log : List Entry) (o : Option OpenAppend) → IsAppending sizes (lawful sizes.pages) words log (number_in me.0.role) me.0.session me.0.memory o
-            → IsAppending sizes (lawful sizes.pages) words log (number_in me.0.role) me.0.session (reaching log me.0).memory o
+        still : (words : List ℕ) (log : List Entry) (o : Option OpenAppend) → IsAppending sizes (lawful sizes.pages) words log (session_number_of me.0.role) me.0.session me.0.memory o
+            → IsAppending sizes (lawful sizes.pages) words log (session_number_of me.0.role) me.0.session (reaching log me.0).memory o
         still words log None w = tt
         still words log (Some o) w = record { fits = w.fits; whole = refl; pages_done = w.pages_done; words_done = w.words_done }

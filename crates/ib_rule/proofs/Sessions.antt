@@ -24,13 +24,13 @@ use Rattle.ib_rule.specs.declared.view.Ended.{Ended}
 use Rattle.ib_rule.specs.declared.memory.Knowledge.{Knowledge}
 use Rattle.ib_rule.specs.declared.view.View.{View}
 use Rattle.ib_rule.specs.declared.kind.StepKind.TheVariants.{Enter, Count}
-use Rattle.ib_rule.specs.Views.{total, with_memory, nothing_seen, with_role, seated, space_view, role_of, session_in_view, memory_of, one_drawn, newcomer, ended_as, with_ended, nobody}
+use Rattle.ib_rule.specs.Views.{total, with_memory, nothing_seen, with_role, seated, space_view, role_of, session_in_view, knowledge_of, one_drawn, newcomer, ended_as, with_ended, nobody}
 use Rattle.std.specs.List.{AllByRecursion}
 use Rattle.ib_rule.specs.Memory.{EndedFact, Follows, stored_in}
 use Rattle.ib_rule.proofs.Stays.{view_part, far_from}
 use Rattle.ib_logrec.specs.declared.entry.Entry.{Entry}
 use Rattle.ib_logrec.specs.Log.{by_place}
-use Rattle.ib_rule.specs.Roles.{live, sessions_in, uncounted, drawn_in, is_space, bears, is_drawn, ended_in, drawn_more, entered, ended_more, SessionsPart, number_in}
+use Rattle.ib_rule.specs.Roles.{live, sessions_in, uncounted, drawn_in, is_space, bears, is_drawn, ended_in, drawn_more, entered, ended_more, SessionsPart, session_number_of}
 use Rattle.ib_rule.specs.Rule.{marks_in, LatchPart, MemoryPart, IsWriter, IsIdle, RuleHolds, IsOpening}
 use Rattle.ib_core.specs.Debts.{debt}
 use Rattle.ib_rule.specs.Told.{tells}
@@ -115,11 +115,11 @@ map_grown f xs i a b = map-append f (set xs i a) (b ∷ []) ∙ ap (λ l. l ++ f
 pub map_twice : {A B : Type 0} (f : A → B) (xs : List A) (i j : ℕ) (a b : A) → map f (set (set xs i a) j b) ≡ set (set (map f xs) i (f a)) j (f b)
 map_twice f xs i j a b = map-set f (set xs i a) j b ∙ ap (λ l. set l j (f b)) (map-set f xs i a)
 
-renamed : (sizes : Sizes) (words : List ℕ) (v w : View) → number_in w.role ≡ number_in v.role → w.session ≡ v.session → (xs : List ℕ) → AllByRecursion (IsWriter (latches_of sizes) words v) xs → AllByRecursion (IsWriter (latches_of sizes) words w) xs
+renamed : (sizes : Sizes) (words : List ℕ) (v w : View) → session_number_of w.role ≡ session_number_of v.role → w.session ≡ v.session → (xs : List ℕ) → AllByRecursion (IsWriter (latches_of sizes) words v) xs → AllByRecursion (IsWriter (latches_of sizes) words w) xs
 renamed sizes words v w number same [] each = tt
 renamed sizes words v w number same (x ∷ xs) each = ((subst (λ a. 0 < Rattle.ib_core.specs.Sessions.claims x a) (sym same) each.0.0, each.0.1 ∙ sym number, each.0.2), renamed sizes words v w number same xs each.1)
 
-same_length : (views : List View) → length (map session_in_view views) ≡ length (map memory_of views)
+same_length : (views : List View) → length (map session_in_view views) ≡ length (map knowledge_of views)
 same_length [] = refl
 same_length (v ∷ views) = ap suc (same_length views)
 
@@ -154,7 +154,7 @@ opens lawful opening sizes words empty o = record {
     end = o.none_logged;
     logged = λ w h. absurd (omega arith);
     paged = λ q h none. o.opened q h;
-    follows = λ i v e. subst (λ (v : View). Follows sizes (lawful sizes.pages) (by_place opening sizes.pages) words [] (number_in v.role) v.session v.memory) (sym (only i v e))
+    follows = λ i v e. subst (λ (v : View). Follows sizes (lawful sizes.pages) (by_place opening sizes.pages) words [] (session_number_of v.role) v.session v.memory) (sym (only i v e))
         record { met = tt; seen = ([], refl); mine = λ h. absurd (omega arith); since = tt; loaded = tt; append = tt };
     ended = λ i v e. subst (λ (v : View). AllByRecursion (EndedFact []) (ended_in v.role)) (sym (only i v e)) tt;
     undrawn = λ n h. refl;
@@ -185,7 +185,7 @@ module _ (lawful : ℕ → List Entry → Type 0) (opening : ℕ → ℕ → ℕ
   }
 
   -- one more view that knows nothing
-  push_part : (words : List ℕ) (log : List Entry) (views : List View) (r : Role) (m : Knowledge) → (part : MemoryPart sizes (lawful sizes.pages) (by_place opening sizes.pages) words log views) → Follows sizes (lawful sizes.pages) (by_place opening sizes.pages) words log (number_in r) idle m → AllByRecursion (EndedFact log) (ended_in r)
+  push_part : (words : List ℕ) (log : List Entry) (views : List View) (r : Role) (m : Knowledge) → (part : MemoryPart sizes (lawful sizes.pages) (by_place opening sizes.pages) words log views) → Follows sizes (lawful sizes.pages) (by_place opening sizes.pages) words log (session_number_of r) idle m → AllByRecursion (EndedFact log) (ended_in r)
       → MemoryPart sizes (lawful sizes.pages) (by_place opening sizes.pages) words log (views ++ with_memory m (seated r) ∷ [])
   push_part words log views r m part fresh ended = record {
     legal = part.legal;
@@ -195,21 +195,21 @@ module _ (lawful : ℕ → List Entry → Type 0) (opening : ℕ → ℕ → ℕ
     end = part.end;
     logged = part.logged;
     paged = λ q h none. part.paged q h (λ i u e. none i u (at_longer views (with_memory m (seated r) ∷ []) i u e));
-    follows = at_snoc (λ _ u. Follows sizes (lawful sizes.pages) (by_place opening sizes.pages) words log (number_in u.role) u.session u.memory) views (with_memory m (seated r))
+    follows = at_snoc (λ _ u. Follows sizes (lawful sizes.pages) (by_place opening sizes.pages) words log (session_number_of u.role) u.session u.memory) views (with_memory m (seated r))
         fresh part.follows;
     ended = at_snoc (λ _ u. AllByRecursion (EndedFact log) (ended_in u.role)) views (with_memory m (seated r)) ended part.ended;
     undrawn = λ n h. part.undrawn n (let e = ap (λ rs. sum_by drawn_in rs) (map-append role_of views (with_memory m (seated r) ∷ [])) in let t = sum_by_push drawn_in (map role_of views) r in omega arith);
   }
 
   -- who the session is stays
-  renumbered : (words : List ℕ) (log : List Entry) (v : View) (q : Role) → number_in q ≡ number_in v.role → Follows sizes (lawful sizes.pages) (by_place opening sizes.pages) words log (number_in v.role) v.session v.memory
-      → Follows sizes (lawful sizes.pages) (by_place opening sizes.pages) words log (number_in q) v.session v.memory
+  renumbered : (words : List ℕ) (log : List Entry) (v : View) (q : Role) → session_number_of q ≡ session_number_of v.role → Follows sizes (lawful sizes.pages) (by_place opening sizes.pages) words log (session_number_of v.role) v.session v.memory
+      → Follows sizes (lawful sizes.pages) (by_place opening sizes.pages) words log (session_number_of q) v.session v.memory
   renumbered words log v q same f = subst (λ n. Follows sizes (lawful sizes.pages) (by_place opening sizes.pages) words log n v.session v.memory) (sym same) f
 
   -- a seat's role changes, and a new seat has nothing
-  pub split_step : (s : State (Unit {0}) View) (id : ℕ) (v : View) (q r : Role) (m : Knowledge) → (k : RuleHolds lawful opening sizes s) → get_elem? s.views id ≡ some v → (live q ≡ 0 → v.session ≡ idle) → sessions_in q ≡ sessions_in v.role → number_in q ≡ number_in v.role
+  pub split_step : (s : State (Unit {0}) View) (id : ℕ) (v : View) (q r : Role) (m : Knowledge) → (k : RuleHolds lawful opening sizes s) → get_elem? s.views id ≡ some v → (live q ≡ 0 → v.session ≡ idle) → sessions_in q ≡ sessions_in v.role → session_number_of q ≡ session_number_of v.role
       → SessionsPart (slice_index s.words drawn_place) (set (map role_of s.views) id q ++ r ∷ [])
-      → drawn_in v.role ≤ drawn_in q → AllByRecursion (EndedFact k.log) (ended_in q) → Follows sizes (lawful sizes.pages) (by_place opening sizes.pages) s.words k.log (number_in r) idle m → AllByRecursion (EndedFact k.log) (ended_in r)
+      → drawn_in v.role ≤ drawn_in q → AllByRecursion (EndedFact k.log) (ended_in q) → Follows sizes (lawful sizes.pages) (by_place opening sizes.pages) s.words k.log (session_number_of r) idle m → AllByRecursion (EndedFact k.log) (ended_in r)
       → RuleHolds lawful opening sizes record { words = s.words; homes = s.homes; views = set s.views id (with_role q v) ++ with_memory m (seated r) ∷ [] }
   split_step s id v q r m k at still crowds number roles more ended fresh none =
       let w : View = with_role q v in
@@ -243,7 +243,7 @@ module _ (lawful : ℕ → List Entry → Type 0) (opening : ℕ → ℕ → ℕ
       split_step s id v (drawn_more v.role) (Fresh (drawn_in v.role + 1)) nothing_seen k at
       (λ z. k.idles id v at (subst (λ r. live r ≡ 0) (sym is) refl))
       (subst (λ (r : Role). sessions_in (drawn_more r) ≡ sessions_in r) (sym is) refl)
-      (subst (λ (r : Role). number_in (drawn_more r) ≡ number_in r) (sym is) refl)
+      (subst (λ (r : Role). session_number_of (drawn_more r) ≡ session_number_of r) (sym is) refl)
       (subst (λ (r : Role). SessionsPart (slice_index s.words drawn_place) (set roles id (drawn_more r) ++ Fresh (drawn_in r + 1) ∷ [])) (sym is)
       (draws_part (slice_index s.words drawn_place) roles id d ended k.sessions (subst (λ r. get_elem? roles id ≡ some r) is at') room))
       (subst (λ (r : Role). drawn_in r ≤ drawn_in (drawn_more r)) (sym is) (omega arith))
@@ -252,7 +252,7 @@ module _ (lawful : ℕ → List Entry → Type 0) (opening : ℕ → ℕ → ℕ
       tt
 
   -- a step on the count of sessions
-  count_step : (s : State (Unit {0}) View) (n id : ℕ) (cs : List (ℕ × Unit {0})) (v : View) (q : Role) → (k : RuleHolds lawful opening sizes s) → get_elem? s.views id ≡ some v → (live q ≡ 0 → v.session ≡ idle) → sessions_in q ≡ sessions_in v.role → number_in q ≡ number_in v.role
+  count_step : (s : State (Unit {0}) View) (n id : ℕ) (cs : List (ℕ × Unit {0})) (v : View) (q : Role) → (k : RuleHolds lawful opening sizes s) → get_elem? s.views id ≡ some v → (live q ≡ 0 → v.session ≡ idle) → sessions_in q ≡ sessions_in v.role → session_number_of q ≡ session_number_of v.role
       → SessionsPart n (set (map role_of s.views) id q) → drawn_in v.role ≤ drawn_in q → AllByRecursion (EndedFact k.log) (ended_in q)
       → RuleHolds lawful opening sizes (stepped s drawn_place n id cs (with_role q v) keeps)
   count_step s n id cs v q k at still crowds number roles more ended =
@@ -288,7 +288,7 @@ module _ (lawful : ℕ → List Entry → Type 0) (opening : ℕ → ℕ → ℕ
         ex_generation = cond (Rattle.std.specs.Prelude.nat_lt l (latches_of sizes)) (sym (get_or-set_other words drawn_place (ex_gen_place l) n 0 (λ e. omega arith)) j) 0;
       }
 
-      renamed : (words : List ℕ) (n : ℕ) (v w : View) → number_in w.role ≡ number_in v.role → w.session ≡ v.session → (xs : List ℕ) → AllByRecursion (IsWriter (latches_of sizes) words v) xs → AllByRecursion (IsWriter (latches_of sizes) (set words drawn_place n) w) xs
+      renamed : (words : List ℕ) (n : ℕ) (v w : View) → session_number_of w.role ≡ session_number_of v.role → w.session ≡ v.session → (xs : List ℕ) → AllByRecursion (IsWriter (latches_of sizes) words v) xs → AllByRecursion (IsWriter (latches_of sizes) (set words drawn_place n) w) xs
       renamed words n v w number same [] each = tt
       renamed words n v w number same (x ∷ xs) each = ((subst (λ a. 0 < Rattle.ib_core.specs.Sessions.claims x a) (sym same) each.0.0, get_or-set_other words drawn_place (writer_place x) n 0 (λ e. omega arith) ∙ (each.0.1 ∙ sym number), each.0.2), renamed words n v w number same xs each.1)
 
@@ -303,10 +303,10 @@ module _ (lawful : ℕ → List Entry → Type 0) (opening : ℕ → ℕ → ℕ
       let b : get_elem? roles other ≡ some (Seated n) = at_map role_of s.views other w there' ∙ ap (λ (r : Role). some r) seated_n in
       let sessions : map session_in_view (set (set s.views id (with_ended v w)) other nobody) ≡ map session_in_view s.views = map_same session_in_view (set s.views id (with_ended v w)) other w nobody there (sym still) ∙ map_same session_in_view s.views id v (with_ended v w) at refl in
       let role : ended_more e v.role ≡ Space d (e ∷ ended) = ap (ended_more e) space in
-      let counted : 0 < number_in w.role = let z = ap number_in seated_n in let p = numbered_from_one roles other n (slice_index s.words drawn_place) k.sessions b in omega arith in record {
+      let counted : 0 < session_number_of w.role = let z = ap session_number_of seated_n in let p = numbered_from_one roles other n (slice_index s.words drawn_place) k.sessions b in omega arith in record {
         sized = k.sized;
         sessions = subst (λ z. SessionsPart (slice_index s.words drawn_place) z) (sym (map_twice role_of s.views id other (with_ended v w) nobody ∙ ap (λ (r : Role). set (set (map role_of s.views) id r) other Spent) role))
-            (left id d ended other n (slice_index s.words drawn_place) roles e a b (λ q. apart (sym q)) (ap number_in seated_n) k.sessions);
+            (left id d ended other n (slice_index s.words drawn_place) roles e a b (λ q. apart (sym q)) (ap session_number_of seated_n) k.sessions);
         latches = subst (λ z. LatchPart (latches_of sizes) s.words z) (sym sessions) k.latches;
         idles = at_set (λ _ u. IsIdle u) (set s.views id both) other nobody (λ _. refl)
             (λ j b e _. at_set (λ _ u. IsIdle u) s.views id both (λ _. k.idles id v at (subst (λ r. live r ≡ 0) (sym space) refl)) (λ j b e _. k.idles j b e) j b e);
@@ -322,12 +322,12 @@ module _ (lawful : ℕ → List Entry → Type 0) (opening : ℕ → ℕ → ℕ
               (λ j b e _. k.paid.bound j b e) j b e);
         };
         writers = at_set (λ _ u. AllByRecursion (IsWriter (latches_of sizes) s.words u) u.written) (set s.views id both) other nobody tt
-            (λ j b e _. at_set (λ _ u. AllByRecursion (IsWriter (latches_of sizes) s.words u) u.written) s.views id both (renamed sizes s.words v both (ap number_in role ∙ sym (ap number_in space)) refl v.written (k.writers id v at)) (λ j b e _. k.writers j b e) j b e);
+            (λ j b e _. at_set (λ _ u. AllByRecursion (IsWriter (latches_of sizes) s.words u) u.written) s.views id both (renamed sizes s.words v both (ap session_number_of role ∙ sym (ap session_number_of space)) refl v.written (k.writers id v at)) (λ j b e _. k.writers j b e) j b e);
         log = k.log;
         memory = view_part sizes (lawful sizes.pages) (by_place opening sizes.pages) s.words s.words k.log (set s.views id (with_ended v w)) other w nobody
             (view_part sizes (lawful sizes.pages) (by_place opening sizes.pages) s.words s.words k.log s.views id v (with_ended v w) k.memory at (λ q far. refl)
             (let z = ap drawn_in space in let z' = ap drawn_in role in omega arith)
-            (renumbered s.words k.log v (ended_more e v.role) (ap number_in role ∙ sym (ap number_in space)) (k.memory.follows id v at))
+            (renumbered s.words k.log v (ended_more e v.role) (ap session_number_of role ∙ sym (ap session_number_of space)) (k.memory.follows id v at))
             (subst (λ (r : Role). AllByRecursion (EndedFact k.log) (ended_in r)) (sym role)
             ((((k.memory.follows other w there').seen, ((k.memory.follows other w there').mine counted).0, counted), subst (λ (r : Role). AllByRecursion (EndedFact k.log) (ended_in r)) space (k.memory.ended id v at))))
             (λ q h. h))
@@ -355,7 +355,7 @@ module _ (lawful : ℕ → List Entry → Type 0) (opening : ℕ → ℕ → ℕ
         (count_step s (word + 1) id me.1 me.0 (entered me.0.role) k at
         (λ z. k.idles id me.0 at (subst (λ r. live r ≡ 0) (sym is) refl))
         (subst (λ r. sessions_in (entered r) ≡ sessions_in r) (sym is) refl)
-        (subst (λ r. number_in (entered r) ≡ number_in r) (sym is) refl)
+        (subst (λ r. session_number_of (entered r) ≡ session_number_of r) (sym is) refl)
         (subst (λ r. SessionsPart (word + 1) (set roles id (entered r))) (sym is) (came id n word roles at' k.sessions))
         (subst (λ (r : Role). drawn_in r ≤ drawn_in (entered r)) (sym is) (omega arith)) (subst (λ (r : Role). AllByRecursion (EndedFact k.log) (ended_in (entered r))) (sym is) tt)) in (
           w,

@@ -35,7 +35,7 @@ use Rattle.std.specs.List.{AllByRecursion}
 use Rattle.ib_rule.specs.Memory.{base, latch_at, Watches, SinceFact, LoadedFact, IsAppending, stored_in, EndedFact, Follows}
 use Rattle.ib_rule.specs.Rule.{MemoryPart}
 use Rattle.ib_rule.specs.Views.{memory_left, role_of}
-use Rattle.ib_rule.specs.Roles.{drawn_in, ended_in, number_in}
+use Rattle.ib_rule.specs.Roles.{drawn_in, ended_in, session_number_of}
 
 -- only the log's end, the page words and the log words count
 abbrev pub SameMemory : Sizes → List ℕ → List ℕ → Type 0
@@ -69,7 +69,7 @@ module _ (sizes : Sizes) (lawful : List Entry → Type 0) (opening : ℕ → ℕ
 pub view_part : (sizes : Sizes) (lawful : List Entry → Type 0) (opening : ℕ → ℕ) (words ws : List ℕ) (log : List Entry) (views : List View) (id : ℕ) (v w : View)
     → (part : MemoryPart sizes lawful opening words log views) → get_elem? views id ≡ some v → SameMemory sizes words ws
     → drawn_in v.role ≤ drawn_in w.role
-    → Follows sizes lawful opening words log (number_in w.role) w.session w.memory
+    → Follows sizes lawful opening words log (session_number_of w.role) w.session w.memory
     → AllByRecursion (EndedFact log) (ended_in w.role)
     → ((q : ℕ) → stored_in w.memory.append q ≡ false → stored_in v.memory.append q ≡ false)
     → MemoryPart sizes lawful opening ws log (set views id w)
@@ -84,9 +84,9 @@ view_part sizes lawful opening words ws log views id v w part at same drawn foll
       (λ here. let is : u ≡ v = same_at views id u v (subst (λ i. get_elem? views i ≡ some u) (sym here) e) at in
       subst (λ (u : View). stored_in u.memory.append q ≡ false) (sym is) (closed q (none id w (Rattle.ib_core.proofs.Places.set_here views id v w at))))
       (λ away. none i u (set_else views id i w away ∙ e)));
-  follows = at_set (λ _ u. Follows sizes lawful opening ws log (number_in u.role) u.session u.memory) views id w
-      (follows_words sizes lawful opening words ws same log (number_in w.role) w.session w.memory follows)
-      (λ j u e _. follows_words sizes lawful opening words ws same log (number_in u.role) u.session u.memory (part.follows j u e));
+  follows = at_set (λ _ u. Follows sizes lawful opening ws log (session_number_of u.role) u.session u.memory) views id w
+      (follows_words sizes lawful opening words ws same log (session_number_of w.role) w.session w.memory follows)
+      (λ j u e _. follows_words sizes lawful opening words ws same log (session_number_of u.role) u.session u.memory (part.follows j u e));
   ended = at_set (λ _ u. AllByRecursion (EndedFact log) (ended_in u.role)) views id w ended (λ j u e _. part.ended j u e);
   undrawn = λ n h. part.undrawn n (let t = sum_at drawn_in (map role_of views) id v.role w.role (at_map role_of views id v at) in let e = ap (λ rs. sum_by drawn_in rs) (map-set role_of views id w) in omega arith);
 }

@@ -35,7 +35,7 @@ use Rattle.ib_rule.specs.declared.memory.Loaded.{Loaded}
 use Rattle.ib_rule.specs.declared.memory.OpenAppend.{OpenAppend}
 use Rattle.ib_rule.specs.declared.memory.Knowledge.{Knowledge}
 use Rattle.ib_rule.specs.Memory.{conflicts, entries_of, base, page_places, latch_at, Watches, IsStable, SinceFact, LoadedFact, MayComeBehind, has, IsWriting, IsAppending, stored_in, EndedFact, Follows}
-use Rattle.ib_rule.specs.Roles.{SessionsPart, sessions_in, drawn_in, ended_in, number_in}
+use Rattle.ib_rule.specs.Roles.{SessionsPart, sessions_in, drawn_in, ended_in, session_number_of}
 use Rattle.ib_rule.specs.Views.{total, role_of, session_in_view, with_memory, is_watched}
 use Rattle.ib_rule.specs.Rule.{marks_in, LatchPart, IsWriter, IsIdle, MemoryPart, RuleHolds}
 use Rattle.ib_rule.specs.Stores.{stale, begun, Begins, storing_page, storing_word, appending, IsReady, AllStored}
@@ -121,13 +121,13 @@ module _ (lawful : ℕ → List Entry → Type 0) (opening : ℕ → ℕ → ℕ
       writes_on u [] each = tt
       writes_on u (x ∷ xs) each = ((each.0.0, other (writer_place x) (λ e. omega arith) (let h = each.0.2 in omega arith) ∙ each.0.1, each.0.2), writes_on u xs each.1)
 
-  mine : Follows sizes (lawful sizes.pages) (by_place opening sizes.pages) s.words kept.log (number_in v.role) v.session v.memory
+  mine : Follows sizes (lawful sizes.pages) (by_place opening sizes.pages) s.words kept.log (session_number_of v.role) v.session v.memory
   mine = kept.memory.follows id v at
 
   -- with a since of the log latch, all of the log is seen
-  pub sees_all : 0 < number_in v.role → is_watched 0 v.memory.since ≡ true → v.memory.seen ≡ kept.log
+  pub sees_all : 0 < session_number_of v.role → is_watched 0 v.memory.since ≡ true → v.memory.seen ≡ kept.log
   sees_all some_number watch =
-      let n : ℕ = number_in v.role in let seen : List Entry = v.memory.seen in let log : List Entry = kept.log in
+      let n : ℕ = session_number_of v.role in let seen : List Entry = v.memory.seen in let log : List Entry = kept.log in
       let r = watch_of (SinceFact n v.session (length seen) log) 0 v.memory.since watch mine.since in
       let c : Since = r.0 in let fact = r.2 in
       let p = mine.seen in let u : List Entry = p.0 in
@@ -141,7 +141,7 @@ module _ (lawful : ℕ → List Entry → Type 0) (opening : ℕ → ℕ → ℕ
       sym (ap (λ l. seen ++ l) empty ∙ nil_append seen) ∙ p.1
 
   -- others keep what is said of them, whatever words of the memory change, since none has an open append
-  others_follow : (ws : List ℕ) → 0 < holdings 0 v.session → (j : ℕ) (b : View) → get_elem? s.views j ≡ some b → id ≢ j → Follows sizes (lawful sizes.pages) (by_place opening sizes.pages) ws kept.log (number_in b.role) b.session b.memory
+  others_follow : (ws : List ℕ) → 0 < holdings 0 v.session → (j : ℕ) (b : View) → get_elem? s.views j ≡ some b → id ≢ j → Follows sizes (lawful sizes.pages) (by_place opening sizes.pages) ws kept.log (session_number_of b.role) b.session b.memory
   others_follow ws held j b e n =
       let f = kept.memory.follows j b e in
       let none = closed lawful opening sizes s kept id j v b at e n held in record {
@@ -150,11 +150,11 @@ module _ (lawful : ℕ → List Entry → Type 0) (opening : ℕ → ℕ → ℕ
         mine = f.mine;
         since = f.since;
         loaded = f.loaded;
-        append = subst (λ o. IsAppending sizes (lawful sizes.pages) ws kept.log (number_in b.role) b.session b.memory o) (sym none) tt;
+        append = subst (λ o. IsAppending sizes (lawful sizes.pages) ws kept.log (session_number_of b.role) b.session b.memory o) (sym none) tt;
       }
 
   module _ (e : Entry) (ready : IsReady sizes (lawful sizes.pages) v e) where
-    pub some_number : 0 < number_in v.role
+    pub some_number : 0 < session_number_of v.role
     some_number = numbered lawful opening sizes s kept id v at ready.fits.log_x
 
     pub whole : v.memory.seen ≡ kept.log
@@ -163,14 +163,14 @@ module _ (lawful : ℕ → List Entry → Type 0) (opening : ℕ → ℕ → ℕ
     held : 0 < holdings 0 v.session
     held = holds lawful opening sizes s kept id v at 0 ready.fits.log_x
 
-    fits_log : MayComeBehind sizes (lawful sizes.pages) (number_in v.role) (length v.memory.own) v.session kept.log e
-    fits_log = subst (λ l. MayComeBehind sizes (lawful sizes.pages) (number_in v.role) (length v.memory.own) v.session l e) whole ready.fits
+    fits_log : MayComeBehind sizes (lawful sizes.pages) (session_number_of v.role) (length v.memory.own) v.session kept.log e
+    fits_log = subst (λ l. MayComeBehind sizes (lawful sizes.pages) (session_number_of v.role) (length v.memory.own) v.session l e) whole ready.fits
 
     -- the open append as it stands, or one in which nothing is stored
-    already : IsWriting sizes (lawful sizes.pages) s.words kept.log (number_in v.role) v.session v.memory (begun e v.memory.append)
+    already : IsWriting sizes (lawful sizes.pages) s.words kept.log (session_number_of v.role) v.session v.memory (begun e v.memory.append)
     already = stands v.memory.append ready.begins mine.append
       where
-        stands : (o : Option OpenAppend) → Begins e o → IsAppending sizes (lawful sizes.pages) s.words kept.log (number_in v.role) v.session v.memory o → IsWriting sizes (lawful sizes.pages) s.words kept.log (number_in v.role) v.session v.memory (begun e o)
+        stands : (o : Option OpenAppend) → Begins e o → IsAppending sizes (lawful sizes.pages) s.words kept.log (session_number_of v.role) v.session v.memory o → IsWriting sizes (lawful sizes.pages) s.words kept.log (session_number_of v.role) v.session v.memory (begun e o)
         stands None b w = record { fits = fits_log; whole = whole; pages_done = λ q h. absurd (cc); words_done = λ j h. absurd (cc) }
         stands (Some o) b w = w
 
@@ -206,7 +206,7 @@ module _ (lawful : ℕ → List Entry → Type 0) (opening : ℕ → ℕ → ℕ
               let differs = eqb_denies q r two.0 in
               get_or-set_other s.words p (base sizes + r) x 0 (λ z. differs (omega arith))
               ∙ part.paged r h (none_before s.views id v (storing_page e q v) r at (λ _. before v.memory.append r two.1) none);
-          follows = at_set (λ _ b. Follows sizes (lawful sizes.pages) (by_place opening sizes.pages) ws kept.log (number_in b.role) b.session b.memory) s.views id (storing_page e q v)
+          follows = at_set (λ _ b. Follows sizes (lawful sizes.pages) (by_place opening sizes.pages) ws kept.log (session_number_of b.role) b.session b.memory) s.views id (storing_page e q v)
               record {
                 met = mine.met;
                 seen = mine.seen;
@@ -248,7 +248,7 @@ module _ (lawful : ℕ → List Entry → Type 0) (opening : ℕ → ℕ → ℕ
           paged = λ r h none.
               get_or-set_other s.words p (base sizes + r) x 0 (λ z. omega arith)
               ∙ part.paged r h (none_before s.views id v (storing_word e j v) r at (λ z. before v.memory.append r z) none);
-          follows = at_set (λ _ b. Follows sizes (lawful sizes.pages) (by_place opening sizes.pages) ws kept.log (number_in b.role) b.session b.memory) s.views id (storing_word e j v)
+          follows = at_set (λ _ b. Follows sizes (lawful sizes.pages) (by_place opening sizes.pages) ws kept.log (session_number_of b.role) b.session b.memory) s.views id (storing_word e j v)
               record {
                 met = mine.met;
                 seen = mine.seen;
@@ -275,15 +275,15 @@ module _ (lawful : ℕ → List Entry → Type 0) (opening : ℕ → ℕ → ℕ
     all_of None a = absurd a
     all_of (Some o) a = a
 
-    writes : IsWriting sizes (lawful sizes.pages) s.words kept.log (number_in v.role) v.session v.memory (record { entry = e; places = (begun e v.memory.append).places; words = (begun e v.memory.append).words })
-    writes = subst (λ (f : Entry). IsWriting sizes (lawful sizes.pages) s.words kept.log (number_in v.role) v.session v.memory (record { entry = f; places = (begun e v.memory.append).places; words = (begun e v.memory.append).words })) entry_is already
+    writes : IsWriting sizes (lawful sizes.pages) s.words kept.log (session_number_of v.role) v.session v.memory (record { entry = e; places = (begun e v.memory.append).places; words = (begun e v.memory.append).words })
+    writes = subst (λ (f : Entry). IsWriting sizes (lawful sizes.pages) s.words kept.log (session_number_of v.role) v.session v.memory (record { entry = f; places = (begun e v.memory.append).places; words = (begun e v.memory.append).words })) entry_is already
 
     pub appends : (n : ℕ) (cs : List (ℕ × Unit {0})) → n ≡ (length v.memory.seen + 1) * 2 ^ 32 + (used v.memory.seen + length (words_of_entry e)) → AllStored e v.memory.append
         → RuleHolds lawful opening sizes (stepped s end_place n id cs (appending e v) keeps)
     appends n cs end_is every =
         let w : View = appending e v in
         let ws : List ℕ = set s.words end_place n in let log : List Entry = kept.log in let log' : List Entry = log ++ e ∷ [] in
-        let m : ℕ = number_in v.role in let op : ℕ → ℕ = by_place opening sizes.pages in
+        let m : ℕ = session_number_of v.role in let op : ℕ → ℕ = by_place opening sizes.pages in
         let long = length-words_of_entry e in
         let more = used-push log e in let more_entries = length-append log (e ∷ []) in let fits_in : end_place < length s.words = let z = kept.sized in omega arith in
         let part = kept.memory in
@@ -296,7 +296,7 @@ module _ (lawful : ℕ → List Entry → Type 0) (opening : ℕ → ℕ → ℕ
           end = get_or-set_same s.words end_place n 0 fits_in ∙ (omega arith);
           logged = λ k h. get_or-set_other s.words end_place (log_place sizes k) n 0 (λ z. omega arith) ∙ (log_word k h ∙ ap (λ l. get_or l k 0) (sym (log_words-push log e)));
           paged = λ q h none. get_or-set_other s.words end_place (base sizes + q) n 0 (λ z. omega arith) ∙ (page_word q h none ∙ sym (memory_after-push op log e q));
-          follows = at_set (λ _ b. Follows sizes (lawful sizes.pages) (by_place opening sizes.pages) ws (kept.log ++ e ∷ []) (number_in b.role) b.session b.memory) s.views id (appending e v)
+          follows = at_set (λ _ b. Follows sizes (lawful sizes.pages) (by_place opening sizes.pages) ws (kept.log ++ e ∷ []) (session_number_of b.role) b.session b.memory) s.views id (appending e v)
               record {
                 met = each_map (λ xs. IsPrefix xs log) (λ xs. IsPrefix xs (log ++ e ∷ [])) v.memory.met (λ xs p. prefix_more xs p) mine.met;
                 seen = ([], nil_append (v.memory.seen ++ e ∷ []) ∙ ap (λ l. l ++ e ∷ []) whole);
@@ -311,11 +311,11 @@ module _ (lawful : ℕ → List Entry → Type 0) (opening : ℕ → ℕ → ℕ
               let none = closed lawful opening sizes s kept id j v b at d n held in record {
                 met = each_map (λ xs. IsPrefix xs log) (λ xs. IsPrefix xs (log ++ e ∷ [])) b.memory.met (λ xs p. prefix_more xs p) f.met;
                 seen = prefix_more b.memory.seen f.seen;
-                mine = λ pos. let q = f.mine pos in (not_grown (number_in b.role) log (apart lawful opening sizes s kept id j v b at d n some_number) ∙ q.0, q.1);
-                since = each_map (SinceFact (number_in b.role) b.session (length b.memory.seen) log) (SinceFact (number_in b.role) b.session (length b.memory.seen) log') b.memory.since
-                    (λ c p. let early = p.1 in (p.0, early, longer (number_in b.role) c (below b.memory.seen f.seen c early) p.2 (inr (calm j b d n c p.0)))) f.since;
+                mine = λ pos. let q = f.mine pos in (not_grown (session_number_of b.role) log (apart lawful opening sizes s kept id j v b at d n some_number) ∙ q.0, q.1);
+                since = each_map (SinceFact (session_number_of b.role) b.session (length b.memory.seen) log) (SinceFact (session_number_of b.role) b.session (length b.memory.seen) log') b.memory.since
+                    (λ c p. let early = p.1 in (p.0, early, longer (session_number_of b.role) c (below b.memory.seen f.seen c early) p.2 (inr (calm j b d n c p.0)))) f.since;
                 loaded = each_map (LoadedFact op b.session log) (LoadedFact op b.session log') b.memory.loaded (λ x p. (p.0, λ fresh. p.1 fresh ∙ sym (untouched j b d n x.place p.0))) f.loaded;
-                append = subst (λ o. IsAppending sizes (lawful sizes.pages) ws log' (number_in b.role) b.session b.memory o) (sym none) tt;
+                append = subst (λ o. IsAppending sizes (lawful sizes.pages) ws log' (session_number_of b.role) b.session b.memory o) (sym none) tt;
               });
           ended = at_set (λ _ u. AllByRecursion (EndedFact (kept.log ++ e ∷ [])) (ended_in u.role)) s.views id (appending e v) (ended_more id v at) (λ j u d _. ended_more j u d);
           undrawn = λ k h. let h' : sum_by drawn_in (map role_of s.views) < k = subst (λ rs. sum_by drawn_in rs < k) (map_same role_of s.views id v (appending e v) at refl) h in
@@ -349,14 +349,14 @@ module _ (lawful : ℕ → List Entry → Type 0) (opening : ℕ → ℕ → ℕ
         below : (xs : List Entry) → IsPrefix xs kept.log → (c : Since) → c.place ≤ length xs → c.place ≤ length kept.log
         below xs p c early = let q = length-append xs p.0 in let r = ap length p.1 in omega arith
 
-        grown : (l : List Entry) → entries_of (number_in v.role) l ≡ v.memory.own → entries_of (number_in v.role) (l ++ e ∷ []) ≡ v.memory.own ++ e ∷ []
-        grown l q = filter-append (λ (x : Entry). eqb x.session (number_in v.role)) l (e ∷ []) ∙ (ap (λ x. x ++ entries_of (number_in v.role) (e ∷ [])) q ∙ ap (λ b. v.memory.own ++ cond b (e ∷ []) []) (eq-eqb e.session (number_in v.role) fits_log.named))
+        grown : (l : List Entry) → entries_of (session_number_of v.role) l ≡ v.memory.own → entries_of (session_number_of v.role) (l ++ e ∷ []) ≡ v.memory.own ++ e ∷ []
+        grown l q = filter-append (λ (x : Entry). eqb x.session (session_number_of v.role)) l (e ∷ []) ∙ (ap (λ x. x ++ entries_of (session_number_of v.role) (e ∷ [])) q ∙ ap (λ b. v.memory.own ++ cond b (e ∷ []) []) (eq-eqb e.session (session_number_of v.role) fits_log.named))
 
-        not_grown : (n : ℕ) (l : List Entry) → number_in v.role ≢ n → entries_of n (l ++ e ∷ []) ≡ entries_of n l
+        not_grown : (n : ℕ) (l : List Entry) → session_number_of v.role ≢ n → entries_of n (l ++ e ∷ []) ≡ entries_of n l
         not_grown n l d = filter-append (λ (x : Entry). eqb x.session n) l (e ∷ []) ∙ (ap (λ b. entries_of n l ++ cond b (e ∷ []) []) (ne_eqb e.session n (λ q. d (sym fits_log.named ∙ q))) ∙ nil_append (entries_of n l))
 
         ended_more : (j : ℕ) (b : View) → get_elem? s.views j ≡ some b → AllByRecursion (EndedFact (kept.log ++ e ∷ [])) (ended_in b.role)
-        ended_more j b d = each_both (EndedFact kept.log) (λ (x : Ended). number_in v.role ≢ x.number) (EndedFact (kept.log ++ e ∷ [])) (ended_in b.role)
+        ended_more j b d = each_both (EndedFact kept.log) (λ (x : Ended). session_number_of v.role ≢ x.number) (EndedFact (kept.log ++ e ∷ [])) (ended_in b.role)
             (λ x p other. (prefix_more x.seen p.0, not_grown x.number kept.log other ∙ p.1, p.2))
             (kept.memory.ended j b d) (apart_ended lawful opening sizes s kept id j v b at d some_number)
 

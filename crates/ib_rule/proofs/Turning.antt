@@ -42,7 +42,7 @@ use Rattle.ib_core.specs.Debts.{wish_of, won, grants_won, debt}
 use Rattle.ib_rule.specs.Views.{total, with_grant, role_of, session_in_view, turned, with_looks}
 use Rattle.std.specs.List.{AllByRecursion}
 use Rattle.ib_rule.specs.Rule.{IsWriter, WriterPart, marks_in, LatchPart, PaidPart, raises_in, IsIdle, RuleHolds}
-use Rattle.ib_rule.specs.Roles.{live, sessions_in, SessionsPart, number_in}
+use Rattle.ib_rule.specs.Roles.{live, sessions_in, SessionsPart, session_number_of}
 use Rattle.ib_rule.specs.Told.{IsEvent}
 use Rattle.ib_rule.specs.Conditions.{CanTake}
 use Rattle.ib_logrec.specs.declared.entry.Entry.{Entry}
@@ -322,6 +322,6 @@ module _ (lawful : ℕ → List Entry → Type 0) (opening : ℕ → ℕ → ℕ
           log = kept.log;
           memory = view_part sizes (lawful sizes.pages) (by_place opening sizes.pages) s.words words kept.log s.views id v w kept.memory at (latch_far sizes s.words c l n' inside)
               (omega arith)
-              (follows_left l a r.session proper proper_after moves sizes (lawful sizes.pages) (by_place opening sizes.pages) s.words kept.log (number_in v.role) v.memory closed (kept.memory.follows id v at))
+              (follows_left l a r.session proper proper_after moves sizes (lawful sizes.pages) (by_place opening sizes.pages) s.words kept.log (session_number_of v.role) v.memory closed (kept.memory.follows id v at))
               (kept.memory.ended id v at) (λ q h. h);
         }

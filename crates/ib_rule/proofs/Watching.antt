@@ -17,7 +17,7 @@ use Rattle.ib_rule.specs.declared.memory.Since.{Since}
 use Rattle.ib_rule.specs.declared.view.View.{View}
 use Rattle.ib_rule.specs.Memory.{conflicts}
 use Rattle.ib_rule.specs.Stores.{IsHarmless}
-use Rattle.ib_rule.specs.Views.{is_watched, reaching, starts}
+use Rattle.ib_rule.specs.Views.{is_watched, reaching, watches_from}
 use Rattle.ib_rule.proofs.Lists.{or_says}
 
 pub either_true : {c : Bool} (b : Bool) → c ≡ true → (b || c) ≡ true
@@ -32,22 +32,22 @@ joined l (s ∷ ss) ts either = ⊎_elim
     either
 
 module _ (a : Session) (n : ℕ) (ss : List Since) where
-  started : (l : ℕ) (hs : List Holding) → 0 < on l (λ h. 1) hs → (is_watched l ss ≡ true) ⊎ (is_watched l (starts a hs ss n) ≡ true)
+  started : (l : ℕ) (hs : List Holding) → 0 < on l (λ h. 1) hs → (is_watched l ss ≡ true) ⊎ (is_watched l (watches_from a hs ss n) ≡ true)
   started l [] some = absurd (omega arith)
   started l (h ∷ hs) some = dite (ℕ_discrete h.latch.0 l)
       (λ here. by_test here (is_watched h.latch.0 ss) refl)
       (λ away. ⊎_elim (λ z. inl z) (λ z. inr (later (is_watched h.latch.0 ss) z)) (started l hs (let c = on-cons l (λ h. 1) h hs in let p = part-away l (λ h. 1) h away in omega arith)))
     where
-      by_test : h.latch.0 ≡ l → (b : Bool) → is_watched h.latch.0 ss ≡ b → (is_watched l ss ≡ true) ⊎ (is_watched l (cond b (starts a hs ss n) (record { latch = h.latch.0; claims = nat_lt 0 (claims h.latch.0 a); place = n } ∷ starts a hs ss n)) ≡ true)
+      by_test : h.latch.0 ≡ l → (b : Bool) → is_watched h.latch.0 ss ≡ b → (is_watched l ss ≡ true) ⊎ (is_watched l (cond b (watches_from a hs ss n) (record { latch = h.latch.0; claims = nat_lt 0 (claims h.latch.0 a); place = n } ∷ watches_from a hs ss n)) ≡ true)
       by_test here true is = inl (subst (λ k. is_watched k ss ≡ true) here is)
-      by_test here false is = inr (ap (λ b. b || is_watched l (starts a hs ss n)) (eq-eqb h.latch.0 l here))
+      by_test here false is = inr (ap (λ b. b || is_watched l (watches_from a hs ss n)) (eq-eqb h.latch.0 l here))
 
-      later : (b : Bool) → is_watched l (starts a hs ss n) ≡ true → is_watched l (cond b (starts a hs ss n) (record { latch = h.latch.0; claims = nat_lt 0 (claims h.latch.0 a); place = n } ∷ starts a hs ss n)) ≡ true
+      later : (b : Bool) → is_watched l (watches_from a hs ss n) ≡ true → is_watched l (cond b (watches_from a hs ss n) (record { latch = h.latch.0; claims = nat_lt 0 (claims h.latch.0 a); place = n } ∷ watches_from a hs ss n)) ≡ true
       later true z = z
       later false z = either_true (eqb h.latch.0 l) z
 
 pub watched_after : (log : List Entry) (v : View) (l : ℕ) → 0 < holdings l v.session → is_watched l (reaching log v).memory.since ≡ true
-watched_after log v l held = joined l v.memory.since (starts v.session v.session.held v.memory.since (length log)) (started v.session (length log) v.memory.since l v.session.held held)
+watched_after log v l held = joined l v.memory.since (watches_from v.session v.session.held v.memory.since (length log)) (started v.session (length log) v.memory.since l v.session.held held)
 
 -- an entry that does not conflict with a latch that has a since writes no word of the latch's page
 calm_page : (e : Entry) (s : Since) (page : ℕ) → s.latch ≡ page + 2 → conflicts e s ≡ false → touches page e.writes ≡ false

@@ -7,12 +7,12 @@ use Rattle.ib_logrec.specs.Log.{memory_after}
 use Rattle.ib_rule.specs.declared.memory.Loaded.{Loaded}
 use Rattle.ib_rule.specs.declared.view.Role.TheVariants.{Session}
 use Rattle.ib_rule.specs.declared.view.View.{View}
-use Rattle.ib_rule.specs.Roles.{number_in}
+use Rattle.ib_rule.specs.Roles.{session_number_of}
 use Rattle.ib_rule.specs.Views.{KnowsHeld, is_watched, with_memory}
 
 -- who may load the page: a session that holds it in some mode and has no append open
 pub record MayLoad (page : ℕ) (v : View) : Type 0 where
-  pub role : v.role ≡ Session (number_in v.role)
+  pub role : v.role ≡ Session (session_number_of v.role)
   pub closed : v.memory.append ≡ None
   pub held : 0 < holdings (page + 2) v.session
   pub known : KnowsHeld v

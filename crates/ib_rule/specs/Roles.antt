@@ -14,10 +14,10 @@ is_space (Space drawn ended) = 1
 is_space _ = 0
 
 -- the number of a session
-abbrev pub number_in : Role → ℕ
-number_in (Fresh n) = n
-number_in (Session n) = n
-number_in _ = 0
+abbrev pub session_number_of : Role → ℕ
+session_number_of (Fresh n) = n
+session_number_of (Session n) = n
+session_number_of _ = 0
 
 -- how many sessions the space's seat drew, and those that have ended
 abbrev pub drawn_in : Role → ℕ

@@ -17,7 +17,7 @@ use Rattle.ib_logrec.specs.declared.entry.Entry.{Entry}
 use Rattle.ib_logrec.specs.Law.{AreInGrammar}
 use Rattle.ib_logrec.specs.Log.{log_words, used, memory_after, by_place}
 use Rattle.ib_rule.specs.declared.view.View.{View}
-use Rattle.ib_rule.specs.Roles.{SessionsPart, live, number_in, drawn_in, ended_in, sessions_in}
+use Rattle.ib_rule.specs.Roles.{SessionsPart, live, session_number_of, drawn_in, ended_in, sessions_in}
 use Rattle.ib_rule.specs.Views.{role_of, session_in_view, total}
 use Rattle.ib_rule.specs.Memory.{base, page_places, entries_of, stored_in, EndedFact, Follows}
 
@@ -47,7 +47,7 @@ pub record PaidPart (latches : ℕ) (words : List ℕ) (views : List View) : Typ
 
 -- the session has SX or X of the latch or is its next writer, and the writer word is its number
 abbrev pub IsWriter : ℕ → List ℕ → View → ℕ → Type 0
-IsWriter latches words v l = (0 < claims l v.session) × (slice_index words (writer_place l) ≡ number_in v.role) × (l < latches)
+IsWriter latches words v l = (0 < claims l v.session) × (slice_index words (writer_place l) ≡ session_number_of v.role) × (l < latches)
 
 abbrev pub WriterPart : ℕ → List ℕ → List View → Type 0
 WriterPart latches words views = (i : ℕ) (v : View) → get_elem? views i ≡ some v → AllByRecursion (IsWriter latches words v) v.written
@@ -68,7 +68,7 @@ pub record MemoryPart (sizes : Sizes) (lawful : List Entry → Type 0) (opening 
   pub end : slice_index words end_place ≡ length log * 2 ^ 32 + used log
   pub logged : (w : ℕ) → w < used log → slice_index words (log_place sizes w) ≡ slice_index_or (log_words log) w 0
   pub paged : (q : ℕ) → q < page_places sizes → ((i : ℕ) (v : View) → get_elem? views i ≡ some v → stored_in v.memory.append q ≡ false) → slice_index words (base sizes + q) ≡ memory_after opening log q
-  pub follows : (i : ℕ) (v : View) → get_elem? views i ≡ some v → Follows sizes lawful opening words log (number_in v.role) v.session v.memory
+  pub follows : (i : ℕ) (v : View) → get_elem? views i ≡ some v → Follows sizes lawful opening words log (session_number_of v.role) v.session v.memory
   pub ended : (i : ℕ) (v : View) → get_elem? views i ≡ some v → AllByRecursion (EndedFact log) (ended_in v.role)
   pub undrawn : (n : ℕ) → sum_by drawn_in (map role_of views) < n → entries_of n log ≡ []
 

@@ -13,7 +13,7 @@ use Rattle.ib_rule.specs.declared.memory.Since.{Since}
 use Rattle.ib_rule.specs.declared.memory.Loaded.{Loaded}
 use Rattle.ib_rule.specs.declared.memory.OpenAppend.{OpenAppend}
 use Rattle.ib_rule.specs.declared.view.View.{View}
-use Rattle.ib_rule.specs.Roles.{number_in}
+use Rattle.ib_rule.specs.Roles.{session_number_of}
 use Rattle.ib_rule.specs.Views.{with_memory, is_watched}
 use Rattle.ib_rule.specs.Memory.{conflicts, entries_of, has, SinceFact, LoadedFact, MayComeBehind}
 
@@ -57,7 +57,7 @@ appending e v = with_memory (record v.memory { seen = v.memory.seen ++ e ∷ [];
 
 -- words of the entry may be stored: it may follow all that is seen, which is the whole log, since the log latch has a since
 pub record IsReady (sizes : Sizes) (lawful : List Entry → Type 0) (v : View) (e : Entry) : Type 0 where
-  pub fits : MayComeBehind sizes lawful (number_in v.role) (length v.memory.own) v.session v.memory.seen e
+  pub fits : MayComeBehind sizes lawful (session_number_of v.role) (length v.memory.own) v.session v.memory.seen e
   pub watch : is_watched 0 v.memory.since ≡ true
   pub begins : Begins e v.memory.append
 
@@ -73,8 +73,8 @@ pub record ShowsWholeLog (sizes : Sizes) (lawful : List Entry → Type 0) (openi
   pub end : found ≡ length log * 2 ^ 32 + used log
   pub few : length log ≤ used log
   pub room : used log ≤ sizes.log_words
-  pub mine : (entries_of (number_in v.role) log ≡ v.memory.own) × (entries_of (number_in v.role) v.memory.seen ≡ v.memory.own)
-  pub since : AllByRecursion (SinceFact (number_in v.role) v.session (length v.memory.seen) log) v.memory.since
+  pub mine : (entries_of (session_number_of v.role) log ≡ v.memory.own) × (entries_of (session_number_of v.role) v.memory.seen ≡ v.memory.own)
+  pub since : AllByRecursion (SinceFact (session_number_of v.role) v.session (length v.memory.seen) log) v.memory.since
   pub loaded : AllByRecursion (LoadedFact opening v.session log) v.memory.loaded
 
 -- an entry of another session that conflicts with no latch that has a since
@@ -85,7 +85,7 @@ IsHarmless n since e = (e.session ≢ n) × AllByRecursion (λ s. conflicts e s 
 pub record IsLook (sizes : Sizes) (lawful : List Entry → Type 0) (v : View) (log : List Entry) : Type 0 where
   pub others : List Entry
   pub longer : v.memory.seen ++ others ≡ log
-  pub harmless : AllByRecursion (IsHarmless (number_in v.role) v.memory.since) others
+  pub harmless : AllByRecursion (IsHarmless (session_number_of v.role) v.memory.since) others
   pub legal : lawful log
   pub room : used log ≤ sizes.log_words
-  pub mine : entries_of (number_in v.role) log ≡ v.memory.own
+  pub mine : entries_of (session_number_of v.role) log ≡ v.memory.own

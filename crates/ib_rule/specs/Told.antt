@@ -79,7 +79,7 @@ After lawful opening sizes e StoreEnd v n w = w ≡ appending e v
 After lawful opening sizes e kind v n w = w ≡ view_after kind n v
 
 -- what a step tells: the view after it, the event that it was, what it found, and how its session stands
-pub record Told (lawful : ℕ → List Entry → Type 0) (opening : ℕ → ℕ → ℕ → ℕ) (sizes : Sizes) (e : Entry) (kind : StepKind) (v : View) (found : ℕ) (w : View) : Type 0 where
+pub record IsStepTold (lawful : ℕ → List Entry → Type 0) (opening : ℕ → ℕ → ℕ → ℕ) (sizes : Sizes) (e : Entry) (kind : StepKind) (v : View) (found : ℕ) (w : View) : Type 0 where
   pub view : After lawful opening sizes e kind v found w
   pub event : Happens (event_at kind v.session found) v.session found w.session
   pub proper : IsProper w.session
@@ -89,4 +89,4 @@ pub record Told (lawful : ℕ → List Entry → Type 0) (opening : ℕ → ℕ 
   pub taken : total w.grants ≤ 2 ^ 52 * sessions_in w.role
 
 abbrev pub tells : (ℕ → List Entry → Type 0) → (ℕ → ℕ → ℕ → ℕ) → Sizes → Entry → StepKind → Me (Unit {0}) View → ℕ → Me (Unit {0}) View → Type 0
-tells lawful opening sizes e kind m found w = Told lawful opening sizes e kind m.0 found w.0 × (w.1 ≡ m.1)
+tells lawful opening sizes e kind m found w = IsStepTold lawful opening sizes e kind m.0 found w.0 × (w.1 ≡ m.1)

@@ -19,7 +19,7 @@ use Rattle.ib_rule.specs.declared.view.Ended.{Ended}
 use Rattle.ib_rule.specs.declared.view.Role.{Role}
 use Rattle.ib_rule.specs.declared.view.Role.TheVariants.{Space, Fresh, Spent, Note}
 use Rattle.ib_rule.specs.declared.view.View.{View}
-use Rattle.ib_rule.specs.Roles.{number_in, drawn_in, drawn_more, ended_more}
+use Rattle.ib_rule.specs.Roles.{session_number_of, drawn_in, drawn_more, ended_more}
 use Rattle.ib_rule.specs.Memory.{latch_at}
 
 -- the parts of a view
@@ -29,8 +29,8 @@ role_of v = v.role
 abbrev pub session_in_view : View → CoreSession
 session_in_view v = v.session
 
-abbrev pub memory_of : View → Knowledge
-memory_of v = v.memory
+abbrev pub knowledge_of : View → Knowledge
+knowledge_of v = v.memory
 
 abbrev pub with_role : Role → View → View
 with_role r v = record v { role = r }
@@ -114,16 +114,16 @@ is_watched l [] = false
 is_watched l (s ∷ ss) = (s.latch == l) || is_watched l ss
 
 -- each held latch without a since has one from now on
-abbrev pub starts : CoreSession → List Holding → List Since → ℕ → List Since
-starts a [] ss n = []
-starts a (h ∷ hs) ss n = cond (is_watched h.latch.0 ss) (starts a hs ss n) (record { latch = h.latch.0; claims = nat_lt 0 (claims h.latch.0 a); place = n } ∷ starts a hs ss n)
+abbrev pub watches_from : CoreSession → List Holding → List Since → ℕ → List Since
+watches_from a [] ss n = []
+watches_from a (h ∷ hs) ss n = cond (is_watched h.latch.0 ss) (watches_from a hs ss n) (record { latch = h.latch.0; claims = nat_lt 0 (claims h.latch.0 a); place = n } ∷ watches_from a hs ss n)
 
 -- the log's end is loaded, and all of the log is seen
 abbrev pub reaching : List Entry → View → View
 reaching log v = with_memory (record v.memory {
   seen = log;
   ends = v.memory.ends ++ length log ∷ [];
-  since = v.memory.since ++ starts v.session v.session.held v.memory.since (length log);
+  since = v.memory.since ++ watches_from v.session v.session.held v.memory.since (length log);
 }) v
 
 -- of two lists the longer
@@ -152,7 +152,7 @@ abbrev pub newcomer : View → View
 newcomer v = seated (Fresh (drawn_in v.role + 1))
 
 abbrev pub ended_as : View → Ended
-ended_as w = record { number = number_in w.role; seen = w.memory.seen; own = w.memory.own }
+ended_as w = record { number = session_number_of w.role; seen = w.memory.seen; own = w.memory.own }
 
 abbrev pub plus : Grants → Grants → Grants
 plus g h = record { s = g.s + h.s; sx = g.sx + h.sx; x = g.x + h.x }

@@ -17,7 +17,7 @@ ghost use Rattle.ib_core.specs.Holders.{HoldersAreCompatible, IsGrantable, IsNex
 ghost use Rattle.ib_core.specs.Sessions.{HasFewReaders, Stands, readers_of, sx_grants, x_grants};
 ghost use Rattle.ib_core.specs.Sleepers.{HasFlagged, MaySleep, NextMaySleep};
 ghost use Rattle.ib_rule.specs.declared.view.View.{View};
-ghost use Rattle.ib_rule.specs.Roles.{live, number_in};
+ghost use Rattle.ib_rule.specs.Roles.{live, session_number_of};
 ghost use Rattle.ib_rule.specs.Memory.{page_places};
 ghost use Rattle.ib_rule.specs.Rule.{RuleHolds, marks_in, raises_in};
 ghost use Rattle.ib_rule.specs.Laws.{Stores, sessions_in_state};
@@ -54,7 +54,7 @@ pub fn latch_law<L: Law>()
     // next writer, and that has stored it since.
     ensures writer { (sizes : Sizes) (s : State (Unit {0}) View) (latch i : ℕ) (v : View)
         → RuleHolds L.lawful L.opening sizes s → get_elem? s.views i ≡ some v
-        → Stores latch v.written → slice_index s.words (writer_place latch) ≡ number_in v.role }
+        → Stores latch v.written → slice_index s.words (writer_place latch) ≡ session_number_of v.role }
     // No generation comes round.
     ensures raises { (sizes : Sizes) (s : State (Unit {0}) View) (latch : ℕ)
         → RuleHolds L.lawful L.opening sizes s → latch < latches_of sizes

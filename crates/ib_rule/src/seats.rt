@@ -5,7 +5,7 @@ ghost use Rattle.ib_map.specs.Space.{has_pages};
 ghost use mathlib.Core.List.{IsPrefix};
 ghost use Rattle.ib_core.specs.Sessions.{idle};
 ghost use Rattle.ib_rule.specs.declared.view.Role.TheVariants.{Session};
-ghost use Rattle.ib_rule.specs.Roles.{drawn_in, ended_in, number_in};
+ghost use Rattle.ib_rule.specs.Roles.{drawn_in, ended_in, session_number_of};
 ghost use Rattle.ib_rule.specs.Views.{ended_as, longer, plus, seated, seeing, space_at};
 
 use crate::kind::{StepKind, WordOp};
@@ -59,7 +59,7 @@ pub(crate) fn leave<L: Law>(shared: &Board<L>, own: &mut Seat<(), View>, other: 
       [],
     ) }
     requires closed { other.me.0.memory.append ≡ None }
-    requires other { (other.me.0.role ≡ Session (number_in other.me.0.role))
+    requires other { (other.me.0.role ≡ Session (session_number_of other.me.0.role))
         × (other.me.0.session ≡ idle) × (other.me.1 ≡ []) }
     ensures own { (own.new.table_id ≡ own.old.table_id)
         × (own.new.me ≡ (

@@ -23,7 +23,7 @@ use Rattle.ib_kept.specs.Kept.{IsKeptLog}
 use Rattle.ib_rule.specs.Closed.{IsClosed, log_in, used_in}
 use Rattle.ib_rule.specs.Memory.{EndedFact, entries_of}
 use Rattle.ib_rule.specs.Pass.{PassState}
-use Rattle.ib_rule.specs.Roles.{number_in}
+use Rattle.ib_rule.specs.Roles.{session_number_of}
 use Rattle.ib_rule.specs.Space.{SpaceState}
 use Rattle.ib_rule.specs.Views.{ended_as}
 use Rattle.ib_rule.specs.declared.view.Ended.{Ended}
@@ -51,7 +51,7 @@ module _ (sizes : Sizes) (log : List Entry) where
   IsLegal session rs = IsLegalSession (FitsLog (index_space sizes) log session) (history_of log) session rs
 
   -- one session against the whole log
-  legal-session : (calls : List Call) (rs : List FullRecord) (p q : PassState) (n : ℕ) → q.number ≡ n → number_in q.view.role ≡ n → HasAnswered sizes calls rs p q → EndedFact log (ended_as q.view) → IsLegal n rs
+  legal-session : (calls : List Call) (rs : List FullRecord) (p q : PassState) (n : ℕ) → q.number ≡ n → session_number_of q.view.role ≡ n → HasAnswered sizes calls rs p q → EndedFact log (ended_as q.view) → IsLegal n rs
   legal-session calls rs p q n number role h ended = record {
     answers = subst (λ es. AreAnswers (FitsLog (index_space sizes) es n) 0 rs) ended.0.1
         (answers_longer (index_space sizes) q.view.memory.seen ended.0.0 n 0 rs (subst (λ k. AreAnswers (FitsLog (index_space sizes) q.view.memory.seen k) 0 rs) number h.answers));
@@ -65,7 +65,7 @@ module _ (sizes : Sizes) (log : List Entry) where
   legal-done commands n (q ∷ qs) [] done ended i lt = absurd done
   legal-done commands n (q ∷ qs) (out ∷ outs) done ended zero lt =
       let d = done.0 in
-      subst (λ k. IsLegal k (answers_of out)) (omega arith) (legal-session (commands n) (answers_of out) d.start q n d.number (ap number_in d.role ∙ d.number) d.answered ended.0)
+      subst (λ k. IsLegal k (answers_of out)) (omega arith) (legal-session (commands n) (answers_of out) d.start q n d.number (ap session_number_of d.role ∙ d.number) d.answered ended.0)
   legal-done commands n (q ∷ qs) (out ∷ outs) done ended (suc i) lt =
       subst (λ k. IsLegal k (slice_index_or (map answers_of outs) i [])) (omega arith) (legal-done commands (n + 1) qs outs done.1 ended.1 i (omega arith))
 

@@ -42,9 +42,9 @@ abbrev pub reading_of : List ℕ → Reading
 reading_of line = if is_skipped line then Ok Skipped else reading_of_fields (fields_of line)
 
 -- a session that a line names is one that there may be
-abbrev pub IsInRange : ScriptLine → Type 0
-IsInRange (Session number) = (1 ≤ number) × (number ≤ MOST_SCRIPT_SESSIONS)
-IsInRange _ = Unit {0}
+abbrev pub IsLineInRange : ScriptLine → Type 0
+IsLineInRange (Session number) = (1 ≤ number) × (number ≤ MOST_SCRIPT_SESSIONS)
+IsLineInRange _ = Unit {0}
 
 abbrev pub says_nothing : Reading → Bool
 says_nothing (Ok Skipped) = true

@@ -34,7 +34,7 @@ pub struct Builder {
 
 impl Builder {
     ghost use Rattle.std.specs.Prelude.{◌≡◌, ◌<◌, ◌∷◌, ◌++◌, [], Ok, true, false, not, List};
-    ghost use Rattle.ib_script.specs.Script.{IsInRange, IsSmall, Reading, has_room, is_scan};
+    ghost use Rattle.ib_script.specs.Script.{IsLineInRange, IsSmall, Reading, has_room, is_scan};
     ghost use Rattle.ib_script.specs.Building.{IsBuilt, Takes};
     ghost use Rattle.ib_script.specs.Lists.{lists_of};
     ghost use Rattle.ib_script.specs.declared.script_line.TheConstants.{MOST_COMMANDS, MOST_SCANS};
@@ -56,7 +56,7 @@ impl Builder {
     }
 
     fn take_session(&mut self, number: u32)
-        requires { IsInRange (Session number) }
+        requires { IsLineInRange (Session number) }
         ensures { (before : List Reading) → IsBuilt before self.old → IsBuilt (before ++ Ok (Session number) ∷ []) self.new }
     {
         self.session = number;
@@ -97,7 +97,7 @@ impl Builder {
     }
 
     fn take_reading(&mut self, alloc: Global, line: ScriptLine) -> Result<(), LineFault>
-        requires { IsInRange line }
+        requires { IsLineInRange line }
         ensures { Takes (Ok line) self.old result self.new }
     {
         match line {

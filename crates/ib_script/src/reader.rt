@@ -1,7 +1,7 @@
 //! What reads the lines of a script.
 
 ghost use Rattle.std.specs.Prelude.{◌≡◌, ℕ, List, IfOk};
-ghost use Rattle.ib_script.specs.Script.{IsInRange, Reading};
+ghost use Rattle.ib_script.specs.Script.{IsLineInRange, Reading};
 
 use crate::script_line::{ScriptLine, reading_of};
 use ib_edge::LineKind;
@@ -13,7 +13,7 @@ pub trait LineReader {
     /// What a line, without its line feed, says by itself, or what is wrong with it.
     fn read(line: &[u8]) -> Result<ScriptLine, LineKind>
         ensures reading { result ≡ reading line.now }
-        ensures in_range { IfOk result IsInRange };
+        ensures in_range { IfOk result IsLineInRange };
 }
 
 /// The grammar's own reading, with no further test.

@@ -7,7 +7,7 @@ ghost use Rattle.ib_edge.specs.Fields.{number_in, one_field, session_in, two_fie
 ghost use Rattle.ib_edge.specs.declared.line_kind.TheConstants.{MOST_SCRIPT_SESSIONS};
 ghost use Rattle.ib_edge.specs.Lines.{fields_behind};
 ghost use Rattle.ib_text.specs.Keys.{key_in};
-ghost use Rattle.ib_script.specs.Script.{IsInRange, asks_scan, reading_of, reading_of_fields, space_line};
+ghost use Rattle.ib_script.specs.Script.{IsLineInRange, asks_scan, reading_of, reading_of_fields, space_line};
 ghost use Rattle.ib_script.specs.declared.script_line.ScriptLine.TheVariants.{Command};
 
 use ib_edge::{LineKind, first_field, is_skipped, number_in, session_in};
@@ -119,7 +119,7 @@ fn geometry_of(pages: u64, log_words: u64) -> Option<Geometry>
 
 fn space_line(pages: u64, log_words: u64) -> Result<ScriptLine, LineKind>
     ensures reading { result ≡ space_line (pages, log_words) }
-    ensures in_range { IfOk result IsInRange }
+    ensures in_range { IfOk result IsLineInRange }
 {
     match geometry_of(pages, log_words) {
         Some(geometry) => Ok(ScriptLine::Space { geometry }),
@@ -130,7 +130,7 @@ fn space_line(pages: u64, log_words: u64) -> Result<ScriptLine, LineKind>
 // A line by its first field and those behind it.
 fn reading_of_fields(word: &[u8], fields: Option<&[u8]>) -> Result<ScriptLine, LineKind>
     ensures reading { result ≡ reading_of_fields (word.now ∷ fields_behind fields.entry) }
-    ensures in_range { IfOk result IsInRange }
+    ensures in_range { IfOk result IsLineInRange }
 {
     if word == b"insert".as_slice() {
         let (key, value) = key_and_value(fields)?;
@@ -171,7 +171,7 @@ fn reading_of_fields(word: &[u8], fields: Option<&[u8]>) -> Result<ScriptLine, L
 /// and from left to right.
 pub fn reading_of(line: &[u8]) -> Result<ScriptLine, LineKind>
     ensures reading { result ≡ reading_of line.now }
-    ensures in_range { IfOk result IsInRange }
+    ensures in_range { IfOk result IsLineInRange }
 {
     if is_skipped(line) {
         return Ok(ScriptLine::Skipped);

@@ -19,7 +19,7 @@ use Rattle.ib_walk.proofs.TreeLaws.{weight_of-le, Rises-content_of}
 use Rattle.ib_walk.proofs.WalkLaws.{records_along-append}
 use Rattle.ib_patch.specs.PatchTest.{Position, Positions, at_page, positions_over}
 use Rattle.ib_patch.proofs.ChildLaws.{drop-slice_get}
-use Rattle.ib_patch.proofs.PassLaws.{bits_in-past}
+use Rattle.ib_patch.proofs.PassLaws.{image_bits-past}
 use Rattle.ib_tree.specs.Roots.{HasRoot}
 use Rattle.ib_tree.proofs.WholeTestLaws.{lawful-positions}
 
@@ -143,7 +143,7 @@ module _ (images : List (List ℕ)) (root : ℕ) (has : HasRoot images root) whe
         ];
         high = elim (cases_lt page (length images)) [
           | inl within ↦ within
-          | inr past ↦ absurd (let none = bits_in-past images page past in omega arith)
+          | inr past ↦ absurd (let none = image_bits-past images page past in omega arith)
         ];
       }
 

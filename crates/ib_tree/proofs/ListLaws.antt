@@ -11,7 +11,7 @@ use Rattle.ib_logrec.specs.declared.entry.Entry.{Entry}
 use Rattle.ib_walk.specs.Walk.{Visit}
 use Rattle.ib_patch.specs.Patch.{on_written}
 use Rattle.ib_patch.specs.PatchTest.{Position, Positions, visit_of, at_page, positions_over, list_over, IsListed}
-use Rattle.ib_tree.specs.PageLists.{is_among, AreOnce, touched_pages, pages_below, is_below}
+use Rattle.ib_tree.specs.PageLists.{is_listed, AreOnce, touched_pages, pages_below, is_below}
 use Rattle.ib_tree.specs.Tests.{writes_page}
 
 positions_over-empty : (f : ℕ → Visit → ℕ) (root : ℕ) (t : Positions) (n : ℕ) → positions_over (on_written (λ p. false) f) root t n ≡ 0
@@ -46,33 +46,33 @@ positions_over-more f root t w q none (suc n) =
     other n ne None = refl
     other n ne (Some d) = let a : eqb q n ≡ false = grind (arith, nat_tests) in rw a refl
 
-pub list_over-once : (f : ℕ → Visit → ℕ) (root : ℕ) (t : Positions) (ps : List ℕ) (n : ℕ) → AreOnce ps n → positions_over (on_written (is_among ps) f) root t n ≡ list_over f root ps t
+pub list_over-once : (f : ℕ → Visit → ℕ) (root : ℕ) (t : Positions) (ps : List ℕ) (n : ℕ) → AreOnce ps n → positions_over (on_written (is_listed ps) f) root t n ≡ list_over f root ps t
 list_over-once f root t [] n o = positions_over-empty f root t n
-list_over-once f root t (q ∷ qs) n o = let r = list_over-once f root t qs n o.2 in let a = (positions_over-more f root t (is_among qs) q o.1 n).0 o.0 in omega arith
+list_over-once f root t (q ∷ qs) n o = let r = list_over-once f root t qs n o.2 in let a = (positions_over-more f root t (is_listed qs) q o.1 n).0 o.0 in omega arith
 
-pub is_among-self : (ps : List ℕ) → AllByRecursion (λ p. is_among ps p ≡ true) ps
-is_among-self ps = by ps (λ p h. h)
+pub is_listed-self : (ps : List ℕ) → AllByRecursion (λ p. is_listed ps p ≡ true) ps
+is_listed-self ps = by ps (λ p h. h)
   where
-    by : (qs : List ℕ) → ((p : ℕ) → is_among qs p ≡ true → is_among ps p ≡ true) → AllByRecursion (λ p. is_among ps p ≡ true) qs
+    by : (qs : List ℕ) → ((p : ℕ) → is_listed qs p ≡ true → is_listed ps p ≡ true) → AllByRecursion (λ p. is_listed ps p ≡ true) qs
     by [] h = tt
-    by (q ∷ qs) h = (h q (let e = eq-eqb q q refl in rw e refl), by qs (λ p e. h p (later (eqb q p) (is_among qs p) e)))
+    by (q ∷ qs) h = (h q (let e = eq-eqb q q refl in rw e refl), by qs (λ p e. h p (later (eqb q p) (is_listed qs p) e)))
       where
         later : (a b : Bool) → b ≡ true → (a || b) ≡ true
         later true b e = refl
         later false b e = e
 
-pub IsListed-once : (ps : List ℕ) (n : ℕ) → AreOnce ps n → IsListed (is_among ps) ps n
-IsListed-once ps n o = record { mine = is_among-self ps; all = λ f root t. list_over-once f root t ps n o }
+pub IsListed-once : (ps : List ℕ) (n : ℕ) → AreOnce ps n → IsListed (is_listed ps) ps n
+IsListed-once ps n o = record { mine = is_listed-self ps; all = λ f root t. list_over-once f root t ps n o }
 
-pub IsListed-among : (written : ℕ → Bool) (ps : List ℕ) (n : ℕ) → AreOnce ps n → ((p : ℕ) → written p ≡ is_among ps p) → IsListed written ps n
+pub IsListed-among : (written : ℕ → Bool) (ps : List ℕ) (n : ℕ) → AreOnce ps n → ((p : ℕ) → written p ≡ is_listed ps p) → IsListed written ps n
 IsListed-among written ps n once same = subst (λ w. IsListed w ps n) (λ i p. sym (same p) i) (IsListed-once ps n once)
 
 -- the pages that writes touch
-pub is_among-touched : (ws : List Write) (page : ℕ) → is_among (touched_pages ws) page ≡ touches page ws
-is_among-touched [] page = refl
-is_among-touched (w ∷ ws) page =
-    let r = is_among-touched ws page in
-    elim (touches (page_at w.place) ws) as (λ b. touches (page_at w.place) ws ≡ b → is_among (cond b (touched_pages ws) (page_at w.place ∷ touched_pages ws)) page ≡ (eqb (page_at w.place) page || touches page ws)) [
+pub is_listed-touched : (ws : List Write) (page : ℕ) → is_listed (touched_pages ws) page ≡ touches page ws
+is_listed-touched [] page = refl
+is_listed-touched (w ∷ ws) page =
+    let r = is_listed-touched ws page in
+    elim (touches (page_at w.place) ws) as (λ b. touches (page_at w.place) ws ≡ b → is_listed (cond b (touched_pages ws) (page_at w.place ∷ touched_pages ws)) page ≡ (eqb (page_at w.place) page || touches page ws)) [
       | false ↦ λ e. ap (λ b. eqb (page_at w.place) page || b) r
       | true ↦ λ e. elim (cases_eq (page_at w.place) page) [
         | inl is ↦ let t : touches page ws ≡ true = ap (λ p. touches p ws) (sym is) ∙ e in let y = eq-eqb (page_at w.place) page is in rw y (r ∙ t)
@@ -86,19 +86,19 @@ AreOnce-touched pages low (w ∷ ws) rise =
     let r = AreOnce-touched pages (w.place + 1) ws rise.2 in
     elim (touches (page_at w.place) ws) as (λ b. touches (page_at w.place) ws ≡ b → AreOnce (cond b (touched_pages ws) (page_at w.place ∷ touched_pages ws)) pages) [
       | true ↦ λ e. r
-      | false ↦ λ e. (let a = rise.1 in omega arith, is_among-touched ws (page_at w.place) ∙ e, r)
+      | false ↦ λ e. (let a = rise.1 in omega arith, is_listed-touched ws (page_at w.place) ∙ e, r)
     ] refl
 
 -- the pages that an entry in the space writes are those that its writes touch
 pub IsListed-touched : (pages : ℕ) (e : Entry) → PlacesRise 0 e.writes (pages * PAGE_WORDS) → IsListed (writes_page e) (touched_pages e.writes) pages
 IsListed-touched pages e rise =
-    IsListed-among (writes_page e) (touched_pages e.writes) pages (AreOnce-touched pages 0 e.writes rise) (λ p. sym (is_among-touched e.writes p))
+    IsListed-among (writes_page e) (touched_pages e.writes) pages (AreOnce-touched pages 0 e.writes rise) (λ p. sym (is_listed-touched e.writes p))
 
 -- all pages
-is_among-range : (low n p : ℕ) → is_among (range_with_len low n) p ≡ (leb low p && ltb p (low + n))
-is_among-range low zero p = grind (arith, nat_tests)
-is_among-range low (suc n) p =
-    let r = is_among-range (low + 1) n p in
+is_listed-range : (low n p : ℕ) → is_listed (range_with_len low n) p ≡ (leb low p && ltb p (low + n))
+is_listed-range low zero p = grind (arith, nat_tests)
+is_listed-range low (suc n) p =
+    let r = is_listed-range (low + 1) n p in
     elim (cases_eq low p) [
       | inl is ↦ let y = eq-eqb low p is in let a = le-leb low p (omega arith) in let b = lt-ltb p (low + suc n) (omega arith) in rw (y, a, b) refl
       | inr ne ↦ let y = ne_eqb low p ne in rw y (r ∙ same ne)
@@ -114,12 +114,12 @@ AreOnce-range : (low n : ℕ) → AreOnce (range_with_len low n) (low + n)
 AreOnce-range low zero = tt
 AreOnce-range low (suc n) = (
   omega arith,
-  is_among-range (low + 1) n low ∙ (let a = lt-leb (low + 1) low (omega arith) in rw a refl),
+  is_listed-range (low + 1) n low ∙ (let a = lt-leb (low + 1) low (omega arith) in rw a refl),
   subst (AreOnce (range_with_len (low + 1) n)) (omega arith) (AreOnce-range (low + 1) n),
 )
 
-pub is_among-below : (n p : ℕ) → is_among (pages_below n) p ≡ is_below n p
-is_among-below n p = is_among-range 0 n p ∙ (let a = le-leb 0 p (omega arith) in let b : 0 + n ≡ n = omega arith in rw (a, b) refl)
+pub is_listed-below : (n p : ℕ) → is_listed (pages_below n) p ≡ is_below n p
+is_listed-below n p = is_listed-range 0 n p ∙ (let a = le-leb 0 p (omega arith) in let b : 0 + n ≡ n = omega arith in rw (a, b) refl)
 
 pub IsListed-below : (n : ℕ) → IsListed (is_below n) (pages_below n) n
-IsListed-below n = IsListed-among (is_below n) (pages_below n) n (subst (AreOnce (pages_below n)) (omega arith) (AreOnce-range 0 n)) (λ p. sym (is_among-below n p))
+IsListed-below n = IsListed-among (is_below n) (pages_below n) n (subst (AreOnce (pages_below n)) (omega arith) (AreOnce-range 0 n)) (λ p. sym (is_listed-below n p))

@@ -12,7 +12,7 @@ use Rattle.ib_walk.specs.Trees.{content_of}
 use Rattle.ib_walk.specs.Words.{pages_of, IsLawfulMemory}
 use Rattle.ib_patch.specs.PatchTest.{IsKeptBeside}
 use Rattle.ib_tree.specs.TreeLog.{opening}
-use Rattle.ib_tree.specs.Tests.{opening_positions}
+use Rattle.ib_tree.specs.Tests.{root_positions}
 use Rattle.ib_walk.proofs.SpaceLaws.{IsLawfulMemory-opening, content_of-opening, pages_of-root}
 use Rattle.ib_tree.proofs.RootPositionLaws.{IsKeptBeside-opening}
 
@@ -26,10 +26,10 @@ opens pages fits = subst (IsLawfulMemory pages 1) (sym (by_place-opening pages))
 pub opens-empty : (pages : ℕ) → content_of (pages_of (by_place opening pages)) 1 ≡ []
 opens-empty pages = subst (λ (w : ℕ → ℕ). content_of (pages_of w) 1 ≡ []) (sym (by_place-opening pages)) content_of-opening
 
-pub opens-kept : (pages : ℕ) → has_pages pages ≡ true → IsKeptBeside (pages_of (by_place opening pages)) 1 pages (opening_positions 1)
+pub opens-kept : (pages : ℕ) → has_pages pages ≡ true → IsKeptBeside (pages_of (by_place opening pages)) 1 pages (root_positions 1)
 opens-kept pages fits =
     let least : 1 < pages = grind (arith, nat_tests, fits) in
-    subst (λ (w : ℕ → ℕ). IsKeptBeside (pages_of w) 1 pages (opening_positions 1)) (sym (by_place-opening pages))
+    subst (λ (w : ℕ → ℕ). IsKeptBeside (pages_of w) 1 pages (root_positions 1)) (sym (by_place-opening pages))
     (IsKeptBeside-opening (pages_of opening_word) pages 1 (λ r some le. let e = pages_of-root r (omega arith) in rw e refl) least)
 
 pub structural-grammar : (pages : ℕ) (log : List Entry) → AreInGrammar pages log → AllByRecursion (λ e. e.structural ≡ spans_pages e.writes) log

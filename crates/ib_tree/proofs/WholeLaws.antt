@@ -15,7 +15,7 @@ use Rattle.ib_page.specs.declared.space.TheConstants.{MAPPED_PAGES}
 use Rattle.ib_walk.specs.Trees.{opening_pages, opening_bits, free_page}
 use Rattle.ib_walk.specs.Words.{pages_of, bits_of, IsLawfulMemory}
 use Rattle.ib_tree.specs.PageLists.{is_below, pages_below}
-use Rattle.ib_tree.specs.Tests.{TellsGood, opening_positions, PassesWhole}
+use Rattle.ib_tree.specs.Tests.{TellsGood, root_positions, PassesWhole}
 use Rattle.ib_walk.proofs.MeetLaws.{counts_page-own}
 use Rattle.ib_walk.proofs.OpeningLaws.{IsLawful-opening}
 use Rattle.ib_walk.proofs.TreeLaws.{weight_of-le}
@@ -102,19 +102,19 @@ module _ (pages : ℕ) (fits : has_pages pages ≡ true) (roots : ℕ) (few : ro
   unfolding bits_of
   none-after page le = let no = le-ltb page pages le in rw no refl
 
-  kept-open : IsKeptBeside (opening_pages roots) roots pages (opening_positions roots)
+  kept-open : IsKeptBeside (opening_pages roots) roots pages (root_positions roots)
   kept-open = IsKeptBeside-opening (opening_pages roots) pages roots (λ r some le. let no = le-ltb roots r le in rw no refl) few
 
   -- a memory that passes is lawful, and the positions that are left are its own
   pub IsLawfulMemory-passes : (table : Positions) → PassesWhole pages roots words good table → IsLawfulMemory pages roots words × IsKeptBeside (pages_of words) roots pages table
   IsLawfulMemory-passes table passes =
-      let found = whole-sound (opening_pages roots) (pages_of words) (opening_bits roots) (bits_of pages words) roots pages (IsLawful-opening roots mapped) same (opening_positions roots) kept-open
+      let found = whole-sound (opening_pages roots) (pages_of words) (opening_bits roots) (bits_of pages words) roots pages (IsLawful-opening roots mapped) same (root_positions roots) kept-open
       (pages_below pages) (IsListed-below pages) good none-open (λ h v. (is_good h v).0) table passes.patch in
       (record { space = passes.space; law = found.0 }, found.1)
 
   -- a lawful memory passes
   pub passes-IsLawfulMemory : IsLawfulMemory pages roots words → (table : Positions) × PassesWhole pages roots words good table
   passes-IsLawfulMemory lawful =
-      let found = whole-complete (opening_pages roots) (pages_of words) (opening_bits roots) (bits_of pages words) roots pages (IsLawful-opening roots mapped) same (opening_positions roots) kept-open
+      let found = whole-complete (opening_pages roots) (pages_of words) (opening_bits roots) (bits_of pages words) roots pages (IsLawful-opening roots mapped) same (root_positions roots) kept-open
       (pages_below pages) (IsListed-below pages) good none-open (λ h v. (is_good h v).1) lawful.law none-after in
       (found.0, record { space = lawful.space; patch = found.1 })

@@ -16,15 +16,15 @@ use Rattle.ib_patch.specs.PageTests.{PassesAt, bit_of}
 use Rattle.ib_patch.specs.PatchTest.{Positions, IsKeptBeside, detach_pages, set_roots, visited}
 use Rattle.ib_patch.specs.Positions.{is_good_at, marks_of, positions_of, IsStep}
 use Rattle.ib_tree.specs.PageLists.{is_below, pages_below}
-use Rattle.ib_tree.specs.Tests.{TellsGood, opening_positions, PassesWhole}
+use Rattle.ib_tree.specs.Tests.{TellsGood, root_positions, PassesWhole}
 use Rattle.ib_tree.specs.WholeTest.{AreLow, PassesAllPages}
 use Rattle.ib_walk.proofs.ChoiceLaws.{Some-same}
 use Rattle.ib_walk.proofs.ImageLaws.{image_of-images, memory_of-beyond}
 use Rattle.ib_patch.proofs.PositionLaws.{positions-same}
-use Rattle.ib_patch.proofs.PassLaws.{bits_in-there, bits_in-past, bit-once, low-level}
+use Rattle.ib_patch.proofs.PassLaws.{image_bits-there, image_bits-past, bit-once, low-level}
 use Rattle.ib_patch.proofs.GoodLaws.{good-at, at-good}
 use Rattle.ib_patch.proofs.StepLaws.{step-true, step-false}
-use Rattle.ib_tree.proofs.RootPositionLaws.{opening_positions-above, detach_pages-opening, all_back-opening}
+use Rattle.ib_tree.proofs.RootPositionLaws.{root_positions-above, detach_pages-opening, all_back-opening}
 use Rattle.ib_tree.proofs.WholeLaws.{IsLawfulMemory-passes, passes-IsLawfulMemory}
 
 -- the list of all pages
@@ -80,10 +80,10 @@ positions_of-cut [] (suc k) page le = refl
 positions_of-cut (x ∷ xs) (suc k) zero le = absurd (omega arith)
 positions_of-cut (x ∷ xs) (suc k) (suc page) le = positions_of-cut xs k page (omega arith)
 
-pub opening-front : (xs : List (Option PagePosition)) (k roots : ℕ) → roots < k → positions_of xs ≡ opening_positions roots → positions_of (take k xs) ≡ opening_positions roots
-opening-front xs k roots lt is = positions-same (positions_of (take k xs)) (opening_positions roots) (λ page. elim (cases_lt page k) [
+pub opening-front : (xs : List (Option PagePosition)) (k roots : ℕ) → roots < k → positions_of xs ≡ root_positions roots → positions_of (take k xs) ≡ root_positions roots
+opening-front xs k roots lt is = positions-same (positions_of (take k xs)) (root_positions roots) (λ page. elim (cases_lt page k) [
   | inl within ↦ positions_of-front xs k page within ∙ ap (λ (table : Positions). table page) is
-  | inr past ↦ positions_of-cut xs k page past ∙ sym (opening_positions-above roots page (omega arith))
+  | inr past ↦ positions_of-cut xs k page past ∙ sym (root_positions-above roots page (omega arith))
 ])
 
 marks_of-front : (xs : List Bool) (k : ℕ) → k ≤ length xs → ((page : ℕ) → page < length xs → marks_of xs page ≡ true) → (page : ℕ) → marks_of (take k xs) page ≡ is_below k page
@@ -112,13 +112,13 @@ positions_of-none (suc n) (suc page) = positions_of-none n page
 
 -- the visits take no child off, since in a new space no page has one
 pub visited-whole : (images : List (List ℕ)) (n roots : ℕ) (ps : List ℕ)
-    → set_roots (is_below n) (memory_of images) end_rank roots (detach_pages (opening_pages roots) (opening_positions roots) ps (opening_positions roots))
-    ≡ set_roots (is_below n) (memory_of images) end_rank roots (opening_positions roots)
-visited-whole images n roots ps = ap (set_roots (is_below n) (memory_of images) end_rank roots) (detach_pages-opening (is_below n) (opening_pages roots) roots ps (opening_positions roots))
+    → set_roots (is_below n) (memory_of images) end_rank roots (detach_pages (opening_pages roots) (root_positions roots) ps (root_positions roots))
+    ≡ set_roots (is_below n) (memory_of images) end_rank roots (root_positions roots)
+visited-whole images n roots ps = ap (set_roots (is_below n) (memory_of images) end_rank roots) (detach_pages-opening (is_below n) (opening_pages roots) roots ps (root_positions roots))
 
 -- the visits of a whole memory
 abbrev pub whole_visits : List (List ℕ) → ℕ → Option Positions
-whole_visits images roots = visited (is_below (length images)) (opening_pages roots) (memory_of images) (is_good_at (memory_of images)) end_rank roots (pages_below (length images)) (opening_positions roots)
+whole_visits images roots = visited (is_below (length images)) (opening_pages roots) (memory_of images) (is_good_at (memory_of images)) end_rank roots (pages_below (length images)) (root_positions roots)
 
 module _ (images : List (List ℕ)) (least : LEAST_PAGES ≤ length images) (most : length images ≤ MOST_PAGES) (roots : ℕ) (few : roots ≤ 2) where
   fits : has_pages (length images) ≡ true
@@ -147,7 +147,7 @@ module _ (images : List (List ℕ)) (least : LEAST_PAGES ≤ length images) (mos
 
   module _ (whole : length (image_at images 0) ≡ PAGE_WORDS) where
     there : (page : ℕ) → page < length images → bits_of (length images) (word_at images) page ≡ bit_of (is_taken (image_at images 0) page)
-    there page lt = bits_in-there images page lt whole
+    there page lt = image_bits-there images page lt whole
 
     below-lt : (page : ℕ) → is_below (length images) page ≡ true → page < length images
     below-lt page w = elim (cases_lt page (length images)) [ inl lt ↦ lt | inr ge ↦ absurd (let t = le-ltb page (length images) ge in let z = sym t ∙ w in cc) ]
@@ -155,7 +155,7 @@ module _ (images : List (List ℕ)) (least : LEAST_PAGES ≤ length images) (mos
     others : (page : ℕ) → is_below (length images) page ≡ false → bits_of (length images) (word_at images) page ≡ opening_bits roots page
     others page w = elim (cases_lt page (length images)) [
       | inl lt ↦ absurd (let t = lt-ltb page (length images) lt in let z = sym t ∙ w in cc)
-      | inr ge ↦ bits_in-past images page ge ∙ sym (let free = lt-ltb roots page (omega arith) in rw free refl)
+      | inr ge ↦ image_bits-past images page ge ∙ sym (let free = lt-ltb roots page (omega arith) in rw free refl)
     ]
 
     PassesWhole-all : (table : Positions) → whole_visits images roots ≡ Some table → PassesAllPages images roots table → PassesWhole (length images) roots (word_at images) (is_good_at (memory_of images)) table

@@ -5,13 +5,13 @@ use Rattle.ib_map.specs.Writes.{page_at, touches}
 use Rattle.ib_map.specs.declared.write.Write.{Write}
 
 -- whether a page is one of these
-abbrev pub is_among : List ℕ → ℕ → Bool
-is_among ps page = list_any (λ p. p == page) ps
+abbrev pub is_listed : List ℕ → ℕ → Bool
+is_listed ps page = list_any (λ p. p == page) ps
 
 -- pages of a space of so many, each once
 abbrev pub AreOnce : List ℕ → ℕ → Type 0
 AreOnce [] pages = Unit {0}
-AreOnce (p ∷ ps) pages = (p < pages) × (is_among ps p ≡ false) × AreOnce ps pages
+AreOnce (p ∷ ps) pages = (p < pages) × (is_listed ps p ≡ false) × AreOnce ps pages
 
 -- the pages that writes touch, each once
 abbrev pub touched_pages : List Write → List ℕ

@@ -59,11 +59,11 @@ pub record PassesEntry (pages roots : ℕ) (opening : ℕ → ℕ) (front : List
 abbrev pub root_position : ℕ → Position
 root_position root = record { tree = root; height = 0; low = 0; high = end_rank }
 
-abbrev pub opening_positions : ℕ → Positions
-opening_positions zero = λ page. None
-opening_positions (suc root) = set_at (opening_positions root) (suc root) (Some (root_position (suc root)))
+abbrev pub root_positions : ℕ → Positions
+root_positions zero = λ page. None
+root_positions (suc root) = set_at (root_positions root) (suc root) (Some (root_position (suc root)))
 
 -- all that the test of a whole memory asks: page 0 is the space page, and all pages pass the test of a patch over those of a new space
 pub record PassesWhole (pages roots : ℕ) (words : ℕ → ℕ) (good : ℕ → Visit → Bool) (table : Positions) : Type 0 where
   pub space : IsSpacePage pages (image_of words 0)
-  pub patch : PassesTest (is_below pages) (opening_pages roots) (pages_of words) good (opening_bits roots) (bits_of pages words) roots end_rank (pages_below pages) (opening_positions roots) table
+  pub patch : PassesTest (is_below pages) (opening_pages roots) (pages_of words) good (opening_bits roots) (bits_of pages words) roots end_rank (pages_below pages) (root_positions roots) table

@@ -23,7 +23,7 @@ ghost use Rattle.ib_tree.specs.TreeLog.{opening, IsTreeLog};
 ghost use Rattle.ib_tree.specs.PageLists.{touched_pages};
 ghost use Rattle.ib_tree.specs.Scans.{AreWhole};
 ghost use Rattle.ib_tree.specs.Fits.{TreeSpace, tree_at, FitsLog};
-ghost use Rattle.ib_tree.specs.Tests.{KeepRanges, TellsGood, IsPatchGiven, writes_page, IsEntryGiven, PassesEntry, opening_positions, PassesWhole};
+ghost use Rattle.ib_tree.specs.Tests.{KeepRanges, TellsGood, IsPatchGiven, writes_page, IsEntryGiven, PassesEntry, root_positions, PassesWhole};
 
 /// The law of the test of a patch, as a contract. Of lawful trees whose positions are known, it passes
 /// exactly where the new trees are lawful and every page that is not written keeps root, level and range;
@@ -62,7 +62,7 @@ pub fn patch_law()
 pub fn entry_law()
     // The pages of a new space have their positions.
     ensures opening { (pages : ℕ) → has_pages pages ≡ true
-        → IsKeptBeside (pages_of (by_place opening pages)) 1 pages (opening_positions 1) }
+        → IsKeptBeside (pages_of (by_place opening pages)) 1 pages (root_positions 1) }
     ensures sound { (pages : ℕ) (front : List Entry) (e : Entry) (good : ℕ → Visit → Bool) (ps : List ℕ) (old table : Positions)
         → has_pages pages ≡ true → IsEntryGiven pages 1 (by_place opening pages) front e good ps old
         → PassesEntry pages 1 (by_place opening pages) front e good ps old table

@@ -9,7 +9,7 @@ ghost use Rattle.ib_walk.specs.Words.{memory_of, IsLawfulMemory};
 ghost use Rattle.ib_patch.specs.PatchTest.{set_roots, visited};
 ghost use Rattle.ib_patch.specs.Positions.{is_good_at, marks_of, positions_of, IsStep};
 ghost use Rattle.ib_tree.specs.PageLists.{is_below, pages_below};
-ghost use Rattle.ib_tree.specs.Tests.{opening_positions};
+ghost use Rattle.ib_tree.specs.Tests.{root_positions};
 ghost use Rattle.ib_tree.specs.WholeTest.{AreLow, PassesAllPages};
 
 use ib_map::{LEAST, LEAST_PAGES, MOST_PAGES, PAGE_WORDS};
@@ -94,8 +94,8 @@ fn is_lawful(
     requires size { length table.old ≡ length memory.now }
     requires old_size { length old.now ≡ length memory.now }
     requires marks_size { length written.now ≡ length memory.now }
-    requires opening { positions_of old.now ≡ opening_positions roots }
-    requires same { positions_of table.old ≡ opening_positions roots }
+    requires opening { positions_of old.now ≡ root_positions roots }
+    requires same { positions_of table.old ≡ root_positions roots }
     requires marks { marks_of written.now ≡ is_below (length memory.now) }
     requires pages { pages.now ≡ pages_below (length memory.now) }
     ensures { IsTrue result ↔ IsLawfulMemory (length memory.now) roots (word_at memory.now) }
@@ -117,12 +117,12 @@ fn visit_all(
     requires old_size { length old.now ≡ length memory.now }
     requires marks_size { length written.now ≡ length memory.now }
     requires roots { roots < length memory.now }
-    requires opening { positions_of old.now ≡ opening_positions roots }
-    requires same { positions_of table.old ≡ opening_positions roots }
+    requires opening { positions_of old.now ≡ root_positions roots }
+    requires same { positions_of table.old ≡ root_positions roots }
     requires marks { marks_of written.now ≡ is_below (length memory.now) }
     requires pages { pages.now ≡ pages_below (length memory.now) }
     ensures { IsStep (visited (is_below (length memory.now)) (opening_pages roots) (memory_of memory.now) (is_good_at (memory_of memory.now)) end_rank roots
-        (pages_below (length memory.now)) (opening_positions roots)) result (positions_of table.new) }
+        (pages_below (length memory.now)) (root_positions roots)) result (positions_of table.new) }
 {
     meet_roots(table, memory, roots);
     visit_levels(table, memory, old, written, pages)
@@ -165,7 +165,7 @@ fn are_low(memory: &[Image], roots: u32) -> bool
 fn meet_opening(table: &mut [Option<PagePosition>], roots: u32)
     requires roots { roots < length table.old }
     requires unmet { (page : ℕ) → positions_of table.old page ≡ None }
-    ensures { positions_of table.new ≡ opening_positions roots }
+    ensures { positions_of table.new ≡ root_positions roots }
 {
     for met in 0..roots {
         let root = met + 1;

@@ -10,7 +10,7 @@ use mathlib.Core.Logic.{dite}
 use native.Mathlib.Decide.{ℕ_discrete}
 use Rattle.ib_wait.specs.declared.cells.Cell.{Cell}
 use Rattle.ib_wait.specs.declared.cells.TheConstants.{MOST_EVER}
-use Rattle.ib_wait.specs.Cells.{AreStacked, cell_at, written, is_idle, is_reserved, one_more, times}
+use Rattle.ib_wait.specs.Cells.{AreStacked, cell_at, written, is_idle, is_reserved, one_more_ever, times_returned}
 
 -- what stands in a list of which one element was set
 get_same : {A : Type 0} (xs : List A) (i : ℕ) (y : A) → i < length xs → slice_get (set xs i y) i ≡ Some y
@@ -31,14 +31,14 @@ pub there_is : (used : List (Option Cell)) (place : ℕ) (d : Option Cell) (c : 
 there_is used place d c some read is = slice_get-get_or used place d (there_within used place some) ∙ (sym (ap Some read) ∙ ap Some is)
 
 -- how often a place stands among those returned with one more of them
-times_push : (p place : ℕ) (rest : List ℕ) → times place (rest ++ p ∷ []) ≡ times place rest + cond (p == place) 1 0
+times_push : (p place : ℕ) (rest : List ℕ) → times_returned place (rest ++ p ∷ []) ≡ times_returned place rest + cond (p == place) 1 0
 times_push p place rest = sum_by_push (λ p. cond (p == place) 1 0) rest p
 
-times_here : (p : ℕ) (rest : List ℕ) → times p (rest ++ p ∷ []) ≡ times p rest + 1
-times_here p rest = times_push p p rest ∙ ap (λ b. times p rest + cond b 1 0) (eq-eqb p p refl)
+times_here : (p : ℕ) (rest : List ℕ) → times_returned p (rest ++ p ∷ []) ≡ times_returned p rest + 1
+times_here p rest = times_push p p rest ∙ ap (λ b. times_returned p rest + cond b 1 0) (eq-eqb p p refl)
 
-times_away : (p place : ℕ) (rest : List ℕ) → p ≢ place → times place (rest ++ p ∷ []) ≡ times place rest
-times_away p place rest away = let e = times_push p place rest ∙ ap (λ b. times place rest + cond b 1 0) (ne_eqb p place away) in omega arith
+times_away : (p place : ℕ) (rest : List ℕ) → p ≢ place → times_returned place (rest ++ p ∷ []) ≡ times_returned place rest
+times_away p place rest away = let e = times_push p place rest ∙ ap (λ b. times_returned place rest + cond b 1 0) (ne_eqb p place away) in omega arith
 
 -- a cell of which something is idle is one that was returned
 idle_is : (c : Option (Option Cell)) → 0 < is_idle c → c ≡ Some None
@@ -63,8 +63,8 @@ module _ (used : List (Option Cell)) (rest : List ℕ) (p : ℕ) (c : Cell) (sta
   pub last_reserved : AreStacked (set used p (Some c)) rest
   last_reserved = record {
     once = λ place. dite (ℕ_discrete p place)
-        (λ here. subst (λ place. times place rest ≡ is_idle (slice_get (set used p (Some c)) place)) here
-        (let e = stacked.once p in let t = times_here p rest in let m = idle_most (slice_get used p) in let none : times p rest ≡ 0 = omega arith in none ∙ sym (ap is_idle (get_same used p (Some c) last_within))))
+        (λ here. subst (λ place. times_returned place rest ≡ is_idle (slice_get (set used p (Some c)) place)) here
+        (let e = stacked.once p in let t = times_here p rest in let m = idle_most (slice_get used p) in let none : times_returned p rest ≡ 0 = omega arith in none ∙ sym (ap is_idle (get_same used p (Some c) last_within))))
         (λ away. sym (times_away p place rest away) ∙ (stacked.once place ∙ sym (ap is_idle (get_other used p place (Some c) away))));
     counted =
         let s = sum_by-set is_reserved used p (Some c) None last_within in
@@ -77,7 +77,7 @@ module _ (used : List (Option Cell)) (returned : List ℕ) (stacked : AreStacked
   pub fresh_reserved : (c : Cell) → AreStacked (used ++ Some c ∷ []) returned
   fresh_reserved c = record {
     once = λ place. dite (ℕ_discrete place (length used))
-        (λ here. subst (λ place. times place returned ≡ is_idle (slice_get (used ++ Some c ∷ []) place)) (sym here)
+        (λ here. subst (λ place. times_returned place returned ≡ is_idle (slice_get (used ++ Some c ∷ []) place)) (sym here)
         (stacked.once (length used) ∙ (ap is_idle (slice_get_past used (length used) (omega arith)) ∙ sym (ap is_idle (slice_get-last used (Some c))))))
         (λ away. stacked.once place ∙ sym (ap is_idle (beside place away)));
     counted = let s = sum_by_push is_reserved used (Some c) in let l = length_push used (Some c) in let k = stacked.counted in omega arith;
@@ -101,8 +101,8 @@ module _ (used : List (Option Cell)) (returned : List ℕ) (stacked : AreStacked
     pub freed : AreStacked (set used p None) (returned ++ p ∷ [])
     freed = record {
       once = λ place. dite (ℕ_discrete p place)
-          (λ here. subst (λ place. times place (returned ++ p ∷ []) ≡ is_idle (slice_get (set used p None) place)) here
-          (let none : times p returned ≡ 0 = stacked.once p ∙ ap is_idle there in let t = times_here p returned in let one : times p (returned ++ p ∷ []) ≡ 1 = omega arith in one ∙ sym (ap is_idle (get_same used p None (slice_get_within used p (Some c) there)))))
+          (λ here. subst (λ place. times_returned place (returned ++ p ∷ []) ≡ is_idle (slice_get (set used p None) place)) here
+          (let none : times_returned p returned ≡ 0 = stacked.once p ∙ ap is_idle there in let t = times_here p returned in let one : times_returned p (returned ++ p ∷ []) ≡ 1 = omega arith in one ∙ sym (ap is_idle (get_same used p None (slice_get_within used p (Some c) there)))))
           (λ away. times_away p place returned away ∙ (stacked.once place ∙ sym (ap is_idle (get_other used p place None away))));
       counted =
           let s = sum_by-set is_reserved used p None (Some c) (slice_get_within used p (Some c) there) in
@@ -111,5 +111,5 @@ module _ (used : List (Option Cell)) (returned : List ℕ) (stacked : AreStacked
     }
 
 -- the count of reservations stays within its limit
-pub more_few : (ever : ℕ) → ever ≤ MOST_EVER → one_more ever ≤ MOST_EVER
+pub more_few : (ever : ℕ) → ever ≤ MOST_EVER → one_more_ever ever ≤ MOST_EVER
 more_few ever few = grind (arith, nat_tests)

@@ -28,25 +28,25 @@ abbrev pub reserved_in : List (Option Cell) → ℕ
 reserved_in used = sum_by is_reserved used
 
 -- a reservation more, up to 2 ^ 63 of them
-abbrev pub one_more : ℕ → ℕ
-one_more ever = if nat_lt ever MOST_EVER then ever + 1 else ever
+abbrev pub one_more_ever : ℕ → ℕ
+one_more_ever ever = if nat_lt ever MOST_EVER then ever + 1 else ever
 
 -- the cell that was returned last is reserved
 abbrev pub TakesReturned : ℕ → Cell → CellsState → CellsState → Type 0
 TakesReturned place cell s t = (rest : List ℕ) × (s.returned ≡ rest ++ place ∷ [])
-    × (t ≡ record { room = s.room; used = slice_set s.used place (Some cell); returned = rest; ever = one_more s.ever })
+    × (t ≡ record { room = s.room; used = slice_set s.used place (Some cell); returned = rest; ever = one_more_ever s.ever })
 
 -- .. or, where none was returned, the first that was never used
 abbrev pub TakesFresh : ℕ → Cell → CellsState → CellsState → Type 0
 TakesFresh place cell s t = (s.returned ≡ []) × (place ≡ length s.used) × (length s.used < s.room)
-    × (t ≡ record { room = s.room; used = s.used ++ Some cell ∷ []; returned = []; ever = one_more s.ever })
+    × (t ≡ record { room = s.room; used = s.used ++ Some cell ∷ []; returned = []; ever = one_more_ever s.ever })
 
 abbrev pub Reserves : ℕ → Cell → CellsState → CellsState → Type 0
 Reserves place cell s t = TakesReturned place cell s t ⊎ TakesFresh place cell s t
 
 -- how often a place stands among those returned
-abbrev pub times : ℕ → List ℕ → ℕ
-times place returned = sum_by (λ p. cond (p == place) 1 0) returned
+abbrev pub times_returned : ℕ → List ℕ → ℕ
+times_returned place returned = sum_by (λ p. cond (p == place) 1 0) returned
 
 -- 1 where the cell at a place was used and is not reserved
 abbrev pub is_idle : Option (Option Cell) → ℕ
@@ -59,7 +59,7 @@ cells_state c = record { room = c.room; used = c.used.items; returned = c.return
 
 -- each cell that was used is reserved, or stands once on the stack
 pub record AreStacked (used : List (Option Cell)) (returned : List ℕ) : Type 0 where
-  pub once : (place : ℕ) → times place returned ≡ is_idle (slice_get used place)
+  pub once : (place : ℕ) → times_returned place returned ≡ is_idle (slice_get used place)
   pub counted : length returned + reserved_in used ≡ length used
 
 -- .. and there is room for all

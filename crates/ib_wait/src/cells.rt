@@ -1,7 +1,7 @@
 //! The cells of the wait array: a stack of returned cells over cells that were never used.
 
 ghost use Rattle.std.specs.Prelude.{◌≡◌, ◌↔◌, ◌≤◌, ◌++◌, ◌∷◌, [], None, Some, IsErr, IfErr, IfOk, IsSome, length, slice_set};
-ghost use Rattle.ib_wait.specs.Cells.{Reserves, cell_at, one_more, reserved_in};
+ghost use Rattle.ib_wait.specs.Cells.{Reserves, cell_at, one_more_ever, reserved_in};
 
 use ib_levels::Latch;
 use ib_map::OutOfMemory;
@@ -89,7 +89,7 @@ impl Cells {
     {
         if let Some(place) = self.returned.pop() {
             self.used[place] = Some(cell);
-            self.ever = one_more(self.ever);
+            self.ever = one_more_ever(self.ever);
             return Ok(place);
         }
         let place = self.used.len();
@@ -99,7 +99,7 @@ impl Cells {
             });
         }
         self.used.push_reserved(Some(cell));
-        self.ever = one_more(self.ever);
+        self.ever = one_more_ever(self.ever);
         Ok(place)
     }
 
@@ -144,9 +144,9 @@ impl Cells {
 }
 
 // A reservation more.
-fn one_more(ever: u64) -> u64
+fn one_more_ever(ever: u64) -> u64
     requires { ever ≤ MOST_EVER }
-    ensures { result ≡ one_more ever }
+    ensures { result ≡ one_more_ever ever }
 {
     if ever < MOST_EVER { ever + 1 } else { ever }
 }

@@ -1,7 +1,7 @@
 use Rattle.std.proofs.Common.{◌∙◌, ℕ, List, arith, rules, subst, sym}
 use Rattle.std.specs.List.{AllByRecursion}
 use Rattle.ib_core.specs.declared.event.Event.{Event}
-use Rattle.ib_events.specs.Events.{AreEvents, IsInRange, event_fault_behind, event_reading_of, is_event}
+use Rattle.ib_events.specs.Events.{AreEvents, IsEventInRange, event_fault_behind, event_reading_of, is_event}
 use Rattle.ib_edge.proofs.Reached.{reached-none, reached-more, reached-fault, reached-memory, reached-all, lines-cut, lines-end}
 use Rattle.ib_edge.specs.Lines.{lines_of, readings_by}
 use Rattle.ib_events.proofs.EventsInRange.{events-in-range}
@@ -48,6 +48,6 @@ returns-clause-events c = (reached-all event_fault_behind AreEvents (lines-end e
 pub invariant_of-result : goal.invariant_of-result
 invariant_of-result c = (
   c.loop-rest.invariant.few,
-  subst (λ (events : List (ℕ × Event)). AllByRecursion IsInRange events) (sym (reached-all event_fault_behind AreEvents (lines-end event_reading_of c.loop-rest.rest.now (search rules)) c.loop-rest.invariant.reached).1)
+  subst (λ (events : List (ℕ × Event)). AllByRecursion IsEventInRange events) (sym (reached-all event_fault_behind AreEvents (lines-end event_reading_of c.loop-rest.rest.now (search rules)) c.loop-rest.invariant.reached).1)
       (events-in-range (lines_of c.args.bytes.now)),
 )

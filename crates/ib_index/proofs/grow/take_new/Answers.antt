@@ -11,7 +11,7 @@ use Rattle.ib_rule.specs.Pass.{PassState}
 use Rattle.ib_cursor.specs.Claims.{claim_grant}
 use Rattle.ib_cursor.proofs.GrantLaws.{may_grow}
 use Rattle.ib_index.specs.Grows.{HasGrown, HasTakenNew, IsGrowing, held_grant, new_pages, pages_held, space_pages}
-use Rattle.ib_tree.specs.PageLists.{is_among}
+use Rattle.ib_tree.specs.PageLists.{is_listed}
 use Rattle.ib_index.proofs.FreshLaws.{follow-new, length-all, new-inside, new-none, new-other, new-step, take-le}
 use Rattle.ib_index.proofs.GrowLaws.{grow-absent, grow-may}
 use Rattle.ib_index.proofs.grow.take_new.Goals as goal
@@ -61,7 +61,7 @@ pub loop-at-preserved : goal.loop-at-preserved
 loop-at-preserved g c =
     let sizes : Sizes = c.args.mtr.now.latches.now.sizes in let inv = c.loop-at.invariant in
     let page = get_or c.pages-pages.result.now c.loop-at.at 0 in let q : PassState = c.loop-at.mtr.pass.now in let t : PassState = c.take_at.new.mtr.pass.now in
-    let grown = subst (λ (s : Sizes). (key : MapKey) → IsKey key → (path : List ℕ) → (held : List (ℕ × Level)) → IsGrowing s key path held q → is_among (pages_held held) page ≡ false → HasGrown s key path held page PageNew q t) (ap (λ m. m.now.sizes) inv.latches) c.take_at.ensures.grown in
+    let grown = subst (λ (s : Sizes). (key : MapKey) → IsKey key → (path : List ℕ) → (held : List (ℕ × Level)) → IsGrowing s key path held q → is_listed (pages_held held) page ≡ false → HasGrown s key path held page PageNew q t) (ap (λ m. m.now.sizes) inv.latches) c.take_at.ensures.grown in
     record {
       mtr = c.take_at.ensures.mtr;
       latches = c.take_at.ensures.latches ∙ inv.latches;

@@ -8,7 +8,7 @@ use Rattle.ib_layout.specs.Places.{latches_of, writer_place}
 use Rattle.ib_core.specs.declared.latch_word.LatchWord.TheVariants.{Lock}
 use Rattle.ib_core.proofs.InWords.{compatible, word_of_counts}
 use Rattle.ib_rule.specs.declared.view.View.{View}
-use Rattle.ib_rule.specs.Roles.{number_in}
+use Rattle.ib_rule.specs.Roles.{session_number_of}
 use Rattle.ib_rule.specs.Rule.{IsWriter, marks_in}
 use Rattle.ib_rule.specs.Laws.{Stores, sessions_in_state}
 use Rattle.ib_rule.proofs.Turning.{raises_few, readers_few}
@@ -32,10 +32,10 @@ returns-clause-one_next_writer g c sizes s latch i j a b kept at bt next next' =
 pub returns-clause-orderly : goal.returns-clause-orderly
 returns-clause-orderly g c sizes s i a kept at = (kept.latches.good.proper i a at).orderly
 
-found_writer : (latches : ℕ) (words : List ℕ) (v : View) (latch : ℕ) (ks : List ℕ) → AllByRecursion (IsWriter latches words v) ks → Stores latch ks → slice_index words (writer_place latch) ≡ number_in v.role
+found_writer : (latches : ℕ) (words : List ℕ) (v : View) (latch : ℕ) (ks : List ℕ) → AllByRecursion (IsWriter latches words v) ks → Stores latch ks → slice_index words (writer_place latch) ≡ session_number_of v.role
 found_writer latches words v latch [] all stores = absurd stores
 found_writer latches words v latch (k ∷ ks) all stores = ⊎_elim
-    (λ (is : k ≡ latch). subst (λ (k : ℕ). slice_index words (writer_place k) ≡ number_in v.role) is all.0.1)
+    (λ (is : k ≡ latch). subst (λ (k : ℕ). slice_index words (writer_place k) ≡ session_number_of v.role) is all.0.1)
     (λ (rest : Stores latch ks). found_writer latches words v latch ks all.1 rest) stores
 
 pub returns-clause-writer : goal.returns-clause-writer

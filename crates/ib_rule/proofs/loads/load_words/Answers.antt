@@ -8,7 +8,7 @@ use Rattle.ib_rule.specs.declared.view.Role.{Role}
 use Rattle.ib_rule.specs.declared.view.Role.TheVariants.{Session as Seated}
 use Rattle.ib_rule.specs.declared.view.View.{View}
 use Rattle.ib_rule.specs.Loads.{HasLoaded}
-use Rattle.ib_rule.specs.Roles.{number_in}
+use Rattle.ib_rule.specs.Roles.{session_number_of}
 use Rattle.ib_rule.proofs.Loading.{has_none}
 use Rattle.ib_rule.proofs.loads.load_words.Goals as goal
 
@@ -25,7 +25,7 @@ pub load_line-requires-clause-may : goal.load_line-requires-clause-may
 load_line-requires-clause-may g c =
     let same = c.loop-line.invariant.loaded.view in
     record {
-      role = subst (λ (r : Role). r ≡ Seated (number_in r)) (sym (ap (λ (v : View). v.role) same)) c.requires.may.role;
+      role = subst (λ (r : Role). r ≡ Seated (session_number_of r)) (sym (ap (λ (v : View). v.role) same)) c.requires.may.role;
       closed = ap (λ (v : View). v.memory.append) same ∙ c.requires.may.closed;
       held = subst (λ (a : Session). 0 < holdings (c.args.page + 2) a) (sym (ap (λ (v : View). v.session) same)) c.requires.may.held;
       known = c.loop-line.invariant.known;

@@ -5,7 +5,7 @@ use Rattle.ib_patch.specs.declared.position.PagePosition.{PagePosition}
 use Rattle.ib_patch.specs.PatchTest.{set_at}
 use Rattle.ib_patch.specs.Positions.{position_in, positions_of}
 use Rattle.ib_patch.proofs.PositionLaws.{positions_of-set}
-use Rattle.ib_tree.specs.Tests.{root_position, opening_positions}
+use Rattle.ib_tree.specs.Tests.{root_position, root_positions}
 use Rattle.ib_tree.proofs.whole.meet_opening.Goals as goal
 
 pub loop-met-preserved : goal.loop-met-preserved
@@ -21,5 +21,5 @@ loop-met-preserved c =
     positions_of-set c.loop-met.table root (Some position) (omega arith)
     ∙ (ap (λ e. set_at (positions_of c.loop-met.table) root (Some e)) same
     ∙ (ap (λ now. set_at now root (Some (root_position root))) c.loop-met.invariant
-    ∙ (ap (λ r. set_at (opening_positions c.loop-met.met) r (Some (root_position r))) next
-    ∙ ap opening_positions (sym next))))
+    ∙ (ap (λ r. set_at (root_positions c.loop-met.met) r (Some (root_position r))) next
+    ∙ ap root_positions (sym next))))

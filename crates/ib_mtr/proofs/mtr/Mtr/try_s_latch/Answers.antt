@@ -4,7 +4,7 @@ use Rattle.ib_levels.specs.declared.holding.Holding.{Holding}
 use Rattle.ib_levels.specs.declared.level.Mode.TheVariants.{S}
 use Rattle.ib_levels.proofs.Counts.{on-none}
 use Rattle.ib_core.specs.declared.phase.Phase.TheVariants.{Free}
-use Rattle.ib_latch.specs.Tries.{IsTaken}
+use Rattle.ib_latch.specs.Tries.{HasTakenGrant}
 use Rattle.ib_latch.proofs.Claims.{held_first}
 use Rattle.ib_mtr.proofs.Keeping.{granted, memo_room, refused}
 use Rattle.ib_mtr.proofs.mtr.Mtr.try_s_latch.Goals as goal
@@ -20,6 +20,6 @@ remember-requires-clause-room g c =
 pub returns-clause-mtr : goal.returns-clause-mtr
 returns-clause-mtr g c =
     let l = c.args.latch.0 in let a = c.args.self.now.pass.now.view.session in let v = c.args.level in
-    let taken = subst (λ (held : List Holding). IsTaken S held Free c.args.self.now.pass.now.view c.try_s.new.pass.view) (sym (held_first S l v a (on-none l (λ h. h.sx + h.x) a.held c.requires.may.none))) (c.in_ok-try_s.ensures.taken refl) in
+    let taken = subst (λ (held : List Holding). HasTakenGrant S held Free c.args.self.now.pass.now.view c.try_s.new.pass.view) (sym (held_first S l v a (on-none l (λ h. h.sx + h.x) a.held c.requires.may.none))) (c.in_ok-try_s.ensures.taken refl) in
     granted c.args.self.now.latches.now c.args.self.now.pass.now c.try_s.new.pass c.remember.new.self S c.args.latch c.args.level c.requires.mtr c.requires.latch
     c.try_s.ensures.same taken c.remember.ensures.session c.remember.ensures.more

@@ -1,5 +1,5 @@
 use Rattle.std.proofs.Common.{ap, sym, ◌∙◌}
-use Rattle.ib_rule.specs.Roles.{number_in}
+use Rattle.ib_rule.specs.Roles.{session_number_of}
 use Rattle.ib_rule.specs.Space.{SpaceState}
 use Rattle.ib_rule.specs.Pass.{PassState}
 use Rattle.ib_rule.proofs.Moves.{store_allowed_at}
@@ -13,4 +13,4 @@ act-requires-clause-allowed g c =
     (rw c.pass.invariant.role (λ e. absurd (cc)))
     (rw mine c.requires.own.closed)
     (rw mine c.requires.claims)
-    (c.from.ensures ∙ sym (ap number_in c.pass.invariant.role))
+    (c.from.ensures ∙ sym (ap session_number_of c.pass.invariant.role))

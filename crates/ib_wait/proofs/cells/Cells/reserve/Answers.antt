@@ -21,7 +21,7 @@ invariant_of-self c =
       few = let f = is.few in omega arith;
       used_room = is.used_room;
       returned_room = let r = is.returned_room in let k = c.in-Some.ensures.capacity in omega arith;
-      ever = subst (λ (n : ℕ). n ≤ MOST_EVER) (sym c.one_more-self-inside.ensures) (more_few c.self.inside.ever is.ever);
+      ever = subst (λ (n : ℕ). n ≤ MOST_EVER) (sym c.one_more_ever-self-inside.ensures) (more_few c.self.inside.ever is.ever);
     }
 
 pub invariant_of-self-2 : goal.invariant_of-self-2
@@ -31,5 +31,5 @@ invariant_of-self-2 c =
       few = let f = is.few in let n = c.push_reserved.ensures.len in let p = c.len-place.ensures in let d = c.if-place-self.false in omega arith;
       used_room = let r = is.used_room in let k = c.push_reserved.ensures.capacity in omega arith;
       returned_room = let r = is.returned_room in let k = c.in_default.ensures.capacity in omega arith;
-      ever = subst (λ (n : ℕ). n ≤ MOST_EVER) (sym c.one_more-self-inside-2.ensures) (more_few c.self.inside.ever is.ever);
+      ever = subst (λ (n : ℕ). n ≤ MOST_EVER) (sym c.one_more_ever-self-inside-2.ensures) (more_few c.self.inside.ever is.ever);
     }
