@@ -65,6 +65,7 @@ fn give(rt: &impl Abort, space: &Space<AnyLaw>, pass: &mut Pass, latch: Latch)
 fn read_owned(space: &Space<AnyLaw>, pass: &mut Pass) -> Image
     requires own { IsOf space.now pass.old }
     requires page { 3 < space.now.sizes.pages }
+    requires free { pass.old.view.session.phase ≡ Free }
     requires frame { 0 < x_grants 5 pass.old.view.session }
     ensures own { IsOf space.now pass.new }
     ensures scratch { pass.new.has_scratch ≡ pass.old.has_scratch }
@@ -81,6 +82,7 @@ fn read(rt: &impl Abort, space: &Space<AnyLaw>, pass: &mut Pass) -> Image
 {
     assert!(rt; PAGE < space.geometry().pages());
     assert!(rt; pass.counts(FRAME).x > 0);
+    assert!(rt; pass.phase() == Phase::Free);
     read_owned(space, pass)
 }
 
@@ -138,7 +140,7 @@ fn commit(
     ensures scratch { pass.new.has_scratch ≡ pass.old.has_scratch }
 {
     let work = work_on(rt, alloc, before, changed);
-    let count = work.difference_count();
+    let count = work.changed();
     assert!(rt; count > 0);
     assert!(rt; count <= 128);
     let structural = work.write_into(&mut [0; 256]).structural;
@@ -149,6 +151,17 @@ fn commit(
     assert!(rt; pass.counts(FRAME).x > 0);
     assert!(rt; pass.made() < 1000);
     append_change(space, pass, before, changed, &work).expect(rt, "there is room")
+}
+
+// A word of the log as it lies in the table, below the end that was seen.
+fn log_word(rt: &impl Abort, space: &Space<AnyLaw>, pass: &mut Pass, number: u32) -> u64
+    requires own { IsOf space.now pass.old }
+    ensures own { IsOf space.now pass.new }
+    ensures scratch { pass.new.has_scratch ≡ pass.old.has_scratch }
+{
+    assert!(rt; number < pass.used());
+    assert!(rt; pass.phase() == Phase::Free);
+    space.load_log_word(pass, number)
 }
 
 fn is_same(one: &Image, other: &Image) -> bool {
@@ -171,8 +184,13 @@ fn a_page_is_changed_twice(rt: HostRuntime) {
         assert!(rt; u64::from(place) == round);
         assert!(rt; is_same(&read(&rt, &space, &mut pass), &image));
     }
+    assert!(rt; pass.phase() == Phase::Free);
     let end = log_end(&space, &mut pass);
     assert_eq!(rt; (end.entries, end.words, pass.made()), (2, 12, 2));
+    let mut log = [0; 12];
+    for (number, word) in log.iter_mut().enumerate() {
+        *word = log_word(&rt, &space, &mut pass, number as u32);
+    }
     give(&rt, &space, &mut pass, LOG);
     give(&rt, &space, &mut pass, FRAME);
     assert!(rt; pass.is_idle());
@@ -185,4 +203,5 @@ fn a_page_is_changed_twice(rt: HostRuntime) {
         }
     };
     assert!(rt; is_same(&closed.page(PAGE), &image));
+    assert_eq!(rt; closed.log(), log.as_slice());
 }

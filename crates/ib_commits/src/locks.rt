@@ -2,7 +2,7 @@
 
 ghost use Rattle.std.specs.Prelude.{◌<◌};
 ghost use Rattle.ib_layout.specs.Places.{latches_of};
-ghost use Rattle.ib_latch.specs.Tries.{MayClaim};
+ghost use Rattle.ib_rule.specs.Conditions.{MayClaim};
 ghost use Rattle.ib_rule.specs.Conditions.{MayGrow};
 
 use crate::memos::{come, give, smallest};
@@ -63,5 +63,6 @@ fn each_mode_is_waited_for(rt: HostRuntime) {
     mtr.finish();
     assert_eq!(rt; one.grants_held(), 0);
     table.disconnect(one);
+    assert_eq!(rt; table.connected(), 0);
     table.discard();
 }

@@ -108,6 +108,7 @@ fn a_memo_in_order_of_taking(rt: HostRuntime) {
     mtr.finish();
     assert_eq!(rt; (one.grants_held(), one.grants_taken().s), (0, 3));
     table.disconnect(one);
+    assert_eq!(rt; table.connected(), 0);
     table.discard();
 }
 
@@ -125,5 +126,6 @@ fn a_page_leaves_with_its_latch(rt: HostRuntime) {
     assert_eq!(rt; (mtr.image(1).is_none(), mtr.savepoint()), (true, 0));
     mtr.finish();
     table.disconnect(one);
+    assert_eq!(rt; table.connected(), 0);
     table.discard();
 }

@@ -4,7 +4,7 @@ use Rattle.std.specs.Prelude.{◌==◌, not, ◌||◌, nat_lt, filter, slice_get
 use Rattle.std.proofs.Common.{◌≡◌, ◌≢◌, inl, inr, ℕ, zero, suc, ◌+◌, ◌<◌, ◌≤◌, Bool, true, false, List, [], ◌∷◌, ◌++◌, map, Some, None, length, refl, sym, ap, subst, ◌∙◌, arith, append_assoc, eq-eqb, ne_eqb}
 use Rattle.std.proofs.lemmas.Option.{get_or_from_slice_get, slice_get_within}
 use Rattle.std.proofs.lemmas.Bool.{cases_Bool}
-use Rattle.ib_map.specs.Keys.{end_rank}
+use Rattle.ib_map.specs.Keys.{MapKey, rank, end_rank}
 use Rattle.ib_map.specs.Writes.{touches, word_place}
 use Rattle.ib_map.specs.declared.TheConstants.{PAGE_WORDS}
 use Rattle.ib_levels.specs.declared.latch.Latch.{Latch}
@@ -43,13 +43,14 @@ use Rattle.ib_map.proofs.WriteLaws.{page_at-word}
 use Rattle.ib_mtr.specs.Mtr.{IsReleasedAt, released_at}
 use Rattle.ib_cursor.specs.Grants.{Grant, memo_of, page_grant, HasGrants, HasTaken, IsAway}
 use Rattle.ib_cursor.specs.Going.{HasSeen}
-use Rattle.ib_cursor.specs.Descent.{HasPage}
+use Rattle.ib_cursor.specs.Descent.{HasPage, HasDescended}
 use Rattle.ib_cursor.specs.Nexts.{HoldsLeaf, HoldsNext}
 use Rattle.ib_cursor.proofs.StandLaws.{went_beside, went_both, known_beside, beside_taken}
 use Rattle.ib_cursor.proofs.GrantLaws.{HasGiven, away-none, away_left, away_append, none_away, last_held, grants_more, given, grants_left, released_is}
 use Rattle.ib_cursor.specs.Laws.{Laws}
 use Rattle.ib_cursor.proofs.LogLaws.{tree_of-log, range_stays, bit_inside}
-use Rattle.ib_cursor.proofs.WayLaws.{IsIn, stands}
+use Rattle.ib_cursor.proofs.WayLaws.{IsIn, stands, met_on-way}
+use Rattle.ib_cursor.proofs.DownLaws.{leaf_way}
 use Rattle.ib_cursor.proofs.PageLaws.{IsTreeImage, tree_image}
 
 -- a leaf among the leaves
@@ -218,6 +219,29 @@ absent_in leaf next image other = let none = ne_eqb leaf next (λ e. other (sym 
 
 pub there_in : (leaf : ℕ) (image : List ℕ) → changed_of leaf (record { page = leaf; before = image; changed = image } ∷ []) ≡ Some image
 there_in leaf image = let yes = eq-eqb leaf leaf refl in rw yes refl
+
+-- a reader who has descended holds the leaf with its range, alone: the step to the next may begin there
+pub holds_end : (sizes : Sizes) (roots : ℕ) (lawful : List Entry → Type 0) (opening : ℕ → ℕ) (laws : Laws sizes.pages roots lawful opening) (root : ℕ) (some : 0 < root) (le : root ≤ roots) (key : MapKey) (lt : rank key < end_rank)
+    (path : List ℕ) (p q : PassState) (end : HasDescended sizes lawful opening root key false path p q) → (r : PageRange) × HoldsLeaf sizes lawful opening roots [] end.come.leaf end.image r q
+holds_end sizes roots lawful opening laws root some le key lt path p q end =
+    let m : PageMemory = pages_after opening q.view.memory.seen in
+    let leaf : ℕ = end.come.leaf in
+    let way = leaf_way sizes roots lawful opening laws root some le key lt false path p q end.come in
+    let a = met_on-way m root (tree_of-log sizes.pages roots lawful opening laws root some le q.view.memory.seen end.come.known.legal) key lt leaf 0 way in
+    let same : a.visit ≡ record { page = leaf; low = a.visit.low; high = a.visit.high } = ap (λ (n : ℕ). let w : Visit = record { page = n; low = a.visit.low; high = a.visit.high } in w) a.here in (
+      record { root = root; low = a.visit.low; end = a.visit.high; level = 0 },
+      record {
+        grants = end.come.grants;
+        once = tt;
+        watched = end.come.watched;
+        work = end.work;
+        size = end.size;
+        is_page = end.is_page;
+        known = end.come.known;
+        lowest = refl;
+        met = (some, le, subst (λ u. 0 < weight_of (counts_visit 0 u) m root) same a.met);
+      },
+    )
 
 -- the step
 module _ (sizes : Sizes) (roots : ℕ) (lawful : List Entry → Type 0) (opening : ℕ → ℕ) (laws : Laws sizes.pages roots lawful opening) (front : List Grant) (leaf : ℕ) (image : List ℕ) (r : PageRange) (p : PassState)

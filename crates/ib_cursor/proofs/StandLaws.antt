@@ -17,12 +17,13 @@ use Rattle.ib_logrec.specs.Log.{used}
 use Rattle.ib_rule.specs.declared.memory.Knowledge.{Knowledge}
 use Rattle.ib_rule.specs.declared.view.Role.{Role}
 use Rattle.ib_rule.specs.declared.view.Role.TheVariants.{Session as SessionRole}
+use Rattle.ib_rule.specs.Conditions.{MayClaim}
 use Rattle.ib_rule.specs.Memory.{entries_of}
 use Rattle.ib_rule.specs.Pass.{PassState, with_view}
 use Rattle.ib_rule.specs.Roles.{session_number_of}
 use Rattle.ib_rule.specs.Views.{is_watched}
 use Rattle.ib_rule.proofs.Watching.{untouched, watched_after}
-use Rattle.ib_latch.specs.Tries.{HasTakenGrant, MayClaim, held_with}
+use Rattle.ib_latch.specs.Tries.{HasTakenGrant, held_with}
 use Rattle.ib_frames.specs.Reads.{with_page_loaded}
 use Rattle.ib_mtr.specs.Loads.{HasLoadedPage, HasLooked}
 use Rattle.ib_mtr.specs.Mtr.{with_memo}

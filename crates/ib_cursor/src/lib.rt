@@ -14,7 +14,7 @@ mod siblings;
 mod stands;
 
 pub use claim::descend_to_insert;
-pub use descent::{descend, descend_at};
+pub use descent::{descend, descend_at, descend_nowait};
 pub use fault::NowaitFault;
 pub use lookup::{find, find_nowait};
 pub use next::next_leaf;

@@ -113,6 +113,7 @@ pub fn read<L: Law, S: Sleep>(mtr: &mut Mtr<'_, L, S>, page: u32)
     ensures grants { mtr.new.pass.now.view.grants ≡ mtr.old.pass.now.view.grants }
     ensures loaded { HasPage (by_place L.opening mtr.old.latches.now.sizes.pages) page
         mtr.old.pass.now mtr.new.pass.now }
+    ensures looks { mtr.new.pass.now.view.looks ≡ mtr.old.pass.now.view.looks }
 {
     // The session's entries are those of its number.
     let _ = mtr.pass().number();

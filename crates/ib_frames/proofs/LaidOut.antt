@@ -1,5 +1,5 @@
 -- The entry that a pass lays out: it stands at the front of its words, and may be written.
-use Rattle.std.proofs.Common.{◌≡◌, ℕ, ◌+◌, ◌*◌, ◌<◌, ◌≤◌, List, [], ◌∷◌, ◌++◌, take, drop, length, refl, sym, ap, ◌∙◌, subst, arith, get_or, length-append, length-drop}
+use Rattle.std.proofs.Common.{◌≡◌, true, ℕ, ◌+◌, ◌*◌, ◌<◌, ◌≤◌, List, [], ◌∷◌, ◌++◌, take, drop, length, refl, sym, ap, ◌∙◌, subst, arith, get_or, length-append, length-drop}
 use Rattle.std.specs.Prelude.{slice_index, Option, None}
 use Rattle.std.proofs.Math.ListN.{get_or-append}
 use Rattle.std.proofs.lemmas.List.{take_at}
@@ -14,7 +14,7 @@ use Rattle.ib_page.specs.Writes.{writes_of}
 use Rattle.ib_levels.proofs.Counts.{on-add}
 use Rattle.ib_layout.specs.Geometry.{Sizes}
 use Rattle.ib_core.specs.declared.session.Session.{Session as CoreSession}
-use Rattle.ib_core.specs.Sessions.{claims, sx_grants}
+use Rattle.ib_core.specs.Sessions.{claims, sx_grants, x_grants}
 use Rattle.ib_logrec.specs.declared.entry.Entry.{Entry}
 use Rattle.ib_logrec.specs.declared.entry.TheConstants.{HEAD_WORDS, MOST_WRITES}
 use Rattle.ib_logrec.specs.Words.{words_of_entry, entry_in}
@@ -79,6 +79,8 @@ module _ (sizes : Sizes) (lawful : List Entry → Type 0) (p : PassState) (chang
   may_store words role closed room spelled =
       let is : entry_in words ≡ entry_for p change pages = spelled_entry (entry_for p change pages) words in_grammar.most_writes spelled in record {
         spelled = subst (λ (e : Entry). IsPrefix (words_of_entry e) words) (sym is) spelled;
+        longest = room;
+        index = subst (λ (e : Entry). e.structural ≡ true → (0 < sx_grants 1 p.view.session) × (x_grants 1 p.view.session ≡ 0)) (sym is) may.index;
         ready = subst (λ (e : Entry). IsReady sizes lawful p.view e) (sym is) record {
           fits = record {
             named = sym (ap session_number_of role);

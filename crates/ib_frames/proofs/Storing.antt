@@ -1,5 +1,5 @@
 -- The loops of an append.
-use Rattle.std.proofs.Common.{◌≡◌, ℕ, suc, ◌+◌, ◌<◌, ⊎_elim, true, false, eqb, eq-eqb, List, [], ◌∷◌, length, get_or, refl, sym, ap, ◌∙◌, subst, arith}
+use Rattle.std.proofs.Common.{◌≡◌, ℕ, suc, ◌+◌, ◌<◌, ◌≤◌, ⊎_elim, true, false, eqb, eq-eqb, List, [], ◌∷◌, length, get_or, refl, sym, ap, ◌∙◌, subst, arith}
 use Rattle.std.specs.Prelude.{◌||◌, Option, Some, None}
 use mathlib.Core.List.{IsPrefix}
 use mathlib.Core.Logic.{dite}
@@ -9,7 +9,10 @@ use Rattle.ib_map.specs.Writes.{page_at, index_at, word_place, stored, writes_at
 use Rattle.ib_map.proofs.WriteLaws.{writes_at-get, stored-written}
 use Rattle.ib_layout.specs.Geometry.{Sizes}
 use Rattle.ib_logrec.specs.declared.entry.Entry.{Entry}
+use Rattle.ib_core.specs.Sessions.{sx_grants, x_grants}
 use Rattle.ib_logrec.specs.Words.{words_of_entry, entry_in}
+use Rattle.ib_logrec.specs.Log.{used}
+use Rattle.ib_rule.specs.declared.pass.TheConstants.{ENTRY_WORDS}
 use Rattle.ib_rule.specs.declared.memory.Loaded.{Loaded}
 use Rattle.ib_rule.specs.declared.memory.OpenAppend.{OpenAppend}
 use Rattle.ib_rule.specs.declared.view.View.{View}
@@ -79,6 +82,8 @@ during_may sizes lawful start now d may =
     let words : now.words ≡ start.words = ap (λ (p : PassState). p.words) d.same in
     let view : now.view ≡ storing now.view.memory.loaded now.view.memory.append start.view = ap (λ (p : PassState). p.view) d.same in record {
       spelled = subst (λ (ws : List ℕ). IsPrefix (words_of_entry (entry_in ws)) ws) (sym words) may.spelled;
+      longest = subst (λ (v : View). used v.memory.seen + ENTRY_WORDS ≤ sizes.log_words) (sym view) may.longest;
+      index = subst (λ (z : View × List ℕ). (entry_in z.1).structural ≡ true → (0 < sx_grants 1 z.0.session) × (x_grants 1 z.0.session ≡ 0)) (λ j. (sym view j, sym words j)) may.index;
       ready = subst (λ (z : View × List ℕ). IsReady sizes lawful z.0 (entry_in z.1)) (λ j. (sym view j, sym words j)) record { fits = may.ready.fits; watch = may.ready.watch; begins = d.begins };
     }
 

@@ -1,8 +1,9 @@
 //! A page read whole, and a look at the log's end.
 
-ghost use Rattle.std.specs.Prelude.{◌≡◌, ℕ, ◌+◌, ◌*◌, ◌<◌, length, slice_index};
+ghost use Rattle.std.specs.Prelude.{◌≡◌, ℕ, ◌+◌, ◌<◌, length, slice_index};
 ghost use Rattle.ib_map.specs.declared.TheConstants.{PAGE_WORDS};
 ghost use Rattle.ib_map.specs.Writes.{word_place};
+ghost use Rattle.ib_core.specs.declared.phase.Phase.TheVariants.{Free};
 ghost use Rattle.ib_core.specs.Sessions.{holdings};
 ghost use Rattle.ib_logrec.specs.Log.{by_place, memory_after, used};
 ghost use Rattle.ib_rule.specs.Pass.{IsFrom, IsOf, with_view};
@@ -14,13 +15,14 @@ use ib_logrec::Law;
 use ib_page::Image;
 use ib_rule::{Pass, Space};
 
-/// Reads a page that the session holds in some mode, as buf0buf gives a frame under its latch: its
+/// Reads a page that the session holds in some mode, in the middle of nothing, as buf0buf gives a frame under its latch: its
 /// words, which go straight into `out`, and then the log's end. The words are those of the page after
 /// all entries that the session has seen then. Others may have appended in between, but could write
 /// no word of this page. Where the session has changed the page, its own entries count as well.
 pub fn read_page<L: Law>(space: &Space<L>, pass: &mut Pass, page: u32, out: &mut Image)
     requires own { IsOf space.now pass.old }
     requires page { page < space.now.sizes.pages }
+    requires free { pass.old.view.session.phase ≡ Free }
     requires held { 0 < holdings (page + 2) pass.old.view.session }
     ensures words { (index : ℕ) → index < PAGE_WORDS → slice_index out.new index
         ≡ memory_after (by_place L.opening space.now.sizes.pages) pass.new.view.memory.seen
@@ -48,7 +50,8 @@ pub struct LogEnd {
 /// log then. Of what others appended since its last look nothing conflicts with a latch that it has
 /// held since then, and what it loaded of the pages that it holds is right still.
 pub fn log_end<L: Law>(space: &Space<L>, pass: &mut Pass) -> LogEnd
-    requires { IsFrom space.now pass.old }
+    requires own { IsFrom space.now pass.old }
+    requires free { pass.old.view.session.phase ≡ Free }
     ensures entries { result.entries ≡ length pass.new.view.memory.seen }
     ensures words { result.words ≡ used pass.new.view.memory.seen }
     ensures view { pass.new

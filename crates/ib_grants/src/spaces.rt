@@ -3,7 +3,9 @@
 ghost use Rattle.std.specs.Prelude.{◌≡◌, []};
 
 use ib_layout::Geometry;
+use ib_levels::{Latch, Mode};
 use ib_logrec::AnyLaw;
+use ib_page::Image;
 use ib_rule::Space;
 use std::alloc::Global;
 use std::process::Abort;
@@ -36,4 +38,23 @@ fn a_space_opens_and_closes_with_an_empty_log(rt: HostRuntime) {
     };
     assert_eq!(rt; (closed.sessions(), closed.log().len()), (2, 0));
     assert_eq!(rt; closed.page(1).word(0), 0);
+}
+
+#[test]
+fn the_scratch_comes_back_emptied(rt: HostRuntime) {
+    let mut space = smallest(&rt, rt.alloc());
+    let mut one = space.connect(rt.alloc()).expect(&rt, "a session");
+    let mut scratch = one.take_scratch();
+    assert!(rt; scratch.work.is_empty());
+    assert!(rt; scratch.memo.is_empty());
+    scratch.work.add(3, &Image::leaf(0));
+    // There is room, so the call does not fail.
+    let _ = scratch.memo.push((Latch::INDEX, Mode::S));
+    one.put_scratch(scratch);
+    let scratch = one.take_scratch();
+    assert!(rt; scratch.work.is_empty());
+    assert!(rt; scratch.memo.is_empty());
+    one.put_scratch(scratch);
+    space.disconnect(one);
+    space.discard();
 }

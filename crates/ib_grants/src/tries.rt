@@ -6,7 +6,7 @@ ghost use Rattle.ib_core.specs.declared.phase.Phase.TheVariants.{Free};
 ghost use Rattle.ib_levels.specs.declared.level.Level.TheVariants.{TreeNode};
 ghost use Rattle.ib_rule.specs.Conditions.{MayGrow};
 ghost use Rattle.ib_rule.specs.Pass.{IsOf};
-ghost use Rattle.ib_latch.specs.Tries.{MayClaim};
+ghost use Rattle.ib_rule.specs.Conditions.{MayClaim};
 
 use ib_core::Phase;
 use ib_latch::{Latches, NoSleep, NotReady, Reserve, Sleep, TryFault};
@@ -227,6 +227,7 @@ fn readers_and_sx(rt: HostRuntime) {
     leave(&rt, &mut table, one);
     leave(&rt, &mut table, two);
     leave(&rt, &mut table, three);
+    assert_eq!(rt; table.connected(), 0);
     table.discard();
 }
 
@@ -260,6 +261,7 @@ fn the_next_writer(rt: HostRuntime) {
     leave(&rt, &mut table, one);
     leave(&rt, &mut table, two);
     leave(&rt, &mut table, three);
+    assert_eq!(rt; table.connected(), 0);
     table.discard();
 }
 
@@ -286,6 +288,7 @@ fn an_upgrade_past_a_reader(rt: HostRuntime) {
     assert_eq!(rt; word(&rt, &table, &mut one, PAGE), LockWord::FREE);
     leave(&rt, &mut table, one);
     leave(&rt, &mut table, two);
+    assert_eq!(rt; table.connected(), 0);
     table.discard();
 }
 
@@ -302,6 +305,7 @@ fn there_are_1024_sessions(rt: HostRuntime) {
         Err(ConnectFault::OutOfMemory) => panic!(rt; "there is memory"),
         Ok(pass) => leave(&rt, &mut table, pass),
     }
+    assert_eq!(rt; table.connected(), 0);
     assert_eq!(rt; table.connected(), 0);
     table.discard();
 }

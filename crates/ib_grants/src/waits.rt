@@ -1,15 +1,14 @@
 //! The worked table of one that arms itself, sessions that sleep until they are woken, and four
 //! threads that lock one latch in every mode.
 
-ghost use Rattle.std.specs.Prelude.{◌≡◌, ℕ, ◌<◌};
-ghost use Rattle.ib_layout.specs.Places.{latches_of};
-ghost use Rattle.ib_levels.specs.declared.level.Level.{Level};
+ghost use Rattle.std.specs.Prelude.{◌≡◌, ◌<◌};
 ghost use Rattle.ib_levels.specs.declared.level.Mode.{Mode};
 ghost use Rattle.ib_core.specs.declared.phase.Phase.TheVariants.{Flagged};
 ghost use Rattle.ib_rule.specs.Pass.{IsOf};
 
 use crate::tries::{
-    NODE, PAGE, come, finish, is_ready, leave, may_claim, smallest, un_s, un_sx, un_x, word, x,
+    NODE, PAGE, busy, come, finish, is_ready, leave, may_claim, ready, reserve, s, smallest, sx,
+    un_s, un_sx, un_x, word, write, x,
 };
 use ib_core::Phase;
 use ib_latch::{Latches, Parkers, Reserve, TryFault};
@@ -81,6 +80,73 @@ fn who_is_armed_misses_no_release(rt: HostRuntime) {
     assert_eq!(rt; arm(&rt, &table, &mut two, Mode::X), 1);
     assert_eq!(rt; recheck(&rt, &table, &mut two), Ok(Reserve::Owned));
     un_x(&rt, &table, &mut two, PAGE);
+    leave(&rt, &mut table, one);
+    leave(&rt, &mut table, two);
+    finish(&rt, rt.alloc(), table, 2);
+}
+
+#[test]
+fn each_session_has_a_sleeper(rt: HostRuntime) {
+    let mut table: Table = smallest(&rt, rt.alloc());
+    assert_eq!(rt; table.sleepers(), 0);
+    let one = come(&rt, rt.alloc(), &mut table);
+    assert_eq!(rt; table.sleepers(), 1);
+    let two = come(&rt, rt.alloc(), &mut table);
+    assert_eq!(rt; table.sleepers(), 2);
+    leave(&rt, &mut table, one);
+    leave(&rt, &mut table, two);
+    finish(&rt, rt.alloc(), table, 2);
+}
+
+// The wish is granted at once, though the flag was set for it. It is answered which generation was recorded.
+fn armed_in_vain(rt: &impl Abort, table: &Table, pass: &mut Pass) -> u64
+    requires own { IsOf table.now pass.old }
+    ensures own { IsOf table.now pass.new }
+    ensures scratch { pass.new.has_scratch ≡ pass.old.has_scratch }
+{
+    let generation = arm(rt, table, pass, Mode::S);
+    assert_eq!(rt; recheck(rt, table, pass), Ok(Reserve::Owned));
+    un_s(rt, table, pass, PAGE);
+    generation
+}
+
+// Takes the latch in every mode and is refused it, and each release finds nobody who waits.
+fn every_mode(rt: &impl Abort, table: &Table, one: &mut Pass, two: &mut Pass)
+    requires one { IsOf table.now one.old }
+    requires two { IsOf table.now two.old }
+    ensures one { IsOf table.now one.new × (one.new.has_scratch ≡ one.old.has_scratch) }
+    ensures two { IsOf table.now two.new × (two.new.has_scratch ≡ two.old.has_scratch) }
+{
+    assert_eq!(rt; x(rt, table, one, PAGE), Ok(()));
+    assert_eq!(rt; s(rt, table, two, PAGE), busy(0));
+    un_x(rt, table, one, PAGE);
+    assert_eq!(rt; sx(rt, table, two, PAGE), Ok(()));
+    assert_eq!(rt; s(rt, table, one, PAGE), Ok(()));
+    let next = Reserve::Next {
+        word: LockWord(-268_435_457),
+    };
+    assert_eq!(rt; reserve(rt, table, two, PAGE), Ok(next));
+    un_s(rt, table, one, PAGE);
+    assert_eq!(rt; ready(rt, table, two, PAGE), Ok(()));
+    un_x(rt, table, two, PAGE);
+    un_sx(rt, table, two, PAGE);
+}
+
+#[test]
+fn who_releases_raises_nothing_where_nobody_waits(rt: HostRuntime) {
+    let mut table: Table = smallest(&rt, rt.alloc());
+    let mut one = come(&rt, rt.alloc(), &mut table);
+    let mut two = come(&rt, rt.alloc(), &mut table);
+    every_mode(&rt, &table, &mut one, &mut two);
+    assert_eq!(rt; armed_in_vain(&rt, &table, &mut two), 0);
+    // The flag is set: the next release of X clears it, and raises the generation once.
+    write(&rt, &table, &mut one, PAGE);
+    every_mode(&rt, &table, &mut one, &mut two);
+    write(&rt, &table, &mut one, PAGE);
+    assert_eq!(rt; armed_in_vain(&rt, &table, &mut two), 1);
+    assert_eq!(rt; armed_in_vain(&rt, &table, &mut two), 1);
+    write(&rt, &table, &mut one, PAGE);
+    assert_eq!(rt; armed_in_vain(&rt, &table, &mut two), 2);
     leave(&rt, &mut table, one);
     leave(&rt, &mut table, two);
     finish(&rt, rt.alloc(), table, 2);

@@ -1,8 +1,8 @@
 //! The words of the twelve states, and takings and givings as sessions make them.
 
 use ib_word::{
-    LockWord, WordState, again_x, classify, from_cell, give_x, is_drained, take_s, take_sx, take_x,
-    to_cell, upgrade_x,
+    LockWord, WordState, again_x, classify, from_cell, give_x, is_drained, owes_ex, take_s,
+    take_sx, take_x, to_cell, upgrade_x,
 };
 
 #[test]
@@ -39,6 +39,9 @@ fn upgrade_past_a_reader(rt: HostRuntime) {
     );
     assert!(rt; !is_drained(LockWord(-268_435_457)));
     assert!(rt; is_drained(LockWord(-268_435_456)));
+    assert!(rt; !owes_ex(LockWord(-268_435_457)));
+    assert!(rt; owes_ex(LockWord(-268_435_456)));
+    assert!(rt; owes_ex(LockWord(0)));
 }
 
 #[test]

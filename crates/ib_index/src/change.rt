@@ -1,12 +1,11 @@
 //! The changes of the index: the key's leaf alone where that is enough, else the tree.
 
-ghost use Rattle.std.specs.Prelude.{◌≡◌, ◌+◌, ◌≤◌, ◌^◌, IsTrue};
-ghost use Rattle.ib_core.specs.Sessions.{idle};
+ghost use Rattle.std.specs.Prelude.{◌+◌, ◌≤◌, ◌^◌};
 ghost use Rattle.ib_map.specs.declared.call.Call.TheVariants.{Delete, Insert};
 ghost use Rattle.ib_logrec.specs.Log.{by_place};
 ghost use Rattle.ib_tree.specs.TreeLog.{opening};
 ghost use Rattle.ib_kept.specs.Kept.{IsKeptLog};
-ghost use Rattle.ib_rule.specs.Pass.{IsOf};
+ghost use Rattle.ib_rule.specs.Pass.{IsAtRest};
 ghost use Rattle.ib_rule.specs.Views.{total};
 ghost use Rattle.ib_index.specs.Calls.{HasCalled};
 ghost use Rattle.ib_index.specs.Changes.{TakesFewUnless};
@@ -29,13 +28,9 @@ pub(crate) fn insert<R: Wait>(
     key: Key,
     value: u64,
 ) -> Record
-    requires own { IsOf latches.now pass.old }
-    requires idle { pass.old.view.session ≡ idle }
-    requires scratch { IsTrue pass.old.has_scratch }
+    requires rest { IsAtRest latches.now pass.old }
     requires room { total pass.old.view.grants + 16384 ≤ 2 ^ 52 }
-    ensures own { IsOf latches.now pass.new }
-    ensures idle { pass.new.view.session ≡ idle }
-    ensures scratch { IsTrue pass.new.has_scratch }
+    ensures rest { IsAtRest latches.now pass.new }
     ensures called { HasCalled latches.now.sizes (IsKeptLog latches.now.sizes.pages)
         (by_place opening latches.now.sizes.pages) (Insert key value) result pass.old pass.new }
     ensures grants { TakesFewUnless latches.now.sizes (IsFullFor key) key result.reply pass.old pass.new }
@@ -53,13 +48,9 @@ pub(crate) fn delete<R: Wait>(
     pass: &mut Pass,
     key: Key,
 ) -> Record
-    requires own { IsOf latches.now pass.old }
-    requires idle { pass.old.view.session ≡ idle }
-    requires scratch { IsTrue pass.old.has_scratch }
+    requires rest { IsAtRest latches.now pass.old }
     requires room { total pass.old.view.grants + 16384 ≤ 2 ^ 52 }
-    ensures own { IsOf latches.now pass.new }
-    ensures idle { pass.new.view.session ≡ idle }
-    ensures scratch { IsTrue pass.new.has_scratch }
+    ensures rest { IsAtRest latches.now pass.new }
     ensures called { HasCalled latches.now.sizes (IsKeptLog latches.now.sizes.pages)
         (by_place opening latches.now.sizes.pages) (Delete key) result pass.old pass.new }
     ensures grants { TakesFewUnless latches.now.sizes (IsShortFor key) key result.reply pass.old pass.new }

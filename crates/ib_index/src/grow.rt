@@ -1,10 +1,9 @@
 //! The insert that changes the tree's structure.
 
-ghost use Rattle.std.specs.Prelude.{◌≡◌, ◌≢◌, ℕ, ◌+◌, ◌<◌, ◌≤◌, ◌^◌, List, [], ◌∷◌, ◌++◌, Some, None, length, true, false, IfOk, IfErr, IsTrue, MatchResult, Result};
+ghost use Rattle.std.specs.Prelude.{◌≡◌, ◌≢◌, ℕ, ◌+◌, ◌<◌, ◌≤◌, ◌^◌, List, [], ◌∷◌, ◌++◌, Some, None, length, true, false, IfOk, IfErr, MatchResult, Result};
 ghost use Rattle.ib_map.specs.Keys.{MapKey, IsKey};
 ghost use Rattle.ib_map.specs.Pairs.{value_at};
 ghost use Rattle.ib_core.specs.Holders.{CanWish};
-ghost use Rattle.ib_core.specs.Sessions.{idle};
 ghost use Rattle.ib_levels.specs.declared.level.Level.{Level as LevelValue};
 ghost use Rattle.ib_levels.specs.declared.level.Level.TheVariants.{Space};
 ghost use Rattle.ib_page.specs.Work.{WorkPage, IsWork, changed_of};
@@ -20,7 +19,7 @@ ghost use Rattle.ib_tree.specs.PageLists.{AreOnce, is_listed};
 ghost use Rattle.ib_tree.specs.TreeLog.{opening};
 ghost use Rattle.ib_kept.specs.Kept.{IsKeptLog};
 ghost use Rattle.ib_rule.specs.Conditions.{MayGrow};
-ghost use Rattle.ib_rule.specs.Pass.{IsOf, PassState};
+ghost use Rattle.ib_rule.specs.Pass.{IsAtRest, PassState};
 ghost use Rattle.ib_rule.specs.Views.{total};
 ghost use Rattle.ib_mtr.specs.Mtr.{IsMtr, with_work};
 ghost use Rattle.ib_map.specs.declared.call.Call.TheVariants.{Insert as InsertCall};
@@ -248,14 +247,10 @@ pub(crate) fn pessimistic_insert<R: Wait>(
     key: Key,
     value: u64,
 ) -> Record
-    requires own { IsOf latches.now pass.old }
-    requires idle { pass.old.view.session ≡ idle }
-    requires scratch { IsTrue pass.old.has_scratch }
+    requires rest { IsAtRest latches.now pass.old }
     requires unwatched { pass.old.view.memory.since ≡ [] }
     requires room { total pass.old.view.grants + 8192 ≤ 2 ^ 52 }
-    ensures own { IsOf latches.now pass.new }
-    ensures idle { pass.new.view.session ≡ idle }
-    ensures scratch { IsTrue pass.new.has_scratch }
+    ensures rest { IsAtRest latches.now pass.new }
     ensures called { HasCalled latches.now.sizes (IsKeptLog latches.now.sizes.pages)
         (by_place opening latches.now.sizes.pages) (InsertCall key value) result pass.old pass.new }
     ensures grants { TakesAtMost 64 pass.old pass.new }

@@ -1,13 +1,13 @@
 //! One tree that sessions share: how it is opened and closed, and how sessions come, look keys up and go.
 
-ghost use Rattle.std.specs.Prelude.{◌≡◌, ◌↔◌, ℕ, ◌+◌, ◌-◌, ◌*◌, ◌≤◌, ◌^◌, true, [], ◌∷◌, length, Err, IsTrue, IfOk, IfErr};
+ghost use Rattle.std.specs.Prelude.{◌≡◌, ◌↔◌, ℕ, ◌+◌, ◌-◌, ◌*◌, ◌≤◌, ◌^◌, true, [], ◌∷◌, length, Err, IfOk, IfErr};
 ghost use mathlib.Core.List.{IsPrefix};
 ghost use Rattle.ib_heap.specs.declared.TheConstants.{MOST_LEVEL};
-ghost use Rattle.ib_core.specs.Sessions.{idle};
 ghost use Rattle.ib_logrec.specs.Log.{by_place};
 ghost use Rattle.ib_rule.specs.declared.view.Role.TheVariants.{Session};
 ghost use Rattle.ib_rule.specs.Closed.{IsClosed};
-ghost use Rattle.ib_rule.specs.Pass.{IsFrom, IsOf, with_view};
+ghost use Rattle.ib_rule.specs.Pass.{IsAtRest, IsFrom, IsOf, with_view};
+ghost use Rattle.ib_rule.specs.Stores.{IsLook};
 ghost use Rattle.ib_rule.specs.Views.{ended_as, longer, seated, seeing, total};
 ghost use Rattle.ib_kept.specs.Kept.{IsKeptLog};
 ghost use Rattle.ib_tree.specs.TreeLog.{opening};
@@ -94,25 +94,24 @@ impl<S: Sleep> Index<S> {
     /// The session ends, and what it has seen and made is kept. It holds nothing, and its scratch is in the
     /// pass.
     pub fn disconnect(&mut self, pass: Pass)
-        requires own { IsOf self.old pass }
-        requires idle { pass.view.session ≡ idle }
-        requires scratch { pass.has_scratch ≡ true }
+        requires { IsAtRest self.old pass }
         ensures { self.new ≡ record self.old { ended = ended_as pass.view ∷ self.old.ended } }
     {
         self.latches.disconnect(pass);
     }
 
     /// Afterwards `to` has seen what both had seen: the longer of the two lists, of which both are fronts.
-    /// What contracts see of `from` is as before.
+    /// That tells it what a look at the log's end tells: what it had not seen before is harmless. What
+    /// contracts see of `from` is as before.
     pub fn meet(&self, to: &mut Pass, from: &mut Pass)
         requires to { IsFrom self.now to.old }
         requires from { IsFrom self.now from.old }
         ensures from { from.new ≡ from.old }
         ensures to { to.new ≡ with_view to.old
             (seeing (longer to.old.view.memory.seen from.old.view.memory.seen) to.old.view) }
-        ensures mine { IsPrefix to.old.view.memory.seen to.new.view.memory.seen }
+        ensures looked { IsLook self.now.sizes (IsKeptLog self.now.sizes.pages) to.old.view
+            to.new.view.memory.seen }
         ensures theirs { IsPrefix from.old.view.memory.seen to.new.view.memory.seen }
-        ensures legal { IsKeptLog self.now.sizes.pages to.new.view.memory.seen }
     {
         self.latches.meet(to, from);
     }
@@ -138,8 +137,10 @@ impl<S: Sleep> Index<S> {
         }
     }
 
-    /// Gives the index up, with its log and its pages: for who cannot close it.
-    pub fn discard(self) {
+    /// Gives the index up, with its log and its pages, where nobody is connected: for who cannot close it.
+    pub fn discard(self)
+        requires { length self.ended ≡ self.drawn }
+    {
         let Index { latches } = self;
         latches.discard();
     }
@@ -150,13 +151,9 @@ impl<S: Sleep> Index<S> {
     /// call. There are two looks at most for each latch of the longest way that a tree can have. The session
     /// holds nothing before and after.
     pub fn get_nowait(&self, pass: &mut Pass, key: Key) -> Result<Record, NowaitFault>
-        requires own { IsOf self.now pass.old }
-        requires idle { pass.old.view.session ≡ idle }
-        requires scratch { IsTrue pass.old.has_scratch }
+        requires rest { IsAtRest self.now pass.old }
         requires room { total pass.old.view.grants + 16384 ≤ 2 ^ 52 }
-        ensures own { IsOf self.now pass.new }
-        ensures idle { pass.new.view.session ≡ idle }
-        ensures scratch { IsTrue pass.new.has_scratch }
+        ensures rest { IsAtRest self.now pass.new }
         ensures looked_up { IfOk result (λ answer. HasLookedUp self.now.sizes
             (IsKeptLog self.now.sizes.pages) (by_place opening self.now.sizes.pages) key answer
             pass.old pass.new) }
@@ -176,13 +173,9 @@ impl Index<Parkers> {
     /// alone and waited for: the index, and each page of the key's way, from two to nine. The session holds
     /// nothing before and after.
     pub fn get<R: Wait>(&self, rt: &R, pass: &mut Pass, key: Key) -> Record
-        requires own { IsOf self.now pass.old }
-        requires idle { pass.old.view.session ≡ idle }
-        requires scratch { IsTrue pass.old.has_scratch }
+        requires rest { IsAtRest self.now pass.old }
         requires room { total pass.old.view.grants + 16384 ≤ 2 ^ 52 }
-        ensures own { IsOf self.now pass.new }
-        ensures idle { pass.new.view.session ≡ idle }
-        ensures scratch { IsTrue pass.new.has_scratch }
+        ensures rest { IsAtRest self.now pass.new }
         ensures looked_up { HasLookedUp self.now.sizes (IsKeptLog self.now.sizes.pages)
             (by_place opening self.now.sizes.pages) key result pass.old pass.new }
     {
@@ -197,13 +190,9 @@ impl Index<Parkers> {
     /// SX and the pages that may change in X (`btr_cur_pessimistic_insert`). The session holds nothing
     /// before and after.
     pub fn insert<R: Wait>(&self, rt: &R, pass: &mut Pass, key: Key, value: u64) -> Record
-        requires own { IsOf self.now pass.old }
-        requires idle { pass.old.view.session ≡ idle }
-        requires scratch { IsTrue pass.old.has_scratch }
+        requires rest { IsAtRest self.now pass.old }
         requires room { total pass.old.view.grants + 16384 ≤ 2 ^ 52 }
-        ensures own { IsOf self.now pass.new }
-        ensures idle { pass.new.view.session ≡ idle }
-        ensures scratch { IsTrue pass.new.has_scratch }
+        ensures rest { IsAtRest self.now pass.new }
         ensures called { HasCalled self.now.sizes (IsKeptLog self.now.sizes.pages)
             (by_place opening self.now.sizes.pages) (Insert key value) result pass.old pass.new }
         ensures grants { TakesFewUnless self.now.sizes (IsFullFor key) key result.reply pass.old pass.new }
@@ -218,13 +207,9 @@ impl Index<Parkers> {
     /// the root and has 17 records or fewer, all is given up and done again with the index in SX and the
     /// pages that may change in X (`btr_cur_pessimistic_delete`). The session holds nothing before and after.
     pub fn delete<R: Wait>(&self, rt: &R, pass: &mut Pass, key: Key) -> Record
-        requires own { IsOf self.now pass.old }
-        requires idle { pass.old.view.session ≡ idle }
-        requires scratch { IsTrue pass.old.has_scratch }
+        requires rest { IsAtRest self.now pass.old }
         requires room { total pass.old.view.grants + 16384 ≤ 2 ^ 52 }
-        ensures own { IsOf self.now pass.new }
-        ensures idle { pass.new.view.session ≡ idle }
-        ensures scratch { IsTrue pass.new.has_scratch }
+        ensures rest { IsAtRest self.now pass.new }
         ensures called { HasCalled self.now.sizes (IsKeptLog self.now.sizes.pages)
             (by_place opening self.now.sizes.pages) (Delete key) result pass.old pass.new }
         ensures grants { TakesFewUnless self.now.sizes (IsShortFor key) key result.reply pass.old pass.new }

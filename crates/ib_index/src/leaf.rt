@@ -1,7 +1,6 @@
 //! The change that needs the key's leaf alone.
 
-ghost use Rattle.std.specs.Prelude.{◌≡◌, ◌⊎◌, ℕ, ◌+◌, ◌<◌, ◌≤◌, ◌^◌, List, [], Some, None, length, IsSome, IsTrue, IfOk, IfErr, IfSome, MatchOption};
-ghost use Rattle.ib_core.specs.Sessions.{idle};
+ghost use Rattle.std.specs.Prelude.{◌≡◌, ◌⊎◌, ◌+◌, ◌<◌, ◌≤◌, ◌^◌, List, [], Some, None, length, IsSome, IfOk, IfErr, IfSome, MatchOption};
 ghost use Rattle.ib_map.specs.Pairs.{value_at};
 ghost use Rattle.ib_map.specs.declared.call.Call.TheVariants.{Insert as InsertCall, Delete as DeleteCall};
 ghost use Rattle.ib_map.specs.declared.call.Change.TheVariants.{Insert, Delete};
@@ -10,7 +9,7 @@ ghost use Rattle.ib_heap.specs.declared.TheConstants.{MOST_RECORDS};
 ghost use Rattle.ib_heap.specs.Heap.{read_heap};
 ghost use Rattle.ib_page.specs.Form.{page_of};
 ghost use Rattle.ib_page.specs.Image.{IsTreePage, clock_of, records_of};
-ghost use Rattle.ib_page.specs.Work.{WorkPage, changed_of};
+ghost use Rattle.ib_page.specs.Work.{WorkPage};
 ghost use Rattle.ib_logrec.specs.Log.{by_place};
 ghost use Rattle.ib_walk.specs.Words.{state_of};
 ghost use Rattle.ib_plans.specs.declared.TheConstants.{FEWEST_RECORDS};
@@ -18,7 +17,7 @@ ghost use Rattle.ib_plans.specs.Moves.{IsMovedHeap, Puts, Takes};
 ghost use Rattle.ib_tree.specs.TreeLog.{opening};
 ghost use Rattle.ib_kept.specs.Kept.{IsKeptLog};
 ghost use Rattle.ib_kept.specs.LeafChange.{with_pair, without_pair};
-ghost use Rattle.ib_rule.specs.Pass.{IsOf};
+ghost use Rattle.ib_rule.specs.Pass.{IsAtRest};
 ghost use Rattle.ib_rule.specs.Views.{total};
 ghost use Rattle.ib_mtr.specs.Commits.{MayCommit};
 ghost use Rattle.ib_mtr.specs.Mtr.{IsMtr, with_work};
@@ -179,13 +178,9 @@ pub(crate) fn optimistic_insert<R: Wait>(
     key: Key,
     value: u64,
 ) -> Option<Record>
-    requires own { IsOf latches.now pass.old }
-    requires idle { pass.old.view.session ≡ idle }
-    requires scratch { IsTrue pass.old.has_scratch }
+    requires rest { IsAtRest latches.now pass.old }
     requires room { total pass.old.view.grants + 16384 ≤ 2 ^ 52 }
-    ensures own { IsOf latches.now pass.new }
-    ensures idle { pass.new.view.session ≡ idle }
-    ensures scratch { IsTrue pass.new.has_scratch }
+    ensures rest { IsAtRest latches.now pass.new }
     ensures called { MatchOption result (NeedsTree latches.now.sizes (IsFullFor key) key pass.old pass.new)
         (λ answer. HasCalled latches.now.sizes (IsKeptLog latches.now.sizes.pages)
         (by_place opening latches.now.sizes.pages) (InsertCall key value) answer pass.old pass.new) }
@@ -222,13 +217,9 @@ pub(crate) fn optimistic_delete<R: Wait>(
     pass: &mut Pass,
     key: Key,
 ) -> Option<Record>
-    requires own { IsOf latches.now pass.old }
-    requires idle { pass.old.view.session ≡ idle }
-    requires scratch { IsTrue pass.old.has_scratch }
+    requires rest { IsAtRest latches.now pass.old }
     requires room { total pass.old.view.grants + 16384 ≤ 2 ^ 52 }
-    ensures own { IsOf latches.now pass.new }
-    ensures idle { pass.new.view.session ≡ idle }
-    ensures scratch { IsTrue pass.new.has_scratch }
+    ensures rest { IsAtRest latches.now pass.new }
     ensures called { MatchOption result (NeedsTree latches.now.sizes (IsShortFor key) key pass.old pass.new)
         (λ answer. HasCalled latches.now.sizes (IsKeptLog latches.now.sizes.pages)
         (by_place opening latches.now.sizes.pages) (DeleteCall key) answer pass.old pass.new) }

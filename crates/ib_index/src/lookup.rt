@@ -1,10 +1,9 @@
 //! Lookups that wait for latches.
 
-ghost use Rattle.std.specs.Prelude.{◌≡◌, ◌+◌, ◌≤◌, ◌^◌, IsTrue};
-ghost use Rattle.ib_core.specs.Sessions.{idle};
+ghost use Rattle.std.specs.Prelude.{◌≡◌, ◌+◌, ◌≤◌, ◌^◌};
 ghost use Rattle.ib_logrec.specs.Log.{by_place};
 ghost use Rattle.ib_map.specs.Map.{lookup_answer};
-ghost use Rattle.ib_rule.specs.Pass.{IsOf, PassState};
+ghost use Rattle.ib_rule.specs.Pass.{IsAtRest, PassState};
 ghost use Rattle.ib_rule.specs.Views.{total};
 ghost use Rattle.ib_mtr.specs.Mtr.{IsMtr};
 ghost use Rattle.ib_cursor.specs.Descent.{HasFound};
@@ -46,9 +45,7 @@ pub(crate) fn look_up<L: Trees, S: Sleep>(
         mtr.entry.pass.now → HasLookedUp mtr.entry.latches.now.sizes
         (L.lawful mtr.entry.latches.now.sizes.pages)
         (by_place L.opening mtr.entry.latches.now.sizes.pages) key result p mtr.exit.1.0.now }
-    ensures own { IsOf mtr.entry.latches.now mtr.exit.1.0.now }
-    ensures idle { mtr.exit.1.0.now.view.session ≡ idle }
-    ensures scratch { IsTrue mtr.exit.1.0.now.has_scratch }
+    ensures rest { IsAtRest mtr.entry.latches.now mtr.exit.1.0.now }
     ensures looks { mtr.exit.1.0.now.view.looks.count
         ≡ mtr.entry.pass.now.view.looks.count }
 {
@@ -72,14 +69,10 @@ pub(crate) fn get<L: Trees, R: Wait>(
     pass: &mut Pass,
     key: Key,
 ) -> Record
-    requires own { IsOf latches.now pass.old }
-    requires idle { pass.old.view.session ≡ idle }
-    requires scratch { IsTrue pass.old.has_scratch }
+    requires rest { IsAtRest latches.now pass.old }
     requires room { total pass.old.view.grants + 16384 ≤ 2 ^ 52 }
     requires root { 1 ≤ L.ROOTS }
-    ensures own { IsOf latches.now pass.new }
-    ensures idle { pass.new.view.session ≡ idle }
-    ensures scratch { IsTrue pass.new.has_scratch }
+    ensures rest { IsAtRest latches.now pass.new }
     ensures looked_up { HasLookedUp latches.now.sizes (L.lawful latches.now.sizes.pages)
         (by_place L.opening latches.now.sizes.pages) key result pass.old pass.new }
 {

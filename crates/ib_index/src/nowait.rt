@@ -1,10 +1,9 @@
 //! Lookups that do not wait.
 
-ghost use Rattle.std.specs.Prelude.{◌≡◌, ◌+◌, ◌*◌, ◌≤◌, ◌^◌, IsTrue, IfOk, IfErr};
+ghost use Rattle.std.specs.Prelude.{◌+◌, ◌*◌, ◌≤◌, ◌^◌, IfOk, IfErr};
 ghost use Rattle.ib_heap.specs.declared.TheConstants.{MOST_LEVEL};
-ghost use Rattle.ib_core.specs.Sessions.{idle};
 ghost use Rattle.ib_logrec.specs.Log.{by_place};
-ghost use Rattle.ib_rule.specs.Pass.{IsOf};
+ghost use Rattle.ib_rule.specs.Pass.{IsAtRest};
 ghost use Rattle.ib_rule.specs.Views.{total};
 ghost use Rattle.ib_cursor.specs.Hindrance.{IsHindered};
 ghost use Rattle.ib_index.specs.Lookups.{HasLookedUp};
@@ -23,14 +22,10 @@ pub(crate) fn get_nowait<L: Trees, S: Sleep>(
     pass: &mut Pass,
     key: Key,
 ) -> Result<Record, NowaitFault>
-    requires own { IsOf latches.now pass.old }
-    requires idle { pass.old.view.session ≡ idle }
-    requires scratch { IsTrue pass.old.has_scratch }
+    requires rest { IsAtRest latches.now pass.old }
     requires room { total pass.old.view.grants + 16384 ≤ 2 ^ 52 }
     requires root { 1 ≤ L.ROOTS }
-    ensures own { IsOf latches.now pass.new }
-    ensures idle { pass.new.view.session ≡ idle }
-    ensures scratch { IsTrue pass.new.has_scratch }
+    ensures rest { IsAtRest latches.now pass.new }
     ensures looked_up { IfOk result (λ answer. HasLookedUp latches.now.sizes
         (L.lawful latches.now.sizes.pages) (by_place L.opening latches.now.sizes.pages) key answer
         pass.old pass.new) }

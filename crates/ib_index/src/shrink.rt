@@ -1,7 +1,6 @@
 //! The delete that changes the tree's structure.
 
-ghost use Rattle.std.specs.Prelude.{◌≡◌, ◌≢◌, ℕ, ◌+◌, ◌≤◌, ◌^◌, List, [], IsSome, IsTrue};
-ghost use Rattle.ib_core.specs.Sessions.{idle};
+ghost use Rattle.std.specs.Prelude.{◌≡◌, ◌+◌, ◌≤◌, ◌^◌, List, [], IsSome};
 ghost use Rattle.ib_map.specs.Pairs.{value_at};
 ghost use Rattle.ib_map.specs.declared.call.Call.TheVariants.{Delete as DeleteCall};
 ghost use Rattle.ib_page.specs.Work.{WorkPage, IsWork};
@@ -10,7 +9,7 @@ ghost use Rattle.ib_plans.specs.Agreement.{last_of, memory_in, reads_of};
 ghost use Rattle.ib_merge.specs.Deletes.{CanDelete, IsPlannedDeleteForAll};
 ghost use Rattle.ib_tree.specs.TreeLog.{opening};
 ghost use Rattle.ib_kept.specs.Kept.{IsKeptLog};
-ghost use Rattle.ib_rule.specs.Pass.{IsOf};
+ghost use Rattle.ib_rule.specs.Pass.{IsAtRest};
 ghost use Rattle.ib_rule.specs.Views.{total};
 ghost use Rattle.ib_mtr.specs.Mtr.{IsMtr, with_work};
 ghost use Rattle.ib_index.specs.Calls.{HasCalled};
@@ -71,14 +70,10 @@ pub(crate) fn pessimistic_delete<R: Wait>(
     pass: &mut Pass,
     key: Key,
 ) -> Record
-    requires own { IsOf latches.now pass.old }
-    requires idle { pass.old.view.session ≡ idle }
-    requires scratch { IsTrue pass.old.has_scratch }
+    requires rest { IsAtRest latches.now pass.old }
     requires unwatched { pass.old.view.memory.since ≡ [] }
     requires room { total pass.old.view.grants + 8192 ≤ 2 ^ 52 }
-    ensures own { IsOf latches.now pass.new }
-    ensures idle { pass.new.view.session ≡ idle }
-    ensures scratch { IsTrue pass.new.has_scratch }
+    ensures rest { IsAtRest latches.now pass.new }
     ensures called { HasCalled latches.now.sizes (IsKeptLog latches.now.sizes.pages)
         (by_place opening latches.now.sizes.pages) (DeleteCall key) result pass.old pass.new }
     ensures grants { TakesAtMost 64 pass.old pass.new }

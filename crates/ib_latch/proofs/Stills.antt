@@ -1,9 +1,10 @@
 -- Sessions that wait: nothing is changed but the phase and the looks.
 use Rattle.std.proofs.Common.{◌≡◌, ◌≢◌, inl, ℕ, ◌+◌, ◌≤◌, List, ◌∷◌, Some, None, Bool, true, false, pos, ◌-ℤ◌, eq-eqb, refl, sym, ap, ◌∙◌, subst, arith}
-use Rattle.std.specs.Prelude.{◌==◌, if◌then◌else◌}
+use Rattle.std.specs.Prelude.{◌==◌, if◌then◌else◌, IfNone, IfSome, Option, is_some}
 use Rattle.ib_word.specs.Word.{cell_of, word_in, is_drained}
 use Rattle.ib_word.specs.declared.word.TheConstants.{X_LOCK_DECR}
 use Rattle.ib_word.specs.declared.word.LockWord.{LockWord}
+use Rattle.ib_levels.specs.declared.holding.Holding.{Holding}
 use Rattle.ib_levels.specs.declared.level.Level.{Level}
 use Rattle.ib_levels.specs.declared.level.Mode.{Mode}
 use Rattle.ib_levels.specs.declared.level.Mode.TheVariants.{S, Sx, X}
@@ -18,10 +19,10 @@ use Rattle.ib_core.specs.Takings.{holding_too, is_given_at, level_on, one_more}
 use Rattle.ib_rule.specs.declared.looks.Look.{Look}
 use Rattle.ib_rule.specs.declared.looks.Looks.{Looks}
 use Rattle.ib_rule.specs.declared.view.View.{View}
-use Rattle.ib_rule.specs.Afterwards.{looked_on, phased, tried_on, word_loaded}
+use Rattle.ib_rule.specs.Afterwards.{looked_on, phased, tried_on, with_wait, word_loaded}
 use Rattle.ib_rule.specs.Laws.{Stores}
 use Rattle.ib_rule.specs.Pass.{PassState, with_view}
-use Rattle.ib_rule.specs.Views.{with_looks}
+use Rattle.ib_rule.specs.Views.{with_grant, with_looks}
 use Rattle.ib_latch.specs.declared.tries.Reserve.{Reserve}
 use Rattle.ib_latch.specs.declared.tries.Reserve.TheVariants.{Owned, Next as NextWriter}
 use Rattle.ib_latch.specs.Tries.{HasTakenGrant, first_session, looked_at, lost_at, phase_by, phase_of, reserve_at, upgraded, won_with}
@@ -36,8 +37,11 @@ view_still f k p q is more =
       looks = subst (λ (k : Looks). p.view.looks.count ≤ k.count) (sym looks) more;
     }
 
-pub phased_still : (f : Phase) (p q : PassState) → q ≡ with_view p (phased f p.view) → IsStill f p q
-phased_still f p q is = view_still f p.view.looks p q is (omega arith)
+pub armed_still : (f : Phase) (p q : PassState) → q ≡ with_view p (with_wait (with_wait (phased f p.view))) → IsStill f p q
+armed_still f p q is = view_still f (with_wait (with_wait p.view)).looks p q is (omega arith)
+
+pub waited_still : (f : Phase) (p q : PassState) → q ≡ with_view p (with_wait (phased f p.view)) → IsStill f p q
+waited_still f p q is = view_still f (with_wait p.view).looks p q is (omega arith)
 
 pub looked_still : (f : Phase) (l : ℕ) (w : LockWord) (p q : PassState) → q ≡ with_view p (looked_on l w (phased f p.view)) → IsStill f p q
 looked_still f l w p q is = view_still f (looked_on l w p.view).looks p q is (omega arith)
@@ -55,6 +59,56 @@ pub still_then : (f g : Phase) (p q r : PassState) → IsStill f p q → IsStill
 still_then f g p q r a b = record {
   same = b.same ∙ ap (λ (q : PassState). with_view q (with_looks r.view.looks (phased g q.view))) a.same;
   looks = let x = a.looks in let y = b.looks in omega arith;
+}
+
+-- what is taken after a session stood still is taken from where it stood, and what was taken is taken while it stands still
+pub taken_after : (f : Phase) (mode : Mode) (held : List Holding) (phase : Phase) (p q s : PassState) → IsStill f p q → HasTakenGrant mode held phase q.view s.view → HasTakenGrant mode held phase p.view s.view
+taken_after f mode held phase p q s still taken = record {
+  session = taken.session;
+  grants = taken.grants ∙ ap (λ (q : PassState). with_grant (Some mode) q.view.grants) still.same;
+  kept = λ k was. taken.kept k (subst (Stores k) (sym (ap (λ (q : PassState). q.view.written) still.same)) was);
+  memory = taken.memory ∙ ap (λ (q : PassState). q.view.memory) still.same;
+}
+
+pub taken_still : (f : Phase) (mode : Mode) (held : List Holding) (phase : Phase) (p q s : PassState) → HasTakenGrant mode held phase p.view q.view → IsStill f q s → HasTakenGrant mode held f p.view s.view
+taken_still f mode held phase p q s taken still = record {
+  session = ap (λ (s : PassState). s.view.session) still.same ∙ ap (λ (a : Session). record a { phase = f }) taken.session;
+  grants = ap (λ (s : PassState). s.view.grants) still.same ∙ taken.grants;
+  kept = λ k was. subst (Stores k) (sym (ap (λ (s : PassState). s.view.written) still.same)) (taken.kept k was);
+  memory = ap (λ (s : PassState). s.view.memory) still.same ∙ taken.memory;
+}
+
+still_held : (f : Phase) (p q : PassState) → IsStill f p q → q.view.session.held ≡ p.view.session.held
+still_held f p q still = ap (λ (q : PassState). q.view.session.held) still.same
+
+pub won_after : (f : Phase) (mode : Mode) (l : ℕ) (v : Level) (r : Reserve) (p q s : PassState) → IsStill f p q → IsWon mode l v r q s → IsWon mode l v r p s
+won_after f mode l v r p q s still won = record {
+  taken = taken_after f mode (holding_too mode l v p.view.session.held) (phase_of l v r) p q s still
+      (subst (λ hs. HasTakenGrant mode (holding_too mode l v hs) (phase_of l v r) q.view s.view) (still_held f p q still) won.taken);
+  won = won.won;
+  owned = won.owned;
+  owns_x = won.owns_x;
+  signed = won.signed;
+  looks = let a = still.looks in let b = won.looks in omega arith;
+}
+
+-- what holds where nothing was won
+pub none_won : (P : Type 0) (o : Option Reserve) → is_some o ≡ false → IfNone o P → P
+none_won P (Some r) is none = absurd (cc)
+none_won P None is none = none
+
+-- .. also where nothing may have been won
+pub some_after : (f : Phase) (mode : Mode) (l : ℕ) (v : Level) (o : Option Reserve) (p q s : PassState) → IsStill f p q → IfSome o (λ r. IsWon mode l v r q s) → IfSome o (λ r. IsWon mode l v r p s)
+some_after f mode l v (Some r) p q s still won = won_after f mode l v r p q s still won
+some_after f mode l v None p q s still won = tt
+
+pub upgraded_after : (f : Phase) (l : ℕ) (r : Reserve) (p q s : PassState) → IsStill f p q → IsUpgraded l r q s → IsUpgraded l r p s
+upgraded_after f l r p q s still won = record {
+  taken = taken_after f X (changed_on l (one_more X) p.view.session.held) (phase_of l (level_on l Log p.view.session.held) r) p q s still
+      (subst (λ hs. HasTakenGrant X (changed_on l (one_more X) hs) (phase_of l (level_on l Log hs) r) q.view s.view) (still_held f p q still) won.taken);
+  owns_x = won.owns_x;
+  signed = won.signed;
+  looks = let a = still.looks in let b = won.looks in omega arith;
 }
 
 -- what the next writer owns X by is the same while it waits

@@ -1,5 +1,5 @@
 -- What a step that took a grant leaves.
-use Rattle.std.proofs.Common.{◌≡◌, ℕ, List, Some, refl, sym, true, false, Bool, ap, ◌∙◌, ℤ}
+use Rattle.std.proofs.Common.{◌≡◌, inr, subst, ℕ, List, Some, refl, sym, true, false, Bool, ap, ◌∙◌, ℤ}
 use Rattle.std.specs.Prelude.{if◌then◌else◌}
 use Rattle.ib_word.specs.declared.word.LockWord.{LockWord}
 use Rattle.ib_levels.specs.declared.holding.Holding.{Holding}
@@ -15,6 +15,7 @@ use Rattle.ib_core.specs.Responses.{response}
 use Rattle.ib_core.specs.Takings.{reserving}
 use Rattle.ib_rule.specs.declared.view.View.{View}
 use Rattle.ib_rule.specs.Afterwards.{granted, looked_on, phased, tried_on, word_loaded}
+use Rattle.ib_rule.specs.Laws.{Stores}
 use Rattle.ib_rule.specs.Views.{with_grant}
 use Rattle.ib_rule.specs.Pass.{PassState, with_view}
 use Rattle.ib_latch.specs.declared.tries.Reserve.TheVariants.{Owned, Next as NextWriter}
@@ -33,10 +34,11 @@ reserving_is l v w held = by_test (is_drained w)
     by_test false = refl
 
 -- a grant taken in one step
-pub granted_taken : (mode : Mode) (a : Session) (p q : PassState) (v : View) → q ≡ with_view p (granted mode a v) → v.grants ≡ p.view.grants → v.memory ≡ p.view.memory → HasTakenGrant mode a.held a.phase p.view q.view
-granted_taken mode a p q v is grants memory = record {
+pub granted_taken : (mode : Mode) (a : Session) (p q : PassState) (v : View) → q ≡ with_view p (granted mode a v) → v.grants ≡ p.view.grants → v.memory ≡ p.view.memory → v.written ≡ p.view.written → HasTakenGrant mode a.held a.phase p.view q.view
+granted_taken mode a p q v is grants memory written = record {
   session = ap (λ (q : PassState). q.view.session) is;
   grants = ap (λ (q : PassState). q.view.grants) is ∙ ap (with_grant (Some mode)) grants;
+  kept = λ k was. subst (Stores k) (sym (ap (λ (q : PassState). q.view.written) is ∙ written)) was;
   memory = ap (λ (q : PassState). q.view.memory) is ∙ memory;
 }
 
@@ -45,11 +47,12 @@ pub signed_taken : (mode : Mode) (held : List Holding) (phase : Phase) (u : View
 signed_taken mode held phase u l p q is taken = record {
   session = ap (λ (q : PassState). q.view.session) is ∙ taken.session;
   grants = ap (λ (q : PassState). q.view.grants) is ∙ taken.grants;
+  kept = λ k was. subst (Stores k) (sym (ap (λ (q : PassState). q.view.written) is)) (inr (taken.kept k was));
   memory = ap (λ (q : PassState). q.view.memory) is ∙ taken.memory;
 }
 
 -- a try that was won
 pub won_taken : (mode : Mode) (l : ℕ) (w : LockWord) (a : Session) (p q : PassState) → q ≡ won_with mode l w a (looked_at l w p) → HasTakenGrant mode a.held a.phase p.view q.view
-won_taken S l w a p q is = granted_taken S a p q (tried_on l w w (looked_on l w p.view)) is refl refl
-won_taken Sx l w a p q is = signed_taken Sx a.held a.phase p.view l _ q is (granted_taken Sx a p _ (tried_on l w w (looked_on l w p.view)) refl refl refl)
-won_taken X l w a p q is = signed_taken X a.held a.phase p.view l _ q is (granted_taken X a p _ (tried_on l w w (looked_on l w p.view)) refl refl refl)
+won_taken S l w a p q is = granted_taken S a p q (tried_on l w w (looked_on l w p.view)) is refl refl refl
+won_taken Sx l w a p q is = signed_taken Sx a.held a.phase p.view l _ q is (granted_taken Sx a p _ (tried_on l w w (looked_on l w p.view)) refl refl refl refl)
+won_taken X l w a p q is = signed_taken X a.held a.phase p.view l _ q is (granted_taken X a p _ (tried_on l w w (looked_on l w p.view)) refl refl refl refl)

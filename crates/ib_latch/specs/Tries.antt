@@ -15,12 +15,12 @@ use Rattle.ib_core.specs.declared.phase.Phase.{Phase}
 use Rattle.ib_core.specs.declared.phase.Phase.TheVariants.{Free, Next}
 use Rattle.ib_core.specs.declared.event.Event.TheVariants.{Sx, X, Ready}
 use Rattle.ib_core.specs.declared.session.Session.{Session}
-use Rattle.ib_core.specs.Holders.{CanWish}
-use Rattle.ib_core.specs.Sessions.{reads, claims, sx_grants, x_grants}
+use Rattle.ib_core.specs.Sessions.{claims, sx_grants, x_grants}
 use Rattle.ib_core.specs.Table.{owns_x_at}
 use Rattle.ib_core.specs.Takings.{holding_too, is_given_at, level_on, one_more}
 use Rattle.ib_rule.specs.declared.view.View.{View}
 use Rattle.ib_rule.specs.Afterwards.{granted, looked_on, tried_on}
+use Rattle.ib_rule.specs.Laws.{Stores}
 use Rattle.ib_rule.specs.Turns.{IsTurn}
 use Rattle.ib_rule.specs.Views.{signed, with_grant}
 use Rattle.ib_rule.specs.Pass.{PassState, with_view}
@@ -31,11 +31,6 @@ use Rattle.ib_latch.specs.declared.tries.TryFault.{TryFault}
 use Rattle.ib_latch.specs.declared.tries.TryFault.TheVariants.{Busy, Raced}
 use Rattle.ib_latch.specs.declared.tries.Reserve.{Reserve}
 use Rattle.ib_latch.specs.declared.tries.Reserve.TheVariants.{Owned, Next as NextWriter}
-
--- SX or X may be wished for on the latch: nothing is read there, and where nothing is held there the latch may be taken at the level
-pub record MayClaim (l : ℕ) (v : Level) (a : Session) : Type 0 where
-  pub unread : reads l a ≡ 0
-  pub new : claims l a ≡ 0 → CanWish l v a
 
 -- the word of a latch that nobody holds
 abbrev pub is_free_word : ℤ → Bool
@@ -110,18 +105,20 @@ abbrev pub looks_of : TryFault → ℕ
 looks_of (Busy w) = 1
 looks_of (Raced w found) = 2
 
--- nothing is changed but the looks, of which there are these more
+-- nothing is changed but the looks, of which there are these more, and none of who waits
 pub record IsUnchanged (more : ℕ) (before after : View) : Type 0 where
   pub session : after.session ≡ before.session
   pub grants : after.grants ≡ before.grants
   pub written : after.written ≡ before.written
   pub memory : after.memory ≡ before.memory
   pub looks : after.looks.count ≡ before.looks.count + more
+  pub waits : after.looks.waits ≡ before.looks.waits
 
--- one more grant of the mode: this is held then, in this phase, and of the log and the pages as much is known as before
+-- one more grant of the mode: this is held then, in this phase, of the log and the pages as much is known as before, and the session is the writer still of each latch of which it was
 pub record HasTakenGrant (mode : Mode) (held : List Holding) (phase : Phase) (before after : View) : Type 0 where
   pub session : after.session ≡ record { held = held; phase = phase }
   pub grants : after.grants ≡ with_grant (Some mode) before.grants
+  pub kept : (k : ℕ) → Stores k before.written → Stores k after.written
   pub memory : after.memory ≡ before.memory
 
 -- SX more beside one's own SX is a load of the writer, and beside one's own X alone HALF is taken off the lock word, which leaves this word

@@ -9,7 +9,7 @@ ghost use Rattle.ib_layout.specs.Places.{latches_of};
 ghost use Rattle.ib_core.specs.declared.phase.Phase.TheVariants.{Checked, Flagged, Free};
 ghost use Rattle.ib_core.specs.Takings.{is_given_at};
 ghost use Rattle.ib_core.specs.Holders.{CanWish};
-ghost use Rattle.ib_rule.specs.Afterwards.{phased};
+ghost use Rattle.ib_rule.specs.Afterwards.{phased, with_wait};
 ghost use Rattle.ib_rule.specs.Conditions.{MayGrow};
 ghost use Rattle.ib_rule.specs.Pass.{IsOf, with_view};
 ghost use Rattle.ib_latch.specs.Waits.{IsRecheck, MayStandDown, latch_waited, reserved_by};
@@ -25,14 +25,14 @@ use ib_word::LockWord;
 
 impl<L: Law, S: Sleep> Latches<L, S> {
     /// Records the generation of a latch of which the session holds nothing, and what it wishes for
-    /// there, and sets the waiters flag. It answers the generation. From then on no raise of it is
+    /// there, and sets the waiters flag: two steps. It answers the generation. From then on no raise of it is
     /// missed: the session tries once more by `recheck`, or gives up by `stand_down`.
     pub fn arm(&self, pass: &mut Pass, latch: Latch, mode: Mode, level: Level) -> u64
         requires own { IsOf self.now pass.old }
         requires latch { latch.0 < latches_of self.now.sizes }
         requires may { CanWish latch.0 level pass.old.view.session }
-        ensures { pass.new ≡ with_view pass.old
-            (phased (Flagged latch.0 mode level result) pass.old.view) }
+        ensures { pass.new ≡ with_view pass.old (with_wait (with_wait
+            (phased (Flagged latch.0 mode level result) pass.old.view))) }
     {
         let generation = self.space.load_gen(pass, latch, Some((mode, level)));
         self.space.set_waiters(pass, latch);
@@ -70,12 +70,12 @@ impl<L: Law, S: Sleep> Latches<L, S> {
         }
     }
 
-    /// The session gives up what it set the flag for. It owes nothing: who finds the flag set clears
+    /// The session gives up what it set the flag for, by one step. It owes nothing: who finds the flag set clears
     /// it, and raises a generation that nobody waits for.
     pub fn stand_down(&self, pass: &mut Pass)
         requires own { IsOf self.now pass.old }
         requires waits { MayStandDown (latches_of self.now.sizes) pass.old.view.session.phase }
-        ensures { pass.new ≡ with_view pass.old (phased Free pass.old.view) }
+        ensures { pass.new ≡ with_view pass.old (with_wait (phased Free pass.old.view)) }
     {
         let latch = waited_for(pass.phase());
         self.space.load_waiters(pass, Latch(latch));

@@ -7,6 +7,7 @@ ghost use Rattle.ib_rule.specs.declared.view.Role.TheVariants.{Session};
 ghost use Rattle.ib_rule.specs.Closed.{IsClosed};
 ghost use Rattle.ib_rule.specs.Views.{ended_as, longer, seated, seeing};
 ghost use Rattle.ib_rule.specs.Pass.{IsFrom, IsOf, with_view};
+ghost use Rattle.ib_rule.specs.Stores.{IsLook};
 
 use crate::parkers::Parkers;
 use crate::sleep::Sleep;
@@ -25,11 +26,15 @@ pub struct Latches<L: Law, S: Sleep = Parkers> {
 }
 
 impl<L: Law, S: Sleep> Model for Latches<L, S> {
+    ghost use Rattle.std.specs.Prelude.{◌≡◌, ℕ, ◌<◌, ◌≤◌, true};
     ghost use Rattle.ib_rule.specs.Space.{SpaceState};
 
     ghost Value = { SpaceState };
 
     ghost view = { λ p. p.space };
+
+    // Each session that was drawn may sleep.
+    ghost invariant = { λ p. (n : ℕ) → 0 < n → n ≤ p.space.drawn → S.admits p.sleep n ≡ true };
 }
 
 /// There was no memory to copy the words. The latches come back as they were.
@@ -98,16 +103,17 @@ impl<L: Law, S: Sleep> Latches<L, S> {
     }
 
     /// Afterwards `to` has seen what both had seen: the longer of the two lists, of which both are
-    /// fronts. What contracts see of `from` is as before.
+    /// fronts. That tells it what a look at the log's end tells: what it had not seen before is harmless.
+    /// What contracts see of `from` is as before.
     pub fn meet(&self, to: &mut Pass, from: &mut Pass)
         requires to { IsFrom self.now to.old }
         requires from { IsFrom self.now from.old }
         ensures from { from.new ≡ from.old }
         ensures to { to.new ≡ with_view to.old
             (seeing (longer to.old.view.memory.seen from.old.view.memory.seen) to.old.view) }
-        ensures mine { IsPrefix to.old.view.memory.seen to.new.view.memory.seen }
+        ensures looked { IsLook self.now.sizes (L.lawful self.now.sizes.pages) to.old.view
+            to.new.view.memory.seen }
         ensures theirs { IsPrefix from.old.view.memory.seen to.new.view.memory.seen }
-        ensures legal { L.lawful self.now.sizes.pages to.new.view.memory.seen }
     {
         self.space.meet(to, from);
     }
@@ -133,8 +139,10 @@ impl<L: Law, S: Sleep> Latches<L, S> {
         }
     }
 
-    /// Gives the space up, with its log and its pages: for who cannot close it.
-    pub fn discard(self) {
+    /// Gives the space up, with its log and its pages, where nobody is connected: for who cannot close it.
+    pub fn discard(self)
+        requires { length self.ended ≡ self.drawn }
+    {
         let Latches { space, sleep: _ } = self;
         space.discard();
     }
@@ -144,6 +152,13 @@ impl<L: Law> Latches<L, Parkers> {
     /// How many wait cells were ever reserved, up to 4,294,967,295.
     pub fn cells_ever<R: Wait>(&self, rt: &R) -> u32 {
         self.sleep.ever(rt)
+    }
+
+    /// How many parkers there are: one for each session that was drawn, at least.
+    pub fn sleepers(&self) -> usize
+        ensures { self.now.drawn ≤ result }
+    {
+        self.sleep.count()
     }
 
     /// How many wait cells are reserved now: no more than sessions wait.

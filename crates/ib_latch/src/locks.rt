@@ -1,7 +1,7 @@
 //! The calls that block until a latch is theirs: rounds of tries, and then sleep (sync0rw,
 //! `rw_lock_s_lock_spin`, `rw_lock_sx_lock_func`, `rw_lock_x_lock_func`).
 
-ghost use Rattle.std.specs.Prelude.{◌≡◌, ◌≢◌, ◌<◌, ◌≤◌, IfNone, IfSome, IsTrue, false};
+ghost use Rattle.std.specs.Prelude.{◌≡◌, ◌<◌, ◌≤◌, IfNone, IfSome, IsTrue, false};
 ghost use Rattle.ib_levels.specs.declared.level.Mode.TheVariants.{S as ModeS, Sx as ModeSx, X as ModeX};
 ghost use Rattle.ib_layout.specs.Places.{latches_of};
 ghost use Rattle.ib_core.specs.declared.phase.Phase.TheVariants.{Free, Next};
@@ -9,10 +9,10 @@ ghost use Rattle.ib_core.specs.Holders.{CanWish};
 ghost use Rattle.ib_core.specs.Sessions.{claims, sx_grants, x_grants};
 ghost use Rattle.ib_levels.specs.Holding.{changed_on};
 ghost use Rattle.ib_core.specs.Takings.{holding_too, is_given_at, one_more};
-ghost use Rattle.ib_rule.specs.Conditions.{MayGrow};
+ghost use Rattle.ib_rule.specs.Conditions.{MayClaim, MayGrow};
 ghost use Rattle.ib_rule.specs.Laws.{Stores};
 ghost use Rattle.ib_rule.specs.Pass.{IsOf, with_view};
-ghost use Rattle.ib_latch.specs.Tries.{HasTakenGrant, MayClaim, held_with};
+ghost use Rattle.ib_latch.specs.Tries.{HasTakenGrant, held_with};
 ghost use Rattle.ib_latch.specs.Waits.{EndsAsReserved, EndsOwned, EndsOwning, EndsWon, HasReserved, IsStill, IsUpgraded, IsWon};
 
 use crate::arming::reserved;

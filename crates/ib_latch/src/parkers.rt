@@ -1,11 +1,13 @@
 //! Sessions that sleep on parkers of their own, and write down in the wait array what they wait for.
 
+ghost use Rattle.std.specs.Prelude.{◌≡◌};
 ghost use Rattle.ib_latch.specs.Waits.{IsCellOf};
 
-use crate::sleep::Sleep;
+use crate::sleep::{Raised, Sleep};
 use ib_rule::{OutOfMemory, Pass};
 use ib_wait::{Cell, Sleepers, WaitArray};
 use std::alloc::Global;
+use std::marker::Model;
 use std::sync::Wait;
 use std::thread;
 
@@ -14,14 +16,27 @@ const CELLS: usize = 1024;
 
 const _: () = prove!(CELLS == 1024);
 
-/// A parker for each session, and a wait array of 1,024 cells (sync0arr).
+/// A parker for each session, and a wait array of 1,024 cells (sync0arr). Contracts see how many parkers
+/// there are.
 #[derive(Drop)]
 pub struct Parkers {
     array: WaitArray,
     sleepers: Sleepers,
 }
 
+impl Model for Parkers {
+    ghost use Rattle.std.specs.Prelude.{ℕ};
+
+    ghost Value = { ℕ };
+
+    ghost view = { λ p. p.sleepers };
+}
+
 impl Sleep for Parkers {
+    ghost use Rattle.std.specs.Prelude.{nat_le};
+
+    ghost admits = { λ sleepers n. nat_le n sleepers };
+
     fn new(alloc: Global) -> Result<Parkers, OutOfMemory> {
         let array = WaitArray::new(alloc, CELLS)?;
         Ok(Parkers {
@@ -31,14 +46,15 @@ impl Sleep for Parkers {
     }
 
     fn admit(&mut self, number: u32) -> Result<(), OutOfMemory> {
-        if self.sleepers.len() < number as usize {
-            self.sleepers.add()
-        } else {
-            Ok(())
+        for _ in self.sleepers.len()..number as usize {
+            self.sleepers.add()?;
         }
+        Ok(())
     }
 
-    fn wake(&self, _latch: u32) {
+    // A parker is one session's, whatever it sleeps on: each looks again at its own generation.
+    fn wake(&self, raised: Raised) {
+        raised.into_latch();
         self.sleepers.wake_all();
     }
 }
@@ -78,6 +94,13 @@ impl Parkers {
         } else {
             thread::yield_now();
         }
+    }
+
+    // How many parkers there are.
+    pub(crate) fn count(&self) -> usize
+        ensures { result ≡ self.now }
+    {
+        self.sleepers.len()
     }
 
     // How many reservations were made so far, as far as the number goes.

@@ -5,9 +5,9 @@ ghost use Rattle.std.specs.Prelude.{◌≡◌};
 use ib_rule::OutOfMemory;
 use std::alloc::Global;
 
-// A generation was raised, and nobody is woken yet. It is not dropped, and nothing but `hand_to` takes it: a release
-// that has one and wakes nobody does not compile.
-pub(crate) struct Raised {
+/// A generation was raised, and nobody is woken yet. It is not dropped, and no call but
+/// `Sleep::wake` takes it: a release that has one and wakes nobody does not compile.
+pub struct Raised {
     latch: u32,
 }
 
@@ -19,23 +19,33 @@ impl Raised {
         Raised { latch }
     }
 
-    // Whoever sleeps on a generation of the latch is woken.
-    pub(crate) fn hand_to<S: Sleep>(self, sleep: &S) {
+    /// The number of the latch of which it is a generation.
+    pub fn into_latch(self) -> u32
+        ensures { result ≡ self.latch }
+    {
         let Raised { latch } = self;
-        sleep.wake(latch);
+        latch
     }
 }
 
 /// How sessions that wait for a latch sleep, and how others wake them.
 pub trait Sleep: Drop {
+    ghost use Rattle.std.specs.Prelude.{◌≡◌, ℕ, ◌+◌, ◌≤◌, Bool, true, OnOk, OnErr, IfOk};
+
+    /// Whether the session with this number may sleep and be woken.
+    ghost admits: { Self → ℕ → Bool };
+
     /// For no session yet. Refused where memory lacks.
     fn new(alloc: Global) -> Result<Self, OutOfMemory>;
 
-    /// Makes ready for the session with this number. Refused where memory lacks.
-    fn admit(&mut self, number: u32) -> Result<(), OutOfMemory>;
+    /// Makes ready for the session with this number: it may sleep then, and so may whoever could before.
+    /// Refused where memory lacks.
+    fn admit(&mut self, number: u32) -> Result<(), OutOfMemory>
+        ensures admitted { OnOk result (admits self.new number ≡ true) }
+        ensures kept { (n : ℕ) → admits self.old n ≡ true → admits self.new n ≡ true };
 
-    /// Wakes whoever sleeps on a generation of the latch with this number. It is called after each raise of one.
-    fn wake(&self, latch: u32);
+    /// Wakes whoever sleeps on the generation that was raised. It is called after each raise of one.
+    fn wake(&self, raised: Raised);
 }
 
 /// Nobody sleeps: who waits tries again.
@@ -43,6 +53,10 @@ pub trait Sleep: Drop {
 pub struct NoSleep;
 
 impl Sleep for NoSleep {
+    ghost use Rattle.std.specs.Prelude.{true};
+
+    ghost admits = { λ _ _. true };
+
     fn new(_alloc: Global) -> Result<NoSleep, OutOfMemory> {
         Ok(NoSleep)
     }
@@ -51,5 +65,7 @@ impl Sleep for NoSleep {
         Ok(())
     }
 
-    fn wake(&self, _latch: u32) {}
+    fn wake(&self, raised: Raised) {
+        raised.into_latch();
+    }
 }

@@ -13,10 +13,10 @@ ghost use Rattle.ib_core.specs.Holders.{CanWish};
 ghost use Rattle.ib_core.specs.Responses.{is_above_0, is_above_half};
 ghost use Rattle.ib_core.specs.Sessions.{claims, sx_grants, x_grants};
 ghost use Rattle.ib_core.specs.Takings.{holding_too, is_given_at, level_on, one_more};
-ghost use Rattle.ib_rule.specs.Conditions.{MayGrow, MayTry};
+ghost use Rattle.ib_rule.specs.Conditions.{MayClaim, MayGrow, MayTry};
 ghost use Rattle.ib_rule.specs.Laws.{Stores};
 ghost use Rattle.ib_rule.specs.Pass.{IsOf, with_view};
-ghost use Rattle.ib_latch.specs.Tries.{IsClaim, IsFirstTry, IsReadyTry, IsReserveOf, IsSxMore, HasTakenGrant, IsTryAt, IsTryOf, IsUnchanged, IsXMore, MayClaim, first_session, held_with, is_free_word, level_with, looked_at, looks_of, lost_at, phase_by, phase_of, reserve_at, upgraded, won_with};
+ghost use Rattle.ib_latch.specs.Tries.{IsClaim, IsFirstTry, IsReadyTry, IsReserveOf, IsSxMore, HasTakenGrant, IsTryAt, IsTryOf, IsUnchanged, IsXMore, first_session, held_with, is_free_word, level_with, looked_at, looks_of, lost_at, phase_by, phase_of, reserve_at, upgraded, won_with};
 
 use crate::latches::Latches;
 use crate::sleep::Sleep;

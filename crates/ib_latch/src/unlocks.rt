@@ -1,6 +1,6 @@
 //! The releases, and the raises that they owe.
 
-ghost use Rattle.std.specs.Prelude.{◌≡◌, ◌<◌, ◌==◌, nat_lt, if◌then◌else◌};
+ghost use Rattle.std.specs.Prelude.{◌≡◌, ◌<◌, if◌then◌else◌};
 ghost use Rattle.ib_levels.specs.declared.level.Mode.TheVariants.{Sx as ModeSx, X as ModeX};
 ghost use Rattle.ib_levels.specs.Holding.{without_latch};
 ghost use Rattle.ib_layout.specs.Places.{latches_of};
@@ -32,7 +32,7 @@ impl<L: Law, S: Sleep> Latches<L, S> {
         let word = self.space.give_s(pass, latch);
         if is_drained(word) {
             let raised = self.raise_ex(pass, latch);
-            raised.hand_to(&self.sleep);
+            self.sleep.wake(raised);
         }
     }
 
@@ -86,7 +86,7 @@ impl<L: Law, S: Sleep> Latches<L, S> {
         if self.look(pass, latch) {
             if self.clear(pass, latch) {
                 let raised = self.raise(pass, latch);
-                raised.hand_to(&self.sleep);
+                self.sleep.wake(raised);
             }
         }
     }

@@ -20,6 +20,10 @@ all_keys = record { root = 1; low = 0; end = end_rank; level = 0 }
 abbrev pub AreInGrammar : ℕ → List Entry → Type 0
 AreInGrammar pages log = AllByRecursion (IsInGrammar pages) log
 
+-- each entry in the grammar is lawful behind each lawful list
+abbrev pub AllowsAny : ℕ → (List Entry → Type 0) → Type 0
+AllowsAny pages lawful = (log : List Entry) (e : Entry) → lawful log → IsInGrammar pages e → lawful (log ++ e ∷ [])
+
 pub AreInGrammar-front : (pages : ℕ) (xs ys : List Entry) → AreInGrammar pages (xs ++ ys) → AreInGrammar pages xs
 AreInGrammar-front pages [] ys are = tt
 AreInGrammar-front pages (e ∷ xs) ys are = (are.0, AreInGrammar-front pages xs ys are.1)

@@ -3,6 +3,8 @@
 
 mod answer;
 mod bad_log;
+mod laws;
 mod replaying;
 
 pub use answer::answer_log;
+pub use laws::log_law;

@@ -1,6 +1,6 @@
 -- A commit: what is asked of it is what the append asks, and what it comes to.
 use Rattle.std.proofs.Common.{◌≡◌, ℕ, ◌+◌, ◌<◌, ◌≤◌, true, false, List, [], ◌∷◌, ◌++◌, length, refl, sym, ap, ◌∙◌, subst, arith}
-use Rattle.std.specs.Prelude.{Some, None, slice_index}
+use Rattle.std.specs.Prelude.{None, slice_index}
 use Rattle.std.specs.List.{All, AllByRecursion, Contains}
 use Rattle.std.proofs.lemmas.List.Elements.{All-contains, All-contains_itself, All-weaker, filter-append}
 use Rattle.std.proofs.lemmas.Bool.{eq-eqb}
@@ -229,9 +229,9 @@ module _ (sizes : Sizes) (lawful : List Entry → Type 0) (opening : ℕ → ℕ
 
 -- an end without a change, after a look
 pub read_only : (sizes : Sizes) (lawful : List Entry → Type 0) (p p2 q : PassState) (answer : ℕ) → IsLook sizes lawful p.view p2.view.memory.seen → p2 ≡ with_view p (reaching p2.view.memory.seen p.view)
-    → answer ≡ length p2.view.memory.seen → HasEnded p2 p2.view.grants p2.view.memory.seen p2.view.memory.own p2.view.memory.ends q → q.view.looks.count ≡ p2.view.looks.count
+    → answer ≡ length p2.view.memory.seen → HasEnded p2 p2.view.grants p2.view.memory.seen p2.view.memory.own p2.view.memory.ends q → q.view.looks.count ≡ p2.view.looks.count → q.view.looks.waits ≡ p2.view.looks.waits
     → HasRead sizes lawful p answer q
-read_only sizes lawful p p2 q answer look is place ended looks =
+read_only sizes lawful p p2 q answer look is place ended looks waits =
     let later : IsLater p p2 = record {
       table = ap (λ (q : PassState). q.table) is;
       sizes = ap (λ (q : PassState). q.sizes) is;
@@ -246,4 +246,5 @@ read_only sizes lawful p p2 q answer look is place ended looks =
       ended = ended_later p p2 q p.view.grants p2.view.grants _ p2.view.memory.seen _ p2.view.memory.own _ p2.view.memory.ends later (ap (λ (q : PassState). q.view.grants) is) refl
           (ap (λ (q : PassState). q.view.memory.own) is) (ap (λ (q : PassState). q.view.memory.ends) is ∙ ap (one_end_more p) (sym place)) ended;
       looks = looks ∙ ap (λ (q : PassState). q.view.looks.count) is;
+      waits = waits ∙ ap (λ (q : PassState). q.view.looks.waits) is;
     }

@@ -17,6 +17,7 @@ pub record IsKeptBy (v w : View) : Type 0 where
   pub role : w.role ≡ v.role
   pub grants : w.grants ≡ v.grants
   pub looks : w.looks.count ≡ v.looks.count
+  pub waits : w.looks.waits ≡ v.looks.waits
   pub met : w.memory.met ≡ v.memory.met
   pub seen : w.memory.seen ≡ v.memory.seen
   pub own : w.memory.own ≡ v.memory.own
@@ -24,8 +25,8 @@ pub record IsKeptBy (v w : View) : Type 0 where
   pub append : w.memory.append ≡ v.memory.append
 
 pub kept_by_releases : (memo : List (Latch × Mode)) (v : View) → IsKeptBy v (without_all memo v)
-kept_by_releases [] v = record { role = refl; grants = refl; looks = refl; met = refl; seen = refl; own = refl; ends = refl; append = refl }
-kept_by_releases (g ∷ gs) v = let k = kept_by_releases gs v in record { role = k.role; grants = k.grants; looks = k.looks; met = k.met; seen = k.seen; own = k.own; ends = k.ends; append = k.append }
+kept_by_releases [] v = record { role = refl; grants = refl; looks = refl; waits = refl; met = refl; seen = refl; own = refl; ends = refl; append = refl }
+kept_by_releases (g ∷ gs) v = let k = kept_by_releases gs v in record { role = k.role; grants = k.grants; looks = k.looks; waits = k.waits; met = k.met; seen = k.seen; own = k.own; ends = k.ends; append = k.append }
 
 -- who holds nothing knows of nothing
 module _ (w : View) (known : KnowsHeld w) (rests : w.session ≡ idle) where
@@ -67,3 +68,7 @@ ended_by p q r given ended known rests closed = ended_so p r (ended ∙ ap finis
 -- .. and no lock word was looked at
 pub ended_looks : (p q r : PassState) → q ≡ released_to 0 (with_work [] p) → r ≡ finished q → r.view.looks.count ≡ p.view.looks.count
 ended_looks p q r given ended = ap (λ (s : PassState). s.view.looks.count) (ended ∙ ap finished given) ∙ (kept_by_releases p.memo p.view).looks
+
+-- .. nor a step made as one that waits
+pub ended_waits : (p q r : PassState) → q ≡ released_to 0 (with_work [] p) → r ≡ finished q → r.view.looks.waits ≡ p.view.looks.waits
+ended_waits p q r given ended = ap (λ (s : PassState). s.view.looks.waits) (ended ∙ ap finished given) ∙ (kept_by_releases p.memo p.view).waits

@@ -1,7 +1,9 @@
 -- How many grants a session holds by its memo, and that it is idle by an empty one.
-use Rattle.std.proofs.Common.{◌≡◌, ◌≢◌, ℕ, ◌+◌, ◌<◌, ◌≤◌, Bool, true, false, cond, not, List, [], ◌∷◌, length, refl, sym, ap, ◌∙◌, subst, arith, eq-eqb, ne_eqb, ltb-true, ltb-false}
+use Rattle.std.proofs.Common.{◌≡◌, ◌≢◌, ℕ, ◌+◌, ◌<◌, ◌≤◌, Bool, true, false, cond, not, List, [], ◌∷◌, length, refl, sym, ap, ◌∙◌, subst, arith, inl, inr, eq-eqb, ne_eqb, ltb-true, ltb-false}
 use Rattle.std.specs.Prelude.{◌==◌, ◌&&◌, sum_by, count_by, nat_lt, if◌then◌else◌, is_some, Some, None, MatchBool}
-use Rattle.std.specs.List.{filter}
+use Rattle.std.specs.List.{All, filter}
+use Rattle.std.proofs.lemmas.Bool.{cases_lt}
+use Rattle.std.proofs.lemmas.List.Elements.{All-head, All-tail}
 use Rattle.std.proofs.lemmas.List.Sums.{sum_by-cons}
 use mathlib.Core.Logic.{dite}
 use native.Mathlib.Decide.{ℕ_discrete}
@@ -91,16 +93,34 @@ sum_held (h ∷ held) memo single same =
     (λ n. let c = on-cons k (λ h. h.s + h.sx + h.x) h held in let p = part-away k (λ h. h.s + h.sx + h.x) h (λ e. n (sym e)) in let s = same k in let a = same_away l k memo n in omega arith)) in
     let whole = sum_by-cons (λ (h : Holding). h.s + h.sx + h.x) h held in let m = same l in let o = others_length l memo in omega arith
 
+-- a latch above all of a memo has none there
+none_above : (n k : ℕ) (memo : List (Latch × Mode)) → All (λ g. g.0.0 < n) memo → n ≤ k → on_latch k memo ≡ 0
+none_above n k [] known above = refl
+none_above n k (g ∷ memo) known above =
+    let c = sum_by-cons (λ (g : Latch × Mode). cond (g.0.0 == k) 1 0) g memo in
+    let lt = All-head (λ (g : Latch × Mode). g.0.0 < n) g memo known in let z = none_on g.0.0 k (λ e. omega arith) in
+    let r = none_above n k memo (All-tail (λ (g : Latch × Mode). g.0.0 < n) g memo known) above in omega arith
+
 module _ (memo : List (Latch × Mode)) (a : Session) (exact : HasExactly memo a) (proper : IsProper a) where
   pub length_held : length memo ≡ held_now a
   length_held = sym (sum_held a.held memo proper.single (λ k.
       let c = counted k a (proper.single k) in let s = exact.counts S k in let sx = exact.counts Sx k in let x = exact.counts X k in
       let b = by_modes k memo in omega arith))
 
-  none_held : memo ≡ [] → (k : ℕ) → holdings k a ≡ 0
-  none_held none k =
+  none_here_held : (k : ℕ) → on_latch k memo ≡ 0 → holdings k a ≡ 0
+  none_here_held k none =
       let c = counted k a (proper.single k) in let s = exact.counts S k in let sx = exact.counts Sx k in let x = exact.counts X k in
-      let b = by_modes k memo in let z = ap (on_latch k) none in let solid = proper.solid k in omega arith
+      let b = by_modes k memo in let solid = proper.solid k in omega arith
+
+  none_held : memo ≡ [] → (k : ℕ) → holdings k a ≡ 0
+  none_held none k = none_here_held k (ap (on_latch k) none)
+
+  -- a latch that is held is one of the memo's
+  pub held_known : (n k : ℕ) → All (λ g. g.0.0 < n) memo → 0 < holdings k a → k < n
+  held_known n k known held = elim (cases_lt k n) [
+    | inl below ↦ below
+    | inr above ↦ let none = none_here_held k (none_above n k memo known above) in absurd (omega arith)
+  ]
 
   pub idle_by : memo ≡ [] → a.phase ≡ Free → a ≡ idle
   idle_by none free = λ j. record { held = nothing a.held (none_held none) j; phase = free j }

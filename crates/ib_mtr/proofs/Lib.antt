@@ -10,3 +10,4 @@ pub mod Looking
 pub mod Ending
 pub mod Committing
 pub mod Trying
+pub mod Asking

@@ -35,6 +35,14 @@ pub record MayCommit (lawful : List Entry → Type 0) (p : PassState) (change : 
   pub legal : (others : List Entry) → AllByRecursion (IsHarmless p.number p.view.memory.since) others → lawful (p.view.memory.seen ++ others)
       → lawful ((p.view.memory.seen ++ others) ++ commit_entry p change ∷ [])
 
+-- what a commit asks under any law, and that a word is changed, since an entry has a write at least: where every entry in the grammar is lawful, it asks no more
+pub record MayCommitAny (p : PassState) : Type 0 where
+  pub grows : MayGrow p.view
+  pub log : CanWish 0 Log p.view.session
+  pub pages_x : (page : ℕ) → touches page (writes_of p.work) ≡ true → 0 < x_grants (page + 2) p.view.session
+  pub index : spans_pages (writes_of p.work) ≡ true → (0 < sx_grants 1 p.view.session) × (x_grants 1 p.view.session ≡ 0)
+  pub changes : 0 < length (writes_of p.work)
+
 -- the mini-transaction has ended: its scratch is free, its session holds nothing and knows of no page, and has seen these entries and made those, with these ends of the log
 pub record HasEnded (p : PassState) (taken : Grants) (seen own : List Entry) (ends : List ℕ) (q : PassState) : Type 0 where
   pub pass : q ≡ record p { view = q.view; has_scratch = true; is_working = false; work = []; memo = []; words = q.words }
@@ -74,10 +82,11 @@ pub record IsFull (sizes : Sizes) (lawful : List Entry → Type 0) (p : PassStat
   pub short : sizes.log_words < used log + ENTRY_WORDS
   pub ended : HasEnded p (commit_grants p) log p.view.memory.own (one_end_more p (length log)) q
 
--- it ended without a change, having looked at the log's end once more, and at no lock word
+-- it ended without a change, having looked at the log's end once more, at no lock word, and with no step as one that waits
 pub record HasRead (sizes : Sizes) (lawful : List Entry → Type 0) (p : PassState) (answer : ℕ) (q : PassState) : Type 0 where
   pub log : List Entry
   pub looked : IsLook sizes lawful p.view log
   pub place : answer ≡ length log
   pub ended : HasEnded p p.view.grants log p.view.memory.own (one_end_more p answer) q
   pub looks : q.view.looks.count ≡ p.view.looks.count
+  pub waits : q.view.looks.waits ≡ p.view.looks.waits

@@ -8,6 +8,7 @@ mod loads;
 mod locks;
 mod memo;
 mod mtr;
+mod readers;
 
 pub use laws::edit_law;
 pub use mtr::Mtr;

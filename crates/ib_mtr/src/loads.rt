@@ -1,6 +1,6 @@
 //! Pages that are loaded under their latches, and changed, and looks at the log's end.
 
-ghost use Rattle.std.specs.Prelude.{◌≡◌, ◌<◌, ◌+◌, ℕ, List, Some, None, IsSome, length, true};
+ghost use Rattle.std.specs.Prelude.{◌≡◌, ◌<◌, ◌+◌, Some, None, IsSome, length, true};
 ghost use Rattle.std.specs.Borrow.{sem};
 ghost use Rattle.ib_map.specs.declared.TheConstants.{PAGE_WORDS};
 ghost use Rattle.ib_map.specs.Writes.{word_place};
@@ -77,7 +77,7 @@ impl<'a, L: Law, S: Sleep> Mtr<'a, L, S> {
         requires mtr { IsMtr self.old.latches.now self.old.pass.now }
         requires held { 0 < x_grants (page + 2) self.old.pass.now.view.session }
         requires loaded { IsSome (changed_of page self.old.pass.now.work) }
-        ensures* lends { sem 𝓛 (LendsImage L.row S.row L.Law self.entry page result) }
+        ensures* lends { sem 𝓛 (LendsImage L.row S.row L.Law S.Sleep self.entry page result) }
         ensures image { changed_of page self.old.pass.now.work ≡ Some result.now }
     {
         self.pass.work_mut().edit(page)

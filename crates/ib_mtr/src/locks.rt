@@ -7,10 +7,10 @@ ghost use Rattle.ib_core.specs.declared.phase.Phase.TheVariants.{Free};
 ghost use Rattle.ib_core.specs.Holders.{CanWish};
 ghost use Rattle.ib_core.specs.Sessions.{claims, sx_grants, x_grants};
 ghost use Rattle.ib_core.specs.Takings.{holding_too, is_given_at};
-ghost use Rattle.ib_rule.specs.Conditions.{MayGrow};
+ghost use Rattle.ib_rule.specs.Conditions.{MayClaim, MayGrow};
 ghost use Rattle.ib_rule.specs.Laws.{Stores};
 ghost use Rattle.ib_rule.specs.Pass.{with_view};
-ghost use Rattle.ib_latch.specs.Tries.{HasTakenGrant, MayClaim, held_with};
+ghost use Rattle.ib_latch.specs.Tries.{HasTakenGrant, held_with};
 ghost use Rattle.ib_latch.specs.Waits.{EndsOwning, EndsWon};
 ghost use Rattle.ib_mtr.specs.Mtr.{IsMtr, with_memo};
 

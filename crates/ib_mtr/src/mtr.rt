@@ -101,7 +101,7 @@ impl<'a, L: Law, S: Sleep> Mtr<'a, L, S> {
     /// afterwards where each page that is there then is one whose latch it holds.
     pub fn work(&mut self) -> &mut WorkSet
         requires { IsMtr self.old.latches.now self.old.pass.now }
-        ensures* lends { sem 𝓛 (LendsPages L.row S.row L.Law self.entry result) }
+        ensures* lends { sem 𝓛 (LendsPages L.row S.row L.Law S.Sleep self.entry result) }
         ensures work { result.now ≡ self.old.pass.now.work }
     {
         self.pass.work_mut()

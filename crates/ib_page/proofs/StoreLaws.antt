@@ -1,10 +1,11 @@
 -- What the writes of a work set are, and what they leave at each place.
-use Rattle.std.proofs.Common.{◌≡◌, ◌≢◌, ℕ, zero, suc, ◌+◌, ◌*◌, ◌<◌, ◌≤◌, false, eqb, ◌∙◌, [], ◌∷◌, ◌++◌, List, Option, Some, None, length, get_or, refl, ap, sym, subst, inl, inr, arith}
-use Rattle.std.specs.Prelude.{◌↔◌, ◌||◌}
+use Rattle.std.proofs.Common.{◌≡◌, ◌≢◌, ℕ, zero, suc, ◌+◌, ◌*◌, ◌<◌, ◌≤◌, Bool, true, false, eqb, ltb-true, lt-ltb, ◌⊎◌, ◌∙◌, [], ◌∷◌, ◌++◌, List, Option, Some, None, length, get_or, refl, ap, sym, subst, inl, inr, arith}
+use Rattle.std.specs.Prelude.{◌↔◌, ◌||◌, IsTrue, IsSomeAnd, nat_lt, slice_get}
 use Rattle.std.specs.List.{All, Any, Contains}
 use Rattle.std.proofs.lemmas.Bool.{cases_lt, cases_eq, eq-eqb, ne_eqb, or_parts}
 use Rattle.std.proofs.lemmas.List.Elements.{All-head, All-tail, Contains-append_left, Contains-append_right, Contains-append_cases}
 use Rattle.std.proofs.lemmas.List.Folds.{list_any-append}
+use Rattle.std.proofs.lemmas.Option.{get_or_from_slice_get, slice_get_within}
 use Rattle.ib_map.specs.declared.TheConstants.{PAGE_WORDS}
 use Rattle.ib_map.specs.declared.write.Write.{Write}
 use Rattle.ib_map.specs.Writes.{word_place, page_at, stored, touches, PlacesRise}
@@ -77,7 +78,7 @@ above_absent : (low : ℕ) (ps : List WorkPage) (page : ℕ) → PagesAscend low
 above_absent low [] page h lt = refl
 above_absent low (p ∷ ps) page h lt = rw (ne_eqb p.page page (λ e. (let le = h.0 in omega arith))) (above_absent (p.page + 1) ps page h.1 (let le = h.0 in omega arith))
 
-page-ge : (low : ℕ) (ps : List WorkPage) (k : ℕ) (d : WorkPage) → PagesAscend low ps → k < length ps → low ≤ (get_or ps k d).page
+pub page-ge : (low : ℕ) (ps : List WorkPage) (k : ℕ) (d : WorkPage) → PagesAscend low ps → k < length ps → low ≤ (get_or ps k d).page
 page-ge low [] k d h lt = absurd (omega arith)
 page-ge low (p ∷ ps) zero d h lt = h.0
 page-ge low (p ∷ ps) (suc k) d h lt = let rest = page-ge (p.page + 1) ps k d h.1 (omega arith) in let first = h.0 in omega arith
@@ -108,14 +109,18 @@ same_unwritten page before changed (suc n) same =
     ap (λ k. writes_below page before changed k) (let e : suc n ≡ n + 1 = omega arith in e)
     ∙ (writes_more_same page before changed n (same n (omega arith)) ∙ same_unwritten page before changed n (λ i lt. same i (omega arith)))
 
+-- a page without writes of its own is not written
+none_untouched : (low : ℕ) (ps : List WorkPage) (k : ℕ) (d : WorkPage) → PagesAscend low ps → k < length ps → page_writes (get_or ps k d) ≡ [] → touches (get_or ps k d).page (writes_of ps) ≡ false
+none_untouched low [] k d h lt none = absurd (omega arith)
+none_untouched low (p ∷ ps) zero d h lt none =
+    touches-append p.page (page_writes p) (writes_of ps) (ap (λ ws. touches p.page ws) none) (untouched ps p.page (above_absent (p.page + 1) ps p.page h.1 (omega arith)))
+none_untouched low (p ∷ ps) (suc k) d h lt none =
+    let above = page-ge (p.page + 1) ps k d h.1 (omega arith) in
+    touches-append (get_or ps k d).page (page_writes p) (writes_of ps) (page_untouched p (get_or ps k d).page (λ e. omega arith)) (none_untouched (p.page + 1) ps k d h.1 (omega arith) none)
+
 pub same_untouched : (low : ℕ) (ps : List WorkPage) (k : ℕ) (d : WorkPage) → PagesAscend low ps → k < length ps
     → ((index : ℕ) → index < PAGE_WORDS → get_or (get_or ps k d).before index 0 ≡ get_or (get_or ps k d).changed index 0) → touches (get_or ps k d).page (writes_of ps) ≡ false
-same_untouched low [] k d h lt same = absurd (omega arith)
-same_untouched low (p ∷ ps) zero d h lt same =
-    touches-append p.page (page_writes p) (writes_of ps) (ap (λ ws. touches p.page ws) (same_unwritten p.page p.before p.changed PAGE_WORDS same)) (untouched ps p.page (above_absent (p.page + 1) ps p.page h.1 (omega arith)))
-same_untouched low (p ∷ ps) (suc k) d h lt same =
-    let above = page-ge (p.page + 1) ps k d h.1 (omega arith) in
-    touches-append (get_or ps k d).page (page_writes p) (writes_of ps) (page_untouched p (get_or ps k d).page (λ e. omega arith)) (same_untouched (p.page + 1) ps k d h.1 (omega arith) same)
+same_untouched low ps k d h lt same = let p = get_or ps k d in none_untouched low ps k d h lt (same_unwritten p.page p.before p.changed PAGE_WORDS same)
 
 pub leads_to : (ps : List WorkPage) (p : WorkPage) (index : ℕ) → PagesAscend 0 ps → Contains ps p → index < PAGE_WORDS → stored (writes_of ps) (word_place p.page index) (get_or p.before index 0) ≡ get_or p.changed index 0
 leads_to ps p index h among lt =
@@ -128,6 +133,34 @@ written_exactly ps p h among = (
   λ same. subst (λ (q : WorkPage). touches q.page (writes_of ps) ≡ false) among.2
       (same_untouched 0 ps among.0 p h among.1 (λ index lt. subst (λ (q : WorkPage). get_or q.before index 0 ≡ get_or q.changed index 0) (sym among.2) (same index lt))),
 )
+
+-- .. exactly where it has writes of its own
+pub touched_exactly : (ps : List WorkPage) (p : WorkPage) → PagesAscend 0 ps → Contains ps p → IsTrue (nat_lt 0 (length (page_writes p))) ↔ (touches p.page (writes_of ps) ≡ true)
+touched_exactly ps p h among = (λ some. is_touched some (touches p.page (writes_of ps)) refl, λ some. has_writes some (cases_eq (length (page_writes p)) 0))
+  where
+    is_touched : IsTrue (nat_lt 0 (length (page_writes p))) → (b : Bool) → touches p.page (writes_of ps) ≡ b → touches p.page (writes_of ps) ≡ true
+    is_touched some true is = is
+    is_touched some false is =
+        let none : length (page_writes p) ≡ 0 = ap length (same_unwritten p.page p.before p.changed PAGE_WORDS ((written_exactly ps p h among).0 is)) in
+        let lt = ltb-true 0 (length (page_writes p)) some in absurd (omega arith)
+
+    empty : (ws : List Write) → length ws ≡ 0 → ws ≡ []
+    empty [] none = refl
+    empty (w ∷ ws) none = absurd (omega arith)
+
+    has_writes : touches p.page (writes_of ps) ≡ true → (length (page_writes p) ≡ 0) ⊎ (length (page_writes p) ≢ 0) → IsTrue (nat_lt 0 (length (page_writes p)))
+    has_writes some (inl none) =
+        let bare : touches p.page (writes_of ps) ≡ false = subst (λ (q : WorkPage). touches q.page (writes_of ps) ≡ false) among.2
+        (none_untouched 0 ps among.0 p h among.1 (ap (λ (q : WorkPage). page_writes q) among.2 ∙ empty (page_writes p) none)) in
+        let both : true ≡ false = sym some ∙ bare in absurd (cc)
+    has_writes some (inr has) = lt-ltb 0 (length (page_writes p)) (omega arith)
+
+-- .. as the page at a place
+pub touched_at : (ps : List WorkPage) (k n : ℕ) (p : WorkPage) → PagesAscend 0 ps → slice_get ps k ≡ Some p → n ≡ length (page_writes p) → IsSomeAnd (slice_get ps k) (λ w. IsTrue (nat_lt 0 n) ↔ (touches w.page (writes_of ps) ≡ true))
+touched_at ps k n p h at many =
+    let there : Contains ps p = (k, slice_get_within ps k p at, get_or_from_slice_get ps k p p at) in
+    subst (λ o. IsSomeAnd o (λ w. IsTrue (nat_lt 0 n) ↔ (touches w.page (writes_of ps) ≡ true))) (sym at)
+    (subst (λ (m : ℕ). IsTrue (nat_lt 0 m) ↔ (touches p.page (writes_of ps) ≡ true)) (sym many) (touched_exactly ps p h there))
 
 -- the places ascend
 PlacesRise-lower : (under low end : ℕ) (ws : List Write) → under ≤ low → PlacesRise low ws end → PlacesRise under ws end

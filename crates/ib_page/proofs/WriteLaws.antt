@@ -1,11 +1,13 @@
 -- The words that a page changes, one after another: their number, and how they stand in a buffer.
-use Rattle.std.proofs.Common.{◌≡◌, ℕ, zero, suc, ◌+◌, ◌-◌, ◌*◌, ◌≤◌, ◌∙◌, [], ◌∷◌, ◌++◌, List, length, take, drop, get_or, refl, ap, sym, arith, zero-add, append_assoc, append-nil, length-append}
-use Rattle.std.proofs.lemmas.Bool.{eq-eqb, ne_eqb}
+use Rattle.std.proofs.Common.{◌≡◌, ℕ, zero, suc, ◌+◌, ◌-◌, ◌*◌, ◌≤◌, ◌∙◌, [], ◌∷◌, ◌++◌, List, length, take, drop, get_or, refl, ap, sym, arith, zero-add, inl, inr, append_assoc, append-nil, length-append}
+use Rattle.std.proofs.lemmas.Bool.{cases_eq, eq-eqb, ne_eqb}
 use Rattle.std.proofs.lemmas.List.{take_at, drop-drop, take-append-drop, length-take-le}
+use Rattle.ib_map.specs.declared.TheConstants.{PAGE_WORDS}
 use Rattle.ib_map.specs.declared.write.Write.{Write}
 use Rattle.ib_map.specs.Writes.{word_place, write_words}
 use Rattle.ib_map.proofs.WriteLaws.{length-write_words, write_words-append}
-use Rattle.ib_page.specs.Writes.{word_write, writes_below}
+use Rattle.ib_page.specs.Work.{WorkPage}
+use Rattle.ib_page.specs.Writes.{page_writes, word_write, writes_below, writes_of}
 
 -- what stands behind other words
 drop-behind : (xs ys : List ℕ) (n i : ℕ) → length xs ≡ n → drop (n + i) (xs ++ ys) ≡ drop i ys
@@ -54,6 +56,23 @@ count-le page before changed n m le =
     let e : m - n + n ≡ m = omega arith in
     let same : length (writes_below page before changed (m - n + n)) ≡ length (writes_below page before changed m) = ap (λ k. length (writes_below page before changed k)) e in
     omega arith
+
+-- no more than a page has words
+count_few : (page : ℕ) (before changed : List ℕ) (n : ℕ) → length (writes_below page before changed n) ≤ n
+count_few page before changed zero = let none = ap length (writes_none page before changed) in omega arith
+count_few page before changed (suc n) =
+    let rest = count_few page before changed n in
+    let next : length (writes_below page before changed (suc n)) ≡ length (writes_below page before changed (n + 1)) = ap (λ k. length (writes_below page before changed k)) (let e : suc n ≡ n + 1 = omega arith in e) in
+    elim (cases_eq (get_or before n 0) (get_or changed n 0)) [
+      | inl same ↦ let one = count_same page before changed n same in omega arith
+      | inr differ ↦ let one = count_differ page before changed n differ in omega arith
+    ]
+
+pub writes_few : (ps : List WorkPage) → length (writes_of ps) ≤ PAGE_WORDS * length ps
+writes_few [] = omega arith
+writes_few (p ∷ ps) =
+    let rest = writes_few ps in let all = length-append (page_writes p) (writes_of ps) in
+    let one = count_few p.page p.before p.changed PAGE_WORDS in omega arith
 
 -- an image that isn't changed
 pub writes_same : (page : ℕ) (image : List ℕ) (n : ℕ) → writes_below page image image n ≡ []

@@ -71,6 +71,16 @@ impl Image {
         Image::empty(0, clock)
     }
 
+    /// An empty node, at a level of 1 to `MOST_LEVEL`.
+    pub fn node(level: u32, clock: u64) -> Image
+        requires above { 1 ≤ level }
+        requires low { level ≤ MOST_LEVEL }
+        ensures page { page_of result ≡ Tree (record { level = level; prev = 0; next = 0; clock = clock; records = [] }) }
+        ensures heap { read_heap result ≡ empty_heap }
+    {
+        Image::empty(level, clock)
+    }
+
     /// A free page.
     pub fn free(clock: u64) -> Image
         ensures page { page_of result ≡ Free clock }

@@ -1,11 +1,11 @@
 //! The pages that one change works on, those of a mini-transaction (mtr0mtr), in memory that is taken once.
 
-ghost use Rattle.std.specs.Prelude.{◌≡◌, ◌≢◌, ◌+◌, ◌*◌, ◌<◌, ◌≤◌, ◌++◌, ℕ, [], drop, take, length, slice_get, slice_set, nat_lt, ◌&&◌, ◌||◌, All, None, Some, IsSome, IsSomeAnd, IfSome, IfOk, IsTrue, ◌↔◌, MatchOption};
+ghost use Rattle.std.specs.Prelude.{◌≡◌, ◌≢◌, ◌+◌, ◌*◌, ◌<◌, ◌≤◌, ◌++◌, [], drop, take, length, slice_get, slice_set, nat_lt, ◌&&◌, ◌||◌, true, All, None, Some, IsSome, IsSomeAnd, IfSome, IfOk, IsTrue, ◌↔◌, MatchOption};
 ghost use Rattle.std.specs.List.{prefix_len};
 ghost use Rattle.std.specs.Borrow.{sem};
-ghost use Rattle.ib_map.specs.Writes.{write_words, spans_pages};
+ghost use Rattle.ib_map.specs.Writes.{write_words, spans_pages, touches};
 ghost use Rattle.ib_page.specs.Work.{IsWork, changed_of, before_of, with_read, without_page};
-ghost use Rattle.ib_page.specs.Rooms.{work_page_in, image_in, changed_in};
+ghost use Rattle.ib_page.specs.Rooms.{work_page_in, changed_in};
 ghost use Rattle.ib_page.specs.Writes.{page_writes, writes_of};
 ghost use Rattle.ib_page.specs.Lending.{LendsChanged, LendsRead};
 
@@ -150,8 +150,8 @@ impl WorkSet {
         }
     }
 
-    /// In how many words the changed images differ from those that were read.
-    pub fn difference_count(&self) -> usize
+    /// How many words are changed: in how many the changed images differ from those that were read.
+    pub fn changed(&self) -> usize
         ensures count { result ≡ length (writes_of self.now) }
         ensures work { IsWork self.now }
     {
@@ -160,6 +160,16 @@ impl WorkSet {
             count += differing(*slot, &self.before, &self.changed);
         }
         count
+    }
+
+    /// Whether the page at a place, in the order of pages, is changed: whether a word of its changed image differs from the one that was read.
+    pub fn is_changed_at(&self, place: usize) -> bool
+        requires { place < length self.now }
+        ensures changed { IsSomeAnd (slice_get self.now place) (λ w. IsTrue result ↔ (touches w.page (writes_of self.now) ≡ true)) }
+        ensures work { IsWork self.now }
+    {
+        let images = self.page_at(place);
+        images.before.differences(images.changed) > 0
     }
 
     /// Writes the words that differ to the front of `out`: the place of each, and what it is changed to. All

@@ -86,14 +86,17 @@ raw_fault-one bytes a b (inl found) (inr is) = let none = ap file_fault is.file 
 raw_fault-one bytes a b (inr is) (inl found) = let none = ap file_fault is.file ∙ file_fault-none is.pages is.words is.space in absurd (cc)
 raw_fault-one bytes a b (inr is_a) (inr is_b) = word_fault-one bytes a b is_a is_b
 
+-- bytes are the file of one lawful log
+pub raw_log-one : (bytes : List ℕ) (p q : ℕ) (xs ys : List Entry) → IsRawLog bytes p xs → IsRawLog bytes q ys → (p ≡ q) × (xs ≡ ys)
+raw_log-one bytes p q xs ys one two =
+    let same = file_of-one p q (log_words xs) (log_words ys) (has_pages-fits p one.space) (has_pages-fits q two.space) one.fits two.fits (sym one.file ∙ two.file) in
+    (same.0, log_words-one q xs ys (subst (λ (n : ℕ). AreInGrammar n xs) same.0 one.lawful.grammar) two.lawful.grammar same.1)
+
 -- what is read of a lawful log's file is that log
 pub only_raw_log : (bytes : List ℕ) (r : Result Replayed LogFault) → IfOk r (λ replayed. IsReplayed bytes replayed.entries.items replayed.memory)
     → IfErr r (λ fault. (fault ≡ OutOfMemory) ⊎ IsRawFault bytes fault) → (pages : ℕ) (log : List Entry) → IsRawLog bytes pages log
     → MatchResult r (λ replayed. replayed.entries.items ≡ log) (λ fault. fault ≡ OutOfMemory)
-only_raw_log bytes (Ok replayed) found fault pages log is =
-    let read = found.1 in
-    let same = file_of-one found.0 pages (log_words replayed.entries.items) (log_words log) (has_pages-fits found.0 read.space) (has_pages-fits pages is.space) read.fits is.fits (sym read.file ∙ is.file) in
-    log_words-one pages replayed.entries.items log (subst (λ (p : ℕ). AreInGrammar p replayed.entries.items) same.0 read.lawful.grammar) is.lawful.grammar same.1
+only_raw_log bytes (Ok replayed) found fault pages log is = (raw_log-one bytes found.0 pages replayed.entries.items log found.1 is).1
 only_raw_log bytes (Err e) found (inl memory) pages log is = memory
 only_raw_log bytes (Err e) found (inr fault) pages log is = absurd (raw_log-no_fault bytes pages log e is fault)
 

@@ -51,6 +51,10 @@ pub each_right : {A : Type 0} (P : A → Type 0) (xs ys : List A) → AllByRecur
 each_right P [] ys p = p
 each_right P (x ∷ xs) ys p = each_right P xs ys p.1
 
+pub each_left : {A : Type 0} (P : A → Type 0) (xs ys : List A) → AllByRecursion P (xs ++ ys) → AllByRecursion P xs
+each_left P [] ys each = tt
+each_left P (x ∷ xs) ys each = (each.0, each_left P xs ys each.1)
+
 pub drop_front : {A : Type 0} (xs ys : List A) (n : ℕ) → n ≤ length xs → drop n (xs ++ ys) ≡ drop n xs ++ ys
 drop_front xs ys zero h = refl
 drop_front [] ys (suc n) h = absurd (omega arith)

@@ -1,6 +1,6 @@
 -- One session tells another what it has seen.
-use Rattle.std.proofs.Common.{◌≡◌, ℕ, ◌*◌, ◌^◌, ◌<◌, ◌≤◌, Bool, true, false, cond, List, [], ◌∷◌, ◌++◌, map, set, length, refl, sym, ap, ◌∙◌, subst, arith, length-append}
-use Rattle.std.specs.Prelude.{◌==◌, nat_lt, slice_index, sum_by, if◌then◌else◌, Option, Some, None}
+use Rattle.std.proofs.Common.{◌≡◌, ℕ, ◌+◌, ◌*◌, ◌^◌, ◌<◌, ◌≤◌, Bool, true, false, cond, ◌⊎◌, List, [], ◌∷◌, ◌++◌, drop, map, set, length, refl, sym, ap, ◌∙◌, subst, arith, length-append}
+use Rattle.std.specs.Prelude.{◌==◌, nat_lt, slice_index, sum_by, Option, Some, None}
 use Rattle.std.proofs.lemmas.List.{nil_from_length}
 use Rattle.std.proofs.lemmas.List.Sums.{sum_by_push}
 use Rattle.std.proofs.lemmas.Bool.Decides.{nat_tests}
@@ -13,7 +13,8 @@ use Rattle.ib_map.specs.Space.{has_pages}
 use Rattle.ib_layout.specs.Geometry.{Sizes}
 use Rattle.ib_layout.specs.Places.{latches_of, drawn_place}
 use Rattle.ib_logrec.specs.declared.entry.Entry.{Entry}
-use Rattle.ib_logrec.specs.Log.{by_place}
+use Rattle.ib_logrec.specs.Log.{by_place, log_words, used}
+use Rattle.ib_logrec.proofs.LogLaws.{log_words-append}
 use Rattle.ib_core.specs.Sessions.{idle}
 use Rattle.ib_core.proofs.Places.{at_set, set_again, set_else, sum_at}
 use Rattle.ib_core.proofs.Turned.{choose}
@@ -23,7 +24,7 @@ use Rattle.ib_rule.specs.declared.view.Role.{Role}
 use Rattle.ib_rule.specs.declared.view.Role.TheVariants.{Note, Spent}
 use Rattle.ib_rule.specs.declared.view.View.{View}
 use Rattle.std.specs.List.{AllByRecursion}
-use Rattle.ib_rule.specs.Memory.{entries_of, stored_in, IsAppending}
+use Rattle.ib_rule.specs.Memory.{conflicts, entries_of, stored_in, IsAppending, SinceFact}
 use Rattle.ib_rule.specs.Views.{total, role_of, session_in_view, nothing_seen, with_memory, longer, forgets, note_of, with_note, nobody}
 use Rattle.ib_rule.specs.Roles.{sessions_in, uncounted, drawn_in, is_space, bears, is_drawn, SessionsPart, session_number_of}
 use Rattle.ib_rule.specs.Rule.{LatchPart, IsWriter, IsIdle, RuleHolds}
@@ -35,7 +36,7 @@ use Rattle.ib_rule.proofs.Sessions.{split_step, map_twice}
 use Rattle.ib_rule.proofs.Turning.{map_same}
 use Rattle.ib_rule.proofs.Words.{set_same}
 use Rattle.ib_rule.proofs.Moves.{proper_now, known_now, few_now, taken_now}
-use Rattle.ib_rule.proofs.Lists.{nil_append}
+use Rattle.ib_rule.proofs.Lists.{drop_front, each_left, each_map, nil_append}
 
 -- of two beginnings of one list the shorter begins the longer
 prefix_of : {A : Type 0} (xs ys log : List A) → IsPrefix xs log → IsPrefix ys log → length xs ≤ length ys → IsPrefix xs ys
@@ -175,9 +176,9 @@ module _ (lawful : ℕ → List Entry → Type 0) (opening : ℕ → ℕ → ℕ
       }
 
   module _ (entry : Entry) (slots id : ℕ) (me : Me (Unit {0}) View) where
-    pub meets : has_pages sizes.pages ≡ true → ((n : ℕ) (xs ys : List Entry) → has_pages n ≡ true → lawful n (xs ++ ys) → lawful n xs) → AllByRecursion (λ xs. length xs ≤ length me.0.memory.seen) me.0.memory.met
-        → Allows (RuleHolds lawful opening sizes) slots id me drawn_place (λ n. n) (tells lawful opening sizes entry Meet me)
-    meets sized begins shorter s k _ at _ =
+    pub meets : has_pages sizes.pages ≡ true → ((n : ℕ) (xs ys : List Entry) → has_pages n ≡ true → lawful n (xs ++ ys) → lawful n xs)
+        → Allows (RuleHolds lawful opening sizes) slots id me drawn_place (λ n. n) (tells lawful opening sizes entry Meet (λ n. n) me)
+    meets sized begins s k _ at _ =
         let n : ℕ = slice_index s.words drawn_place in
         let f = k.memory.follows id me.0 at in
         let w : View = with_memory (forgets me.0.memory) me.0 in
@@ -191,11 +192,21 @@ module _ (lawful : ℕ → List Entry → Type 0) (opening : ℕ → ℕ → ℕ
           after,
           (
             record {
-              view = (refl, all_in s k me.0.memory.met f.met shorter f.seen, (begins sizes.pages me.0.memory.seen f.seen.0 sized (subst (lawful sizes.pages) (sym f.seen.1) k.memory.legal)));
+              view = (
+                refl,
+                record {
+                  met = all_in s k me.0.memory.met f.met f.seen;
+                  legal = begins sizes.pages me.0.memory.seen f.seen.0 sized (subst (lawful sizes.pages) (sym f.seen.1) k.memory.legal);
+                  room = let more : used k.log ≡ used me.0.memory.seen + used f.seen.0 = ap used (sym f.seen.1) ∙ (ap length (log_words-append me.0.memory.seen f.seen.0) ∙ length-append (log_words me.0.memory.seen) (log_words f.seen.0)) in let fits = k.memory.room in omega arith;
+                  mine = λ h. (f.mine h).1;
+                  since = stable_there me.0.memory.seen f.seen.0 (subst (λ log. AllByRecursion (SinceFact (session_number_of me.0.role) me.0.session (length me.0.memory.seen) log) me.0.memory.since) (sym f.seen.1) f.since);
+                },
+              );
               event = refl;
               proper = proper_now lawful opening sizes s _ _ id me.1 me.0 w at after;
               known = known_now lawful opening sizes s _ _ id me.1 me.0 w at after;
               range = tt;
+              left = refl;
               few = few_now lawful opening sizes s _ _ id me.1 me.0 w at after;
               taken = taken_now lawful opening sizes s _ _ id me.1 me.0 w at after;
             },
@@ -203,9 +214,18 @@ module _ (lawful : ℕ → List Entry → Type 0) (opening : ℕ → ℕ → ℕ
           ),
         )
       where
-        all_in : (s : State (Unit {0}) View) (k : RuleHolds lawful opening sizes s) (xss : List (List Entry)) → AllByRecursion (λ xs. IsPrefix xs k.log) xss → AllByRecursion (λ xs. length xs ≤ length me.0.memory.seen) xss → IsPrefix me.0.memory.seen k.log → AllByRecursion (λ xs. IsPrefix xs me.0.memory.seen) xss
-        all_in s k [] p q mine = tt
-        all_in s k (xs ∷ xss) p q mine = (prefix_of xs me.0.memory.seen k.log p.0 mine q.0, all_in s k xss p.1 q.1 mine)
+        stable_there : (seen rest : List Entry) → AllByRecursion (SinceFact (session_number_of me.0.role) me.0.session (length seen) (seen ++ rest)) me.0.memory.since → AllByRecursion (SinceFact (session_number_of me.0.role) me.0.session (length seen) seen) me.0.memory.since
+        stable_there seen rest each = each_map (SinceFact (session_number_of me.0.role) me.0.session (length seen) (seen ++ rest)) (SinceFact (session_number_of me.0.role) me.0.session (length seen) seen) me.0.memory.since
+            (λ x fact. (
+              fact.0,
+              fact.1,
+              each_left (λ (e : Entry). (e.session ≡ session_number_of me.0.role) ⊎ (conflicts e x ≡ false)) (drop x.place seen) rest
+                  (subst (λ es. AllByRecursion (λ (e : Entry). (e.session ≡ session_number_of me.0.role) ⊎ (conflicts e x ≡ false)) es) (drop_front seen rest x.place fact.1) fact.2),
+            )) each
+
+        all_in : (s : State (Unit {0}) View) (k : RuleHolds lawful opening sizes s) (xss : List (List Entry)) → AllByRecursion (λ xs. IsPrefix xs k.log) xss → IsPrefix me.0.memory.seen k.log → AllByRecursion (λ xs. length xs ≤ length me.0.memory.seen → IsPrefix xs me.0.memory.seen) xss
+        all_in s k [] p mine = tt
+        all_in s k (xs ∷ xss) p mine = ((λ short. prefix_of xs me.0.memory.seen k.log p.0 mine short), all_in s k xss p.1 mine)
 
         still : (log : List Entry) (words : List ℕ) (o : Rattle.std.specs.Prelude.Option Rattle.ib_rule.specs.declared.memory.OpenAppend.OpenAppend) → IsAppending sizes (lawful sizes.pages) words log (session_number_of me.0.role) me.0.session me.0.memory o
             → IsAppending sizes (lawful sizes.pages) words log (session_number_of me.0.role) me.0.session (forgets me.0.memory) o

@@ -44,7 +44,7 @@ use Rattle.ib_rule.specs.declared.memory.Since.{Since}
 use Rattle.ib_rule.specs.declared.memory.Loaded.{Loaded}
 use Rattle.ib_rule.specs.Rule.{IsWriter, marks_in, LatchPart, IsIdle, RuleHolds}
 use Rattle.ib_rule.specs.Roles.{session_number_of, live, sessions_in, SessionsPart}
-use Rattle.ib_rule.specs.Told.{CanBe, Happens, tells}
+use Rattle.ib_rule.specs.Told.{HasLeft, CanBe, Happens, tells}
 use Rattle.ib_rule.specs.Conditions.{CanTake}
 use Rattle.ib_rule.proofs.Words.{tells_by, place_fits, set_same, marks_away, marks_here, lock_away, lock_else, front, flag_after}
 use Rattle.ib_rule.proofs.Stays.{view_part, latch_far}
@@ -112,7 +112,7 @@ module _ (lawful : ℕ → List Entry → Type 0) (opening : ℕ → ℕ → ℕ
   -- a step that is this event, whatever it finds
   pub turn_allowed : (e : Event) (f : ℕ → ℕ) → latch_of e < latches_of sizes → (live me.0.role ≡ 0 → ⊥) → me.0.memory.append ≡ None
       → ((n : ℕ) → CanBe (word_for e me.0.session) (latch_of e) me.0.session n → CanTake e me.0 n × Leaves (word_for e me.0.session) e me.0.session n (f n))
-      → Allows (RuleHolds lawful opening sizes) slots id me (latch_word_place (word_for e me.0.session) (latch_of e)) f (tells lawful opening sizes entry (Turns e) me)
+      → Allows (RuleHolds lawful opening sizes) slots id me (latch_word_place (word_for e me.0.session) (latch_of e)) f (tells lawful opening sizes entry (Turns e) f me)
   turn_allowed e f inside alive closed leaves s kept sized at fits =
       let n : ℕ = slice_index s.words (latch_word_place (word_for e me.0.session) (latch_of e)) in
       let found = found_in lawful opening sizes s kept id me.0 at (latch_of e) inside (word_for e me.0.session) in
@@ -122,13 +122,13 @@ module _ (lawful : ℕ → List Entry → Type 0) (opening : ℕ → ℕ → ℕ
         keeps,
         tt,
         after,
-        (record { view = refl; event = is; proper = proper_now lawful opening sizes s _ (f n) id me.1 me.0 (view_after (Turns e) n me.0) at after; known = known_now lawful opening sizes s _ (f n) id me.1 me.0 (view_after (Turns e) n me.0) at after; range = found; few = few_now lawful opening sizes s _ (f n) id me.1 me.0 (view_after (Turns e) n me.0) at after; taken = taken_now lawful opening sizes s _ (f n) id me.1 me.0 (view_after (Turns e) n me.0) at after }, refl),
+        (record { view = refl; event = is; proper = proper_now lawful opening sizes s _ (f n) id me.1 me.0 (view_after (Turns e) n me.0) at after; known = known_now lawful opening sizes s _ (f n) id me.1 me.0 (view_after (Turns e) n me.0) at after; range = found; left = (leaves n found).1; few = few_now lawful opening sizes s _ (f n) id me.1 me.0 (view_after (Turns e) n me.0) at after; taken = taken_now lawful opening sizes s _ (f n) id me.1 me.0 (view_after (Turns e) n me.0) at after }, refl),
       )
 
   -- an exchange from the word expected
   pub try_allowed : (e : Event) (expected new : ℕ) → latch_of e < latches_of sizes → (live me.0.role ≡ 0 → ⊥) → me.0.memory.append ≡ None
       → (CanBe (word_for e me.0.session) (latch_of e) me.0.session expected → CanTake e me.0 expected × Leaves (word_for e me.0.session) e me.0.session expected new)
-      → Allows (RuleHolds lawful opening sizes) slots id me (latch_word_place (word_for e me.0.session) (latch_of e)) (λ n. either (n == expected) new n) (tells lawful opening sizes entry (Try e expected) me)
+      → Allows (RuleHolds lawful opening sizes) slots id me (latch_word_place (word_for e me.0.session) (latch_of e)) (λ n. either (n == expected) new n) (tells lawful opening sizes entry (Try e expected) (λ n. either (n == expected) new n) me)
   try_allowed e expected new inside alive closed leaves s kept sized at fits =
       let a : Session = me.0.session in
       let p : ℕ = latch_word_place (word_for e a) (latch_of e) in
@@ -137,29 +137,30 @@ module _ (lawful : ℕ → List Entry → Type 0) (opening : ℕ → ℕ → ℕ
       let looks : Looks = looks_after (Try e expected) a n me.0.looks in
       let both = by_equal (λ b. RuleHolds lawful opening sizes (stepped s (latch_word_place (word_for e me.0.session) (latch_of e)) (either b new (slice_index s.words (latch_word_place (word_for e me.0.session) (latch_of e)))) id me.1
       (with_looks (looks_after (Try e expected) me.0.session (slice_index s.words (latch_word_place (word_for e me.0.session) (latch_of e))) me.0.looks) (turned_by (if b then Some e else None) (slice_index s.words (latch_word_place (word_for e me.0.session) (latch_of e))) me.0)) keeps)
-      × Happens (if b then Some e else None) me.0.session (slice_index s.words (latch_word_place (word_for e me.0.session) (latch_of e))) (turned_by (if b then Some e else None) (slice_index s.words (latch_word_place (word_for e me.0.session) (latch_of e))) me.0).session) n expected
+      × Happens (if b then Some e else None) me.0.session (slice_index s.words (latch_word_place (word_for e me.0.session) (latch_of e))) (turned_by (if b then Some e else None) (slice_index s.words (latch_word_place (word_for e me.0.session) (latch_of e))) me.0).session
+      × HasLeft entry (Try e expected) me.0 (slice_index s.words (latch_word_place (word_for e me.0.session) (latch_of e))) (either b new (slice_index s.words (latch_word_place (word_for e me.0.session) (latch_of e))))) n expected
       (λ hit.
       let can : CanTake e me.0 n = subst (λ n. CanTake e me.0 n) (sym hit) (leaves (subst (λ n. CanBe (word_for e me.0.session) (latch_of e) me.0.session n) hit found)).0 in
       let left : Leaves (word_for e a) e a n new = subst (λ n. Leaves (word_for e me.0.session) e me.0.session n new) (sym hit) (leaves (subst (λ n. CanBe (word_for e me.0.session) (latch_of e) me.0.session n) hit found)).1 in
       let is = turn_is lawful opening sizes s kept id me.0 at alive e inside new left in
-      (turn_keeps lawful opening sizes s kept id me.0 at alive e inside new left can looks closed me.1, is))
-      (λ _. (aside_keeps lawful opening sizes s kept id me.0 at (latch_of e) inside p n looks me.1 (set_same s.words p (place_fits sizes s.words (latch_of e) (word_for e a) kept.sized inside)), refl)) in (
+      (turn_keeps lawful opening sizes s kept id me.0 at alive e inside new left can looks closed me.1, is, ((λ _. left), λ away. absurd (away hit))))
+      (λ away. (aside_keeps lawful opening sizes s kept id me.0 at (latch_of e) inside p n looks me.1 (set_same s.words p (place_fits sizes s.words (latch_of e) (word_for e a) kept.sized inside)), refl, ((λ hit. absurd (away hit)), λ _. refl))) in (
         view_after (Try e expected) n me.0,
         keeps,
         tt,
         both.0,
-        (record { view = refl; event = both.1; proper = proper_now lawful opening sizes s _ _ id me.1 me.0 (view_after (Try e expected) n me.0) at both.0; known = known_now lawful opening sizes s _ _ id me.1 me.0 (view_after (Try e expected) n me.0) at both.0; range = found; few = few_now lawful opening sizes s _ _ id me.1 me.0 (view_after (Try e expected) n me.0) at both.0; taken = taken_now lawful opening sizes s _ _ id me.1 me.0 (view_after (Try e expected) n me.0) at both.0 }, refl),
+        (record { view = refl; event = both.1; proper = proper_now lawful opening sizes s _ _ id me.1 me.0 (view_after (Try e expected) n me.0) at both.0; known = known_now lawful opening sizes s _ _ id me.1 me.0 (view_after (Try e expected) n me.0) at both.0; range = found; left = both.2; few = few_now lawful opening sizes s _ _ id me.1 me.0 (view_after (Try e expected) n me.0) at both.0; taken = taken_now lawful opening sizes s _ _ id me.1 me.0 (view_after (Try e expected) n me.0) at both.0 }, refl),
       )
 
   -- a look at the lock word
-  pub look_allowed : (l : ℕ) → l < latches_of sizes → Allows (RuleHolds lawful opening sizes) slots id me (lock_place l) (λ n. n) (tells lawful opening sizes entry (Looked l) me)
+  pub look_allowed : (l : ℕ) → l < latches_of sizes → Allows (RuleHolds lawful opening sizes) slots id me (lock_place l) (λ n. n) (tells lawful opening sizes entry (Looked l) (λ n. n) me)
   look_allowed l inside s kept sized at fits =
       let n : ℕ = slice_index s.words (lock_place l) in (
         view_after (Looked l) n me.0,
         keeps,
         tt,
         aside_keeps lawful opening sizes s kept id me.0 at l inside (lock_place l) n (looks_after (Looked l) me.0.session n me.0.looks) me.1 (set_same s.words (lock_place l) (place_fits sizes s.words l Lock kept.sized inside)),
-        (record { view = refl; event = refl; proper = kept.latches.good.proper id me.0.session (at_map session_in_view s.views id me.0 at); known = (let k = known_in lawful opening sizes s kept id me.0 at in record { since = k.since; loaded = k.loaded; written = k.written }); range = found_in lawful opening sizes s kept id me.0 at l inside Lock; few = kept.latches.few id me.0.session (at_map session_in_view s.views id me.0 at); taken = kept.paid.bound id me.0 at }, refl),
+        (record { view = refl; event = refl; proper = kept.latches.good.proper id me.0.session (at_map session_in_view s.views id me.0 at); known = (let k = known_in lawful opening sizes s kept id me.0 at in record { since = k.since; loaded = k.loaded; written = k.written }); range = found_in lawful opening sizes s kept id me.0 at l inside Lock; left = refl; few = kept.latches.few id me.0.session (at_map session_in_view s.views id me.0 at); taken = kept.paid.bound id me.0 at }, refl),
       )
 
   -- the wish that is refused is_drawn more takes nothing
@@ -176,7 +177,7 @@ module _ (lawful : ℕ → List Entry → Type 0) (opening : ℕ → ℕ → ℕ
   again_none l n held p busy = absurd (cc)
 
   -- a load of the lock word by who set the flag
-  pub recheck_allowed : (l : ℕ) → l < latches_of sizes → (live me.0.role ≡ 0 → ⊥) → me.0.memory.append ≡ None → Allows (RuleHolds lawful opening sizes) slots id me (lock_place l) (λ n. n) (tells lawful opening sizes entry (Recheck l) me)
+  pub recheck_allowed : (l : ℕ) → l < latches_of sizes → (live me.0.role ≡ 0 → ⊥) → me.0.memory.append ≡ None → Allows (RuleHolds lawful opening sizes) slots id me (lock_place l) (λ n. n) (tells lawful opening sizes entry (Recheck l) (λ n. n) me)
   recheck_allowed l inside alive closed s kept sized at fits =
       let a : Session = me.0.session in
       let n : ℕ = slice_index s.words (lock_place l) in
@@ -187,7 +188,7 @@ module _ (lawful : ℕ → List Entry → Type 0) (opening : ℕ → ℕ → ℕ
         keeps,
         tt,
         both.0,
-        (record { view = refl; event = both.1; proper = proper_now lawful opening sizes s _ _ id me.1 me.0 (view_after (Recheck l) n me.0) at both.0; known = known_now lawful opening sizes s _ _ id me.1 me.0 (view_after (Recheck l) n me.0) at both.0; range = found; few = few_now lawful opening sizes s _ _ id me.1 me.0 (view_after (Recheck l) n me.0) at both.0; taken = taken_now lawful opening sizes s _ _ id me.1 me.0 (view_after (Recheck l) n me.0) at both.0 }, refl),
+        (record { view = refl; event = both.1; proper = proper_now lawful opening sizes s _ _ id me.1 me.0 (view_after (Recheck l) n me.0) at both.0; known = known_now lawful opening sizes s _ _ id me.1 me.0 (view_after (Recheck l) n me.0) at both.0; range = found; left = refl; few = few_now lawful opening sizes s _ _ id me.1 me.0 (view_after (Recheck l) n me.0) at both.0; taken = taken_now lawful opening sizes s _ _ id me.1 me.0 (view_after (Recheck l) n me.0) at both.0 }, refl),
       )
     where
       by_flag : (s : State (Unit {0}) View) → RuleHolds lawful opening sizes s → get_elem? s.views id ≡ some me.0 → (b : Bool) → refuses me.0.session.phase (slice_index s.words (lock_place l)) ≡ b
@@ -204,7 +205,7 @@ module _ (lawful : ℕ → List Entry → Type 0) (opening : ℕ → ℕ → ℕ
 
   -- the session's number is stored as the writer
   pub store_allowed : (l number : ℕ) → l < latches_of sizes → (live me.0.role ≡ 0 → ⊥) → me.0.memory.append ≡ None → 0 < claims l me.0.session → number ≡ session_number_of me.0.role
-      → Allows (RuleHolds lawful opening sizes) slots id me (writer_place l) (λ _. number) (tells lawful opening sizes entry (StoreWriter l) me)
+      → Allows (RuleHolds lawful opening sizes) slots id me (writer_place l) (λ _. number) (tells lawful opening sizes entry (StoreWriter l) (λ _. number) me)
   store_allowed l number inside alive closed claims' mine s kept sized at fits =
       let w : View = signed l me.0 in
       let ss : List Session = map session_in_view s.views in
@@ -243,7 +244,7 @@ module _ (lawful : ℕ → List Entry → Type 0) (opening : ℕ → ℕ → ℕ
         keeps,
         tt,
         after,
-        (record { view = refl; event = refl; proper = proper_now lawful opening sizes s _ _ id me.1 me.0 (signed l me.0) at after; known = known_now lawful opening sizes s _ _ id me.1 me.0 (signed l me.0) at after; range = tt; few = few_now lawful opening sizes s _ _ id me.1 me.0 (signed l me.0) at after; taken = taken_now lawful opening sizes s _ _ id me.1 me.0 (signed l me.0) at after }, refl),
+        (record { view = refl; event = refl; proper = proper_now lawful opening sizes s _ _ id me.1 me.0 (signed l me.0) at after; known = known_now lawful opening sizes s _ _ id me.1 me.0 (signed l me.0) at after; range = tt; left = mine; few = few_now lawful opening sizes s _ _ id me.1 me.0 (signed l me.0) at after; taken = taken_now lawful opening sizes s _ _ id me.1 me.0 (signed l me.0) at after }, refl),
       )
     where
       same_marks : (words : List ℕ) (len l number latches : ℕ) → l < latches → writer_place l < length words → marks_in latches words ≡ marks_in latches (set words (writer_place l) number)
@@ -282,24 +283,24 @@ module _ (lawful : ℕ → List Entry → Type 0) (opening : ℕ → ℕ → ℕ
   -- .. on a word and at a place that are named
   pub turn_allowed_at : (c : LatchWord) (p : ℕ) (e : Event) (f : ℕ → ℕ) → word_for e me.0.session ≡ c → p ≡ latch_word_place c (latch_of e) → latch_of e < latches_of sizes → (live me.0.role ≡ 0 → ⊥) → me.0.memory.append ≡ None
       → ((n : ℕ) → CanBe c (latch_of e) me.0.session n → CanTake e me.0 n × Leaves c e me.0.session n (f n))
-      → Allows (RuleHolds lawful opening sizes) slots id me p f (tells lawful opening sizes entry (Turns e) me)
+      → Allows (RuleHolds lawful opening sizes) slots id me p f (tells lawful opening sizes entry (Turns e) f me)
   turn_allowed_at c p e f is at inside alive closed leaves =
-      subst (λ p. Allows (RuleHolds lawful opening sizes) slots id me p f (tells lawful opening sizes entry (Turns e) me)) (ap (λ c. latch_word_place c (latch_of e)) is ∙ sym at)
+      subst (λ p. Allows (RuleHolds lawful opening sizes) slots id me p f (tells lawful opening sizes entry (Turns e) f me)) (ap (λ c. latch_word_place c (latch_of e)) is ∙ sym at)
       (turn_allowed e f inside alive closed (subst (λ c. (n : ℕ) → CanBe c (latch_of e) me.0.session n → CanTake e me.0 n × Leaves c e me.0.session n (f n)) (sym is) leaves))
 
   pub try_allowed_at : (p : ℕ) (e : Event) (expected new : ℕ) → word_for e me.0.session ≡ Lock → p ≡ lock_place (latch_of e) → latch_of e < latches_of sizes → (live me.0.role ≡ 0 → ⊥) → me.0.memory.append ≡ None
       → (CanBe Lock (latch_of e) me.0.session expected → CanTake e me.0 expected × Leaves Lock e me.0.session expected new)
-      → Allows (RuleHolds lawful opening sizes) slots id me p (λ n. either (n == expected) new n) (tells lawful opening sizes entry (Try e expected) me)
+      → Allows (RuleHolds lawful opening sizes) slots id me p (λ n. either (n == expected) new n) (tells lawful opening sizes entry (Try e expected) (λ n. either (n == expected) new n) me)
   try_allowed_at p e expected new is at inside alive closed leaves =
-      subst (λ p. Allows (RuleHolds lawful opening sizes) slots id me p (λ n. either (n == expected) new n) (tells lawful opening sizes entry (Try e expected) me)) (ap (λ c. latch_word_place c (latch_of e)) is ∙ sym at)
+      subst (λ p. Allows (RuleHolds lawful opening sizes) slots id me p (λ n. either (n == expected) new n) (tells lawful opening sizes entry (Try e expected) (λ n. either (n == expected) new n) me)) (ap (λ c. latch_word_place c (latch_of e)) is ∙ sym at)
       (try_allowed e expected new inside alive closed (subst (λ c. CanBe c (latch_of e) me.0.session expected → CanTake e me.0 expected × Leaves c e me.0.session expected new) (sym is) leaves))
 
-  pub look_allowed_at : (p l : ℕ) → p ≡ lock_place l → l < latches_of sizes → Allows (RuleHolds lawful opening sizes) slots id me p (λ n. n) (tells lawful opening sizes entry (Looked l) me)
-  look_allowed_at p l at inside = subst (λ p. Allows (RuleHolds lawful opening sizes) slots id me p (λ n. n) (tells lawful opening sizes entry (Looked l) me)) (sym at) (look_allowed l inside)
+  pub look_allowed_at : (p l : ℕ) → p ≡ lock_place l → l < latches_of sizes → Allows (RuleHolds lawful opening sizes) slots id me p (λ n. n) (tells lawful opening sizes entry (Looked l) (λ n. n) me)
+  look_allowed_at p l at inside = subst (λ p. Allows (RuleHolds lawful opening sizes) slots id me p (λ n. n) (tells lawful opening sizes entry (Looked l) (λ n. n) me)) (sym at) (look_allowed l inside)
 
-  pub recheck_allowed_at : (p l : ℕ) → p ≡ lock_place l → l < latches_of sizes → (live me.0.role ≡ 0 → ⊥) → me.0.memory.append ≡ None → Allows (RuleHolds lawful opening sizes) slots id me p (λ n. n) (tells lawful opening sizes entry (Recheck l) me)
-  recheck_allowed_at p l at inside alive closed = subst (λ p. Allows (RuleHolds lawful opening sizes) slots id me p (λ n. n) (tells lawful opening sizes entry (Recheck l) me)) (sym at) (recheck_allowed l inside alive closed)
+  pub recheck_allowed_at : (p l : ℕ) → p ≡ lock_place l → l < latches_of sizes → (live me.0.role ≡ 0 → ⊥) → me.0.memory.append ≡ None → Allows (RuleHolds lawful opening sizes) slots id me p (λ n. n) (tells lawful opening sizes entry (Recheck l) (λ n. n) me)
+  recheck_allowed_at p l at inside alive closed = subst (λ p. Allows (RuleHolds lawful opening sizes) slots id me p (λ n. n) (tells lawful opening sizes entry (Recheck l) (λ n. n) me)) (sym at) (recheck_allowed l inside alive closed)
 
   pub store_allowed_at : (p l number : ℕ) → p ≡ writer_place l → l < latches_of sizes → (live me.0.role ≡ 0 → ⊥) → me.0.memory.append ≡ None → 0 < claims l me.0.session → number ≡ session_number_of me.0.role
-      → Allows (RuleHolds lawful opening sizes) slots id me p (λ _. number) (tells lawful opening sizes entry (StoreWriter l) me)
-  store_allowed_at p l number at inside alive closed claims' mine = subst (λ p. Allows (RuleHolds lawful opening sizes) slots id me p (λ _. number) (tells lawful opening sizes entry (StoreWriter l) me)) (sym at) (store_allowed l number inside alive closed claims' mine)
+      → Allows (RuleHolds lawful opening sizes) slots id me p (λ _. number) (tells lawful opening sizes entry (StoreWriter l) (λ _. number) me)
+  store_allowed_at p l number at inside alive closed claims' mine = subst (λ p. Allows (RuleHolds lawful opening sizes) slots id me p (λ _. number) (tells lawful opening sizes entry (StoreWriter l) (λ _. number) me)) (sym at) (store_allowed l number inside alive closed claims' mine)

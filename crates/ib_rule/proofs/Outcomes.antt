@@ -33,9 +33,9 @@ use Rattle.ib_core.proofs.Turned.{choose}
 use Rattle.ib_core.proofs.Weighed.{flagged_response}
 use Rattle.ib_rule.specs.declared.kind.StepKind.TheVariants.{Turn, Try, Recheck, Look}
 use Rattle.ib_rule.specs.declared.view.View.{View}
-use Rattle.ib_rule.specs.Afterwards.{cleared, ex_loaded, flag_loaded, flagged, gen_loaded, granted, in_phase, phased, with_step, word_loaded}
+use Rattle.ib_rule.specs.Afterwards.{cleared, ex_loaded, flag_loaded, flag_looks, flagged, gen_loaded, granted, in_phase, phased, with_step, with_wait, word_loaded}
 use Rattle.ib_rule.specs.Conditions.{IsArmed, MayLoadExGen, MayLoadFlag, MayLoadGen, MayTry, ex_gen_event, flag_event, gen_event, try_event, word_kind}
-use Rattle.ib_rule.specs.Steps.{looked, turn_looks, view_after, refuses}
+use Rattle.ib_rule.specs.Steps.{looked, one_wait_more, turn_looks, view_after, refuses, wait_looks}
 use Rattle.ib_rule.specs.Views.{KnowsHeld, left_as, turned, turned_by, with_grant, with_looks}
 use Rattle.ib_rule.proofs.Gains.{first_held, first_wins, more_claims, more_holds, reserving_held, reserving_wins, too_claims, too_holds}
 use Rattle.ib_rule.proofs.LockSteps.{flagged_for, given_word}
@@ -48,34 +48,49 @@ module _ (v : View) (l n : ℕ) (known : KnowsHeld v) where
   off_lock : (c : LatchWord) (e : Event) → word_for e v.session ≡ c → c ≢ Lock → word_for e v.session ≢ Lock
   off_lock c e is off lock = off (sym is ∙ lock)
 
-  pub gen_view : (wish : Option (Mode × Level)) → MayLoadGen l wish v.session v.session.phase → view_after (Turn (gen_event l wish)) n v ≡ phased (gen_loaded l wish n v.session.phase) v
+  pub gen_view : (wish : Option (Mode × Level)) → MayLoadGen l wish v.session v.session.phase → view_after (Turn (gen_event l wish)) n v ≡ with_wait (phased (gen_loaded l wish n v.session.phase) v)
   gen_view wish may =
       mark_turn (gen_event l wish) n v _ _ known (plain wish) (off_lock Generation (gen_event l wish) (gen_word v l n wish v.session.phase refl may) (λ z. absurd (cc))) refl
       (gen_session v _ l n wish may refl)
+      ∙ ap (λ k. with_looks k (phased (gen_loaded l wish n v.session.phase) v)) (waits wish)
     where
+      waits : (wish : Option (Mode × Level)) → wait_looks (gen_event l wish) v.looks ≡ one_wait_more v.looks
+      waits None = refl
+      waits (Some wish) = refl
+
       plain : (wish : Option (Mode × Level)) → is_plain (gen_event l wish) ≡ true
       plain None = refl
       plain (Some wish) = refl
 
-  pub ex_gen_view : MayLoadExGen l v.session.phase → view_after (Turn (ex_gen_event l v.session.phase)) n v ≡ phased (ex_loaded n v.session.phase) v
+  pub ex_gen_view : MayLoadExGen l v.session.phase → view_after (Turn (ex_gen_event l v.session.phase)) n v ≡ with_wait (phased (ex_loaded n v.session.phase) v)
   ex_gen_view may =
       mark_turn (ex_gen_event l v.session.phase) n v _ _ known (plain v.session.phase) (off_lock ExGeneration (ex_gen_event l v.session.phase) (ex_gen_word v l n v.session.phase refl may) (λ z. absurd (cc))) refl
       (ex_gen_session v _ l n may refl)
+      ∙ ap (λ k. with_looks k (phased (ex_loaded n v.session.phase) v)) (waits v.session.phase)
     where
+      waits : (p : Phase) → wait_looks (ex_gen_event l p) v.looks ≡ one_wait_more v.looks
+      waits (Next k u) = refl
+      waits p = refl
+
       plain : (p : Phase) → is_plain (ex_gen_event l p) ≡ true
       plain (Next k u) = refl
       plain p = refl
 
-  pub flag_view : MayLoadFlag l v.session.phase → view_after (Turn (flag_event l v.session.phase)) n v ≡ phased (flag_loaded n v.session.phase) v
+  pub flag_view : MayLoadFlag l v.session.phase → view_after (Turn (flag_event l v.session.phase)) n v ≡ with_looks (flag_looks v.session.phase v.looks) (phased (flag_loaded n v.session.phase) v)
   flag_view may =
       mark_turn (flag_event l v.session.phase) n v _ _ known (plain v.session.phase) (off_lock Waiters (flag_event l v.session.phase) (flag_load_word v l n v.session.phase) (λ z. absurd (cc))) refl
       (flag_session v _ l n may refl)
+      ∙ ap (λ k. with_looks k (phased (flag_loaded n v.session.phase) v)) (waits v.session.phase)
     where
+      waits : (p : Phase) → wait_looks (flag_event l p) v.looks ≡ flag_looks p v.looks
+      waits (OwesLook k) = refl
+      waits p = refl
+
       plain : (p : Phase) → is_plain (flag_event l p) ≡ true
       plain (OwesLook k) = refl
       plain p = refl
 
-  pub set_view : IsArmed l v.session.phase → view_after (Turn (Flag l)) n v ≡ phased (flagged v.session.phase) v
+  pub set_view : IsArmed l v.session.phase → view_after (Turn (Flag l)) n v ≡ with_wait (phased (flagged v.session.phase) v)
   set_view may = mark_turn (Flag l) n v _ _ known refl (λ z. absurd (cc)) refl (set_session v _ l n may refl)
 
   pub clear_view : v.session.phase ≡ OwesClear l → view_after (Turn (Clear l)) n v ≡ phased (cleared l n) v

@@ -26,7 +26,8 @@ use Rattle.ib_rule.specs.declared.view.Role.TheVariants.{Session as Seated}
 use Rattle.ib_rule.specs.declared.view.View.{View}
 use Rattle.ib_rule.specs.Roles.{sessions_in}
 use Rattle.ib_rule.specs.Views.{KnowsHeld, total, turned, with_grant, longer, with_looks, with_memory}
-use Rattle.ib_rule.specs.Pass.{IsPass, IsFront}
+use Rattle.ib_rule.specs.Pass.{IsPass, IsFront, IsWatching}
+use Rattle.ib_rule.proofs.Watching.{watching_turned}
 
 drawn_as : (m n : ℕ) → n ≡ m → (1 ≤ m) × (m ≤ MOST_SESSIONS) → (1 ≤ n) × (n ≤ MOST_SESSIONS)
 drawn_as m n same is = let a = is.0 in let b = is.1 in (omega arith, omega arith)
@@ -46,9 +47,9 @@ pub pass_turned : (p q : Inside) (e : Event) (n : ℕ) (answer : Answer) (looks 
     → answered answer q.member.session ≡ response_of (word_in n) (marks_found n) e p.member.session
     → q.grants ≡ with_grant (won answer (wish_of p.member.session.phase e)) p.grants
     → q.member.latches ≡ p.member.latches → q.geometry ≡ p.geometry
-    → q.number ≡ p.number → q.place ≡ p.place → q.used ≡ p.used → q.made ≡ p.made → q.words ≡ p.words → q.desk ≡ p.desk
+    → q.number ≡ p.number → q.place ≡ p.place → q.used ≡ p.used → q.made ≡ p.made → q.looked_after ≡ p.looked_after → q.words ≡ p.words → q.desk ≡ p.desk
     → IsPass q
-pass_turned p q e n answer looks is plain view proper known few taken turn counts latches geometry number place used_is made words desk =
+pass_turned p q e n answer looks is plain view proper known few taken turn counts latches geometry number place used_is made looked_after words desk =
     let seen : q.seat.me.0.memory.seen ≡ p.seat.me.0.memory.seen = ap (λ (v : View). v.memory.seen) view in
     let own : q.seat.me.0.memory.own ≡ p.seat.me.0.memory.own = ap (λ (v : View). v.memory.own) view in
     let turn' : answered answer q.member.session ≡ response_of (word_in n) (marks_found n) e p.seat.me.0.session = turn ∙ ap (λ (a : Session). response_of (word_in n) (marks_found n) e a) is.session in
@@ -64,6 +65,8 @@ pass_turned p q e n answer looks is plain view proper known few taken turn count
       place = place ∙ (is.place ∙ sym (ap length seen));
       used = used_is ∙ (is.used ∙ sym (ap used seen));
       made = made ∙ (is.made ∙ sym (ap length own));
+      watches = subst (λ (z : ℕ × View). IsWatching z.0 z.1) (λ j. (sym looked_after j, sym view j))
+          (watching_turned p.looked_after n p.seat.me.0 e looks is.proper (subst (λ (v : View). IsProper v.session) view proper) is.watches);
       front = front_of p.geometry q.geometry p.seat.me.0.memory q.seat.me.0.memory geometry seen own is.front;
       proper = proper;
       known = known;
@@ -75,8 +78,8 @@ pass_turned p q e n answer looks is plain view proper known few taken turn count
 
 -- a pass whose seat knows more of the log and the pages, with its mirrors of that
 pub pass_knows : (p q : Inside) (m : Knowledge) → IsPass p → q.seat.me ≡ (with_memory m p.seat.me.0, p.seat.me.1) → KnowsHeld q.seat.me.0 → q.place ≡ length m.seen → q.used ≡ used m.seen → q.made ≡ length m.own → IsFront p.geometry m
-    → q.geometry ≡ p.geometry → q.number ≡ p.number → q.member ≡ p.member → q.grants ≡ p.grants → q.words ≡ p.words → q.desk ≡ p.desk → IsPass q
-pass_knows p q m is same known place used_is made front geometry number member grants_are words desk =
+    → q.geometry ≡ p.geometry → q.number ≡ p.number → q.member ≡ p.member → q.grants ≡ p.grants → q.words ≡ p.words → q.desk ≡ p.desk → IsWatching q.looked_after q.seat.me.0 → IsPass q
+pass_knows p q m is same known place used_is made front geometry number member grants_are words desk watches =
     let view : q.seat.me.0 ≡ with_memory m p.seat.me.0 = ap (λ (m : Me (Unit {0}) View). m.0) same in record {
       plain = ap (λ (m : Me (Unit {0}) View). m.1) same ∙ is.plain;
       role = ap (λ (v : View). v.role) view ∙ (is.role ∙ ap (λ (k : ℕ). Seated k) (sym number));
@@ -87,6 +90,7 @@ pass_knows p q m is same known place used_is made front geometry number member g
       place = place ∙ sym (ap (λ (v : View). length v.memory.seen) view);
       used = used_is ∙ sym (ap (λ (v : View). used v.memory.seen) view);
       made = made ∙ sym (ap (λ (v : View). length v.memory.own) view);
+      watches = watches;
       front = front_of p.geometry q.geometry m q.seat.me.0.memory geometry (ap (λ (v : View). v.memory.seen) view) (ap (λ (v : View). v.memory.own) view) front;
       proper = subst (λ a. IsProper a) (sym (ap (λ (v : View). v.session) view)) is.proper;
       known = known;

@@ -99,7 +99,7 @@ module _ (lawful : ℕ → List Entry → Type 0) (opening : ℕ → ℕ → ℕ
 
   module _ (entry : Entry) (slots id : ℕ) (me : Me (Unit {0}) View) where
     -- a word of a page that is held
-    page_allowed : (live me.0.role ≡ 0 → ⊥) → (q : ℕ) → q < page_places sizes → me.0.memory.append ≡ None → 0 < holdings (latch_at q) me.0.session → Allows (RuleHolds lawful opening sizes) slots id me (base sizes + q) (λ n. n) (tells lawful opening sizes entry (LoadPage q) me)
+    page_allowed : (live me.0.role ≡ 0 → ⊥) → (q : ℕ) → q < page_places sizes → me.0.memory.append ≡ None → 0 < holdings (latch_at q) me.0.session → Allows (RuleHolds lawful opening sizes) slots id me (base sizes + q) (λ n. n) (tells lawful opening sizes entry (LoadPage q) (λ n. n) me)
     page_allowed alive q inside closed held s k _ at _ =
         let n : ℕ = slice_index s.words (base sizes + q) in
         let f = k.memory.follows id me.0 at in
@@ -126,6 +126,7 @@ module _ (lawful : ℕ → List Entry → Type 0) (opening : ℕ → ℕ → ℕ
               proper = proper_now lawful opening sizes s _ _ id me.1 me.0 (loading q n me.0) at after;
               known = known_now lawful opening sizes s _ _ id me.1 me.0 (loading q n me.0) at after;
               range = tt;
+              left = refl;
               few = few_now lawful opening sizes s _ _ id me.1 me.0 (loading q n me.0) at after;
               taken = taken_now lawful opening sizes s _ _ id me.1 me.0 (loading q n me.0) at after;
             },
@@ -135,16 +136,16 @@ module _ (lawful : ℕ → List Entry → Type 0) (opening : ℕ → ℕ → ℕ
 
     -- .. by its page and index
     pub page_allowed_at : (live me.0.role ≡ 0 → ⊥) → (p page index : ℕ) → p ≡ page_place sizes page index → page < sizes.pages → index < PAGE_WORDS → me.0.memory.append ≡ None → 0 < holdings (page + 2) me.0.session
-        → Allows (RuleHolds lawful opening sizes) slots id me p (λ n. n) (tells lawful opening sizes entry (LoadPage (word_place page index)) me)
+        → Allows (RuleHolds lawful opening sizes) slots id me p (λ n. n) (tells lawful opening sizes entry (LoadPage (word_place page index)) (λ n. n) me)
     page_allowed_at alive p page index is inside small closed held =
-        subst (λ p. Allows (RuleHolds lawful opening sizes) slots id me p (λ n. n) (tells lawful opening sizes entry (LoadPage (word_place page index)) me)) (let z : base sizes + word_place page index ≡ p = omega arith in z)
+        subst (λ p. Allows (RuleHolds lawful opening sizes) slots id me p (λ n. n) (tells lawful opening sizes entry (LoadPage (word_place page index)) (λ n. n) me)) (let z : base sizes + word_place page index ≡ p = omega arith in z)
         (page_allowed alive (word_place page index) (omega arith) closed (subst (λ l. 0 < holdings l me.0.session) (sym (page_latch page index small)) held))
 
     -- a word of the log, of those of the entries seen
-    pub log_allowed_at : (p w : ℕ) → p ≡ log_place sizes w → w < used me.0.memory.seen → Allows (RuleHolds lawful opening sizes) slots id me p (λ n. n) (tells lawful opening sizes entry (LoadLog w) me)
-    log_allowed_at p w is below = subst (λ p. Allows (RuleHolds lawful opening sizes) slots id me p (λ n. n) (tells lawful opening sizes entry (LoadLog w) me)) (sym is) at_log
+    pub log_allowed_at : (p w : ℕ) → p ≡ log_place sizes w → w < used me.0.memory.seen → Allows (RuleHolds lawful opening sizes) slots id me p (λ n. n) (tells lawful opening sizes entry (LoadLog w) (λ n. n) me)
+    log_allowed_at p w is below = subst (λ p. Allows (RuleHolds lawful opening sizes) slots id me p (λ n. n) (tells lawful opening sizes entry (LoadLog w) (λ n. n) me)) (sym is) at_log
       where
-        at_log : Allows (RuleHolds lawful opening sizes) slots id me (log_place sizes w) (λ n. n) (tells lawful opening sizes entry (LoadLog w) me)
+        at_log : Allows (RuleHolds lawful opening sizes) slots id me (log_place sizes w) (λ n. n) (tells lawful opening sizes entry (LoadLog w) (λ n. n) me)
         at_log s k _ at _ =
             let f = k.memory.follows id me.0 at in let seen : List Entry = me.0.memory.seen in
             let rest : List Entry = f.seen.0 in
@@ -165,6 +166,7 @@ module _ (lawful : ℕ → List Entry → Type 0) (opening : ℕ → ℕ → ℕ
                   proper = proper_now lawful opening sizes s _ _ id me.1 me.0 me.0 at after;
                   known = known_now lawful opening sizes s _ _ id me.1 me.0 me.0 at after;
                   range = tt;
+                  left = refl;
                   few = few_now lawful opening sizes s _ _ id me.1 me.0 me.0 at after;
                   taken = taken_now lawful opening sizes s _ _ id me.1 me.0 me.0 at after;
                 },
@@ -173,7 +175,7 @@ module _ (lawful : ℕ → List Entry → Type 0) (opening : ℕ → ℕ → ℕ
             )
 
     -- the log's end: all of the log is seen
-    pub end_allowed : (live me.0.role ≡ 0 → ⊥) → Allows (RuleHolds lawful opening sizes) slots id me end_place (λ n. n) (tells lawful opening sizes entry LoadEnd me)
+    pub end_allowed : (live me.0.role ≡ 0 → ⊥) → Allows (RuleHolds lawful opening sizes) slots id me end_place (λ n. n) (tells lawful opening sizes entry LoadEnd (λ n. n) me)
     end_allowed alive s k _ at _ =
         let n : ℕ = slice_index s.words end_place in
         let f = k.memory.follows id me.0 at in
@@ -216,6 +218,7 @@ module _ (lawful : ℕ → List Entry → Type 0) (opening : ℕ → ℕ → ℕ
               proper = proper_now lawful opening sizes s _ _ id me.1 me.0 (reaching k.log me.0) at after;
               known = known_now lawful opening sizes s _ _ id me.1 me.0 (reaching k.log me.0) at after;
               range = tt;
+              left = refl;
               few = few_now lawful opening sizes s _ _ id me.1 me.0 (reaching k.log me.0) at after;
               taken = taken_now lawful opening sizes s _ _ id me.1 me.0 (reaching k.log me.0) at after;
             },

@@ -14,7 +14,7 @@ use Rattle.atomic_table.proofs.Lists.{at_map}
 use Rattle.ib_layout.specs.Geometry.{Sizes}
 use Rattle.ib_layout.specs.Places.{lock_place, waiters_place, gen_place, ex_gen_place, writer_place, latches_of, drawn_place}
 use Rattle.ib_core.specs.declared.session.Session.{Session}
-use Rattle.ib_core.specs.Sessions.{Stands, idle, taken, grants, all_taken}
+use Rattle.ib_core.specs.Sessions.{idle, taken, grants}
 use Rattle.ib_core.specs.Good.{IsGood}
 use Rattle.ib_core.proofs.Opened.{good_push, good_idle}
 use Rattle.ib_core.proofs.Places.{at_set, at_snoc, at_longer, set_again, set_else, sum_at, one_of, two_of, only_one}
@@ -341,7 +341,7 @@ module _ (lawful : ℕ → List Entry → Type 0) (opening : ℕ → ℕ → ℕ
 
   module _ (entry : Entry) (slots id : ℕ) (me : Me (Unit {0}) View) where
     -- a new seat is counted
-    pub enters : (n : ℕ) → me.0.role ≡ Fresh n → Allows (RuleHolds lawful opening sizes) slots id me drawn_place (λ n. (n + 1) % 2 ^ 64) (tells lawful opening sizes entry Enter me)
+    pub enters : (n : ℕ) → me.0.role ≡ Fresh n → Allows (RuleHolds lawful opening sizes) slots id me drawn_place (λ n. (n + 1) % 2 ^ 64) (tells lawful opening sizes entry Enter (λ n. (n + 1) % 2 ^ 64) me)
     enters n is s k _ at _ =
         let word : ℕ = slice_index s.words drawn_place in
         let roles : List Role = map role_of s.views in
@@ -369,6 +369,7 @@ module _ (lawful : ℕ → List Entry → Type 0) (opening : ℕ → ℕ → ℕ
               proper = proper_now lawful opening sizes s drawn_place _ id me.1 me.0 (with_role (entered me.0.role) me.0) at after;
               known = known_now lawful opening sizes s drawn_place _ id me.1 me.0 (with_role (entered me.0.role) me.0) at after;
               range = tt;
+              left = refl;
               few = few_now lawful opening sizes s drawn_place _ id me.1 me.0 (with_role (entered me.0.role) me.0) at after;
               taken = taken_now lawful opening sizes s drawn_place _ id me.1 me.0 (with_role (entered me.0.role) me.0) at after;
             },
@@ -377,7 +378,7 @@ module _ (lawful : ℕ → List Entry → Type 0) (opening : ℕ → ℕ → ℕ
         )
 
     -- the space looks at the count
-    pub counts : (d : ℕ) (ended : List Ended) → me.0.role ≡ Space d ended → Allows (RuleHolds lawful opening sizes) slots id me drawn_place (λ n. n) (tells lawful opening sizes entry Count me)
+    pub counts : (d : ℕ) (ended : List Ended) → me.0.role ≡ Space d ended → Allows (RuleHolds lawful opening sizes) slots id me drawn_place (λ n. n) (tells lawful opening sizes entry Count (λ n. n) me)
     counts d ended is s k _ at _ =
         let word : ℕ = slice_index s.words drawn_place in
         let roles : List Role = map role_of s.views in
@@ -398,6 +399,7 @@ module _ (lawful : ℕ → List Entry → Type 0) (opening : ℕ → ℕ → ℕ
               range = subst (λ r. (length (ended_in r) ≤ drawn_in r) × (drawn_in r ≤ 1024)) (sym is)
                   (let w = whole_count roles id d ended k.sessions.one_space at' in let o = one_of sessions_in roles id (Space d ended) at' in
                   let p = k.sessions.all_stand in let q = k.sessions.few in (omega arith, omega arith));
+              left = refl;
               few = few_now lawful opening sizes s drawn_place _ id me.1 me.0 me.0 at after;
               taken = taken_now lawful opening sizes s drawn_place _ id me.1 me.0 me.0 at after;
             },

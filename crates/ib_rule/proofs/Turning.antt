@@ -233,6 +233,13 @@ module _ (lawful : ℕ → List Entry → Type 0) (opening : ℕ → ℕ → ℕ
       good_after = good_after;
     }
 
+    -- its marks are those of the state after it, and its answer is the one that the word found tells
+    pub turn_marks : marks_after v.session.phase e (marks_in (latches_of sizes) s.words (latch_of e)) ≡ marks_in (latches_of sizes) (set s.words (latch_word_place (word_for e v.session) (latch_of e)) n') (latch_of e)
+    turn_marks = sym marks_are
+
+    pub turn_answer : (response_of (word_on (latch_of e) (map session_in_view s.views)) (marks_in (latches_of sizes) s.words (latch_of e)) e v.session).answer ≡ (turn_at e (slice_index s.words (latch_word_place (word_for e v.session) (latch_of e))) v.session).answer
+    turn_answer = sym (ap (λ (r : Response). r.answer) same)
+
     module _ (can : CanTake e v n) where
       pub few_after : (j : ℕ) (b : Session) → Stands (set ss id r.session) j b → (k : ℕ) → grants k b ≤ 8192
       few_after = at_set (λ _ b. (k : ℕ) → grants k b ≤ 8192) ss id r.session

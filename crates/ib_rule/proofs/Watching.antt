@@ -3,12 +3,12 @@ use Rattle.std.proofs.Common.{◌≡◌, ◌⊎◌, inl, inr, ⊎_elim, ℕ, ◌
 use Rattle.std.specs.Prelude.{◌||◌, nat_lt}
 use Rattle.std.specs.List.{AllByRecursion}
 use mathlib.Core.Logic.{dite}
-use native.Mathlib.Decide.{ℕ_discrete}
+use native.Mathlib.Decide.{ℕ_discrete, dec_lt}
 use Rattle.ib_levels.specs.declared.holding.Holding.{Holding}
-use Rattle.ib_levels.specs.Holding.{on}
-use Rattle.ib_levels.proofs.Counts.{on-cons, part-away}
+use Rattle.ib_levels.specs.Holding.{is_held, on}
+use Rattle.ib_levels.proofs.Counts.{on-cons, on-none, part-away, unheld_from_none}
 use Rattle.ib_core.specs.declared.session.Session.{Session}
-use Rattle.ib_core.specs.Sessions.{claims, holdings}
+use Rattle.ib_core.specs.Sessions.{claims, grants, holdings}
 use Rattle.ib_map.specs.Writes.{page_at, touches}
 use Rattle.ib_logrec.specs.declared.entry.Entry.{Entry}
 use Rattle.ib_logrec.specs.Log.{memory_after}
@@ -18,7 +18,23 @@ use Rattle.ib_rule.specs.declared.view.View.{View}
 use Rattle.ib_rule.specs.Memory.{conflicts}
 use Rattle.ib_rule.specs.Stores.{IsHarmless}
 use Rattle.ib_rule.specs.Views.{is_watched, reaching, watches_from}
-use Rattle.ib_rule.proofs.Lists.{or_says}
+use Rattle.std.specs.Prelude.{filter, not, ◌==◌, Option, Some, None}
+use Rattle.ib_levels.specs.declared.level.Mode.{Mode}
+use Rattle.ib_levels.specs.declared.level.Mode.TheVariants.{S, Sx, X}
+use Rattle.ib_word.specs.Word.{word_in}
+use Rattle.ib_core.specs.declared.event.Event.{Event}
+use Rattle.ib_core.specs.Debts.{grants_won, wish_of, won}
+use Rattle.ib_core.specs.Good.{IsProper}
+use Rattle.ib_core.specs.Responses.{Response, latch_of}
+use Rattle.ib_core.specs.Table.{response_of}
+use Rattle.ib_core.specs.Turns.{marks_found}
+use Rattle.ib_core.proofs.Near.{Near, all_grants, near_response}
+use Rattle.ib_core.proofs.Pays.{Grows, response_pays, spent_by}
+use Rattle.ib_rule.specs.declared.looks.Grants.{Grants}
+use Rattle.ib_rule.specs.declared.looks.Looks.{Looks}
+use Rattle.ib_rule.specs.Pass.{IsWatching}
+use Rattle.ib_rule.specs.Views.{total, turned, with_grant, with_looks}
+use Rattle.ib_rule.proofs.Lists.{or_denies, or_says}
 
 pub either_true : {c : Bool} (b : Bool) → c ≡ true → (b || c) ≡ true
 either_true true is = refl
@@ -79,3 +95,81 @@ word_stays opening seen [] place none = ap (λ log. memory_after opening log pla
 word_stays opening seen (e ∷ es) place none =
     ap (λ log. memory_after opening log place) (sym (append_assoc seen (e ∷ []) es))
     ∙ (word_stays opening (seen ++ e ∷ []) es place none.1 ∙ memory_after-untouched opening seen e place none.0)
+
+-- a since of a latch that is held stays when what belongs to another one ends
+module _ (k l : ℕ) (a : Session) (held : 0 < holdings k a) where
+  abbrev stays : Since → Bool
+  stays s = not (s.latch == l) || nat_lt 0 (holdings l a)
+
+  not_away : (n : ℕ) (b : Bool) → (n == l) ≡ b → not b ≡ false → n ≡ l
+  not_away n true is none = eqb-true n l is
+  not_away n false is none = absurd (cc)
+
+  its_own : (s : Since) → s.latch ≡ k → stays s ≡ false → ⊥
+  its_own s here ends =
+      let parts = or_denies (not (s.latch == l)) (nat_lt 0 (holdings l a)) ends in
+      let there : s.latch ≡ l = not_away s.latch (s.latch == l) refl parts.0 in
+      let some : nat_lt 0 (holdings l a) ≡ true = lt-ltb 0 (holdings l a) (subst (λ n. 0 < holdings n a) (sym here ∙ there) held) in
+      let none = parts.1 in absurd (cc)
+
+  one_stays : (s : Since) (ss rest : List Since) (b : Bool) → stays s ≡ b → is_watched k (s ∷ ss) ≡ true → (is_watched k ss ≡ true → is_watched k rest ≡ true) → is_watched k (cond b (s ∷ rest) rest) ≡ true
+  one_stays s ss rest true keeps is later = ⊎_elim (λ here. ap (λ b. b || is_watched k rest) here) (λ there. either_true (eqb s.latch k) (later there)) (or_says (eqb s.latch k) (is_watched k ss) is)
+  one_stays s ss rest false ends is later = ⊎_elim (λ here. absurd (its_own s (eqb-true s.latch k here) ends)) (λ there. later there) (or_says (eqb s.latch k) (is_watched k ss) is)
+
+  still_watched : (ss : List Since) → is_watched k ss ≡ true → is_watched k (filter (λ since. not (since.latch == l) || nat_lt 0 (holdings l a)) ss) ≡ true
+  still_watched [] is = is
+  still_watched (s ∷ ss) is = one_stays s ss (filter (λ since. not (since.latch == l) || nat_lt 0 (holdings l a)) ss) (stays s) refl is (λ there. still_watched ss there)
+
+positive : (n m : ℕ) → (n ≡ 0 → m ≡ 0) → 0 < m → 0 < n
+positive n m none some = dite (dec_lt 0 n) (λ yes. yes) (λ no. let zero : n ≡ 0 = omega arith in let z = none zero in absurd (omega arith))
+
+total_more : (mode : Mode) (g : Grants) → total (with_grant (Some mode) g) ≡ total g + 1
+total_more S g = omega arith
+total_more Sx g = omega arith
+total_more X g = omega arith
+
+-- what is watched is watched by the grants, the session and the since alone
+pub watching_same : (n : ℕ) (v w : View) → w.grants ≡ v.grants → w.session ≡ v.session → w.memory.since ≡ v.memory.since → IsWatching n v → IsWatching n w
+watching_same n v w grants session since is = record {
+  before = let t = ap total grants in let b = is.before in omega arith;
+  all = λ same k held. subst (λ ss. is_watched k ss ≡ true) (sym since) (is.all (same ∙ ap total grants) k (subst (λ a. 0 < holdings k a) session held));
+}
+
+-- after a look at the log's end
+pub watching_all : (log : List Entry) (v : View) → IsWatching (total v.grants) (reaching log v)
+watching_all log v = record { before = omega arith; all = λ _ k held. watched_after log v k held }
+
+pub watched_there : (n : ℕ) (v : View) (l : ℕ) → IsWatching n v → n ≡ total v.grants → is_held l v.session.held ≡ true → is_watched l v.memory.since ≡ true
+watched_there n v l is same held = is.all same l
+    (dite (dec_lt 0 (holdings l v.session)) (λ yes. yes) (λ no. let none : holdings l v.session ≡ 0 = omega arith in let un = unheld_from_none l v.session.held none in absurd (cc)))
+
+-- a turn takes a grant, and then there is one since the look, or nothing is held that was not
+pub watching_turned : (n word : ℕ) (v : View) (e : Event) (looks : Looks) → IsProper v.session → IsProper (turned e word v).session → IsWatching n v → IsWatching n (with_looks looks (turned e word v))
+watching_turned n word v e looks proper after w = by_grant (won r.answer (wish_of v.session.phase e)) refl
+  where
+    r : Response
+    r = response_of (word_in word) (marks_found word) e v.session
+
+    near : Near (latch_of e) v.session.held r.session.held
+    near = near_response v.session proper.single (word_in word) (marks_found word) e
+
+    grows : Grows (latch_of e) v.session.held v.session.phase (wish_of v.session.phase e) (spent_by v.session.phase e) r
+    grows = response_pays (word_in word) (marks_found word) e v.session proper
+
+    held_before : won r.answer (wish_of v.session.phase e) ≡ None → (k : ℕ) → 0 < holdings k r.session → 0 < holdings k v.session
+    held_before none k held = dite (ℕ_discrete (latch_of e) k)
+        (λ here. subst (λ k. 0 < holdings k r.session → 0 < holdings k v.session) here
+        (λ held. positive (holdings (latch_of e) v.session) (grants (latch_of e) v.session) (on-none (latch_of e) all_grants v.session.held)
+        (let few = grows.few in let won_none = ap grants_won none in let solid = after.solid (latch_of e) in omega arith)) held)
+        (λ away. subst (λ n. 0 < n) (near.away k away (λ h. 1)) held)
+
+    by_grant : (o : Option Mode) → won r.answer (wish_of v.session.phase e) ≡ o → IsWatching n (with_looks looks (turned e word v))
+    by_grant (Some mode) wins =
+        let more : total (turned e word v).grants ≡ total v.grants + 1 = ap (λ o. total (with_grant o v.grants)) wins ∙ total_more mode v.grants in
+        let few = w.before in record { before = omega arith; all = λ is. absurd (omega arith) }
+    by_grant None none =
+        let same : total (turned e word v).grants ≡ total v.grants = ap (λ o. total (with_grant o v.grants)) none in
+        let few = w.before in record {
+          before = omega arith;
+          all = λ is k held. still_watched k (latch_of e) r.session held v.memory.since (w.all (is ∙ same) k (held_before none k held));
+        }

@@ -10,8 +10,9 @@ use Rattle.ib_core.specs.declared.session.Session.{Session}
 use Rattle.ib_core.specs.Sessions.{sx_grants}
 use Rattle.ib_core.specs.Table.{owns_x_at}
 use Rattle.ib_core.specs.Takings.{is_given_at}
+use Rattle.ib_rule.specs.declared.looks.Looks.{Looks}
 use Rattle.ib_rule.specs.declared.view.View.{View}
-use Rattle.ib_rule.specs.Steps.{looked, stepped_on}
+use Rattle.ib_rule.specs.Steps.{looked, one_wait_more, stepped_on}
 use Rattle.ib_rule.specs.Views.{with_grant, with_looks}
 
 -- the session in another phase
@@ -37,6 +38,10 @@ tried_on l expected found v = with_looks (looked l (cell_of found.0) (Some (cell
 -- a step on a lock word that is no look
 abbrev pub with_step : View → View
 with_step v = with_looks (stepped_on v.looks) v
+
+-- a step of who waits, on a flag or a generation
+abbrev pub with_wait : View → View
+with_wait v = with_looks (one_wait_more v.looks) v
 
 -- who is about to sleep, or sleeps, looked at its generation: it sleeps on where that is the recorded one
 abbrev pub slept : ℕ → Phase → Phase
@@ -65,6 +70,11 @@ ex_loaded n p = slept n p
 abbrev pub flag_loaded : ℕ → Phase → Phase
 flag_loaded n (OwesLook l) = if nat_lt 0 n then OwesClear l else Free
 flag_loaded n p = Free
+
+-- .. which is a step of who waits, but for the look that is owed
+abbrev pub flag_looks : Phase → Looks → Looks
+flag_looks (OwesLook l) k = k
+flag_looks p k = one_wait_more k
 
 -- the waiters flag was cleared: who cleared it where it was set owes the raise
 abbrev pub cleared : ℕ → ℕ → Phase

@@ -10,7 +10,7 @@ use Rattle.ib_core.specs.declared.phase.Phase.TheVariants.{Free, Flagged, Checke
 use Rattle.ib_core.specs.declared.event.Event.{Event}
 use Rattle.ib_core.specs.declared.event.Event.TheVariants.{Ready, Again, Usx, Sx, Arm, Sleep, Exarm, Look as LookEvent, Quit}
 use Rattle.ib_core.specs.declared.session.Session.{Session}
-use Rattle.ib_core.specs.Sessions.{grants}
+use Rattle.ib_core.specs.Sessions.{claims, grants, reads}
 use Rattle.ib_core.specs.Responses.{latch_of}
 use Rattle.ib_core.specs.Takings.{wish}
 use Rattle.ib_core.specs.Turns.{turn_at}
@@ -28,6 +28,11 @@ held_now a = sum_by (λ h. h.s + h.sx + h.x) a.held
 -- it may take a grant: it holds few enough now, and has taken few enough ever
 abbrev pub MayGrow : View → Type 0
 MayGrow v = (total v.grants < 2 ^ 52) × (held_now v.session < 8192)
+
+-- SX or X may be wished for on the latch: nothing is read there, and where nothing is held there the latch may be taken at the level
+pub record MayClaim (l : ℕ) (v : Level) (a : Session) : Type 0 where
+  pub unread : reads l a ≡ 0
+  pub new : claims l a ≡ 0 → CanWish l v a
 
 -- the event at the word takes no grant, or there is room for one
 abbrev pub CanTake : Event → View → ℕ → Type 0

@@ -1,10 +1,10 @@
 -- What contracts see of a pass, and how its fields stand for that.
-use Rattle.std.specs.Prelude.{◌≡◌, ℕ, ◌≤◌, ◌^◌, Bool, List, [], length, vec_len, None}
+use Rattle.std.specs.Prelude.{◌≡◌, ℕ, ◌<◌, ◌≤◌, ◌^◌, Bool, true, List, [], length, vec_len, None}
 use Rattle.atomic_table.specs.Seated.{TableId}
 use Rattle.ib_layout.specs.Geometry.{Sizes}
 use Rattle.ib_layout.specs.Places.{latches_of}
 use Rattle.ib_core.specs.Good.{IsProper}
-use Rattle.ib_core.specs.Sessions.{grants}
+use Rattle.ib_core.specs.Sessions.{grants, holdings, idle}
 use Rattle.ib_logrec.specs.declared.entry.TheConstants.{MOST_SESSIONS}
 use Rattle.ib_logrec.specs.Log.{used}
 use Rattle.ib_levels.specs.declared.latch.Latch.{Latch}
@@ -16,7 +16,7 @@ use Rattle.ib_rule.specs.declared.memory.Knowledge.{Knowledge}
 use Rattle.ib_rule.specs.declared.view.Role.TheVariants.{Session}
 use Rattle.ib_rule.specs.declared.view.View.{View}
 use Rattle.ib_rule.specs.Desk.{IsDesk, desk_state}
-use Rattle.ib_rule.specs.Views.{total, KnowsHeld}
+use Rattle.ib_rule.specs.Views.{total, KnowsHeld, is_watched}
 use Rattle.ib_rule.specs.Space.{SpaceState}
 
 -- a pass: the sizes of its space, its number and view, whether its scratch is in it and free, whether a mini-transaction works in the scratch, on which pages and with which grants, and its words for an entry
@@ -45,6 +45,12 @@ pub record IsOf (space : SpaceState) (p : PassState) : Type 0 where
   pub sizes : p.sizes ≡ space.sizes
   pub closed : p.view.memory.append ≡ None
 
+-- a pass of the space at rest, as a call on an index asks for it and leaves it: its session holds nothing and is in the middle of nothing, and its scratch is in it and free
+pub record IsAtRest (space : SpaceState) (p : PassState) : Type 0 where
+  pub own : IsOf space p
+  pub idle : p.view.session ≡ idle
+  pub scratch : p.has_scratch ≡ true
+
 abbrev pub pass_state : Inside → PassState
 pass_state p = let d = desk_state p.desk in record { table = p.seat.table_id; sizes = p.geometry; number = p.number; view = p.seat.me.0; has_scratch = d.is_free; is_working = d.is_taken; work = d.work; memo = d.memo; words = p.words.items }
 
@@ -53,6 +59,11 @@ pub record IsFront (sizes : Sizes) (m : Knowledge) : Type 0 where
   pub mine : length m.own ≤ length m.seen
   pub short : length m.seen ≤ used m.seen
   pub room : used m.seen ≤ sizes.log_words
+
+-- so many grants were taken before the last look at the log's end: where none was since, each latch that is held has a since
+pub record IsWatching (n : ℕ) (v : View) : Type 0 where
+  pub before : n ≤ total v.grants
+  pub all : n ≡ total v.grants → (l : ℕ) → 0 < holdings l v.session → is_watched l v.memory.since ≡ true
 
 -- the fields of a pass mirror the view of its seat
 pub record IsPass (p : Inside) : Type 0 where
@@ -65,6 +76,7 @@ pub record IsPass (p : Inside) : Type 0 where
   pub place : p.place ≡ length p.seat.me.0.memory.seen
   pub used : p.used ≡ used p.seat.me.0.memory.seen
   pub made : p.made ≡ length p.seat.me.0.memory.own
+  pub watches : IsWatching p.looked_after p.seat.me.0
   pub front : IsFront p.geometry p.seat.me.0.memory
   pub proper : IsProper p.seat.me.0.session
   pub known : KnowsHeld p.seat.me.0

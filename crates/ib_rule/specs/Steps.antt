@@ -1,5 +1,6 @@
 -- What each kind of atomic step is: its word, its event of the latch machine, and the view after it.
 use Rattle.std.specs.Prelude.{ℕ, ◌+◌, ◌-◌, ◌%◌, ◌^◌, Bool, false, ◌==◌, if◌then◌else◌, not, ◌∷◌, Option, Some, None}
+use prog.Atomic.{either}
 use Rattle.ib_word.specs.Word.{word_in}
 use Rattle.ib_layout.specs.Places.{lock_place, waiters_place, writer_place, gen_place, ex_gen_place}
 use Rattle.ib_core.specs.declared.latch_word.LatchWord.{LatchWord}
@@ -7,7 +8,7 @@ use Rattle.ib_core.specs.declared.latch_word.LatchWord.TheVariants.{Lock, Waiter
 use Rattle.ib_core.specs.declared.phase.Phase.{Phase}
 use Rattle.ib_core.specs.declared.phase.Phase.TheVariants.{Flagged}
 use Rattle.ib_core.specs.declared.event.Event.{Event}
-use Rattle.ib_core.specs.declared.event.Event.TheVariants.{Again, Ready}
+use Rattle.ib_core.specs.declared.event.Event.TheVariants.{Again, Arm, Exarm, Flag, Quit, Ready, Sleep}
 use Rattle.ib_core.specs.declared.session.Session.{Session}
 use Rattle.ib_core.specs.Responses.{latch_of}
 use Rattle.ib_core.specs.Takings.{is_given_at}
@@ -15,7 +16,7 @@ use Rattle.ib_core.specs.Turns.{word_for}
 use Rattle.ib_rule.specs.declared.kind.StepKind.{StepKind}
 use Rattle.ib_rule.specs.declared.kind.StepKind.TheVariants.{Turn, Try, Recheck, Look, StoreWriter, Enter, Count, Meet, LoadPage}
 use Rattle.ib_rule.specs.declared.kind.WordOp.{WordOp}
-use Rattle.ib_rule.specs.declared.kind.WordOp.TheVariants.{Load, Swap, Add, Sub}
+use Rattle.ib_rule.specs.declared.kind.WordOp.TheVariants.{Load, Swap, Add, Sub, Exchange}
 use Rattle.ib_rule.specs.declared.looks.Looks.{Looks}
 use Rattle.ib_rule.specs.declared.view.View.{View}
 use Rattle.ib_rule.specs.Roles.{entered}
@@ -35,6 +36,7 @@ run Load n = n
 run (Swap k) n = k
 run (Add k) n = (n + k) % 2 ^ 64
 run (Sub k) n = (n + (2 ^ 64 - k)) % 2 ^ 64
+run (Exchange old new) n = either (n == old) new n
 
 -- the wish of a session that has set the flag is refused at the word
 abbrev pub refuses : Phase → ℕ → Bool
@@ -50,17 +52,30 @@ event_at _ a n = None
 
 -- a look more
 abbrev pub looked : ℕ → ℕ → Option ℕ → Looks → Looks
-looked l found expected k = record { count = k.count + 1; steps = k.steps + 1; all = record { latch = l; found = found; expected = expected; at = k.steps } ∷ k.all }
+looked l found expected k = record { count = k.count + 1; steps = k.steps + 1; waits = k.waits; all = record { latch = l; found = found; expected = expected; at = k.steps } ∷ k.all }
 
 -- a step more on a lock word, that is no look
 abbrev pub stepped_on : Looks → Looks
 stepped_on k = record k { steps = k.steps + 1 }
 
+-- a step more of who waits
+abbrev pub one_wait_more : Looks → Looks
+one_wait_more k = record k { waits = k.waits + 1 }
+
+-- the events of who waits, as steps on a flag or a generation. What a release owes is none of them
+abbrev pub wait_looks : Event → Looks → Looks
+wait_looks (Arm l mode v) k = one_wait_more k
+wait_looks (Flag l) k = one_wait_more k
+wait_looks (Quit l) k = one_wait_more k
+wait_looks (Sleep l) k = one_wait_more k
+wait_looks (Exarm l) k = one_wait_more k
+wait_looks e k = k
+
 -- a load of the lock word that is an event is a look all the same
 abbrev pub turn_looks : LatchWord → Event → ℕ → Looks → Looks
 turn_looks Lock (Ready l) n k = looked l n None k
 turn_looks Lock e n k = stepped_on k
-turn_looks c e n k = k
+turn_looks c e n k = wait_looks e k
 
 abbrev pub looks_after : StepKind → Session → ℕ → Looks → Looks
 looks_after (Turn e) a n k = turn_looks (word_for e a) e n k

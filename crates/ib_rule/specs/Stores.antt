@@ -77,6 +77,14 @@ pub record ShowsWholeLog (sizes : Sizes) (lawful : List Entry → Type 0) (openi
   pub since : AllByRecursion (SinceFact (session_number_of v.role) v.session (length v.memory.seen) log) v.memory.since
   pub loaded : AllByRecursion (LoadedFact opening v.session log) v.memory.loaded
 
+-- what a look at the table tells that loads no word of the log: whatever was met and is no longer than what is seen is a front of that, which is lawful, in the log's room, and has the session's own entries, and what the session holds with a since is stable there
+pub record ShowsSeen (sizes : Sizes) (lawful : List Entry → Type 0) (v : View) : Type 0 where
+  pub met : AllByRecursion (λ xs. length xs ≤ length v.memory.seen → IsPrefix xs v.memory.seen) v.memory.met
+  pub legal : lawful v.memory.seen
+  pub room : used v.memory.seen ≤ sizes.log_words
+  pub mine : 0 < session_number_of v.role → entries_of (session_number_of v.role) v.memory.seen ≡ v.memory.own
+  pub since : AllByRecursion (SinceFact (session_number_of v.role) v.session (length v.memory.seen) v.memory.seen) v.memory.since
+
 -- an entry of another session that conflicts with no latch that has a since
 abbrev pub IsHarmless : ℕ → List Since → Entry → Type 0
 IsHarmless n since e = (e.session ≢ n) × AllByRecursion (λ s. conflicts e s ≡ false) since

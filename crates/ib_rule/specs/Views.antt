@@ -46,7 +46,7 @@ abbrev pub no_grants : Grants
 no_grants = record { s = 0; sx = 0; x = 0 }
 
 abbrev pub no_looks : Looks
-no_looks = record { count = 0; steps = 0; all = [] }
+no_looks = record { count = 0; steps = 0; waits = 0; all = [] }
 
 abbrev pub nothing_seen : Knowledge
 nothing_seen = record { met = []; seen = []; own = []; ends = []; since = []; loaded = []; append = None }

@@ -1,9 +1,9 @@
 //! The end of a space: its words, once nobody shares them any more.
 
-ghost use Rattle.std.specs.Prelude.{◌≡◌, ◌<◌, ◌≤◌, ◌^◌, ◌%◌, ℕ, [], length, slice_index, vec_capacity, IfOk, IfErr};
+ghost use Rattle.std.specs.Prelude.{◌≡◌, ◌<◌, ◌≤◌, ◌%◌, ℕ, [], length, slice_index, vec_capacity, IfOk, IfErr};
 ghost use Rattle.std.specs.Slots.{IsFull, slots_items, slots_len};
 ghost use Rattle.ib_map.specs.declared.TheConstants.{PAGE_WORDS};
-ghost use Rattle.ib_layout.specs.Places.{page_place, words_of};
+ghost use Rattle.ib_layout.specs.Places.{page_place};
 ghost use Rattle.ib_rule.specs.Closed.{IsClosed, IsSized, log_in};
 
 use crate::space::Space;
@@ -93,8 +93,10 @@ impl<L: Law> Space<L> {
         })
     }
 
-    /// Gives the space up, with its log and its pages: for who cannot close it.
-    pub fn discard(self) {
+    /// Gives the space up, with its log and its pages, where nobody is connected: for who cannot close it.
+    pub fn discard(self)
+        requires { length self.ended ≡ self.drawn }
+    {
         let Space {
             table,
             rest,

@@ -47,4 +47,6 @@ pub enum WordOp {
     Add(u64),
     /// Takes off it.
     Sub(u64),
+    /// Writes the second word, where it finds the first.
+    Exchange(u64, u64),
 }

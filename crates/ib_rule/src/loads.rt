@@ -6,6 +6,7 @@ ghost use Rattle.ib_map.specs.declared.TheConstants.{PAGE_WORDS};
 ghost use Rattle.ib_map.specs.Space.{has_pages};
 ghost use Rattle.ib_map.specs.Writes.{word_place};
 ghost use Rattle.ib_layout.specs.Places.{page_place, words_of};
+ghost use Rattle.ib_core.specs.declared.phase.Phase.TheVariants.{Free};
 ghost use Rattle.ib_core.specs.Sessions.{holdings};
 ghost use Rattle.ib_logrec.specs.Log.{by_place, log_words, memory_after, used};
 ghost use Rattle.ib_rule.specs.declared.loads.TheConstants.{LINE_WORDS};
@@ -17,6 +18,7 @@ ghost use Rattle.ib_rule.specs.Stores.{IsLook};
 ghost use Rattle.ib_rule.specs.Views.{KnowsHeld, is_watched, loading, reaching};
 
 use crate::kind::{StepKind, WordOp};
+use crate::looks::Grants;
 use crate::pass::Pass;
 use crate::space::Space;
 use crate::step::{Board, act};
@@ -33,7 +35,8 @@ use std::marker::Brand;
 const LINE_WORDS: usize = 8;
 
 impl<L: Law> Space<L> {
-    /// Loads a word of a page that the session holds in some mode. While it holds the page, and until
+    /// Loads a word of a page that the session holds in some mode, in the middle of nothing: a next
+    /// writer waits until it owns X. While it holds the page, and until
     /// it stores a word of an entry itself, the word stays that of the page. Where it has looked at the
     /// log's end since it took the latch, the word is that of the page after all entries seen: what the
     /// log has beyond them wrote no word of the page.
@@ -41,6 +44,7 @@ impl<L: Law> Space<L> {
         requires own { IsOf self.now pass.old }
         requires page { page < self.now.sizes.pages }
         requires index { index < PAGE_WORDS }
+        requires free { pass.old.view.session.phase ≡ Free }
         requires held { 0 < holdings (page + 2) pass.old.view.session }
         ensures view { pass.new ≡ with_view pass.old
             (loading (word_place page index) result pass.old.view) }
@@ -65,6 +69,7 @@ impl<L: Law> Space<L> {
     pub fn load_page(&self, pass: &mut Pass, page: u32, out: &mut Image)
         requires own { IsOf self.now pass.old }
         requires page { page < self.now.sizes.pages }
+        requires free { pass.old.view.session.phase ≡ Free }
         requires held { 0 < holdings (page + 2) pass.old.view.session }
         ensures view { pass.new
             ≡ with_view pass.old (with_page_loaded page out.new pass.old.view) }
@@ -81,6 +86,7 @@ impl<L: Law> Space<L> {
     /// Loads a word of the log, of those that the entries seen have.
     pub fn load_log_word(&self, pass: &mut Pass, number: u32) -> u64
         requires own { IsFrom self.now pass.old }
+        requires free { pass.old.view.session.phase ≡ Free }
         requires below { number < used pass.old.view.memory.seen }
         ensures same { pass.new ≡ pass.old }
         ensures word { result ≡ slice_index_or (log_words pass.old.view.memory.seen) number 0 }
@@ -99,6 +105,7 @@ impl<L: Law> Space<L> {
     /// held is right still. It answers the word: 2^32 for each entry, and one for each of their words.
     pub fn load_end(&self, pass: &mut Pass) -> u64
         requires own { IsFrom self.now pass.old }
+        requires free { pass.old.view.session.phase ≡ Free }
         ensures view { pass.new
             ≡ with_view pass.old (reaching pass.new.view.memory.seen pass.old.view) }
         ensures looked { IsLook self.now.sizes (L.lawful self.now.sizes.pages) pass.old.view
@@ -119,6 +126,8 @@ impl<L: Law> Space<L> {
         );
         pass.place = (end / (1 << 32)) as u32;
         pass.used = (end % (1 << 32)) as u32;
+        let Grants { s, sx, x } = pass.grants;
+        pass.looked_after = s + sx + x;
         end
     }
 }

@@ -1,4 +1,4 @@
-//! Grants, and looks at lock words.
+//! Grants, looks at lock words, and the steps of who waits.
 
 use std::collections::LinkedList;
 
@@ -31,12 +31,16 @@ pub struct Look {
     pub at: u64,
 }
 
-/// The looks of a session.
+/// The looks of a session, and how many other steps it made.
 pub struct Looks {
     /// How many there were.
     pub count: u64,
     /// How many steps on lock words there were, looks and others.
     pub steps: u64,
+    /// How many steps on waiters flags and generations there were as one that waits: a generation
+    /// recorded or looked at, a flag set, a wish given up. What a release owes is not among them: it
+    /// makes just the steps that the words ask for.
+    pub waits: u64,
     /// All looks, the last one first.
     pub all: LinkedList<Look>,
 }

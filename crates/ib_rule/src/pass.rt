@@ -1,9 +1,8 @@
 //! The token of one session, and what a caller may ask it.
 
-ghost use Rattle.std.specs.Prelude.{◌≡◌, ◌↔◌, ◌+◌, ◌<◌, ◌≤◌, ◌^◌, None, sum_by, true, false, [], IsTrue, length, slice_get, vec_capacity, IfSome};
+ghost use Rattle.std.specs.Prelude.{◌≡◌, ◌↔◌, ◌+◌, ◌<◌, ◌≤◌, ◌^◌, None, sum_by, true, false, [], IsTrue, length, vec_capacity};
 ghost use Rattle.ib_levels.specs.Holding.{is_held, levels_of};
 ghost use Rattle.ib_levels.specs.Listed.{answer_to};
-ghost use Rattle.ib_core.specs.Good.{IsProper};
 ghost use Rattle.ib_core.specs.Holders.{CanWish};
 ghost use Rattle.ib_core.specs.Sessions.{claims, idle, reads, sx_grants, x_grants};
 ghost use Rattle.ib_logrec.specs.declared.entry.TheConstants.{MOST_SESSIONS};
@@ -53,6 +52,8 @@ pub struct Pass {
     pub(crate) place: u32,
     pub(crate) used: u32,
     pub(crate) made: u32,
+    // How many grants it had taken at its last look at the log's end.
+    pub(crate) looked_after: u64,
     pub(crate) words: Vec<u64>,
     pub(crate) desk: Desk,
 }
@@ -255,6 +256,7 @@ impl Pass {
             place: _,
             used: _,
             made: _,
+            looked_after: _,
             words: _,
             desk: _,
         } = self;

@@ -1,6 +1,6 @@
 //! The memory of a pass, before it has a seat.
 
-ghost use Rattle.std.specs.Prelude.{◌≡◌, ◌<◌, ◌≤◌, ◌+◌, true, [], IfOk};
+ghost use Rattle.std.specs.Prelude.{◌≡◌, ◌<◌, ◌≤◌, true, [], IfOk};
 ghost use Rattle.ib_layout.specs.Places.{latches_of};
 ghost use Rattle.ib_logrec.specs.declared.entry.TheConstants.{MOST_SESSIONS};
 ghost use Rattle.ib_rule.specs.declared.view.Role.TheVariants.{Session};
@@ -68,6 +68,7 @@ impl Room {
             place: 0,
             used: 0,
             made: 0,
+            looked_after: 0,
             words,
             desk: Desk::Free(scratch),
         }

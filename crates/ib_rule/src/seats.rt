@@ -6,6 +6,7 @@ ghost use mathlib.Core.List.{IsPrefix};
 ghost use Rattle.ib_core.specs.Sessions.{idle};
 ghost use Rattle.ib_rule.specs.declared.view.Role.TheVariants.{Session};
 ghost use Rattle.ib_rule.specs.Roles.{drawn_in, ended_in, session_number_of};
+ghost use Rattle.ib_rule.specs.Stores.{IsLook};
 ghost use Rattle.ib_rule.specs.Views.{ended_as, longer, plus, seated, seeing, space_at};
 
 use crate::kind::{StepKind, WordOp};
@@ -75,12 +76,14 @@ pub(crate) fn leave<L: Law>(shared: &Board<L>, own: &mut Seat<(), View>, other: 
 }
 
 // Tells one session what another has seen: a note is split off the one and joined into the other,
-// which then looks at the table, since a join tells nothing.
+// which looks at the table before and after, since a join tells nothing.
 pub(crate) fn tell<L: Law>(shared: &Board<L>, to: &mut Seat<(), View>, from: &mut Seat<(), View>)
     requires table { (to.old.table_id ≡ shared.now.table_id)
         × (from.old.table_id ≡ shared.now.table_id) }
     requires words { 0 < shared.now.table_id.words }
     requires pages { has_pages shared.now.key.pages ≡ true }
+    requires session { to.old.me.0.role ≡ Session (session_number_of to.old.me.0.role) }
+    requires number { 0 < session_number_of to.old.me.0.role }
     ensures to { (to.new.table_id ≡ to.old.table_id) × (to.new.id ≡ to.old.id)
         × (to.new.me ≡ (
           seeing (longer to.old.me.0.memory.seen from.old.me.0.memory.seen)
@@ -89,10 +92,11 @@ pub(crate) fn tell<L: Law>(shared: &Board<L>, to: &mut Seat<(), View>, from: &mu
         )) }
     ensures from { (from.new.table_id ≡ from.old.table_id) × (from.new.id ≡ from.old.id)
         × (from.new.me ≡ from.old.me) }
-    ensures mine { IsPrefix to.old.me.0.memory.seen to.new.me.0.memory.seen }
+    ensures looked { IsLook shared.now.key (L.lawful shared.now.key.pages) to.old.me.0
+        to.new.me.0.memory.seen }
     ensures theirs { IsPrefix from.old.me.0.memory.seen to.new.me.0.memory.seen }
-    ensures legal { L.lawful shared.now.key.pages to.new.me.0.memory.seen }
 {
+    act::<L, Brand>(shared, to, DRAWN_PLACE, WordOp::Load, StepKind::Meet);
     let note = shared.split_seat::<Telling>(from);
     shared.join_seat::<Telling>(to, note);
     act::<L, Brand>(shared, to, DRAWN_PLACE, WordOp::Load, StepKind::Meet);

@@ -10,7 +10,8 @@ ghost use Rattle.ib_core.specs.declared.phase.Phase.TheVariants.{Free, OwesClear
 ghost use Rattle.ib_rule.specs.Pass.{IsOf, with_view};
 ghost use Rattle.ib_rule.specs.Conditions.{IsArmed, MayLoadExGen, MayLoadFlag, MayLoadGen, ex_gen_event, flag_event, gen_event};
 ghost use Rattle.ib_rule.specs.Turns.{IsTurn};
-ghost use Rattle.ib_rule.specs.Afterwards.{cleared, ex_loaded, flag_loaded, flagged, gen_loaded, phased};
+ghost use Rattle.ib_rule.specs.Afterwards.{cleared, ex_loaded, flag_loaded, flag_looks, flagged, gen_loaded, phased, with_wait};
+ghost use Rattle.ib_rule.specs.Views.{with_looks};
 
 use crate::kind::WordOp;
 use crate::pass::Pass;
@@ -30,7 +31,8 @@ impl<L: Law> Space<L> {
         requires may { MayLoadGen latch.0 wish pass.old.view.session
             pass.old.view.session.phase }
         ensures turn { IsTurn (gen_event latch.0 wish) result pass.old pass.new }
-        ensures same { pass.new ≡ with_view pass.old (phased (gen_loaded latch.0 wish result pass.old.view.session.phase) pass.old.view) }
+        ensures same { pass.new ≡ with_view pass.old (with_wait (phased
+            (gen_loaded latch.0 wish result pass.old.view.session.phase) pass.old.view)) }
     {
         let event = gen_event(latch.0, wish);
         self.turn(pass, event, LatchWord::Generation, WordOp::Load)
@@ -45,7 +47,8 @@ impl<L: Law> Space<L> {
         requires may { MayLoadExGen latch.0 pass.old.view.session.phase }
         ensures turn { IsTurn (ex_gen_event latch.0 pass.old.view.session.phase) result pass.old
             pass.new }
-        ensures same { pass.new ≡ with_view pass.old (phased (ex_loaded result pass.old.view.session.phase) pass.old.view) }
+        ensures same { pass.new ≡ with_view pass.old (with_wait (phased
+            (ex_loaded result pass.old.view.session.phase) pass.old.view)) }
     {
         let phase = pass.member.phase();
         let event = ex_gen_event(latch.0, phase);
@@ -59,7 +62,8 @@ impl<L: Law> Space<L> {
         requires latch { latch.0 < latches_of self.now.sizes }
         requires armed { IsArmed latch.0 pass.old.view.session.phase }
         ensures turn { (found : ℕ) × (found ≤ 1) × IsTurn (Flag latch.0) found pass.old pass.new }
-        ensures same { pass.new ≡ with_view pass.old (phased (flagged pass.old.view.session.phase) pass.old.view) }
+        ensures same { pass.new ≡ with_view pass.old (with_wait (phased
+            (flagged pass.old.view.session.phase) pass.old.view)) }
     {
         let event = Event::Flag { latch: latch.0 };
         self.turn(pass, event, LatchWord::Waiters, WordOp::Swap(1));
@@ -73,7 +77,9 @@ impl<L: Law> Space<L> {
         requires may { MayLoadFlag latch.0 pass.old.view.session.phase }
         ensures turn { IsTurn (flag_event latch.0 pass.old.view.session.phase) result pass.old
             pass.new }
-        ensures same { pass.new ≡ with_view pass.old (phased (flag_loaded result pass.old.view.session.phase) pass.old.view) }
+        ensures same { pass.new ≡ with_view pass.old (with_looks
+            (flag_looks pass.old.view.session.phase pass.old.view.looks)
+            (phased (flag_loaded result pass.old.view.session.phase) pass.old.view)) }
         ensures flag { result ≤ 1 }
     {
         let phase = pass.member.phase();

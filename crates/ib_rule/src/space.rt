@@ -11,6 +11,7 @@ ghost use Rattle.ib_rule.specs.Rule.{IsOpening};
 ghost use Rattle.ib_rule.specs.Opening.{AreFreed, AreOpened};
 ghost use Rattle.ib_rule.specs.Views.{ended_as, longer, seated, seeing};
 ghost use Rattle.ib_rule.specs.Pass.{IsFrom, IsOf, with_view};
+ghost use Rattle.ib_rule.specs.Stores.{IsLook};
 
 use crate::pass::Pass;
 use crate::rest::Rest;
@@ -217,16 +218,17 @@ impl<L: Law> Space<L> {
     }
 
     /// Afterwards `to` has seen what both had seen: the longer of the two lists, of which both are
-    /// fronts. What contracts see of `from` is as before.
+    /// fronts. That tells it what a look at the log's end tells: what it had not seen before is harmless.
+    /// What contracts see of `from` is as before.
     pub fn meet(&self, to: &mut Pass, from: &mut Pass)
         requires to { IsFrom self.now to.old }
         requires from { IsFrom self.now from.old }
         ensures from { from.new ≡ from.old }
         ensures to { to.new ≡ with_view to.old
             (seeing (longer to.old.view.memory.seen from.old.view.memory.seen) to.old.view) }
-        ensures mine { IsPrefix to.old.view.memory.seen to.new.view.memory.seen }
+        ensures looked { IsLook self.now.sizes (L.lawful self.now.sizes.pages) to.old.view
+            to.new.view.memory.seen }
         ensures theirs { IsPrefix from.old.view.memory.seen to.new.view.memory.seen }
-        ensures legal { L.lawful self.now.sizes.pages to.new.view.memory.seen }
     {
         // The law of logs speaks of the numbers of pages that a space has.
         let _ = self.geometry.pages();

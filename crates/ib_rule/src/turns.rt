@@ -11,7 +11,7 @@ ghost use Rattle.ib_core.specs.Sessions.{claims};
 ghost use Rattle.ib_core.specs.Turns.{Leaves, turn_at, word_for};
 ghost use Rattle.ib_rule.specs.declared.kind.StepKind.TheVariants.{Look, Recheck, Try, Turn};
 ghost use Rattle.ib_rule.specs.Pass.{IsOf, with_view};
-ghost use Rattle.ib_rule.specs.Afterwards.{granted, looked_on, tried_on};
+ghost use Rattle.ib_rule.specs.Afterwards.{granted, tried_on};
 ghost use Rattle.ib_rule.specs.Views.{KnowsHeld, signed};
 ghost use Rattle.ib_rule.specs.Steps.{event_at, latch_word_place, run, view_after};
 ghost use Rattle.ib_rule.specs.Told.{CanBe, Happens, IsEvent};
@@ -21,7 +21,7 @@ use crate::kind::{StepKind, WordOp};
 use crate::mirror::{counted, is_refused, turn_on};
 use crate::pass::Pass;
 use crate::space::Space;
-use crate::step::{act, exchange};
+use crate::step::act;
 use ib_core::{Answer, Event, LatchWord, Phase};
 use ib_layout::Geometry;
 use ib_levels::{Latch, Level, Mode};
@@ -123,12 +123,11 @@ impl<L: Law> Space<L> {
         let place = place(&self.geometry, LatchWord::Lock, Latch(event.latch()));
         let before = pass.member.phase();
         let old = to_cell(expected);
-        let found = exchange::<L, Brand>(
+        let found = act::<L, Brand>(
             &self.table.shared,
             &mut pass.seat,
             place,
-            old,
-            old - taken,
+            WordOp::Exchange(old, old - taken),
             StepKind::Try(event, old),
         );
         if found != old {

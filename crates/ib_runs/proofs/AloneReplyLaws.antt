@@ -1,9 +1,9 @@
 -- What is answered at a place of a log, where it is not full, is determined by the map, the pages and the bits there.
-use Rattle.std.proofs.Common.{◌≡◌, ◌∙◌, ℕ, ◌<◌, ◌≤◌, Bool, true, false, cond, ltb, List, Option, Some, None, length, take, refl, sym, ap, subst, arith}
+use Rattle.std.proofs.Common.{◌≡◌, ◌∙◌, ℕ, ◌<◌, ◌≤◌, Bool, true, false, cond, ltb, List, Some, length, take, refl, sym, ap, subst, arith}
 use Rattle.std.proofs.lemmas.Bool.{lt-ltb, le-ltb}
 use Rattle.ib_map.specs.Keys.{MapKey}
 use Rattle.ib_map.specs.Pairs.{Pairs, value_at}
-use Rattle.ib_map.specs.Map.{answer_of, delete_answer, is_made, lookup_of}
+use Rattle.ib_map.specs.Map.{answer_of, is_made, lookup_of}
 use Rattle.ib_map.specs.History.{map_after}
 use Rattle.ib_map.specs.Replies.{FitsCall, FitsChange, Span, change_of, pair_count}
 use Rattle.ib_map.specs.Runs.{first_span_place}
@@ -19,6 +19,7 @@ use Rattle.ib_logrec.specs.Log.{history_of}
 use Rattle.ib_walk.specs.Pages.{PageMemory}
 use Rattle.ib_walk.specs.Full.{free_of, is_too_high, need_of}
 use Rattle.ib_tree.specs.Fits.{FitsInsert, FitsTree, free_at, tree_at}
+use Rattle.ib_tree.proofs.RefusalLaws.{delete-inserted}
 use Rattle.ib_kept.specs.Kept.{IsKeptLog, MayPlan}
 use Rattle.ib_runs.specs.Alone.{IsNotFull}
 use Rattle.ib_runs.specs.Sessions.{index_space}
@@ -30,11 +31,6 @@ use Rattle.ib_index.proofs.LookupLaws.{lookup-made}
 abbrev with_tree : Reply → Bool → ℕ → ℕ → Reply
 with_tree Inserted high free need = cond high TooHigh (cond (ltb free need) (SpaceFull free need) Inserted)
 with_tree answer high free need = answer
-
--- a delete is not answered as an insert
-delete-inserted : (o : Option ℕ) → delete_answer o ≡ Inserted → ⊥
-delete-inserted (Some value) is = absurd (cc)
-delete-inserted None is = absurd (cc)
 
 -- a change that was made stands in the history
 change-entry : (log : List Entry) (session : ℕ) (change : Change) (place : ℕ) (reply : Reply) → FitsChange (history_of log) session change reply place → is_made reply ≡ true → HasChange log place session change

@@ -2,6 +2,7 @@
 use Rattle.std.specs.List.{AllByRecursion, concat, filter_map}
 use Rattle.std.proofs.Common.{◌≡◌, inl, inr, ℕ, ◌+◌, ◌-◌, ◌*◌, ◌^◌, ◌<◌, ◌≤◌, Bool, true, false, List, [], ◌∷◌, ◌++◌, Option, Some, None, cond, map, length, refl, sym, ap, subst, ◌∙◌, arith, append_assoc, append-nil, length-append, length-drop, drop, take, take-append-drop, slice_get}
 use Rattle.std.specs.Prelude.{sum_by}
+use Rattle.std.proofs.lemmas.Bool.{le-leb, lt-leb}
 use Rattle.std.proofs.lemmas.List.{map-append, length-map, length-take-le}
 use Rattle.std.proofs.lemmas.List.Elements.{filter_map-append}
 use Rattle.std.proofs.lemmas.List.Folds.{concat-append}
@@ -13,7 +14,7 @@ use Rattle.ib_map.specs.Chunks.{HeldChunks, spans_of, span_of, pairs_of, AreAdja
 use Rattle.ib_map.specs.FullRecords.{chunk_count, full_records, total_chunks}
 use Rattle.ib_map.specs.History.{History, map_after}
 use Rattle.ib_map.specs.Replies.{Span, FullRecord, full_record, change_of, IsEntryOf, FitsChange, FitsCall, pair_count}
-use Rattle.ib_map.specs.Runs.{first_span_place, AreAnswers, change_made}
+use Rattle.ib_map.specs.Runs.{first_span_place, reach_after, reach_of, AreAnswers, change_made}
 use Rattle.ib_map.specs.declared.call.Call.{Call}
 use Rattle.ib_map.specs.declared.call.Call.TheVariants.{Insert, Delete, Get, Scan}
 use Rattle.ib_map.specs.declared.call.Change.{Change}
@@ -32,6 +33,7 @@ use Rattle.ib_logrec.specs.declared.entry.Entry.{Entry}
 use Rattle.ib_logrec.specs.Log.{by_place, history_of, logged, used}
 use Rattle.ib_logrec.proofs.LogLaws.{history_of-push, length-history_of}
 use Rattle.ib_walk.proofs.ChoiceLaws.{Some-same}
+use Rattle.ib_walk.proofs.WalkLaws.{AllByRecursion-left, AllByRecursion-right}
 use Rattle.ib_tree.specs.Fits.{FitsLog}
 use Rattle.ib_tree.specs.Scans.{AreFront, AreWhole}
 use Rattle.ib_tree.specs.TreeLog.{opening}
@@ -47,7 +49,7 @@ use Rattle.ib_cursor.proofs.StandLaws.{bounds-append}
 use Rattle.ib_index.specs.Calls.{HasCalled, MakesOwn}
 use Rattle.ib_index.proofs.LookupLaws.{lookup-made}
 use Rattle.ib_runs.specs.Answers.{KeptAnswers, answers_of}
-use Rattle.ib_runs.specs.Sessions.{AreBehind, AreFew, EachIsBehind, HasAnswered, IsBehind, changes_in, index_space, most_grants, most_scan_grants}
+use Rattle.ib_runs.specs.Sessions.{AreBehind, AreFew, EachIsBehind, HasAnswered, IsBehind, IsRead, changes_in, index_space, least_grants, most_grants, most_scan_grants}
 use Rattle.ib_runs.specs.Steps.{HasOneMore, HasReadAll, HasReadKeys, IsAnswered, KeptLaws}
 use Rattle.ib_runs.proofs.ReadLaws.{content_at}
 
@@ -158,8 +160,8 @@ length-spans c = length-map c.list (span_of c.pairs)
 -- one record more, of a call that is no scan
 pub call_more : (sizes : Sizes) (call : Call) (answer : Record) (old new : KeptAnswers) (p q : PassState) → IsNoScan call → total_chunks old.records ≡ length old.chunks.list
     → new.records ≡ old.records ++ answer ∷ [] → new.chunks ≡ old.chunks → HasCalled sizes (IsKeptLog sizes.pages) (by_place opening sizes.pages) call answer p q
-    → total q.view.grants ≤ total p.view.grants + most_grants call → HasOneMore sizes call old new p q
-call_more sizes call answer old new p q plain whole records chunks h grants =
+    → (IsRead call → total p.view.grants + least_grants call ≤ total q.view.grants) → total q.view.grants ≤ total p.view.grants + most_grants call → HasOneMore sizes call old new p q
+call_more sizes call answer old new p q plain whole records chunks h least grants =
     let none : chunk_count answer.reply ≡ 0 = call-counts (history_of q.view.memory.seen) q.number (length p.view.memory.seen) answer.call answer.reply answer.place (subst IsNoScan (sym h.call_is) plain) h.fits.map.1 in
     let spans = spans_of old.chunks.list old.chunks.pairs in
     let long = length-spans old.chunks in
@@ -169,6 +171,7 @@ call_more sizes call answer old new p q plain whole records chunks h grants =
       answers = ap (λ (c : HeldChunks). full_records new.records (spans_of c.list c.pairs)) chunks ∙ (ap (λ rs. full_records rs spans) records
           ∙ (ap (full_records (old.records ++ answer ∷ [])) (sym (append-nil spans)) ∙ full_records-push old.records spans [] answer (omega arith) none));
       whole = ap total_chunks records ∙ (total_chunks-push old.records answer ∙ (let e : length new.chunks.list ≡ length old.chunks.list = ap (λ (c : HeldChunks). length c.list) chunks in omega arith));
+      least = least;
       grants = grants;
     }
 
@@ -211,13 +214,21 @@ first-least least floor (span ∷ spans) place le at all = let a = all.0 in omeg
 abbrev pub scan_record : MapKey → MapKey → List Span → ℕ → FullRecord
 scan_record low high spans place = record { call = Scan low high; reply = Scanned (length spans) (pair_count spans); place = place; spans = spans }
 
+module _ (low high : MapKey) where
+  -- the fewest grants of a scan
+  scan-none : rank high < rank low → least_grants (Scan low high) ≡ 0
+  scan-none lt = rw (lt-leb (rank low) (rank high) lt) refl
+
+  scan-some : rank low ≤ rank high → least_grants (Scan low high) ≡ 2
+  scan-some le = rw (le-leb (rank low) (rank high) le) refl
+
 module _ (sizes : Sizes) (low high : MapKey) (old new : KeptAnswers) (p q : PassState) (whole : total_chunks old.records ≡ length old.chunks.list) where
   -- the record of a scan stands behind the others, with its chunks
   scan-more : (spans : List Span) (answer : Record) → IsAnswered sizes (Scan low high) (scan_record low high spans answer.place) p q → new.records ≡ old.records ++ answer ∷ []
       → spans_of new.chunks.list new.chunks.pairs ≡ spans_of old.chunks.list old.chunks.pairs ++ spans
       → answer ≡ record { call = Scan low high; reply = Scanned (length spans) (pair_count spans); place = answer.place }
-      → total q.view.grants ≤ total p.view.grants + most_grants (Scan low high) → HasOneMore sizes (Scan low high) old new p q
-  scan-more spans answer h records more is grants =
+      → total p.view.grants + least_grants (Scan low high) ≤ total q.view.grants → total q.view.grants ≤ total p.view.grants + most_grants (Scan low high) → HasOneMore sizes (Scan low high) old new p q
+  scan-more spans answer h records more is least grants =
       let count : chunk_count answer.reply ≡ length spans = ap (λ (a : Record). chunk_count a.reply) is in
       let long = length-spans old.chunks in
       let longer = length-spans new.chunks in
@@ -229,6 +240,7 @@ module _ (sizes : Sizes) (low high : MapKey) (old new : KeptAnswers) (p q : Pass
             ∙ (full_records-push old.records (spans_of old.chunks.list old.chunks.pairs) spans answer (omega arith) count
             ∙ ap (λ (a : Record). answers_of old ++ full_record a spans ∷ []) is));
         whole = ap total_chunks records ∙ (total_chunks-push old.records answer ∙ (omega arith));
+        least = λ read. least;
         grants = grants;
       }
 
@@ -255,6 +267,7 @@ module _ (sizes : Sizes) (low high : MapKey) (old new : KeptAnswers) (p q : Pass
       records
       (ap (λ (c : HeldChunks). spans_of c.list c.pairs) chunks ∙ sym (append-nil (spans_of old.chunks.list old.chunks.pairs)))
       (is ∙ ap (λ n. record { call = Scan low high; reply = Scanned 0 0; place = n }) (sym place))
+      (let e = ap (λ (s : PassState). total s.view.grants) same in let none = scan-none low high lt in omega arith)
       (let e = ap (λ (s : PassState). total s.view.grants) same in omega arith)
 
   -- a scan read all its chunks
@@ -296,6 +309,7 @@ module _ (sizes : Sizes) (low high : MapKey) (old new : KeptAnswers) (p q : Pass
       (is ∙ (ap (λ n. record { call = Scan low high; reply = Scanned n (length now.pairs - length old.chunks.pairs); place = length log }) count
       ∙ (ap (λ n. record { call = Scan low high; reply = Scanned (length spans) n; place = length log }) pairs
       ∙ ap (λ n. record { call = Scan low high; reply = Scanned (length spans) (pair_count spans); place = n }) (sym place))))
+      (let two = scan-some low high h.ascends in let a = h.least in omega arith)
       h.grants
 
   -- a scan read its keys
@@ -332,10 +346,10 @@ chunks_more sizes low high old now p q (inr h) =
 -- the same, of a call and an answer that are these
 pub call_more_as : (sizes : Sizes) (call asked : Call) (answer given : Record) (old new : KeptAnswers) (p q r : PassState) → call ≡ asked → answer ≡ given → q ≡ r → IsNoScan asked → total_chunks old.records ≡ length old.chunks.list
     → new.records ≡ old.records ++ answer ∷ [] → new.chunks ≡ old.chunks → HasCalled sizes (IsKeptLog sizes.pages) (by_place opening sizes.pages) asked given p r
-    → total r.view.grants ≤ total p.view.grants + most_grants asked → HasOneMore sizes call old new p q
-call_more_as sizes call asked answer given old new p q r call_is answer_is pass_is plain whole records chunks h grants =
+    → (IsRead asked → total p.view.grants + least_grants asked ≤ total r.view.grants) → total r.view.grants ≤ total p.view.grants + most_grants asked → HasOneMore sizes call old new p q
+call_more_as sizes call asked answer given old new p q r call_is answer_is pass_is plain whole records chunks h least grants =
     subst (λ k. HasOneMore sizes k old new p q) (sym call_is) (subst (HasOneMore sizes asked old new p) (sym pass_is)
-    (call_more sizes asked given old new p r plain whole (records ∙ ap (λ (a : Record). old.records ++ a ∷ []) answer_is) chunks h grants))
+    (call_more sizes asked given old new p r plain whole (records ∙ ap (λ (a : Record). old.records ++ a ∷ []) answer_is) chunks h least grants))
 
 -- what the calls of a session may take
 most-grants : (calls : List Call) → sum_by most_grants calls ≤ 128 * length calls + most_scan_grants * scan_count calls
@@ -384,17 +398,17 @@ bounds-up : (a b : ℕ) (ns : List ℕ) → AllByRecursion (λ n. (a ≤ n) × (
 bounds-up a b [] all = tt
 bounds-up a b (n ∷ ns) all = (all.0.1, bounds-up a b ns all.1)
 
-each-push : (found : List (List ℕ)) (ends : List ℕ) (rs : List FullRecord) (r : FullRecord) → EachIsBehind found rs → IsBehind ends r → EachIsBehind (found ++ ends ∷ []) (rs ++ r ∷ [])
-each-push [] ends [] r are one = (one, tt)
-each-push [] ends (x ∷ rs) r are one = absurd are
-each-push (ns ∷ found) ends [] r are one = absurd are
-each-push (ns ∷ found) ends (x ∷ rs) r are one = (are.0, each-push found ends rs r are.1 one)
+each-push : (reach : ℕ) (found : List (List ℕ)) (ends : List ℕ) (rs : List FullRecord) (r : FullRecord) → EachIsBehind reach found rs → IsBehind (reach_of reach rs) ends r → EachIsBehind reach (found ++ ends ∷ []) (rs ++ r ∷ [])
+each-push reach [] ends [] r are one = (one, tt)
+each-push reach [] ends (x ∷ rs) r are one = absurd are
+each-push reach (ns ∷ found) ends [] r are one = absurd are
+each-push reach (ns ∷ found) ends (x ∷ rs) r are one = (are.0, each-push (reach_after x) found ends rs r are.1 one)
 
 module _ (sizes : Sizes) (call : Call) (r : FullRecord) (p q u : PassState) (a : IsAnswered sizes call r q u) where
   longer : length q.view.memory.seen ≤ length u.view.memory.seen
   longer = let e = ap length a.seen in let l = length-append q.view.memory.seen a.more in omega arith
 
-  found-more : (rs : List FullRecord) (ns : List ℕ) → AreBehind rs p q → u.view.memory.ends ≡ q.view.memory.ends ++ ns → up_to (length u.view.memory.seen) ns → IsBehind ns r → AreBehind (rs ++ r ∷ []) p u
+  found-more : (rs : List FullRecord) (ns : List ℕ) → AreBehind rs p q → u.view.memory.ends ≡ q.view.memory.ends ++ ns → up_to (length u.view.memory.seen) ns → IsBehind (reach_of 0 rs) ns r → AreBehind (rs ++ r ∷ []) p u
   found-more rs ns b more up one =
       let all : concat (b.found ++ ns ∷ []) ≡ concat b.found ++ ns = concat-append b.found (ns ∷ []) ∙ ap (λ ms. concat b.found ++ ms) (append-nil ns) in
       record {
@@ -402,18 +416,20 @@ module _ (sizes : Sizes) (call : Call) (r : FullRecord) (p q u : PassState) (a :
         ends = more ∙ (ap (λ ms. ms ++ ns) b.ends ∙ (append_assoc p.view.memory.ends (concat b.found) ns ∙ ap (λ ms. p.view.memory.ends ++ ms) (sym all)));
         within = subst (up_to (length u.view.memory.seen)) (sym all)
             (bounds-append (λ n. n ≤ length u.view.memory.seen) (concat b.found) ns (up_to-wider (length q.view.memory.seen) (length u.view.memory.seen) (concat b.found) longer b.within) up);
-        behind = each-push b.found ns rs r b.behind one;
+        behind = each-push 0 b.found ns rs r b.behind one;
       }
 
-  behind-push : (rs : List FullRecord) → AreBehind rs p q → AreBehind (rs ++ r ∷ []) p u
-  behind-push rs b = elim a.looks [
+  behind-push : (rs : List FullRecord) → reach_of 0 rs ≡ length q.view.memory.seen → AreBehind rs p q → AreBehind (rs ++ r ∷ []) p u
+  behind-push rs reach b = elim a.looks [
     | inl none ↦ found-more rs [] b (none.0 ∙ sym (append-nil q.view.memory.ends)) tt none.1
-    | inr f ↦ found-more rs (f.first ∷ f.rest) b f.ends (bounds-up (length q.view.memory.seen) (length u.view.memory.seen) (f.first ∷ f.rest) f.bounds) (inr f.at)
+    | inr f ↦ found-more rs (f.first ∷ f.rest) b f.ends (bounds-up (length q.view.memory.seen) (length u.view.memory.seen) (f.first ∷ f.rest) f.bounds)
+        (subst (λ n. IsBehind n (f.first ∷ f.rest) r) (sym reach) (subst (λ n. AllByRecursion (λ k. (length q.view.memory.seen ≤ k) × (k ≤ n)) (f.first ∷ f.rest)) a.reach f.bounds, f.at))
   ]
 
   -- one record more
-  pub answered_more : (calls : List Call) (rs : List FullRecord) → total u.view.grants ≤ total q.view.grants + most_grants call → HasAnswered sizes calls rs p q → HasAnswered sizes (calls ++ call ∷ []) (rs ++ r ∷ []) p u
-  answered_more calls rs few h =
+  pub answered_more : (calls : List Call) (rs : List FullRecord) → (IsRead call → total q.view.grants + least_grants call ≤ total u.view.grants) → total u.view.grants ≤ total q.view.grants + most_grants call
+      → HasAnswered sizes calls rs p q → HasAnswered sizes (calls ++ call ∷ []) (rs ++ r ∷ []) p u
+  answered_more calls rs least few h =
       let fits = subst (λ n. FitsLog (index_space sizes) u.view.memory.seen u.number n r) (sym h.reach) a.fits in
       let old = subst (λ log. AreAnswers (FitsLog (index_space sizes) log u.number) 0 rs) (sym a.seen)
       (answers_longer (index_space sizes) q.view.memory.seen a.more u.number 0 rs (subst (λ n. AreAnswers (FitsLog (index_space sizes) q.view.memory.seen n) 0 rs) (sym a.number) h.answers)) in
@@ -423,8 +439,11 @@ module _ (sizes : Sizes) (call : Call) (r : FullRecord) (p q u : PassState) (a :
         answers = AreAnswers-push (FitsLog (index_space sizes) u.view.memory.seen u.number) 0 rs r old fits (let x = h.reach in let y = a.from in omega arith) (let x = h.reach in let y = a.first in omega arith);
         reach = reach_of-push 0 rs r ∙ sym a.reach;
         made = a.made ∙ (ap (λ cs. cs ++ filter_map change_made (r ∷ [])) h.made ∙ sym (filter_map-append change_made rs (r ∷ [])));
-        behind = behind-push rs h.behind;
+        behind = behind-push rs h.reach h.behind;
         grants = (let all = sum_by-append most_grants calls (call ∷ []) in let last = sum_by-cons most_grants call [] in let before = h.grants in omega arith);
+        least = λ read.
+            let all = sum_by-append least_grants calls (call ∷ []) in let last = sum_by-cons least_grants call [] in
+            let before = h.least (AllByRecursion-left IsRead calls (call ∷ []) read) in let one = least (AllByRecursion-right IsRead calls (call ∷ []) read).0 in omega arith;
       }
 
 -- nothing was answered yet
@@ -437,4 +456,5 @@ answered_none sizes p known seen own = record {
   made = ap changes_in own;
   behind = record { found = []; ends = sym (append-nil p.view.memory.ends); within = tt; behind = tt };
   grants = omega arith;
+  least = λ read. omega arith;
 }

@@ -131,6 +131,7 @@ module _ (sizes : Sizes) (laws : KeptLaws sizes) where
         last = h.last;
         chunks = h.chunks;
         within = h.within;
+        least = let a = h.gone.least in let b = h.gone.sx in let c = h.gone.x in omega arith;
         grants = let a = all-used low next now new p r room pairs h in let b = call-grants now new p r room h.gone in omega arith;
       }
 
@@ -148,6 +149,7 @@ module _ (sizes : Sizes) (laws : KeptLaws sizes) where
         };
         ascends = le;
         chunks = h.chunks;
+        least = let a = h.gone.least in let b = h.gone.sx in let c = h.gone.x in omega arith;
         grants = let b = call-grants now new p r room h.gone in omega arith;
       }
 
@@ -195,6 +197,7 @@ module _ (sizes : Sizes) (laws : KeptLaws sizes) where
             last = f.last;
             chunks = front-join start r.view.memory.seen high low mid a.read.first a.last a.read.spans h.gone.spans next f.last (before mid cur now new q r a same room h.gone) f.front;
             within = let b = f.le in let c = h.within in omega arith;
+            least = let d = a.least in let e = h.gone.least in let b = h.gone.sx in let c = h.gone.x in omega arith;
             grants =
                 let b = all-used mid next now new q r room pairs h in
                 let c = call-grants now new q r room h.gone in
@@ -210,6 +213,7 @@ module _ (sizes : Sizes) (laws : KeptLaws sizes) where
         ascends = le;
         chunks = whole-join start r.view.memory.seen high low mid a.read.first a.last a.read.spans h.gone.spans (length r.view.memory.seen) (before mid cur now new q r a same room h.gone)
             (whole_lower start 1 high r.view.memory.seen mid h.gone.first a.last h.gone.spans (length r.view.memory.seen) (later mid cur now new q r a same room h.gone) h.chunks);
+        least = let d = a.least in let e = h.gone.least in let b = h.gone.sx in let c = h.gone.x in omega arith;
         grants =
             let b = call-grants now new q r room h.gone in
             let c = a.grants in

@@ -1,12 +1,13 @@
 -- The turns of all sessions, by their places.
-use Rattle.std.proofs.Common.{◌≡◌, ℕ, ◌+◌, ◌-◌, ◌<◌, suc, List, [], ◌∷◌, ◌++◌, Option, Some, None, All, map, length, refl, sym, ap, subst, ◌∙◌, arith, append_assoc, length-append}
-use Rattle.std.proofs.lemmas.List.{map-append}
+use Rattle.std.proofs.Common.{◌≡◌, ℕ, ◌+◌, ◌-◌, ◌<◌, suc, List, [], ◌∷◌, ◌++◌, Option, Some, None, All, map, length, refl, sym, ap, subst, ◌∙◌, arith, append_assoc, append-nil, length-append}
+use Rattle.std.proofs.lemmas.List.{length-map, map-append}
 use Rattle.std.proofs.Math.ListN.{get_or-append}
 use Rattle.std.specs.Prelude.{IfSome, slice_index_or}
 use Rattle.ib_map.specs.declared.call.Call.{Call}
 use Rattle.ib_rule.specs.Pass.{PassState}
 use Rattle.ib_rule.specs.Space.{SpaceState}
 use Rattle.ib_rule.specs.Views.{ended_as}
+use Rattle.ib_rule.specs.declared.view.Ended.{Ended}
 use Rattle.ib_runs.specs.declared.turns.Turn.{Turn}
 use Rattle.ib_runs.specs.Answers.{KeptAnswers, IsWhole, answers_of}
 use Rattle.ib_runs.specs.Sessions.{HasAnswered}
@@ -70,3 +71,8 @@ outs_left all front t outs more first is put are =
 pub ended_passes : (ts : List Turn) → map (λ (u : Turn). ended_as u.pass.view) ts ≡ map (λ (p : PassState). ended_as p.view) (map (λ (u : Turn). u.pass) ts)
 ended_passes [] = refl
 ended_passes (t ∷ ts) = ap (λ es. ended_as t.pass.view ∷ es) (ended_passes ts)
+
+-- where none had ended before, as many have ended as had their turn
+pub all_ended : (ts : List Turn) (before : List Ended) → before ≡ [] → length (map (λ (u : Turn). ended_as u.pass.view) ts ++ before) ≡ length ts
+all_ended ts before none =
+    ap (λ es. length (map (λ (u : Turn). ended_as u.pass.view) ts ++ es)) none ∙ (ap length (append-nil (map (λ (u : Turn). ended_as u.pass.view) ts)) ∙ length-map ts (λ (u : Turn). ended_as u.pass.view))

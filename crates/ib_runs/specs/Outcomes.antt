@@ -1,5 +1,5 @@
 -- What the sessions of a script came to.
-use Rattle.std.specs.Prelude.{◌≡◌, ℕ, ◌<◌, ◌≤◌, List, map, slice_index}
+use Rattle.std.specs.Prelude.{◌≡◌, ◌⊎◌, ℕ, ◌<◌, ◌≤◌, List, map, slice_index}
 use Rattle.std.specs.List.{AllByRecursion}
 use Rattle.ib_map.specs.Pairs.{Pairs}
 use Rattle.ib_map.specs.History.{History}
@@ -18,6 +18,7 @@ use Rattle.ib_tree.specs.TreeLog.{opening}
 use Rattle.ib_kept.specs.Kept.{IsKeptLog}
 use Rattle.ib_rule.specs.Closed.{log_in}
 use Rattle.ib_runs.specs.declared.ran.Ran.{Ran}
+use Rattle.ib_runs.specs.Alone.{AreNeverFull}
 use Rattle.ib_runs.specs.Answers.{IsWhole, answers_of, calls_in}
 use Rattle.ib_runs.specs.Sessions.{index_space}
 
@@ -50,3 +51,8 @@ pub record HasRan (sizes : Sizes) (commands : List (List Call)) (ran : Ran) : Ty
   pub words : HasLog ran.closed.sizes ran.closed.words log
   pub read_off : IsReadOff sizes log ran.history.items ran.map
   pub whole : AllByRecursion IsWhole ran.sessions.items
+
+-- the log that a run was made on is the script's own, or a shorter one that no reply tells to have got full
+pub record IsSettled (sizes : Sizes) (ran : Ran) : Type 0 where
+  pub within : ran.closed.sizes.log_words ≤ sizes.log_words
+  pub settled : (ran.closed.sizes.log_words ≡ sizes.log_words) ⊎ AreNeverFull (map answers_of ran.sessions.items)

@@ -1,9 +1,9 @@
 -- What a session's run leaves.
-use Rattle.std.specs.Prelude.{◌≡◌, ◌⊎◌, ℕ, ◌+◌, ◌<◌, ◌≤◌, true, List, [], ◌∷◌, ◌++◌, length, map, sum_by}
+use Rattle.std.specs.Prelude.{◌≡◌, ℕ, ◌+◌, ◌<◌, ◌≤◌, nat_le, if◌then◌else◌, List, [], ◌∷◌, ◌++◌, length, map, sum_by, None}
 use Rattle.std.specs.List.{AllByRecursion, concat, filter_map}
 use Rattle.ib_map.specs.Keys.{rank}
-use Rattle.ib_map.specs.Replies.{FullRecord}
-use Rattle.ib_map.specs.Runs.{reach_of, AreAnswers, change_made}
+use Rattle.ib_map.specs.Replies.{FullRecord, change_of}
+use Rattle.ib_map.specs.Runs.{reach_after, reach_of, AreAnswers, change_made}
 use Rattle.ib_map.specs.declared.call.Call.{Call}
 use Rattle.ib_map.specs.declared.call.Call.TheVariants.{Get, Scan}
 use Rattle.ib_map.specs.declared.call.Change.{Change}
@@ -13,9 +13,7 @@ use Rattle.ib_logrec.specs.Log.{by_place}
 use Rattle.ib_tree.specs.Fits.{TreeSpace, FitsLog}
 use Rattle.ib_tree.specs.TreeLog.{opening}
 use Rattle.ib_kept.specs.Kept.{IsKeptLog}
-use Rattle.ib_core.specs.Sessions.{idle}
-use Rattle.ib_rule.specs.Pass.{PassState, IsOf}
-use Rattle.ib_rule.specs.Space.{SpaceState}
+use Rattle.ib_rule.specs.Pass.{PassState}
 use Rattle.ib_rule.specs.Views.{total}
 use Rattle.ib_cursor.specs.Going.{IsKnown}
 use Rattle.ib_cursor.specs.Spaces.{space_of}
@@ -26,12 +24,6 @@ use Rattle.ib_runs.specs.Answers.{calls_in}
 -- the space of an index: its pages are those of a new space at the start
 abbrev pub index_space : Sizes → TreeSpace
 index_space sizes = space_of sizes (by_place opening sizes.pages)
-
--- the pass of a session of the index that holds nothing, its scratch in it
-pub record IsAtRest (space : SpaceState) (p : PassState) : Type 0 where
-  pub own : IsOf space p
-  pub idle : p.view.session ≡ idle
-  pub scratch : p.has_scratch ≡ true
 
 -- the changes of entries
 abbrev pub changes_in : List Entry → List Change
@@ -52,6 +44,16 @@ most_grants (Get key) = 9
 most_grants (Scan low high) = most_scan_grants
 most_grants _ = 128
 
+-- the call asks for no change
+abbrev pub IsRead : Call → Type 0
+IsRead call = change_of call ≡ None
+
+-- the fewest grants that a call takes: S of the index and of a leaf at least, for a lookup and for a scan with its low key not above its high one. Of a change nothing is said
+abbrev pub least_grants : Call → ℕ
+least_grants (Get key) = 2
+least_grants (Scan low high) = if nat_le (rank low) (rank high) then 2 else 0
+least_grants _ = 0
+
 -- a scan with its low key above its high one
 abbrev pub IsEmptyScan : Call → Type 0
 IsEmptyScan (Scan low high) = rank high < rank low
@@ -61,28 +63,29 @@ IsEmptyScan _ = ⊥
 abbrev pub places_in : FullRecord → List ℕ
 places_in r = r.place ∷ map (λ span. span.place) r.spans
 
--- no place of a record is before the first of these ends of the log, but for a scan with its low key above its high one
-abbrev pub IsBehind : List ℕ → FullRecord → Type 0
-IsBehind [] r = IsEmptyScan r.call
-IsBehind (first ∷ rest) r = IsEmptyScan r.call ⊎ AllByRecursion (λ n. first ≤ n) (places_in r)
+-- These ends of the log were found for a record, by a session that had seen the log up to `reach`: each of them lies between that and what the
+-- session has seen with the record, and no place of the record is before the first. A scan with its low key above its high one finds none.
+abbrev pub IsBehind : ℕ → List ℕ → FullRecord → Type 0
+IsBehind reach [] r = IsEmptyScan r.call
+IsBehind reach (first ∷ rest) r = AllByRecursion (λ n. (reach ≤ n) × (n ≤ reach_after r)) (first ∷ rest) × AllByRecursion (λ n. first ≤ n) (places_in r)
 
--- each record stands with the ends of the log that its own call found
-abbrev pub EachIsBehind : List (List ℕ) → List FullRecord → Type 0
-EachIsBehind [] [] = Unit {0}
-EachIsBehind (ends ∷ found) (r ∷ rs) = IsBehind ends r × EachIsBehind found rs
-EachIsBehind _ _ = ⊥
+-- each record stands with the ends of the log that its own call found: none before what the session has seen with the record before
+abbrev pub EachIsBehind : ℕ → List (List ℕ) → List FullRecord → Type 0
+EachIsBehind reach [] [] = Unit {0}
+EachIsBehind reach (ends ∷ found) (r ∷ rs) = IsBehind reach ends r × EachIsBehind (reach_after r) found rs
+EachIsBehind reach _ _ = ⊥
 
--- the ends of the log that were found from one state to another, in order, are those of each record's own call: none lies beyond what is
--- seen, and no place of a record is before the first that its call found
+-- the ends of the log that were found from one state to another, in order, are those of each record's own call, and none lies beyond what is
+-- seen
 pub record AreBehind (rs : List FullRecord) (p q : PassState) : Type 0 where
   pub found : List (List ℕ)
   pub ends : q.view.memory.ends ≡ p.view.memory.ends ++ concat found
   pub within : AllByRecursion (λ n. n ≤ length q.view.memory.seen) (concat found)
-  pub behind : EachIsBehind found rs
+  pub behind : EachIsBehind 0 found rs
 
 -- A session that had seen nothing was answered: the records are of these calls, in order; each fits what is seen now, which is a kept
 -- log within its words, and ends where the records do; what the session made is what they say was made, in order; no record is older than
--- what its own call found; and no more grants were taken than the calls may take.
+-- what its own call found; no more grants were taken than the calls may take; and where none of them is a change, no fewer than they must.
 pub record HasAnswered (sizes : Sizes) (calls : List Call) (rs : List FullRecord) (p q : PassState) : Type 0 where
   pub known : IsKnown sizes (IsKeptLog sizes.pages) q
   pub same_calls : calls_in rs ≡ calls
@@ -91,3 +94,4 @@ pub record HasAnswered (sizes : Sizes) (calls : List Call) (rs : List FullRecord
   pub made : changes_in q.view.memory.own ≡ filter_map change_made rs
   pub behind : AreBehind rs p q
   pub grants : total q.view.grants ≤ total p.view.grants + sum_by most_grants calls
+  pub least : AllByRecursion IsRead calls → total p.view.grants + sum_by least_grants calls ≤ total q.view.grants

@@ -21,7 +21,7 @@ use Rattle.ib_rule.specs.Pass.{PassState}
 use Rattle.ib_rule.specs.Views.{total}
 use Rattle.ib_cursor.specs.Going.{IsKnown, WentOn}
 use Rattle.ib_runs.specs.Answers.{KeptAnswers, IsWhole, answers_of}
-use Rattle.ib_runs.specs.Sessions.{index_space, changes_in, places_in, IsEmptyScan, most_grants, most_scan_grants}
+use Rattle.ib_runs.specs.Sessions.{index_space, changes_in, places_in, IsEmptyScan, IsRead, least_grants, most_grants, most_scan_grants}
 
 -- what kept logs say of the tree, in a space of these sizes
 pub record KeptLaws (sizes : Sizes) : Type 0 where
@@ -43,12 +43,13 @@ pub record HasReadChunks (sizes : Sizes) (old new : HeldChunks) (p q : PassState
   pub rest : List ℕ
   pub looks : went.added ≡ first ∷ rest
 
--- .. up to what is before `next`: it took 8,320 grants at most for each chunk
+-- .. up to what is before `next`: it took two grants at least, and 8,320 at most for each chunk
 pub record HasReadTo (sizes : Sizes) (low high next : MapKey) (old new : HeldChunks) (p q : PassState) : Type 0 where
   pub read : HasReadChunks sizes old new p q
   pub last : ℕ
   pub chunks : AreFront (by_place opening sizes.pages) q.view.memory.seen 1 low high read.first read.spans next last
   pub within : last ≤ length q.view.memory.seen
+  pub least : total p.view.grants + 2 ≤ total q.view.grants
   pub grants : total q.view.grants ≤ total p.view.grants + 8320 * length read.spans
 
 -- .. or nothing was read yet
@@ -65,6 +66,7 @@ pub record HasReadAll (sizes : Sizes) (low high : MapKey) (old new : HeldChunks)
   pub read : HasReadChunks sizes old new p q
   pub ascends : rank low ≤ rank high
   pub chunks : AreWhole (by_place opening sizes.pages) q.view.memory.seen 1 low high read.first read.spans (length q.view.memory.seen)
+  pub least : total p.view.grants + 2 ≤ total q.view.grants
   pub grants : total q.view.grants ≤ total p.view.grants + most_scan_grants
 
 -- .. or there was nothing to read, from a key to a lower one
@@ -105,4 +107,5 @@ pub record HasOneMore (sizes : Sizes) (call : Call) (old new : KeptAnswers) (p q
   pub answered : IsAnswered sizes call r p q
   pub answers : answers_of new ≡ answers_of old ++ r ∷ []
   pub whole : IsWhole new
+  pub least : IsRead call → total p.view.grants + least_grants call ≤ total q.view.grants
   pub grants : total q.view.grants ≤ total p.view.grants + most_grants call

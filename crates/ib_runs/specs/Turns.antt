@@ -8,7 +8,8 @@ use Rattle.ib_rule.specs.Space.{SpaceState}
 use Rattle.ib_rule.specs.Views.{ended_as, seated}
 use Rattle.ib_runs.specs.declared.turns.Turn.{Turn}
 use Rattle.ib_runs.specs.Answers.{KeptAnswers, IsWhole, answers_of}
-use Rattle.ib_runs.specs.Sessions.{HasAnswered, IsAtRest}
+use Rattle.ib_rule.specs.Pass.{IsAtRest}
+use Rattle.ib_runs.specs.Sessions.{HasAnswered}
 
 -- a session that has done nothing yet, one of so many
 pub record HasNotBegun (space : SpaceState) (sessions : ℕ) (p : PassState) : Type 0 where

@@ -1,6 +1,6 @@
 //! How long a log a script is run on first, and whether that was too short.
 
-ghost use Rattle.std.specs.Prelude.{◌≡◌, ◌<◌, ◌≤◌, ◌↔◌, List, false, map, true};
+ghost use Rattle.std.specs.Prelude.{◌≡◌, ◌⊎◌, ◌<◌, ◌≤◌, ◌↔◌, List, false, map, true};
 ghost use Rattle.std.specs.List.{list_any};
 ghost use Rattle.ib_map.specs.declared.call.Call.{Call};
 ghost use Rattle.ib_runs.specs.Alone.{AreNeverFull, tells_full};
@@ -75,6 +75,7 @@ pub(crate) fn is_settled(ran: &Ran, first: Geometry, sizes: Geometry) -> bool
     requires pages { first.pages ≡ sizes.pages }
     requires log { first.log_words ≤ sizes.log_words }
     ensures settled { result ≡ true → (commands : List (List Call)) → HasRan first commands ran.now → HasRan sizes commands ran.now }
+    ensures told { result ≡ true → (first.log_words ≡ sizes.log_words) ⊎ AreNeverFull (map answers_of ran.now.sessions.items) }
     ensures again { result ≡ false → (first.log_words < sizes.log_words) × (AreNeverFull (map answers_of ran.now.sessions.items) → ⊥) }
 {
     first.log_words() == sizes.log_words() || !met_full_log(&ran.sessions)

@@ -8,6 +8,8 @@ use std::sync::Wait;
 
 /// What is called before each call of a session, and once after the last one. It may hold the session back, and look at
 /// its pass. The session holds no latch then, so no other waits for it. It has no meaning of its own.
+///
+/// That it is called so, and with which number of a call, is by the code: no contract says it.
 pub trait Gate {
     /// Before the call of this number, counted from 1, of the session whose pass this is, or after the last one with the
     /// next number.

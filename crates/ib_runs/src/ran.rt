@@ -20,7 +20,8 @@ use ib_tree::{Trees, content_of};
 use std::alloc::Global;
 
 /// What a script's sessions came to: what each was answered, that of session n at place n - 1, and what is read off the
-/// closed space, the changes of its log and the pairs of its tree. Its words are there too.
+/// closed space, the changes of its log and the pairs of its tree. Its words are there too, and its sizes, which say how
+/// long a log the sessions ran on.
 #[derive(Drop)]
 pub struct Ran {
     pub sessions: Vec<SessionOut>,

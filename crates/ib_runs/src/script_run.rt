@@ -2,7 +2,7 @@
 
 ghost use Rattle.std.specs.Prelude.{◌≡◌, IfOk};
 ghost use Rattle.ib_script.specs.Script.{IsSmall};
-ghost use Rattle.ib_runs.specs.Outcomes.{HasRan};
+ghost use Rattle.ib_runs.specs.Outcomes.{HasRan, IsSettled};
 ghost use Rattle.ib_runs.specs.Turns.{AllDone};
 
 use crate::first_log::{first_sizes, is_settled};
@@ -28,7 +28,8 @@ fn finish(
 ) -> Result<Ran, OutOfMemory>
     requires sizes { index.sizes ≡ sizes }
     requires done { AllDone script.now.commands sessions.items index }
-    ensures { IfOk result (HasRan sizes script.now.commands) }
+    ensures ran { IfOk result (HasRan sizes script.now.commands) }
+    ensures sizes { IfOk result (λ ran. ran.closed.sizes ≡ sizes) }
 {
     let closed = match index.close(alloc) {
         Ok(closed) => closed,
@@ -55,7 +56,8 @@ fn run_in<G: Gate + Sync, R: Threads + Wait + Sync>(
     gate: &G,
 ) -> Result<Ran, OutOfMemory>
     requires { IsSmall script.now }
-    ensures { IfOk result (HasRan sizes script.now.commands) }
+    ensures ran { IfOk result (HasRan sizes script.now.commands) }
+    ensures sizes { IfOk result (λ ran. ran.closed.sizes ≡ sizes) }
 {
     let mut index = Index::open(alloc, sizes)?;
     match run_all(rt, alloc, &mut index, script, gate) {
@@ -73,7 +75,9 @@ fn run_in<G: Gate + Sync, R: Threads + Wait + Sync>(
 ///
 /// The log is first as long as the script's changes mostly need, where the script's own is longer. Only if a reply tells
 /// that it got full is what came of that run dropped: then all sessions run again, on a new index with the script's whole
-/// log, and the gate is called anew for each of their commands.
+/// log, and the gate is called anew for each of their commands. So the log of the closed space is the script's own, or a
+/// shorter one that did not get full. How many runs there were, and how often the gate was called, is by the code: a run
+/// that was dropped leaves no trace.
 ///
 /// Refused for want of memory alone, anywhere, and then all is given back.
 pub fn run_script<G: Gate + Sync, R: Threads + Wait + Sync>(
@@ -83,7 +87,8 @@ pub fn run_script<G: Gate + Sync, R: Threads + Wait + Sync>(
     gate: &G,
 ) -> Result<Ran, OutOfMemory>
     requires { IsSmall script.now }
-    ensures { IfOk result (HasRan script.now.sizes script.now.commands) }
+    ensures ran { IfOk result (HasRan script.now.sizes script.now.commands) }
+    ensures settled { IfOk result (IsSettled script.now.sizes) }
 {
     let sizes = script.geometry();
     let first = first_sizes(script);

@@ -1,13 +1,12 @@
 //! A session's commands, one after another.
 
-ghost use Rattle.std.specs.Prelude.{◌≡◌, ◌≤◌, ◌+◌, ◌^◌, [], true, length, OnOk};
-ghost use Rattle.ib_core.specs.Sessions.{idle};
+ghost use Rattle.std.specs.Prelude.{◌≡◌, ◌≤◌, ◌+◌, ◌^◌, [], OnOk};
 ghost use Rattle.ib_kept.specs.Kept.{IsKeptLog};
-ghost use Rattle.ib_rule.specs.Pass.{IsOf};
+ghost use Rattle.ib_rule.specs.Pass.{IsAtRest};
 ghost use Rattle.ib_rule.specs.Views.{no_grants, total};
 ghost use Rattle.ib_cursor.specs.Going.{IsKnown};
 ghost use Rattle.ib_runs.specs.Answers.{IsWhole, answers_of, no_answers};
-ghost use Rattle.ib_runs.specs.Sessions.{AreFew, HasAnswered, IsAtRest, most_scan_grants};
+ghost use Rattle.ib_runs.specs.Sessions.{AreFew, HasAnswered, most_scan_grants};
 ghost use Rattle.ib_runs.specs.Steps.{HasOneMore, HasReadKeys, KeptLaws};
 
 use crate::gate::Gate;
@@ -138,8 +137,10 @@ fn answer<R: Wait>(
 /// Answers the commands of a session, one after another, with the gate before each and after the last, where the
 /// session holds nothing. Each call is one on the shared index, and a scan takes as many as its chunks need, each with
 /// room for `SCAN_CHUNKS` chunks and `SCAN_PAIRS` pairs: it goes on where the last one had no room (row0sel,
-/// `row_search_mvcc`). No answer is older than what its own call found. All together take no more grants than nine for
-/// each lookup, 128 for each change and what a scan may take for each scan, so no call is refused for their count.
+/// `row_search_mvcc`). No answer is older than what its own call found, and no two calls share a look at the log's end.
+/// All together take no more grants than nine for each lookup, 128 for each change and what a scan may take for each
+/// scan, so no call is refused for their count; and where there is no change, no fewer than two for each lookup and each
+/// scan, but a scan from a key down to a lower one.
 ///
 /// Refused for want of memory alone. Then too the session holds nothing, but nothing is said of `out`.
 pub fn run_session<G: Gate, R: Wait>(
@@ -150,16 +151,12 @@ pub fn run_session<G: Gate, R: Wait>(
     gate: &G,
     out: &mut SessionOut,
 ) -> Result<(), OutOfMemory>
-    requires own { IsOf index.now pass.old }
-    requires idle { pass.old.view.session ≡ idle }
-    requires scratch { pass.old.has_scratch ≡ true }
+    requires rest { IsAtRest index.now pass.old }
     requires nothing_seen { pass.old.view.memory.seen ≡ [] }
     requires no_grants { pass.old.view.grants ≡ no_grants }
     requires few { AreFew commands.now }
     requires empty { out.old ≡ no_answers }
-    ensures own { IsOf index.now pass.new }
-    ensures idle { pass.new.view.session ≡ idle }
-    ensures scratch { pass.new.has_scratch ≡ true }
+    ensures rest { IsAtRest index.now pass.new }
     ensures number { pass.new.number ≡ pass.old.number }
     ensures answered { OnOk result (HasAnswered index.now.sizes commands.now (answers_of out.new) pass.old pass.new) }
     ensures whole { OnOk result (IsWhole out.new) }

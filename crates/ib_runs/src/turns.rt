@@ -3,7 +3,7 @@
 ghost use Rattle.std.specs.Prelude.{◌≡◌, ◌≤◌, ◌<◌, ◌+◌, ◌∷◌, ◌++◌, ℕ, [], All, IfSome, Some, true, length, map, slice_index_or};
 ghost use Rattle.ib_script.specs.Script.{IsSmall};
 ghost use Rattle.ib_rule.specs.Views.{ended_as};
-ghost use Rattle.ib_runs.specs.Sessions.{IsAtRest};
+ghost use Rattle.ib_rule.specs.Pass.{IsAtRest};
 ghost use Rattle.ib_runs.specs.Turns.{AllDone, AreNumbered, HasTurned, HasNotBegun};
 
 use crate::gate::Gate;
@@ -150,6 +150,7 @@ pub(crate) fn run_all<G: Gate + Sync, R: Threads + Wait + Sync>(
     requires small { IsSmall script.now }
     requires new { (index.old.drawn ≡ 0) × (index.old.ended ≡ []) }
     ensures sizes { index.new.sizes ≡ index.old.sizes }
+    ensures left { length index.new.ended ≡ index.new.drawn }
     ensures done { IfSome result (λ outs. AllDone script.now.commands outs.items index.new) }
 {
     let count = script.sessions();

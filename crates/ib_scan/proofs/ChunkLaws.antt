@@ -98,3 +98,8 @@ module _ (pages : ℕ) (m : PageMemory) (root : ℕ) (t : IsTreeOf m (height_of 
             ∙ (ap (λ xs. cut (m s.visit.page).records start end ++ xs) (rest-none h)
             ∙ (append-nil (cut (m s.visit.page).records start end) ∙ ap (λ xs. cut xs start end) records)))))));
       }
+
+  -- the leaf that gives it is the one on which the scan stands
+  pub chunk_leaf : (e : EndsBy start high end last.image) → (chunk_read e).leaf.page ≡ last.page
+  unfolding chunk_read
+  chunk_leaf e = s.here

@@ -3,6 +3,7 @@ pub mod StandLaws
 pub mod ChunkLaws
 pub mod WalkedLaws
 pub mod FrontLaws
+pub mod HoldLaws
 pub mod PassLaws
 pub mod LeaveLaws
 pub mod LoopLaws

@@ -1,7 +1,7 @@
 -- From leaf to leaf, and from chunk to chunk.
 use Rattle.std.specs.List.{AllByRecursion}
 use Rattle.std.specs.Prelude.{is_some}
-use Rattle.std.proofs.Common.{Option, None, true, ◌≡◌, ◌⊎◌, inl, inr, ℕ, ◌+◌, ◌<◌, ◌≤◌, ◌^◌, List, [], ◌∷◌, ◌++◌, Some, length, refl, sym, ap, subst, ◌∙◌, arith, length-append}
+use Rattle.std.proofs.Common.{Option, None, true, ◌≡◌, ◌⊎◌, inl, inr, ℕ, ◌+◌, ◌<◌, ◌≤◌, ◌^◌, List, [], ◌∷◌, ◌++◌, take, Some, length, refl, sym, ap, subst, ◌∙◌, arith, length-append}
 use Rattle.std.proofs.Math.Seq.{take-length}
 use Rattle.std.proofs.lemmas.List.{length-map}
 use Rattle.ib_map.specs.Keys.{MapKey, IsKey, rank, end_rank, key_after}
@@ -13,11 +13,13 @@ use Rattle.ib_map.proofs.KeyLaws.{after-least_above, after-above, after-none}
 use Rattle.ib_levels.specs.declared.level.Mode.TheVariants.{S}
 use Rattle.ib_layout.specs.Geometry.{Sizes}
 use Rattle.ib_page.specs.Image.{IsTreePage, next_of, records_of}
-use Rattle.ib_page.specs.Work.{changed_of}
+use Rattle.ib_page.specs.Work.{WorkPage, changed_of}
 use Rattle.ib_heap.specs.declared.TheConstants.{MOST_RECORDS}
 use Rattle.ib_page.specs.Page.{page_in}
 use Rattle.ib_heap.proofs.FormLaws.{tree_in}
 use Rattle.ib_logrec.specs.declared.entry.Entry.{Entry}
+use Rattle.ib_logrec.specs.Log.{memory_after}
+use Rattle.ib_walk.specs.Words.{image_of}
 use Rattle.ib_rule.specs.declared.looks.Grants.{Grants}
 use Rattle.ib_rule.specs.Pass.{PassState}
 use Rattle.ib_rule.specs.Views.{total}
@@ -30,14 +32,20 @@ use Rattle.ib_cursor.specs.Going.{IsKnown, WentOn}
 use Rattle.ib_cursor.proofs.StandLaws.{went_beside, went_both, went_none, known_beside, seen_longer}
 use Rattle.ib_cursor.specs.Laws.{Laws}
 use Rattle.ib_scan.specs.declared.walk.Found.{Found}
-use Rattle.ib_scan.specs.Walked.{ReadLeaf, leaf_grants, IsSkipped, EndsBy, IsWalked}
-use Rattle.ib_scan.specs.Scanning.{Appends}
-use Rattle.ib_scan.specs.Steps.{MayPass, HasPassed, IsOnLeaf, IsAlong, HasComeToEnd, HasFront, HasSomeFront, IsAside, IsScannedTo, HasRun, HasRunToEnd, HasRunToStop}
+use Rattle.ib_scan.specs.Walked.{ReadLeaf, first_read, leaf_grants, IsSkipped, EndsBy, IsWalked}
+use Rattle.ib_scan.specs.Scanning.{Appends, AreHeld, IsGivenBy}
+use Rattle.ib_scan.specs.Steps.{MayPass, HasPassed, IsOnLeaf, IsAlong, HasComeToEnd, HasFront, HasSomeFront, IsAside, HasLast, IsScannedTo, HasRun, HasRunToEnd, HasRunToStop, loaded_as}
 use Rattle.ib_scan.proofs.FrontLaws.{front_longer, front_push, appends_more}
+use Rattle.ib_scan.proofs.HoldLaws.{held_on, held_push}
 use Rattle.ib_scan.proofs.LeaveLaws.{beside_aside}
-use Rattle.ib_scan.proofs.PassLaws.{loaded_there}
+use Rattle.ib_scan.proofs.PassLaws.{first_push, loaded_there}
 use Rattle.ib_scan.proofs.StandLaws.{held_apart}
-use Rattle.ib_scan.proofs.WalkedLaws.{tree_at_log, tree_is, leaves_met, walked_stands, walked_tree, walked_chunk, walked_on}
+use Rattle.ib_scan.proofs.WalkedLaws.{tree_at_log, tree_is, leaves_met, walked_stands, walked_tree, walked_chunk, walked_leaf, walked_begins, walked_on}
+
+-- the first leaf of a work set
+abbrev leaf-in : List WorkPage → ReadLeaf
+leaf-in [] = record { page = 0; image = [] }
+leaf-in (w ∷ ws) = record { page = w.page; image = w.before }
 
 -- the image of a page of the tree, loaded
 pub record IsLoaded (leaf : ℕ) (image : List ℕ) (p : PassState) : Type 0 where
@@ -53,6 +61,7 @@ module _ (sizes : Sizes) (roots : ℕ) (lawful : List Entry → Type 0) (opening
     here = refl;
     count = refl;
     few = omega arith;
+    begins = h.scans.work;
     scans = h.scans;
     went = went_none p;
     s = omega arith;
@@ -93,6 +102,7 @@ module _ (sizes : Sizes) (roots : ℕ) (lawful : List Entry → Type 0) (opening
           here = sym link;
           count = omega arith;
           few = omega arith;
+          begins = subst (λ (f : ReadLeaf). p.work ≡ loaded_as f ∷ []) (sym (first_push a.ps a.last (record { page = next_of a.last.image; image = h.out }))) a.begins;
           scans = h.scans;
           went = went_both p q r a.went h.went;
           s = omega arith;
@@ -133,6 +143,25 @@ module _ (sizes : Sizes) (roots : ℕ) (lawful : List Entry → Type 0) (opening
       chunk : IsChunk (pages_after opening q.view.memory.seen) root start high found.end (cut (records_of image) start found.end)
       chunk = walked_chunk sizes.pages roots lawful opening laws root q.view.memory.seen legal start come.along.ps come.along.last come.along.scans.walked high found.end come.ends
 
+      -- the leaf that gave the chunk before is as it was
+      first-is : first_read come.along.ps come.along.last ≡ record { page = leaf; image = i.image }
+      first-is = ap (λ ws. leaf-in ws) (sym come.along.begins ∙ i.scans.work)
+
+      still : i.image ≡ image_of (memory_after opening q.view.memory.seen) leaf
+      still = subst (λ (f : ReadLeaf). f.image ≡ image_of (memory_after opening q.view.memory.seen) f.page) first-is
+          (walked_begins sizes.pages roots lawful opening laws root q.view.memory.seen legal start come.along.ps come.along.last come.along.scans.walked)
+
+      held : AreHeld opening q.view.memory.seen root high i.up_to.spans (length q.view.memory.seen)
+      held = subst (λ es. AreHeld opening es root high i.up_to.spans (length es)) (sym come.along.went.seen)
+          (held_on opening root high p.view.memory.seen come.along.went.more leaf i.image i.up_to.spans i.on (subst (λ es. i.image ≡ image_of (memory_after opening es) leaf) come.along.went.seen still))
+
+      given : IsGivenBy opening (take (length q.view.memory.seen) q.view.memory.seen) root found.leaf high span_read
+      unfolding chunk
+      given = subst (λ es. IsGivenBy opening es root found.leaf high span_read) (sym (take-length q.view.memory.seen)) (record {
+        chunk = chunk;
+        page = walked_leaf sizes.pages roots lawful opening laws root q.view.memory.seen legal start come.along.ps come.along.last come.along.scans.walked high found.end come.ends ∙ come.along.here;
+      })
+
       read : IsReadAt opening q.view.memory.seen root start high i.up_to.last span_read
       read = record {
         begins = refl;
@@ -167,6 +196,7 @@ module _ (sizes : Sizes) (roots : ℕ) (lawful : List Entry → Type 0) (opening
               short = short;
               went = went;
               known = known;
+              least = let a = i.up_to.least in omega arith;
               s = omega arith;
               sx = omega arith;
               x = omega arith;
@@ -182,6 +212,7 @@ module _ (sizes : Sizes) (roots : ℕ) (lawful : List Entry → Type 0) (opening
           run = run out i.up_to.spans i.up_to.appends (omega arith) i.up_to.short;
           last = i.up_to.last;
           chunks = subst (λ es. AreFront opening es root low high (length p0.view.memory.seen) i.up_to.spans start i.up_to.last) (sym aside.seen) before;
+          held = subst (λ es. AreHeld opening es root high i.up_to.spans (length es)) (sym aside.seen) held;
           within = within;
           from = elim i.up_to.first [ inl same ↦ let e = ap rank same.1 in omega arith | inr lt ↦ omega arith ];
           to = i.up_to.to;
@@ -224,6 +255,8 @@ module _ (sizes : Sizes) (roots : ℕ) (lawful : List Entry → Type 0) (opening
               to = to;
               placed = refl;
             });
+            held = subst (λ es. AreHeld opening es root high (i.up_to.spans ++ span_read ∷ []) (length es)) (sym aside.seen)
+                (held_push opening root high q.view.memory.seen i.up_to.spans span_read (length q.view.memory.seen) held (record { leaf = found.leaf; given = given; from = omega arith; within = omega arith; same = refl }));
           }
 
           -- .. or the next one begins behind the last key of the leaf, which is that of the chunk
@@ -255,6 +288,7 @@ module _ (sizes : Sizes) (roots : ℕ) (lawful : List Entry → Type 0) (opening
                   short = all-short;
                   went = went;
                   known = known;
+                  least = let a = i.up_to.least in omega arith;
                   s = omega arith;
                   sx = omega arith;
                   x = omega arith;
@@ -266,6 +300,16 @@ module _ (sizes : Sizes) (roots : ℕ) (lawful : List Entry → Type 0) (opening
                   first = inr (elim i.up_to.first [ inl same ↦ let e = ap rank same.1 in omega arith | inr below ↦ omega arith ]);
                 };
                 image = image;
+                on = inr (subst (λ es. HasLast opening es root found.leaf image high (i.up_to.spans ++ span_read ∷ [])) (sym aside.seen) (record {
+                  before = i.up_to.spans;
+                  last = span_read;
+                  are = refl;
+                  held = held;
+                  within = omega arith;
+                  given = given;
+                  read = subst (λ es. image ≡ image_of (memory_after opening es) found.leaf) (sym (take-length q.view.memory.seen))
+                      (come.along.scans.walked.image ∙ ap (image_of (memory_after opening q.view.memory.seen)) come.along.here);
+                }));
                 scans = record {
                   grants = alone f.front f.size f.grants;
                   watched = tt;

@@ -67,13 +67,13 @@ all-nodes : (ps : List ReadLeaf) (page : ℕ) → AllByRecursion (λ g. may_foll
 all-nodes [] page = (refl, tt)
 all-nodes (p ∷ ps) page = (refl, all-nodes ps page)
 
-first-push : (ps : List ReadLeaf) (last next : ReadLeaf) → first_read (ps ++ last ∷ []) next ≡ first_read ps last
-first-push [] last next = refl
-first-push (p ∷ ps) last next = refl
+pub first_push : (ps : List ReadLeaf) (last next : ReadLeaf) → first_read (ps ++ last ∷ []) next ≡ first_read ps last
+first_push [] last next = refl
+first_push (p ∷ ps) last next = refl
 
 passed-push : (start : MapKey) (ps : List ReadLeaf) (last next : ReadLeaf) → ArePassed start ps last → IsSkipped start last.image → next_of last.image ≡ next.page → ArePassed start (ps ++ last ∷ []) next
 passed-push start [] last next a skipped link = (skipped, link, tt)
-passed-push start (p ∷ ps) last next a skipped link = (a.0, a.1 ∙ ap (λ (q : ReadLeaf). q.page) (sym (first-push ps last next)), passed-push start ps last next a.2 skipped link)
+passed-push start (p ∷ ps) last next a skipped link = (a.0, a.1 ∙ ap (λ (q : ReadLeaf). q.page) (sym (first_push ps last next)), passed-push start ps last next a.2 skipped link)
 
 -- a space has few pages
 pub most_pages : (pages : ℕ) → has_pages pages ≡ true → pages ≤ 4096
@@ -143,7 +143,7 @@ module _ (sizes : Sizes) (roots : ℕ) (lawful : List Entry → Type 0) (opening
           passed = passed-push start ps last there w.passed skipped refl;
           low = w.low;
           high = w.high;
-          met = subst (λ (f : ReadLeaf). HasRange roots (pages_after opening r.view.memory.seen) f.page (record { root = root; low = w.low; end = w.high; level = 0 })) (sym (first-push ps last there)) w.met;
+          met = subst (λ (f : ReadLeaf). HasRange roots (pages_after opening r.view.memory.seen) f.page (record { root = root; low = w.low; end = w.high; level = 0 })) (sym (first_push ps last there)) w.met;
           le = w.le;
         }
 

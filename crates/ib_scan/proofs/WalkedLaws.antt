@@ -23,7 +23,7 @@ use Rattle.ib_cursor.proofs.PageLaws.{tree_image}
 use Rattle.ib_cursor.proofs.StepLaws.{image_stays}
 use Rattle.ib_cursor.proofs.WayLaws.{met_on-way}
 use Rattle.ib_scan.specs.Walked.{ReadLeaf, first_read, EndsBy, IsReadOf, IsWalked}
-use Rattle.ib_scan.proofs.ChunkLaws.{chunk_read}
+use Rattle.ib_scan.proofs.ChunkLaws.{chunk_leaf, chunk_read}
 use Rattle.ib_scan.proofs.KeyLaws.{last_between}
 use Rattle.ib_scan.proofs.StandLaws.{AreMetOnce, met_once, Stands, IsSameLeaf, stands_at, stands_kind, stands_leaf}
 
@@ -38,9 +38,9 @@ each-stays : (opening : ℕ → ℕ) (log es : List Entry) (ps : List ReadLeaf) 
 each-stays opening log es [] calm is = tt
 each-stays opening log es (p ∷ ps) calm is = (read-stays opening log es p calm.0 is.0, each-stays opening log es ps calm.1 is.1)
 
-first-calm : (es : List Entry) (ps : List ReadLeaf) (last : ReadLeaf) → AllByRecursion (λ p. AreCalm es p.page) ps → AreCalm es last.page → AreCalm es (first_read ps last).page
-first-calm es [] last calm one = one
-first-calm es (p ∷ ps) last calm one = calm.0
+first-of : (P : ReadLeaf → Type 0) (ps : List ReadLeaf) (last : ReadLeaf) → AllByRecursion P ps → P last → P (first_read ps last)
+first-of P [] last all one = one
+first-of P (p ∷ ps) last all one = all.0
 
 module _ (pages roots : ℕ) (lawful : List Entry → Type 0) (opening : ℕ → ℕ) (laws : Laws pages roots lawful opening) (root : ℕ) where
   pub walked_stays : (log es : List Entry) (start : MapKey) (ps : List ReadLeaf) (last : ReadLeaf) → lawful (log ++ es) → AllByRecursion (λ p. AreCalm es p.page) ps → AreCalm es last.page
@@ -51,7 +51,7 @@ module _ (pages roots : ℕ) (lawful : List Entry → Type 0) (opening : ℕ →
     passed = w.passed;
     low = w.low;
     high = w.high;
-    met = range_stays pages roots lawful opening laws root w.met.0 w.met.1 log es (first_read ps last).page (record { root = root; low = w.low; end = w.high; level = 0 }) legal (first-calm es ps last calm one) w.met;
+    met = range_stays pages roots lawful opening laws root w.met.0 w.met.1 log es (first_read ps last).page (record { root = root; low = w.low; end = w.high; level = 0 }) legal (first-of (λ p. AreCalm es p.page) ps last calm one) w.met;
     le = w.le;
   }
 
@@ -85,6 +85,14 @@ module _ (pages roots : ℕ) (lawful : List Entry → Type 0) (opening : ℕ →
       -- the chunk that begins at the start, read off the leaf
       pub walked_chunk : (high end : MapKey) → EndsBy start high end last.image → IsChunk tree_at_log root start high end (cut (records_of last.image) start end)
       walked_chunk high end e = chunk_read pages tree_at_log root (tree_is w.met.0 w.met.1) (leaves_met w.met.0 w.met.1) start high end ps last walked_stands walked_same e
+
+      pub walked_leaf : (high end : MapKey) (e : EndsBy start high end last.image) → (walked_chunk high end e).leaf.page ≡ last.page
+      unfolding walked_chunk
+      walked_leaf high end e = chunk_leaf pages tree_at_log root (tree_is w.met.0 w.met.1) (leaves_met w.met.0 w.met.1) start high end ps last walked_stands walked_same e
+
+      -- the first of the leaves is as it was read
+      pub walked_begins : IsReadOf opening log (first_read ps last)
+      walked_begins = first-of (IsReadOf opening log) ps last w.images w.image
 
       -- another chunk begins behind the leaf's last key: the scan stands on the leaf alone
       pub walked_on : (key next : MapKey) → IsLastKey (records_of last.image) key → rank key < rank next → IsWalked roots opening log root next [] last

@@ -28,7 +28,7 @@ use Rattle.ib_cursor.specs.Going.{WentOn}
 use Rattle.ib_cursor.specs.Descent.{HasDescended}
 use Rattle.ib_cursor.proofs.StandLaws.{IsBeside, went_beside, went_both, went_none, added_both, known_beside}
 use Rattle.ib_cursor.specs.Laws.{Laws}
-use Rattle.ib_scan.specs.Scanning.{HasGone, HasScanned, HasStopped, HasNoRoom}
+use Rattle.ib_scan.specs.Scanning.{AreHeld, HasGone, HasScanned, HasStopped, HasNoRoom}
 use Rattle.ib_scan.specs.Scans.{HasAll, FitsSeen, scan_answer}
 use Rattle.ib_scan.specs.Steps.{HasSomeFront, IsAside, IsScannedTo, HasRun, HasRunToEnd, HasRunToStop}
 use Rattle.ib_scan.proofs.FrontLaws.{appends_none, front_lower, whole_lower}
@@ -47,6 +47,7 @@ begins sizes roots lawful opening laws root some le low high lt up out path p q 
         short = tt;
         went = went_none q;
         known = d.come.known;
+        least = omega arith;
         s = omega arith;
         sx = refl;
         x = refl;
@@ -57,6 +58,7 @@ begins sizes roots lawful opening laws root some le low high lt up out path p q 
         first = inl (refl, refl, refl);
       };
       image = d.image;
+      on = inl refl;
       scans = record {
         grants = d.come.grants;
         watched = tt;
@@ -115,6 +117,7 @@ module _ (sizes : Sizes) (lawful : List Entry → Type 0) (opening : ℕ → ℕ
         rest = look.rest ++ (later h.went).added;
         looks = added_both (started p) q end d.come.went (later h.went) ∙ ap (λ ns. ns ++ (later h.went).added) look.is;
         known = known_beside sizes lawful r end beside h.known;
+        least = let path_is = ap length d.come.ends in let long = length-append d.come.front (d.come.leaf ∷ []) in let finds = (d.come.finds refl).0 in let hl = h.least in omega arith;
         s = omega arith;
         sx = omega arith;
         x = omega arith;
@@ -126,6 +129,7 @@ module _ (sizes : Sizes) (lawful : List Entry → Type 0) (opening : ℕ → ℕ
     gone = gone h.spans h.run;
     chunks = subst (λ es. AreWhole opening es root low high look.first h.spans (length es)) (sym aside.seen)
         (whole_lower opening root high r.view.memory.seen low (length q.view.memory.seen) look.first h.spans (length r.view.memory.seen) look.le h.chunks);
+    held = subst (λ es. AreHeld opening es root high h.spans (length es)) (sym aside.seen) h.held;
   }
 
   pub gone_part : (next : MapKey) → HasRunToStop sizes lawful opening root low high next out new q r → HasStopped sizes lawful opening root low high next out new p end
@@ -136,6 +140,7 @@ module _ (sizes : Sizes) (lawful : List Entry → Type 0) (opening : ℕ → ℕ
         gone = gone h.spans h.run;
         last = f.last;
         chunks = subst (λ es. AreFront opening es root low high look.first h.spans next f.last) (sym aside.seen) f.front;
+        held = subst (λ es. AreHeld opening es root high h.spans (length es)) (sym aside.seen) h.held;
         within = let a = f.le in let b = h.within in let c = ap length aside.seen in omega arith;
         from = h.from;
         to = h.to;
@@ -177,6 +182,7 @@ scanned_with sizes lawful opening root low high answer out new p q chunks pairs 
     record {
       gone = h.gone;
       chunks = h.chunks;
+      held = h.held;
       answer_is = is ∙ (ap (λ n. scan_answer low high n (pairs - left_pairs) place) some ∙ (ap (λ n. scan_answer low high (length h.gone.spans) n place) many ∙ ap (λ n. scan_answer low high (length h.gone.spans) (pair_count h.gone.spans) n) e));
     }
 

@@ -12,12 +12,13 @@ use Rattle.ib_tree.specs.Fits.{FitsLog}
 use Rattle.ib_tree.specs.Scans.{AreWhole}
 use Rattle.ib_rule.specs.Pass.{PassState}
 use Rattle.ib_cursor.specs.Spaces.{space_of}
-use Rattle.ib_scan.specs.Scanning.{HasGone}
+use Rattle.ib_scan.specs.Scanning.{AreHeld, HasGone}
 
 -- all chunks were appended
 pub record HasAll (sizes : Sizes) (lawful : List Entry → Type 0) (opening : ℕ → ℕ) (root : ℕ) (low high : MapKey) (out new : HeldChunks) (p q : PassState) : Type 0 where
   pub gone : HasGone sizes lawful out new p q
   pub chunks : AreWhole opening q.view.memory.seen root low high gone.first gone.spans (length q.view.memory.seen)
+  pub held : AreHeld opening q.view.memory.seen root high gone.spans (length q.view.memory.seen)
 
 -- the answer to a scan
 abbrev pub scan_answer : MapKey → MapKey → ℕ → ℕ → ℕ → Record

@@ -1,5 +1,5 @@
 -- The steps of a scan.
-use Rattle.std.specs.Prelude.{◌≡◌, ◌⊎◌, ℕ, ◌+◌, ◌*◌, ◌<◌, ◌≤◌, ◌^◌, true, List, [], ◌∷◌, ◌++◌, length, Some}
+use Rattle.std.specs.Prelude.{◌≡◌, ◌⊎◌, ℕ, ◌+◌, ◌*◌, ◌<◌, ◌≤◌, ◌^◌, true, List, [], ◌∷◌, ◌++◌, length, take, Some}
 use Rattle.std.specs.List.{AllByRecursion}
 use Rattle.ib_map.specs.Keys.{MapKey, rank}
 use Rattle.ib_map.specs.Chunks.{HeldChunks}
@@ -8,15 +8,18 @@ use Rattle.ib_levels.specs.declared.level.Mode.TheVariants.{S}
 use Rattle.ib_layout.specs.Geometry.{Sizes}
 use Rattle.ib_heap.specs.declared.TheConstants.{MOST_RECORDS}
 use Rattle.ib_page.specs.Image.{next_of}
+use Rattle.ib_page.specs.Work.{WorkPage}
 use Rattle.ib_logrec.specs.declared.entry.Entry.{Entry}
+use Rattle.ib_logrec.specs.Log.{memory_after}
+use Rattle.ib_walk.specs.Words.{image_of}
 use Rattle.ib_tree.specs.Scans.{AreFront, AreWhole}
 use Rattle.ib_rule.specs.Pass.{PassState}
 use Rattle.ib_rule.specs.Views.{is_watched, total, with_grant}
 use Rattle.ib_cursor.specs.Grants.{Grant, page_grant, HasGrants, IsAway}
 use Rattle.ib_cursor.specs.Going.{IsKnown, WentOn}
 use Rattle.ib_scan.specs.declared.walk.Found.{Found}
-use Rattle.ib_scan.specs.Scanning.{Appends, HasNoRoom}
-use Rattle.ib_scan.specs.Walked.{ReadLeaf, IsSkipped, EndsBy, IsScanning}
+use Rattle.ib_scan.specs.Scanning.{Appends, AreHeld, HasNoRoom, IsGivenBy}
+use Rattle.ib_scan.specs.Walked.{ReadLeaf, first_read, IsSkipped, EndsBy, IsScanning}
 
 -- the leaf on which a scan stands may be passed over: the next one is what its link names
 pub record MayPass (sizes : Sizes) (lawful : List Entry → Type 0) (opening : ℕ → ℕ) (roots leaf next : ℕ) (p : PassState) : Type 0 where
@@ -45,13 +48,18 @@ pub record IsOnLeaf (sizes : Sizes) (lawful : List Entry → Type 0) (opening : 
   pub scans : IsScanning sizes lawful opening roots root start [] (record { page = leaf; image = image }) p
   pub room : total p.view.grants + 4096 ≤ 2 ^ 52
 
--- it has gone on to this leaf, and holds so many that it passed over
+-- a leaf as it is loaded, unchanged
+abbrev pub loaded_as : ReadLeaf → WorkPage
+loaded_as l = record { page = l.page; before = l.image; changed = l.image }
+
+-- it has gone on to this leaf, and holds so many that it passed over, the first of which was loaded at the start
 pub record IsAlong (sizes : Sizes) (lawful : List Entry → Type 0) (opening : ℕ → ℕ) (roots root : ℕ) (start : MapKey) (leaf passed : ℕ) (p q : PassState) : Type 0 where
   pub ps : List ReadLeaf
   pub last : ReadLeaf
   pub here : last.page ≡ leaf
   pub count : length ps ≡ passed
   pub few : passed < 4096
+  pub begins : p.work ≡ loaded_as (first_read ps last) ∷ []
   pub scans : IsScanning sizes lawful opening roots root start ps last q
   pub went : WentOn p q
   pub s : q.view.grants.s ≡ p.view.grants.s + passed
@@ -100,6 +108,7 @@ pub record IsUpTo (sizes : Sizes) (lawful : List Entry → Type 0) (opening : �
   pub short : AllByRecursion (λ span. length span.pairs ≤ MOST_RECORDS) spans
   pub went : WentOn p q
   pub known : IsKnown sizes lawful q
+  pub least : p.view.grants.s ≤ q.view.grants.s
   pub s : q.view.grants.s + 8192 * new.chunk_room ≤ p.view.grants.s + 8192 * out.chunk_room
   pub sx : q.view.grants.sx ≡ p.view.grants.sx
   pub x : q.view.grants.x ≡ p.view.grants.x
@@ -109,11 +118,22 @@ pub record IsUpTo (sizes : Sizes) (lawful : List Entry → Type 0) (opening : �
   pub to : rank start ≤ rank high
   pub first : ((spans ≡ []) × (start ≡ low) × (new ≡ out)) ⊎ (rank low < rank start)
 
--- .. and it stands on this leaf
+-- the leaf with this image gave the last of these chunks, and all before it were held
+pub record HasLast (opening : ℕ → ℕ) (log : List Entry) (root leaf : ℕ) (image : List ℕ) (high : MapKey) (spans : List Span) : Type 0 where
+  pub before : List Span
+  pub last : Span
+  pub are : spans ≡ before ++ last ∷ []
+  pub held : AreHeld opening log root high before last.place
+  pub within : last.place ≤ length log
+  pub given : IsGivenBy opening (take last.place log) root leaf high last
+  pub read : image ≡ image_of (memory_after opening (take last.place log)) leaf
+
+-- .. and it stands on this leaf, which gave the last chunk if there is one
 pub record IsScannedTo (sizes : Sizes) (lawful : List Entry → Type 0) (opening : ℕ → ℕ) (roots root leaf : ℕ) (low start high : MapKey) (out new : HeldChunks) (p q : PassState) : Type 0 where
   pub up_to : IsUpTo sizes lawful opening root low start high out new p q
   pub image : List ℕ
   pub scans : IsScanning sizes lawful opening roots root start [] (record { page = leaf; image = image }) q
+  pub on : (up_to.spans ≡ []) ⊎ HasLast opening q.view.memory.seen root leaf image high up_to.spans
   pub room : total q.view.grants + 8192 * new.chunk_room + 8183 ≤ 2 ^ 52
 
 -- how the loop went: the chunks are appended, few grants more were taken for each, and one leaf alone is held
@@ -122,6 +142,7 @@ pub record HasRun (sizes : Sizes) (lawful : List Entry → Type 0) (out new : He
   pub short : AllByRecursion (λ span. length span.pairs ≤ MOST_RECORDS) spans
   pub went : WentOn p q
   pub known : IsKnown sizes lawful q
+  pub least : p.view.grants.s ≤ q.view.grants.s
   pub s : q.view.grants.s ≤ p.view.grants.s + 8192 * length spans + 8183
   pub sx : q.view.grants.sx ≡ p.view.grants.sx
   pub x : q.view.grants.x ≡ p.view.grants.x
@@ -134,6 +155,7 @@ pub record HasRunToEnd (sizes : Sizes) (lawful : List Entry → Type 0) (opening
   pub spans : List Span
   pub run : HasRun sizes lawful out new spans p q
   pub chunks : AreWhole opening q.view.memory.seen root low high (length p.view.memory.seen) spans (length q.view.memory.seen)
+  pub held : AreHeld opening q.view.memory.seen root high spans (length q.view.memory.seen)
 
 -- .. or up to a chunk that does not fit
 pub record HasRunToStop (sizes : Sizes) (lawful : List Entry → Type 0) (opening : ℕ → ℕ) (root : ℕ) (low high next : MapKey) (out new : HeldChunks) (p q : PassState) : Type 0 where
@@ -141,6 +163,7 @@ pub record HasRunToStop (sizes : Sizes) (lawful : List Entry → Type 0) (openin
   pub run : HasRun sizes lawful out new spans p q
   pub last : ℕ
   pub chunks : AreFront opening q.view.memory.seen root low high (length p.view.memory.seen) spans next last
+  pub held : AreHeld opening q.view.memory.seen root high spans (length q.view.memory.seen)
   pub within : last ≤ length q.view.memory.seen
   pub from : rank low ≤ rank next
   pub to : rank next ≤ rank high

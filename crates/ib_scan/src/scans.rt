@@ -1,10 +1,9 @@
 //! Scans.
 
-ghost use Rattle.std.specs.Prelude.{◌≡◌, ◌≤◌, ◌<◌, ◌+◌, ◌*◌, ◌^◌, [], true, length, Ok, IfErr, IfOk, MatchOption};
+ghost use Rattle.std.specs.Prelude.{◌≡◌, ◌≤◌, ◌<◌, ◌+◌, ◌*◌, ◌^◌, [], length, Ok, IfErr, IfOk, MatchOption};
 ghost use Rattle.ib_map.specs.Keys.{rank, end_rank};
-ghost use Rattle.ib_core.specs.Sessions.{idle};
 ghost use Rattle.ib_logrec.specs.Log.{by_place};
-ghost use Rattle.ib_rule.specs.Pass.{IsOf};
+ghost use Rattle.ib_rule.specs.Pass.{IsAtRest};
 ghost use Rattle.ib_rule.specs.Views.{total};
 ghost use Rattle.ib_scan.specs.Scanning.{HasScanned, HasStopped};
 ghost use Rattle.ib_scan.specs.Scans.{FitsSeen, HasAll, scan_answer};
@@ -27,17 +26,13 @@ fn read_chunks<L: Trees, R: Wait>(
     sought: Sought,
     out: &mut Chunks,
 ) -> Option<Key>
-    requires own { IsOf latches.now pass.old }
-    requires idle { pass.old.view.session ≡ idle }
-    requires scratch { pass.old.has_scratch ≡ true }
+    requires rest { IsAtRest latches.now pass.old }
     requires room { total pass.old.view.grants + 8192 * out.old.chunk_room + 8192 ≤ 2 ^ 52 }
     requires some { 0 < sought.root }
     requires root { sought.root ≤ L.ROOTS }
     requires ascends { rank sought.low ≤ rank sought.high }
     requires key { rank sought.low < end_rank }
-    ensures own { IsOf latches.now pass.new }
-    ensures idle { pass.new.view.session ≡ idle }
-    ensures scratch { pass.new.has_scratch ≡ true }
+    ensures rest { IsAtRest latches.now pass.new }
     ensures scanned { MatchOption result
         (HasAll latches.now.sizes (L.lawful latches.now.sizes.pages)
         (by_place L.opening latches.now.sizes.pages) sought.root sought.low sought.high
@@ -74,15 +69,11 @@ pub fn scan_at<L: Trees, R: Wait>(
     high: Key,
     out: &mut Chunks,
 ) -> Result<Record, More>
-    requires own { IsOf latches.now pass.old }
-    requires idle { pass.old.view.session ≡ idle }
-    requires scratch { pass.old.has_scratch ≡ true }
+    requires rest { IsAtRest latches.now pass.old }
     requires room { total pass.old.view.grants + 8192 * out.old.chunk_room + 8192 ≤ 2 ^ 52 }
     requires some { 0 < root }
     requires root { root ≤ L.ROOTS }
-    ensures own { IsOf latches.now pass.new }
-    ensures idle { pass.new.view.session ≡ idle }
-    ensures scratch { pass.new.has_scratch ≡ true }
+    ensures rest { IsAtRest latches.now pass.new }
     ensures scanned { rank low ≤ rank high → IfOk result (λ answer. HasScanned
         latches.now.sizes (L.lawful latches.now.sizes.pages)
         (by_place L.opening latches.now.sizes.pages) root low high answer
@@ -121,14 +112,10 @@ pub fn scan<L: Trees, R: Wait>(
     high: Key,
     out: &mut Chunks,
 ) -> Result<Record, More>
-    requires own { IsOf latches.now pass.old }
-    requires idle { pass.old.view.session ≡ idle }
-    requires scratch { pass.old.has_scratch ≡ true }
+    requires rest { IsAtRest latches.now pass.old }
     requires room { total pass.old.view.grants + 8192 * out.old.chunk_room + 8192 ≤ 2 ^ 52 }
     requires root { 1 ≤ L.ROOTS }
-    ensures own { IsOf latches.now pass.new }
-    ensures idle { pass.new.view.session ≡ idle }
-    ensures scratch { pass.new.has_scratch ≡ true }
+    ensures rest { IsAtRest latches.now pass.new }
     ensures scanned { rank low ≤ rank high → IfOk result (λ answer. HasScanned
         latches.now.sizes (L.lawful latches.now.sizes.pages)
         (by_place L.opening latches.now.sizes.pages) 1 low high answer

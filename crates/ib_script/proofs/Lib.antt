@@ -1,4 +1,5 @@
 pub mod Building
+pub mod CallRead
 pub mod ListsGrow
 pub mod Readings
 mod GeneratedLaws

@@ -3,6 +3,7 @@
 
 mod builder;
 mod generated;
+mod laws;
 mod lists;
 mod load;
 mod reader;
@@ -10,6 +11,7 @@ mod script;
 mod script_line;
 
 pub use generated::generate;
+pub use laws::script_law;
 pub use load::{Load, MOST_GENERATED};
 pub use reader::{LineReader, PlainLines};
 pub use script::{Script, read_script};

@@ -43,6 +43,7 @@ fn a_reader_comes_to_the_root(rt: HostRuntime) {
     let grants = one.grants_taken();
     assert_eq!(rt; (grants.s, grants.sx, grants.x), (2, 0, 0));
     table.disconnect(one);
+    assert_eq!(rt; table.connected(), 0);
     table.discard();
 }
 
@@ -56,6 +57,7 @@ fn a_key_is_looked_up_on_the_root(rt: HostRuntime) {
     let grants = one.grants_taken();
     assert_eq!(rt; (grants.s, grants.sx, grants.x), (2, 0, 0));
     table.disconnect(one);
+    assert_eq!(rt; table.connected(), 0);
     table.discard();
 }
 
@@ -70,6 +72,7 @@ fn who_changes_the_root_owns_it(rt: HostRuntime) {
     let grants = one.grants_taken();
     assert_eq!(rt; (grants.s, grants.sx, grants.x), (2, 0, 1));
     table.disconnect(one);
+    assert_eq!(rt; table.connected(), 0);
     table.discard();
 }
 
@@ -84,6 +87,7 @@ fn who_may_split_the_root_claims_the_index(rt: HostRuntime) {
     let grants = one.grants_taken();
     assert_eq!(rt; (grants.s, grants.sx, grants.x), (1, 1, 1));
     table.disconnect(one);
+    assert_eq!(rt; table.connected(), 0);
     table.discard();
 }
 
@@ -98,6 +102,7 @@ fn who_may_merge_pages_claims_the_index(rt: HostRuntime) {
     let grants = one.grants_taken();
     assert_eq!(rt; (grants.s, grants.sx, grants.x), (1, 1, 1));
     table.disconnect(one);
+    assert_eq!(rt; table.connected(), 0);
     table.discard();
 }
 
@@ -113,5 +118,6 @@ fn nobody_is_in_the_way(rt: HostRuntime) {
     assert_eq!(rt; mtr.commit_read(), 0);
     assert_eq!(rt; one.grants_taken().s, 2);
     table.disconnect(one);
+    assert_eq!(rt; table.connected(), 0);
     table.discard();
 }

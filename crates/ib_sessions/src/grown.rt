@@ -101,6 +101,7 @@ fn a_scan_goes_on_where_it_stopped(rt: HostRuntime) {
     assert_eq!(rt; out.pairs().len(), 36);
     assert_eq!(rt; out.pairs().last().copied(), Some((36, 36)));
     index.disconnect(one);
+    assert_eq!(rt; index.connected(), 0);
     index.discard();
 }
 
@@ -121,5 +122,6 @@ fn a_space_gets_full(rt: HostRuntime) {
     assert_eq!(rt; delete(&rt, &index, &mut one, 1), deleted(1, 1, 269));
     assert_eq!(rt; insert(&rt, &index, &mut one, 1, 5), inserted(1, 5, 270));
     index.disconnect(one);
+    assert_eq!(rt; index.connected(), 0);
     index.discard();
 }

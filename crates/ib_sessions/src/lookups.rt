@@ -7,12 +7,13 @@ ghost use Rattle.ib_rule.specs.Views.{total};
 
 use crate::space::come;
 use ib_core::Phase;
-use ib_cursor::NowaitFault;
+use ib_cursor::{NowaitFault, descend_nowait};
 use ib_index::Index;
 use ib_latch::{NoSleep, Sleep, TryFault};
 use ib_layout::Geometry;
 use ib_levels::{Latch, Level};
 use ib_map::{Call, Record, Reply};
+use ib_mtr::Mtr;
 use ib_rule::Pass;
 use ib_word::LockWord;
 use std::alloc::Global;
@@ -69,6 +70,7 @@ fn a_lookup_takes_the_index_and_the_root(rt: HostRuntime) {
     let taken = one.grants_taken();
     assert_eq!(rt; (taken.s, taken.sx, taken.x), (6, 0, 0));
     index.disconnect(one);
+    assert_eq!(rt; index.connected(), 0);
     index.discard();
 }
 
@@ -127,5 +129,42 @@ fn who_does_not_wait_is_told_what_is_in_the_way(rt: HostRuntime) {
     assert_eq!(rt; index.get_nowait(&mut two, 5), Ok(not_found(5)));
     leave(&rt, &mut index, one);
     leave(&rt, &mut index, two);
+    assert_eq!(rt; index.connected(), 0);
+    index.discard();
+}
+
+#[test]
+fn a_descent_that_does_not_wait_is_refused_beside_a_writer(rt: HostRuntime) {
+    let mut index: Index<NoSleep> = smallest(&rt, rt.alloc());
+    let mut one = come(&rt, rt.alloc(), &mut index);
+    let mut two = come(&rt, rt.alloc(), &mut index);
+    assert_eq!(rt; own_root(&rt, &index, &mut one), Ok(()));
+    may_call(&rt, &two);
+    let mut mtr = Mtr::start(index.latches(), &mut two);
+    let busy = NowaitFault::Busy {
+        latch: ROOT,
+        word: LockWord(0),
+    };
+    match descend_nowait(&mut mtr, 5) {
+        Ok(_) => panic!(rt; "the root is owned by another"),
+        Err(fault) => assert_eq!(rt; fault, busy),
+    }
+    assert!(rt; mtr.image(1).is_none());
+    assert_eq!(rt; mtr.commit_read(), 0);
+    assert_eq!(rt; two.grants_taken().s, 1);
+    leave_root(&rt, &index, &mut one);
+    may_call(&rt, &two);
+    let mut mtr = Mtr::start(index.latches(), &mut two);
+    match descend_nowait(&mut mtr, 5) {
+        Ok(path) => assert_eq!(rt; path.pages(), [1].as_slice()),
+        Err(_) => panic!(rt; "nobody is in the way"),
+    }
+    assert!(rt; mtr.image(1).is_some());
+    assert_eq!(rt; mtr.commit_read(), 0);
+    let taken = two.grants_taken();
+    assert_eq!(rt; (taken.s, taken.sx, taken.x), (3, 0, 0));
+    leave(&rt, &mut index, one);
+    leave(&rt, &mut index, two);
+    assert_eq!(rt; index.connected(), 0);
     index.discard();
 }

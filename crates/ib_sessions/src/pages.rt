@@ -1,7 +1,6 @@
 //! The pages of a space that was closed, compared with pages that are made record by record.
 
 ghost use Rattle.std.specs.Prelude.{◌≡◌, ◌<◌};
-ghost use Rattle.ib_page.specs.Image.{IsTreePage};
 
 use ib_index::Index;
 use ib_map::PAGE_WORDS;
@@ -43,7 +42,7 @@ pub(crate) fn leaf(
 
 // A node of level 1 with these records.
 pub(crate) fn node(rt: &impl Abort, clock: u64, records: &[(u64, u64)]) -> Image {
-    let mut page = Image::empty(1, clock);
+    let mut page = Image::node(1, clock);
     for (key, child) in records {
         page.insert(*key, *child).expect(rt, "there is room");
     }

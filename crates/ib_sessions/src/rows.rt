@@ -73,6 +73,7 @@ fn a_full_leaf_is_changed_alone(rt: HostRuntime) {
     assert_eq!(rt; (one.place(), one.made()), (37, 37));
     assert_eq!(rt; (taken.s, taken.sx, taken.x), (78, 0, 76));
     index.disconnect(one);
+    assert_eq!(rt; index.connected(), 0);
     index.discard();
 }
 
@@ -114,6 +115,7 @@ fn a_scan_waits_for_room(rt: HostRuntime) {
     assert_eq!(rt; out.pairs().last().copied(), Some((18, 18)));
     assert_eq!(rt; out.room(), (0, 0));
     index.disconnect(one);
+    assert_eq!(rt; index.connected(), 0);
     index.discard();
 }
 
@@ -154,5 +156,6 @@ fn a_log_has_room_for_one_entry(rt: HostRuntime) {
     };
     assert_eq!(rt; get(&rt, &index, &mut one, 10), found);
     index.disconnect(one);
+    assert_eq!(rt; index.connected(), 0);
     index.discard();
 }

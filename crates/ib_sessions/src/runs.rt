@@ -67,6 +67,7 @@ fn a_session_sees_its_own_changes(rt: HostRuntime) {
     assert_eq!(rt; out.records(), records.as_slice());
     assert!(rt; out.chunks().list().is_empty());
     index.disconnect(pass);
+    assert_eq!(rt; index.connected(), 0);
     index.discard();
 }
 

@@ -56,6 +56,7 @@ fn an_empty_tree_has_one_empty_chunk(rt: HostRuntime) {
     assert_eq!(rt; out.list(), [chunk].as_slice());
     assert_eq!(rt; one.grants_taken().s, 2);
     table.disconnect(one);
+    assert_eq!(rt; table.connected(), 0);
     table.discard();
 }
 
@@ -69,6 +70,7 @@ fn from_a_key_to_a_lower_one_there_is_none(rt: HostRuntime) {
     assert_eq!(rt; out.list(), [].as_slice());
     assert_eq!(rt; one.grants_taken().s, 0);
     table.disconnect(one);
+    assert_eq!(rt; table.connected(), 0);
     table.discard();
 }
 
@@ -81,5 +83,6 @@ fn a_chunk_takes_a_place(rt: HostRuntime) {
     assert_eq!(rt; answer, Err(More { next: 3 }));
     assert_eq!(rt; out.list(), [].as_slice());
     table.disconnect(one);
+    assert_eq!(rt; table.connected(), 0);
     table.discard();
 }

@@ -82,5 +82,6 @@ fn four_sessions_share_a_leaf(rt: HostRuntime) {
     index.disconnect(two);
     index.disconnect(three);
     index.disconnect(four);
+    assert_eq!(rt; index.connected(), 0);
     index.discard();
 }

@@ -2,6 +2,7 @@
 #![tactic(auto)]
 
 mod key;
+mod laws;
 mod log_part;
 mod map_part;
 mod record_part;
@@ -9,6 +10,7 @@ mod session_part;
 mod span_part;
 
 pub use key::{key_in, print_key};
+pub use laws::key_text_law;
 pub use log_part::{ChangeLog, print_log};
 pub use map_part::{all_pairs, print_map};
 pub use session_part::print_session;

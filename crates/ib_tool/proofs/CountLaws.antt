@@ -4,9 +4,7 @@ use Rattle.std.specs.Prelude.{count_by, sum_by}
 use Rattle.std.proofs.lemmas.List.Sums.{sum_by-cons}
 use Rattle.ib_map.specs.FullRecords.{chunk_count, full_records}
 use Rattle.ib_map.specs.Replies.{FullRecord, Span, full_record}
-use Rattle.ib_map.specs.declared.call.Call.{Call}
 use Rattle.ib_map.specs.declared.call.Record.{Record}
-use Rattle.ib_layout.specs.Geometry.{Sizes}
 use Rattle.ib_logrec.specs.declared.entry.Entry.{Entry}
 use Rattle.ib_runs.specs.Answers.{KeptAnswers, answers_of, calls_in}
 use Rattle.ib_runs.specs.Outcomes.{IsOutcome}

@@ -1,11 +1,11 @@
 -- What a run of a script gives is one of its texts.
-use Rattle.std.proofs.Common.{◌≡◌, ◌∙◌, ◌<◌, ◌≤◌, ◌^◌, ℕ, List, ap, sym, refl, subst, length, map, true, arith}
-use Rattle.ib_layout.specs.Geometry.{has_log}
+use Rattle.std.proofs.Common.{◌≡◌, ◌∙◌, ◌<◌, ◌≤◌, ◌^◌, ℕ, List, ap, sym, subst, length, map, true, arith}
 use Rattle.ib_layout.specs.declared.geometry.TheConstants.{MOST_LOG_WORDS}
 use Rattle.ib_logrec.specs.Log.{history_of, log_words}
 use Rattle.ib_map.specs.History.{History}
 use Rattle.ib_map.specs.Pairs.{Pairs}
-use Rattle.ib_replay.specs.Files.{file_of}
+use Rattle.ib_map.specs.Space.{has_pages}
+use Rattle.ib_replay.specs.Files.{AreWords, file_of}
 use Rattle.ib_rule.specs.Closed.{log_in}
 use Rattle.ib_runs.specs.Answers.{answers_of}
 use Rattle.ib_runs.specs.Outcomes.{HasRan}
@@ -15,7 +15,7 @@ use Rattle.ib_script.specs.Script.{ScriptValue}
 use Rattle.ib_script.specs.declared.load.Load.{Load}
 use Rattle.ib_text.specs.Output.{output_of}
 use Rattle.ib_tool.specs.Counts.{counts_of}
-use Rattle.ib_tool.specs.Texts.{IsCountText, IsRawText, IsRunText, map_in}
+use Rattle.ib_tool.specs.Texts.{IsCountText, IsRawText, IsRunText}
 
 module _ (script : ScriptValue) (ran : Ran) (h : HasRan script.sizes script.commands ran) where
   -- the text
@@ -36,14 +36,21 @@ module _ (script : ScriptValue) (ran : Ran) (h : HasRan script.sizes script.comm
   pub few-words : (words : List ℕ) → words ≡ log_in ran.closed.sizes ran.closed.words → script.sizes.log_words ≤ MOST_LOG_WORDS → length words < 2 ^ 32
   few-words words is most = let size = ap length (log-words words is) in let room = h.outcome.room in omega arith
 
-  -- the file of the log
-  pub raw-text : (words bytes : List ℕ) (pages : ℕ) → words ≡ log_in ran.closed.sizes ran.closed.words → pages ≡ script.sizes.pages → bytes ≡ file_of pages words → IsRawText script bytes
-  raw-text words bytes pages is same file = record {
-    runs = map answers_of ran.sessions.items;
-    log = h.log;
-    outcome = h.outcome;
-    printed = file ∙ ap (λ n. file_of n words) same ∙ ap (file_of script.sizes.pages) (log-words words is);
-  }
+  -- the file of the log, which is lawful
+  pub raw-text : (words bytes : List ℕ) (pages : ℕ) → words ≡ log_in ran.closed.sizes ran.closed.words → pages ≡ script.sizes.pages → has_pages pages ≡ true → AreWords words
+      → bytes ≡ file_of pages words → IsRawText script bytes
+  raw-text words bytes pages is same has fits file =
+      let kept = h.outcome.kept in record {
+        runs = map answers_of ran.sessions.items;
+        log = h.log;
+        outcome = h.outcome;
+        written = record {
+          space = ap has_pages (sym same) ∙ has;
+          lawful = kept.lawful;
+          fits = subst AreWords (log-words words is) fits;
+          file = file ∙ ap (λ n. file_of n words) same ∙ ap (file_of script.sizes.pages) (log-words words is);
+        };
+      }
 
   -- the counts, where the script was generated
   pub count-text : (load : Load) → IsGenerated load script → IsCountText load (counts_of (map answers_of ran.sessions.items) ran.map)

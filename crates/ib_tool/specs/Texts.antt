@@ -2,10 +2,10 @@
 use Rattle.std.specs.Prelude.{◌≡◌, ℕ, List}
 use Rattle.ib_layout.specs.Geometry.{Sizes}
 use Rattle.ib_logrec.specs.declared.entry.Entry.{Entry}
-use Rattle.ib_logrec.specs.Log.{by_place, history_of, log_words}
+use Rattle.ib_logrec.specs.Log.{by_place, history_of}
 use Rattle.ib_map.specs.Pairs.{Pairs}
 use Rattle.ib_map.specs.Runs.{Runs}
-use Rattle.ib_replay.specs.Files.{file_of}
+use Rattle.ib_replay.specs.RawLogs.{IsRawLog}
 use Rattle.ib_runs.specs.Outcomes.{IsOutcome}
 use Rattle.ib_script.specs.Generated.{IsGenerated}
 use Rattle.ib_script.specs.Script.{ScriptValue}
@@ -29,12 +29,12 @@ pub record IsRunText (script : ScriptValue) (text : List ℕ) : Type 0 where
   pub outcome : IsOutcome script.sizes script.commands runs log
   pub printed : text ≡ output_of runs (history_of log) (map_in script.sizes log)
 
--- the bytes are the file of the log of such a run
+-- the bytes are the log of such a run as a file, which is one of a lawful log
 pub record IsRawText (script : ScriptValue) (text : List ℕ) : Type 0 where
   pub runs : Runs
   pub log : List Entry
   pub outcome : IsOutcome script.sizes script.commands runs log
-  pub printed : text ≡ file_of script.sizes.pages (log_words log)
+  pub written : IsRawLog text script.sizes.pages log
 
 -- the text counts the replies of a run of a generated script, and the pairs of the map in the end
 pub record IsCountText (load : Load) (text : List ℕ) : Type 0 where

@@ -3,7 +3,7 @@
 ghost use Rattle.std.specs.Prelude.{◌≡◌, ◌≢◌, ◌<◌, ◌≤◌, ◌^◌, IfOk, length, true};
 ghost use Rattle.ib_edge.specs.Faults.{Rose};
 ghost use Rattle.ib_edge.specs.Told.{IsOutOfMemory, IsOutOfMemoryWhere, Told};
-ghost use Rattle.ib_replay.specs.Files.{file_of};
+ghost use Rattle.ib_replay.specs.Files.{AreWords, file_of};
 ghost use Rattle.ib_runs.specs.Outcomes.{HasRan};
 ghost use Rattle.ib_script.specs.Loads.{is_load};
 ghost use Rattle.ib_script.specs.Script.{IsSmall};
@@ -27,7 +27,9 @@ use std::thread::Threads;
 // The file of a log of so many pages and these words.
 fn file_of(alloc: Global, pages: u32, words: &[u64]) -> Result<Vec<u8>, AllocError>
     requires { length words.now < 2 ^ 32 }
-    ensures { IfOk result (λ bytes. bytes.items ≡ file_of pages words.now) }
+    ensures bytes { IfOk result (λ bytes. bytes.items ≡ file_of pages words.now) }
+    // They are words of 64 bits, and so can be read again.
+    ensures fits { AreWords words.now }
 {
     let mut bytes = vec![in alloc; 0; 16 + 8 * words.len()]?;
     write_log(pages, words, bytes.as_mut_slice());

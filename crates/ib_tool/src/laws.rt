@@ -1,10 +1,17 @@
 //! What holds of a script by its definitions alone.
 
-ghost use Rattle.std.specs.Prelude.{◌≡◌, ℕ, List};
+ghost use Rattle.std.specs.Prelude.{◌≡◌, ◌++◌, ℕ, List};
+ghost use Rattle.ib_edge.specs.Told.{Ending};
+ghost use Rattle.ib_edge.specs.declared.status.Status.TheVariants.{Done};
+ghost use Rattle.ib_replay.specs.RawLogs.{IsRawLog};
 ghost use Rattle.ib_script.specs.Script.{ScriptValue};
 ghost use Rattle.ib_runs.specs.Alone.{AreNeverFull, IsAlone};
-ghost use Rattle.ib_tool.specs.Texts.{IsRunText};
+ghost use Rattle.ib_text.specs.Output.{sessions_from};
+ghost use Rattle.ib_tool.specs.Answers.{AnswersInput};
+ghost use Rattle.ib_tool.specs.Texts.{IsRawText, IsRunText};
+ghost use Rattle.ib_tool.specs.declared.form.Form.TheVariants.{Replay};
 
+use ib_logs::log_law;
 use ib_runs::alone_law;
 
 /// The law of a session alone, as a contract: where no other session of a script has a command, its runs in which no log
@@ -15,4 +22,15 @@ pub fn text_law()
         → AreNeverFull run.runs → AreNeverFull again.runs → text ≡ other }
 {
     alone_law();
+}
+
+/// The law of what `raw` writes, as a contract: it is the file of a lawful log, and `replay` prints of it what `run` prints
+/// of the same run behind its sessions: the log, and the map in the end.
+pub fn raw_law()
+    ensures lawful { (script : ScriptValue) (bytes : List ℕ) → (raw : IsRawText script bytes)
+        → IsRawLog bytes script.sizes.pages raw.log }
+    ensures replayed { (script : ScriptValue) (bytes : List ℕ) (e : Ending) → (raw : IsRawText script bytes)
+        → AnswersInput Replay bytes e → (e.status ≡ Done) × IsRunText script (sessions_from 1 raw.runs ++ e.text) }
+{
+    log_law();
 }

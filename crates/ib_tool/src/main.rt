@@ -19,7 +19,7 @@ pub use ib_edge::{
     read_all,
 };
 pub use ib_runs::{Gate, OpenGate, SessionOut, run_session};
-pub use laws::text_law;
+pub use laws::{raw_law, text_law};
 pub use standard::{StdSink, StdSource};
 use std::process::ExitCode;
 pub use top::top;

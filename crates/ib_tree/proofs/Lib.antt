@@ -22,3 +22,4 @@ pub mod EntryLaws
 pub mod OpeningLaws
 pub mod MemoryLaws
 pub mod FitLaws
+pub mod RefusalLaws

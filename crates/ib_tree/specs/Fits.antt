@@ -1,5 +1,5 @@
 -- What a reply must be by the tree, beside what the map says: a record fits a log.
-use Rattle.std.specs.Prelude.{◌≡◌, ℕ, ◌+◌, ◌*◌, ◌<◌, ◌≤◌, true, false, List, take}
+use Rattle.std.specs.Prelude.{◌≡◌, ℕ, ◌+◌, ◌*◌, ◌<◌, ◌≤◌, Bool, true, false, List, take}
 use Rattle.std.specs.List.{AllByRecursion}
 use Rattle.ib_map.specs.Keys.{MapKey}
 use Rattle.ib_map.specs.Replies.{Span, FullRecord, Fits}
@@ -28,6 +28,13 @@ tree_at space log place = pages_after space.opening (take place log)
 
 abbrev pub free_at : TreeSpace → List Entry → ℕ → ℕ
 free_at space log place = free_of (bits_of space.pages (memory_after space.opening (take place log))) space.pages
+
+-- whether the reply refuses a change
+abbrev pub is_refused : Reply → Bool
+is_refused (LogFull words cap) = true
+is_refused (SpaceFull free need) = true
+is_refused TooHigh = true
+is_refused _ = false
 
 -- the longest entry
 abbrev pub most_entry_words : ℕ

@@ -1,18 +1,21 @@
 //! The laws of the tests, as contracts: each passes exactly where the trees are lawful, and says where each
 //! page is met afterwards.
 
-ghost use Rattle.std.specs.Prelude.{◌≡◌, ℕ, ◌*◌, ◌<◌, ◌≤◌, Bool, true, List, [], ◌∷◌, ◌++◌, length};
+ghost use Rattle.std.specs.Prelude.{◌≡◌, ◌≢◌, ℕ, ◌+◌, ◌*◌, ◌<◌, ◌≤◌, Bool, true, false, List, [], ◌∷◌, ◌++◌, Some, length, take};
 ghost use Rattle.ib_map.specs.Keys.{MapKey, IsKey, rank, end_rank};
 ghost use Rattle.ib_map.specs.History.{map_after};
-ghost use Rattle.ib_map.specs.Replies.{Span, FullRecord, pair_count, AreChunks};
+ghost use Rattle.ib_map.specs.Map.{answer_of, is_made};
+ghost use Rattle.ib_map.specs.Replies.{Span, FullRecord, change_of, pair_count, AreChunks};
 ghost use Rattle.ib_map.specs.Runs.{reach_after, AreAnswers};
-ghost use Rattle.ib_map.specs.declared.call.Call.TheVariants.{Scan};
-ghost use Rattle.ib_map.specs.declared.call.Reply.TheVariants.{Scanned};
+ghost use Rattle.ib_map.specs.declared.call.Call.TheVariants.{Insert, Scan};
+ghost use Rattle.ib_map.specs.declared.call.Change.{Change};
+ghost use Rattle.ib_map.specs.declared.call.Reply.TheVariants.{LogFull, Scanned};
 ghost use Rattle.ib_map.specs.Space.{has_pages};
 ghost use Rattle.ib_map.specs.Writes.{PlacesRise};
 ghost use Rattle.ib_map.specs.declared.TheConstants.{PAGE_WORDS};
 ghost use Rattle.ib_logrec.specs.declared.entry.Entry.{Entry};
-ghost use Rattle.ib_logrec.specs.Log.{by_place, history_of};
+ghost use Rattle.ib_logrec.specs.Log.{by_place, history_of, used};
+ghost use Rattle.ib_walk.specs.Full.{is_too_high, need_of};
 ghost use Rattle.ib_walk.specs.Pages.{PageMemory};
 ghost use Rattle.ib_walk.specs.Walk.{Visit};
 ghost use Rattle.ib_walk.specs.Trees.{content_of, IsLawful, free_page};
@@ -22,7 +25,7 @@ ghost use Rattle.ib_tree.specs.Logs.{pages_after, IsTreeEntry};
 ghost use Rattle.ib_tree.specs.TreeLog.{opening, IsTreeLog};
 ghost use Rattle.ib_tree.specs.PageLists.{touched_pages};
 ghost use Rattle.ib_tree.specs.Scans.{AreWhole};
-ghost use Rattle.ib_tree.specs.Fits.{TreeSpace, tree_at, FitsLog};
+ghost use Rattle.ib_tree.specs.Fits.{TreeSpace, tree_at, free_at, is_refused, FitsLog};
 ghost use Rattle.ib_tree.specs.Tests.{KeepRanges, TellsGood, IsPatchGiven, writes_page, IsEntryGiven, PassesEntry, root_positions, PassesWhole};
 
 /// The law of the test of a patch, as a contract. Of lawful trees whose positions are known, it passes
@@ -100,4 +103,29 @@ pub fn fits_law()
           place = end;
           spans = spans;
         }) }
+{}
+
+/// The law of changes that are refused, as a contract: the map would have made them, and at one place of one log there is
+/// one refusal of a call.
+pub fn refusal_law()
+    ensures one { (space : TreeSpace) (log : List Entry) (session reach other seen : ℕ) (r s : FullRecord)
+        → FitsLog space log session reach r → FitsLog space log other seen s → r.call ≡ s.call → r.place ≡ s.place
+        → is_refused r.reply ≡ true → is_refused s.reply ≡ true → r.reply ≡ s.reply }
+    ensures made { (space : TreeSpace) (log : List Entry) (session reach : ℕ) (r : FullRecord)
+        → FitsLog space log session reach r → is_refused r.reply ≡ true
+        → (change : Change) × (change_of r.call ≡ Some change)
+        × (is_made (answer_of (map_after (history_of log) r.place) change) ≡ true) × (r.spans ≡ []) }
+    // A full log tells how many words stand before the place, and of how many: the longest entry has no room there.
+    ensures full { (space : TreeSpace) (log : List Entry) (session reach words cap : ℕ) (r : FullRecord)
+        → FitsLog space log session reach r → r.reply ≡ LogFull words cap
+        → (words ≡ used (take r.place log)) × (cap ≡ space.log_words) × (cap < words + 8196) }
+    // So where there is room, none is told that the log is full.
+    ensures room { (space : TreeSpace) (log : List Entry) (session reach words cap : ℕ) (r : FullRecord)
+        → FitsLog space log session reach r → used (take r.place log) + 8196 ≤ space.log_words
+        → r.reply ≢ LogFull words cap }
+    // An insert is refused so where nothing else refuses it.
+    ensures grows { (space : TreeSpace) (log : List Entry) (session reach words cap : ℕ) (key : MapKey) (value : ℕ) (r : FullRecord)
+        → FitsLog space log session reach r → r.call ≡ Insert key value → r.reply ≡ LogFull words cap
+        → (is_too_high (tree_at space log r.place) key 1 ≡ false)
+        × (need_of (tree_at space log r.place) key 1 ≤ free_at space log r.place) }
 {}

@@ -8,6 +8,6 @@ mod tree_law;
 mod whole;
 
 pub use content::content_of;
-pub use laws::{entry_law, fits_law, patch_law};
+pub use laws::{entry_law, fits_law, patch_law, refusal_law};
 pub use tree_law::{TreeLaw, Trees};
 pub use whole::check_tree;

@@ -15,9 +15,9 @@ use std::test::Fail;
 fn counts_the_words_that_differ(rt: HostRuntime) -> Result<(), Fail> {
     let mut work = WorkSet::with_room(rt.alloc())?;
     work.add(3, &Image::leaf(0));
-    assert_eq!(rt; work.difference_count(), 0);
+    assert_eq!(rt; work.changed(), 0);
     work.edit(3).insert(10, 100)?;
-    assert_eq!(rt; work.difference_count(), 7);
+    assert_eq!(rt; work.changed(), 7);
     assert!(rt; work.image(4).is_none());
     Ok(())
 }
@@ -29,7 +29,7 @@ fn counts_the_clock(rt: HostRuntime) -> Result<(), Fail> {
     let image = work.edit(3);
     image.insert(10, 100)?;
     image.touch();
-    assert_eq!(rt; work.difference_count(), 8);
+    assert_eq!(rt; work.changed(), 8);
     Ok(())
 }
 
@@ -39,7 +39,7 @@ fn writes_the_words_that_differ(rt: HostRuntime) -> Result<(), Fail> {
     *work.read_in(3) = Image::leaf(0);
     assert!(rt; work.image(3).is_some());
     work.edit(3).touch();
-    assert_eq!(rt; work.difference_count(), 1);
+    assert_eq!(rt; work.changed(), 1);
     let mut out = [0; 4];
     let written = work.write_into(&mut out);
     assert_eq!(rt; written.count, 1);
@@ -157,7 +157,7 @@ fn child(rt: &impl Abort, image: &mut Image, key: Key) -> u64
 
 #[test]
 fn a_key_is_led_to_its_child(rt: HostRuntime) -> Result<(), Fail> {
-    let mut image = Image::empty(1, 0);
+    let mut image = Image::node(1, 0);
     image.insert(0, 7)?;
     image.insert(10, 8)?;
     image.insert(20, 9)?;

@@ -48,7 +48,7 @@ fn leaf(prev: u32, next: u32, key: u64, value: u64) -> Image {
 
 // A node over leaf 2, and over leaf 3 from this key on.
 fn node(key: u64) -> Image {
-    let mut image = Image::empty(1, 0);
+    let mut image = Image::node(1, 0);
     let _ = image.insert(LEAST, 2);
     let _ = image.insert(key, 3);
     image

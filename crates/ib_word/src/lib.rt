@@ -6,7 +6,7 @@
 mod state;
 mod word;
 
-pub use state::{WordState, classify, is_drained};
+pub use state::{WordState, classify, is_drained, owes_ex};
 pub use word::{
     LockWord, MOST_READERS, MOST_X, WORD_BIAS, X_LOCK_DECR, X_LOCK_HALF_DECR, again_x, from_cell,
     give_x, take_s, take_sx, take_x, to_cell, upgrade_x, word_law,

@@ -83,8 +83,8 @@ pub fn classify(w: LockWord) -> WordState
     }
 }
 
-/// Whether a next writer owns X at the word: there is one, and its last reader is gone, so that the
-/// release of S that left it owes the next writer a signal (sync0rw, `rw_lock_s_unlock_func`).
+/// Whether a next writer owns X at the word: there is one, and its last reader is gone. Who reserves X
+/// and leaves such a word has X at once.
 pub fn is_drained(new: LockWord) -> bool
     ensures test { result ≡ is_drained new.0 }
     ensures word { IsTrue result ↔ ((new.0 ≡ pos 0) ⊎ (new.0 ≡ neg_ℤ (pos X_LOCK_HALF_DECR))) }
@@ -92,4 +92,15 @@ pub fn is_drained(new: LockWord) -> bool
         → (IsTrue result ↔ ((s ≡ 0) × (x ≡ 1))) }
 {
     new.0 == 0 || new.0 == -(X_LOCK_HALF_DECR as i32)
+}
+
+/// Whether the release of S that left the word owes the next writer a signal (sync0rw,
+/// `rw_lock_s_unlock_func`): exactly where the word is drained, so that X is the next writer's.
+pub fn owes_ex(new: LockWord) -> bool
+    ensures test { result ≡ is_drained new.0 }
+    ensures word { IsTrue result ↔ ((new.0 ≡ pos 0) ⊎ (new.0 ≡ neg_ℤ (pos X_LOCK_HALF_DECR))) }
+    ensures counted { (s sx x : ℕ) → IsWithin s sx x → new.0 ≡ word_of s sx x
+        → (IsTrue result ↔ ((s ≡ 0) × (x ≡ 1))) }
+{
+    is_drained(new)
 }

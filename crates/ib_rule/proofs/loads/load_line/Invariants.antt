@@ -18,4 +18,4 @@ invariant-loop-offset g l = record {
 }
 
 abbrev pub ghosts-act : goal.ghosts-act
-ghosts-act g a = record { kind = a.kind; key = a.shared.now.key; entry = no_entry }
+ghosts-act g a = record { kind = a.kind; op = a.op; key = a.shared.now.key; entry = no_entry }

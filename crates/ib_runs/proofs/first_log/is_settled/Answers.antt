@@ -1,4 +1,4 @@
-use Rattle.std.proofs.Common.{◌≡◌, ◌∙◌, Bool, true, false, List, map, not, refl, subst, sym, arith}
+use Rattle.std.proofs.Common.{◌≡◌, inr, ◌∙◌, Bool, true, false, List, map, not, refl, subst, sym, arith}
 use Rattle.ib_runs.specs.Alone.{AreNeverFull}
 use Rattle.ib_runs.specs.Answers.{KeptAnswers, answers_of}
 use Rattle.ib_runs.proofs.FullLogLaws.{ran_wider}
@@ -17,6 +17,10 @@ returns-else-log_words-clause-settled c = λ is commands h.
     let room : AreNeverFull (map answers_of c.args.ran.now.sessions.items) =
     subst (λ (outs : List KeptAnswers). AreNeverFull (map answers_of outs)) c.deref.ensures.value (c.met_full_log.ensures.0 (not-so c.met_full_log.result is)) in
     ran_wider c.args.first c.args.sizes c.requires.pages c.requires.log commands c.args.ran.now room h
+
+pub returns-else-log_words-clause-told : goal.returns-else-log_words-clause-told
+returns-else-log_words-clause-told c = λ is.
+    inr (subst (λ (outs : List KeptAnswers). AreNeverFull (map answers_of outs)) c.deref.ensures.value (c.met_full_log.ensures.0 (not-so c.met_full_log.result is)))
 
 pub returns-else-log_words-clause-again : goal.returns-else-log_words-clause-again
 returns-else-log_words-clause-again c = λ is.

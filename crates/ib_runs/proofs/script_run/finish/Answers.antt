@@ -7,8 +7,11 @@ use Rattle.ib_runs.specs.Outcomes.{HasLog}
 use Rattle.ib_runs.proofs.OutcomeLaws.{done_whole, log_of, outcome_of, used_is}
 use Rattle.ib_runs.proofs.script_run.finish.Goals as goal
 
-pub returns : goal.returns
-returns c =
+pub returns-clause-sizes : goal.returns-clause-sizes
+returns-clause-sizes c = c.in-Ok.ensures.ok.0 ∙ c.requires.sizes
+
+pub returns-clause-ran : goal.returns-clause-ran
+returns-clause-ran c =
     let sizes : Sizes = c.args.sizes in
     let words = c.in-Ok.closed.words in
     let ok = c.in-Ok.ensures.ok in

@@ -19,15 +19,15 @@ returns-clause-more g c =
           let h = w.get-record.ensures.looked_up in
           let s = h.most in let sx = h.sx in let x = h.x in
           call_more_as sizes c.args.call (Get w.in-Get.key) c.match-call.record w.get-record.result old new c.args.pass.now c.match-call.pass w.get-record.new.pass w.in-Get.is w.record-is w.pass-is tt whole
-          c.in_ok-push.ensures.items refl h.called (omega arith)
+          c.in_ok-push.ensures.items refl h.called (λ read. let least = h.least in omega arith) (omega arith)
       | in-Insert w ↦
           let h = w.insert-record.ensures in
           let few = h.grants.all in
           call_more_as sizes c.args.call (Insert w.in-Insert.key w.in-Insert.value) c.match-call.record w.insert-record.result old new c.args.pass.now c.match-call.pass w.insert-record.new.pass w.in-Insert.is w.record-is w.pass-is tt whole
-          c.in_ok-push.ensures.items refl h.called (omega arith)
+          c.in_ok-push.ensures.items refl h.called (λ read. absurd (cc)) (omega arith)
       | in-Delete w ↦
           let h = w.delete-record.ensures in
           let few = h.grants.all in
           call_more_as sizes c.args.call (Delete w.in-Delete.key) c.match-call.record w.delete-record.result old new c.args.pass.now c.match-call.pass w.delete-record.new.pass w.in-Delete.is w.record-is w.pass-is tt whole
-          c.in_ok-push.ensures.items refl h.called (omega arith)
+          c.in_ok-push.ensures.items refl h.called (λ read. absurd (cc)) (omega arith)
     ])

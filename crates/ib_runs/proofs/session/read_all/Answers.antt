@@ -2,7 +2,7 @@ use Rattle.std.proofs.Common.{◌∙◌, subst, arith, inr}
 use Rattle.ib_logrec.specs.Log.{by_place}
 use Rattle.ib_tree.specs.TreeLog.{opening}
 use Rattle.ib_kept.specs.Kept.{IsKeptLog}
-use Rattle.ib_rule.specs.Pass.{IsOf}
+use Rattle.ib_rule.specs.Pass.{IsAtRest}
 use Rattle.ib_rule.specs.Space.{SpaceState}
 use Rattle.ib_scan.specs.Scanning.{HasScanned, HasStopped}
 use Rattle.ib_runs.proofs.ReadLaws.{reserved_by, so_far_more, so_far_all, so_far_room}
@@ -31,7 +31,7 @@ loop-pass-preserved g c =
     let stopped = subst (λ (s : SpaceState). HasStopped s.sizes (IsKeptLog s.sizes.pages) (by_place opening s.sizes.pages) 1 c.loop-pass.next c.args.high c.in-Err.more.next c.reserve.new.self c.scan.new.out c.loop-pass.pass c.scan.new.pass)
     c.latches.ensures (c.in-Err.ensures.stopped i.to) in
     record {
-      rest = record { own = subst (λ (s : SpaceState). IsOf s c.scan.new.pass) c.latches.ensures c.in-Err.ensures.own; idle = c.in-Err.ensures.idle; scratch = c.in-Err.ensures.scratch };
+      rest = subst (λ (s : SpaceState). IsAtRest s c.scan.new.pass) c.latches.ensures c.in-Err.ensures.rest;
       number = stopped.gone.went.number ∙ i.number;
       room = let a = stopped.gone.appends.chunk_room in let b = r.chunk_room in omega arith;
       ascends = i.ascends;

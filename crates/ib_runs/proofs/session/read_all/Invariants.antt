@@ -1,6 +1,6 @@
 use Rattle.std.proofs.Common.{◌≡◌, ◌≤◌, ◌-◌}
 use Rattle.ib_map.specs.Keys.{rank}
-use Rattle.ib_runs.specs.Sessions.{IsAtRest}
+use Rattle.ib_rule.specs.Pass.{IsAtRest}
 use Rattle.ib_runs.specs.Steps.{IsSoFar}
 use Rattle.ib_runs.proofs.session.read_all.Given as goal
 

@@ -19,7 +19,7 @@ loop-call-init g c =
     let made : own ≡ [] = nil_from_length own (let e = ap length c.requires.nothing_seen in let n = c.made.ensures.made in let s = c.made.ensures.seen in omega arith) in
     let known = known_none sizes c.args.pass.now c.requires.nothing_seen made in
     record {
-      rest = record { own = c.requires.own; idle = c.requires.idle; scratch = c.requires.scratch };
+      rest = c.requires.rest;
       same = refl;
       answered = subst (λ (o : KeptAnswers). HasAnswered sizes [] (answers_of o) c.args.pass.now c.args.pass.now) (sym c.requires.empty) (answered_none sizes c.args.pass.now known c.requires.nothing_seen made);
       whole = subst (λ (o : KeptAnswers). total_chunks o.records ≡ length o.chunks.list) (sym c.requires.empty) refl;
@@ -40,7 +40,7 @@ loop-call-preserved g c =
     let at = c.loop-call.call-index in
     let call : Call = get_or calls at (Insert 0 0) in
     let a : HasOneMore sizes call c.loop-call.out c.answer.new.out c.loop-call.pass c.answer.new.pass = c.in_ok-answer.ensures.more in
-    let more = answered_more sizes call a.r c.args.pass.now c.loop-call.pass c.answer.new.pass a.answered (take at calls) (answers_of c.loop-call.out) a.grants i.answered in
+    let more = answered_more sizes call a.r c.args.pass.now c.loop-call.pass c.answer.new.pass a.answered (take at calls) (answers_of c.loop-call.out) a.least a.grants i.answered in
     let next : take at calls ++ call ∷ [] ≡ take (at + 1) calls = sym (take_more calls at (Insert 0 0) c.loop-call-test.true) in
     record {
       rest = c.answer.ensures.rest;

@@ -1,6 +1,7 @@
 use Rattle.std.proofs.Common.{◌≡◌, ◌≤◌, take}
 use Rattle.ib_runs.specs.Answers.{IsWhole, answers_of}
-use Rattle.ib_runs.specs.Sessions.{HasAnswered, IsAtRest}
+use Rattle.ib_rule.specs.Pass.{IsAtRest}
+use Rattle.ib_runs.specs.Sessions.{HasAnswered}
 use Rattle.ib_runs.proofs.session.run_session.Given as goal
 
 abbrev pub invariant-loop-call : goal.invariant-loop-call

@@ -2,7 +2,7 @@ use Rattle.std.proofs.Common.{◌∙◌, [], ◌∷◌, ap}
 use Rattle.ib_rule.specs.Space.{SpaceState}
 use Rattle.ib_rule.proofs.Lists.{and_says}
 use Rattle.ib_runs.specs.declared.turns.Turn.{Turn}
-use Rattle.ib_runs.specs.Sessions.{IsAtRest}
+use Rattle.ib_rule.specs.Pass.{IsAtRest}
 use Rattle.ib_runs.proofs.TurnLaws.{all_left, outs_left, space_left}
 use Rattle.ib_runs.proofs.turns.leave_all.Goals as goal
 

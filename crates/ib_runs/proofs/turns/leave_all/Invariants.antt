@@ -1,7 +1,7 @@
 use Rattle.std.proofs.Common.{◌≡◌, ◌++◌, map, All, true, Some}
 use Rattle.std.specs.Prelude.{vec_len}
 use Rattle.ib_rule.specs.Views.{ended_as}
-use Rattle.ib_runs.specs.Sessions.{IsAtRest}
+use Rattle.ib_rule.specs.Pass.{IsAtRest}
 use Rattle.ib_runs.proofs.turns.leave_all.Given as goal
 
 abbrev pub invariant-loop-turn : goal.invariant-loop-turn

@@ -1,4 +1,4 @@
-use Rattle.std.proofs.Common.{◌≡◌, ◌∙◌, List, ◌++◌, Some, Vec, Global, map, length, ap, sym, subst, arith, append-nil}
+use Rattle.std.proofs.Common.{◌≡◌, ◌∙◌, List, [], ◌++◌, Some, Vec, Global, map, length, ap, sym, subst, arith, append-nil}
 use Rattle.std.proofs.lemmas.List.{length-map}
 use Rattle.ib_rule.specs.Pass.{PassState}
 use Rattle.ib_rule.specs.Space.{SpaceState}
@@ -7,7 +7,7 @@ use Rattle.ib_rule.specs.declared.view.Ended.{Ended}
 use Rattle.ib_runs.specs.declared.turns.Turn.{Turn}
 use Rattle.ib_runs.specs.Answers.{KeptAnswers}
 use Rattle.ib_runs.specs.Turns.{AllDone}
-use Rattle.ib_runs.proofs.TurnLaws.{done_of, ended_passes, if_some}
+use Rattle.ib_runs.proofs.TurnLaws.{all_ended, done_of, ended_passes, if_some}
 use Rattle.ib_runs.proofs.turns.run_all.Goals as goal
 
 pub returns-clause-done : goal.returns-clause-done
@@ -30,3 +30,19 @@ returns-clause-done g c =
       drawn = ap (λ (s : SpaceState). s.drawn) opened ∙ sym (wide ∙ len);
       ended = ap (λ (es : List Ended). map (λ (t : Turn). ended_as t.pass.view) new ++ es) (ap (λ (s : SpaceState). s.ended) opened ∙ c.requires.new.1) ∙ (append-nil (map (λ (t : Turn). ended_as t.pass.view) new) ∙ ended_passes new);
     })) c.leave_all-2.ensures.all
+
+pub returns-clause-left : goal.returns-clause-left
+returns-clause-left g c =
+    let opened = c.come_all-turns.ensures.space in
+    let none : c.come_all-turns.new.index.ended ≡ [] = ap (λ (s : SpaceState). s.ended) opened ∙ c.requires.new.1 in
+    ap (λ (s : SpaceState). length s.ended) c.leave_all-2.ensures.space
+    ∙ (all_ended c.turn_all.new.turns.items c.come_all-turns.new.index.ended none
+    ∙ (c.turn_all.ensures.len ∙ sym (ap (λ (s : SpaceState). s.drawn) c.leave_all-2.ensures.space ∙ ap (λ (s : SpaceState). s.drawn) opened)))
+
+pub returns-then-len-count-clause-left : goal.returns-then-len-count-clause-left
+returns-then-len-count-clause-left g c =
+    let opened = c.come_all-turns.ensures.space in
+    let none : c.come_all-turns.new.index.ended ≡ [] = ap (λ (s : SpaceState). s.ended) opened ∙ c.requires.new.1 in
+    ap (λ (s : SpaceState). length s.ended) c.leave_all.ensures.space
+    ∙ (all_ended c.come_all-turns.result.items c.come_all-turns.new.index.ended none
+    ∙ sym (ap (λ (s : SpaceState). s.drawn) c.leave_all.ensures.space ∙ ap (λ (s : SpaceState). s.drawn) opened))

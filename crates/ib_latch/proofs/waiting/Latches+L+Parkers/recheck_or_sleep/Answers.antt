@@ -7,7 +7,7 @@ use Rattle.ib_rule.specs.Conditions.{MayLoadGen}
 use Rattle.ib_rule.specs.Pass.{PassState}
 use Rattle.ib_latch.specs.declared.tries.TryFault.{TryFault}
 use Rattle.ib_latch.specs.Waits.{IsRecheck, MayStandDown}
-use Rattle.ib_latch.proofs.Stills.{looked_still, phased_still, raced_still, still_then, won_is}
+use Rattle.ib_latch.proofs.Stills.{looked_still, waited_still, raced_still, still_then, won_is}
 use Rattle.ib_latch.proofs.waiting.Latches+L+Parkers.recheck_or_sleep.Goals as goal
 
 pub stand_down-requires-clause-waits : goal.stand_down-requires-clause-waits
@@ -32,7 +32,7 @@ returns-in-Err-Raced-clause-none g c =
     let tried = subst (λ (fault : TryFault). IsRecheck c.args.mode c.args.latch.0 c.args.level c.requires.flagged.0 c.args.pass.now (Err fault) c.recheck.new.pass) c.in-Err-Raced.field-0-is (c.in-Err-Raced.ensures.tried c.args.mode c.args.level c.requires.flagged.0 c.requires.flagged.1) in
     still_then (Flagged c.args.latch.0 c.args.mode c.args.level c.requires.flagged.0) Free c.args.pass.now c.recheck.new.pass c.stand_down.new.pass
     (raced_still (Flagged c.args.latch.0 c.args.mode c.args.level c.requires.flagged.0) c.args.latch.0 c.in-Err-Raced.field-0-0 c.in-Err-Raced.field-0-1 c.args.pass.now c.recheck.new.pass c.requires.flagged.1 tried.2)
-    (phased_still Free c.recheck.new.pass c.stand_down.new.pass c.stand_down.ensures)
+    (waited_still Free c.recheck.new.pass c.stand_down.new.pass c.stand_down.ensures)
 
 pub returns-in-Err-Busy-clause-none : goal.returns-in-Err-Busy-clause-none
 returns-in-Err-Busy-clause-none g c =

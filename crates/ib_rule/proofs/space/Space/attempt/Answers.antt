@@ -19,8 +19,8 @@ use Rattle.ib_rule.proofs.Moves.{try_allowed_at}
 use Rattle.ib_rule.proofs.Passing.{pass_turned}
 use Rattle.ib_rule.proofs.space.Space.attempt.Goals as goal
 
-pub exchange-found-requires-clause-allowed : goal.exchange-found-requires-clause-allowed
-exchange-found-requires-clause-allowed g c =
+pub act-found-requires-clause-allowed : goal.act-found-requires-clause-allowed
+act-found-requires-clause-allowed g c =
     let mine = ap (λ (p : PassState). p.view) c.pass.view_is in
     try_allowed_at g.L.Law.lawful g.L.Law.opening _ _ _ _ _ _ c.args.event _ _
     (rw mine c.requires.word) (c.place-place.ensures.place ∙ ap (latch_word_place Lock) c.latch.ensures)
@@ -35,9 +35,9 @@ turn_on-answer-requires-clause-few g c = subst (λ a. (l : ℕ) → grants l a �
 
 pub invariant_of-pass-2 : goal.invariant_of-pass-2
 invariant_of-pass-2 g c =
-    let told = c.exchange-found.ensures.told in
-    pass_turned c.pass.inside _ c.args.event c.exchange-found.result c.turn_on-answer.result _ c.pass.invariant
-    told.1 (told.0.view ∙ ap (λ b. with_looks (looked (latch_of c.args.event) c.exchange-found.result (Some c.to_cell-old.result) c.pass.inside.seat.me.0.looks) (turned_by (if b then Some c.args.event else None) c.exchange-found.result c.pass.inside.seat.me.0)) (eq-eqb c.exchange-found.result c.to_cell-old.result c.if-found-old.false)) told.0.proper told.0.known told.0.few told.0.taken
+    let told = c.act-found.ensures.told in
+    pass_turned c.pass.inside _ c.args.event c.act-found.result c.turn_on-answer.result _ c.pass.invariant
+    told.1 (told.0.view ∙ ap (λ b. with_looks (looked (latch_of c.args.event) c.act-found.result (Some c.to_cell-old.result) c.pass.inside.seat.me.0.looks) (turned_by (if b then Some c.args.event else None) c.act-found.result c.pass.inside.seat.me.0)) (eq-eqb c.act-found.result c.to_cell-old.result c.if-found-old.false)) told.0.proper told.0.known told.0.few told.0.taken
     c.turn_on-answer.ensures.turn
     (rw c.phase-before.ensures at c.counted-pass-inside.ensures)
-    c.turn_on-answer.ensures.latches refl refl refl refl refl refl refl
+    c.turn_on-answer.ensures.latches refl refl refl refl refl refl refl refl

@@ -1,5 +1,5 @@
 use Rattle.ib_rule.specs.Stores.{no_entry}
 use Rattle.ib_rule.proofs.space.Space.attempt.Given as goal
 
-abbrev pub ghosts-exchange : goal.ghosts-exchange
-ghosts-exchange g a = record { kind = a.kind; key = a.shared.now.key; entry = no_entry }
+abbrev pub ghosts-act : goal.ghosts-act
+ghosts-act g a = record { kind = a.kind; op = a.op; key = a.shared.now.key; entry = no_entry }

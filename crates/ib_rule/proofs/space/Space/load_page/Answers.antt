@@ -4,7 +4,9 @@ use Rattle.ib_map.specs.declared.TheConstants.{PAGE_WORDS}
 use Rattle.ib_rule.specs.declared.memory.Knowledge.{Knowledge}
 use Rattle.ib_rule.specs.Loads.{loads_below}
 use Rattle.ib_rule.specs.Pass.{PassState}
+use Rattle.ib_rule.specs.declared.view.View.{View}
 use Rattle.ib_rule.proofs.Passing.{pass_knows}
+use Rattle.ib_rule.proofs.Watching.{watching_same}
 use Rattle.ib_rule.proofs.space.Space.load_page.Goals as goal
 
 pub load_words-requires-clause-may : goal.load_words-requires-clause-may
@@ -26,3 +28,4 @@ invariant_of-pass g c =
     (λ j. (told.view j, told.slots j)) told.known c.pass.invariant.place c.pass.invariant.used c.pass.invariant.made
     record { mine = front.mine; short = front.short; room = front.room }
     refl refl refl refl refl refl
+    (watching_same c.pass.inside.looked_after c.pass.inside.seat.me.0 _ (ap (λ (v : View). v.grants) told.view) (ap (λ (v : View). v.session) told.view) (ap (λ (v : View). v.memory.since) told.view) c.pass.invariant.watches)

@@ -32,4 +32,4 @@ invariant_of-pass g c =
     told.1 (told.0.view ∙ ap (λ b. with_looks (looked c.args.latch.0 c.act-found.result None c.pass.inside.seat.me.0.looks) (turned_by (if b then Some (Again c.args.latch.0) else None) c.act-found.result c.pass.inside.seat.me.0)) refused) told.0.proper told.0.known told.0.few told.0.taken
     c.turn_on-answer.ensures.turn
     (rw c.phase-before.ensures at c.counted-pass-inside.ensures)
-    c.turn_on-answer.ensures.latches refl refl refl refl refl refl refl
+    c.turn_on-answer.ensures.latches refl refl refl refl refl refl refl refl

@@ -11,6 +11,7 @@ use Rattle.ib_rule.specs.Pass.{PassState}
 use Rattle.ib_rule.specs.Space.{SpaceState}
 use Rattle.ib_rule.specs.Stores.{IsReady, AllStored, appending}
 use Rattle.ib_rule.proofs.Passing.{pass_knows}
+use Rattle.ib_rule.proofs.Watching.{watching_same}
 use Rattle.ib_rule.proofs.Spelling.{length_spelled, longer_fits_more}
 use Rattle.ib_rule.proofs.Stored.{store_end_allowed}
 use Rattle.ib_rule.proofs.space.Space.store_end.Goals as goal
@@ -52,3 +53,4 @@ invariant_of-pass g c =
     (let p = c.pass.invariant.place in omega arith) (let u = c.pass.invariant.used in let l = c.entry_length-length.ensures in omega arith) (let m = c.pass.invariant.made in omega arith)
     (longer_fits_more c.pass.inside.geometry c.pass.inside.seat.me.0 (entry_in c.as_slice-2.result.now) c.pass.invariant.front ready.fits.room)
     refl refl refl refl refl refl
+    (watching_same c.pass.inside.looked_after c.pass.inside.seat.me.0 _ (ap (λ (v : View). v.grants) told.0.view) (ap (λ (v : View). v.session) told.0.view) (ap (λ (v : View). v.memory.since) told.0.view) c.pass.invariant.watches)

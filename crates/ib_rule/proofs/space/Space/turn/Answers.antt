@@ -35,4 +35,4 @@ invariant_of-pass g c =
     told.1 told.0.view told.0.proper told.0.known told.0.few told.0.taken
     c.turn_on-answer.ensures.turn
     (rw c.phase-before.ensures at c.counted-pass-inside.ensures)
-    c.turn_on-answer.ensures.latches refl refl refl refl refl refl refl
+    c.turn_on-answer.ensures.latches refl refl refl refl refl refl refl refl

@@ -2,4 +2,4 @@ use Rattle.ib_rule.specs.Stores.{no_entry}
 use Rattle.ib_rule.proofs.space.Space.turn.Given as goal
 
 abbrev pub ghosts-act : goal.ghosts-act
-ghosts-act g a = record { kind = a.kind; key = a.shared.now.key; entry = no_entry }
+ghosts-act g a = record { kind = a.kind; op = a.op; key = a.shared.now.key; entry = no_entry }

@@ -3,7 +3,7 @@ use Rattle.std.proofs.Common.{◌≡◌, ◌≤◌, ◌*◌, length, take}
 use Rattle.ib_map.specs.declared.TheConstants.{PAGE_WORDS}
 use Rattle.ib_page.specs.Rooms.{pages_in}
 use Rattle.ib_page.specs.Writes.{writes_of}
-use Rattle.ib_page.proofs.work.WorkSet.difference_count.Given as goal
+use Rattle.ib_page.proofs.work.WorkSet.changed.Given as goal
 
 abbrev pub invariant-loop-slot : goal.invariant-loop-slot
 invariant-loop-slot l = record {

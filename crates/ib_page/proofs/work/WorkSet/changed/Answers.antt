@@ -3,7 +3,7 @@ use Rattle.std.proofs.Common.{◌<◌, length, get_or, ap, subst, arith, false}
 use Rattle.ib_page.specs.declared.work.Slot.{Slot}
 use Rattle.ib_page.specs.Work.{IsWork}
 use Rattle.ib_page.proofs.RoomLaws.{is_work, room-lt}
-use Rattle.ib_page.proofs.work.WorkSet.difference_count.Goals as goal
+use Rattle.ib_page.proofs.work.WorkSet.changed.Goals as goal
 
 pub differing-count-requires-clause-before : goal.differing-count-requires-clause-before
 differing-count-requires-clause-before c =

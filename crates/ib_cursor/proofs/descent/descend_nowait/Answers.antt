@@ -1,0 +1,9 @@
+-- A key of 64 bits is below the end.
+use Rattle.ib_map.proofs.KeyLaws.{rank-lt_end}
+use Rattle.ib_cursor.proofs.descent.descend_nowait.Goals as goal
+
+pub come_to_leaf_nowait-requires-clause-key : goal.come_to_leaf_nowait-requires-clause-key
+come_to_leaf_nowait-requires-clause-key g c = rank-lt_end c.args.key c.ranges.key.fits
+
+pub load_end-requires-clause-key : goal.load_end-requires-clause-key
+load_end-requires-clause-key g c = rank-lt_end c.args.key c.ranges.key.fits
