@@ -1,4 +1,5 @@
 pub mod OnLatch
+pub mod AtPlace
 pub mod Weighs
 pub mod Places
 pub mod Quiet

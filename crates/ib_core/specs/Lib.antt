@@ -12,3 +12,4 @@ pub mod Debts
 pub mod Machine
 pub mod Actions
 pub mod Keeping
+pub mod Place

@@ -1,12 +1,13 @@
 //! A session at work: what it holds and its phase. Its events are its methods.
 
-ghost use Rattle.std.specs.Prelude.{◌≡◌, ◌+◌, ◌≤◌};
+ghost use Rattle.std.specs.Prelude.{◌≡◌, ◌+◌, ◌<◌, ◌≤◌};
 ghost use Rattle.ib_levels.specs.Listed.{answer_to};
 ghost use Rattle.ib_levels.specs.Holding.{is_held, levels_of};
 ghost use Rattle.ib_core.specs.Actor.{session_of};
+ghost use Rattle.ib_core.specs.Place.{IsPlace};
 ghost use Rattle.ib_core.specs.Sessions.{claims, grants, holdings, reads, sx_grants, x_grants};
 
-use crate::holdings::{Counts, grants_on};
+use crate::holdings::{Counts, Found, found_on, grants_on};
 use crate::phase::Phase;
 use ib_levels::{Against, Holding, Latch, Level, holds, may_add};
 
@@ -35,6 +36,21 @@ impl Actor {
         ensures all { result.s + (result.sx + result.x) ≡ grants latch.0 (session_of self.now) }
     {
         grants_on(self.held.as_slice(), latch)
+    }
+
+    // Its grants on the latch, and the place of their holding.
+    #[inline(always)]
+    pub(crate) fn found(&self, latch: Latch) -> Found
+        requires { holdings latch.0 (session_of self.now) ≤ 1 }
+        ensures s { result.s ≡ reads latch.0 (session_of self.now) }
+        ensures sx { result.sx ≡ sx_grants latch.0 (session_of self.now) }
+        ensures x { result.x ≡ x_grants latch.0 (session_of self.now) }
+        ensures claims { result.sx + result.x ≡ claims latch.0 (session_of self.now) }
+        ensures all { result.s + (result.sx + result.x) ≡ grants latch.0 (session_of self.now) }
+        ensures place { 0 < result.s + result.sx + result.x
+            → IsPlace latch.0 result.at self.now.held.items }
+    {
+        found_on(self.held.as_slice(), latch)
     }
 
     // Whether the order of levels allows it the latch at the level.

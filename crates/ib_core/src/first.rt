@@ -1,10 +1,11 @@
 //! The first grant of a session on a latch, and the place of the next writer.
 
 ghost use Rattle.std.specs.Prelude.{◌≡◌, ◌≤◌, ◌-ℤ◌, pos, IsTrue, SomeIff, vec_capacity};
+ghost use Rattle.ib_core.specs.declared.phase.Phase.TheVariants.{Free};
 ghost use Rattle.ib_core.specs.Actor.{HasRoom, session_of};
 ghost use Rattle.ib_core.specs.Member.{CanStep, SameSum};
 ghost use Rattle.ib_core.specs.Sessions.{holdings};
-ghost use Rattle.ib_core.specs.Takings.{first, first_holding, first_weight, is_given_at, reserving};
+ghost use Rattle.ib_core.specs.Takings.{first, first_holding, first_response, first_weight, holding_too, is_given_at, reserving};
 ghost use Rattle.ib_core.specs.Responses.{answered};
 
 use crate::actor::Actor;
@@ -12,7 +13,7 @@ use crate::event::Answer;
 use crate::holdings::add;
 use crate::phase::Phase;
 use ib_levels::{Holding, Latch, Level, Mode};
-use ib_word::{LockWord, X_LOCK_HALF_DECR, is_drained, take_s, take_sx, take_x};
+use ib_word::{LockWord, X_LOCK_DECR, X_LOCK_HALF_DECR, is_drained, take_s, take_sx, take_x};
 
 /// Whether a first grant of the mode is given at the word.
 pub fn is_given_at(mode: Mode, word: LockWord) -> bool
@@ -37,6 +38,7 @@ fn word_after(word: LockWord, mode: Mode) -> Option<LockWord>
 }
 
 // The holding with one grant of the mode.
+#[inline(always)]
 fn with_one(latch: Latch, mode: Mode, level: Level) -> Holding
     ensures { result ≡ first_holding mode latch.0 level }
 {
@@ -52,6 +54,7 @@ fn with_one(latch: Latch, mode: Mode, level: Level) -> Holding
 impl Actor {
     // X was taken off the word, which is this one now: the session owns X where no reader
     // remains, and else it is the next writer (sync0rw, `rw_lock_x_lock_wait`).
+    #[inline(always)]
     pub(crate) fn reserve(&mut self, word: LockWord, latch: Latch, level: Level) -> Answer
         ensures responds { answered result (session_of self.new)
             ≡ reserving latch.0 level word.0 self.old.held.items }
@@ -67,6 +70,31 @@ impl Actor {
             level,
         };
         Answer::Reserved
+    }
+
+    // A first grant of the mode, at a word that gives it, with no walk over what the session holds.
+    #[inline(always)]
+    pub(crate) fn grant_first(
+        &mut self,
+        word: LockWord,
+        latch: Latch,
+        mode: Mode,
+        level: Level,
+    ) -> Answer
+        requires free { self.old.phase ≡ Free }
+        requires none { holdings latch.0 (session_of self.old) ≡ 0 }
+        requires room { HasRoom latch.0 self.old }
+        requires given { IsTrue (is_given_at mode word.0) }
+        ensures responds { answered result (session_of self.new)
+            ≡ first_response mode latch.0 level (word.0 -ℤ pos (first_weight mode))
+            (holding_too mode latch.0 level self.old.held.items) }
+        ensures capacity { vec_capacity self.old.held ≤ vec_capacity self.new.held }
+    {
+        add(&mut self.held, with_one(latch, mode, level));
+        match mode {
+            Mode::S | Mode::Sx => Answer::Granted,
+            Mode::X => self.reserve(LockWord(word.0 - X_LOCK_DECR as i32), latch, level),
+        }
     }
 
     // A wish of a session that holds nothing on the latch. Where the word refuses it, the

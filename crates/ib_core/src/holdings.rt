@@ -1,9 +1,11 @@
 //! The list of what a session holds, in order of taking: reads and changes of what is on one latch.
 
-ghost use Rattle.std.specs.Prelude.{◌≡◌, ℕ, ◌+◌, ◌^◌, ◌<◌, ◌≤◌, ◌==◌, if◌then◌else◌, ◌∷◌, ◌++◌, [], find, vec_len, vec_capacity};
+ghost use Rattle.std.specs.Prelude.{◌≡◌, ℕ, ◌+◌, ◌^◌, ◌<◌, ◌≤◌, ◌==◌, if◌then◌else◌, ◌∷◌, ◌++◌, [], find, position, length, IfSome, vec_len, vec_capacity};
 ghost use Rattle.ib_levels.specs.Holding.{changed_on, on, without_latch};
+ghost use Rattle.ib_core.specs.Place.{IsPlace};
 ghost use Rattle.ib_core.specs.Takings.{count_of, level_on, one_fewer, one_more};
 
+use crate::removal::take_out;
 use ib_levels::{Holding, Latch, Level, Mode};
 
 /// The grants of one session on one latch, by mode. A reservation of X counts as a grant of X.
@@ -12,6 +14,16 @@ pub struct Counts {
     pub s: u32,
     pub sx: u32,
     pub x: u32,
+}
+
+// The grants of one session on one latch, and the place in its list of the holding that has them,
+// where there is one.
+#[derive(Clone, Copy)]
+pub(crate) struct Found {
+    pub(crate) at: usize,
+    pub(crate) s: u32,
+    pub(crate) sx: u32,
+    pub(crate) x: u32,
 }
 
 // What is held on the latch: the first holding of the list on it.
@@ -35,6 +47,43 @@ pub(crate) fn grants_on(held: &[Holding], latch: Latch) -> Counts
             x: h.x,
         },
         None => Counts { s: 0, sx: 0, x: 0 },
+    }
+}
+
+// The place of the first holding on the latch, None where it is not held.
+#[inline(always)]
+fn place_on(held: &[Holding], latch: Latch) -> Option<usize>
+    ensures place { result ≡ position (λ h. h.latch.0 == latch.0) held.now }
+    ensures within { IfSome result (λ at. at < length held.now) }
+{
+    held.iter().position(|h| h.latch == latch)
+}
+
+// The grants on the latch and the place of their holding, by one walk.
+#[inline(always)]
+pub(crate) fn found_on(held: &[Holding], latch: Latch) -> Found
+    requires { on latch.0 (λ h. 1) held.now ≤ 1 }
+    ensures s { result.s ≡ on latch.0 (λ h. h.s) held.now }
+    ensures sx { result.sx ≡ on latch.0 (λ h. h.sx) held.now }
+    ensures x { result.x ≡ on latch.0 (λ h. h.x) held.now }
+    ensures place { 0 < result.s + result.sx + result.x → IsPlace latch.0 result.at held.now }
+{
+    match place_on(held, latch) {
+        Some(at) => {
+            let h = held[at];
+            Found {
+                at,
+                s: h.s,
+                sx: h.sx,
+                x: h.x,
+            }
+        }
+        None => Found {
+            at: 0,
+            s: 0,
+            sx: 0,
+            x: 0,
+        },
     }
 }
 
@@ -118,19 +167,25 @@ pub(crate) fn take_one(held: &mut Vec<Holding>, latch: Latch, mode: Mode)
     each_one_fewer(held.as_mut_slice(), latch, mode);
 }
 
-// Nothing is held on the latch any more.
-pub(crate) fn give_up(held: &mut Vec<Holding>, latch: Latch)
+// Nothing is held on the latch any more, whose one holding stands at this place. The contract alone
+// asks for the latch.
+#[inline(always)]
+pub(crate) fn give_up(held: &mut Vec<Holding>, latch: Latch, at: usize)
+    requires single { on latch.0 (λ h. 1) held.old.items ≤ 1 }
+    requires place { IsPlace latch.0 at held.old.items }
     ensures items { held.new.items ≡ without_latch latch.0 held.old.items }
     ensures capacity { vec_capacity held.new ≡ vec_capacity held.old }
 {
-    held.retain(|h| h.latch != latch);
+    let _ = latch;
+    take_out(held, at);
 }
 
 // The holding stands behind the others. There is room for it.
+#[inline(always)]
 pub(crate) fn add(held: &mut Vec<Holding>, holding: Holding)
     requires { vec_len held.old < vec_capacity held.old }
     ensures items { held.new.items ≡ held.old.items ++ holding ∷ [] }
     ensures capacity { vec_capacity held.old ≤ vec_capacity held.new }
 {
-    let _ = held.push(holding);
+    held.push_reserved(holding);
 }

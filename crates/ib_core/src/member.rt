@@ -1,11 +1,15 @@
 //! A session of the machine, among a number of latches.
 
-ghost use Rattle.std.specs.Prelude.{◌≡◌, ℕ, ◌+◌, ◌<◌, ◌≤◌, ◌^◌, length, IfOk};
+ghost use Rattle.std.specs.Prelude.{◌≡◌, ℕ, ◌+◌, ◌<◌, ◌≤◌, ◌^◌, length, IfOk, IsTrue};
 ghost use Rattle.ib_levels.specs.Listed.{answer_to};
 ghost use Rattle.ib_levels.specs.Holding.{is_held, levels_of};
 ghost use Rattle.ib_core.specs.Sessions.{holdings, reads, sx_grants, x_grants};
-ghost use Rattle.ib_core.specs.Responses.{latch_of};
-ghost use Rattle.ib_core.specs.Table.{turn_of};
+ghost use Rattle.ib_core.specs.Responses.{answered, latch_of};
+ghost use Rattle.ib_core.specs.declared.session.Marks.{Marks as MarksOf};
+ghost use Rattle.ib_core.specs.Good.{IsProper};
+ghost use Rattle.ib_core.specs.Holders.{CanWish};
+ghost use Rattle.ib_core.specs.Takings.{is_given_at, wish};
+ghost use Rattle.ib_core.specs.Table.{response_of, turn_of};
 ghost use Rattle.ib_core.specs.Member.{CanStep, SameSum, idle_among};
 
 use crate::OutOfMemory;
@@ -14,7 +18,7 @@ use crate::event::{Answer, Event};
 use crate::holdings::Counts;
 use crate::phase::Phase;
 use crate::session::Marks;
-use ib_levels::{Against, Holding, Latch, Level};
+use ib_levels::{Against, Holding, Latch, Level, Mode};
 use ib_word::LockWord;
 use std::alloc::Global;
 use std::marker::Model;
@@ -96,8 +100,24 @@ impl Member {
         self.actor.may_take(latch, level)
     }
 
+    /// A first grant of the mode, to a session that may wish for it, at a word that gives it: exactly
+    /// the turn of the wish, with no walk over what the session holds.
+    #[inline(always)]
+    pub fn grant_first(&mut self, word: LockWord, latch: Latch, mode: Mode, level: Level) -> Answer
+        requires latch { latch.0 < self.old.latches }
+        requires proper { IsProper self.old.session }
+        requires may { CanWish latch.0 level self.old.session }
+        requires given { IsTrue (is_given_at mode word.0) }
+        ensures turn { (marks : MarksOf) → answered result self.new.session
+            ≡ response_of word.0 marks (wish mode latch.0 level) self.old.session }
+        ensures latches { self.new.latches ≡ self.old.latches }
+    {
+        self.actor.grant_first(word, latch, mode, level)
+    }
+
     /// One event of the session, on the latch with this word and these marks: exactly the turn of
     /// the table. The word moves by what the session takes off it.
+    #[inline(always)]
     pub fn step(&mut self, word: &mut LockWord, marks: &mut Marks, event: Event) -> Answer
         requires latch { latch_of event < self.old.latches }
         requires can { CanStep (latch_of event) word.old.0 self.old.session }

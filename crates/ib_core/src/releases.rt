@@ -5,8 +5,9 @@ ghost use Rattle.ib_levels.specs.Holding.{on};
 ghost use Rattle.ib_core.specs.declared.phase.Phase.TheVariants.{Free};
 ghost use Rattle.ib_core.specs.Actor.{session_of};
 ghost use Rattle.ib_core.specs.Member.{CanStep, SameSum};
-ghost use Rattle.ib_core.specs.Sessions.{grants, holdings};
+ghost use Rattle.ib_core.specs.Sessions.{claims, grants, holdings};
 ghost use Rattle.ib_core.specs.Takings.{count_of, given_back, giving_s, giving_sx, giving_x};
+ghost use Rattle.ib_core.specs.Place.{IsPlace};
 ghost use Rattle.ib_core.specs.Responses.{answered};
 
 use crate::actor::Actor;
@@ -17,18 +18,21 @@ use ib_levels::{Latch, Mode};
 use ib_word::{LockWord, X_LOCK_HALF_DECR, give_x, is_drained};
 
 impl Actor {
-    // One grant of SX or X goes, and with the last one the holding.
-    fn give_back(&mut self, latch: Latch, mode: Mode)
+    // One grant of SX or X goes, and with the last of them all the holding, which stands at the
+    // place.
+    #[inline(always)]
+    fn give_back(&mut self, latch: Latch, mode: Mode, at: usize, all: u32)
         requires single { holdings latch.0 (session_of self.old) ≤ 1 }
         requires few { grants latch.0 (session_of self.old) < 2 ^ 28 }
         requires has { 0 < on latch.0 (count_of mode) self.old.held.items }
+        requires place { IsPlace latch.0 at self.old.held.items }
+        requires all { all ≡ claims latch.0 (session_of self.old) }
         ensures held { self.new.held.items ≡ given_back mode latch.0 (session_of self.old) }
         ensures phase { self.new.phase ≡ self.old.phase }
         ensures capacity { vec_capacity self.old.held ≤ vec_capacity self.new.held }
     {
-        let mine = self.grants(latch);
-        if mine.sx + mine.x == 1 {
-            give_up(&mut self.held, latch);
+        if all == 1 {
+            give_up(&mut self.held, latch, at);
         } else {
             take_one(&mut self.held, latch, mode);
         }
@@ -36,6 +40,7 @@ impl Actor {
 
     // S. The last reader before a next writer owes it a raise of the ex generation (sync0rw,
     // `rw_lock_s_unlock_func`).
+    #[inline(always)]
     pub(crate) fn give_s(&mut self, word: &mut LockWord, latch: Latch) -> Answer
         requires can { CanStep latch.0 word.old.0 (session_of self.old) }
         requires free { self.old.phase ≡ Free }
@@ -45,11 +50,12 @@ impl Actor {
             word.new.0 (session_of self.new) }
         ensures capacity { vec_capacity self.old.held ≤ vec_capacity self.new.held }
     {
-        if self.grants(latch).s == 0 {
+        let mine = self.found(latch);
+        if mine.s == 0 {
             return Answer::Refused(Refusal::NotHeld);
         }
         *word = LockWord(word.0 + 1);
-        give_up(&mut self.held, latch);
+        give_up(&mut self.held, latch, mine.at);
         if is_drained(*word) {
             self.phase = Phase::OwesRaiseEx { latch: latch.0 };
         }
@@ -58,6 +64,7 @@ impl Actor {
 
     // One SX. With the last, and no X of its own, the session owes a look at the waiters flag
     // (WL#6363, `rw_lock_sx_unlock_func`).
+    #[inline(always)]
     pub(crate) fn give_sx(&mut self, word: &mut LockWord, latch: Latch) -> Answer
         requires can { CanStep latch.0 word.old.0 (session_of self.old) }
         requires free { self.old.phase ≡ Free }
@@ -67,14 +74,14 @@ impl Actor {
             word.new.0 (session_of self.new) }
         ensures capacity { vec_capacity self.old.held ≤ vec_capacity self.new.held }
     {
-        let mine = self.grants(latch);
+        let mine = self.found(latch);
         if mine.sx == 0 {
             return Answer::Refused(Refusal::NotHeld);
         }
         if mine.sx == 1 {
             *word = LockWord(word.0 + X_LOCK_HALF_DECR as i32);
         }
-        self.give_back(latch, Mode::Sx);
+        self.give_back(latch, Mode::Sx, mine.at, mine.sx + mine.x);
         if mine.sx + mine.x == 1 {
             self.phase = Phase::OwesLook { latch: latch.0 };
         }
@@ -83,6 +90,7 @@ impl Actor {
 
     // One X. With the last the session owes a look at the waiters flag (sync0rw,
     // `rw_lock_x_unlock_func`).
+    #[inline(always)]
     pub(crate) fn give_x(&mut self, word: &mut LockWord, latch: Latch) -> Answer
         requires can { CanStep latch.0 word.old.0 (session_of self.old) }
         requires free { self.old.phase ≡ Free }
@@ -92,12 +100,12 @@ impl Actor {
             word.new.0 (session_of self.new) }
         ensures capacity { vec_capacity self.old.held ≤ vec_capacity self.new.held }
     {
-        let mine = self.grants(latch);
+        let mine = self.found(latch);
         if mine.x == 0 {
             return Answer::Refused(Refusal::NotHeld);
         }
         *word = LockWord(word.0 + give_x(mine.x) as i32);
-        self.give_back(latch, Mode::X);
+        self.give_back(latch, Mode::X, mine.at, mine.sx + mine.x);
         if mine.x == 1 {
             self.phase = Phase::OwesLook { latch: latch.0 };
         }

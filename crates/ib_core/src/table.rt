@@ -16,8 +16,40 @@ use ib_levels::{Latch, Level, Mode};
 use ib_word::LockWord;
 
 impl Actor {
-    // One event of the session, on the latch with these words.
+    // One event of the session, on the latch with these words. The phases of takings and releases
+    // that nobody waits for come first.
+    #[inline(always)]
     pub(crate) fn step(&mut self, word: &mut LockWord, marks: &mut Marks, event: Event) -> Answer
+        requires can { CanStep (latch_of event) word.old.0 (session_of self.old) }
+        requires room { HasRoom (latch_of event) self.old }
+        requires generation { marks.old.generation + 1 < 2 ^ 64 }
+        requires ex_generation { marks.old.ex_generation + 1 < 2 ^ 64 }
+        ensures responds { answered result (session_of self.new)
+            ≡ response_of word.old.0 marks.old event (session_of self.old) }
+        ensures marks { marks.new ≡ marks_after self.old.phase event marks.old }
+        ensures weighs { SameSum (latch_of event) word.old.0 (session_of self.old)
+            word.new.0 (session_of self.new) }
+        ensures capacity { vec_capacity self.old.held ≤ vec_capacity self.new.held }
+    {
+        match self.phase {
+            Phase::Free => self.when_free(word, marks.generation, event),
+            Phase::OwesLook { latch } if latch == event.latch() => {
+                self.when_owes_look(marks.waiters, event)
+            }
+            _ => {
+                // The copies leave the words of the phases above in registers.
+                let (mut word_here, mut marks_here) = (*word, *marks);
+                let answer = self.step_in_phase(&mut word_here, &mut marks_here, event);
+                *word = word_here;
+                *marks = marks_here;
+                answer
+            }
+        }
+    }
+
+    // The same in any phase, by its row.
+    #[inline(never)]
+    fn step_in_phase(&mut self, word: &mut LockWord, marks: &mut Marks, event: Event) -> Answer
         requires can { CanStep (latch_of event) word.old.0 (session_of self.old) }
         requires room { HasRoom (latch_of event) self.old }
         requires generation { marks.old.generation + 1 < 2 ^ 64 }
@@ -82,6 +114,7 @@ impl Actor {
     }
 
     // The events of a session that is in the middle of nothing.
+    #[inline(always)]
     fn when_free(&mut self, word: &mut LockWord, generation: u64, event: Event) -> Answer
         requires can { CanStep (latch_of event) word.old.0 (session_of self.old) }
         requires free { self.old.phase ≡ Free }
@@ -280,6 +313,7 @@ impl Actor {
     }
 
     // The events of a session that owes a look at the waiters flag.
+    #[inline(always)]
     fn when_owes_look(&mut self, waiters: bool, event: Event) -> Answer
         ensures responds { answered result (session_of self.new)
             ≡ owes_look_row waiters event (session_of self.old) }

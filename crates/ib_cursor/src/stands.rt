@@ -51,6 +51,7 @@ pub fn take<L: Law, R: Wait>(
 }
 
 // Looks at the log's end: while the index is claimed, no entry that is first seen is structural.
+#[inline(always)]
 pub(crate) fn look<L: Law, S: Sleep>(mtr: &mut Mtr<'_, L, S>)
     requires mtr { IsMtr mtr.old.latches.now mtr.old.pass.now }
     ensures mtr { IsMtr mtr.new.latches.now mtr.new.pass.now }
@@ -74,6 +75,7 @@ pub(crate) fn look<L: Law, S: Sleep>(mtr: &mut Mtr<'_, L, S>)
 
 // Takes the latch of a page of which the session holds nothing, and looks at the log's end: the latch
 // is watched from then on.
+#[inline(always)]
 pub(crate) fn stand<L: Law, R: Wait>(rt: &R, mtr: &mut Mtr<'_, L, Parkers>, page: u32, mode: Mode)
     requires mtr { IsMtr mtr.old.latches.now mtr.old.pass.now }
     requires page { page < mtr.old.latches.now.sizes.pages }

@@ -83,6 +83,7 @@ impl<L: Law, S: Sleep> Latches<L, S> {
 }
 
 // What a first grant of the mode at the word came to.
+#[inline(always)]
 pub(crate) fn reserved(mode: Mode, word: LockWord) -> Reserve
     requires { is_given_at mode word.0 ≡ true }
     ensures { result ≡ reserved_by mode word.0 }

@@ -35,6 +35,7 @@ const _: () = prove!(SPIN_ROUNDS == 30);
 impl<L: Law, S: Sleep> Latches<L, S> {
     // A first try for the mode. None where it was not won.
     #[tactic(auto, using(crate::proofs::Stills::won_is))]
+    #[inline(always)]
     fn attempt(&self, pass: &mut Pass, mode: Mode, latch: Latch, level: Level) -> Option<Reserve>
         requires own { IsOf self.now pass.old }
         requires latch { latch.0 < latches_of self.now.sizes }
@@ -138,6 +139,7 @@ impl<L: Law, S: Sleep> Latches<L, S> {
 
 impl<L: Law> Latches<L, Parkers> {
     /// Takes S, and waits until it is granted (sync0rw, `rw_lock_s_lock_func`).
+    #[inline(always)]
     pub fn lock_s<R: Wait>(&self, rt: &R, pass: &mut Pass, latch: Latch, level: Level)
         requires own { IsOf self.now pass.old }
         requires latch { latch.0 < latches_of self.now.sizes }
@@ -207,8 +209,34 @@ impl<L: Law> Latches<L, Parkers> {
         }
     }
 
-    // A first grant of the mode, or for X a reservation.
+    // A first grant of the mode, or for X a reservation: by one try, where nobody is in the way.
+    #[inline(always)]
     fn lock_first<R: Wait>(
+        &self,
+        rt: &R,
+        pass: &mut Pass,
+        mode: Mode,
+        latch: Latch,
+        level: Level,
+    ) -> Reserve
+        requires own { IsOf self.now pass.old }
+        requires latch { latch.0 < latches_of self.now.sizes }
+        requires grows { MayGrow pass.old.view }
+        requires may { CanWish latch.0 level pass.old.view.session }
+        ensures own { IsOf self.now pass.new }
+        ensures same { pass.new ≡ with_view pass.old pass.new.view }
+        ensures won { IsWon mode latch.0 level result pass.old pass.new }
+    {
+        if let Some(reserve) = self.attempt(pass, mode, latch, level) {
+            return reserve;
+        }
+        self.lock_later(rt, pass, mode, latch, level)
+    }
+
+    // The same by rounds of tries, where the first try was not won.
+    #[cold]
+    #[inline(never)]
+    fn lock_later<R: Wait>(
         &self,
         rt: &R,
         pass: &mut Pass,

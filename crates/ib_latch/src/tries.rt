@@ -66,6 +66,7 @@ pub struct NotReady {
 
 impl<L: Law, S: Sleep> Latches<L, S> {
     /// The lock word, by one look.
+    #[inline(always)]
     pub fn word_of(&self, pass: &mut Pass, latch: Latch) -> LockWord
         requires own { IsOf self.now pass.old }
         requires latch { latch.0 < latches_of self.now.sizes }
@@ -242,6 +243,7 @@ impl<L: Law, S: Sleep> Latches<L, S> {
     }
 
     // A first try for a mode. It answers the word that it found twice where it is won.
+    #[inline(always)]
     pub(crate) fn first_try(
         &self,
         pass: &mut Pass,
@@ -421,6 +423,7 @@ impl<L: Law, S: Sleep> Latches<L, S> {
 
     // One exchange of the lock word, for a first grant of the mode. Where SX or X is granted or
     // reserved by it, the session is stored as the writer.
+    #[inline(always)]
     pub(crate) fn exchange(
         &self,
         pass: &mut Pass,
@@ -457,6 +460,7 @@ impl<L: Law, S: Sleep> Latches<L, S> {
 }
 
 // What the session has of the latch in SX and X.
+#[inline(always)]
 pub(crate) fn claim_on(pass: &Pass, latch: Latch) -> Claim
     ensures { IsClaim latch.0 pass.now.view.session result }
 {

@@ -21,6 +21,7 @@ use ib_word::is_drained;
 impl<L: Law, S: Sleep> Latches<L, S> {
     /// Gives S back (sync0rw, `rw_lock_s_unlock_func`). The last reader before a next writer raises
     /// the ex generation, and wakes it.
+    #[inline(always)]
     pub fn unlock_s(&self, pass: &mut Pass, latch: Latch)
         requires own { IsOf self.now pass.old }
         requires latch { latch.0 < latches_of self.now.sizes }

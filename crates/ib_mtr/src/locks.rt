@@ -23,6 +23,7 @@ use std::sync::Wait;
 impl<'a, L: Law> Mtr<'a, L, Parkers> {
     /// Takes S on a latch of which the session holds nothing, and waits until it is granted: the
     /// grant is on top of the memo (`mtr_s_lock`).
+    #[inline(always)]
     pub fn s_latch<R: Wait>(&mut self, rt: &R, latch: Latch, level: Level)
         requires mtr { IsMtr self.old.latches.now self.old.pass.now }
         requires latch { latch.0 < latches_of self.old.latches.now.sizes }

@@ -124,6 +124,7 @@ fn newest(memo: &[(Latch, Mode)], latch: Latch) -> Option<usize>
 }
 
 // One grant of the mode on the latch is given back, with every signal that is owed then.
+#[inline(always)]
 fn unlock<L: Law, S: Sleep>(latches: &Latches<L, S>, pass: &mut Pass, latch: Latch, mode: Mode)
     requires own { IsOf latches.now pass.old }
     requires latch { latch.0 < latches_of latches.now.sizes }
@@ -139,7 +140,21 @@ fn unlock<L: Law, S: Sleep>(latches: &Latches<L, S>, pass: &mut Pass, latch: Lat
 }
 
 // The page of the latch leaves the work set, where nothing is held on the latch.
+#[inline(always)]
 fn leave(pass: &mut Pass, latch: Latch)
+    requires works { IsTrue pass.old.is_working }
+    requires session { IsProper pass.old.view.session }
+    requires unchanged { IsUnchangedOn latch.0 pass.old.work }
+    ensures { pass.new ≡ with_work (pages_left latch.0 pass.old.view.session pass.old.work) pass.old }
+{
+    if pass.work().is_empty() {
+        return;
+    }
+    leave_loaded(pass, latch);
+}
+
+// .. where pages are loaded.
+fn leave_loaded(pass: &mut Pass, latch: Latch)
     requires works { IsTrue pass.old.is_working }
     requires session { IsProper pass.old.view.session }
     requires unchanged { IsUnchangedOn latch.0 pass.old.work }

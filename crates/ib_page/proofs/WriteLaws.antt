@@ -1,5 +1,5 @@
 -- The words that a page changes, one after another: their number, and how they stand in a buffer.
-use Rattle.std.proofs.Common.{◌≡◌, ℕ, zero, suc, ◌+◌, ◌-◌, ◌*◌, ◌≤◌, ◌∙◌, [], ◌∷◌, ◌++◌, List, length, take, drop, get_or, refl, ap, sym, arith, zero-add, inl, inr, append_assoc, append-nil, length-append}
+use Rattle.std.proofs.Common.{◌≡◌, ℕ, zero, suc, ◌+◌, ◌-◌, ◌*◌, ◌≤◌, ◌∙◌, [], ◌∷◌, ◌++◌, List, length, take, drop, get_or, refl, ap, subst, sym, arith, zero-add, inl, inr, append_assoc, append-nil, length-append}
 use Rattle.std.proofs.lemmas.Bool.{cases_eq, eq-eqb, ne_eqb}
 use Rattle.std.proofs.lemmas.List.{take_at, drop-drop, take-append-drop, length-take-le}
 use Rattle.ib_map.specs.declared.TheConstants.{PAGE_WORDS}
@@ -7,7 +7,7 @@ use Rattle.ib_map.specs.declared.write.Write.{Write}
 use Rattle.ib_map.specs.Writes.{word_place, write_words}
 use Rattle.ib_map.proofs.WriteLaws.{length-write_words, write_words-append}
 use Rattle.ib_page.specs.Work.{WorkPage}
-use Rattle.ib_page.specs.Writes.{page_writes, word_write, writes_below, writes_of}
+use Rattle.ib_page.specs.Writes.{AreSame, HasWritten, page_writes, word_write, writes_below, writes_of}
 
 -- what stands behind other words
 drop-behind : (xs ys : List ℕ) (n i : ℕ) → length xs ≡ n → drop (n + i) (xs ++ ys) ≡ drop i ys
@@ -119,3 +119,30 @@ written_more page before changed n out vs count place value differ room at is st
   where
     append_one : (xs ys : List ℕ) → xs ++ place ∷ value ∷ ys ≡ xs ++ (place ∷ value ∷ []) ++ ys
     append_one xs ys = sym (append_assoc xs (place ∷ value ∷ []) ys)
+
+-- words that are the same add no write
+pub writes_through : (page : ℕ) (before changed : List ℕ) (n k : ℕ) → AreSame n (n + k) before changed → writes_below page before changed (n + k) ≡ writes_below page before changed n
+writes_through page before changed n zero same = ap (λ j. writes_below page before changed j) (let e : n + 0 ≡ n = omega arith in e)
+writes_through page before changed n (suc k) same =
+    ap (λ j. writes_below page before changed j) (let e : n + suc k ≡ n + k + 1 = omega arith in e)
+    ∙ (writes_more_same page before changed (n + k) (same (n + k) (omega arith) (omega arith))
+    ∙ writes_through page before changed n k (λ i behind here. same i behind (omega arith)))
+
+-- what is written when words are passed that are the same
+pub written_still : (page : ℕ) (before changed : List ℕ) (n m count : ℕ) (out : List ℕ) (end : ℕ) (now : List ℕ) → writes_below page before changed m ≡ writes_below page before changed n
+    → HasWritten page before changed n count out end now → HasWritten page before changed m count out end now
+written_still page before changed n m count out end now same written = record { ended = rw same written.ended; words = rw same written.words }
+
+-- .. and when one word more is written
+pub written_one : (page : ℕ) (before changed : List ℕ) (n count : ℕ) (out : List ℕ) (end : ℕ) (now : List ℕ) (place value : ℕ) → (get_or before n 0 ≡ get_or changed n 0 → ⊥)
+    → 2 * count ≤ length out → place ≡ word_place page n → value ≡ get_or changed n 0 → HasWritten page before changed n count out end now
+    → HasWritten page before changed (n + 1) count out (end + 1) (take (2 * end) now ++ place ∷ value ∷ drop (2 * (end + 1)) now)
+written_one page before changed n count out end now place value differ room at is written =
+    let more = count_differ page before changed n differ in
+    let ended = written.ended in
+    let stands = subst (λ (e : ℕ). now ≡ take (2 * count) out ++ write_words (writes_below page before changed n) ++ drop (2 * e) out) written.ended written.words in
+    record {
+      ended = omega arith;
+      words = subst (λ (e : ℕ). take (2 * e) now ++ place ∷ value ∷ drop (2 * (e + 1)) now ≡ take (2 * count) out ++ write_words (writes_below page before changed (n + 1)) ++ drop (2 * (e + 1)) out) (sym written.ended)
+          (written_more page before changed n out now count place value differ room at is stands);
+    }

@@ -1,7 +1,7 @@
 //! A page: how its records are found, put in and taken out, and how it is cut and joined (page0page,
 //! page0cur).
 
-ghost use Rattle.std.specs.Prelude.{ℕ, ◌≡◌, ◌≢◌, ◌+◌, ◌-◌, ◌*◌, ◌<◌, ◌≤◌, ◌^◌, ◌++◌, [], ◌∷◌, length, take, drop, slice_get, slice_index, slice_set, IsTrue, IsSome, IsNone, IsSomeAnd, OnOk, OnErr, IfOk, IfErr, IfSome, MatchResult, ◌↔◌, Some, None};
+ghost use Rattle.std.specs.Prelude.{List, ℕ, ◌≡◌, ◌≢◌, ◌+◌, ◌-◌, ◌*◌, ◌<◌, ◌≤◌, ◌^◌, ◌++◌, [], ◌∷◌, length, take, drop, slice_get, slice_index, slice_set, IsTrue, IsSome, IsNone, IsSomeAnd, OnOk, OnErr, IfOk, IfErr, IfSome, MatchResult, ◌↔◌, Some, None};
 ghost use Rattle.std.specs.List.Sorted.{IsSearchInRange};
 ghost use Rattle.ib_map.specs.Keys.{rank, end_rank};
 ghost use Rattle.ib_map.specs.Pairs.{Rises, put, without, cut, value_at, place_of, place_after};
@@ -15,11 +15,18 @@ ghost use Rattle.ib_heap.specs.Filled.{filled, empty_heap};
 ghost use Rattle.ib_heap.specs.Form.{page_of, empty_leaf_words};
 ghost use Rattle.ib_heap.specs.Image.{IsTreePage, IsFormed, level_of, prev_of, next_of, clock_of, records_of, value_with_records, with_links, with_level, value_with_clock};
 ghost use Rattle.ib_page.specs.Kind.{kind_of};
-ghost use Rattle.ib_page.specs.Writes.{writes_below};
+ghost use Rattle.ib_page.specs.Writes.{AreSame, HasWritten, writes_below};
 
 use ib_heap::{MOST_LEVEL, MOST_RECORDS, PageFault};
 use ib_map::{Key, PAGE_WORDS};
 use std::marker::Model;
+
+// Images are compared by blocks of words: how many words a block has, and how many blocks a page.
+const BLOCK_WORDS: usize = 8;
+
+const BLOCKS: usize = 16;
+
+const _: () = prove!(BLOCKS * BLOCK_WORDS == PAGE_WORDS);
 
 /// What a page is used for.
 #[derive(Clone, Copy, Debug, PartialEq, Eq)]
@@ -207,8 +214,53 @@ impl Image {
         count
     }
 
+    // Whether two images are the same in the block of words from this one on.
+    #[inline(always)]
+    fn is_same_block(&self, other: &Image, first: usize) -> bool
+        requires { first + BLOCK_WORDS ≤ PAGE_WORDS }
+        ensures { IsTrue result → AreSame first (first + BLOCK_WORDS) self.now other.now }
+    {
+        let mut same = true;
+        for i in first..first + BLOCK_WORDS {
+            same &= self.words[i] == other.words[i];
+        }
+        same
+    }
+
+    // Writes the words of a block in which the other image of this page differs behind `count` writes, and says
+    // how many there are then.
+    fn write_block(
+        &self,
+        page: u32,
+        other: &Image,
+        first: usize,
+        out: &mut [u64],
+        count: usize,
+    ) -> usize
+        requires block { first + BLOCK_WORDS ≤ PAGE_WORDS }
+        requires room { 2 * (count + length (writes_below page self.now other.now (first + BLOCK_WORDS)))
+            ≤ length out.old + 2 * length (writes_below page self.now other.now first) }
+        ensures { (had : ℕ) (were : List ℕ) → 2 * had ≤ length were
+            → HasWritten page self.now other.now first had were count out.old
+            → HasWritten page self.now other.now (first + BLOCK_WORDS) had were result out.new }
+    {
+        let mut end = count;
+        for i in first..first + BLOCK_WORDS {
+            if self.words[i] != other.words[i] {
+                put_write(
+                    out,
+                    end,
+                    page as u64 * PAGE_WORDS as u64 + i as u64,
+                    other.words[i],
+                );
+                end += 1;
+            }
+        }
+        end
+    }
+
     // Writes the words in which the other image of this page differs behind `count` writes, and says how many
-    // there are then.
+    // there are then. A block that is the same in both is passed at once.
     pub(crate) fn write_differences(
         &self,
         page: u32,
@@ -222,15 +274,10 @@ impl Image {
         ensures count { result ≡ count + length (writes_below page self.now other.now PAGE_WORDS) }
     {
         let mut end = count;
-        for i in 0..PAGE_WORDS {
-            if self.words[i] != other.words[i] {
-                put_write(
-                    out,
-                    end,
-                    page as u64 * PAGE_WORDS as u64 + i as u64,
-                    other.words[i],
-                );
-                end += 1;
+        for block in 0..BLOCKS {
+            let first = block * BLOCK_WORDS;
+            if !self.is_same_block(other, first) {
+                end = self.write_block(page, other, first, out, end);
             }
         }
         end

@@ -83,8 +83,7 @@ impl WorkSet {
         let changed = vec![in alloc; Image::free(0); MOST_WORK_PAGES]?;
         let mut spare = Vec::with_capacity(alloc, MOST_WORK_PAGES)?;
         for room in 0..MOST_WORK_PAGES {
-            // There is room, so the call does not fail.
-            let _ = spare.push(room);
+            spare.push_reserved(room);
         }
         Ok(WorkSet {
             slots,
@@ -250,8 +249,7 @@ impl WorkSet {
     {
         let place = find(&self.slots, page).unwrap();
         let slot = self.slots.remove(place);
-        // There is room, so the call takes no memory, and does not fail.
-        let _ = self.spare.push(slot.room);
+        self.spare.push_reserved(slot.room);
     }
 
     /// Takes all pages out.
@@ -260,8 +258,7 @@ impl WorkSet {
         ensures work { IsWork self.old }
     {
         while let Some(slot) = self.slots.pop() {
-            // There is room, so the call takes no memory, and does not fail.
-            let _ = self.spare.push(slot.room);
+            self.spare.push_reserved(slot.room);
         }
     }
 }

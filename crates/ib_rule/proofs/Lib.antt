@@ -29,3 +29,4 @@ mod Looking
 mod Loading
 mod Spelling
 pub mod Watching
+pub mod Wishes

@@ -19,3 +19,4 @@ pub mod Laws
 pub mod Lending
 pub mod Writing
 pub mod Loads
+pub mod Wished

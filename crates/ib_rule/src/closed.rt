@@ -122,8 +122,7 @@ fn copy_log(closed: &ClosedTable<(), Global>, geometry: Geometry, log: &mut Vec<
     let used = (closed.word(END_PLACE) % (1 << 32)) as usize;
     let first = geometry.log_place(0);
     for i in 0..used {
-        // There is room, so the push takes no memory, and does not fail.
-        let _ = log.push(closed.word(first + i));
+        log.push_reserved(closed.word(first + i));
     }
 }
 

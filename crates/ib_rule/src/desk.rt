@@ -6,6 +6,7 @@ ghost use Rattle.ib_rule.specs.Desk.{desk_state, room_at};
 ghost use Rattle.ib_rule.specs.Lending.{LendsDesk};
 
 use crate::scratch::Scratch;
+use ib_core::take_out;
 use ib_levels::{Latch, Mode};
 use ib_page::WorkSet;
 use std::mem;
@@ -23,6 +24,7 @@ pub(crate) enum Desk {
 
 impl Desk {
     // The scratch, which is with the caller from then on.
+    #[inline(always)]
     pub(crate) fn take(&mut self) -> Scratch
         requires { (desk_state self.old).is_free ≡ true }
         ensures was { self.old ≡ Desk.Free result }
@@ -36,6 +38,7 @@ impl Desk {
 
     // The scratch in which a mini-transaction works, with all that is in it. It is with the caller from
     // then on.
+    #[inline(always)]
     pub(crate) fn leave(&mut self) -> Scratch
         requires { (desk_state self.old).is_taken ≡ true }
         ensures was { self.old ≡ Desk.Taken result }
@@ -48,6 +51,7 @@ impl Desk {
     }
 
     // The work of a mini-transaction ends, and no page is there any more.
+    #[inline(always)]
     pub(crate) fn end(&mut self)
         requires { (desk_state self.old).is_taken ≡ true }
         ensures state { desk_state self.new ≡ record {
@@ -58,16 +62,14 @@ impl Desk {
         } }
         ensures room { room_at self.old ≤ room_at self.new }
     {
-        match mem::replace(self, Desk::Bare) {
-            Desk::Taken(mut scratch) => {
-                scratch.work.clear();
-                *self = Desk::Free(scratch);
-            }
-            _ => unreachable!(),
-        }
+        // Cleared where it is: so what is behind is a change of the desk's variant, and moves nothing.
+        self.work_mut().clear();
+        let scratch = self.leave();
+        *self = Desk::Free(scratch);
     }
 
     // The grants that the mini-transaction remembers.
+    #[inline(always)]
     pub(crate) fn memo(&self) -> &[(Latch, Mode)]
         ensures { result.now ≡ (desk_state self.now).memo }
     {
@@ -78,6 +80,7 @@ impl Desk {
     }
 
     // One more grant is remembered.
+    #[inline(always)]
     pub(crate) fn remember(&mut self, latch: Latch, mode: Mode)
         requires taken { (desk_state self.old).is_taken ≡ true }
         requires room { length (desk_state self.old).memo < room_at self.old }
@@ -88,14 +91,14 @@ impl Desk {
     {
         match self {
             Desk::Taken(scratch) => {
-                // There is room, so the call takes no memory, and does not fail.
-                let _ = scratch.memo.push((latch, mode));
+                scratch.memo.push_reserved((latch, mode));
             }
             _ => unreachable!(),
         }
     }
 
     // The grant at a place of the memo is forgotten.
+    #[inline(always)]
     pub(crate) fn forget_at(&mut self, at: usize) -> (Latch, Mode)
         requires taken { (desk_state self.old).is_taken ≡ true }
         requires at { at < length (desk_state self.old).memo }
@@ -106,12 +109,13 @@ impl Desk {
         ensures room { room_at self.old ≤ room_at self.new }
     {
         match self {
-            Desk::Taken(scratch) => scratch.memo.remove(at),
+            Desk::Taken(scratch) => take_out(&mut scratch.memo, at),
             _ => unreachable!(),
         }
     }
 
     // The pages that the mini-transaction works on.
+    #[inline(always)]
     pub(crate) fn work(&self) -> &WorkSet
         requires { (desk_state self.now).is_taken ≡ true }
         ensures { result.now ≡ (desk_state self.now).work }
@@ -123,6 +127,7 @@ impl Desk {
     }
 
     // .. lent.
+    #[inline(always)]
     pub(crate) fn work_mut(&mut self) -> &mut WorkSet
         requires { (desk_state self.old).is_taken ≡ true }
         ensures* lends { sem 𝓛 (LendsDesk self.entry result) }

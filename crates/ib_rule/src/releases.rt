@@ -30,6 +30,7 @@ impl<L: Law> Space<L> {
     /// Gives S back: adds 1 to the lock word. Where 0 or minus `X_LOCK_HALF_DECR` is left, a next
     /// writer waits for the raise of the ex generation that is owed then (sync0rw,
     /// `rw_lock_s_unlock_func`). It answers the word after the step.
+    #[inline(always)]
     pub fn give_s(&self, pass: &mut Pass, latch: Latch) -> LockWord
         requires own { IsOf self.now pass.old }
         requires latch { latch.0 < latches_of self.now.sizes }
@@ -49,6 +50,7 @@ impl<L: Law> Space<L> {
     /// Gives the last SX back, with no X of one's own: adds `X_LOCK_HALF_DECR` to the lock word. A
     /// look at the waiters flag is owed then (`rw_lock_sx_unlock_func`). It answers the word after the
     /// step.
+    #[inline(always)]
     pub fn give_sx(&self, pass: &mut Pass, latch: Latch) -> LockWord
         requires own { IsOf self.now pass.old }
         requires latch { latch.0 < latches_of self.now.sizes }
@@ -85,6 +87,7 @@ impl<L: Law> Space<L> {
 
     /// Gives the last X back: adds `X_LOCK_DECR` to the lock word. A look at the waiters flag is
     /// owed then, also where SX is left (`rw_lock_x_unlock_func`). It answers the word after the step.
+    #[inline(always)]
     pub fn give_x(&self, pass: &mut Pass, latch: Latch) -> LockWord
         requires own { IsOf self.now pass.old }
         requires latch { latch.0 < latches_of self.now.sizes }
@@ -123,6 +126,7 @@ impl<L: Law> Space<L> {
     }
 
     // Gives the last SX back: adds HALF to the lock word.
+    #[inline(always)]
     fn last_sx_on(&self, pass: &mut Pass, latch: Latch) -> LockWord
         requires own { IsOf self.now pass.old }
         requires latch { latch.0 < latches_of self.now.sizes }

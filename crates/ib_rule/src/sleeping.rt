@@ -71,6 +71,7 @@ impl<L: Law> Space<L> {
 
     /// Loads the waiters flag: the look that the last release of SX or X owes, or `quit`, where the
     /// session gives up what it waits for. It answers the word.
+    #[inline(always)]
     pub fn load_waiters(&self, pass: &mut Pass, latch: Latch) -> u64
         requires own { IsOf self.now pass.old }
         requires latch { latch.0 < latches_of self.now.sizes }
@@ -156,6 +157,7 @@ fn ex_gen_event(latch: u32, phase: Phase) -> Event
 }
 
 // The event of a load of the waiters flag.
+#[inline(always)]
 fn flag_event(latch: u32, phase: Phase) -> Event
     ensures { result ≡ flag_event latch phase }
 {

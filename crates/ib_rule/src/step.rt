@@ -64,6 +64,7 @@ impl<T: Naming, L: Law> Play<(), View> for Tells<T, L> {
 pub(crate) type Board<L> = Shared<(), View, Geometry, Ruled<L>>;
 
 // A step of this kind, which does this to its word. It answers the word found.
+#[inline(always)]
 pub(crate) fn act<L: Law, T: Naming>(
     shared: &Board<L>,
     seat: &mut Seat<(), View>,

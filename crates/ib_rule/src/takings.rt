@@ -35,6 +35,7 @@ impl<L: Law> Space<L> {
     /// Loads the lock word. It is a look, and for a session that waits on the latch an event: for a
     /// next writer `ready`, and for one that has set the flag `again`, where the word refuses its
     /// wish.
+    #[inline(always)]
     pub fn load_word(&self, pass: &mut Pass, latch: Latch) -> LockWord
         requires own { IsOf self.now pass.old }
         requires latch { latch.0 < latches_of self.now.sizes }
@@ -55,6 +56,7 @@ impl<L: Law> Space<L> {
 
     /// Takes S: one exchange that takes 1 off the lock word, where it is the expected one. Else it
     /// answers the word found, and nothing is changed but the looks (sync0rw, `rw_lock_s_lock_low`).
+    #[inline(always)]
     pub fn take_s(
         &self,
         pass: &mut Pass,
@@ -83,6 +85,7 @@ impl<L: Law> Space<L> {
     /// Takes SX, with nothing held on the latch: one exchange that takes `X_LOCK_HALF_DECR` off the
     /// lock word, where it is the expected one. Else it answers the word found, and nothing is
     /// changed but the looks (WL#6363, `rw_lock_sx_lock_low`).
+    #[inline(always)]
     pub fn take_sx(
         &self,
         pass: &mut Pass,
@@ -112,6 +115,7 @@ impl<L: Law> Space<L> {
     /// off the lock word, where it is the expected one. X is owned where 0 is left, and else the
     /// session is the next writer. Where the word is another, it answers that, and nothing is
     /// changed but the looks (sync0rw, `rw_lock_x_lock_low`).
+    #[inline(always)]
     pub fn take_x(
         &self,
         pass: &mut Pass,
@@ -161,7 +165,7 @@ impl<L: Law> Space<L> {
             latch: latch.0,
             level: Level::Log,
         };
-        match self.attempt(pass, event, expected, WHOLE) {
+        match self.attempt(pass, event, expected, WHOLE, None) {
             Ok(_) => Ok(()),
             Err(found) => Err(found),
         }
@@ -251,6 +255,7 @@ impl<L: Law> Space<L> {
     }
 
     // The load of the lock word, as the kind of step that it is in each phase.
+    #[inline(always)]
     fn loaded_word(&self, pass: &mut Pass, latch: Latch) -> LockWord
         requires own { IsOf self.now pass.old }
         requires latch { latch.0 < latches_of self.now.sizes }

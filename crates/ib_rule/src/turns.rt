@@ -4,6 +4,7 @@ ghost use Rattle.std.specs.Prelude.{◌≡◌, ◌≢◌, ℕ, ◌-◌, ◌<◌,
 ghost use Rattle.ib_word.specs.Word.{cell_of};
 ghost use Rattle.ib_layout.specs.Places.{latches_of, words_of};
 ghost use Rattle.ib_core.specs.declared.latch_word.LatchWord.TheVariants.{Lock};
+ghost use Rattle.ib_core.specs.declared.phase.Phase.TheVariants.{Free};
 ghost use Rattle.ib_core.specs.Good.{IsProper};
 ghost use Rattle.ib_core.specs.Takings.{first_response, first_weight, holding_too, is_given_at};
 ghost use Rattle.ib_core.specs.Responses.{latch_of};
@@ -16,9 +17,10 @@ ghost use Rattle.ib_rule.specs.Views.{KnowsHeld, signed};
 ghost use Rattle.ib_rule.specs.Steps.{event_at, latch_word_place, run, view_after};
 ghost use Rattle.ib_rule.specs.Told.{CanBe, Happens, IsEvent};
 ghost use Rattle.ib_rule.specs.Conditions.{CanTake, MayGrow, MayTry, found_by, try_event};
+ghost use Rattle.ib_rule.specs.Wished.{IsWished};
 
 use crate::kind::{StepKind, WordOp};
-use crate::mirror::{counted, is_refused, turn_on};
+use crate::mirror::{counted, is_refused, try_on, turn_on};
 use crate::pass::Pass;
 use crate::space::Space;
 use crate::step::act;
@@ -35,6 +37,7 @@ pub(crate) const HALF: u64 = X_LOCK_HALF_DECR as u64;
 pub(crate) const WHOLE: u64 = X_LOCK_DECR as u64;
 
 // The place of a word of a latch.
+#[inline(always)]
 fn place(geometry: &Geometry, word: LatchWord, latch: Latch) -> usize
     requires { latch.0 < latches_of geometry.now }
     ensures place { result ≡ latch_word_place word latch.0 }
@@ -52,6 +55,7 @@ fn place(geometry: &Geometry, word: LatchWord, latch: Latch) -> usize
 impl<L: Law> Space<L> {
     // One step on the word of the event's latch that the event reads, which is the turn of the
     // event. It answers the word found, and what the latch machine answers there.
+    #[inline(always)]
     pub(crate) fn turn(
         &self,
         pass: &mut Pass,
@@ -89,13 +93,16 @@ impl<L: Law> Space<L> {
     }
 
     // One exchange of the lock word, which is the turn of the event where the word is the expected
-    // one. Else it answers the word found.
+    // one. Else it answers the word found. Of a first wish, its mode and level may be given: then
+    // the turn goes over nothing that is held.
+    #[inline(always)]
     pub(crate) fn attempt(
         &self,
         pass: &mut Pass,
         event: Event,
         expected: LockWord,
         taken: u64,
+        wish: Option<(Mode, Level)>,
     ) -> Result<Answer, LockWord>
         requires own { IsOf self.now pass.old }
         requires latch { latch_of event < latches_of self.now.sizes }
@@ -106,6 +113,7 @@ impl<L: Law> Space<L> {
             × Leaves Lock event pass.old.view.session (cell_of expected.0)
             (cell_of expected.0 - taken) }
         requires room { taken ≤ cell_of expected.0 }
+        requires wish { IsWished wish event expected.0 pass.old.view.session }
         ensures view { pass.new ≡ with_view pass.old
             (view_after (Try event (cell_of expected.0)) (found_by result expected) pass.old.view) }
         ensures event { IfOk result (λ answer. IsEvent event pass.old.view.session answer
@@ -133,7 +141,7 @@ impl<L: Law> Space<L> {
         if found != old {
             return Err(from_cell(found));
         }
-        let answer = turn_on(&mut pass.member, event, LatchWord::Lock, found);
+        let answer = try_on(&mut pass.member, event, wish, expected, found);
         pass.grants = counted(pass.grants, before, event, answer);
         Ok(answer)
     }
@@ -203,6 +211,7 @@ impl<L: Law> Space<L> {
     }
 
     // A first try for a mode: an exchange that takes off what it weighs.
+    #[inline(always)]
     pub(crate) fn first_off(
         &self,
         pass: &mut Pass,
@@ -233,8 +242,87 @@ impl<L: Law> Space<L> {
             ≡ with_view pass.old (tried_on latch.0 expected found pass.old.view)) }
         ensures lost { IfErr result (λ found. found.0 ≢ expected.0) }
     {
+        if let Phase::Free = pass.member.phase() {
+            return self.wish_off(pass, mode, latch, level, expected);
+        }
+        self.later_off(pass, mode, latch, level, expected)
+    }
+
+    // .. by a session in the middle of nothing.
+    #[inline(always)]
+    fn wish_off(
+        &self,
+        pass: &mut Pass,
+        mode: Mode,
+        latch: Latch,
+        level: Level,
+        expected: LockWord,
+    ) -> Result<(), LockWord>
+        requires own { IsOf self.now pass.old }
+        requires latch { latch.0 < latches_of self.now.sizes }
+        requires free { pass.old.view.session.phase ≡ Free }
+        requires may { MayTry mode latch.0 level pass.old.view.session
+            pass.old.view.session.phase }
+        requires grows { MayGrow pass.old.view }
+        requires given { IsTrue (is_given_at mode expected.0) }
+        ensures view { pass.new ≡ with_view pass.old (view_after
+            (Try (try_event mode latch.0 level pass.old.view.session.phase) (cell_of expected.0))
+            (found_by result expected) pass.old.view) }
+        ensures event { IsOk result
+            → IsEvent (try_event mode latch.0 level pass.old.view.session.phase)
+            pass.old.view.session
+            (turn_at (try_event mode latch.0 level pass.old.view.session.phase)
+            (cell_of expected.0) pass.old.view.session).answer pass.new.view.session }
+        ensures taken { IsOk result → pass.new ≡ with_view pass.old (granted mode
+            (first_response mode latch.0 level (expected.0 -ℤ pos (first_weight mode))
+            (holding_too mode latch.0 level pass.old.view.session.held)).session
+            (tried_on latch.0 expected expected pass.old.view)) }
+        ensures refused { IfErr result (λ found. pass.new
+            ≡ with_view pass.old (tried_on latch.0 expected found pass.old.view)) }
+        ensures lost { IfErr result (λ found. found.0 ≢ expected.0) }
+    {
+        let event = wish_event(mode, latch.0, level);
+        let wish = Some((mode, level));
+        match self.attempt(pass, event, expected, first_weight(mode), wish) {
+            Ok(_) => Ok(()),
+            Err(found) => Err(found),
+        }
+    }
+
+    // .. in any phase.
+    #[inline(never)]
+    fn later_off(
+        &self,
+        pass: &mut Pass,
+        mode: Mode,
+        latch: Latch,
+        level: Level,
+        expected: LockWord,
+    ) -> Result<(), LockWord>
+        requires own { IsOf self.now pass.old }
+        requires latch { latch.0 < latches_of self.now.sizes }
+        requires may { MayTry mode latch.0 level pass.old.view.session
+            pass.old.view.session.phase }
+        requires grows { MayGrow pass.old.view }
+        requires given { IsTrue (is_given_at mode expected.0) }
+        ensures view { pass.new ≡ with_view pass.old (view_after
+            (Try (try_event mode latch.0 level pass.old.view.session.phase) (cell_of expected.0))
+            (found_by result expected) pass.old.view) }
+        ensures event { IsOk result
+            → IsEvent (try_event mode latch.0 level pass.old.view.session.phase)
+            pass.old.view.session
+            (turn_at (try_event mode latch.0 level pass.old.view.session.phase)
+            (cell_of expected.0) pass.old.view.session).answer pass.new.view.session }
+        ensures taken { IsOk result → pass.new ≡ with_view pass.old (granted mode
+            (first_response mode latch.0 level (expected.0 -ℤ pos (first_weight mode))
+            (holding_too mode latch.0 level pass.old.view.session.held)).session
+            (tried_on latch.0 expected expected pass.old.view)) }
+        ensures refused { IfErr result (λ found. pass.new
+            ≡ with_view pass.old (tried_on latch.0 expected found pass.old.view)) }
+        ensures lost { IfErr result (λ found. found.0 ≢ expected.0) }
+    {
         let event = try_event(mode, latch.0, level, pass.member.phase());
-        match self.attempt(pass, event, expected, first_weight(mode)) {
+        match self.attempt(pass, event, expected, first_weight(mode), None) {
             Ok(_) => Ok(()),
             Err(found) => Err(found),
         }
@@ -242,6 +330,7 @@ impl<L: Law> Space<L> {
 }
 
 // What a first grant of the mode takes off.
+#[inline(always)]
 fn first_weight(mode: Mode) -> u64
     ensures { result ≡ first_weight mode }
 {
@@ -252,7 +341,20 @@ fn first_weight(mode: Mode) -> u64
     }
 }
 
+// The event of a first wish for the mode.
+#[inline(always)]
+fn wish_event(mode: Mode, latch: u32, level: Level) -> Event
+    ensures { result ≡ try_event mode latch level Free }
+{
+    match mode {
+        Mode::S => Event::S { latch, level },
+        Mode::Sx => Event::Sx { latch, level },
+        Mode::X => Event::X { latch, level },
+    }
+}
+
 // The event of a first try for the mode.
+#[inline(always)]
 fn try_event(mode: Mode, latch: u32, level: Level, phase: Phase) -> Event
     ensures { result ≡ try_event mode latch level phase }
 {

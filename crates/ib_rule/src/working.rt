@@ -30,6 +30,7 @@ impl Pass {
 
     /// A mini-transaction works in the scratch from then on (mtr0mtr, `mtr_t::start`): its memo and
     /// its work set are empty.
+    #[inline(always)]
     pub fn begin_work(&mut self)
         requires { IsTrue self.old.has_scratch }
         ensures begun { self.new ≡ record self.old {
@@ -46,6 +47,7 @@ impl Pass {
 
     /// The room of the mini-transaction, with its pages and its grants, which is out of the pass until
     /// `resume_work`: so that a step of the pass may read or fill the pages.
+    #[inline(always)]
     pub fn leave_work(&mut self) -> Scratch
         requires { IsTrue self.old.is_working }
         ensures work { result.work ≡ self.old.work }
@@ -58,6 +60,7 @@ impl Pass {
     }
 
     /// The mini-transaction works on in this room, with the pages and the grants that are in it.
+    #[inline(always)]
     pub fn resume_work(&mut self, room: Scratch)
         requires out { self.old.has_scratch ≡ false }
         requires rests { self.old.is_working ≡ false }
@@ -73,6 +76,7 @@ impl Pass {
 
     /// The mini-transaction ends, with nothing in its memo: its pages are gone, and the scratch is
     /// free again.
+    #[inline(always)]
     pub fn end_work(&mut self)
         requires works { IsTrue self.old.is_working }
         requires none { self.old.memo ≡ [] }
@@ -87,6 +91,7 @@ impl Pass {
     }
 
     /// The grants that the mini-transaction remembers, in order of taking. None where none works.
+    #[inline(always)]
     pub fn memo(&self) -> &[(Latch, Mode)]
         ensures { result.now ≡ self.now.memo }
     {
@@ -95,6 +100,7 @@ impl Pass {
 
     /// The mini-transaction remembers one more grant, behind the others. It remembers fewer than
     /// `MOST_HELD`, so this takes no memory.
+    #[inline(always)]
     pub fn remember(&mut self, latch: Latch, mode: Mode)
         requires works { IsTrue self.old.is_working }
         requires room { length self.old.memo < MOST_HELD }
@@ -106,6 +112,7 @@ impl Pass {
 
     /// The mini-transaction forgets the grant at a place of its memo, from 0 on, and those behind it
     /// move down.
+    #[inline(always)]
     pub fn forget_at(&mut self, at: usize) -> (Latch, Mode)
         requires works { IsTrue self.old.is_working }
         requires at { at < length self.old.memo }
@@ -117,6 +124,7 @@ impl Pass {
     }
 
     /// The pages that the mini-transaction works on.
+    #[inline(always)]
     pub fn work(&self) -> &WorkSet
         requires { IsTrue self.now.is_working }
         ensures { result.now ≡ self.now.work }
@@ -125,6 +133,7 @@ impl Pass {
     }
 
     /// The same, lent to be changed.
+    #[inline(always)]
     pub fn work_mut(&mut self) -> &mut WorkSet
         requires { IsTrue self.old.is_working }
         ensures* lends { sem 𝓛 (LendsWork self.entry result) }

@@ -1,9 +1,9 @@
--- What stays is not on the latch.
-use Rattle.std.proofs.Common.{rules, ◌==◌, not}
-use Rattle.std.proofs.lemmas.Fn.{filter_same}
-use Rattle.ib_levels.specs.declared.holding.Holding.{Holding}
+-- What is taken out is all that is on the latch.
+use Rattle.std.proofs.Common.{◌∙◌}
+use Rattle.ib_levels.specs.declared.level.Level.TheVariants.{Log}
+use Rattle.ib_levels.specs.Holding.{hold}
+use Rattle.ib_core.proofs.AtPlace.{gone_at}
 use Rattle.ib_core.proofs.holdings.give_up.Goals as goal
 
 pub returns-clause-items : goal.returns-clause-items
-returns-clause-items c =
-    filter_same _ (λ (h : Holding). not (h.latch.0 == c.args.latch.0)) _ (λ x b f' r. search rules) _ _ c.retain.ensures.filtered
+returns-clause-items c = c.take_out.ensures.rest ∙ gone_at c.args.latch.0 c.args.held.now.items c.args.at (hold 0 Log 0 0 0) c.requires.place c.requires.single

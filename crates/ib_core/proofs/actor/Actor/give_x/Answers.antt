@@ -12,10 +12,10 @@ pub returns-then-mine-eq1-clause-weighs : goal.returns-then-mine-eq1-clause-weig
 returns-then-mine-eq1-clause-weighs c =
     let t = back_x_taken c.args.latch.0 (session_of c.args.self.now) c.requires.can.proper (omega arith) in
     let g = c.give_x.ensures.weighs in
-    let x = ap x_weight c.grants-mine.ensures.x in let rest = ap (λ (n : ℕ). x_weight (n - 1)) c.grants-mine.ensures.x in sum_moves c.args.latch.0 c.args.word.now.0 (session_of c.args.self.now) _ _ (given_back X c.args.latch.0 (session_of c.args.self.now)) c.give_back.ensures.held (omega (arith, ints))
+    let x = ap x_weight c.found-mine.ensures.x in let rest = ap (λ (n : ℕ). x_weight (n - 1)) c.found-mine.ensures.x in sum_moves c.args.latch.0 c.args.word.now.0 (session_of c.args.self.now) _ _ (given_back X c.args.latch.0 (session_of c.args.self.now)) c.give_back.ensures.held (omega (arith, ints))
 
 pub returns-else-mine-eq1-clause-weighs : goal.returns-else-mine-eq1-clause-weighs
 returns-else-mine-eq1-clause-weighs c =
     let t = back_x_taken c.args.latch.0 (session_of c.args.self.now) c.requires.can.proper (omega arith) in
     let g = c.give_x.ensures.weighs in
-    let x = ap x_weight c.grants-mine.ensures.x in let rest = ap (λ (n : ℕ). x_weight (n - 1)) c.grants-mine.ensures.x in sum_moves c.args.latch.0 c.args.word.now.0 (session_of c.args.self.now) _ _ (given_back X c.args.latch.0 (session_of c.args.self.now)) c.give_back.ensures.held (omega (arith, ints))
+    let x = ap x_weight c.found-mine.ensures.x in let rest = ap (λ (n : ℕ). x_weight (n - 1)) c.found-mine.ensures.x in sum_moves c.args.latch.0 c.args.word.now.0 (session_of c.args.self.now) _ _ (given_back X c.args.latch.0 (session_of c.args.self.now)) c.give_back.ensures.held (omega (arith, ints))

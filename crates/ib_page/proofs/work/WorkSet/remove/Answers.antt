@@ -1,5 +1,5 @@
 -- The page's room is spare again.
-use Rattle.std.proofs.Common.{◌≡◌, ◌≢◌, ◌∙◌, ◌++◌, [], ◌∷◌, ℕ, List, Option, ap, subst, sym, arith, true, is_ok, IsSomeAnd, slice_get}
+use Rattle.std.proofs.Common.{◌≡◌, ◌≢◌, ◌∙◌, ℕ, List, Option, ap, subst, sym, arith, IsSomeAnd, slice_get}
 use Rattle.std.specs.Prelude.{IfSome}
 use Rattle.std.specs.List.{All, remove}
 use Rattle.ib_page.specs.declared.work.Slot.{Slot}
@@ -18,17 +18,21 @@ remove-slot-requires c =
     (subst (λ (o : Option ℕ). IfSome o (λ i. IsSomeAnd (slice_get c.deref.result.now i) (λ s. s.page ≡ c.args.page))) c.unwrap-place.ensures c.find.ensures.there) in
     omega (arith, found_slot-lt c.self.inside.slots.items c.unwrap-place.result c.args.page found, c.self.inside.slots.ok)
 
+pub push_reserved-requires : goal.push_reserved-requires
+push_reserved-requires c =
+    let found = subst (λ (ss : List Slot). IsSomeAnd (slice_get ss c.unwrap-place.result) (λ s. s.page ≡ c.args.page)) c.deref.ensures.value
+    (subst (λ (o : Option ℕ). IfSome o (λ i. IsSomeAnd (slice_get c.deref.result.now i) (λ s. s.page ≡ c.args.page))) c.unwrap-place.ensures c.find.ensures.there) in
+    omega (arith, found_slot-lt c.self.inside.slots.items c.unwrap-place.result c.args.page found, c.self.inside.spare.ok, c.self.invariant.kept.rooms, c.self.invariant.spare_room)
+
 pub invariant_of-self : goal.invariant_of-self
 invariant_of-self c =
     let found = subst (λ (ss : List Slot). IsSomeAnd (slice_get ss c.unwrap-place.result) (λ s. s.page ≡ c.args.page)) c.deref.ensures.value
     (subst (λ (o : Option ℕ). IfSome o (λ i. IsSomeAnd (slice_get c.deref.result.now i) (λ s. s.page ≡ c.args.page))) c.unwrap-place.ensures c.find.ensures.there) in
-    let pushed : is_ok c.push.result ≡ true = c.push.ensures.succeeds (omega (arith, found_slot-lt c.self.inside.slots.items c.unwrap-place.result c.args.page found, c.self.inside.spare.ok, c.self.invariant.kept.rooms, c.self.invariant.spare_room)) in
-    let spare : c.push.new.self.items ≡ c.self.inside.spare.items ++ c.remove-slot.result.room ∷ [] = rw pushed at c.push.ensures.items in
     record {
-      kept = subst (λ (ss : List Slot). IsRoomed ss c.self.inside.before.items c.self.inside.changed.items c.push.new.self.items) (sym c.remove-slot.ensures.items)
-          (subst (λ (ns : List ℕ). IsRoomed (remove c.self.inside.slots.items c.unwrap-place.result) c.self.inside.before.items c.self.inside.changed.items ns) (sym spare) (remove_kept _ _ _ _ _ c.unwrap-place.result c.args.page c.remove-slot.result c.self.invariant.kept c.self.view_is found c.remove-slot.ensures.value));
+      kept = subst (λ (ss : List Slot). IsRoomed ss c.self.inside.before.items c.self.inside.changed.items c.push_reserved.new.self.items) (sym c.remove-slot.ensures.items)
+          (subst (λ (ns : List ℕ). IsRoomed (remove c.self.inside.slots.items c.unwrap-place.result) c.self.inside.before.items c.self.inside.changed.items ns) (sym c.push_reserved.ensures.items) (remove_kept _ _ _ _ _ c.unwrap-place.result c.args.page c.remove-slot.result c.self.invariant.kept c.self.view_is found c.remove-slot.ensures.value));
       slots_room = omega (arith, c.remove-slot.ensures.capacity, c.self.invariant.slots_room);
-      spare_room = omega (arith, c.push.ensures.capacity, c.self.invariant.spare_room);
+      spare_room = omega (arith, c.push_reserved.ensures.capacity, c.self.invariant.spare_room);
     }
 
 pub returns-clause-removed : goal.returns-clause-removed

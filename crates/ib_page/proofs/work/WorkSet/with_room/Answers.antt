@@ -1,19 +1,21 @@
--- Each push has room, and all rooms are spare at the end.
-use Rattle.std.proofs.Common.{◌≡◌, ◌+◌, ◌∷◌, ◌++◌, [], true, is_ok, ap, arith, ◌∙◌, ℕ, cond, ltb, map}
+-- All rooms are spare at the end.
+use Rattle.std.proofs.Common.{◌≡◌, ◌+◌, [], ap, arith, ◌∙◌, ℕ, cond, ltb, map}
 use Rattle.ib_page.specs.declared.work.TheConstants.{MOST_WORK_PAGES}
 use Rattle.std.proofs.lemmas.List.{length_push}
 use Rattle.ib_page.specs.Rooms.{work_page_in}
 use Rattle.ib_page.proofs.RoomLaws.{once_more, kept_new}
 use Rattle.ib_page.proofs.work.WorkSet.with_room.Goals as goal
 
+pub push_reserved-requires : goal.push_reserved-requires
+push_reserved-requires c = omega (arith, c.loop-room.invariant.count, c.loop-room.invariant.capacity, c.loop-room.spare.ok)
+
 pub loop-room-preserved : goal.loop-room-preserved
 loop-room-preserved c =
-    let pushed : is_ok c.push.result ≡ true = c.push.ensures.succeeds (omega (arith, c.loop-room.invariant.count, c.loop-room.invariant.capacity, c.loop-room.spare.ok)) in
-    let items : c.push.new.self.items ≡ c.loop-room.spare.items ++ c.loop-room.room ∷ [] = rw pushed at c.push.ensures.items in
+    let items = c.push_reserved.ensures.items in
     record {
       count = rw items (length_push c.loop-room.spare.items c.loop-room.room ∙ ap (λ n. n + 1) c.loop-room.invariant.count);
       once = λ r. rw items (once_more c.loop-room.spare.items c.loop-room.room r (c.loop-room.invariant.once r));
-      capacity = omega (arith, c.push.ensures.capacity, c.loop-room.invariant.capacity);
+      capacity = omega (arith, c.push_reserved.ensures.capacity, c.loop-room.invariant.capacity);
     }
 
 pub invariant_of-result : goal.invariant_of-result

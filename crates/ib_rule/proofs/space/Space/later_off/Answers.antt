@@ -11,7 +11,7 @@ use Rattle.ib_rule.specs.Steps.{view_after}
 use Rattle.ib_rule.specs.Conditions.{try_event}
 use Rattle.ib_rule.proofs.LockSteps.{first_word, first_try}
 use Rattle.ib_rule.proofs.Outcomes.{first_view, try_latch}
-use Rattle.ib_rule.proofs.space.Space.first_off.Goals as goal
+use Rattle.ib_rule.proofs.space.Space.later_off.Goals as goal
 
 pub attempt-requires-clause-word : goal.attempt-requires-clause-word
 attempt-requires-clause-word g c =
