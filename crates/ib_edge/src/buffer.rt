@@ -1,6 +1,6 @@
 //! The bytes that a writer keeps back.
 
-ghost use Rattle.std.specs.Prelude.{◌≡◌, ◌↔◌, ◌<◌, ◌≤◌, ◌++◌, ◌∷◌, [], length, IsTrue};
+ghost use Rattle.std.specs.Prelude.{◌≡◌, ◌↔◌, ◌+◌, ◌<◌, ◌≤◌, ◌++◌, ◌∷◌, [], length, IsTrue};
 
 use std::marker::Model;
 
@@ -57,6 +57,24 @@ impl Buffer {
     {
         self.bytes[self.len] = byte;
         self.len += 1;
+    }
+
+    // How many bytes more it takes.
+    #[inline(always)]
+    pub fn room(&self) -> usize
+        ensures { result + length self.now ≡ BUFFER_BYTES }
+    {
+        BUFFER_BYTES - self.len
+    }
+
+    #[inline(always)]
+    pub fn extend(&mut self, bytes: &[u8])
+        requires { length self.old + length bytes.now ≤ BUFFER_BYTES }
+        ensures { self.new ≡ self.old ++ bytes.now }
+    {
+        let end = self.len + bytes.len();
+        self.bytes[self.len..end].copy_from_slice(bytes);
+        self.len = end;
     }
 
     pub fn clear(&mut self)

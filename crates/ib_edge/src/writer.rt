@@ -62,7 +62,20 @@ impl<'a, K: Sink> Writer<'a, K> {
     }
 
     /// These bytes.
+    #[inline(always)]
     pub fn text(&mut self, bytes: &[u8])
+        ensures puts { Puts K.written K.faults self.old self.new bytes.now }
+    {
+        if bytes.len() <= self.buffer.room() {
+            self.buffer.extend(bytes);
+        } else {
+            self.each_byte(bytes);
+        }
+    }
+
+    // These bytes, which the buffer may not take whole.
+    #[cold]
+    fn each_byte(&mut self, bytes: &[u8])
         ensures puts { Puts K.written K.faults self.old self.new bytes.now }
     {
         for byte in bytes {

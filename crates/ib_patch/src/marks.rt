@@ -20,8 +20,7 @@ fn mark_page(written: &mut [bool], pages: &mut Vec<u32>, page: u32)
 {
     if !written[page as usize] {
         written[page as usize] = true;
-        // There is room, so the call takes no memory, and does not fail.
-        let _ = pages.push(page);
+        pages.push_reserved(page);
     }
 }
 

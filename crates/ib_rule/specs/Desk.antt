@@ -1,10 +1,9 @@
 -- Where the scratch of a session is, and what is in it.
-use Rattle.std.specs.Prelude.{◌≡◌, ℕ, ◌≤◌, Bool, true, false, List, [], vec_capacity}
+use Rattle.std.specs.Prelude.{◌≡◌, ℕ, ◌≤◌, Bool, true, false, not, Option, Some, None, List, [], vec_capacity}
 use Rattle.ib_levels.specs.declared.latch.Latch.{Latch}
 use Rattle.ib_levels.specs.declared.level.Mode.{Mode}
 use Rattle.ib_page.specs.Work.{WorkPage}
 use Rattle.ib_rule.specs.declared.desk.Desk.{Desk}
-use Rattle.ib_rule.specs.declared.desk.Desk.TheVariants.{Free, Bare, Taken}
 use Rattle.ib_rule.specs.declared.scratch.Scratch.{Scratch}
 use Rattle.ib_rule.specs.declared.pass.TheConstants.{MOST_HELD}
 
@@ -15,23 +14,40 @@ pub record DeskState : Type 0 where
   pub work : List WorkPage
   pub memo : List (Latch × Mode)
 
+-- a desk whose scratch is there and free, one at whose scratch a mini-transaction works, and one whose scratch is with a caller
+abbrev pub free : Scratch → Desk
+free s = record { scratch = Some s; is_taken = false }
+
+abbrev pub taken : Scratch → Desk
+taken s = record { scratch = Some s; is_taken = true }
+
+abbrev pub bare : DeskState
+bare = record { is_free = false; is_taken = false; work = []; memo = [] }
+
+abbrev pub state_of : Option Scratch → Bool → DeskState
+state_of None is_taken = bare
+state_of (Some s) is_taken = record { is_free = not is_taken; is_taken = is_taken; work = s.work; memo = s.memo.items }
+
 abbrev pub desk_state : Desk → DeskState
-desk_state (Free s) = record { is_free = true; is_taken = false; work = s.work; memo = s.memo.items }
-desk_state Bare = record { is_free = false; is_taken = false; work = []; memo = [] }
-desk_state (Taken s) = record { is_free = false; is_taken = true; work = s.work; memo = s.memo.items }
+desk_state d = state_of d.scratch d.is_taken
 
 -- how many grants the memo has room for
+abbrev pub memo_room : Option Scratch → ℕ
+memo_room None = 0
+memo_room (Some s) = vec_capacity s.memo
+
 abbrev pub room_at : Desk → ℕ
-room_at (Free s) = vec_capacity s.memo
-room_at Bare = 0
-room_at (Taken s) = vec_capacity s.memo
+room_at d = memo_room d.scratch
 
 -- an empty scratch, with room for as many grants as a session holds
 abbrev pub IsEmptyScratch : Scratch → Type 0
 IsEmptyScratch s = (s.work ≡ []) × (s.memo.items ≡ []) × (MOST_HELD ≤ vec_capacity s.memo)
 
 -- a scratch that is free is empty, and one that is worked in has its room
+abbrev pub IsScratch : Option Scratch → Bool → Type 0
+IsScratch None is_taken = Unit {0}
+IsScratch (Some s) false = IsEmptyScratch s
+IsScratch (Some s) true = MOST_HELD ≤ vec_capacity s.memo
+
 abbrev pub IsDesk : Desk → Type 0
-IsDesk (Free s) = IsEmptyScratch s
-IsDesk Bare = Unit {0}
-IsDesk (Taken s) = MOST_HELD ≤ vec_capacity s.memo
+IsDesk d = IsScratch d.scratch d.is_taken

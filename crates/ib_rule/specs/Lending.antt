@@ -1,10 +1,10 @@
 -- What a pass ends as when it lends its words for an entry, or the pages of its work.
-use Rattle.std.specs.Prelude.{ℕ, List, ◌++◌, take, drop, length}
+use Rattle.std.specs.Prelude.{ℕ, Option, Some, None, List, ◌++◌, take, drop, length}
 use Rattle.std.specs.Borrow.{Lends, MutBor, Fml, Array, u64}
 use Rattle.ib_page.specs.Work.{WorkPage}
 use Rattle.ib_page.specs.contracts.work.WorkSet.{the_row as work_row}
 use Rattle.ib_rule.specs.declared.desk.Desk.{Desk}
-use Rattle.ib_rule.specs.declared.desk.Desk.TheVariants.{Free, Bare, Taken}
+use Rattle.ib_rule.specs.declared.scratch.Scratch.{Scratch}
 use Rattle.ib_rule.specs.declared.pass.TheConstants.{ENTRY_WORDS}
 use Rattle.ib_rule.specs.Pass.{PassState}
 use Rattle.ib_rule.specs.contracts.desk.Desk.{the_row as desk_row}
@@ -19,10 +19,12 @@ abbrev pub LendsWords : MutBor PassState → MutBor (List ℕ) → Fml
 LendsWords p r = Lends the_row (Array u64 0) p r (with_words p.now)
 
 -- the desk with other pages of the mini-transaction that works there
+abbrev pub scratch_with_pages : Option Scratch → List WorkPage → Option Scratch
+scratch_with_pages None pages = None
+scratch_with_pages (Some s) pages = Some (record s { work = pages })
+
 abbrev pub with_pages : Desk → List WorkPage → Desk
-with_pages (Free s) pages = Free s
-with_pages Bare pages = Bare
-with_pages (Taken s) pages = Taken (record s { work = pages })
+with_pages d pages = record d { scratch = scratch_with_pages d.scratch pages }
 
 abbrev pub LendsDesk : MutBor Desk → MutBor (List WorkPage) → Fml
 LendsDesk d r = Lends desk_row work_row d r (with_pages d.now)

@@ -1,38 +1,71 @@
 //! Where the scratch of a session is.
 
-ghost use Rattle.std.specs.Prelude.{◌≡◌, ◌<◌, ◌≤◌, ◌++◌, ◌∷◌, [], true, false, Some, length, slice_get, remove};
+ghost use Rattle.std.specs.Prelude.{◌≡◌, ◌<◌, ◌≤◌, ◌++◌, ◌∷◌, [], true, false, Some, length, slice_get, remove, vec_capacity};
 ghost use Rattle.std.specs.Borrow.{sem};
-ghost use Rattle.ib_rule.specs.Desk.{desk_state, room_at};
+ghost use Rattle.ib_rule.specs.Desk.{bare, desk_state, free, taken, room_at};
 ghost use Rattle.ib_rule.specs.Lending.{LendsDesk};
 
 use crate::scratch::Scratch;
 use ib_core::take_out;
 use ib_levels::{Latch, Mode};
 use ib_page::WorkSet;
-use std::mem;
 
-// The desk of a session.
+// The desk of a session. That a mini-transaction works is a mark beside the scratch: so its start and
+// its end change the mark alone, and move nothing.
 #[derive(Drop)]
-pub(crate) enum Desk {
-    // The scratch is there, with nothing in it.
-    Free(Scratch),
-    // A caller has taken the scratch.
-    Bare,
-    // A mini-transaction works in the scratch.
-    Taken(Scratch),
+pub(crate) struct Desk {
+    // The scratch. None while a caller has it.
+    scratch: Option<Scratch>,
+    // Whether a mini-transaction works in the scratch. If none does, there is nothing in it.
+    is_taken: bool,
 }
 
 impl Desk {
+    // The scratch is there, with nothing in it.
+    pub(crate) fn free(scratch: Scratch) -> Desk
+        ensures { result ≡ free scratch }
+    {
+        Desk {
+            scratch: Some(scratch),
+            is_taken: false,
+        }
+    }
+
+    // A mini-transaction works in the scratch.
+    #[inline(always)]
+    pub(crate) fn taken(scratch: Scratch) -> Desk
+        ensures { result ≡ taken scratch }
+    {
+        Desk {
+            scratch: Some(scratch),
+            is_taken: true,
+        }
+    }
+
+    // Whether the scratch is there, with nothing in it.
+    pub(crate) fn is_free(&self) -> bool
+        ensures { result ≡ (desk_state self.now).is_free }
+    {
+        self.scratch.is_some() && !self.is_taken
+    }
+
+    // Whether a mini-transaction works in the scratch.
+    pub(crate) fn is_taken(&self) -> bool
+        ensures { result ≡ (desk_state self.now).is_taken }
+    {
+        self.scratch.is_some() && self.is_taken
+    }
+
     // The scratch, which is with the caller from then on.
     #[inline(always)]
     pub(crate) fn take(&mut self) -> Scratch
         requires { (desk_state self.old).is_free ≡ true }
-        ensures was { self.old ≡ Desk.Free result }
-        ensures bare { self.new ≡ Desk.Bare }
+        ensures was { self.old ≡ free result }
+        ensures bare { desk_state self.new ≡ bare }
     {
-        match mem::replace(self, Desk::Bare) {
-            Desk::Free(scratch) => scratch,
-            _ => unreachable!(),
+        match self.scratch.take() {
+            Some(scratch) => scratch,
+            None => unreachable!(),
         }
     }
 
@@ -41,13 +74,26 @@ impl Desk {
     #[inline(always)]
     pub(crate) fn leave(&mut self) -> Scratch
         requires { (desk_state self.old).is_taken ≡ true }
-        ensures was { self.old ≡ Desk.Taken result }
-        ensures bare { self.new ≡ Desk.Bare }
+        ensures was { self.old ≡ taken result }
+        ensures bare { desk_state self.new ≡ bare }
     {
-        match mem::replace(self, Desk::Bare) {
-            Desk::Taken(scratch) => scratch,
-            _ => unreachable!(),
+        match self.scratch.take() {
+            Some(scratch) => scratch,
+            None => unreachable!(),
         }
+    }
+
+    // A mini-transaction works in the scratch.
+    #[inline(always)]
+    pub(crate) fn begin(&mut self)
+        requires { (desk_state self.old).is_free ≡ true }
+        ensures state { desk_state self.new ≡ record (desk_state self.old) {
+          is_free = false;
+          is_taken = true;
+        } }
+        ensures room { room_at self.new ≡ room_at self.old }
+    {
+        self.is_taken = true;
     }
 
     // The work of a mini-transaction ends, and no page is there any more.
@@ -62,10 +108,8 @@ impl Desk {
         } }
         ensures room { room_at self.old ≤ room_at self.new }
     {
-        // Cleared where it is: so what is behind is a change of the desk's variant, and moves nothing.
         self.work_mut().clear();
-        let scratch = self.leave();
-        *self = Desk::Free(scratch);
+        self.is_taken = false;
     }
 
     // The grants that the mini-transaction remembers.
@@ -73,9 +117,9 @@ impl Desk {
     pub(crate) fn memo(&self) -> &[(Latch, Mode)]
         ensures { result.now ≡ (desk_state self.now).memo }
     {
-        match self {
-            Desk::Free(scratch) | Desk::Taken(scratch) => scratch.memo.as_slice(),
-            Desk::Bare => &[],
+        match &self.scratch {
+            Some(scratch) => scratch.memo.as_slice(),
+            None => &[],
         }
     }
 
@@ -89,11 +133,11 @@ impl Desk {
         } }
         ensures room { room_at self.old ≤ room_at self.new }
     {
-        match self {
-            Desk::Taken(scratch) => {
+        match &mut self.scratch {
+            Some(scratch) => {
                 scratch.memo.push_reserved((latch, mode));
             }
-            _ => unreachable!(),
+            None => unreachable!(),
         }
     }
 
@@ -108,9 +152,9 @@ impl Desk {
         } }
         ensures room { room_at self.old ≤ room_at self.new }
     {
-        match self {
-            Desk::Taken(scratch) => take_out(&mut scratch.memo, at),
-            _ => unreachable!(),
+        match &mut self.scratch {
+            Some(scratch) => take_out(&mut scratch.memo, at),
+            None => unreachable!(),
         }
     }
 
@@ -120,9 +164,9 @@ impl Desk {
         requires { (desk_state self.now).is_taken ≡ true }
         ensures { result.now ≡ (desk_state self.now).work }
     {
-        match self {
-            Desk::Taken(scratch) => &scratch.work,
-            _ => unreachable!(),
+        match &self.scratch {
+            Some(scratch) => &scratch.work,
+            None => unreachable!(),
         }
     }
 
@@ -133,9 +177,9 @@ impl Desk {
         ensures* lends { sem 𝓛 (LendsDesk self.entry result) }
         ensures work { result.now ≡ (desk_state self.old).work }
     {
-        match self {
-            Desk::Taken(scratch) => &mut scratch.work,
-            _ => unreachable!(),
+        match &mut self.scratch {
+            Some(scratch) => &mut scratch.work,
+            None => unreachable!(),
         }
     }
 }

@@ -236,7 +236,7 @@ impl Pass {
         let Scratch { mut work, mut memo } = scratch;
         work.clear();
         memo.clear();
-        self.desk = Desk::Free(Scratch { work, memo });
+        self.desk = Desk::free(Scratch { work, memo });
     }
 }
 

@@ -70,7 +70,7 @@ impl Room {
             made: 0,
             looked_after: 0,
             words,
-            desk: Desk::Free(scratch),
+            desk: Desk::free(scratch),
         }
     }
 }

@@ -18,14 +18,14 @@ impl Pass {
     pub fn has_scratch(&self) -> bool
         ensures { result ≡ self.now.has_scratch }
     {
-        matches!(self.desk, Desk::Free(_))
+        self.desk.is_free()
     }
 
     /// Whether a mini-transaction works in the scratch.
     pub fn is_working(&self) -> bool
         ensures { result ≡ self.now.is_working }
     {
-        matches!(self.desk, Desk::Taken(_))
+        self.desk.is_taken()
     }
 
     /// A mini-transaction works in the scratch from then on (mtr0mtr, `mtr_t::start`): its memo and
@@ -41,8 +41,7 @@ impl Pass {
         } }
         ensures session { IsProper self.old.view.session }
     {
-        let scratch = self.desk.take();
-        self.desk = Desk::Taken(scratch);
+        self.desk.begin();
     }
 
     /// The room of the mini-transaction, with its pages and its grants, which is out of the pass until
@@ -71,7 +70,7 @@ impl Pass {
           memo = room.memo.items;
         } }
     {
-        self.desk = Desk::Taken(room);
+        self.desk = Desk::taken(room);
     }
 
     /// The mini-transaction ends, with nothing in its memo: its pages are gone, and the scratch is

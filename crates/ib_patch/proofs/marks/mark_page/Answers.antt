@@ -1,4 +1,4 @@
-use Rattle.std.proofs.Common.{◌≡◌, ◌∙◌, ◌++◌, ◌∷◌, [], ◌||◌, ℕ, List, Bool, true, false, is_ok, eqb, refl, sym, ap, subst, arith, length, set, inl, inr}
+use Rattle.std.proofs.Common.{◌≡◌, ◌∙◌, ◌||◌, ℕ, List, Bool, true, false, eqb, refl, sym, ap, subst, arith, length, set, inl, inr}
 use Rattle.std.proofs.lemmas.Bool.{cases_eq, eq-eqb, ne_eqb}
 use Rattle.ib_patch.specs.PatchTest.{IsListed}
 use Rattle.ib_patch.specs.Positions.{marks_of}
@@ -25,12 +25,15 @@ returns-then-not-written-page-clause-marks c other = elim (cases_eq other c.args
 pub returns-then-not-written-page-clause-listed : goal.returns-then-not-written-page-clause-listed
 returns-then-not-written-page-clause-listed c =
     let fresh = marks_of-at c.args.written.now c.args.page false c.requires.in_range ∙ c.if-not-written-page.true in
-    let few = listed-room (marks_of c.args.written.now) c.args.pages.now.items (length c.args.written.now) c.args.page c.requires.listed fresh c.requires.in_range in
-    let pushed : is_ok c.push.result ≡ true = c.push.ensures.succeeds (omega (arith, c.args.pages.now.ok, c.requires.room)) in
-    let items : c.push.new.self.items ≡ c.args.pages.now.items ++ c.args.page ∷ [] = rw pushed at c.push.ensures.items in
-    subst (λ (ps : List ℕ). IsListed (marks_of (set c.args.written.now c.args.page true)) ps (length c.args.written.now)) (sym items)
+    subst (λ (ps : List ℕ). IsListed (marks_of (set c.args.written.now c.args.page true)) ps (length c.args.written.now)) (sym c.push_reserved.ensures.items)
     (listed-push (marks_of c.args.written.now) (marks_of (set c.args.written.now c.args.page true)) c.args.page (λ q ne. marks_of-set_other c.args.written.now c.args.page true q ne)
     (marks_of-set_same c.args.written.now c.args.page true c.requires.in_range) fresh c.args.pages.now.items (length c.args.written.now) c.requires.in_range c.requires.listed)
+
+pub push_reserved-requires : goal.push_reserved-requires
+push_reserved-requires c =
+    let fresh = marks_of-at c.args.written.now c.args.page false c.requires.in_range ∙ c.if-not-written-page.true in
+    let few = listed-room (marks_of c.args.written.now) c.args.pages.now.items (length c.args.written.now) c.args.page c.requires.listed fresh c.requires.in_range in
+    omega (arith, c.args.pages.now.ok, c.requires.room)
 
 pub returns-else-not-written-page-clause-marks : goal.returns-else-not-written-page-clause-marks
 returns-else-not-written-page-clause-marks c other = elim (cases_eq other c.args.page) [

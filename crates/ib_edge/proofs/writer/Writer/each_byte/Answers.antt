@@ -1,5 +1,5 @@
 use Rattle.ib_edge.proofs.Writing.{puts_byte, puts_none}
-use Rattle.ib_edge.proofs.writer.Writer.text.Goals as goal
+use Rattle.ib_edge.proofs.writer.Writer.each_byte.Goals as goal
 
 pub loop-byte-init : goal.loop-byte-init
 loop-byte-init g c = puts_none _
