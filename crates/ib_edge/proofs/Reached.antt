@@ -1,12 +1,9 @@
 -- An input is read line by line, up to a place.
 use Rattle.std.proofs.Common.{◌≡◌, ◌∙◌, ℕ, ◌+◌, List, [], ◌∷◌, ◌++◌, ap, sym, subst, refl, length, arith, map, append-nil, append_assoc}
-use Rattle.std.specs.Prelude.{Bool, Option, Some, None}
+use Rattle.std.specs.Prelude.{Option, Some, None}
 use Rattle.std.proofs.lemmas.List.{length_push}
-use Rattle.ib_edge.specs.Lines.{MayLackMemory, lines_of, first_bad, readings_by}
-use Rattle.ib_edge.specs.BadLines.{IsLineFault, line_fault_at}
-use Rattle.ib_edge.specs.declared.bad_line.LineFault.{LineFault}
-use Rattle.ib_edge.specs.declared.bad_line.LineFault.TheVariants.{Bad, OutOfMemory}
-use Rattle.ib_edge.specs.declared.bad_line.ScriptFault.TheVariants.{BadLine, OutOfMemory as NoMemory}
+use Rattle.ib_edge.specs.Lines.{lines_of, first_bad, readings_by}
+use Rattle.ib_edge.specs.declared.bad_line.ScriptFault.TheVariants.{BadLine}
 use Rattle.ib_edge.specs.declared.line_kind.LineKind.{LineKind}
 
 -- so many of these lines are read and built, and the rest follows: none of them is bad
@@ -60,31 +57,14 @@ module _ {R B : Type 0} (wrong : List R → R → Option LineKind) (Built : List
       let all : reached.before ≡ readings = sym (append-nil reached.before) ∙ ap (λ r. reached.before ++ r) (sym none) ∙ reached.whole in
       (fault-here none reached, subst (λ before. Built before builder) all reached.built)
 
-  -- a fault that is told with this line and kind is the first
-  pub reached-fault : {readings : List R} {count : ℕ} {builder : B} {rest : List R} (reading : R) (after : List R) (asks : Bool) (fault : LineFault) (line : ℕ) (kind : LineKind)
-      → rest ≡ reading ∷ after → Reached wrong Built readings count builder rest → ((before : List R) → Built before builder → IsLineFault (wrong before reading) asks fault)
-      → line_fault_at (count + 1) fault ≡ BadLine line kind → first_bad wrong [] readings ≡ Some (line, kind)
-  reached-fault {readings} {count} reading after asks (Bad found) line kind cut reached bad told =
+  -- a bad line that is told with this line and kind is the first
+  pub reached-fault : {readings : List R} {count : ℕ} {builder : B} {rest : List R} (reading : R) (after : List R) (found : LineKind) (line : ℕ) (kind : LineKind)
+      → rest ≡ reading ∷ after → Reached wrong Built readings count builder rest → ((before : List R) → Built before builder → wrong before reading ≡ Some found)
+      → BadLine (count + 1) found ≡ BadLine line kind → first_bad wrong [] readings ≡ Some (line, kind)
+  reached-fault {readings} {count} reading after found line kind cut reached bad told =
       let same : count + 1 ≡ line = cc in
       let also : found ≡ kind = cc in
       reached-bad reading after found cut reached bad ∙ ap (λ n. Some (n, found)) same ∙ ap (λ k. Some (line, k)) also
-  reached-fault reading after asks OutOfMemory line kind cut reached bad told = absurd (cc)
-
-  -- want of memory is told at a line that asks for some, and no line up to it is bad
-  pub reached-memory : {readings : List R} {count : ℕ} {builder : B} {rest : List R} (asks : R → Bool) (reading : R) (after : List R) (fault : LineFault)
-      → rest ≡ reading ∷ after → Reached wrong Built readings count builder rest → ((before : List R) → Built before builder → IsLineFault (wrong before reading) (asks reading) fault)
-      → line_fault_at (count + 1) fault ≡ NoMemory → MayLackMemory wrong asks readings
-  reached-memory asks reading after (Bad found) cut reached bad told = absurd (cc)
-  reached-memory asks reading after OutOfMemory cut reached bad told =
-      let found = bad reached.before reached.built in
-      record {
-        before = reached.before;
-        reading = reading;
-        after = after;
-        whole = ap (λ r. reached.before ++ r) (sym cut) ∙ reached.whole;
-        asking = found.1;
-        good = good-line reached.before reading [] (reached.fault (reading ∷ [])) found.0;
-      }
 
 pub lines-cut : {R : Type 0} (reading : List ℕ → R) (text line rest : List ℕ) → lines_of text ≡ line ∷ lines_of rest
     → readings_by reading text ≡ reading line ∷ readings_by reading rest

@@ -2,8 +2,6 @@
 use Rattle.std.specs.Prelude.{◌≡◌, ℕ, List, ◌++◌, Bool, true, Option, Some, None, codes, decimal}
 use Rattle.ib_edge.specs.declared.bad_line.LineFault.{LineFault}
 use Rattle.ib_edge.specs.declared.bad_line.LineFault.TheVariants.{Bad, OutOfMemory}
-use Rattle.ib_edge.specs.declared.bad_line.ScriptFault.{ScriptFault}
-use Rattle.ib_edge.specs.declared.bad_line.ScriptFault.TheVariants.{BadLine, OutOfMemory as NoMemory}
 use Rattle.ib_edge.specs.declared.line_kind.LineKind.{LineKind}
 use Rattle.ib_edge.specs.declared.line_kind.LineKind.TheVariants.{Word, Fields, Number, Session, Space, Many, Latch, Level}
 
@@ -25,7 +23,3 @@ fault_text line kind = codes "script: line " ++ decimal line ++ codes ": " ++ ki
 abbrev pub IsLineFault : Option LineKind → Bool → LineFault → Type 0
 IsLineFault found asks (Bad kind) = found ≡ Some kind
 IsLineFault found asks OutOfMemory = (found ≡ None) × (asks ≡ true)
-
-abbrev pub line_fault_at : ℕ → LineFault → ScriptFault
-line_fault_at line (Bad kind) = BadLine line kind
-line_fault_at line OutOfMemory = NoMemory

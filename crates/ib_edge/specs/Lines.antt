@@ -1,5 +1,5 @@
 -- A text is lines, and a line is fields.
-use Rattle.std.specs.Prelude.{◌≡◌, ◌⊎◌, ℕ, ◌+◌, List, [], ◌∷◌, ◌++◌, ◌==◌, Bool, true, Option, Some, None, length, map}
+use Rattle.std.specs.Prelude.{ℕ, ◌+◌, List, [], ◌∷◌, ◌++◌, ◌==◌, Bool, true, Option, Some, None, length, map}
 use denote.Ref.{Bor}
 use Rattle.std.specs.List.{slice_split}
 use Rattle.ib_edge.specs.declared.line_kind.LineKind.{LineKind}
@@ -38,16 +38,3 @@ abbrev pub first_bad : {R : Type 0} → (List R → R → Option LineKind) → L
 first_bad wrong before [] = None
 first_bad wrong before (reading ∷ readings) =
     elim (wrong before reading) [ Some kind ↦ Some (length before + 1, kind) | None ↦ first_bad wrong (before ++ reading ∷ []) readings ]
-
--- memory may be wanting: a line asks for some, and neither it nor a line before it is bad
-pub record MayLackMemory {R : Type 0} (wrong : List R → R → Option LineKind) (asks : R → Bool) (readings : List R) : Type 0 where
-  pub before : List R
-  pub reading : R
-  pub after : List R
-  pub whole : before ++ reading ∷ after ≡ readings
-  pub asking : asks reading ≡ true
-  pub good : first_bad wrong [] (before ++ reading ∷ []) ≡ None
-
--- what is made of lines may end for want of memory: at one that asks for some before any is bad, or behind all, where none is bad
-abbrev pub MayEndForMemory : {R : Type 0} → (List R → R → Option LineKind) → (R → Bool) → List R → Type 0
-MayEndForMemory wrong asks readings = MayLackMemory wrong asks readings ⊎ (first_bad wrong [] readings ≡ None)

@@ -1,7 +1,7 @@
 //! A bad line, and the one text that tells it.
 
 ghost use Rattle.std.specs.Prelude.{◌≡◌, ◌≢◌};
-ghost use Rattle.ib_edge.specs.BadLines.{line_fault_at, kind_text};
+ghost use Rattle.ib_edge.specs.BadLines.{kind_text};
 ghost use Rattle.ib_edge.specs.Faults.{Rose};
 ghost use Rattle.ib_edge.specs.Told.{IsOutOfMemoryWhere, OwesFault, Told};
 ghost use Rattle.ib_edge.specs.Writer.{Puts};
@@ -29,7 +29,7 @@ pub enum ScriptFault {
     /// The first bad line, counted from 1 over all lines.
     #[error("line {line} is bad")]
     BadLine { line: u32, kind: LineKind },
-    /// Memory ran out before a bad line was met.
+    /// Memory ran out, and no line is bad.
     #[error("out of memory")]
     OutOfMemory,
 }
@@ -53,18 +53,6 @@ impl From<AllocError> for LineFault {
 
     fn from(_: AllocError) -> LineFault {
         LineFault::OutOfMemory
-    }
-}
-
-impl LineFault {
-    /// The fault, where the line has this number.
-    pub fn at(self, line: u32) -> ScriptFault
-        ensures { result ≡ line_fault_at line self }
-    {
-        match self {
-            LineFault::Bad(kind) => ScriptFault::BadLine { line, kind },
-            LineFault::OutOfMemory => ScriptFault::OutOfMemory,
-        }
     }
 }
 

@@ -1,14 +1,10 @@
 -- What is owed for a text of events.
 use Rattle.std.specs.Prelude.{◌≡◌, ℕ, List}
 use Rattle.ib_edge.specs.Told.{Ending, OwesLines}
-use Rattle.ib_edge.specs.Lines.{MayEndForMemory, readings_by}
-use Rattle.ib_events.specs.Events.{event_fault, event_fault_behind, event_reading_of, events_in, is_event}
+use Rattle.ib_edge.specs.Lines.{readings_by}
+use Rattle.ib_events.specs.Events.{event_fault, event_reading_of, events_in}
 use Rattle.ib_events.specs.Latching.{latch_output}
 
 -- the first bad line is told, or else the events are made and printed
 abbrev pub AnswersEvents : List ℕ → Ending → Type 0
 AnswersEvents input e = OwesLines (event_fault input) (λ text. text ≡ latch_output (events_in (readings_by event_reading_of input))) e
-
--- memory may be wanting for a text of events: before its first bad line, or where no line is bad
-abbrev pub MayLackEvents : List ℕ → Type 0
-MayLackEvents input = MayEndForMemory event_fault_behind is_event (readings_by event_reading_of input)

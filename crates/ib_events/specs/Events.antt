@@ -151,3 +151,13 @@ abbrev pub TakesEvent : {T : Type 0} → EventReading → List (ℕ × Event) �
 TakesEvent reading old result new =
     (before : List EventReading) → AreEvents before old
     → MatchResult result (λ _. (event_fault_behind before reading ≡ None) × AreEvents (before ++ reading ∷ []) new) (IsLineFault (event_fault_behind before reading) (is_event reading))
+
+-- so many events do the lines so far have
+abbrev pub AreMany : List EventReading → ℕ → Type 0
+AreMany before count = count ≡ length (events_in before)
+
+-- a line of events is counted where nothing is wrong with it behind those before
+abbrev pub CountsEvent : EventReading → ℕ → Result ℕ LineKind → Type 0
+CountsEvent reading old result =
+    (before : List EventReading) → AreMany before old
+    → MatchResult result (λ new. (event_fault_behind before reading ≡ None) × AreMany (before ++ reading ∷ []) new) (λ kind. event_fault_behind before reading ≡ Some kind)

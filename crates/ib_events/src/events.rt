@@ -2,8 +2,8 @@
 
 ghost use Rattle.std.specs.Prelude.{◌≡◌, ◌≤◌, ◌-◌, ◌<◌, ◌^◌, ◌+◌, ℕ, None, Some, Ok, Err, [], ◌∷◌, ◌++◌, length, vec_len, IfOk, OnOk};
 ghost use Rattle.std.specs.List.{AllByRecursion};
-ghost use Rattle.ib_events.specs.Events.{IsEventInRange, TakesEvent, event_fault, event_fault_behind, event_reading_of, events_in, is_event};
-ghost use Rattle.ib_edge.specs.Lines.{MayLackMemory, readings_by};
+ghost use Rattle.ib_events.specs.Events.{CountsEvent, IsEventInRange, TakesEvent, event_fault, event_reading_of, events_in};
+ghost use Rattle.ib_edge.specs.Lines.{readings_by};
 ghost use Rattle.ib_edge.specs.declared.line_kind.LineKind.{LineKind};
 
 use crate::event_line::{EventLine, MOST_EVENTS, event_reading_of};
@@ -70,15 +70,57 @@ fn take(list: &mut Vec<(u32, Event)>, line: &[u8]) -> Result<(), LineFault>
     }
 }
 
+// How many events there are with the next line, behind so many, or what is wrong with it.
+fn count_with(events: u32, line: &[u8]) -> Result<u32, LineKind>
+    requires { events ≤ MOST_EVENTS }
+    ensures counts { CountsEvent (event_reading_of line.now) events result }
+    ensures few { IfOk result (λ more. more ≤ MOST_EVENTS) }
+{
+    match event_reading_of(line)? {
+        EventLine::Skipped => Ok(events),
+        EventLine::Event { .. } => {
+            if events == MOST_EVENTS {
+                return Err(LineKind::Many);
+            }
+            Ok(events + 1)
+        }
+    }
+}
+
+// Why these bytes are not read where memory ran out: the first bad line, wherever it stands, or else the want of memory.
+// It keeps no event, and so needs no memory.
+fn refusal(bytes: &[u8]) -> ScriptFault
+    requires { length bytes.now < 2 ^ 32 - 1 }
+    ensures bad { (line : ℕ) (kind : LineKind) → result ≡ ScriptFault.BadLine line kind → event_fault bytes.now ≡ Some (line, kind) }
+    ensures memory { result ≡ ScriptFault.OutOfMemory → event_fault bytes.now ≡ None }
+{
+    let mut events = 0;
+    let mut rest = bytes;
+    let mut count = 0;
+    while !rest.is_empty() {
+        let (line, after) = first_line(rest);
+        count += 1;
+        match count_with(events, line) {
+            Ok(more) => {
+                events = more;
+                rest = after;
+            }
+            Err(kind) => return ScriptFault::BadLine { line: count, kind },
+        }
+    }
+    ScriptFault::OutOfMemory
+}
+
 /// The events that these bytes spell, one a line, or the first bad line, or want of memory. Linear in the bytes.
 ///
-/// Lines are empty, or begin with `#`, or are `N EVENT L` with further fields, N being 1 to 64 and L 0 to 15.
+/// Lines are empty, or begin with `#`, or are `N EVENT L` with further fields, N being 1 to 64 and L 0 to 15. A bad line is
+/// told wherever it stands: want of memory comes only where no line is bad.
 pub fn read_events(alloc: Global, bytes: &[u8]) -> Result<Events, ScriptFault>
     requires { length bytes.now < 2 ^ 32 - 1 }
     ensures good { IfOk result (λ _. event_fault bytes.now ≡ None) }
     ensures events { IfOk result (λ events. events ≡ events_in (readings_by event_reading_of bytes.now)) }
     ensures bad { (line : ℕ) (kind : LineKind) → result ≡ Err (ScriptFault.BadLine line kind) → event_fault bytes.now ≡ Some (line, kind) }
-    ensures memory { result ≡ Err ScriptFault.OutOfMemory → MayLackMemory event_fault_behind is_event (readings_by event_reading_of bytes.now) }
+    ensures memory { result ≡ Err ScriptFault.OutOfMemory → event_fault bytes.now ≡ None }
 {
     let mut list = Vec::new(alloc);
     let mut rest = bytes;
@@ -88,7 +130,8 @@ pub fn read_events(alloc: Global, bytes: &[u8]) -> Result<Events, ScriptFault>
         count += 1;
         match take(&mut list, line) {
             Ok(()) => rest = after,
-            Err(fault) => return Err(fault.at(count)),
+            Err(LineFault::Bad(kind)) => return Err(ScriptFault::BadLine { line: count, kind }),
+            Err(LineFault::OutOfMemory) => return Err(refusal(bytes)),
         }
     }
     Ok(Events { list })

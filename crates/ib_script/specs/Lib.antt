@@ -3,3 +3,4 @@ pub mod Script
 pub mod Building
 pub mod Loads
 pub mod Generated
+pub mod Tallies

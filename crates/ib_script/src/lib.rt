@@ -9,6 +9,7 @@ mod load;
 mod reader;
 mod script;
 mod script_line;
+mod tally;
 
 pub use generated::generate;
 pub use laws::script_law;

@@ -25,6 +25,7 @@ impl LineReader for PlainLines {
 
     ghost reading = { reading_of };
 
+    #[inline(always)]
     fn read(line: &[u8]) -> Result<ScriptLine, LineKind> {
         reading_of(line)
     }

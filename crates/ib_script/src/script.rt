@@ -1,15 +1,16 @@
 //! A script, or its first bad line.
 
 ghost use Rattle.std.specs.Prelude.{◌≡◌, ◌≤◌, ◌-◌, ◌<◌, ◌^◌, ℕ, None, Some, Ok, Err, [], length, slice_index_or, vec_len, IfOk};
-ghost use Rattle.ib_edge.specs.Lines.{MayLackMemory, readings_by};
+ghost use Rattle.ib_edge.specs.Lines.{readings_by};
 ghost use Rattle.ib_script.specs.Lists.{lists_of};
-ghost use Rattle.ib_script.specs.Script.{IsScript, IsSmall, fault_behind, first_fault, is_command};
+ghost use Rattle.ib_script.specs.Script.{IsScript, IsSmall, first_fault};
 ghost use Rattle.ib_edge.specs.declared.line_kind.LineKind.{LineKind};
 ghost use Rattle.ib_edge.specs.declared.line_kind.TheConstants.{MOST_SCRIPT_SESSIONS};
 
 use crate::builder::Builder;
 use crate::reader::LineReader;
-use ib_edge::{LineKind, MOST_SCRIPT_SESSIONS, ScriptFault, first_line};
+use crate::tally::refusal;
+use ib_edge::{LineFault, LineKind, MOST_SCRIPT_SESSIONS, ScriptFault, first_line};
 use ib_layout::Geometry;
 use ib_map::Call;
 use std::alloc::Global;
@@ -77,14 +78,14 @@ impl Script {
 /// The script that these bytes spell, its lines read so, or its first bad line, or want of memory. Linear in the bytes.
 ///
 /// Lines are empty, or begin with `#`, or are `space PAGES LOGWORDS` before all others, `session N`, `insert K V`,
-/// `delete K`, `get K` and `scan L H`.
+/// `delete K`, `get K` and `scan L H`. A bad line is told wherever it stands: want of memory comes only where no line is bad.
 pub fn read_script<R: LineReader>(alloc: Global, bytes: &[u8]) -> Result<Script, ScriptFault>
     requires { length bytes.now < 2 ^ 32 - 1 }
     ensures good { IfOk result (λ _. first_fault (readings_by R.reading bytes.now) ≡ None) }
     ensures script { IfOk result (IsScript (readings_by R.reading bytes.now)) }
     ensures small { IfOk result IsSmall }
     ensures bad { (line : ℕ) (kind : LineKind) → result ≡ Err (ScriptFault.BadLine line kind) → first_fault (readings_by R.reading bytes.now) ≡ Some (line, kind) }
-    ensures memory { result ≡ Err ScriptFault.OutOfMemory → MayLackMemory fault_behind is_command (readings_by R.reading bytes.now) }
+    ensures memory { result ≡ Err ScriptFault.OutOfMemory → first_fault (readings_by R.reading bytes.now) ≡ None }
 {
     let mut builder = Builder::new(alloc);
     let mut rest = bytes;
@@ -94,7 +95,8 @@ pub fn read_script<R: LineReader>(alloc: Global, bytes: &[u8]) -> Result<Script,
         count += 1;
         match builder.take::<R>(alloc, line) {
             Ok(()) => rest = after,
-            Err(fault) => return Err(fault.at(count)),
+            Err(LineFault::Bad(kind)) => return Err(ScriptFault::BadLine { line: count, kind }),
+            Err(LineFault::OutOfMemory) => return Err(refusal::<R>(bytes)),
         }
     }
     Ok(builder.finish())

@@ -128,6 +128,7 @@ fn space_line(pages: u64, log_words: u64) -> Result<ScriptLine, LineKind>
 }
 
 // A line by its first field and those behind it.
+#[inline(always)]
 fn reading_of_fields(word: &[u8], fields: Option<&[u8]>) -> Result<ScriptLine, LineKind>
     ensures reading { result ≡ reading_of_fields (word.now ∷ fields_behind fields.entry) }
     ensures in_range { IfOk result IsLineInRange }
@@ -169,6 +170,7 @@ fn reading_of_fields(word: &[u8], fields: Option<&[u8]>) -> Result<ScriptLine, L
 
 /// What a line, without its line feed, says by itself, or what is wrong with it: tested in the order of `LineKind`,
 /// and from left to right.
+#[inline(always)]
 pub fn reading_of(line: &[u8]) -> Result<ScriptLine, LineKind>
     ensures reading { result ≡ reading_of line.now }
     ensures in_range { IfOk result IsLineInRange }

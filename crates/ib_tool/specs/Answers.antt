@@ -3,13 +3,13 @@ use Rattle.std.specs.Prelude.{◌≡◌, ◌⊎◌, ℕ, List, [], ◌≤◌, le
 use Rattle.std.specs.declared.option.Option.{Option}
 use Rattle.std.specs.Io.KnownBytes.{Keeps}
 use Rattle.ib_edge.specs.Input.{ReadsAll, ConsumesMore, ConsumesAtMost}
-use Rattle.ib_edge.specs.Lines.{MayEndForMemory, readings_by}
+use Rattle.ib_edge.specs.Lines.{readings_by}
 use Rattle.ib_edge.specs.Told.{Ending, OwesLines, ends}
 use Rattle.ib_edge.specs.declared.read.TheConstants.{INPUT_BYTES}
 use Rattle.ib_edge.specs.declared.status.Status.{Status}
 use Rattle.ib_edge.specs.declared.status.Status.TheVariants.{Done, Usage, ReadFault, Memory, TooLarge}
-use Rattle.ib_script.specs.Script.{ScriptValue, IsScript, fault_behind, first_fault, is_command, reading_of}
-use Rattle.ib_events.specs.Answers.{AnswersEvents, MayLackEvents}
+use Rattle.ib_script.specs.Script.{ScriptValue, IsScript, first_fault, reading_of}
+use Rattle.ib_events.specs.Answers.{AnswersEvents}
 use Rattle.ib_events.specs.Events.{event_fault}
 use Rattle.ib_logrec.specs.declared.entry.Entry.{Entry}
 use Rattle.ib_logs.specs.Answers.{AnswersLog}
@@ -30,10 +30,6 @@ IsScriptText shape input text = (script : ScriptValue) × IsScript (readings_by 
 abbrev pub AnswersScript : Shape → List ℕ → Ending → Type 0
 AnswersScript shape input e = OwesLines (first_fault (readings_by reading_of input)) (IsScriptText shape input) e
 
--- memory may be wanting for a script: before its first bad line, or where no line is bad
-abbrev pub MayLackScript : List ℕ → Type 0
-MayLackScript input = MayEndForMemory fault_behind is_command (readings_by reading_of input)
-
 -- The ending that is owed for an input. A generated script takes nothing of it.
 abbrev pub AnswersInput : Form → List ℕ → Ending → Type 0
 AnswersInput Run input e = AnswersScript Text input e
@@ -42,11 +38,11 @@ AnswersInput Latch input e = AnswersEvents input e
 AnswersInput Replay input e = AnswersLog input e
 AnswersInput (Gen load) input e = (e.status ≡ Done) × IsCountText load e.text
 
--- memory may be wanting for an input: of lines where the first bad one does not come before, of a log where the file itself has no fault
+-- memory may be wanting for an input: of lines where none is bad, of a log where the file itself has no fault
 abbrev pub MayLackInput : Form → List ℕ → Type 0
-MayLackInput Run input = MayLackScript input
-MayLackInput Raw input = MayLackScript input
-MayLackInput Latch input = MayLackEvents input
+MayLackInput Run input = first_fault (readings_by reading_of input) ≡ None
+MayLackInput Raw input = first_fault (readings_by reading_of input) ≡ None
+MayLackInput Latch input = event_fault input ≡ None
 MayLackInput Replay input = file_fault input ≡ None
 MayLackInput (Gen load) input = Unit {0}
 

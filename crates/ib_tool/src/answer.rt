@@ -1,13 +1,14 @@
 //! What the program answers to an input that was read.
 
-ghost use Rattle.std.specs.Prelude.{◌≡◌, ◌≢◌, ◌<◌, ◌≤◌, ◌^◌, IfOk, length, true};
+ghost use Rattle.std.specs.Prelude.{◌≡◌, ◌≢◌, ◌<◌, ◌≤◌, ◌^◌, IfOk, None, length, true};
 ghost use Rattle.ib_edge.specs.Faults.{Rose};
+ghost use Rattle.ib_edge.specs.Lines.{readings_by};
 ghost use Rattle.ib_edge.specs.Told.{IsOutOfMemory, IsOutOfMemoryWhere, Told};
 ghost use Rattle.ib_replay.specs.Files.{AreWords, file_of};
 ghost use Rattle.ib_runs.specs.Outcomes.{HasRan};
 ghost use Rattle.ib_script.specs.Loads.{is_load};
-ghost use Rattle.ib_script.specs.Script.{IsSmall};
-ghost use Rattle.ib_tool.specs.Answers.{AnswersInput, AnswersScript, MayLackInput, MayLackScript};
+ghost use Rattle.ib_script.specs.Script.{IsSmall, first_fault, reading_of};
+ghost use Rattle.ib_tool.specs.Answers.{AnswersInput, AnswersScript, MayLackInput};
 ghost use Rattle.ib_tool.specs.Texts.{IsCountText, IsRawText, IsWrittenRun};
 ghost use Rattle.ib_tool.specs.Words.{IsLawfulForm};
 
@@ -75,7 +76,7 @@ fn run<K: Sink, G: Gate + Sync, R: Threads + Wait + Sync>(
     }
 }
 
-// Answers a script that was read: runs it, or tells where it is refused and why.
+// Answers a script that was read: runs it, or tells where it is refused and why. Memory may be wanting only where no line is bad.
 fn answer_script<K: Sink, G: Gate + Sync, R: Threads + Wait + Sync>(
     rt: &R,
     alloc: Global,
@@ -85,7 +86,7 @@ fn answer_script<K: Sink, G: Gate + Sync, R: Threads + Wait + Sync>(
     gate: &G,
 ) -> Status
     requires { length input.now ≤ INPUT_BYTES }
-    ensures told { Told (AnswersScript shape input.now) (IsOutOfMemoryWhere (MayLackScript input.now)) (K.written sink.old) (K.written sink.new) result }
+    ensures told { Told (AnswersScript shape input.now) (IsOutOfMemoryWhere (first_fault (readings_by reading_of input.now) ≡ None)) (K.written sink.old) (K.written sink.new) result }
     ensures calm { result ≢ Status.WriteFault → K.faults sink.new ≡ K.faults sink.old }
     ensures write { result ≡ Status.WriteFault → Rose (K.faults sink.old) (K.faults sink.new) }
 {

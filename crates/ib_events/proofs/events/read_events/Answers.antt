@@ -1,8 +1,8 @@
-use Rattle.std.proofs.Common.{◌∙◌, ℕ, List, arith, rules, subst, sym}
+use Rattle.std.proofs.Common.{ℕ, List, arith, rules, subst, sym}
 use Rattle.std.specs.List.{AllByRecursion}
 use Rattle.ib_core.specs.declared.event.Event.{Event}
-use Rattle.ib_events.specs.Events.{AreEvents, IsEventInRange, event_fault_behind, event_reading_of, is_event}
-use Rattle.ib_edge.proofs.Reached.{reached-none, reached-more, reached-fault, reached-memory, reached-all, lines-cut, lines-end}
+use Rattle.ib_events.specs.Events.{AreEvents, IsEventInRange, event_fault_behind, event_reading_of}
+use Rattle.ib_edge.proofs.Reached.{reached-none, reached-more, reached-fault, reached-all, lines-cut, lines-end}
 use Rattle.ib_edge.specs.Lines.{lines_of, readings_by}
 use Rattle.ib_events.proofs.EventsInRange.{events-in-range}
 use Rattle.ib_events.proofs.events.read_events.Goals as goal
@@ -25,19 +25,12 @@ loop-rest-preserved c =
       few = c.in-Ok.ensures.few;
     }
 
-pub returns-in-Err-clause-bad : goal.returns-in-Err-clause-bad
-returns-in-Err-clause-bad c = λ line kind e.
+pub returns-in-Err-Bad-clause-bad : goal.returns-in-Err-Bad-clause-bad
+returns-in-Err-Bad-clause-bad c = λ line kind e.
     let at = c.first_line.result.0.now in
     let after = c.first_line.result.1.now in
-    reached-fault event_fault_behind AreEvents (event_reading_of at) (readings_by event_reading_of after) (is_event (event_reading_of at)) c.in-Err.fault line kind
-    (lines-cut event_reading_of c.loop-rest.rest.now at after c.first_line.ensures.line) c.loop-rest.invariant.reached c.in-Err.ensures.takes (sym c.at.ensures ∙ cc)
-
-pub returns-in-Err-clause-memory : goal.returns-in-Err-clause-memory
-returns-in-Err-clause-memory c = λ e.
-    let at = c.first_line.result.0.now in
-    let after = c.first_line.result.1.now in
-    reached-memory event_fault_behind AreEvents is_event (event_reading_of at) (readings_by event_reading_of after) c.in-Err.fault
-    (lines-cut event_reading_of c.loop-rest.rest.now at after c.first_line.ensures.line) c.loop-rest.invariant.reached c.in-Err.ensures.takes (sym c.at.ensures ∙ cc)
+    reached-fault event_fault_behind AreEvents (event_reading_of at) (readings_by event_reading_of after) c.in-Err-Bad.kind line kind
+    (lines-cut event_reading_of c.loop-rest.rest.now at after c.first_line.ensures.line) c.loop-rest.invariant.reached (rw c.in-Err-Bad.field-0-is at c.in-Err-Bad.ensures.takes) cc
 
 pub returns-clause-good : goal.returns-clause-good
 returns-clause-good c = (reached-all event_fault_behind AreEvents (lines-end event_reading_of c.loop-rest.rest.now (search rules)) c.loop-rest.invariant.reached).0

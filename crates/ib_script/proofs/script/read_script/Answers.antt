@@ -1,9 +1,9 @@
-use Rattle.std.proofs.Common.{◌∙◌, arith, rules, sym}
-use Rattle.ib_edge.proofs.Reached.{reached-none, reached-more, reached-fault, reached-memory, reached-all, lines-cut, lines-end}
+use Rattle.std.proofs.Common.{arith, rules}
+use Rattle.ib_edge.proofs.Reached.{reached-none, reached-more, reached-fault, reached-all, lines-cut, lines-end}
 use Rattle.ib_edge.specs.Lines.{readings_by}
 use Rattle.ib_script.proofs.Building.{script-built}
 use Rattle.ib_script.specs.Building.{IsBuilt}
-use Rattle.ib_script.specs.Script.{fault_behind, is_command}
+use Rattle.ib_script.specs.Script.{fault_behind}
 use Rattle.ib_script.proofs.script.read_script.Goals as goal
 
 pub loop-rest-init : goal.loop-rest-init
@@ -20,21 +20,13 @@ loop-rest-preserved g c =
       fewer = omega (arith, c.first_line.ensures.shorter, c.loop-rest.invariant.fewer);
     }
 
-pub returns-in-Err-clause-bad : goal.returns-in-Err-clause-bad
-returns-in-Err-clause-bad g c = λ line kind e.
+pub returns-in-Err-Bad-clause-bad : goal.returns-in-Err-Bad-clause-bad
+returns-in-Err-Bad-clause-bad g c = λ line kind e.
     let reading = g.R.LineReader.reading in
     let at = c.first_line.result.0.now in
     let after = c.first_line.result.1.now in
-    reached-fault fault_behind IsBuilt (reading at) (readings_by reading after) (is_command (reading at)) c.in-Err.fault line kind (lines-cut reading c.loop-rest.rest.now at after c.first_line.ensures.line)
-    c.loop-rest.invariant.reached c.in-Err.ensures (sym c.at.ensures ∙ cc)
-
-pub returns-in-Err-clause-memory : goal.returns-in-Err-clause-memory
-returns-in-Err-clause-memory g c = λ e.
-    let reading = g.R.LineReader.reading in
-    let at = c.first_line.result.0.now in
-    let after = c.first_line.result.1.now in
-    reached-memory fault_behind IsBuilt is_command (reading at) (readings_by reading after) c.in-Err.fault (lines-cut reading c.loop-rest.rest.now at after c.first_line.ensures.line)
-    c.loop-rest.invariant.reached c.in-Err.ensures (sym c.at.ensures ∙ cc)
+    reached-fault fault_behind IsBuilt (reading at) (readings_by reading after) c.in-Err-Bad.kind line kind (lines-cut reading c.loop-rest.rest.now at after c.first_line.ensures.line)
+    c.loop-rest.invariant.reached (rw c.in-Err-Bad.field-0-is at c.in-Err-Bad.ensures) cc
 
 pub returns-clause-good : goal.returns-clause-good
 returns-clause-good g c = (reached-all fault_behind IsBuilt (lines-end g.R.LineReader.reading c.loop-rest.rest.now (search rules)) c.loop-rest.invariant.reached).0

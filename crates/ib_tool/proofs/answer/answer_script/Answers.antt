@@ -1,11 +1,11 @@
-use Rattle.std.proofs.Common.{◌≡◌, ℕ, List, ap, inl, inr}
+use Rattle.std.proofs.Common.{◌≡◌, ℕ, List, ap}
 use Rattle.std.specs.Prelude.{Err, None}
 use Rattle.ib_edge.proofs.Telling.{owed_good, told_as, told_fault}
 use Rattle.ib_edge.specs.Lines.{readings_by}
 use Rattle.ib_edge.specs.Told.{Ending, IsOutOfMemory, IsOutOfMemoryWhere}
 use Rattle.ib_edge.specs.declared.status.Status.TheVariants.{Done}
 use Rattle.ib_script.specs.Script.{IsScript, ScriptValue, first_fault, reading_of}
-use Rattle.ib_tool.specs.Answers.{AnswersScript, IsScriptText, MayLackScript}
+use Rattle.ib_tool.specs.Answers.{AnswersScript, IsScriptText}
 use Rattle.ib_tool.specs.Texts.{IsWrittenRun}
 use Rattle.ib_tool.specs.declared.shape.Shape.{Shape}
 use Rattle.ib_tool.proofs.answer.answer_script.Goals as goal
@@ -18,10 +18,10 @@ owed_output shape input script e good is owed =
 pub returns-in-Ok-clause-told : goal.returns-in-Ok-clause-told
 returns-in-Ok-clause-told g c =
     let script = c.in-Ok.script in
-    told_as (λ e. (e.status ≡ Done) × IsWrittenRun c.args.shape script e.text) (AnswersScript c.args.shape c.args.input.now) IsOutOfMemory (IsOutOfMemoryWhere (MayLackScript c.args.input.now))
-    (λ e owed. owed_output c.args.shape c.args.input.now script e c.in-Ok.ensures.good c.in-Ok.ensures.script owed) (λ s calm. (calm, inr c.in-Ok.ensures.good)) _ _ _ c.run.ensures.told
+    told_as (λ e. (e.status ≡ Done) × IsWrittenRun c.args.shape script e.text) (AnswersScript c.args.shape c.args.input.now) IsOutOfMemory (IsOutOfMemoryWhere (first_fault (readings_by reading_of c.args.input.now) ≡ None))
+    (λ e owed. owed_output c.args.shape c.args.input.now script e c.in-Ok.ensures.good c.in-Ok.ensures.script owed) (λ s calm. (calm, c.in-Ok.ensures.good)) _ _ _ c.run.ensures.told
 
 pub returns-in-Err-clause-told : goal.returns-in-Err-clause-told
 returns-in-Err-clause-told g c =
-    told_fault (first_fault (readings_by reading_of c.args.input.now)) (IsScriptText c.args.shape c.args.input.now) (MayLackScript c.args.input.now) c.in-Err.fault
-    (λ line kind is. c.in-Err.ensures.bad line kind (ap Err is)) (λ is. inl (c.in-Err.ensures.memory (ap Err is))) _ _ _ c.refuse.ensures.told
+    told_fault (first_fault (readings_by reading_of c.args.input.now)) (IsScriptText c.args.shape c.args.input.now) (first_fault (readings_by reading_of c.args.input.now) ≡ None) c.in-Err.fault
+    (λ line kind is. c.in-Err.ensures.bad line kind (ap Err is)) (λ is. c.in-Err.ensures.memory (ap Err is)) _ _ _ c.refuse.ensures.told

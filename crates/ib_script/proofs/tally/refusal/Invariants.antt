@@ -1,0 +1,15 @@
+use Rattle.std.proofs.Common.{◌+◌, ◌≤◌, length}
+use Rattle.ib_edge.proofs.Reached.{Reached}
+use Rattle.ib_edge.specs.Lines.{readings_by}
+use Rattle.ib_script.specs.Script.{fault_behind}
+use Rattle.ib_script.specs.Tallies.{IsTallied}
+use Rattle.ib_script.proofs.tally.refusal.Given as goal
+
+abbrev pub invariant-loop-rest : goal.invariant-loop-rest
+invariant-loop-rest g l = record {
+  reached : Reached fault_behind IsTallied (readings_by g.R.LineReader.reading l.bytes) l.count l.tally (readings_by g.R.LineReader.reading l.rest);
+  fewer : l.count + length l.rest ≤ length l.bytes;
+}
+
+abbrev pub decreases-loop-rest : goal.decreases-loop-rest
+decreases-loop-rest g l = length l.rest
