@@ -75,7 +75,9 @@ ROWS = (
     (["raw"], TWO),
     (["gen", "300", "7", "3"], b""),
     (["run"], b"insert 1\n"),
+    (["run"], b"insert 1 10\ninsert 1\n"),
     (["latch"], b"1 x 0 4\n2 arm 0 s 4\n1 ux 0\n"),
+    (["latch"], b"1 x 0 4\n1 ux\n"),
 )
 
 
