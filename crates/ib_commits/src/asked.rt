@@ -9,7 +9,7 @@ use crate::commits::{Table, Work, load, load_owned, small, take_x, touch};
 use crate::locks::may_claim;
 use crate::memos::come;
 use ib_levels::{Latch, Level};
-use ib_map::Change;
+use ib_map::{Change, Key};
 use ib_mtr::Mtr;
 use ib_page::MOST_WORK_PAGES;
 use ib_rule::Pass;
@@ -17,7 +17,7 @@ use std::process::Abort;
 use std::sync::Wait;
 
 // Commits an insert where it may, and ends without a change where it may not.
-fn commit_where_it_may<R: Wait>(rt: &R, mtr: Work<'_>, key: u64, value: u64) -> Option<u32>
+fn commit_where_it_may<R: Wait>(rt: &R, mtr: Work<'_>, key: Key, value: u64) -> Option<u32>
     requires { IsMtr mtr.latches.now mtr.pass.now }
     ensures own { IsOf mtr.entry.latches.now mtr.exit.1.0.now }
     ensures idle { mtr.exit.1.0.now.view.session ≡ idle }
@@ -52,7 +52,11 @@ fn one_page<R: Abort + Wait>(
     load_owned(rt, &mut mtr, page);
     let unchanged = mtr.may_commit_any();
     touch(rt, &mut mtr, page);
-    (at_first, unchanged, commit_where_it_may(rt, mtr, 10, 100))
+    (
+        at_first,
+        unchanged,
+        commit_where_it_may(rt, mtr, Key::of_number(10), 100),
+    )
 }
 
 // S on a page, which is loaded, and of which a word is changed.
@@ -110,7 +114,7 @@ fn page_in_s<R: Abort + Wait>(rt: &R, table: &Table, pass: &mut Pass, page: u32)
 {
     let mut mtr = Mtr::start(table, pass);
     change_what_is_read(rt, &mut mtr, page);
-    commit_where_it_may(rt, mtr, 10, 100)
+    commit_where_it_may(rt, mtr, Key::of_number(10), 100)
 }
 
 // SX on the index.
@@ -143,7 +147,7 @@ fn two_pages<R: Abort + Wait>(rt: &R, table: &Table, pass: &mut Pass, index: boo
     take_x(rt, &mut mtr, 4);
     load_owned(rt, &mut mtr, 4);
     touch(rt, &mut mtr, 4);
-    commit_where_it_may(rt, mtr, 11, 1)
+    commit_where_it_may(rt, mtr, Key::of_number(11), 1)
 }
 
 #[test]

@@ -17,7 +17,7 @@ use ib_latch::Latches;
 use ib_layout::Geometry;
 use ib_levels::{Latch, Level};
 use ib_logrec::{AnyLaw, decode_at};
-use ib_map::{Change, PAGE_WORDS};
+use ib_map::{Change, Key, PAGE_WORDS};
 use ib_mtr::Mtr;
 use ib_page::{Image, MOST_WORK_PAGES};
 use ib_rule::{Closed, Pass};
@@ -87,7 +87,7 @@ pub(crate) fn load(mtr: &mut Work<'_>, page: u32)
 fn set_word(rt: &impl Abort, mtr: &mut Work<'_>, page: u32, index: usize, word: u64)
     requires mtr { IsMtr mtr.old.latches.now mtr.old.pass.now }
     requires page { page < 4096 }
-    requires index { index < 128 }
+    requires index { index < 160 }
     ensures mtr { IsMtr mtr.new.latches.now mtr.new.pass.now }
     ensures latches { mtr.new.latches ≡ mtr.old.latches }
     ensures pass { mtr.new.pass.ghost_name ≡ mtr.old.pass.ghost_name }
@@ -114,13 +114,13 @@ pub(crate) fn touch(rt: &impl Abort, mtr: &mut Work<'_>, page: u32)
 }
 
 // What it changed may be committed, as it answers itself.
-fn may_commit(rt: &impl Abort, mtr: &Work<'_>, key: u64, value: u64)
+fn may_commit(rt: &impl Abort, mtr: &Work<'_>, key: Key, value: u64)
     requires { IsMtr mtr.now.latches.now mtr.now.pass.now }
     ensures { MayCommit (AreInGrammar mtr.now.latches.now.sizes.pages) mtr.now.pass.now
         (Insert key value) }
 {
     assert!(rt; mtr.may_commit_any());
-    // The key fits a word.
+    // The clause alone speaks of them.
     let _ = (key, value);
 }
 
@@ -130,7 +130,7 @@ fn commit_touch<R: Abort + Wait>(
     table: &Table,
     pass: &mut Pass,
     page: u32,
-    key: u64,
+    key: Key,
     value: u64,
 ) -> Result<u32, LogFull>
     requires own { IsOf table.now pass.old }
@@ -187,15 +187,24 @@ fn close(rt: &impl Abort, alloc: Global, table: Table) -> Closed
 
 #[test]
 fn a_log_has_room_for_two_entries(rt: HostRuntime) {
-    let mut table = small(&rt, rt.alloc(), 8202);
+    let mut table = small(&rt, rt.alloc(), 8203);
     let mut one = come(&rt, rt.alloc(), &mut table);
-    assert_eq!(rt; commit_touch(&rt, &table, &mut one, 3, 10, 100), Ok(0));
-    assert_eq!(rt; commit_touch(&rt, &table, &mut one, 3, 11, 1), Ok(1));
+    assert_eq!(rt;
+        commit_touch(&rt, &table, &mut one, 3, Key::of_number(10), 100),
+        Ok(0)
+    );
+    assert_eq!(rt;
+        commit_touch(&rt, &table, &mut one, 3, Key::of_number(11), 1),
+        Ok(1)
+    );
     let full = LogFull {
-        used: 12,
-        cap: 8202,
+        used: 14,
+        cap: 8203,
     };
-    assert_eq!(rt; commit_touch(&rt, &table, &mut one, 3, 12, 1), Err(full));
+    assert_eq!(rt;
+        commit_touch(&rt, &table, &mut one, 3, Key::of_number(12), 1),
+        Err(full)
+    );
     assert_eq!(rt; (one.grants_held(), one.made(), one.place()), (0, 2, 2));
     assert_eq!(rt; word(&rt, &table, &mut one, Latch::LOG), LockWord::FREE);
     assert_eq!(rt; word(&rt, &table, &mut one, Latch(5)), LockWord::FREE);
@@ -228,14 +237,9 @@ fn commit_two_words<R: Abort + Wait>(
     assert!(rt; count < 1 << 62);
     set_word(rt, &mut mtr, page, 5, count + 1);
     set_word(rt, &mut mtr, page, 64 + number % 64, count + 1);
-    may_commit(rt, &mtr, round, count);
-    mtr.commit(
-        rt,
-        Change::Insert {
-            key: round,
-            value: count,
-        },
-    )
+    let key = Key::of_number(round);
+    may_commit(rt, &mtr, key, count);
+    mtr.commit(rt, Change::Insert { key, value: count })
 }
 
 // How often each thread commits, and the pages that they share.

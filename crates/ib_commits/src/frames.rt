@@ -12,7 +12,7 @@ use ib_frames::{LogFull, append, log_end, read_page};
 use ib_layout::Geometry;
 use ib_levels::{Latch, Level};
 use ib_logrec::AnyLaw;
-use ib_map::{Change, PAGE_WORDS};
+use ib_map::{Change, Key, PAGE_WORDS};
 use ib_page::{Image, WorkSet};
 use ib_rule::{Pass, Space};
 use ib_word::LockWord;
@@ -31,7 +31,7 @@ fn small(rt: &impl Abort, alloc: Global) -> Space<AnyLaw>
     ensures ended { result.ended ≡ [] }
     ensures drawn { result.drawn ≡ 0 }
 {
-    let sizes = Geometry::new(16, 8202).expect(rt, "there are such sizes");
+    let sizes = Geometry::new(16, 8203).expect(rt, "there are such sizes");
     Space::open(alloc, sizes).expect(rt, "there is memory")
 }
 
@@ -114,7 +114,7 @@ fn append_change(
     requires work { work.now
         ≡ record { page = 3; before = before.now; changed = changed.now } ∷ [] }
     requires some { 0 < length (writes_of work.now) }
-    requires few { length (writes_of work.now) ≤ 128 }
+    requires few { length (writes_of work.now) ≤ 160 }
     requires whole { spans_pages (writes_of work.now) ≡ false }
     ensures own { IsOf space.now pass.new }
     ensures scratch { pass.new.has_scratch ≡ pass.old.has_scratch }
@@ -124,7 +124,8 @@ fn append_change(
     log_end(space, pass);
     // A session's number fits an entry.
     let _ = pass.number();
-    append(space, pass, Change::Insert { key: 10, value: 7 }, work)
+    let key = Key::of_number(10);
+    append(space, pass, Change::Insert { key, value: 7 }, work)
 }
 
 fn commit(
@@ -142,8 +143,8 @@ fn commit(
     let work = work_on(rt, alloc, before, changed);
     let count = work.changed();
     assert!(rt; count > 0);
-    assert!(rt; count <= 128);
-    let structural = work.write_into(&mut [0; 256]).structural;
+    assert!(rt; count <= 160);
+    let structural = work.write_into(&mut [0; 320]).structural;
     assert!(rt; !structural);
     assert!(rt; PAGE < space.geometry().pages());
     assert!(rt; pass.phase() == Phase::Free);
@@ -186,8 +187,8 @@ fn a_page_is_changed_twice(rt: HostRuntime) {
     }
     assert!(rt; pass.phase() == Phase::Free);
     let end = log_end(&space, &mut pass);
-    assert_eq!(rt; (end.entries, end.words, pass.made()), (2, 12, 2));
-    let mut log = [0; 12];
+    assert_eq!(rt; (end.entries, end.words, pass.made()), (2, 14, 2));
+    let mut log = [0; 14];
     for (number, word) in log.iter_mut().enumerate() {
         *word = log_word(&rt, &space, &mut pass, number as u32);
     }

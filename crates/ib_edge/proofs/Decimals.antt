@@ -65,13 +65,13 @@ session_in-printed n some few = passed-printed (λ m. nat_le 1 m && nat_le m MOS
 
 -- a text without a separator is cut off at the one behind it
 module _ (p q : ℕ → Bool) (apart : (x : ℕ) → q x ≡ true → p x ≡ false) where
-  split-past : (text rest : List ℕ) (by : ℕ) → list_all q text ≡ true → p by ≡ true → slice_split p (text ++ by ∷ rest) ≡ text ∷ slice_split p rest
+  pub split-past : (text rest : List ℕ) (by : ℕ) → list_all q text ≡ true → p by ≡ true → slice_split p (text ++ by ∷ rest) ≡ text ∷ slice_split p rest
   split-past [] rest by all is = rw is refl
   split-past (x ∷ text) rest by all is =
       let parts = and_parts (q x) (list_all q text) all in
       rw (apart x parts.0) (ap (onto_first x) (split-past text rest by parts.1 is))
 
-  split-alone : (text : List ℕ) → list_all q text ≡ true → slice_split p text ≡ text ∷ []
+  pub split-alone : (text : List ℕ) → list_all q text ≡ true → slice_split p text ≡ text ∷ []
   split-alone [] all = refl
   split-alone (x ∷ text) all =
       let parts = and_parts (q x) (list_all q text) all in

@@ -70,6 +70,7 @@ fn print_kind<K: Sink>(writer: &mut Writer<'_, K>, kind: LineKind)
         LineKind::Word => writer.text(b"word"),
         LineKind::Fields => writer.text(b"fields"),
         LineKind::Number => writer.text(b"number"),
+        LineKind::Key => writer.text(b"key"),
         LineKind::Session => writer.text(b"session"),
         LineKind::Space => writer.text(b"space"),
         LineKind::Many => writer.text(b"many"),

@@ -14,6 +14,8 @@ pub enum LineKind {
     Fields,
     /// A field is no number.
     Number,
+    /// A field is no key.
+    Key,
     /// The session is not 1 to `MOST_SCRIPT_SESSIONS`.
     Session,
     /// A `space` line stands behind another line, or there is no space of its sizes.

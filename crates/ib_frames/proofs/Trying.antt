@@ -1,10 +1,11 @@
 -- One page that a session changes: what it asks of an append under the law of any entries.
-use Rattle.std.proofs.Common.{◌≡◌, ◌≢◌, ℕ, ◌+◌, ◌*◌, ◌^◌, ◌<◌, ◌≤◌, true, false, [], ◌∷◌, ◌++◌, length, refl, sym, ◌∙◌, subst, arith}
+use Rattle.std.proofs.Common.{◌≡◌, ◌≢◌, ℕ, ◌+◌, ◌*◌, ◌^◌, ◌<◌, ◌≤◌, true, false, [], ◌∷◌, length, refl, sym, ◌∙◌, subst, arith}
 use Rattle.std.specs.Prelude.{None}
 use Rattle.std.proofs.lemmas.Bool.{ne_eqb}
 use Rattle.std.proofs.lemmas.List.Elements.{All-cons, All-nil}
 use mathlib.Core.Logic.{dite}
 use native.Mathlib.Decide.{ℕ_discrete}
+use Rattle.ib_map.specs.Keys.{MapKey}
 use Rattle.ib_map.specs.declared.TheConstants.{PAGE_WORDS}
 use Rattle.ib_map.specs.declared.call.Change.TheVariants.{Insert}
 use Rattle.ib_map.specs.Writes.{PlacesRise, spans_pages, touches}
@@ -37,15 +38,14 @@ module _ (p : WorkPage) where
   rises : (pages : ℕ) → p.page < pages → PlacesRise 0 (writes_of (p ∷ [])) (pages * PAGE_WORDS)
   rises pages inside = writes_rise 0 pages (p ∷ []) (omega arith, tt) (All-cons (λ (q : WorkPage). q.page < pages) p [] inside (All-nil (λ (q : WorkPage). q.page < pages)))
 
-  module _ (pages : ℕ) (pass : PassState) (key value : ℕ) (inside : p.page < pages) (number : (1 ≤ pass.number) × (pass.number ≤ MOST_SESSIONS)) (made : length pass.view.memory.own + 1 < 2 ^ 32) (is_key : key < 2 ^ 64)
-      (some : 0 < length (writes_of (p ∷ []))) (few : length (writes_of (p ∷ [])) ≤ 128) where
+  module _ (pages : ℕ) (pass : PassState) (key : MapKey) (value : ℕ) (inside : p.page < pages) (number : (1 ≤ pass.number) × (pass.number ≤ MOST_SESSIONS)) (made : length pass.view.memory.own + 1 < 2 ^ 32)
+      (some : 0 < length (writes_of (p ∷ []))) (few : length (writes_of (p ∷ [])) ≤ 160) where
     pub entry_fits : IsInGrammar pages (entry_for pass (Insert key value) (p ∷ []))
     entry_fits = record {
       session = number.0;
       most_session = number.1;
       number = omega arith;
       most_number = omega arith;
-      key = is_key;
       writes = omega arith;
       most_writes = omega arith;
       places = rises pages inside;

@@ -16,7 +16,7 @@ use ib_page::WorkSet;
 use ib_rule::{ENTRY_WORDS, Pass, Space};
 use thiserror::Error;
 
-/// The log has no room for the longest entry.
+/// The log has fewer than `ENTRY_WORDS` words left.
 #[derive(Clone, Copy, Debug, PartialEq, Eq, Error)]
 #[error("{used} of {cap} log words are used")]
 pub struct LogFull {
@@ -35,7 +35,7 @@ pub struct LogFull {
 /// is the append. Nobody else stores meanwhile, since the session owns X on the log latch and on each
 /// page that it writes, and, where it writes more than one, SX on the index and not X (WL#6326).
 ///
-/// Refused exactly where the log has no room for the longest entry, `ENTRY_WORDS` words: then nothing
+/// Refused exactly where the log has fewer than `ENTRY_WORDS` words left: then nothing
 /// happened. Of the pass only its view changes, and the words that it lends for an entry.
 pub fn append<L: Law>(
     space: &Space<L>,

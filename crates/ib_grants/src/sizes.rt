@@ -22,15 +22,15 @@ fn sizes_are_tried_at_their_limits(rt: HostRuntime) {
 #[test]
 fn the_smallest_space_has_its_words(rt: HostRuntime) -> Result<(), Fail> {
     let smallest = Geometry::new(16, 8196)?;
-    assert_eq!(rt; smallest.words(), 10_336);
-    assert_eq!(rt; smallest.page_place(1, 2), 222);
-    assert_eq!(rt; smallest.log_place(0), 2140);
+    assert_eq!(rt; smallest.words(), 10_848);
+    assert_eq!(rt; smallest.page_place(1, 2), 254);
+    assert_eq!(rt; smallest.log_place(0), 2652);
     Ok(())
 }
 
 #[test]
 fn the_largest_space_has_its_words(rt: HostRuntime) {
     let largest = Geometry::largest();
-    assert_eq!(rt; largest.words(), 17_321_996);
-    assert_eq!(rt; largest.log_place(0), 544_780);
+    assert_eq!(rt; largest.words(), 17_453_068);
+    assert_eq!(rt; largest.log_place(0), 675_852);
 }

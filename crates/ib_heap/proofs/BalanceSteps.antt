@@ -2,6 +2,7 @@
 use Rattle.std.proofs.Common.{◌≡◌, ℕ, suc, ◌+◌, ◌-◌, ◌*◌, ◌/◌, ◌%◌, ◌<◌, ◌≤◌, ◌≢◌, ◌⊎◌, ◌∷◌, ◌∙◌, List, length, drop, get_or, ap, sym, arith, inl, inr, subst, true, None}
 use Rattle.std.proofs.lemmas.Bool.{cases_eq, cases_lt}
 use Rattle.std.proofs.lemmas.List.{get_or_past}
+use Rattle.ib_map.specs.Keys.{MapKey}
 use Rattle.ib_map.specs.Pairs.{without, value_at, place_of}
 use Rattle.ib_map.specs.declared.TheConstants.{PAGE_WORDS}
 use Rattle.ib_heap.specs.Page.{Page, PageValue}
@@ -29,7 +30,7 @@ use Rattle.ib_heap.proofs.SlotLaws.{count, owner-count, owner-skip, count-step, 
 use Rattle.ib_heap.proofs.ShapedDecides.{Shaped-Decides}
 use Rattle.ib_heap.proofs.UnlinkSteps.{lt, slot-is, apart, slot-range, used-unlink}
 
-module _ (ws w0 : List ℕ) (key slot before at : ℕ) (kn : Known ws) (st : IsPlaceOfKey ws key slot before at) (found : value_at key (records_of ws) ≢ None)
+module _ (ws w0 : List ℕ) (key : MapKey) (slot before at : ℕ) (kn : Known ws) (st : IsPlaceOfKey ws key slot before at) (found : value_at key (records_of ws) ≢ None)
     (shp : is_shaped w0 (unlink_in (place_of key (records_of ws)) (read_heap ws)) ≡ true)
     (pg : page_with w0 (records_in w0 (unlink_node (place_of key (records_of ws)) (nodes_of ws))) ≡ page_with ws (without key (records_of ws))) where
   abbrev k : ℕ
@@ -74,7 +75,7 @@ module _ (ws w0 : List ℕ) (key slot before at : ℕ) (kn : Known ws) (st : IsP
   slot-few : slot ≤ 9
   slot-few = slot-range ws key slot before at kn st found
 
-  pub size1 : length w0 ≡ 128
+  pub size1 : length w0 ≡ 160
   size1 = sh.size
 
   short-is : short ≡ owner_from (drop m0 ys)
@@ -85,10 +86,10 @@ module _ (ws w0 : List ℕ) (key slot before at : ℕ) (kn : Known ws) (st : IsP
   owner-cases : (t : ℕ) (o : ℕ) → o ≡ owner_from (drop t ys) → (o ≡ 19) ⊎ (0 < times o (places_of ys))
   owner-cases t o e = elim (owner-in (drop t ys)) [ inl z ↦ inl (e ∙ z) | inr m ↦ inr (subst (λ (q : ℕ). 0 < times q (places_of ys)) (sym e) (let d = times-drop t (owner_from (drop t ys)) ys in omega arith)) ]
 
-  range-of : (o : ℕ) → (o ≡ 19) ⊎ (0 < times o (places_of ys)) → (19 ≤ o) × (o ≤ 122)
+  range-of : (o : ℕ) → (o ≡ 19) ⊎ (0 < times o (places_of ys)) → (19 ≤ o) × (o ≤ 156)
   range-of o c = elim c [ inl e ↦ (omega arith, omega arith) | inr m ↦ (let w = low o m in let a = w.is in let b = w.below in (omega arith, omega arith)) ]
 
-  pub short-range : (19 ≤ short) × (short ≤ 122)
+  pub short-range : (19 ≤ short) × (short ≤ 156)
   short-range = range-of short (owner-cases m0 short short-is)
 
   places-ok : ArePlaces (used_places h1) (places_of ys)
@@ -171,7 +172,7 @@ module _ (ws w0 : List ℕ) (key slot before at : ℕ) (kn : Known ws) (st : IsP
     after-cases : (after ≡ 19) ⊎ (0 < times after (places_of ys))
     after-cases = owner-cases (suc t) after after-is
 
-    pub after-range : (19 ≤ after) × (after ≤ 122)
+    pub after-range : (19 ≤ after) × (after ≤ 156)
     after-range = range-of after after-cases
 
     short-in : 0 < times short (places_of ys)
@@ -218,7 +219,7 @@ module _ (ws w0 : List ℕ) (key slot before at : ℕ) (kn : Known ws) (st : IsP
       lent-in : 0 < times first (places_of ys)
       lent-in = subst (λ (q : ℕ). 0 < times q (places_of ys)) (sym first-is) next-in
 
-      pub first-range : (18 ≤ first) × (first ≤ 122)
+      pub first-range : (18 ≤ first) × (first ≤ 156)
       first-range = let l1 = low first lent-in in let a = l1.is in let b = l1.below in (omega arith, omega arith)
 
       after-next : after ≡ owner_from (drop (suc (suc t)) ys)
@@ -264,7 +265,7 @@ module _ (ws w0 : List ℕ) (key slot before at : ℕ) (kn : Known ws) (st : IsP
         size2 : length w1 ≡ PAGE_WORDS
         size2 = u.size ∙ sh.size
 
-        top1 : get_or w1 7 0 ≡ (1 + length (owners (balance ys yl))) * 256 + (20 + 3 * used_places h1)
+        top1 : get_or w1 7 0 ≡ (1 + length (owners (balance ys yl))) * 256 + (20 + 4 * used_places h1)
         top1 =
             let a = short-range.0 in let b = after-range.0 in let d = first-range.0 in let l1 = set1.long in let t0 = sh.top in
             let e = u.other 7 (λ z. absurd (omega arith)) (λ z. absurd (omega arith)) (λ z. absurd (omega arith)) (λ z. absurd (omega arith)) in omega arith
@@ -332,7 +333,7 @@ module _ (ws w0 : List ℕ) (key slot before at : ℕ) (kn : Known ws) (st : IsP
         size3 : length w1 ≡ PAGE_WORDS
         size3 = u.size ∙ sh.size
 
-        top3 : get_or w1 7 0 ≡ (1 + length (owners (balance ys yl))) * 256 + (20 + 3 * used_places h1)
+        top3 : get_or w1 7 0 ≡ (1 + length (owners (balance ys yl))) * 256 + (20 + 4 * used_places h1)
         top3 = let l1 = gone1.long in let t0 = sh.top in let e = u.top in omega arith
 
         heap3 : IsHeap w1 (remove_in k (read_heap ws))

@@ -32,9 +32,7 @@ empty-is level clock le = record {
   directory = (refl, (refl, (refl, (refl, (refl, (refl, (refl, (refl, (refl, (refl, refl))))))))));
   places = tt;
   once = tt;
-  zero_125 = refl;
-  zero_126 = refl;
-  zero_127 = refl;
+  keyed = refl;
 }
 
 pub empty-page : (level clock : ℕ) → level ≤ MOST_LEVEL → page_of (empty_words level clock) ≡ Tree (record { level = level; prev = 0; next = 0; clock = clock; records = [] })

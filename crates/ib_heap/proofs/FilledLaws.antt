@@ -44,15 +44,15 @@ is-filled (suc n) =
 pub filled-used : (n : ℕ) → used_places (filled n) ≡ n
 filled-used n = let h = is-filled n in let a = h.long in let b = ap length h.free in omega arith
 
-place-without : (ns : List Node) (last : ℕ) (free : List ℕ) → free ≡ [] → place_for (record { nodes = ns; last = last; free = free }) ≡ 20 + 3 * length ns
-place-without ns last [] none = let e : 20 + 3 * (length ns + 0) ≡ 20 + 3 * length ns = omega arith in e
+place-without : (ns : List Node) (last : ℕ) (free : List ℕ) → free ≡ [] → place_for (record { nodes = ns; last = last; free = free }) ≡ 20 + 4 * length ns
+place-without ns last [] none = let e : 20 + 4 * (length ns + 0) ≡ 20 + 4 * length ns = omega arith in e
 place-without ns last (p ∷ ps) none = cc
 
-pub filled-place : (n : ℕ) → place_for (filled n) ≡ 20 + 3 * n
-filled-place n = let h = is-filled n in place-without (filled n).nodes (filled n).last (filled n).free h.free ∙ ap (λ k. 20 + 3 * k) h.long
+pub filled-place : (n : ℕ) → place_for (filled n) ≡ 20 + 4 * n
+filled-place n = let h = is-filled n in place-without (filled n).nodes (filled n).last (filled n).free h.free ∙ ap (λ k. 20 + 4 * k) h.long
 
 -- what stands behind the records of a filled page is kept
-pub behind-kept : (ws : List ℕ) (n i : ℕ) → read_heap ws ≡ filled n → 20 + 3 * n ≤ i → IsKept (used_places (read_heap ws)) i
+pub behind-kept : (ws : List ℕ) (n i : ℕ) → read_heap ws ≡ filled n → 20 + 4 * n ≤ i → IsKept (used_places (read_heap ws)) i
 behind-kept ws n i is le =
     let u : used_places (read_heap ws) ≡ n = ap used_places is ∙ filled-used n in
     inr (inr (omega arith, inr (omega arith)))

@@ -1,35 +1,39 @@
 -- A record found by its place in the chain.
-use Rattle.std.proofs.Common.{◌≡◌, ℕ, suc, ◌+◌, ◌-◌, ◌<◌, ◌≤◌, ◌≢◌, ◌⊎◌, ◌∙◌, List, Option, length, take, drop, get_or, refl, ap, sym, arith, inl, inr, subst, Some, None, slice_get, IsSomeAnd}
+use Rattle.std.proofs.Common.{◌≡◌, ℕ, suc, ◌+◌, ◌-◌, ◌<◌, ◌≤◌, ◌≢◌, ◌⊎◌, ◌∙◌, List, Option, length, take, drop, get_or, refl, ap, sym, arith, inl, inr, subst, Some, None, slice_get, IsSomeAnd, true}
 use Rattle.std.proofs.lemmas.Option.{slice_get_past}
 use Rattle.ib_map.specs.Keys.{MapKey, rank, end_rank}
 use Rattle.ib_map.specs.Pairs.{value_at, place_of, place_after}
 use Rattle.ib_map.proofs.PlaceLaws.{place_of-le, value_at-found, value_at-past, value_at-differs}
 use Rattle.ib_heap.proofs.RouteLaws.{routed-found, routed-absent, place-positive}
-use Rattle.ib_heap.specs.Heap.{first_of, used_places, read_heap, last_from, nodes_of}
+use Rattle.ib_heap.specs.Heap.{key_at, is_key_at, first_of, used_places, read_heap, last_from, nodes_of}
 use Rattle.ib_heap.specs.Image.{records_of}
-use Rattle.ib_heap.proofs.SeekLaws.{Known, first-in, last-in, last-first, record-is}
+use Rattle.ib_heap.proofs.SeekLaws.{Known, first-in, last-in, last-first, keyed-at, record-is}
 
-module _ (ws : List ℕ) (key before at : ℕ) (kn : Known ws) (before_is : before ≡ last_from 18 (take (place_of key (records_of ws)) (nodes_of ws))) (at_is : at ≡ first_of (drop (place_of key (records_of ws)) (nodes_of ws))) where
+module _ (ws : List ℕ) (key : MapKey) (before at : ℕ) (kn : Known ws) (before_is : before ≡ last_from 18 (take (place_of key (records_of ws)) (nodes_of ws))) (at_is : at ≡ first_of (drop (place_of key (records_of ws)) (nodes_of ws))) where
   abbrev k : ℕ
   k = place_of key (records_of ws)
 
   k_le : k ≤ length (nodes_of ws)
   k_le = let a = place_of-le key (records_of ws) in let l = kn.long in omega arith
 
-  pub at-low : at ≤ 122
+  pub at-low : at ≤ 156
   at-low = elim (first-in (used_places (read_heap ws)) (nodes_of ws) k kn.few kn.places k_le) [ inl e ↦ (let a = e.0 in let b = at_is in omega arith) | inr e ↦ (let a = e.1.0 in let b = at_is in omega arith) ]
 
-  pub before-low : before ≤ 122
+  pub before-low : before ≤ 156
   before-low = elim (last-in (used_places (read_heap ws)) 18 (nodes_of ws) k kn.few kn.places k_le) [ inl e ↦ (let a = e.1 in let b = before_is in omega arith) | inr e ↦ (let a = e.1 in let b = before_is in omega arith) ]
 
   within : at ≢ 19 → k < length (nodes_of ws)
   within ne = elim (first-in (used_places (read_heap ws)) (nodes_of ws) k kn.few kn.places k_le) [ inl e ↦ absurd (ne (at_is ∙ e.0)) | inr e ↦ e.1.1 ]
 
+  -- the record at the place has a key
+  pub at-keyed : at ≢ 19 → is_key_at ws at ≡ true
+  at-keyed ne = keyed-at ws k at kn (within ne) at_is
+
   -- the record at the place
-  pub has-record : at ≢ 19 → slice_get (records_of ws) k ≡ Some (get_or ws (at + 1) 0, get_or ws (at + 2) 0)
+  pub has-record : at ≢ 19 → slice_get (records_of ws) k ≡ Some (key_at ws at, get_or ws (at + 3) 0)
   has-record ne = record-is ws k at kn (within ne) at_is
 
-  pub found : at ≢ 19 → rank (get_or ws (at + 1) 0) ≡ rank key → value_at key (records_of ws) ≡ Some (get_or ws (at + 2) 0)
+  pub found : at ≢ 19 → rank (key_at ws at) ≡ rank key → value_at key (records_of ws) ≡ Some (get_or ws (at + 3) 0)
   found ne same =
       let some = subst (λ (o : Option (MapKey × ℕ)). IsSomeAnd o (λ r. rank r.0 ≡ rank key)) (sym (has-record ne)) same in
       let got = value_at-found key 0 (records_of ws) end_rank k kn.rises refl some in
@@ -41,11 +45,11 @@ module _ (ws : List ℕ) (key before at : ℕ) (kn : Known ws) (before_is : befo
     | inr f ↦ absurd (let a = f.0 in let b = at_is in omega arith)
   ]
 
-  pub absent-other : at ≢ 19 → rank (get_or ws (at + 1) 0) ≢ rank key → value_at key (records_of ws) ≡ None
+  pub absent-other : at ≢ 19 → rank (key_at ws at) ≢ rank key → value_at key (records_of ws) ≡ None
   absent-other ne differs = value_at-differs key 0 (records_of ws) end_rank k _ kn.rises refl (has-record ne) differs
 
   -- the key is not at its place
-  pub absent-at : (at ≡ 19) ⊎ ((at ≢ 19) × (rank (get_or ws (at + 1) 0) ≢ rank key)) → value_at key (records_of ws) ≡ None
+  pub absent-at : (at ≡ 19) ⊎ ((at ≢ 19) × (rank (key_at ws at) ≢ rank key)) → value_at key (records_of ws) ≡ None
   absent-at no_key = elim no_key [ inl e ↦ absent-end e | inr e ↦ absent-other e.0 e.1 ]
 
   pub within-records : at ≢ 19 → k < length (records_of ws)
@@ -55,14 +59,14 @@ module _ (ws : List ℕ) (key before at : ℕ) (kn : Known ws) (before_is : befo
   up_to-records = place_of-le key (records_of ws)
 
   -- the last record that is not above the key
-  pub routed-at : at ≢ 19 → get_or ws (at + 1) 0 ≡ key → slice_get (records_of ws) (place_after key (records_of ws) - 1) ≡ Some (get_or ws (at + 1) 0, get_or ws (at + 2) 0)
+  pub routed-at : at ≢ 19 → key_at ws at ≡ key → slice_get (records_of ws) (place_after key (records_of ws) - 1) ≡ Some (key_at ws at, get_or ws (at + 3) 0)
   routed-at ne same =
       let some = subst (λ (o : Option (MapKey × ℕ)). IsSomeAnd o (λ r. r.0 ≡ key)) (sym (has-record ne)) same in
       let r = routed-found key (records_of ws) k kn.rises refl some in
       let p = r.place in
       ap (λ n. slice_get (records_of ws) n) (let e : place_after key (records_of ws) - 1 ≡ k = omega arith in e) ∙ has-record ne
 
-  pub routed-before : value_at key (records_of ws) ≡ None → IsSomeAnd (slice_get (records_of ws) 0) (λ r. rank r.0 ≤ rank key) → slice_get (records_of ws) (place_after key (records_of ws) - 1) ≡ Some (get_or ws (before + 1) 0, get_or ws (before + 2) 0)
+  pub routed-before : value_at key (records_of ws) ≡ None → IsSomeAnd (slice_get (records_of ws) 0) (λ r. rank r.0 ≤ rank key) → slice_get (records_of ws) (place_after key (records_of ws) - 1) ≡ Some (key_at ws before, get_or ws (before + 3) 0)
   routed-before none first =
       let pos = place-positive key (records_of ws) k kn.rises refl none first in
       let r = routed-absent key (records_of ws) k kn.rises refl none first in
@@ -72,7 +76,7 @@ module _ (ws : List ℕ) (key before at : ℕ) (kn : Known ws) (before_is : befo
       let here : before ≡ first_of (drop (k - 1) (nodes_of ws)) = before_is ∙ (ap (λ n. last_from 18 (take n (nodes_of ws))) e ∙ last-first 18 (nodes_of ws) (k - 1) (omega arith)) in
       ap (λ n. slice_get (records_of ws) n) (let f : place_after key (records_of ws) - 1 ≡ k - 1 = omega arith in f) ∙ record-is ws (k - 1) before kn (omega arith) here
 
-  pub routed-not_above : value_at key (records_of ws) ≡ None → IsSomeAnd (slice_get (records_of ws) 0) (λ r. rank r.0 ≤ rank key) → rank (get_or ws (before + 1) 0) ≤ rank key
+  pub routed-not_above : value_at key (records_of ws) ≡ None → IsSomeAnd (slice_get (records_of ws) 0) (λ r. rank r.0 ≤ rank key) → rank (key_at ws before) ≤ rank key
   routed-not_above none first =
       let pos = place-positive key (records_of ws) k kn.rises refl none first in
       let r = routed-absent key (records_of ws) k kn.rises refl none first in

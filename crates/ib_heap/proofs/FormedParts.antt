@@ -43,16 +43,16 @@ module _ (ws : List ℕ) (k : IsHeap ws (read_heap ws)) where
   pub head-of : HasHead ws
   head-of =
       let t = k.top in let c = k.count in let f = k.few in let s = k.start in let l = low in let w = last-word ws h.nodes h.last k.chained in
-      (k.kind, (omega arith, (omega arith, (omega arith, (omega arith, (omega arith, (omega arith, (omega arith, (k.directory.0, (k.zero_125, (k.zero_126, k.zero_127)))))))))))
+      (k.kind, (omega arith, (omega arith, (omega arith, (omega arith, (omega arith, (omega arith, (omega arith, k.directory.0))))))))
 
-  used-is : used_places h ≡ (get_or ws 7 0 % 256 - 20) / 3
+  used-is : used_places h ≡ (get_or ws 7 0 % 256 - 20) / 4
   used-is = let t = k.top in let f = k.few in omega arith
 
   pub end-of : end_from ws (get_or ws 2 0) (get_or ws 18 0 % 256) ≡ 19
   end-of = chained-end ws (get_or ws 2 0) (get_or ws 18 0 % 256) h.last k.chained (let s = k.start in let l = low in omega arith)
 
-  pub list-of : free_end ws ((get_or ws 7 0 % 256 - 20) / 3 - get_or ws 2 0) (get_or ws 6 0) ≡ 0
-  list-of = freed-end ws ((get_or ws 7 0 % 256 - 20) / 3 - get_or ws 2 0) (get_or ws 6 0) k.freed k.front
+  pub list-of : free_end ws ((get_or ws 7 0 % 256 - 20) / 4 - get_or ws 2 0) (get_or ws 6 0) ≡ 0
+  list-of = freed-end ws ((get_or ws 7 0 % 256 - 20) / 4 - get_or ws 2 0) (get_or ws 6 0) k.freed k.front
 
   pub owned-of : is_owned 0 h.nodes h.last ≡ true
   owned-of = (Owned-Decides 0 h.nodes h.last).1 k.owned
@@ -75,33 +75,33 @@ module _ (ws : List ℕ) (k : IsHeap ws (read_heap ws)) where
   rises-of = (rises-Decides 0 (records_in ws h.nodes) end_rank).1 k.fits.ascends
 
   holds-of : chain_holds ws (get_or ws 2 0) (first_step ws) ≡ true
-  holds-of = and_from _ _ (eq-eqb _ _ end-of) (and_from _ _ owned-of (and_from _ _ directory-of rises-of))
+  holds-of = and_from _ _ (eq-eqb _ _ end-of) (and_from _ _ owned-of (and_from _ _ directory-of (and_from _ _ k.keyed rises-of)))
 
-  new-of : (met : List ℕ) → IsUnmet met → are_new ((get_or ws 7 0 % 256 - 20) / 3) met (places_of h.nodes ++ h.free) ≡ true
+  new-of : (met : List ℕ) → IsUnmet met → are_new ((get_or ws 7 0 % 256 - 20) / 4) met (places_of h.nodes ++ h.free) ≡ true
   new-of met unmet =
       let few : used_places h ≤ 35 = k.few in
       subst (λ (n : ℕ). are_new n met (places_of h.nodes ++ h.free) ≡ true) used-is
       (few-new (used_places h) met (places_of h.nodes ++ h.free) few unmet.size k.places
       (λ r lt. let z = unmet.none r (omega arith) in let o = once-few (used_places h) (places_of h.nodes ++ h.free) k.once r lt in omega arith))
 
-  new-parts : (met : List ℕ) → IsUnmet met → (are_new ((get_or ws 7 0 % 256 - 20) / 3) met (places_of h.nodes) ≡ true) × (are_new ((get_or ws 7 0 % 256 - 20) / 3) (met_with met (places_of h.nodes)) h.free ≡ true)
-  new-parts met unmet = and_parts (are_new ((get_or ws 7 0 % 256 - 20) / 3) met (places_of h.nodes)) (are_new ((get_or ws 7 0 % 256 - 20) / 3) (met_with met (places_of h.nodes)) h.free)
-      (sym (new-append ((get_or ws 7 0 % 256 - 20) / 3) met (places_of h.nodes) h.free) ∙ new-of met unmet)
+  new-parts : (met : List ℕ) → IsUnmet met → (are_new ((get_or ws 7 0 % 256 - 20) / 4) met (places_of h.nodes) ≡ true) × (are_new ((get_or ws 7 0 % 256 - 20) / 4) (met_with met (places_of h.nodes)) h.free ≡ true)
+  new-parts met unmet = and_parts (are_new ((get_or ws 7 0 % 256 - 20) / 4) met (places_of h.nodes)) (are_new ((get_or ws 7 0 % 256 - 20) / 4) (met_with met (places_of h.nodes)) h.free)
+      (sym (new-append ((get_or ws 7 0 % 256 - 20) / 4) met (places_of h.nodes) h.free) ∙ new-of met unmet)
 
-  pub chain-of : (met : List ℕ) → IsUnmet met → (are_new ((get_or ws 7 0 % 256 - 20) / 3) met (places_of h.nodes) && chain_holds ws (get_or ws 2 0) (first_step ws)) ≡ true
+  pub chain-of : (met : List ℕ) → IsUnmet met → (are_new ((get_or ws 7 0 % 256 - 20) / 4) met (places_of h.nodes) && chain_holds ws (get_or ws 2 0) (first_step ws)) ≡ true
   chain-of met unmet = and_from _ _ (new-parts met unmet).0 holds-of
 
-  pub free-of : (met : List ℕ) → IsUnmet met → (are_new ((get_or ws 7 0 % 256 - 20) / 3) (met_with met (places_of h.nodes)) h.free && eqb (free_end ws ((get_or ws 7 0 % 256 - 20) / 3 - get_or ws 2 0) (get_or ws 6 0)) 0) ≡ true
+  pub free-of : (met : List ℕ) → IsUnmet met → (are_new ((get_or ws 7 0 % 256 - 20) / 4) (met_with met (places_of h.nodes)) h.free && eqb (free_end ws ((get_or ws 7 0 % 256 - 20) / 4 - get_or ws 2 0) (get_or ws 6 0)) 0) ≡ true
   free-of met unmet = and_from _ _ (new-parts met unmet).1 (eq-eqb _ _ list-of)
 
 abbrev top_n : List ℕ → ℕ
-top_n ws = (get_or ws 7 0 % 256 - 20) / 3
+top_n ws = (get_or ws 7 0 % 256 - 20) / 4
 
 -- the numbers of places and records, by the head
 pub record TopFits (ws : List ℕ) : Type 0 where
   pub low : 20 ≤ get_or ws 7 0 % 256
-  pub few : (get_or ws 7 0 % 256 - 20) / 3 ≤ 35
-  pub count : get_or ws 2 0 ≤ (get_or ws 7 0 % 256 - 20) / 3
+  pub few : (get_or ws 7 0 % 256 - 20) / 4 ≤ 35
+  pub count : get_or ws 2 0 ≤ (get_or ws 7 0 % 256 - 20) / 4
   pub records : get_or ws 2 0 ≤ 35
 
 pub top-fits : (ws : List ℕ) → HasHead ws → TopFits ws
@@ -109,14 +109,14 @@ top-fits ws h =
     let a = h.1.0 in let b = h.1.1.0 in let d = h.1.1.1.1.0 in
     record { low = b; few = omega arith; count = h.1.1.1.1.1.0; records = a }
 
-pub formed-from : (ws met : List ℕ) → IsUnmet met → length ws ≡ 128 → HasHead ws → HasLimits (get_or ws 1 0) (get_or ws 3 0) (get_or ws 4 0) → HasSlots ws → (are_new (top_n ws) met (places_of (read_heap ws).nodes) && chain_holds ws (get_or ws 2 0) (first_step ws)) ≡ true
+pub formed-from : (ws met : List ℕ) → IsUnmet met → length ws ≡ 160 → HasHead ws → HasLimits (get_or ws 1 0) (get_or ws 3 0) (get_or ws 4 0) → HasSlots ws → (are_new (top_n ws) met (places_of (read_heap ws).nodes) && chain_holds ws (get_or ws 2 0) (first_step ws)) ≡ true
     → (are_new (top_n ws) (met_with met (places_of (read_heap ws).nodes)) (read_heap ws).free && eqb (free_end ws (top_n ws - get_or ws 2 0) (get_or ws 6 0)) 0) ≡ true → IsHeap ws (read_heap ws)
 formed-from ws met unmet size hd lm sl chain rest =
     let g : Heap = read_heap ws in
     let a0 = and_parts _ _ chain in let b0 = and_parts _ _ rest in
     let new : are_new (top_n ws) met (places_of g.nodes ++ g.free) ≡ true = new-append (top_n ws) met (places_of g.nodes) g.free ∙ and_from _ _ a0.0 b0.0 in
     let fe = eqb-true _ _ b0.1 in
-    let c0 = and_parts _ _ a0.1 in let c1 = and_parts _ _ c0.1 in let c2 = and_parts _ _ c1.1 in
+    let c0 = and_parts _ _ a0.1 in let c1 = and_parts _ _ c0.1 in let c2 = and_parts _ _ c1.1 in let c3 = and_parts _ _ c2.1 in
     let en = eqb-true _ _ c0.0 in
     let hd2 = hd.1.0 in let hd3 = hd.1.1.0 in let hd4 = hd.1.1.1.0 in let hd5 = hd.1.1.1.1.0 in let hd6 = hd.1.1.1.1.1.0 in let hd7 = hd.1.1.1.1.1.1.0 in let hd8 = hd.1.1.1.1.1.1.1.0 in let hd9 = hd.1.1.1.1.1.1.1.1 in
     let ln = length-chain ws (get_or ws 2 0) (get_or ws 18 0 % 256) in
@@ -131,7 +131,7 @@ formed-from ws met unmet size hd lm sl chain rest =
     let pln : ArePlaces (top_n ws) (places_of g.nodes) = ArePlaces-left _ _ _ pl in
     let ch = chained-from ws (get_or ws 2 0) (get_or ws 18 0 % 256) g.last en (omega arith) in
     let fr = freed-from ws (top_n ws - get_or ws 2 0) (get_or ws 6 0) fe in
-    let dir : Directory ws 10 8 (18 ∷ owners g.nodes) = (hd9.0, (Directory-Decides ws 9 9 (owners g.nodes)).0 c2.0) in
+    let dir : Directory ws 10 8 (18 ∷ owners g.nodes) = (hd9, (Directory-Decides ws 9 9 (owners g.nodes)).0 c2.0) in
     let s0 = sl.0 in let s1 = sl.1.0 in
     let some = owners-some g.nodes in
     let at : get_or (18 ∷ owners g.nodes) (suc (get_or ws 7 0 / 256 - 2)) 0 ≡ 19 = sym (directory-at ws 10 8 (18 ∷ owners g.nodes) (suc (get_or ws 7 0 / 256 - 2)) dir (omega arith)) ∙ (ap (λ i. get_or ws i 0) (let e : 8 + suc (get_or ws 7 0 / 256 - 2) ≡ 7 + get_or ws 7 0 / 256 = omega arith in e) ∙ sl.1.1) in
@@ -142,7 +142,7 @@ formed-from ws met unmet size hd lm sl chain rest =
       size = size;
       kind = hd.0;
       count = sym ln;
-      fits = record { level = lm.0; prev = lm.1; next = lm.2; no_prev = λ p. elim lm.3 [ inl z ↦ absurd (omega arith) | inr z ↦ z.0 ]; no_next = λ p. elim lm.3 [ inl z ↦ absurd (omega arith) | inr z ↦ z.1 ]; few = omega arith; ascends = (rises-Decides 0 (records_in ws g.nodes) end_rank).0 c2.1 };
+      fits = record { level = lm.0; prev = lm.1; next = lm.2; no_prev = λ p. elim lm.3 [ inl z ↦ absurd (omega arith) | inr z ↦ z.0 ]; no_next = λ p. elim lm.3 [ inl z ↦ absurd (omega arith) | inr z ↦ z.1 ]; few = omega arith; ascends = (rises-Decides 0 (records_in ws g.nodes) end_rank).0 c3.1 };
       front = fr.1;
       top = omega arith;
       few = omega arith;
@@ -153,7 +153,5 @@ formed-from ws met unmet size hd lm sl chain rest =
       directory = dir;
       places = subst (λ (n : ℕ). ArePlaces n (places_of g.nodes ++ g.free)) us pl;
       once = subst (λ (n : ℕ). EachOnce n (places_of g.nodes ++ g.free)) us once;
-      zero_125 = hd9.1.0;
-      zero_126 = hd9.1.1.0;
-      zero_127 = hd9.1.1.1;
+      keyed = c3.0;
     }

@@ -8,12 +8,12 @@ use Rattle.ib_heap.specs.Words.{zeros, free_page_words}
 use Rattle.ib_heap.specs.Page.{Page, PageValue, IsPage, HoldsTree, HoldsPage, page_in}
 use Rattle.ib_heap.specs.Image.{level_of, prev_of, next_of, with_links, with_level, value_with_clock}
 use Rattle.ib_heap.proofs.FormLaws.{HasFree, kinds_of, tree, free, neither, page_of-free_page_words}
-use Rattle.ib_heap.specs.Heap.{owners, Heap, records_in, page_with, read_heap, nodes_of}
+use Rattle.ib_heap.specs.Heap.{owners, Heap, records_in, page_with, read_heap, nodes_of, times, places_of}
 use Rattle.ib_heap.specs.Form.{page_of}
 use Rattle.ib_heap.specs.Page.PageValue.{Tree}
 use Rattle.ib_heap.proofs.HeapLaws.{IsHeap, HasHeap, heap_in, heap-read, page-from}
 use Rattle.ib_heap.proofs.PutLaws.{chain-same}
-use Rattle.ib_heap.proofs.ShapeLaws.{Places, places-known, freed-same, directory-same, records-same, page_of_parts, page-parts}
+use Rattle.ib_heap.proofs.ShapeLaws.{Places, places-known, freed-same, directory-same, records-same, page_of_parts, page-parts, SameRecord, keys-same}
 
 -- one of the words of level, links and clock
 abbrev pub IsHeadWord : ℕ → Type 0
@@ -36,8 +36,11 @@ module _ (ws vs : List ℕ) (h : Heap) (is : IsHeap ws h) (size : length vs ≡ 
   known : Places h
   known = places-known h is.places is.once
 
+  same-records : (q : ℕ) → 0 < times q (places_of h.nodes) → SameRecord ws vs q
+  same-records q m = let l = known.apart.above q m in record { first = far (q + 1) (inl (omega arith)); second = far (q + 2) (inl (omega arith)); value = far (q + 3) (inl (omega arith)) }
+
   records : records_in vs h.nodes ≡ records_in ws h.nodes
-  records = records-same ws vs h.nodes (λ q m. (let l = known.apart.above q m in (far (q + 1) (inl (omega arith)), far (q + 2) (inl (omega arith)))))
+  records = records-same ws vs h.nodes same-records
 
   pub head-heap : IsPage (page_with vs (records_in ws h.nodes)) → IsHeap vs h
   head-heap fits = record {
@@ -55,9 +58,7 @@ module _ (ws vs : List ℕ) (h : Heap) (is : IsHeap ws h) (size : length vs ≡ 
     directory = directory-same ws vs 10 8 (18 ∷ owners h.nodes) is.directory (λ j a b. far j (inl (omega arith)));
     places = is.places;
     once = is.once;
-    zero_125 = far 125 (inl (omega arith)) ∙ is.zero_125;
-    zero_126 = far 126 (inl (omega arith)) ∙ is.zero_126;
-    zero_127 = far 127 (inl (omega arith)) ∙ is.zero_127;
+    keyed = keys-same ws vs h.nodes same-records ∙ is.keyed;
   }
 
   pub head-page : IsPage (page_with vs (records_in ws h.nodes)) → page_of vs ≡ Tree (page_with vs (records_in ws h.nodes))

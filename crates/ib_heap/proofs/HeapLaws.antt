@@ -7,7 +7,7 @@ use Rattle.std.proofs.lemmas.Bool.Decides.{Decides-and, Decides-like, Decides-eq
 use Rattle.ib_map.specs.declared.TheConstants.{PAGE_WORDS}
 use Rattle.ib_heap.specs.Words.{free_page_words}
 use Rattle.ib_heap.specs.Page.{IsPage, HoldsTree}
-use Rattle.ib_heap.specs.Heap.{Node, Heap, first_of, first_free, is_chained, is_freed, is_owned, owners, is_directory, times, is_place, are_places, each_once, places_of, records_in, used_places, page_with, is_heap, chain_from, free_from, read_heap}
+use Rattle.ib_heap.specs.Heap.{Node, Heap, first_of, first_free, is_chained, is_freed, is_owned, owners, is_directory, times, is_place, are_places, each_once, places_of, records_in, used_places, page_with, is_heap, chain_from, free_from, read_heap, are_keys}
 use Rattle.ib_heap.specs.Form.{page_of}
 use Rattle.ib_heap.specs.Page.PageValue.{Tree}
 use Rattle.ib_heap.proofs.PageLaws.{Decides-leb, Decides-ltb, counts_page-Decides}
@@ -63,17 +63,17 @@ Directory-Decides ws (suc n) i (s ∷ slots) = Decides-and _ _ (Decides-eqb _ _)
 -- what holds of a record place
 pub record IsPlace (n p : ℕ) : Type 0 where
   pub number : ℕ
-  pub is : p ≡ 20 + 3 * number
+  pub is : p ≡ 20 + 4 * number
   pub below : number < n
 
-place-from : (n p : ℕ) → (20 ≤ p) × (((p - 20) % 3 ≡ 0) × (p < 20 + 3 * n)) → IsPlace n p
-place-from n p h = let a = h.0 in let b = h.1.0 in let d = h.1.1 in record { number = (p - 20) / 3; is = omega arith; below = omega arith }
+place-from : (n p : ℕ) → (20 ≤ p) × (((p - 20) % 4 ≡ 0) × (p < 20 + 4 * n)) → IsPlace n p
+place-from n p h = let a = h.0 in let b = h.1.0 in let d = h.1.1 in record { number = (p - 20) / 4; is = omega arith; below = omega arith }
 
-place-to : (n p : ℕ) → IsPlace n p → (20 ≤ p) × (((p - 20) % 3 ≡ 0) × (p < 20 + 3 * n))
+place-to : (n p : ℕ) → IsPlace n p → (20 ≤ p) × (((p - 20) % 4 ≡ 0) × (p < 20 + 4 * n))
 place-to n p h = let a = h.is in let b = h.below in (omega arith, (omega arith, omega arith))
 
 pub IsPlace-Decides : (n p : ℕ) → Decides (is_place n p) (IsPlace n p)
-IsPlace-Decides n p = Decides-like (is_place n p) (place-from n p) (place-to n p) (Decides-and _ _ (Decides-leb 20 p) (Decides-and _ _ (Decides-eqb ((p - 20) % 3) 0) (Decides-ltb p (20 + 3 * n))))
+IsPlace-Decides n p = Decides-like (is_place n p) (place-from n p) (place-to n p) (Decides-and _ _ (Decides-leb 20 p) (Decides-and _ _ (Decides-eqb ((p - 20) % 4) 0) (Decides-ltb p (20 + 4 * n))))
 
 abbrev pub ArePlaces : ℕ → List ℕ → Type 0
 ArePlaces n [] = Unit {0}
@@ -85,7 +85,7 @@ ArePlaces-Decides n (p ∷ ps) = Decides-and _ _ (IsPlace-Decides n p) (ArePlace
 
 abbrev pub EachOnce : ℕ → List ℕ → Type 0
 EachOnce zero ps = Unit {0}
-EachOnce (suc n) ps = (times (20 + 3 * n) ps ≡ 1) × EachOnce n ps
+EachOnce (suc n) ps = (times (20 + 4 * n) ps ≡ 1) × EachOnce n ps
 
 pub EachOnce-Decides : (n : ℕ) (ps : List ℕ) → Decides (each_once n ps) (EachOnce n ps)
 EachOnce-Decides zero ps = (λ h. tt, λ h. refl)
@@ -98,7 +98,7 @@ pub record IsHeap (ws : List ℕ) (h : Heap) : Type 0 where
   pub count : get_or ws 2 0 ≡ length h.nodes
   pub fits : IsPage (page_with ws (records_in ws h.nodes))
   pub front : get_or ws 6 0 ≡ first_free h.free
-  pub top : get_or ws 7 0 ≡ (1 + length (owners h.nodes)) * 256 + (20 + 3 * used_places h)
+  pub top : get_or ws 7 0 ≡ (1 + length (owners h.nodes)) * 256 + (20 + 4 * used_places h)
   pub few : used_places h ≤ 35
   pub start : get_or ws 18 0 ≡ 256 + first_of h.nodes
   pub chained : Chained ws h.nodes h.last
@@ -107,9 +107,7 @@ pub record IsHeap (ws : List ℕ) (h : Heap) : Type 0 where
   pub directory : Directory ws 10 8 (18 ∷ owners h.nodes)
   pub places : ArePlaces (used_places h) (places_of h.nodes ++ h.free)
   pub once : EachOnce (used_places h) (places_of h.nodes ++ h.free)
-  pub zero_125 : get_or ws 125 0 ≡ 0
-  pub zero_126 : get_or ws 126 0 ≡ 0
-  pub zero_127 : get_or ws 127 0 ≡ 0
+  pub keyed : are_keys ws h.nodes ≡ true
 
 pub IsHeap-Decides : (ws : List ℕ) (h : Heap) → Decides (is_heap ws h) (IsHeap ws h)
 IsHeap-Decides ws h = Decides-like (is_heap ws h)
@@ -128,16 +126,14 @@ IsHeap-Decides ws h = Decides-like (is_heap ws h)
       directory = k.1.1.1.1.1.1.1.1.1.1.1.0;
       places = k.1.1.1.1.1.1.1.1.1.1.1.1.0;
       once = k.1.1.1.1.1.1.1.1.1.1.1.1.1.0;
-      zero_125 = k.1.1.1.1.1.1.1.1.1.1.1.1.1.1.0;
-      zero_126 = k.1.1.1.1.1.1.1.1.1.1.1.1.1.1.1.0;
-      zero_127 = k.1.1.1.1.1.1.1.1.1.1.1.1.1.1.1.1;
+      keyed = k.1.1.1.1.1.1.1.1.1.1.1.1.1.1;
     })
-    (λ k. (k.size, (k.kind, (k.count, (k.fits, (k.front, (k.top, (k.few, (k.start, (k.chained, (k.freed, (k.owned, (k.directory, (k.places, (k.once, (k.zero_125, (k.zero_126, k.zero_127)))))))))))))))))
+    (λ k. (k.size, (k.kind, (k.count, (k.fits, (k.front, (k.top, (k.few, (k.start, (k.chained, (k.freed, (k.owned, (k.directory, (k.places, (k.once, k.keyed)))))))))))))))
     (Decides-and _ _ (Decides-eqb _ _) (Decides-and _ _ (Decides-eqb _ _) (Decides-and _ _ (Decides-eqb _ _) (Decides-and _ _ (counts_page-Decides _)
     (Decides-and _ _ (Decides-eqb _ _) (Decides-and _ _ (Decides-eqb _ _) (Decides-and _ _ (Decides-leb _ _) (Decides-and _ _ (Decides-eqb _ _)
     (Decides-and _ _ (Chained-Decides ws h.nodes h.last) (Decides-and _ _ (Freed-Decides ws h.free) (Decides-and _ _ (Owned-Decides 0 h.nodes h.last)
     (Decides-and _ _ (Directory-Decides ws 10 8 (18 ∷ owners h.nodes)) (Decides-and _ _ (ArePlaces-Decides _ _) (Decides-and _ _ (EachOnce-Decides _ _)
-    (Decides-and _ _ (Decides-eqb _ _) (Decides-and _ _ (Decides-eqb _ _) (Decides-eqb _ _)))))))))))))))))
+    (λ yes. yes, λ yes. yes)))))))))))))))
 
 -- places of two lists
 pub ArePlaces-left : (n : ℕ) (ps qs : List ℕ) → ArePlaces n (ps ++ qs) → ArePlaces n ps
@@ -185,11 +181,11 @@ heap-read ws h k =
     let nodes : chain_from ws (get_or ws 2 0) (get_or ws 18 0 % 256) ≡ h.nodes =
     ap (λ n. chain_from ws n (get_or ws 18 0 % 256)) count ∙ (ap (λ n. chain_from ws (length h.nodes) n) first ∙ chain-read ws (used_places h) h.nodes h.last few nodes_places k.chained) in
     let last : get_or ws 19 0 / 256 ≡ h.last = let e = last-word ws h.nodes h.last k.chained in omega arith in
-    let long : (get_or ws 7 0 % 256 - 20) / 3 - get_or ws 2 0 ≡ length h.free = omega arith in
-    let free : free_from ws ((get_or ws 7 0 % 256 - 20) / 3 - get_or ws 2 0) (get_or ws 6 0) ≡ h.free =
+    let long : (get_or ws 7 0 % 256 - 20) / 4 - get_or ws 2 0 ≡ length h.free = omega arith in
+    let free : free_from ws ((get_or ws 7 0 % 256 - 20) / 4 - get_or ws 2 0) (get_or ws 6 0) ≡ h.free =
     ap (λ n. free_from ws n (get_or ws 6 0)) long ∙ (ap (λ n. free_from ws (length h.free) n) k.front ∙ free-read ws h.free k.freed) in
-    ap (λ (xs : List Node). let g : Heap = record { nodes = xs; last = get_or ws 19 0 / 256; free = free_from ws ((get_or ws 7 0 % 256 - 20) / 3 - get_or ws 2 0) (get_or ws 6 0) } in g) nodes
-    ∙ (ap (λ (n : ℕ). let g : Heap = record { nodes = h.nodes; last = n; free = free_from ws ((get_or ws 7 0 % 256 - 20) / 3 - get_or ws 2 0) (get_or ws 6 0) } in g) last
+    ap (λ (xs : List Node). let g : Heap = record { nodes = xs; last = get_or ws 19 0 / 256; free = free_from ws ((get_or ws 7 0 % 256 - 20) / 4 - get_or ws 2 0) (get_or ws 6 0) } in g) nodes
+    ∙ (ap (λ (n : ℕ). let g : Heap = record { nodes = h.nodes; last = n; free = free_from ws ((get_or ws 7 0 % 256 - 20) / 4 - get_or ws 2 0) (get_or ws 6 0) } in g) last
     ∙ ap (λ (ps : List ℕ). let g : Heap = record { nodes = h.nodes; last = h.last; free = ps } in g) free)
 
 -- the page that words with a heap are

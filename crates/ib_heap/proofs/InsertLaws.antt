@@ -1,6 +1,6 @@
 -- An insert, step by step.
-use Rattle.std.proofs.Common.{◌≡◌, ◌≢◌, ℕ, zero, suc, ◌+◌, ◌-◌, ◌/◌, ◌<◌, ◌≤◌, ◌∙◌, List, length, drop, get_or, refl, ap, sym, subst, arith, None}
-use Rattle.ib_map.specs.Keys.{rank, end_rank}
+use Rattle.std.proofs.Common.{◌≡◌, ℕ, zero, suc, ◌+◌, ◌-◌, ◌/◌, ◌<◌, ◌≤◌, ◌∙◌, List, length, drop, get_or, refl, ap, sym, subst, arith, None}
+use Rattle.ib_map.specs.Keys.{MapKey, rank, end_rank}
 use Rattle.ib_map.specs.Pairs.{put, value_at, place_of}
 use Rattle.ib_heap.specs.Page.{Page, HoldsTree}
 use Rattle.ib_heap.specs.Page.PageValue.{Tree}
@@ -8,7 +8,7 @@ use Rattle.ib_heap.specs.Heap.{Heap, first_of, nodes_of, read_heap, up_to, used_
 use Rattle.ib_heap.specs.Form.{page_of}
 use Rattle.ib_heap.specs.Image.{records_of, value_with_records}
 use Rattle.ib_heap.specs.Put.{owned_by, owner_from, place_for, rest_of, put_in}
-use Rattle.ib_heap.specs.Kept.{IsKept}
+use Rattle.ib_heap.specs.Kept.{IsKept, IsOutside}
 use Rattle.ib_heap.specs.Steps.{IsPlaceOfKey, IsHead, IsPlaceTaken, CanLink, IsLinkedIn, CanSplitSlot, IsSlotSplit}
 use Rattle.ib_heap.specs.Walks.{end_from}
 use Rattle.ib_heap.proofs.SeekLaws.{Known, known}
@@ -21,12 +21,12 @@ use Rattle.ib_heap.proofs.PutSteps.{gv, before-range, owner-range, apart-all, at
 use Rattle.ib_heap.proofs.PutHeap.{put-in-split}
 
 -- what an insert leaves
-pub record IsPut (ws vs : List ℕ) (key value : ℕ) : Type 0 where
+pub record IsPut (ws vs : List ℕ) (key : MapKey) (value : ℕ) : Type 0 where
   pub page : page_of vs ≡ value_with_records (put key value (records_of ws)) (page_of ws)
   pub heap : read_heap vs ≡ put_in (place_of key (records_of ws)) (read_heap ws)
-  pub kept : (i : ℕ) → IsKept (used_places (read_heap vs)) i → i ≢ place_for (read_heap ws) + 1 → i ≢ place_for (read_heap ws) + 2 → get_or vs i 0 ≡ get_or ws i 0
+  pub kept : (i : ℕ) → IsKept (used_places (read_heap vs)) i → IsOutside (place_for (read_heap ws)) i → get_or vs i 0 ≡ get_or ws i 0
 
-module _ (ws : List ℕ) (key slot before at : ℕ) (holds : HoldsTree (page_of ws)) (room35 : length (records_of ws) < 35) (st : IsPlaceOfKey ws key slot before at) where
+module _ (ws : List ℕ) (key : MapKey) (slot before at : ℕ) (holds : HoldsTree (page_of ws)) (room35 : length (records_of ws) < 35) (st : IsPlaceOfKey ws key slot before at) where
   kn : Known ws
   kn = known ws holds
 
@@ -66,7 +66,7 @@ module _ (ws : List ℕ) (key slot before at : ℕ) (holds : HoldsTree (page_of 
 
     -- the record is linked in
     module _ (vs : List ℕ) (value : ℕ) (lk : IsLinkedIn w1 vs before at own p key value) (absent : value_at key (records_of ws) ≡ None) (below : rank key < end_rank) where
-      size : length vs ≡ 128
+      size : length vs ≡ 160
       size = lk.size ∙ (tk.size ∙ kn.size)
 
       pub owner-read : own < length vs
@@ -82,10 +82,10 @@ module _ (ws : List ℕ) (key slot before at : ℕ) (holds : HoldsTree (page_of 
       put-plain few = record {
         page = plain ws w1 key slot before at p kn st nodes-few tk vs value lk absent below few;
         heap = plain-heap ws w1 key slot before at p kn st nodes-few tk vs value lk absent below few;
-        kept = λ i kept one two.
+        kept = λ i kept out.
             kept1 ws key slot before at p kn st nodes-few gives vs value wr absent below i
             (subst (λ (n : ℕ). IsKept n i) (ap used_places (plain-read ws w1 key slot before at p kn st nodes-few tk vs value lk absent below few)) kept)
-            (λ z. one (z ∙ ap (λ q. q + 1) tk.place)) (λ z. two (z ∙ ap (λ q. q + 2) tk.place));
+            (subst (λ (q : ℕ). IsOutside q i) (sym tk.place) out);
       }
 
       -- a slot of nine
@@ -160,8 +160,8 @@ module _ (ws : List ℕ) (key slot before at : ℕ) (holds : HoldsTree (page_of 
                 page = split-done vs h1 k slot own middle sh st.some ov nn wi oi mi v2 sp owner-head.low middle-head.low
                     ∙ (ap (λ (q : Page). Tree q) (page1 ws key slot before at p kn st nodes-few gives vs value wr absent below) ∙ sym (wanted ws key slot before at p kn st nodes-few gives vs value wr absent below));
                 heap = after ∙ put-in-split _ p slot (read_heap ws) tk.place (omega arith) (within ws key slot before at p kn st nodes-few gives) (k_le ws key slot before at p kn st nodes-few gives);
-                kept = λ i kept one two.
+                kept = λ i kept out.
                     let now = subst (λ (n : ℕ). IsKept n i) (ap used_places after ∙ used-split _ h1) kept in
                     split-kept vs h1 k slot own middle sh st.some ov nn wi oi mi v2 sp i now (own-apart ws key slot before at p kn st nodes-few gives vs value wr absent below i now)
-                    ∙ kept1 ws key slot before at p kn st nodes-few gives vs value wr absent below i now (λ z. one (z ∙ ap (λ q. q + 1) tk.place)) (λ z. two (z ∙ ap (λ q. q + 2) tk.place));
+                    ∙ kept1 ws key slot before at p kn st nodes-few gives vs value wr absent below i now (subst (λ (q : ℕ). IsOutside q i) (sym tk.place) out);
               }

@@ -1,6 +1,7 @@
 -- The words that are kept are no head of a record in use, and none of the words that count and order the records.
-use Rattle.std.proofs.Common.{◌≡◌, ◌≢◌, ℕ, ◌<◌, ◌≤◌, ◌⊎◌, arith, inl, inr}
-use Rattle.ib_heap.specs.Kept.{IsKept}
+use Rattle.std.proofs.Common.{◌≡◌, ◌≢◌, ℕ, ◌+◌, ◌*◌, ◌<◌, ◌≤◌, ◌⊎◌, arith, inl, inr}
+use Rattle.std.proofs.lemmas.Bool.{cases_lt}
+use Rattle.ib_heap.specs.Kept.{IsKept, IsOutside}
 use Rattle.ib_heap.proofs.HeapLaws.{IsPlace}
 
 pub kept-apart : (n i : ℕ) → IsKept n i → (i < 2) ⊎ (((2 < i) × (i < 6)) ⊎ (20 ≤ i))
@@ -25,3 +26,11 @@ kept-place n i q kept place z =
       | inl low ↦ omega arith
       | inr f ↦ elim f [ inl head ↦ (let u = head.1 in omega arith) | inr g ↦ elim g.1 [ inl other ↦ other (omega arith) | inr far ↦ omega arith ] ]
     ]
+
+-- what is outside a place is none of its words
+pub outside-apart : (p i j : ℕ) → IsOutside p i → p ≤ j → j < p + 4 → i ≢ j
+outside-apart p i j out low high z = elim out [ inl lt ↦ omega arith | inr ge ↦ omega arith ]
+
+-- the words of one place are outside another
+pub outside-other : (p q i a b : ℕ) → p ≡ 20 + 4 * a → q ≡ 20 + 4 * b → q ≢ p → q ≤ i → i < q + 4 → IsOutside p i
+outside-other p q i a b p_is q_is ne low high = elim (cases_lt q p) [ inl lt ↦ inl (omega arith) | inr ge ↦ inr (omega (arith, ne)) ]

@@ -4,6 +4,7 @@ pub mod HeapLaws
 mod WorkedRows
 pub mod SeekLaws
 pub mod FindLaws
+pub mod OrderLaws
 pub mod FormLaws
 pub mod FreeLaws
 pub mod PutLaws

@@ -13,7 +13,7 @@ heap nodes last free = record { nodes = nodes; last = last; free = free }
 pub record FreePlace (ws : List ℕ) (h : Heap) (p : ℕ) : Type 0 where
   pub place : p ≡ place_for h
   pub low : 20 ≤ p
-  pub high : p ≤ 122
+  pub high : p ≤ 156
   pub next : get_or ws p 0 ≡ first_free (rest_of h.free)
   pub same : length h.nodes + 1 + length (rest_of h.free) ≡ used_places h
   pub gives : Gives h p (rest_of h.free)
@@ -32,7 +32,7 @@ pub record TopPlace (h : Heap) (p : ℕ) : Type 0 where
   pub none : length h.free ≡ 0
   pub gives : Gives h p (rest_of h.free)
 
-pub top-place : (n : ℕ) (nodes : List Node) (last : ℕ) (free : List ℕ) (p : ℕ) → ArePlaces n free → first_free free ≡ 0 → p ≡ 20 + 3 * (length nodes + length free) → TopPlace (heap nodes last free) p
+pub top-place : (n : ℕ) (nodes : List Node) (last : ℕ) (free : List ℕ) (p : ℕ) → ArePlaces n free → first_free free ≡ 0 → p ≡ 20 + 4 * (length nodes + length free) → TopPlace (heap nodes last free) p
 top-place n nodes last [] p places at is = record { place = is; front = refl; more = omega arith; none = refl; gives = inr (refl, (is, refl)) }
 top-place n nodes last (q ∷ qs) p places at is = absurd (let a = places.0.is in let b : q ≡ 0 = at in omega arith)
 

@@ -1,7 +1,7 @@
 -- A put, from the page that was read to the page that is left.
 use Rattle.std.proofs.Common.{◌≡◌, ℕ, zero, suc, ◌+◌, ◌-◌, ◌*◌, ◌/◌, ◌%◌, ◌<◌, ◌≤◌, ◌≢◌, ◌⊎◌, [], ◌∷◌, ◌∙◌, List, length, take, drop, get_or, refl, ap, sym, arith, inl, inr, subst, None}
 use Rattle.std.proofs.lemmas.Bool.{cases_eq, eq-eqb, ne_eqb, cases_lt}
-use Rattle.ib_map.specs.Keys.{rank, end_rank}
+use Rattle.ib_map.specs.Keys.{MapKey, rank, end_rank}
 use Rattle.ib_map.specs.Pairs.{Pairs, put, value_at, place_of}
 use Rattle.ib_map.proofs.PlaceLaws.{place_of-le}
 use Rattle.ib_heap.specs.Page.{Page, PageValue}
@@ -14,8 +14,8 @@ use Rattle.ib_heap.specs.Steps.{IsPlaceOfKey}
 use Rattle.ib_heap.proofs.HeapLaws.{Chained, Owned, ArePlaces, ArePlaces-left, IsPlace, page-from}
 use Rattle.ib_heap.proofs.SeekLaws.{Known, directory-at, owner-at, link-at, last-first, last-in, first-in}
 use Rattle.ib_heap.proofs.PutLaws.{one-same, OverAt, Over, over-put, over_at-room, owner-in, times-drop, Apart, apart-owner, apart-rest, owners-put, length-put, times-put, times-apart}
-use Rattle.ib_heap.specs.Kept.{IsKept}
-use Rattle.ib_heap.proofs.KeptLaws.{kept-fixed, kept-place}
+use Rattle.ib_heap.specs.Kept.{IsKept, IsOutside}
+use Rattle.ib_heap.proofs.KeptLaws.{kept-fixed, kept-place, outside-other}
 use Rattle.ib_heap.proofs.SplitLaws.{InSlot, owner-slot, slot-put}
 use Rattle.ib_heap.proofs.SplitShape.{Group, group}
 use Rattle.ib_heap.proofs.ShapeLaws.{Shaped, heap-shaped, places-known, Gives, Written, put_heap}
@@ -126,7 +126,7 @@ owner-drop zero p xs le = go xs
 owner-drop (suc k) p [] le = absurd (omega arith)
 owner-drop (suc k) p (x ∷ xs) le = owner-drop k p xs (omega arith)
 
-module _ (ws : List ℕ) (key slot before at p : ℕ) (kn : Known ws) (st : IsPlaceOfKey ws key slot before at) (few : length (nodes_of ws) < 35) (gives : Gives (read_heap ws) p (rest_of (read_heap ws).free)) where
+module _ (ws : List ℕ) (key : MapKey) (slot before at p : ℕ) (kn : Known ws) (st : IsPlaceOfKey ws key slot before at) (few : length (nodes_of ws) < 35) (gives : Gives (read_heap ws) p (rest_of (read_heap ws).free)) where
   abbrev pub k : ℕ
   k = place_of key (records_of ws)
 
@@ -163,24 +163,24 @@ module _ (ws : List ℕ) (key slot before at p : ℕ) (kn : Known ws) (st : IsPl
   p_place : IsPlace (length nodes + 1 + length (rest_of (read_heap ws).free)) p
   p_place = new.place p (let o = one-same p in omega arith)
 
-  not_p : (q : ℕ) → 0 < times q (places_of nodes) → (q ≢ p) × ((q ≢ p + 1) × (q ≢ p + 2))
+  not_p : (q : ℕ) → 0 < times q (places_of nodes) → IsOutside p q
   not_p q m =
       let l = low-node ws kn q m in let a = l.is in let pl = p_place in let b = pl.is in
-      (λ z. times-apart p q (places_of nodes) new.not_node m (sym z), (λ z. absurd (omega arith), λ z. absurd (omega arith)))
+      outside-other p q q _ _ b a (λ z. times-apart p q (places_of nodes) new.not_node m (sym z)) (omega arith) (omega arith)
 
-  pub before_facts : (18 ≤ before) × ((before ≤ 122) × ((before ≢ p) × ((before ≢ p + 1) × (before ≢ p + 2))))
+  pub before_facts : (18 ≤ before) × ((before ≤ 156) × IsOutside p before)
   before_facts =
       let e = st.before_is in let pl = p_place in let b = pl.is in
       elim (before-in k nodes k_le) [
-        | inl z ↦ (let f = z.1 in (omega arith, (omega arith, (λ y. absurd (omega arith), (λ y. absurd (omega arith), λ y. absurd (omega arith))))))
-        | inr z ↦ subst (λ (q : ℕ). (18 ≤ q) × ((q ≤ 122) × ((q ≢ p) × ((q ≢ p + 1) × (q ≢ p + 2))))) (sym e) (let l = low-node ws kn _ z.1 in let a = l.is in let d = l.below in (omega arith, (omega arith, not_p _ z.1)))
+        | inl z ↦ (let f = z.1 in (omega arith, (omega arith, inl (omega arith))))
+        | inr z ↦ subst (λ (q : ℕ). (18 ≤ q) × ((q ≤ 156) × IsOutside p q)) (sym e) (let l = low-node ws kn _ z.1 in let a = l.is in let d = l.below in (omega arith, (omega arith, not_p _ z.1)))
       ]
 
-  pub owner_facts : (18 ≤ owner) × ((owner ≤ 122) × ((owner ≢ p) × ((owner ≢ p + 1) × (owner ≢ p + 2))))
+  pub owner_facts : (18 ≤ owner) × ((owner ≤ 156) × IsOutside p owner)
   owner_facts =
       let pl = p_place in let b = pl.is in
-      subst (λ (q : ℕ). (18 ≤ q) × ((q ≤ 122) × ((q ≢ p) × ((q ≢ p + 1) × (q ≢ p + 2))))) (sym owner_is) (elim (owner-in (drop k nodes)) [
-        | inl f ↦ (omega arith, (omega arith, (λ y. absurd (omega arith), (λ y. absurd (omega arith), λ y. absurd (omega arith)))))
+      subst (λ (q : ℕ). (18 ≤ q) × ((q ≤ 156) × IsOutside p q)) (sym owner_is) (elim (owner-in (drop k nodes)) [
+        | inl f ↦ (omega arith, (omega arith, inl (omega arith)))
         | inr m ↦ (let t = times-drop k (owner_from (drop k nodes)) nodes in let n : 0 < times (owner_from (drop k nodes)) (places_of nodes) = omega arith in let l = low-node ws kn _ n in let a = l.is in let d = l.below in (omega arith, (omega arith, not_p _ n)))
       ])
 
@@ -240,9 +240,6 @@ module _ (ws : List ℕ) (key slot before at p : ℕ) (kn : Known ws) (st : IsPl
     in-nodes1 : (q : ℕ) → 0 < times q (places_of nodes) → 0 < times q (places_of nodes1)
     in-nodes1 q m = let t = times-put k p q nodes k_le in omega arith
 
-    p-in : 0 < times p (places_of nodes1)
-    p-in = let t = times-put k p p nodes k_le in let o = one-same p in omega arith
-
     before-apart : (i : ℕ) → IsKept (used_places heap1) i → i ≢ before
     before-apart i kept = elim (before-in k nodes k_le) [
       | inl e ↦ (let b = st.before_is ∙ e.1 in kept-fixed _ i before kept (inr (omega arith, omega arith)))
@@ -255,10 +252,10 @@ module _ (ws : List ℕ) (key slot before at p : ℕ) (kn : Known ws) (st : IsPl
       | inr m ↦ (let d = times-drop k (owner_from (drop k nodes)) nodes in member-apart i owner kept (in-nodes1 owner (subst (λ (q : ℕ). 0 < times q (places_of nodes)) (sym owner_is) (omega arith))))
     ]
 
-    pub kept1 : (i : ℕ) → IsKept (used_places heap1) i → i ≢ p + 1 → i ≢ p + 2 → get_or vs i 0 ≡ get_or ws i 0
-    kept1 i kept a b =
+    pub kept1 : (i : ℕ) → IsKept (used_places heap1) i → IsOutside p i → get_or vs i 0 ≡ get_or ws i 0
+    kept1 i kept out =
         w.other i (kept-fixed _ i 2 kept (inl refl)) (kept-fixed _ i 6 kept (inr (omega arith, omega arith))) (kept-fixed _ i 7 kept (inr (omega arith, omega arith)))
-        (member-apart i p kept p-in) a b (λ z. before-apart i kept (z ∙ sym st.before_is)) (λ z. own-apart i kept (z ∙ sym owner_is))
+        out (λ z. before-apart i kept (z ∙ sym st.before_is)) (λ z. own-apart i kept (z ∙ sym owner_is))
 
     -- the page that is wanted
     pub wanted : value_with_records (put key value (records_of ws)) (page_of ws) ≡ Tree (page_with ws (put key value (records_in ws nodes)))
@@ -299,7 +296,7 @@ module _ (ws : List ℕ) (key slot before at p : ℕ) (kn : Known ws) (st : IsPl
         let low : first_of nodes1 < 256 = elim (first-in (used_places heap1) nodes1 0 shaped1.few places1 (omega arith)) [ inl z ↦ (let y = z.0 in omega arith) | inr z ↦ (let y = z.1.0 in omega arith) ] in
         ap (λ n. get_or vs n 0 % 256) e ∙ (link-at vs (used_places heap1) 18 nodes1 last1 i shaped1.few places1 (omega arith) shaped1.chained (omega arith) ∙ sym (last-first 18 nodes1 i lt))
 
-    pub low1 : (i q : ℕ) → i ≤ length nodes1 → q ≡ last_from 18 (take i nodes1) → q ≤ 122
+    pub low1 : (i q : ℕ) → i ≤ length nodes1 → q ≡ last_from 18 (take i nodes1) → q ≤ 156
     low1 i q le e = elim (last-in (used_places heap1) 18 nodes1 i shaped1.few places1 le) [ inl z ↦ (let y = z.1 in omega arith) | inr z ↦ (let y = z.1 in omega arith) ]
 
     pub first_is : get_or ws (8 + (slot - 1)) 0 ≡ last_from 18 (take (up_to (slot - 1) nodes1) nodes1)
@@ -310,11 +307,11 @@ module _ (ws : List ℕ) (key slot before at p : ℕ) (kn : Known ws) (st : IsPl
 
     -- four steps from the slot before
     pub record Steps (q0 q1 q2 q3 q4 : ℕ) : Type 0 where
-      pub low0 : q0 ≤ 122
-      pub low1 : q1 ≤ 122
-      pub low2 : q2 ≤ 122
-      pub low3 : q3 ≤ 122
-      pub low4 : q4 ≤ 122
+      pub low0 : q0 ≤ 156
+      pub low1 : q1 ≤ 156
+      pub low2 : q2 ≤ 156
+      pub low3 : q3 ≤ 156
+      pub low4 : q4 ≤ 156
       pub high4 : 20 ≤ q4
       pub is : q4 ≡ first_of (drop t nodes1)
 

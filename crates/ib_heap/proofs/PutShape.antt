@@ -2,7 +2,7 @@
 use Rattle.std.proofs.Common.{◌≡◌, ℕ, zero, suc, ◌+◌, ◌*◌, ◌<◌, ◌≤◌, ◌≢◌, ◌⊎◌, [], ◌∷◌, ◌++◌, ◌∙◌, List, length, take, drop, get_or, refl, ap, sym, arith, inl, inr, subst, None}
 use Rattle.std.specs.List.{insert}
 use Rattle.std.proofs.lemmas.Bool.{cases_eq, cases_lt}
-use Rattle.ib_map.specs.Keys.{rank, end_rank}
+use Rattle.ib_map.specs.Keys.{MapKey, rank, end_rank}
 use Rattle.ib_map.specs.Pairs.{Pairs, put, value_at, place_of}
 use Rattle.ib_map.proofs.PairLaws.{Rises-put, length-put as length-put-pairs}
 use Rattle.ib_map.proofs.PlaceLaws.{insert-place}
@@ -11,8 +11,9 @@ use Rattle.ib_heap.specs.Heap.{Node, Heap, first_of, owners, times, places_of, r
 use Rattle.ib_heap.specs.Put.{owner_from, put_node, put_last}
 use Rattle.ib_heap.proofs.HeapLaws.{Chained, Freed, Directory, IsPlace, ArePlaces, EachOnce, IsHeap}
 use Rattle.ib_heap.proofs.SeekLaws.{length-records, Known}
+use Rattle.ib_heap.proofs.KeptLaws.{outside-other}
 use Rattle.ib_heap.proofs.PutLaws.{one, one-same, one-other, owners-put, length-put, times-put, times-append, first-put, owner-in, times-drop, last-member, SameAt, chain-put, times-apart}
-use Rattle.ib_heap.proofs.ShapeLaws.{Shaped, Places, places-known, places-from, once-from, freed-same, directory-same, records-put, Gives, Written, put_heap, same-page}
+use Rattle.ib_heap.proofs.ShapeLaws.{Shaped, Places, places-known, places-from, once-from, freed-same, directory-same, records-put, keys-put, SameRecord, Gives, Written, put_heap, same-page}
 
 -- what is known of the place that a record takes
 pub record NewPlace (h : Heap) (p : ℕ) (free : List ℕ) : Type 0 where
@@ -22,7 +23,7 @@ pub record NewPlace (h : Heap) (p : ℕ) (free : List ℕ) : Type 0 where
   pub not_free : times p free ≡ 0
   pub was_free : (q : ℕ) → times q free ≤ times q h.free
   pub place : (q : ℕ) → 0 < one p q + times q (places_of h.nodes) + times q free → IsPlace (length h.nodes + 1 + length free) q
-  pub each : (r : ℕ) → r < length h.nodes + 1 + length free → one p (20 + 3 * r) + times (20 + 3 * r) (places_of h.nodes) + times (20 + 3 * r) free ≡ 1
+  pub each : (r : ℕ) → r < length h.nodes + 1 + length free → one p (20 + 4 * r) + times (20 + 4 * r) (places_of h.nodes) + times (20 + 4 * r) free ≡ 1
 
 wider : (n m q : ℕ) → IsPlace n q → n ≤ m → IsPlace m q
 wider n m q h le = let b = h.below in record { number = h.number; is = h.is; below = omega arith }
@@ -39,11 +40,11 @@ new-place h p free known few (inl e) =
       not_free = let o = known.once p in let t = times_is p in let s = one-same p in omega arith;
       was_free = λ q. let t = times_is q in omega arith;
       place = λ q lt. wider (used_places h) _ q (known.place q (let t = times_is q in omega arith)) (omega arith);
-      each = λ r lt. let o = known.each r (omega arith) in let t = times_is (20 + 3 * r) in omega arith;
+      each = λ r lt. let o = known.each r (omega arith) in let t = times_is (20 + 4 * r) in omega arith;
     }
 new-place h p free known few (inr e) =
     let none : h.free ≡ [] = e.0 in
-    let at : p ≡ 20 + 3 * used_places h = e.1.0 in
+    let at : p ≡ 20 + 4 * used_places h = e.1.0 in
     let empty : free ≡ [] = e.1.1 in
     let times_old : (q : ℕ) → times q h.free ≡ 0 = λ q. ap (λ (ps : List ℕ). times q ps) none in
     let times_new : (q : ℕ) → times q free ≡ 0 = λ q. ap (λ (ps : List ℕ). times q ps) empty in
@@ -63,9 +64,9 @@ new-place h p free known few (inr e) =
         | inl same ↦ record { number = used_places h; is = sym same ∙ at; below = omega arith }
         | inr ne ↦ wider (used_places h) _ q (known.place q (let o = one-other p q ne in let t = times_new q in omega arith)) (omega arith)
       ];
-      each = λ r lt. elim (cases_eq p (20 + 3 * r)) [
-        | inl same ↦ (let s = one-same p in let z : one p (20 + 3 * r) ≡ 1 = ap (λ n. one p n) (sym same) ∙ s in let m : times (20 + 3 * r) (places_of h.nodes) ≡ 0 = ap (λ n. times n (places_of h.nodes)) (sym same) ∙ not_node in let t = times_new (20 + 3 * r) in omega arith)
-        | inr ne ↦ (let z = one-other p (20 + 3 * r) ne in let o = known.each r (omega (arith, ne)) in let s = times_old (20 + 3 * r) in let t = times_new (20 + 3 * r) in omega arith)
+      each = λ r lt. elim (cases_eq p (20 + 4 * r)) [
+        | inl same ↦ (let s = one-same p in let z : one p (20 + 4 * r) ≡ 1 = ap (λ n. one p n) (sym same) ∙ s in let m : times (20 + 4 * r) (places_of h.nodes) ≡ 0 = ap (λ n. times n (places_of h.nodes)) (sym same) ∙ not_node in let t = times_new (20 + 4 * r) in omega arith)
+        | inr ne ↦ (let z = one-other p (20 + 4 * r) ne in let o = known.each r (omega (arith, ne)) in let s = times_old (20 + 4 * r) in let t = times_new (20 + 4 * r) in omega arith)
       ];
     }
 
@@ -81,10 +82,10 @@ IsBefore h b = (b ≡ 18) ⊎ (0 < times b (places_of h.nodes))
 abbrev pub IsOwnerPlace : Heap → ℕ → Type 0
 IsOwnerPlace h o = (o ≡ 19) ⊎ (0 < times o (places_of h.nodes))
 
--- a place of the heap is 20 and three times a number below 35
+-- a place of the heap is 20 and four times a number below 35
 pub record Low (p : ℕ) : Type 0 where
   pub number : ℕ
-  pub is : p ≡ 20 + 3 * number
+  pub is : p ≡ 20 + 4 * number
   pub below : number < 35
 
 pub low-member : (h : Heap) → Places h → used_places h ≤ 35 → (q : ℕ) → 0 < times q (places_of h.nodes) + times q h.free → Low q
@@ -96,7 +97,7 @@ low-node ws kn q m = low-member (read_heap ws) (places-known (read_heap ws) kn.i
 
 -- a word that is the head of no record place
 abbrev pub Off : ℕ → Type 0
-Off i = (i < 20) ⊎ ((122 < i) ⊎ ((q : ℕ) → i ≢ 20 + 3 * q))
+Off i = (i < 20) ⊎ ((156 < i) ⊎ ((q : ℕ) → i ≢ 20 + 4 * q))
 
 pub off-low : (i q : ℕ) → Off i → Low q → i ≢ q
 off-low i q off l z = let a = l.is in let b = l.below in elim off [ inl f ↦ absurd (omega arith) | inr f ↦ elim f [ inl g ↦ absurd (omega arith) | inr g ↦ g l.number (z ∙ a) ] ]
@@ -110,12 +111,13 @@ off-none h known few i off = elim (cases_lt 0 (times i (places_of h.nodes))) [
 
 -- a record keeps its key and value where each word behind 20 that is no head stays as it is
 pub kept-pair : (ws vs : List ℕ) (h : Heap) → Places h → used_places h ≤ 35 → ((i : ℕ) → 20 < i → Off i → get_or vs i 0 ≡ get_or ws i 0) → (q : ℕ) → 0 < times q (places_of h.nodes)
-    → (get_or vs (q + 1) 0 ≡ get_or ws (q + 1) 0) × (get_or vs (q + 2) 0 ≡ get_or ws (q + 2) 0)
+    → SameRecord ws vs q
 kept-pair ws vs h known few same q m =
     let l = low-member h known few q (omega arith) in let a = l.is in
-    (same (q + 1) (omega arith) (inr (inr (λ r z. absurd (omega arith)))), same (q + 2) (omega arith) (inr (inr (λ r z. absurd (omega arith)))))
+    let off : (j : ℕ) → 0 < j → j < 4 → Off (q + j) = λ j pos lt. inr (inr (λ r z. absurd (omega arith))) in
+    record { first = same (q + 1) (omega arith) (off 1 (omega arith) (omega arith)); second = same (q + 2) (omega arith) (off 2 (omega arith) (omega arith)); value = same (q + 3) (omega arith) (off 3 (omega arith) (omega arith)) }
 
-module _ (ws vs : List ℕ) (h : Heap) (k p key value : ℕ) (free : List ℕ) (is : IsHeap ws h) (gives : Gives h p free) (w : Written ws vs h k p key value free) (le : k ≤ length h.nodes) (lt : length h.nodes < 35) where
+module _ (ws vs : List ℕ) (h : Heap) (k p : ℕ) (key : MapKey) (value : ℕ) (free : List ℕ) (is : IsHeap ws h) (gives : Gives h p free) (w : Written ws vs h k p key value free) (le : k ≤ length h.nodes) (lt : length h.nodes < 35) where
   abbrev before : ℕ
   before = last_from 18 (take k h.nodes)
 
@@ -152,34 +154,32 @@ module _ (ws vs : List ℕ) (h : Heap) (k p key value : ℕ) (free : List ℕ) (
   not_owner : (i : ℕ) → Off i → i ≢ 19 → i ≢ owner
   not_owner i off ne = elim owner_low [ inl e ↦ (λ z. ne (z ∙ e)) | inr l ↦ off-low i owner off l ]
 
-  far_word : (i : ℕ) → i ≢ 2 → i ≢ 6 → i ≢ 7 → (i < 18) ⊎ (124 < i) → get_or vs i 0 ≡ get_or ws i 0
+  far_word : (i : ℕ) → i ≢ 2 → i ≢ 6 → i ≢ 7 → (i < 18) ⊎ (159 < i) → get_or vs i 0 ≡ get_or ws i 0
   far_word i a b d far =
       let l = p_low in let e = l.is in let f = l.below in
       let off : Off i = elim far [ inl g ↦ inl (omega arith) | inr g ↦ inr (inl (omega arith)) ] in
-      w.other i a b d (λ z. elim far [ inl g ↦ absurd (omega arith) | inr g ↦ absurd (omega arith) ]) (λ z. elim far [ inl g ↦ absurd (omega arith) | inr g ↦ absurd (omega arith) ]) (λ z. elim far [ inl g ↦ absurd (omega arith) | inr g ↦ absurd (omega arith) ])
+      w.other i a b d (elim far [ inl g ↦ inl (omega arith) | inr g ↦ inr (omega arith) ])
       (not_before i off (λ z. elim far [ inl g ↦ absurd (omega arith) | inr g ↦ absurd (omega arith) ])) (not_owner i off (λ z. elim far [ inl g ↦ absurd (omega arith) | inr g ↦ absurd (omega arith) ]))
 
   not_new : (q : ℕ) → 0 < times q (places_of h.nodes) → q ≢ p
   not_new q m z = times-apart p q (places_of h.nodes) new.not_node m (sym z)
 
   -- the word of a key or a value
-  kept_word : (q i : ℕ) → 0 < times q (places_of h.nodes) → (i ≡ q + 1) ⊎ (i ≡ q + 2) → get_or vs i 0 ≡ get_or ws i 0
-  kept_word q i m e =
+  kept_word : (q i : ℕ) → 0 < times q (places_of h.nodes) → q < i → i ≤ q + 3 → get_or vs i 0 ≡ get_or ws i 0
+  kept_word q i m low high =
       let l = low-member h known is.few q (omega arith) in let a = l.is in let b = l.below in
       let pl = p_low in let pa = pl.is in
       let ne = not_new q m in
-      let off : Off i = inr (inr (λ r z. elim e [ inl f ↦ absurd (omega arith) | inr f ↦ absurd (omega arith) ])) in
-      w.other i (λ z. elim e [ inl f ↦ absurd (omega arith) | inr f ↦ absurd (omega arith) ]) (λ z. elim e [ inl f ↦ absurd (omega arith) | inr f ↦ absurd (omega arith) ]) (λ z. elim e [ inl f ↦ absurd (omega arith) | inr f ↦ absurd (omega arith) ])
-      (λ z. elim e [ inl f ↦ absurd (omega arith) | inr f ↦ absurd (omega arith) ])
-      (λ z. elim e [ inl f ↦ ne (omega arith) | inr f ↦ absurd (omega arith) ])
-      (λ z. elim e [ inl f ↦ absurd (omega arith) | inr f ↦ ne (omega arith) ])
-      (not_before i off (λ z. elim e [ inl f ↦ absurd (omega arith) | inr f ↦ absurd (omega arith) ])) (not_owner i off (λ z. elim e [ inl f ↦ absurd (omega arith) | inr f ↦ absurd (omega arith) ]))
+      let off : Off i = inr (inr (λ r z. absurd (omega arith))) in
+      w.other i (λ z. absurd (omega arith)) (λ z. absurd (omega arith)) (λ z. absurd (omega arith))
+      (outside-other p q i _ _ pa a ne (omega arith) (omega arith))
+      (not_before i off (λ z. absurd (omega arith))) (not_owner i off (λ z. absurd (omega arith)))
 
-  kept_words : (q : ℕ) → 0 < times q (places_of h.nodes) → (get_or vs (q + 1) 0 ≡ get_or ws (q + 1) 0) × (get_or vs (q + 2) 0 ≡ get_or ws (q + 2) 0)
-  kept_words q m = (kept_word q (q + 1) m (inl refl), kept_word q (q + 2) m (inr refl))
+  kept_words : (q : ℕ) → 0 < times q (places_of h.nodes) → SameRecord ws vs q
+  kept_words q m = record { first = kept_word q (q + 1) m (omega arith) (omega arith); second = kept_word q (q + 2) m (omega arith) (omega arith); value = kept_word q (q + 3) m (omega arith) (omega arith) }
 
   new_records : k ≡ place_of key (records_in ws h.nodes) → records_in vs (put_node k p h.nodes) ≡ put key value (records_in ws h.nodes)
-  new_records at = records-put ws vs k p h.nodes le kept_words ∙ (ap (λ (n : ℕ). insert (records_in ws h.nodes) k (n, get_or vs (p + 2) 0)) w.key_word ∙ (ap (λ (n : ℕ). insert (records_in ws h.nodes) k (key, n)) w.value_word ∙ insert-place key value (records_in ws h.nodes) k at))
+  new_records at = records-put ws vs k p h.nodes le kept_words ∙ (ap (λ (n : MapKey). insert (records_in ws h.nodes) k (n, get_or vs (p + 3) 0)) w.key_word ∙ (ap (λ (n : ℕ). insert (records_in ws h.nodes) k (key, n)) w.value_word ∙ insert-place key value (records_in ws h.nodes) k at))
 
   same_head : (i : ℕ) → (i < 2) ⊎ ((2 < i) × (i < 6)) → get_or vs i 0 ≡ get_or ws i 0
   same_head i m = far_word i (λ z. elim m [ inl f ↦ absurd (omega arith) | inr f ↦ absurd (omega arith) ]) (λ z. elim m [ inl f ↦ absurd (omega arith) | inr f ↦ absurd (omega arith) ]) (λ z. elim m [ inl f ↦ absurd (omega arith) | inr f ↦ absurd (omega arith) ])
@@ -207,9 +207,7 @@ module _ (ws vs : List ℕ) (h : Heap) (k p key value : ℕ) (free : List ℕ) (
       let pl = p_low in let pa = pl.is in
       w.other q (λ z. elim m [ inl n ↦ absurd (let l = low-member h known is.few q (omega arith) in let a = l.is in omega arith) | inr e ↦ absurd (omega arith) ]) (λ z. elim m [ inl n ↦ absurd (let l = low-member h known is.few q (omega arith) in let a = l.is in omega arith) | inr e ↦ absurd (omega arith) ])
       (λ z. elim m [ inl n ↦ absurd (let l = low-member h known is.few q (omega arith) in let a = l.is in omega arith) | inr e ↦ absurd (omega arith) ])
-      (λ z. elim m [ inl n ↦ not_new q n z | inr e ↦ absurd (omega arith) ])
-      (λ z. elim m [ inl n ↦ absurd (let l = low-member h known is.few q (omega arith) in let a = l.is in omega arith) | inr e ↦ absurd (omega arith) ])
-      (λ z. elim m [ inl n ↦ absurd (let l = low-member h known is.few q (omega arith) in let a = l.is in omega arith) | inr e ↦ absurd (omega arith) ]) nb nw
+      (elim m [ inl n ↦ (let l = low-member h known is.few q (omega arith) in outside-other p q q _ _ pa l.is (not_new q n) (omega arith) (omega arith)) | inr e ↦ inl (omega arith) ]) nb nw
 
   new_chained : Chained vs (put_node k p h.nodes) (put_last k h.nodes h.last)
   new_chained = chain-put ws vs 18 k p h.nodes h.last le is.chained known.apart (inl refl) w.place_word w.link w.raised same_at
@@ -226,7 +224,7 @@ module _ (ws vs : List ℕ) (h : Heap) (k p key value : ℕ) (free : List ℕ) (
       let l = low-member h known is.few q (omega arith) in let a = l.is in
       let pl = p_low in let pa = pl.is in
       w.other q (λ z. absurd (omega arith)) (λ z. absurd (omega arith)) (λ z. absurd (omega arith))
-      (λ z. times-apart p q free new.not_free m (sym z)) (λ z. absurd (omega arith)) (λ z. absurd (omega arith))
+      (outside-other p q q _ _ pa a (λ z. times-apart p q free new.not_free m (sym z)) (omega arith) (omega arith))
       (elim b_in [ inl e ↦ (λ z. absurd (let f = e.1 in omega arith)) | inr e ↦ not_member q before m e.1 ])
       (elim owner_is [ inl e ↦ (λ z. absurd (omega arith)) | inr e ↦ not_member q owner m e ])
 
@@ -242,7 +240,7 @@ module _ (ws vs : List ℕ) (h : Heap) (k p key value : ℕ) (free : List ℕ) (
           subst (λ (j : ℕ). get_or vs 18 0 ≡ 256 + first_of (put_node j p h.nodes)) (sym e) n
       go (suc j) e =
           let pl = p_low in let pa = pl.is in
-          let same : get_or vs 18 0 ≡ get_or ws 18 0 = w.other 18 (λ z. absurd (omega arith)) (λ z. absurd (omega arith)) (λ z. absurd (omega arith)) (λ z. absurd (omega arith)) (λ z. absurd (omega arith)) (λ z. absurd (omega arith))
+          let same : get_or vs 18 0 ≡ get_or ws 18 0 = w.other 18 (λ z. absurd (omega arith)) (λ z. absurd (omega arith)) (λ z. absurd (omega arith)) (inl (omega arith))
           (elim b_in [ inl f ↦ (λ z. absurd (let g = f.0 in omega arith)) | inr f ↦ (λ z. absurd (let g = low-member h known is.few before (let t = f.1 in omega arith) in let y = g.is in omega arith)) ])
           (not_owner 18 (inl (omega arith)) (λ z. absurd (omega arith))) in
           subst (λ (i : ℕ). get_or vs 18 0 ≡ 256 + first_of (put_node i p h.nodes)) (sym e) (same ∙ (is.start ∙ ap (λ n. 256 + n) (sym (first-put j p h.nodes))))
@@ -250,7 +248,7 @@ module _ (ws vs : List ℕ) (h : Heap) (k p key value : ℕ) (free : List ℕ) (
   new_count : get_or vs 2 0 ≡ length (put_node k p h.nodes)
   new_count = let longer = length-put k p h.nodes le in let a = w.count in let b = is.count in omega arith
 
-  new_top : get_or vs 7 0 ≡ (1 + length (owners (put_node k p h.nodes))) * 256 + (20 + 3 * used_places (put_heap k p free h))
+  new_top : get_or vs 7 0 ≡ (1 + length (owners (put_node k p h.nodes))) * 256 + (20 + 4 * used_places (put_heap k p free h))
   new_top =
       let longer = used_is in let a = w.top in let b = is.top in let m = new.more in
       let owners_long : length (owners (put_node k p h.nodes)) ≡ length (owners h.nodes) = ap length (owners-put k p h.nodes le) in omega arith
@@ -263,10 +261,7 @@ module _ (ws vs : List ℕ) (h : Heap) (k p key value : ℕ) (free : List ℕ) (
   new_places = places-from (used_places (put_heap k p free h)) (places_of (put_node k p h.nodes) ++ free) (λ q m. wider _ _ q (new.place q (let t = times_new q in omega arith)) (let u = used_is in omega arith))
 
   new_once : EachOnce (used_places (put_heap k p free h)) (places_of (put_node k p h.nodes) ++ free)
-  new_once = once-from (used_places (put_heap k p free h)) (places_of (put_node k p h.nodes) ++ free) (λ r m. (let u = used_is in let t = times_new (20 + 3 * r) in let e = new.each r (omega arith) in omega arith))
-
-  zero_end : (i : ℕ) → 124 < i → get_or ws i 0 ≡ 0 → get_or vs i 0 ≡ 0
-  zero_end i far z = far_word i (λ e. absurd (omega arith)) (λ e. absurd (omega arith)) (λ e. absurd (omega arith)) (inr far) ∙ z
+  new_once = once-from (used_places (put_heap k p free h)) (places_of (put_node k p h.nodes) ++ free) (λ r m. (let u = used_is in let t = times_new (20 + 4 * r) in let e = new.each r (omega arith) in omega arith))
 
   pub put-shaped : k ≡ place_of key (records_in ws h.nodes) → value_at key (records_in ws h.nodes) ≡ None → rank key < end_rank → Shaped vs (put_heap k p free h)
   put-shaped at none in_range = record {
@@ -283,7 +278,5 @@ module _ (ws vs : List ℕ) (h : Heap) (k p key value : ℕ) (free : List ℕ) (
     directory = new_directory;
     places = new_places;
     once = new_once;
-    zero_125 = zero_end 125 (omega arith) is.zero_125;
-    zero_126 = zero_end 126 (omega arith) is.zero_126;
-    zero_127 = zero_end 127 (omega arith) is.zero_127;
+    keyed = keys-put ws vs k p h.nodes le kept_words w.is_key is.keyed;
   }

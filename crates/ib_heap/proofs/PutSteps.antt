@@ -2,14 +2,14 @@
 use Rattle.std.proofs.Common.{◌≡◌, ℕ, suc, ◌+◌, ◌-◌, ◌/◌, ◌%◌, ◌<◌, ◌≤◌, ◌≢◌, [], ◌∷◌, ◌∙◌, List, length, drop, get_or, refl, ap, sym, arith, inl, inr, subst, None}
 use Rattle.std.proofs.lemmas.Bool.{cases_lt}
 use Rattle.std.proofs.lemmas.List.{get_or_past}
-use Rattle.ib_map.specs.Keys.{rank, end_rank}
+use Rattle.ib_map.specs.Keys.{MapKey, rank, end_rank}
 use Rattle.ib_map.specs.Pairs.{put, value_at, place_of}
 use Rattle.ib_heap.specs.Page.{Page}
 use Rattle.ib_heap.specs.Heap.{Node, Heap, first_of, owners, used_places, page_with, read_heap, up_to, nodes_of, records_in, times, places_of}
 use Rattle.ib_heap.specs.Form.{page_of}
 use Rattle.ib_heap.specs.Image.{value_with_records, records_of}
 use Rattle.ib_heap.specs.Put.{owned_by, owner_from, give_slot, give_slot_last, place_for, rest_of, put_in}
-use Rattle.ib_heap.specs.Kept.{IsKept}
+use Rattle.ib_heap.specs.Kept.{IsKept, IsOutside}
 use Rattle.ib_heap.specs.Steps.{IsPlaceOfKey, IsPlaceTaken, IsLinkedIn, IsSlotSplit}
 use Rattle.ib_heap.proofs.KeptLaws.{kept-place, kept-far}
 use Rattle.ib_heap.specs.Page.PageValue.{Tree}
@@ -30,20 +30,20 @@ gives-from ns last (q ∷ qs) p e = inl (ap (λ n. n ∷ qs) (sym e))
 pub taken-gives : (ws vs : List ℕ) (p : ℕ) → IsPlaceTaken ws vs p → Gives (read_heap ws) p (rest_of (read_heap ws).free)
 taken-gives ws vs p h = gives-from (nodes_of ws) (read_heap ws).last (read_heap ws).free p h.place
 
-module _ (ws w1 : List ℕ) (key slot before at p : ℕ) (kn : Known ws) (st : IsPlaceOfKey ws key slot before at) (few : length (nodes_of ws) < 35) (tk : IsPlaceTaken ws w1 p) where
+module _ (ws w1 : List ℕ) (key : MapKey) (slot before at p : ℕ) (kn : Known ws) (st : IsPlaceOfKey ws key slot before at) (few : length (nodes_of ws) < 35) (tk : IsPlaceTaken ws w1 p) where
   abbrev pub gv : Gives (read_heap ws) p (rest_of (read_heap ws).free)
   gv = taken-gives ws w1 p tk
 
   abbrev pub own : ℕ
   own = get_or ws (8 + slot) 0
 
-  pub before-range : (18 ≤ before) × (before ≤ 122)
+  pub before-range : (18 ≤ before) × (before ≤ 156)
   before-range = let f = before_facts ws key slot before at p kn st few gv in (f.0, f.1.0)
 
-  pub owner-range : (18 ≤ own) × (own ≤ 122)
+  pub owner-range : (18 ≤ own) × (own ≤ 156)
   owner-range = let f = owner_facts ws key slot before at p kn st few gv in (f.0, f.1.0)
 
-  pub apart-all : (before ≢ own) × (((before ≢ p) × ((before ≢ p + 1) × (before ≢ p + 2))) × ((own ≢ p) × ((own ≢ p + 1) × (own ≢ p + 2))))
+  pub apart-all : (before ≢ own) × (IsOutside p before × IsOutside p own)
   apart-all = (two ws key slot before at p kn st few gv, ((before_facts ws key slot before at p kn st few gv).1.1, (owner_facts ws key slot before at p kn st few gv).1.1))
 
   pub before-same : get_or w1 before 0 ≡ get_or ws before 0
@@ -74,14 +74,15 @@ module _ (ws w1 : List ℕ) (key slot before at p : ℕ) (kn : Known ws) (st : I
           size = lk.size ∙ (tk.size ∙ kn.is.size);
           place_word = lk.place_word ∙ st.at_is;
           key_word = lk.key_word;
+          is_key = lk.is_key;
           value_word = lk.value_word;
           link = subst (λ (b : ℕ). get_or vs b 0 + first_of (drop (place_of key (records_of ws)) (nodes_of ws)) ≡ get_or ws b 0 + p) st.before_is
               (subst (λ (a : ℕ). get_or vs before 0 + a ≡ get_or ws before 0 + p) st.at_is (let l = lk.link in omega arith));
           raised = subst (λ (o : ℕ). get_or vs o 0 ≡ get_or ws o 0 + 256) o_is (let r = lk.raised in omega arith);
           count = let c = lk.count in let o = tk.other 2 (λ z. absurd (omega arith)) (λ z. absurd (omega arith)) in omega arith;
-          front = lk.other 6 (λ z. absurd (omega arith)) (λ z. absurd (omega arith)) (λ z. absurd (omega arith)) (λ z. absurd (omega arith)) (λ z. absurd (let b = before-range.0 in omega arith)) (λ z. absurd (let b = owner-range.0 in omega arith)) ∙ tk.front;
-          top = lk.other 7 (λ z. absurd (omega arith)) (λ z. absurd (omega arith)) (λ z. absurd (omega arith)) (λ z. absurd (omega arith)) (λ z. absurd (let b = before-range.0 in omega arith)) (λ z. absurd (let b = owner-range.0 in omega arith)) ∙ tk.top;
-          other = λ i two six seven a b c d e. lk.other i two a b c (λ z. d (z ∙ st.before_is)) (λ z. e (z ∙ o_is)) ∙ tk.other i six seven;
+          front = lk.other 6 (λ z. absurd (omega arith)) (inl (omega arith)) (λ z. absurd (let b = before-range.0 in omega arith)) (λ z. absurd (let b = owner-range.0 in omega arith)) ∙ tk.front;
+          top = lk.other 7 (λ z. absurd (omega arith)) (inl (omega arith)) (λ z. absurd (let b = before-range.0 in omega arith)) (λ z. absurd (let b = owner-range.0 in omega arith)) ∙ tk.top;
+          other = λ i two six seven out d e. lk.other i two out (λ z. d (z ∙ st.before_is)) (λ z. e (z ∙ o_is)) ∙ tk.other i six seven;
         }
 
     pub plain : get_or vs own 0 / 256 ≤ 8 → page_of vs ≡ value_with_records (put key value (records_of ws)) (page_of ws)

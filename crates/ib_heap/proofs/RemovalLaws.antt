@@ -1,5 +1,6 @@
 -- A removal, step by step.
 use Rattle.std.proofs.Common.{◌≡◌, ◌≢◌, ℕ, ◌+◌, ◌/◌, ◌%◌, ◌<◌, ◌≤◌, ◌⊎◌, ◌∙◌, List, length, get_or, ap, arith, Some, None, true}
+use Rattle.ib_map.specs.Keys.{MapKey}
 use Rattle.ib_map.specs.Pairs.{without, value_at, place_of}
 use Rattle.ib_heap.specs.Page.{HoldsTree}
 use Rattle.ib_heap.specs.Heap.{nodes_of, read_heap, used_places, records_in, page_with}
@@ -14,31 +15,31 @@ use Rattle.ib_heap.proofs.UnlinkSteps.{at-range, before-range, own-range, slot-r
 use Rattle.ib_heap.proofs.BalanceSteps.{size1, short-range, well-from, well-page, well-heap, slot-small, after-range, short-much, short-after, first-range, apart-lend, first-few, after-much, lend-page, lend-heap, lend-kept, after-few, slot-below, top-few, join-page, join-heap, join-kept}
 
 -- what is left where the record is out of the chain, and its slot as it is then
-pub record IsOut (ws vs : List ℕ) (key : ℕ) : Type 0 where
+pub record IsOut (ws vs : List ℕ) (key : MapKey) : Type 0 where
   pub shaped : is_shaped vs (unlink_in (place_of key (records_of ws)) (read_heap ws)) ≡ true
   pub page : page_with vs (records_in vs (unlink_node (place_of key (records_of ws)) (nodes_of ws))) ≡ page_with ws (without key (records_of ws))
   pub kept : (i : ℕ) → IsKept (used_places (read_heap ws)) i → get_or vs i 0 ≡ get_or ws i 0
 
 -- what a removal leaves
-pub record IsRemoved (ws vs : List ℕ) (key : ℕ) : Type 0 where
+pub record IsRemoved (ws vs : List ℕ) (key : MapKey) : Type 0 where
   pub page : page_of vs ≡ value_with_records (without key (records_of ws)) (page_of ws)
   pub heap : read_heap vs ≡ remove_in (place_of key (records_of ws)) (read_heap ws)
   pub kept : (i : ℕ) → IsKept (used_places (read_heap ws)) i → get_or vs i 0 ≡ get_or ws i 0
 
-module _ (ws : List ℕ) (key slot before at : ℕ) (holds : HoldsTree (page_of ws)) (found : value_at key (records_of ws) ≢ None) (st : IsPlaceOfKey ws key slot before at) where
+module _ (ws : List ℕ) (key : MapKey) (slot before at : ℕ) (holds : HoldsTree (page_of ws)) (found : value_at key (records_of ws) ≢ None) (st : IsPlaceOfKey ws key slot before at) where
   kn : Known ws
   kn = known ws holds
 
   abbrev own : ℕ
   own = get_or ws (8 + slot) 0
 
-  pub record-read : at + 2 < length ws
+  pub record-read : at + 3 < length ws
   record-read = let s = kn.size in let r = at-range ws key slot before at kn st found in let b = r.1 in omega arith
 
   pub slot-read : 8 + slot < length ws
   slot-read = let s = kn.size in let r = slot-range ws key slot before at kn st found in omega arith
 
-  pub value-there : value_at key (records_of ws) ≡ Some (get_or ws (at + 2) 0)
+  pub value-there : value_at key (records_of ws) ≡ Some (get_or ws (at + 3) 0)
   value-there = value-is ws key slot before at kn st found
 
   before-head : IsHead before
@@ -102,10 +103,10 @@ module _ (ws : List ℕ) (key slot before at : ℕ) (holds : HoldsTree (page_of 
     abbrev after : ℕ
     after = get_or w0 (9 + slot) 0
 
-    size : length w0 ≡ 128
+    size : length w0 ≡ 160
     size = size1 ws w0 key slot before at kn st found out.shaped out.page
 
-    short-bounds : (19 ≤ short) × (short ≤ 122)
+    short-bounds : (19 ≤ short) × (short ≤ 156)
     short-bounds = short-range ws w0 key slot before at kn st found out.shaped out.page
 
     pub short-slot-read : 8 + slot < length w0
@@ -123,7 +124,7 @@ module _ (ws : List ℕ) (key slot before at : ℕ) (holds : HoldsTree (page_of 
       small : slot ≤ 8
       small = slot-small ws w0 key slot before at kn st found out.shaped out.page ne three
 
-      after-bounds : (19 ≤ after) × (after ≤ 122)
+      after-bounds : (19 ≤ after) × (after ≤ 156)
       after-bounds = after-range ws w0 key slot before at kn st found out.shaped out.page ne three
 
       pub after-slot-read : 8 + (slot + 1) < length w0

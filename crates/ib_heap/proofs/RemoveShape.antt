@@ -2,7 +2,7 @@
 use Rattle.std.proofs.Common.{◌≡◌, ℕ, zero, suc, ◌+◌, ◌*◌, ◌<◌, ◌≤◌, ◌≢◌, ◌⊎◌, ◌∷◌, ◌++◌, ◌∙◌, List, length, drop, get_or, ap, sym, arith, inl, inr, subst, Some}
 use Rattle.std.specs.List.{remove}
 use Rattle.std.proofs.lemmas.Bool.{cases_eq, cases_lt}
-use Rattle.ib_map.specs.Keys.{end_rank}
+use Rattle.ib_map.specs.Keys.{MapKey, end_rank}
 use Rattle.ib_map.specs.Pairs.{Pairs, without, value_at}
 use Rattle.ib_map.proofs.PairLaws.{Rises-without, length-without}
 use Rattle.ib_map.specs.declared.TheConstants.{PAGE_WORDS}
@@ -15,8 +15,8 @@ use Rattle.ib_heap.proofs.PutLaws.{times-append}
 use Rattle.ib_heap.proofs.SplitLaws.{first-places}
 use Rattle.ib_heap.proofs.SplitShape.{directory-from}
 use Rattle.ib_heap.proofs.PutShape.{low-member, off-none, kept-pair}
-use Rattle.ib_heap.proofs.ShapeLaws.{Shaped, Places, places-known, places-from, once-from, freed-same, records-same, records-places, same-page}
-use Rattle.ib_heap.proofs.UnlinkLaws.{length-unlink, times-unlink, records-unlink, SetAt}
+use Rattle.ib_heap.proofs.ShapeLaws.{Shaped, Places, places-known, places-from, once-from, freed-same, records-same, records-places, same-page, SameRecord, keys-same, keys-places}
+use Rattle.ib_heap.proofs.UnlinkLaws.{length-unlink, times-unlink, records-unlink, SetAt, keys-unlink}
 use Rattle.ib_heap.proofs.BalanceLaws.{GoneAt}
 
 pub directory-set : (ws vs : List ℕ) (s o : ℕ) (os ps : List ℕ) → Directory ws 10 8 (18 ∷ os) → SetAt s o os ps → ((m : ℕ) → m ≢ suc s → m < 10 → get_or vs (8 + m) 0 ≡ get_or ws (8 + m) 0) → get_or vs (8 + suc s) 0 ≡ o
@@ -66,7 +66,7 @@ module _ (ws vs : List ℕ) (h : Heap) (ys : List Node) (l : ℕ) (is : Shaped w
       let l = low-member h known is.few q (omega arith) in let a = l.is in let o = known.once q in
       other q (inr (omega arith)) (omega arith) (λ z. absurd (omega arith))
 
-  pub other-shaped : Chained vs ys l → Directory vs 10 8 (18 ∷ owners ys) → get_or vs 7 0 ≡ (1 + length (owners ys)) * 256 + (20 + 3 * used_places h) → Shaped vs other_heap
+  pub other-shaped : Chained vs ys l → Directory vs 10 8 (18 ∷ owners ys) → get_or vs 7 0 ≡ (1 + length (owners ys)) * 256 + (20 + 4 * used_places h) → Shaped vs other_heap
   other-shaped chained directory top =
       let lo = long in let few = is.few in let c = is.count in let hc = head_word 2 (omega arith) in
       record {
@@ -83,9 +83,7 @@ module _ (ws vs : List ℕ) (h : Heap) (ys : List Node) (l : ℕ) (is : Shaped w
         directory = directory;
         places = subst (λ (ps : List ℕ). ArePlaces (used_places other_heap) (ps ++ h.free)) (sym same) (subst (λ (n : ℕ). ArePlaces n (places_of h.nodes ++ h.free)) (let e : used_places h ≡ used_places other_heap = omega arith in e) is.places);
         once = subst (λ (ps : List ℕ). EachOnce (used_places other_heap) (ps ++ h.free)) (sym same) (subst (λ (n : ℕ). EachOnce n (places_of h.nodes ++ h.free)) (let e : used_places h ≡ used_places other_heap = omega arith in e) is.once);
-        zero_125 = other 125 (inr (omega arith)) (off-none h known is.few 125 (inr (inl (omega arith)))) (λ z. absurd (omega arith)) ∙ is.zero_125;
-        zero_126 = other 126 (inr (omega arith)) (off-none h known is.few 126 (inr (inl (omega arith)))) (λ z. absurd (omega arith)) ∙ is.zero_126;
-        zero_127 = other 127 (inr (omega arith)) (off-none h known is.few 127 (inr (inl (omega arith)))) (λ z. absurd (omega arith)) ∙ is.zero_127;
+        keyed = keys-places vs ys h.nodes same ∙ (keys-same ws vs h.nodes (kept-pair ws vs h known is.few (λ i high off. other i (inr (omega arith)) (off-none h known is.few i off) (λ z. absurd (omega arith)))) ∙ is.keyed);
       }
 
 -- what was written for a record taken out
@@ -97,7 +95,7 @@ pub record UnlinkWords (ws vs : List ℕ) (h : Heap) (k : ℕ) : Type 0 where
   pub start : get_or vs 18 0 ≡ 256 + first_of (unlink_node k h.nodes)
   pub other : (i : ℕ) → i ≢ 2 → i ≢ 6 → (i < 8) ⊎ (18 < i) → times i (places_of h.nodes) ≡ 0 → i ≢ 19 → get_or vs i 0 ≡ get_or ws i 0
 
-module _ (ws vs : List ℕ) (h : Heap) (k key value : ℕ) (is : IsHeap ws h) (lt : k < length h.nodes) (w : UnlinkWords ws vs h k)
+module _ (ws vs : List ℕ) (h : Heap) (k : ℕ) (key : MapKey) (value : ℕ) (is : IsHeap ws h) (lt : k < length h.nodes) (w : UnlinkWords ws vs h k)
     (gone : remove (records_in ws h.nodes) k ≡ without key (records_in ws h.nodes)) (found : value_at key (records_in ws h.nodes) ≡ Some value) where
   abbrev pub unlink_heap : Heap
   unlink_heap = record { nodes = unlink_node k h.nodes; last = unlink_last k h.nodes h.last; free = first_of (drop k h.nodes) ∷ h.free }
@@ -114,8 +112,11 @@ module _ (ws vs : List ℕ) (h : Heap) (k key value : ℕ) (is : IsHeap ws h) (l
   times_in : (q : ℕ) → times q (places_of (unlink_node k h.nodes)) ≤ times q (places_of h.nodes)
   times_in q = let t = times-unlink k q h.nodes lt in omega arith
 
+  same-records : (q : ℕ) → 0 < times q (places_of (unlink_node k h.nodes)) → SameRecord ws vs q
+  same-records q m = let t = times_in q in kept-pair ws vs h known_before is.few (λ i high off. w.other i (λ z. absurd (omega arith)) (λ z. absurd (omega arith)) (inr (omega arith)) (off-none h known_before is.few i off) (λ z. absurd (omega arith))) q (omega arith)
+
   pub unlink-records : records_in vs (unlink_node k h.nodes) ≡ without key (records_in ws h.nodes)
-  unlink-records = records-same ws vs (unlink_node k h.nodes) (λ q m. let t = times_in q in kept-pair ws vs h known_before is.few (λ i high off. w.other i (λ z. absurd (omega arith)) (λ z. absurd (omega arith)) (inr (omega arith)) (off-none h known_before is.few i off) (λ z. absurd (omega arith))) q (omega arith)) ∙ (records-unlink ws k h.nodes lt ∙ gone)
+  unlink-records = records-same ws vs (unlink_node k h.nodes) same-records ∙ (records-unlink ws k h.nodes lt ∙ gone)
 
   pub unlink-page : page_with vs (records_in vs (unlink_node k h.nodes)) ≡ page_with ws (without key (records_in ws h.nodes))
   unlink-page = ap (λ (rs : Pairs). page_with vs rs) unlink-records
@@ -138,9 +139,6 @@ module _ (ws vs : List ℕ) (h : Heap) (k key value : ℕ) (is : IsHeap ws h) (l
       let l = low-member h known_before is.few q (omega arith) in let a = l.is in let o = known_before.once q in
       w.other q (λ z. absurd (omega arith)) (λ z. absurd (omega arith)) (inr (omega arith)) (omega arith) (λ z. absurd (omega arith))
 
-  far : (i : ℕ) → 124 < i → get_or vs i 0 ≡ get_or ws i 0
-  far i l = w.other i (λ z. absurd (omega arith)) (λ z. absurd (omega arith)) (inr (omega arith)) (off-none h known_before is.few i (inr (inl (omega arith)))) (λ z. absurd (omega arith))
-
   pub unlink-shaped : Chained vs (unlink_node k h.nodes) (unlink_last k h.nodes h.last) → Directory vs 10 8 (18 ∷ owners (unlink_node k h.nodes)) → length (owners (unlink_node k h.nodes)) ≡ length (owners h.nodes) → Shaped vs unlink_heap
   unlink-shaped chained directory slots =
       let lo = length-unlink k h.nodes lt in let u = used_is in let few = is.few in let c = is.count in let wc = w.count in let t = is.top in let ht = kept_head 7 (omega arith) (λ z. absurd (omega arith)) (λ z. absurd (omega arith)) in
@@ -157,8 +155,6 @@ module _ (ws vs : List ℕ) (h : Heap) (k key value : ℕ) (is : IsHeap ws h) (l
         freed = (w.freed ∙ is.front, freed-same ws vs h.free is.freed kept_free);
         directory = directory;
         places = places-from (used_places unlink_heap) (places_of (unlink_node k h.nodes) ++ (at ∷ h.free)) (λ q m. subst (λ (n : ℕ). IsPlace n q) (sym used_is) (known_before.place q (let t1 = times_new q in omega arith)));
-        once = once-from (used_places unlink_heap) (places_of (unlink_node k h.nodes) ++ (at ∷ h.free)) (λ r m. let t1 = times_new (20 + 3 * r) in let e = known_before.each r (omega arith) in omega arith);
-        zero_125 = far 125 (omega arith) ∙ is.zero_125;
-        zero_126 = far 126 (omega arith) ∙ is.zero_126;
-        zero_127 = far 127 (omega arith) ∙ is.zero_127;
+        once = once-from (used_places unlink_heap) (places_of (unlink_node k h.nodes) ++ (at ∷ h.free)) (λ r m. let t1 = times_new (20 + 4 * r) in let e = known_before.each r (omega arith) in omega arith);
+        keyed = keys-same ws vs (unlink_node k h.nodes) same-records ∙ keys-unlink ws k h.nodes is.keyed;
       }

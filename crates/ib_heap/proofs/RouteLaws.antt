@@ -2,7 +2,7 @@
 use Rattle.std.proofs.Common.{◌≡◌, ℕ, zero, suc, ◌+◌, ◌-◌, ◌<◌, ◌≤◌, ◌≢◌, [], ◌∷◌, Option, Some, None, slice_get, IsSomeAnd, length, get_or, refl, ap, sym, arith, subst, inl, inr}
 use Rattle.std.specs.Prelude.{IfSome}
 use Rattle.std.proofs.lemmas.Bool.{cases_lt, lt-ltb, le-ltb, le-leb, lt-leb}
-use Rattle.ib_map.specs.Keys.{MapKey, rank, end_rank}
+use Rattle.ib_map.specs.Keys.{MapKey, rank, end_rank, least}
 use Rattle.ib_map.specs.Pairs.{Pairs, Rises, value_at, place_of, place_after}
 use Rattle.std.proofs.lemmas.Option.{slice_get_within, slice_get-get_or, get_or_from_slice_get}
 use Rattle.ib_map.proofs.RiseLaws.{Rises-lt}
@@ -109,12 +109,12 @@ routed-found key xs i rises at found =
     let got = IsSomeAnd_get (slice_get xs i) (λ r. r.0 ≡ key) found in
     let r = got.0 in
     let same : rank r.0 ≡ rank key = ap rank got.2 in
-    let there = slice_get-get_or xs i (0, 0) (slice_get_within xs i r got.1) in
+    let there = slice_get-get_or xs i (least, 0) (slice_get_within xs i r got.1) in
     routed key xs i r rises got.1 (omega arith)
     (λ s next.
-    let rise = Rises-lt 0 xs end_rank rises i (i + 1) (0, 0) (omega arith) (slice_get_within xs (i + 1) s next) in
-    let first : rank (get_or xs i (0, 0)).0 ≡ rank r.0 = ap (λ (y : MapKey × ℕ). rank y.0) (get_or_from_slice_get xs i r (0, 0) got.1) in
-    let second : rank (get_or xs (i + 1) (0, 0)).0 ≡ rank s.0 = ap (λ (y : MapKey × ℕ). rank y.0) (get_or_from_slice_get xs (i + 1) s (0, 0) next) in
+    let rise = Rises-lt 0 xs end_rank rises i (i + 1) (least, 0) (omega arith) (slice_get_within xs (i + 1) s next) in
+    let first : rank (get_or xs i (least, 0)).0 ≡ rank r.0 = ap (λ (y : MapKey × ℕ). rank y.0) (get_or_from_slice_get xs i r (least, 0) got.1) in
+    let second : rank (get_or xs (i + 1) (least, 0)).0 ≡ rank s.0 = ap (λ (y : MapKey × ℕ). rank y.0) (get_or_from_slice_get xs (i + 1) s (least, 0) next) in
     omega arith)
 
 pub place-positive : (key : MapKey) (xs : Pairs) (i : ℕ) → Rises 0 xs end_rank → i ≡ place_of key xs → value_at key xs ≡ None → IsSomeAnd (slice_get xs 0) (λ r. rank r.0 ≤ rank key) → 0 < i
@@ -129,8 +129,8 @@ pub routed-absent : (key : MapKey) (xs : Pairs) (i : ℕ) → Rises 0 xs end_ran
 routed-absent key xs i rises at none first =
     let positive = place-positive key xs i rises at none first in
     let within = place_of-le key xs in
-    let there = slice_get-get_or xs (i - 1) (0, 0) (omega arith) in
-    let r : MapKey × ℕ = get_or xs (i - 1) (0, 0) in
+    let there = slice_get-get_or xs (i - 1) (least, 0) (omega arith) in
+    let r : MapKey × ℕ = get_or xs (i - 1) (least, 0) in
     let lower = lower_before_place key xs (i - 1) r (omega arith) there in
     routed key xs (i - 1) r rises there (omega arith)
     (λ s next.

@@ -1,11 +1,11 @@
 -- Slots, places and records along the chain.
-use Rattle.std.proofs.Common.{◌≡◌, ℕ, zero, suc, ◌+◌, ◌-◌, ◌*◌, ◌%◌, ◌<◌, ◌≤◌, ◌⊎◌, [], ◌∷◌, ◌∙◌, List, length, take, drop, get_or, refl, ap, sym, arith, inl, inr, subst, Some, slice_get}
-use Rattle.std.proofs.lemmas.Bool.{cases_eq, eq-eqb, ne_eqb, cases_lt}
-use Rattle.ib_map.specs.Keys.{rank, end_rank}
+use Rattle.std.proofs.Common.{◌≡◌, ℕ, zero, suc, ◌+◌, ◌-◌, ◌*◌, ◌%◌, ◌<◌, ◌≤◌, ◌⊎◌, [], ◌∷◌, ◌∙◌, List, length, take, drop, get_or, refl, ap, sym, arith, inl, inr, subst, Some, slice_get, true}
+use Rattle.std.proofs.lemmas.Bool.{cases_eq, eq-eqb, ne_eqb, cases_lt, and_parts}
+use Rattle.ib_map.specs.Keys.{MapKey, rank, end_rank}
 use Rattle.ib_map.specs.Pairs.{Pairs, Rises, place_of}
 use Rattle.ib_map.specs.declared.TheConstants.{PAGE_WORDS}
 use Rattle.ib_heap.specs.Page.{HoldsTree, page_in}
-use Rattle.ib_heap.specs.Heap.{Node, first_of, owners, places_of, records_in, used_places, read_heap, last_from, up_to, nodes_of}
+use Rattle.ib_heap.specs.Heap.{key_at, is_key_at, are_keys, Node, first_of, owners, places_of, records_in, used_places, read_heap, last_from, up_to, nodes_of}
 use Rattle.ib_heap.specs.Form.{page_of}
 use Rattle.ib_heap.specs.Image.{records_of}
 use Rattle.ib_map.proofs.PlaceLaws.{place_of-le}
@@ -105,13 +105,13 @@ node-word ws zero (x ∷ xs) last lt c = c.0
 node-word ws (suc t) (x ∷ xs) last lt c = node-word ws t xs last (omega arith) c.1
 
 -- a record, by its place
-pub record-at : (ws : List ℕ) (xs : List Node) (k : ℕ) → k < length xs → slice_get (records_in ws xs) k ≡ Some (get_or ws (first_of (drop k xs) + 1) 0, get_or ws (first_of (drop k xs) + 2) 0)
+pub record-at : (ws : List ℕ) (xs : List Node) (k : ℕ) → k < length xs → slice_get (records_in ws xs) k ≡ Some (key_at ws (first_of (drop k xs)), get_or ws (first_of (drop k xs) + 3) 0)
 record-at ws [] k lt = absurd (omega arith)
 record-at ws (x ∷ xs) zero lt = refl
 record-at ws (x ∷ xs) (suc k) lt = record-at ws xs k (omega arith)
 
 -- where the chain goes on is the supremum exactly where it ends
-pub first-in : (n : ℕ) (xs : List Node) (k : ℕ) → n ≤ 35 → ArePlaces n (places_of xs) → k ≤ length xs → ((first_of (drop k xs) ≡ 19) × (k ≡ length xs)) ⊎ ((20 ≤ first_of (drop k xs)) × ((first_of (drop k xs) ≤ 122) × (k < length xs)))
+pub first-in : (n : ℕ) (xs : List Node) (k : ℕ) → n ≤ 35 → ArePlaces n (places_of xs) → k ≤ length xs → ((first_of (drop k xs) ≡ 19) × (k ≡ length xs)) ⊎ ((20 ≤ first_of (drop k xs)) × ((first_of (drop k xs) ≤ 156) × (k < length xs)))
 first-in n [] zero le h within = inl (refl, refl)
 first-in n [] (suc k) le h within = absurd (omega arith)
 first-in n (x ∷ xs) zero le h within = let a = h.0.is in let b = h.0.below in inr (omega arith, (omega arith, omega arith))
@@ -142,7 +142,7 @@ pub record Known (ws : List ℕ) : Type 0 where
   pub few : used_places (read_heap ws) ≤ 35
   pub slots : 1 + length (owners (nodes_of ws)) ≤ 10
   pub some : 0 < length (owners (nodes_of ws))
-  pub size : length ws ≡ 128
+  pub size : length ws ≡ 160
   pub long : length (records_of ws) ≡ length (nodes_of ws)
   pub rises : Rises 0 (records_of ws) end_rank
 
@@ -162,7 +162,7 @@ known ws holds =
       rises = subst (λ (rs : Pairs). Rises 0 rs end_rank) (sym same) k.is.fits.ascends;
     }
 
-pub last-in : (n p : ℕ) (xs : List Node) (k : ℕ) → n ≤ 35 → ArePlaces n (places_of xs) → k ≤ length xs → ((k ≡ 0) × (last_from p (take k xs) ≡ p)) ⊎ ((20 ≤ last_from p (take k xs)) × (last_from p (take k xs) ≤ 122))
+pub last-in : (n p : ℕ) (xs : List Node) (k : ℕ) → n ≤ 35 → ArePlaces n (places_of xs) → k ≤ length xs → ((k ≡ 0) × (last_from p (take k xs) ≡ p)) ⊎ ((20 ≤ last_from p (take k xs)) × (last_from p (take k xs) ≤ 156))
 last-in n p xs zero le h within = inl (refl, refl)
 last-in n p [] (suc k) le h within = absurd (omega arith)
 last-in n p (x ∷ xs) (suc k) le h within =
@@ -172,12 +172,31 @@ last-in n p (x ∷ xs) (suc k) le h within =
       | inr e ↦ inr e
     ]
 
+-- a record of the chain has the words of a key
+pub keyed-first : (ws : List ℕ) (xs : List Node) (k : ℕ) → are_keys ws xs ≡ true → k < length xs → is_key_at ws (first_of (drop k xs)) ≡ true
+keyed-first ws [] k are lt = absurd (omega arith)
+keyed-first ws (x ∷ xs) zero are lt = (and_parts (is_key_at ws x.place) (are_keys ws xs) are).0
+keyed-first ws (x ∷ xs) (suc k) are lt = keyed-first ws xs k (and_parts (is_key_at ws x.place) (are_keys ws xs) are).1 (omega arith)
+
+pub keyed-at : (ws : List ℕ) (k place : ℕ) → Known ws → k < length (nodes_of ws) → place ≡ first_of (drop k (nodes_of ws)) → is_key_at ws place ≡ true
+keyed-at ws k place kn lt at = ap (λ i. is_key_at ws i) at ∙ keyed-first ws (nodes_of ws) k kn.is.keyed lt
+
+-- the owner of a slot is the last record up to it
+pub slot-place : (ws : List ℕ) (slot place : ℕ) → 0 < slot → slot < length (owners (nodes_of ws)) → place ≡ last_from 18 (take (up_to slot (nodes_of ws)) (nodes_of ws))
+    → (up_to slot (nodes_of ws) - 1 < length (nodes_of ws)) × (place ≡ first_of (drop (up_to slot (nodes_of ws) - 1) (nodes_of ws)))
+slot-place ws slot place pos lt at =
+    let some = up_to-some slot (nodes_of ws) pos lt in
+    let within = up_to-le slot (nodes_of ws) in
+    let e : up_to slot (nodes_of ws) ≡ suc (up_to slot (nodes_of ws) - 1) = omega arith in
+    (omega arith, at ∙ (ap (λ n. last_from 18 (take n (nodes_of ws))) e ∙ last-first 18 (nodes_of ws) (up_to slot (nodes_of ws) - 1) (omega arith)))
+
 -- the owner of a slot, by its word
 pub record OwnerIs (ws : List ℕ) (slot place : ℕ) : Type 0 where
   pub at : (slot < length (owners (nodes_of ws)) → place ≡ last_from 18 (take (up_to slot (nodes_of ws)) (nodes_of ws)))
   pub low : 18 ≤ place
-  pub high : place ≤ 122
+  pub high : place ≤ 156
   pub is_record : 0 < slot → slot < length (owners (nodes_of ws)) → 20 ≤ place
+  pub keyed : 0 < slot → slot < length (owners (nodes_of ws)) → is_key_at ws place ≡ true
 
 pub owner-is : (ws : List ℕ) (slot : ℕ) → Known ws → slot ≤ length (owners (nodes_of ws)) → OwnerIs ws slot (get_or ws (8 + slot) 0)
 owner-is ws slot k le =
@@ -186,14 +205,15 @@ owner-is ws slot k le =
     elim (cases_lt slot (length (owners (nodes_of ws)))) [
       | inl lt ↦
           let place : get_or ws (8 + slot) 0 ≡ last_from 18 (take (up_to slot (nodes_of ws)) (nodes_of ws)) = word ∙ owner-at 18 (nodes_of ws) slot lt in
+          let keyed : 0 < slot → slot < length (owners (nodes_of ws)) → is_key_at ws (get_or ws (8 + slot) 0) ≡ true = λ pos within. let here = slot-place ws slot (get_or ws (8 + slot) 0) pos within place in keyed-at ws _ _ k here.0 here.1 in
           elim (last-in (used_places (read_heap ws)) 18 (nodes_of ws) (up_to slot (nodes_of ws)) k.few k.places (up_to-le slot (nodes_of ws))) [
-            | inl e ↦ let f = e.1 in let z = e.0 in record { at = λ h. place; low = omega arith; high = omega arith; is_record = λ pos within. absurd (let s = up_to-some slot (nodes_of ws) pos within in omega arith) }
-            | inr e ↦ let f = e.0 in let z = e.1 in record { at = λ h. place; low = omega arith; high = omega arith; is_record = λ pos within. omega arith }
+            | inl e ↦ let f = e.1 in let z = e.0 in record { at = λ h. place; low = omega arith; high = omega arith; is_record = λ pos within. absurd (let s = up_to-some slot (nodes_of ws) pos within in omega arith); keyed = keyed }
+            | inr e ↦ let f = e.0 in let z = e.1 in record { at = λ h. place; low = omega arith; high = omega arith; is_record = λ pos within. omega arith; keyed = keyed }
           ]
       | inr ge ↦
           let e : slot ≡ length (owners (nodes_of ws)) = omega arith in
           let is : get_or ws (8 + slot) 0 ≡ 19 = word ∙ (ap (λ i. get_or (18 ∷ owners (nodes_of ws)) i 0) e ∙ owner-last 18 (nodes_of ws)) in
-          record { at = λ h. absurd (omega arith); low = omega arith; high = omega arith; is_record = λ pos within. absurd (omega arith) }
+          record { at = λ h. absurd (omega arith); low = omega arith; high = omega arith; is_record = λ pos within. absurd (omega arith); keyed = λ pos within. absurd (omega arith) }
     ]
 
 -- where the chain goes on behind its first k records
@@ -204,33 +224,30 @@ next-is ws k place kn le at =
     ap (λ i. get_or ws i 0 % 256) at ∙ link-at ws (used_places (read_heap ws)) 18 (nodes_of ws) (read_heap ws).last k kn.few kn.places (omega arith) kn.is.chained le
 
 -- the record at a place of the chain
-pub record-is : (ws : List ℕ) (k place : ℕ) → Known ws → k < length (nodes_of ws) → place ≡ first_of (drop k (nodes_of ws)) → slice_get (records_of ws) k ≡ Some (get_or ws (place + 1) 0, get_or ws (place + 2) 0)
-record-is ws k place kn lt at = ap (λ (rs : Pairs). slice_get rs k) kn.records ∙ (record-at ws (nodes_of ws) k lt ∙ ap (λ i. Some (get_or ws (i + 1) 0, get_or ws (i + 2) 0)) (sym at))
+pub record-is : (ws : List ℕ) (k place : ℕ) → Known ws → k < length (nodes_of ws) → place ≡ first_of (drop k (nodes_of ws)) → slice_get (records_of ws) k ≡ Some (key_at ws place, get_or ws (place + 3) 0)
+record-is ws k place kn lt at = ap (λ (rs : Pairs). slice_get rs k) kn.records ∙ (record-at ws (nodes_of ws) k lt ∙ ap (λ i. Some (key_at ws i, get_or ws (i + 3) 0)) (sym at))
 
 -- a slot whose owner is below the key, and one whose owner is not
 pub slot-record : (ws : List ℕ) (slot place : ℕ) → Known ws → 0 < slot → slot < length (owners (nodes_of ws)) → place ≡ last_from 18 (take (up_to slot (nodes_of ws)) (nodes_of ws))
-    → slice_get (records_of ws) (up_to slot (nodes_of ws) - 1) ≡ Some (get_or ws (place + 1) 0, get_or ws (place + 2) 0)
+    → slice_get (records_of ws) (up_to slot (nodes_of ws) - 1) ≡ Some (key_at ws place, get_or ws (place + 3) 0)
 slot-record ws slot place kn pos lt at =
-    let some = up_to-some slot (nodes_of ws) pos lt in
-    let within = up_to-le slot (nodes_of ws) in
-    let e : up_to slot (nodes_of ws) ≡ suc (up_to slot (nodes_of ws) - 1) = omega arith in
-    let here : place ≡ first_of (drop (up_to slot (nodes_of ws) - 1) (nodes_of ws)) = at ∙ (ap (λ n. last_from 18 (take n (nodes_of ws))) e ∙ last-first 18 (nodes_of ws) (up_to slot (nodes_of ws) - 1) (omega arith)) in
-    record-is ws (up_to slot (nodes_of ws) - 1) place kn (omega arith) here
+    let here = slot-place ws slot place pos lt at in
+    record-is ws (up_to slot (nodes_of ws) - 1) place kn here.0 here.1
 
-pub slot-below : (ws : List ℕ) (slot place key : ℕ) → Known ws → 0 < slot → slot < length (owners (nodes_of ws)) → place ≡ last_from 18 (take (up_to slot (nodes_of ws)) (nodes_of ws))
-    → rank (get_or ws (place + 1) 0) < rank key → up_to slot (nodes_of ws) ≤ place_of key (records_of ws)
+pub slot-below : (ws : List ℕ) (slot place : ℕ) (key : MapKey) → Known ws → 0 < slot → slot < length (owners (nodes_of ws)) → place ≡ last_from 18 (take (up_to slot (nodes_of ws)) (nodes_of ws))
+    → rank (key_at ws place) < rank key → up_to slot (nodes_of ws) ≤ place_of key (records_of ws)
 slot-below ws slot place key kn pos lt at below =
     let some = up_to-some slot (nodes_of ws) pos lt in
     let r = place_of-behind_lower key 0 (records_of ws) end_rank (up_to slot (nodes_of ws) - 1) _ kn.rises (slot-record ws slot place kn pos lt at) below in omega arith
 
-pub slot-above : (ws : List ℕ) (slot place key : ℕ) → Known ws → 0 < slot → slot < length (owners (nodes_of ws)) → place ≡ last_from 18 (take (up_to slot (nodes_of ws)) (nodes_of ws))
-    → rank key ≤ rank (get_or ws (place + 1) 0) → place_of key (records_of ws) < up_to slot (nodes_of ws)
+pub slot-above : (ws : List ℕ) (slot place : ℕ) (key : MapKey) → Known ws → 0 < slot → slot < length (owners (nodes_of ws)) → place ≡ last_from 18 (take (up_to slot (nodes_of ws)) (nodes_of ws))
+    → rank key ≤ rank (key_at ws place) → place_of key (records_of ws) < up_to slot (nodes_of ws)
 slot-above ws slot place key kn pos lt at above =
     let some = up_to-some slot (nodes_of ws) pos lt in
     let r = place_of-not_behind key (records_of ws) (up_to slot (nodes_of ws) - 1) _ (slot-record ws slot place kn pos lt at) above in omega arith
 
 -- a walk from behind the first records on, so many steps
-pub record Walk (ws : List ℕ) (key first before at step : ℕ) : Type 0 where
+pub record Walk (ws : List ℕ) (key : MapKey) (first before at step : ℕ) : Type 0 where
   pub number : ℕ
   pub number_is : number ≡ first + step
   pub within : number ≤ length (nodes_of ws)
@@ -238,13 +255,13 @@ pub record Walk (ws : List ℕ) (key first before at step : ℕ) : Type 0 where
   pub before_is : before ≡ last_from 18 (take number (nodes_of ws))
   pub at_is : at ≡ first_of (drop number (nodes_of ws))
 
-pub walk-place : (ws : List ℕ) (key first before at step : ℕ) → Known ws → Walk ws key first before at step → (at ≡ 19 → ⊥) → (20 ≤ at) × ((at ≤ 122) × (0 < 1))
+pub walk-place : (ws : List ℕ) (key : MapKey) (first before at step : ℕ) → Known ws → Walk ws key first before at step → (at ≡ 19 → ⊥) → (20 ≤ at) × ((at ≤ 156) × (0 < 1))
 walk-place ws key first before at step kn w ne = elim (first-in (used_places (read_heap ws)) (nodes_of ws) w.number kn.few kn.places w.within) [
   | inl e ↦ absurd (ne (w.at_is ∙ e.0))
   | inr e ↦ let a = e.0 in let b = e.1.0 in let i = w.at_is in (omega arith, (omega arith, omega arith))
 ]
 
-pub walk-on : (ws : List ℕ) (key first before at step next : ℕ) → Known ws → Walk ws key first before at step → (at ≡ 19 → ⊥) → rank (get_or ws (at + 1) 0) < rank key
+pub walk-on : (ws : List ℕ) (key : MapKey) (first before at step next : ℕ) → Known ws → Walk ws key first before at step → (at ≡ 19 → ⊥) → rank (key_at ws at) < rank key
     → ((k : ℕ) → k ≤ length (nodes_of ws) → at ≡ last_from 18 (take k (nodes_of ws)) → next ≡ first_of (drop k (nodes_of ws))) → Walk ws key first at next (step + 1)
 walk-on ws key first before at step next kn w ne below reads = elim (first-in (used_places (read_heap ws)) (nodes_of ws) w.number kn.few kn.places w.within) [
   | inl e ↦ absurd (ne (w.at_is ∙ e.0))
@@ -257,7 +274,7 @@ walk-on ws key first before at step next kn w ne below reads = elim (first-in (u
 ]
 
 -- where the walk ends is the place of the key
-pub walk-end : (ws : List ℕ) (key first before at step : ℕ) → Known ws → (w : Walk ws key first before at step) → (at ≡ 19) ⊎ (rank key ≤ rank (get_or ws (at + 1) 0)) → w.number ≡ place_of key (records_of ws)
+pub walk-end : (ws : List ℕ) (key : MapKey) (first before at step : ℕ) → Known ws → (w : Walk ws key first before at step) → (at ≡ 19) ⊎ (rank key ≤ rank (key_at ws at)) → w.number ≡ place_of key (records_of ws)
 walk-end ws key first before at step kn w ends =
     let most = place_of-le key (records_of ws) in
     let long = kn.long in
@@ -270,31 +287,37 @@ walk-end ws key first before at step kn w ends =
       ]
     ]
 
-pub walk-full : (ws : List ℕ) (key first before at step : ℕ) → Known ws → Walk ws key first before at step → 35 ≤ step → at ≡ 19
+pub walk-full : (ws : List ℕ) (key : MapKey) (first before at step : ℕ) → Known ws → Walk ws key first before at step → 35 ≤ step → at ≡ 19
 walk-full ws key first before at step kn w full = elim (first-in (used_places (read_heap ws)) (nodes_of ws) w.number kn.few kn.places w.within) [
   | inl e ↦ w.at_is ∙ e.0
   | inr e ↦ absurd (let lt = e.1.1 in let number = w.number_is in let few = kn.few in omega arith)
 ]
 
-pub walk-start : (ws : List ℕ) (key slot before at : ℕ) → Known ws → up_to slot (nodes_of ws) ≤ place_of key (records_of ws) → before ≡ last_from 18 (take (up_to slot (nodes_of ws)) (nodes_of ws))
+pub walk-start : (ws : List ℕ) (key : MapKey) (slot before at : ℕ) → Known ws → up_to slot (nodes_of ws) ≤ place_of key (records_of ws) → before ≡ last_from 18 (take (up_to slot (nodes_of ws)) (nodes_of ws))
     → ((k : ℕ) → k ≤ length (nodes_of ws) → before ≡ last_from 18 (take k (nodes_of ws)) → at ≡ first_of (drop k (nodes_of ws))) → Walk ws key (up_to slot (nodes_of ws)) before at 0
 walk-start ws key slot before at kn low is reads = record { number = up_to slot (nodes_of ws); number_is = omega arith; within = up_to-le slot (nodes_of ws); low = low; before_is = is; at_is = reads _ (up_to-le slot (nodes_of ws)) is }
 
-pub walk-low : (ws : List ℕ) (key first before at step : ℕ) → Known ws → Walk ws key first before at step → at ≤ 122
+pub walk-low : (ws : List ℕ) (key : MapKey) (first before at step : ℕ) → Known ws → Walk ws key first before at step → at ≤ 156
 walk-low ws key first before at step kn w = elim (first-in (used_places (read_heap ws)) (nodes_of ws) w.number kn.few kn.places w.within) [
   | inl e ↦ let a = e.0 in let i = w.at_is in omega arith
   | inr e ↦ let a = e.1.0 in let i = w.at_is in omega arith
 ]
 
+pub walk-keyed : (ws : List ℕ) (key : MapKey) (first before at step : ℕ) → Known ws → Walk ws key first before at step → (at ≡ 19 → ⊥) → is_key_at ws at ≡ true
+walk-keyed ws key first before at step kn w ne = elim (first-in (used_places (read_heap ws)) (nodes_of ws) w.number kn.few kn.places w.within) [
+  | inl e ↦ absurd (ne (w.at_is ∙ e.0))
+  | inr e ↦ keyed-at ws w.number at kn e.1.1 w.at_is
+]
+
 -- the two places where the key stands
-pub walk-before : (ws : List ℕ) (key first before at step : ℕ) → Known ws → Walk ws key first before at step → (at ≡ 19) ⊎ (rank key ≤ rank (get_or ws (at + 1) 0)) → before ≡ last_from 18 (take (place_of key (records_of ws)) (nodes_of ws))
+pub walk-before : (ws : List ℕ) (key : MapKey) (first before at step : ℕ) → Known ws → Walk ws key first before at step → (at ≡ 19) ⊎ (rank key ≤ rank (key_at ws at)) → before ≡ last_from 18 (take (place_of key (records_of ws)) (nodes_of ws))
 walk-before ws key first before at step kn w ends = w.before_is ∙ ap (λ n. last_from 18 (take n (nodes_of ws))) (walk-end ws key first before at step kn w ends)
 
-pub walk-at : (ws : List ℕ) (key first before at step : ℕ) → Known ws → Walk ws key first before at step → (at ≡ 19) ⊎ (rank key ≤ rank (get_or ws (at + 1) 0)) → at ≡ first_of (drop (place_of key (records_of ws)) (nodes_of ws))
+pub walk-at : (ws : List ℕ) (key : MapKey) (first before at step : ℕ) → Known ws → Walk ws key first before at step → (at ≡ 19) ⊎ (rank key ≤ rank (key_at ws at)) → at ≡ first_of (drop (place_of key (records_of ws)) (nodes_of ws))
 walk-at ws key first before at step kn w ends = w.at_is ∙ ap (λ n. first_of (drop n (nodes_of ws))) (walk-end ws key first before at step kn w ends)
 
 -- how many steps lead there
-pub walk-steps : (ws : List ℕ) (key first before at step : ℕ) → Known ws → Walk ws key first before at step → (at ≡ 19) ⊎ (rank key ≤ rank (get_or ws (at + 1) 0)) → first + step ≡ place_of key (records_of ws)
+pub walk-steps : (ws : List ℕ) (key : MapKey) (first before at step : ℕ) → Known ws → Walk ws key first before at step → (at ≡ 19) ⊎ (rank key ≤ rank (key_at ws at)) → first + step ≡ place_of key (records_of ws)
 walk-steps ws key first before at step kn w ends = sym w.number_is ∙ walk-end ws key first before at step kn w ends
 
 -- the records of a page ascend
@@ -313,7 +336,7 @@ chain-on ws k at holds lt is =
     let e : suc k ≡ k + 1 = omega arith in
     ap (λ i. get_or ws i 0 % 256) (is ∙ sym (last-first 18 (nodes_of ws) k lt)) ∙ (next-is ws (suc k) _ (known ws holds) (omega arith) refl ∙ ap (λ n. first_of (drop n (nodes_of ws))) e)
 
-pub chain-within : (ws : List ℕ) (k at : ℕ) → HoldsTree (page_of ws) → k < length (nodes_of ws) → at ≡ first_of (drop k (nodes_of ws)) → at ≤ 122
+pub chain-within : (ws : List ℕ) (k at : ℕ) → HoldsTree (page_of ws) → k < length (nodes_of ws) → at ≡ first_of (drop k (nodes_of ws)) → at ≤ 156
 chain-within ws k at holds lt is =
     let kn = known ws holds in
     elim (first-in (used_places (read_heap ws)) (nodes_of ws) k kn.few kn.places (omega arith)) [ inl e ↦ (let a = e.0 in omega arith) | inr e ↦ (let a = e.1.0 in omega arith) ]
@@ -321,5 +344,5 @@ chain-within ws k at holds lt is =
 pub nodes-length : (ws : List ℕ) → HoldsTree (page_of ws) → length (records_of ws) ≡ length (nodes_of ws)
 nodes-length ws holds = (known ws holds).long
 
-pub chain-record : (ws : List ℕ) (k at : ℕ) → HoldsTree (page_of ws) → k < length (nodes_of ws) → at ≡ first_of (drop k (nodes_of ws)) → slice_get (records_of ws) k ≡ Some (get_or ws (at + 1) 0, get_or ws (at + 2) 0)
+pub chain-record : (ws : List ℕ) (k at : ℕ) → HoldsTree (page_of ws) → k < length (nodes_of ws) → at ≡ first_of (drop k (nodes_of ws)) → slice_get (records_of ws) k ≡ Some (key_at ws at, get_or ws (at + 3) 0)
 chain-record ws k at holds lt is = record-is ws k at (known ws holds) lt is

@@ -24,13 +24,11 @@ Shaped-Decides ws h = Decides-like (is_shaped ws h)
       directory = k.1.1.1.1.1.1.1.1.1.1.0;
       places = k.1.1.1.1.1.1.1.1.1.1.1.0;
       once = k.1.1.1.1.1.1.1.1.1.1.1.1.0;
-      zero_125 = k.1.1.1.1.1.1.1.1.1.1.1.1.1.0;
-      zero_126 = k.1.1.1.1.1.1.1.1.1.1.1.1.1.1.0;
-      zero_127 = k.1.1.1.1.1.1.1.1.1.1.1.1.1.1.1;
+      keyed = k.1.1.1.1.1.1.1.1.1.1.1.1.1;
     })
-    (λ k. (k.size, (k.kind, (k.count, (k.fits, (k.front, (k.top, (k.few, (k.start, (k.chained, (k.freed, (k.directory, (k.places, (k.once, (k.zero_125, (k.zero_126, k.zero_127))))))))))))))))
+    (λ k. (k.size, (k.kind, (k.count, (k.fits, (k.front, (k.top, (k.few, (k.start, (k.chained, (k.freed, (k.directory, (k.places, (k.once, k.keyed))))))))))))))
     (Decides-and _ _ (Decides-eqb _ _) (Decides-and _ _ (Decides-eqb _ _) (Decides-and _ _ (Decides-eqb _ _) (Decides-and _ _ (counts_page-Decides _)
     (Decides-and _ _ (Decides-eqb _ _) (Decides-and _ _ (Decides-eqb _ _) (Decides-and _ _ (Decides-leb _ _) (Decides-and _ _ (Decides-eqb _ _)
     (Decides-and _ _ (Chained-Decides ws h.nodes h.last) (Decides-and _ _ (Freed-Decides ws h.free)
     (Decides-and _ _ (Directory-Decides ws 10 8 (18 ∷ owners h.nodes)) (Decides-and _ _ (ArePlaces-Decides _ _) (Decides-and _ _ (EachOnce-Decides _ _)
-    (Decides-and _ _ (Decides-eqb _ _) (Decides-and _ _ (Decides-eqb _ _) (Decides-eqb _ _))))))))))))))))
+    (λ yes. yes, λ yes. yes))))))))))))))

@@ -11,7 +11,7 @@ use Rattle.ib_heap.proofs.PutLaws.{OverAt, owner-in, times-drop, SameAt, first-m
 use Rattle.ib_heap.proofs.SplitLaws.{InSlot, places-give_slot, first-places}
 use Rattle.ib_heap.proofs.SplitShape.{Group, group, slots-room, chain-give_slot, directory-insert}
 use Rattle.ib_heap.proofs.PutShape.{Low, low-member, Off, off-low, kept-pair}
-use Rattle.ib_heap.proofs.ShapeLaws.{Shaped, Places, places-known, freed-same, records-same, records-places, same-page}
+use Rattle.ib_heap.proofs.ShapeLaws.{Shaped, Places, places-known, freed-same, records-same, records-places, same-page, keys-same, keys-places}
 use Rattle.ib_heap.proofs.SeekLaws.{length-places}
 
 -- what was written for a split
@@ -110,7 +110,5 @@ module _ (ws vs : List ℕ) (h : Heap) (j k : ℕ) (is : Shaped ws h) (over : Ov
             (λ m lt. w.before m (omega arith)) (ap (λ i. get_or vs i 0) (let e : 8 + suc j ≡ 8 + (j + 1) = omega arith in e) ∙ w.here) (λ m le lt. w.behind m (omega arith) lt));
         places = subst (λ (ps : List ℕ). ArePlaces (used_places (split_heap t h)) (ps ++ h.free)) (sym (places-give_slot t h.nodes)) (subst (λ (n : ℕ). ArePlaces n (places_of h.nodes ++ h.free)) (let e : used_places h ≡ used_places (split_heap t h) = omega arith in e) is.places);
         once = subst (λ (ps : List ℕ). EachOnce (used_places (split_heap t h)) (ps ++ h.free)) (sym (places-give_slot t h.nodes)) (subst (λ (n : ℕ). EachOnce n (places_of h.nodes ++ h.free)) (let e : used_places h ≡ used_places (split_heap t h) = omega arith in e) is.once);
-        zero_125 = off_word 125 (inr (omega arith)) (inr (inl (omega arith))) (λ z. absurd (omega arith)) ∙ is.zero_125;
-        zero_126 = off_word 126 (inr (omega arith)) (inr (inl (omega arith))) (λ z. absurd (omega arith)) ∙ is.zero_126;
-        zero_127 = off_word 127 (inr (omega arith)) (inr (inl (omega arith))) (λ z. absurd (omega arith)) ∙ is.zero_127;
+        keyed = keys-places vs (give_slot t h.nodes) h.nodes (places-give_slot t h.nodes) ∙ (keys-same ws vs h.nodes (kept-pair ws vs h known is.few (λ i high off. off_word i (inr (omega arith)) off (λ z. absurd (omega arith)))) ∙ is.keyed);
       }

@@ -1,15 +1,15 @@
 -- The chain after a record is taken out.
-use Rattle.std.proofs.Common.{◌≡◌, ℕ, zero, suc, ◌+◌, ◌-◌, ◌*◌, ◌<◌, ◌≤◌, ◌≢◌, ◌⊎◌, false, [], ◌∷◌, ◌∙◌, List, length, take, drop, get_or, refl, ap, sym, arith, eqb, inl, inr, subst}
+use Rattle.std.proofs.Common.{◌≡◌, ℕ, zero, suc, ◌+◌, ◌-◌, ◌*◌, ◌<◌, ◌≤◌, ◌≢◌, ◌⊎◌, false, [], ◌∷◌, ◌∙◌, List, length, take, drop, get_or, refl, ap, sym, arith, eqb, inl, inr, subst, true}
 use Rattle.std.specs.List.{remove}
-use Rattle.std.proofs.lemmas.Bool.{cases_eq, eq-eqb, ne_eqb}
+use Rattle.std.proofs.lemmas.Bool.{cases_eq, eq-eqb, ne_eqb, and_parts, and_from}
 use Rattle.ib_map.specs.Pairs.{Pairs}
-use Rattle.ib_heap.specs.Heap.{Node, first_of, owners, times, places_of, records_in, last_from}
+use Rattle.ib_heap.specs.Heap.{key_at, Node, first_of, owners, times, places_of, records_in, last_from, are_keys, is_key_at}
 use Rattle.ib_heap.specs.Put.{owner_from}
 use Rattle.ib_heap.specs.Take.{own_one_fewer, last_one_fewer, unlink_node, unlink_last}
 use Rattle.ib_heap.proofs.HeapLaws.{Chained, Owned}
 use Rattle.ib_heap.proofs.PutLaws.{one, one-same, last-member, Apart, apart-rest, apart-first, apart-place, apart-owner, chain-same, first-member}
 use Rattle.ib_heap.proofs.SplitLaws.{first-places}
-use Rattle.ib_heap.proofs.ShapeLaws.{records-places}
+use Rattle.ib_heap.proofs.ShapeLaws.{records-places, keys-places}
 use Rattle.ib_heap.proofs.CountLaws.{places-own_one_fewer}
 use Rattle.ib_heap.proofs.SeekLaws.{head_owned, owners-some}
 
@@ -123,10 +123,25 @@ records-unlink ws k [] lt = absurd (omega arith)
 records-unlink ws zero (x ∷ xs) lt = records-places ws (own_one_fewer xs) xs (places-own_one_fewer xs)
 records-unlink ws (suc zero) (y ∷ []) lt = absurd (omega arith)
 records-unlink ws (suc zero) (y ∷ x ∷ xs) lt = elim (cases_eq x.owned 0) [
-  | inl e ↦ rw (eq-eqb x.owned 0 e) (ap (λ (rs : Pairs). (get_or ws (y.place + 1) 0, get_or ws (y.place + 2) 0) ∷ rs) (records-places ws (own_one_fewer xs) xs (places-own_one_fewer xs)))
+  | inl e ↦ rw (eq-eqb x.owned 0 e) (ap (λ (rs : Pairs). (key_at ws y.place, get_or ws (y.place + 3) 0) ∷ rs) (records-places ws (own_one_fewer xs) xs (places-own_one_fewer xs)))
   | inr ne ↦ rw (ne_eqb x.owned 0 ne) refl
 ]
-records-unlink ws (suc (suc k)) (x ∷ xs) lt = ap (λ (rs : Pairs). (get_or ws (x.place + 1) 0, get_or ws (x.place + 2) 0) ∷ rs) (records-unlink ws (suc k) xs (omega arith))
+records-unlink ws (suc (suc k)) (x ∷ xs) lt = ap (λ (rs : Pairs). (key_at ws x.place, get_or ws (x.place + 3) 0) ∷ rs) (records-unlink ws (suc k) xs (omega arith))
+
+pub keys-unlink : (ws : List ℕ) (k : ℕ) (xs : List Node) → are_keys ws xs ≡ true → are_keys ws (unlink_node k xs) ≡ true
+keys-unlink ws k [] are = are
+keys-unlink ws zero (x ∷ xs) are = keys-places ws (own_one_fewer xs) xs (places-own_one_fewer xs) ∙ (and_parts (is_key_at ws x.place) (are_keys ws xs) are).1
+keys-unlink ws (suc zero) (y ∷ []) are = are
+keys-unlink ws (suc zero) (y ∷ x ∷ xs) are =
+    let parts = and_parts (is_key_at ws y.place) (are_keys ws (x ∷ xs)) are in
+    let rest = and_parts (is_key_at ws x.place) (are_keys ws xs) parts.1 in
+    elim (cases_eq x.owned 0) [
+      | inl e ↦ rw (eq-eqb x.owned 0 e) (and_from _ _ parts.0 (keys-places ws (own_one_fewer xs) xs (places-own_one_fewer xs) ∙ rest.1))
+      | inr ne ↦ rw (ne_eqb x.owned 0 ne) (and_from _ _ parts.0 rest.1)
+    ]
+keys-unlink ws (suc (suc k)) (x ∷ xs) are =
+    let parts = and_parts (is_key_at ws x.place) (are_keys ws xs) are in
+    and_from _ _ parts.0 (keys-unlink ws (suc k) xs parts.1)
 
 -- the slots then
 pub owners-own_one_fewer : (n : ℕ) (xs : List Node) (last : ℕ) → Owned n xs last → owners (own_one_fewer xs) ≡ owners xs

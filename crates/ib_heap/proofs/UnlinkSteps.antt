@@ -3,10 +3,10 @@ use Rattle.std.proofs.Common.{◌≡◌, ℕ, zero, suc, ◌+◌, ◌-◌, ◌*�
 use Rattle.std.specs.List.{remove}
 use Rattle.std.proofs.lemmas.Bool.{cases_eq, eq-eqb, ne_eqb, cases_lt}
 use Rattle.std.proofs.lemmas.Option.{slice_get_past}
-use Rattle.ib_map.specs.Keys.{rank, end_rank}
+use Rattle.ib_map.specs.Keys.{MapKey, rank, end_rank}
 use Rattle.ib_map.specs.Pairs.{Pairs, without, value_at, place_of}
 use Rattle.ib_map.proofs.PlaceLaws.{value_at-place, remove-place}
-use Rattle.ib_heap.specs.Heap.{Node, first_of, owners, times, places_of, records_in, used_places, page_with, last_from, nodes_of, read_heap}
+use Rattle.ib_heap.specs.Heap.{key_at, Node, first_of, owners, times, places_of, records_in, used_places, page_with, last_from, nodes_of, read_heap}
 use Rattle.ib_heap.specs.Image.{records_of}
 use Rattle.ib_heap.specs.Put.{owner_from}
 use Rattle.ib_heap.specs.Take.{unlink_node, unlink_last, unlink_in, own_one_fewer}
@@ -32,7 +32,7 @@ unlink-zero : (xs : List Node) → 0 < length xs → first_of (unlink_node 0 xs)
 unlink-zero [] lt = absurd (omega arith)
 unlink-zero (x ∷ xs) lt = first-places (own_one_fewer xs) xs (places-own_one_fewer xs)
 
-module _ (ws : List ℕ) (key slot before at : ℕ) (kn : Known ws) (st : IsPlaceOfKey ws key slot before at) (found : value_at key (records_of ws) ≢ None) where
+module _ (ws : List ℕ) (key : MapKey) (slot before at : ℕ) (kn : Known ws) (st : IsPlaceOfKey ws key slot before at) (found : value_at key (records_of ws) ≢ None) where
   abbrev k : ℕ
   k = place_of key (records_of ws)
 
@@ -54,24 +54,24 @@ module _ (ws : List ℕ) (key slot before at : ℕ) (kn : Known ws) (st : IsPlac
     | inr past ↦ absurd (found (no-value (slice_get_past (records_of ws) k past)))
   ]
 
-  pub found-record : slice_get (records_of ws) k ≡ Some (get_or ws (at + 1) 0, get_or ws (at + 2) 0)
+  pub found-record : slice_get (records_of ws) k ≡ Some (key_at ws at, get_or ws (at + 3) 0)
   found-record = record-is ws k at kn lt st.at_is
 
-  pub same-rank : rank (get_or ws (at + 1) 0) ≡ rank key
-  same-rank = elim (cases_eq (rank (get_or ws (at + 1) 0)) (rank key)) [
+  pub same-rank : rank (key_at ws at) ≡ rank key
+  same-rank = elim (cases_eq (rank (key_at ws at)) (rank key)) [
     | inl e ↦ e
-    | inr ne ↦ absurd (found (rw (found-record, ne_eqb (rank (get_or ws (at + 1) 0)) (rank key) ne) at (value_at-place key 0 (records_of ws) end_rank kn.rises)))
+    | inr ne ↦ absurd (found (rw (found-record, ne_eqb (rank (key_at ws at)) (rank key) ne) at (value_at-place key 0 (records_of ws) end_rank kn.rises)))
   ]
 
-  pub value-is : value_at key (records_of ws) ≡ Some (get_or ws (at + 2) 0)
-  value-is = rw (found-record, eq-eqb (rank (get_or ws (at + 1) 0)) (rank key) same-rank) at (value_at-place key 0 (records_of ws) end_rank kn.rises)
+  pub value-is : value_at key (records_of ws) ≡ Some (get_or ws (at + 3) 0)
+  value-is = rw (found-record, eq-eqb (rank (key_at ws at)) (rank key) same-rank) at (value_at-place key 0 (records_of ws) end_rank kn.rises)
 
   gone : remove (records_in ws nodes) k ≡ without key (records_in ws nodes)
   gone = subst (λ (rs : Pairs). remove rs k ≡ without key rs) kn.records
-      (remove-place key 0 (records_of ws) end_rank k kn.rises refl (subst (λ (o : Option (ℕ × ℕ)). IsSomeAnd o (λ pair. rank pair.0 ≡ rank key)) (sym found-record) same-rank))
+      (remove-place key 0 (records_of ws) end_rank k kn.rises refl (subst (λ (o : Option (MapKey × ℕ)). IsSomeAnd o (λ pair. rank pair.0 ≡ rank key)) (sym found-record) same-rank))
 
-  value-in : value_at key (records_in ws nodes) ≡ Some (get_or ws (at + 2) 0)
-  value-in = subst (λ (rs : Pairs). value_at key rs ≡ Some (get_or ws (at + 2) 0)) kn.records value-is
+  value-in : value_at key (records_in ws nodes) ≡ Some (get_or ws (at + 3) 0)
+  value-in = subst (λ (rs : Pairs). value_at key rs ≡ Some (get_or ws (at + 3) 0)) kn.records value-is
 
   k_le : k ≤ length nodes
   k_le = let a = lt in omega arith
@@ -94,19 +94,19 @@ module _ (ws : List ℕ) (key slot before at : ℕ) (kn : Known ws) (st : IsPlac
   at-in : 0 < times at (places_of nodes)
   at-in = subst (λ (q : ℕ). 0 < times q (places_of nodes)) (sym st.at_is) (first-member k nodes lt)
 
-  pub at-range : (20 ≤ at) × (at ≤ 122)
+  pub at-range : (20 ≤ at) × (at ≤ 156)
   at-range = let l = low-node ws kn at at-in in let a = l.is in let b = l.below in (omega arith, omega arith)
 
   before-cases : ((k ≡ 0) × (before ≡ 18)) ⊎ ((0 < k) × (0 < times before (places_of nodes)))
   before-cases = elim (before-in k nodes k_le) [ inl e ↦ inl (e.0, st.before_is ∙ e.1) | inr m ↦ inr (m.0, subst (λ (q : ℕ). 0 < times q (places_of nodes)) (sym st.before_is) m.1) ]
 
-  pub before-range : (18 ≤ before) × (before ≤ 122)
+  pub before-range : (18 ≤ before) × (before ≤ 156)
   before-range = elim before-cases [ inl e ↦ (let f = e.1 in (omega arith, omega arith)) | inr m ↦ (let l = low-node ws kn before m.1 in let a = l.is in let b = l.below in (omega arith, omega arith)) ]
 
   own-cases : (own ≡ 19) ⊎ (0 < times own (places_of nodes))
   own-cases = elim (owner-in (drop k nodes)) [ inl e ↦ inl (own-is ∙ e) | inr m ↦ inr (subst (λ (q : ℕ). 0 < times q (places_of nodes)) (sym own-is) (let t = times-drop k (owner_from (drop k nodes)) nodes in omega arith)) ]
 
-  pub own-range : (19 ≤ own) × (own ≤ 122)
+  pub own-range : (19 ≤ own) × (own ≤ 156)
   own-range = elim own-cases [ inl e ↦ (omega arith, omega arith) | inr m ↦ (let l = low-node ws kn own m in let a = l.is in let b = l.below in (omega arith, omega arith)) ]
 
   pub slot-range : slot ≤ 9
@@ -259,10 +259,10 @@ module _ (ws : List ℕ) (key slot before at : ℕ) (kn : Known ws) (st : IsPlac
 
     pub plain-shaped : is_shaped w2 (unlink_in k (read_heap ws)) ≡ true
     plain-shaped = (Shaped-Decides w2 (unlink_in k (read_heap ws))).1
-        (unlink-shaped ws w2 (read_heap ws) k key (get_or ws (at + 2) 0) kn.is lt unlink-words gone value-in chained-now directory-now (ap length slots-now))
+        (unlink-shaped ws w2 (read_heap ws) k key (get_or ws (at + 3) 0) kn.is lt unlink-words gone value-in chained-now directory-now (ap length slots-now))
 
     pub plain-page : page_with w2 (records_in w2 (unlink_node k nodes)) ≡ page_with ws (without key (records_of ws))
-    plain-page = unlink-page ws w2 (read_heap ws) k key (get_or ws (at + 2) 0) kn.is lt unlink-words gone value-in ∙ ap (λ (rs : Pairs). page_with ws (without key rs)) (sym kn.records)
+    plain-page = unlink-page ws w2 (read_heap ws) k key (get_or ws (at + 3) 0) kn.is lt unlink-words gone value-in ∙ ap (λ (rs : Pairs). page_with ws (without key rs)) (sym kn.records)
 
     pub plain-kept : (i : ℕ) → IsKept (used_places (read_heap ws)) i → get_or w2 i 0 ≡ get_or ws i 0
     plain-kept i kept = both i (kept-fixed _ i 2 kept (inl refl)) (kept-fixed _ i 6 kept (inr (omega arith, omega arith))) (kept-at i kept) (kept-before i kept) (kept-own i kept)
@@ -342,10 +342,10 @@ module _ (ws : List ℕ) (key slot before at : ℕ) (kn : Known ws) (st : IsPlac
 
       owner-shaped-j : is_shaped w2 (unlink_in k (read_heap ws)) ≡ true
       owner-shaped-j = (Shaped-Decides w2 (unlink_in k (read_heap ws))).1
-          (unlink-shaped ws w2 (read_heap ws) k key (get_or ws (at + 2) 0) kn.is lt words2 gone value-in chained2 directory2 set2.long)
+          (unlink-shaped ws w2 (read_heap ws) k key (get_or ws (at + 3) 0) kn.is lt words2 gone value-in chained2 directory2 set2.long)
 
       owner-page-j : page_with w2 (records_in w2 (unlink_node k nodes)) ≡ page_with ws (without key (records_of ws))
-      owner-page-j = unlink-page ws w2 (read_heap ws) k key (get_or ws (at + 2) 0) kn.is lt words2 gone value-in ∙ ap (λ (rs : Pairs). page_with ws (without key rs)) (sym kn.records)
+      owner-page-j = unlink-page ws w2 (read_heap ws) k key (get_or ws (at + 3) 0) kn.is lt words2 gone value-in ∙ ap (λ (rs : Pairs). page_with ws (without key rs)) (sym kn.records)
 
     pub owner-shaped : is_shaped w2 (unlink_in k (read_heap ws)) ≡ true
     owner-shaped = go k refl

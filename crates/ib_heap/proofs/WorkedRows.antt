@@ -1,5 +1,6 @@
--- Rows of words, tried by computing: an empty leaf, keys 1 to 8 put in, 4 taken out, and 4 put in again with 9.
+-- Rows of words, tried by computing: an empty leaf, the keys of the numbers 1 to 8 put in, 4 taken out, and 4 put in again with 9.
 use Rattle.std.proofs.Common.{◌≡◌, ℕ, ◌+◌, [], ◌∷◌, List, refl, set, replicate}
+use Rattle.ib_map.specs.KeyWords.{is_key_words, zero_bytes}
 use Rattle.ib_map.specs.Keys as K
 use Rattle.ib_heap.specs.Words as W
 use Rattle.ib_heap.specs.Page.PageValue.{Malformed, Tree}
@@ -10,48 +11,49 @@ use Rattle.ib_heap.specs.Take.{remove_in}
 use Rattle.ib_heap.specs.Filled.{filled, empty_heap}
 
 abbrev none : List ℕ
-none = set (set (set (set (set (set (replicate 128 0) 0 1) 7 532) 8 18) 9 19) 18 275) 19 256
+none = set (set (set (set (set (set (replicate 160 0) 0 1) 7 532) 8 18) 9 19) 18 275) 19 256
 
+-- the key is that of a number, eight bytes
 abbrev with_record : List ℕ → ℕ → ℕ → ℕ → ℕ → List ℕ
-with_record ws p head key value = set (set (set ws p head) (p + 1) key) (p + 2) value
+with_record ws p head number value = set (set (set (set ws p head) (p + 1) number) (p + 2) 8) (p + 3) value
 
--- key 10 with value 100
+-- the key of 10 with value 100
 abbrev ten : List ℕ
-ten = with_record (set (set (set (set none 2 1) 7 535) 18 276) 19 512) 20 19 10 100
+ten = with_record (set (set (set (set none 2 1) 7 536) 18 276) 19 512) 20 19 10 100
 
 abbrev eight : List ℕ
-eight = let ws = set (set (set (set (set none 2 8) 7 812) 9 29) 10 19) 18 276 in
-    let a = with_record (with_record (with_record (with_record (set ws 19 1280) 20 23 1 1) 23 26 2 2) 26 29 3 3) 29 1056 4 4 in
-    with_record (with_record (with_record (with_record a 32 35 5 5) 35 38 6 6) 38 41 7 7) 41 19 8 8
+eight = let ws = set (set (set (set (set none 2 8) 7 820) 9 32) 10 19) 18 276 in
+    let a = with_record (with_record (with_record (with_record (set ws 19 1280) 20 24 1 1) 24 28 2 2) 28 32 3 3) 32 1060 4 4 in
+    with_record (with_record (with_record (with_record a 36 40 5 5) 40 44 6 6) 44 48 7 7) 48 19 8 8
 
 abbrev removed : List ℕ
-removed = set (set (set (set (set (set (set (set eight 2 7) 6 29) 7 812) 9 32) 19 1024) 26 32) 29 0) 32 1059
+removed = set (set (set (set (set (set (set eight 2 7) 6 32) 9 36) 19 1024) 28 36) 32 0) 36 1064
 
 abbrev again : List ℕ
-again = set (set (set (set (set (set (set removed 2 8) 6 0) 26 29) 29 32) 30 4) 31 9) 32 1315
+again = set (set (set (set (set (set (set removed 2 8) 6 0) 28 32) 32 36) 33 4) 35 9) 36 1320
 
 none_is : page_of none ≡ Tree (record { level = 0; prev = 0; next = 0; clock = 0; records = [] })
-unfolding page_of K.rank K.end_rank W.free_page_words W.zeros
+unfolding page_of K.rank K.end_rank K.key_in is_key_words zero_bytes W.free_page_words W.zeros
 none_is = refl
 
 none_leaf : none ≡ empty_leaf_words 0
 unfolding empty_leaf_words W.zeros
 none_leaf = refl
 
-ten_is : page_of ten ≡ Tree (record { level = 0; prev = 0; next = 0; clock = 0; records = (10, 100) ∷ [] })
-unfolding page_of K.rank K.end_rank W.free_page_words W.zeros
+ten_is : page_of ten ≡ Tree (record { level = 0; prev = 0; next = 0; clock = 0; records = (K.key_in 10 8, 100) ∷ [] })
+unfolding page_of K.rank K.end_rank K.key_in is_key_words zero_bytes W.free_page_words W.zeros
 ten_is = refl
 
-eight_is : page_of eight ≡ Tree (record { level = 0; prev = 0; next = 0; clock = 0; records = (1, 1) ∷ (2, 2) ∷ (3, 3) ∷ (4, 4) ∷ (5, 5) ∷ (6, 6) ∷ (7, 7) ∷ (8, 8) ∷ [] })
-unfolding page_of K.rank K.end_rank W.free_page_words W.zeros
+eight_is : page_of eight ≡ Tree (record { level = 0; prev = 0; next = 0; clock = 0; records = (K.key_in 1 8, 1) ∷ (K.key_in 2 8, 2) ∷ (K.key_in 3 8, 3) ∷ (K.key_in 4 8, 4) ∷ (K.key_in 5 8, 5) ∷ (K.key_in 6 8, 6) ∷ (K.key_in 7 8, 7) ∷ (K.key_in 8 8, 8) ∷ [] })
+unfolding page_of K.rank K.end_rank K.key_in is_key_words zero_bytes W.free_page_words W.zeros
 eight_is = refl
 
-removed_is : page_of removed ≡ Tree (record { level = 0; prev = 0; next = 0; clock = 0; records = (1, 1) ∷ (2, 2) ∷ (3, 3) ∷ (5, 5) ∷ (6, 6) ∷ (7, 7) ∷ (8, 8) ∷ [] })
-unfolding page_of K.rank K.end_rank W.free_page_words W.zeros
+removed_is : page_of removed ≡ Tree (record { level = 0; prev = 0; next = 0; clock = 0; records = (K.key_in 1 8, 1) ∷ (K.key_in 2 8, 2) ∷ (K.key_in 3 8, 3) ∷ (K.key_in 5 8, 5) ∷ (K.key_in 6 8, 6) ∷ (K.key_in 7 8, 7) ∷ (K.key_in 8 8, 8) ∷ [] })
+unfolding page_of K.rank K.end_rank K.key_in is_key_words zero_bytes W.free_page_words W.zeros
 removed_is = refl
 
-again_is : page_of again ≡ Tree (record { level = 0; prev = 0; next = 0; clock = 0; records = (1, 1) ∷ (2, 2) ∷ (3, 3) ∷ (4, 9) ∷ (5, 5) ∷ (6, 6) ∷ (7, 7) ∷ (8, 8) ∷ [] })
-unfolding page_of K.rank K.end_rank W.free_page_words W.zeros
+again_is : page_of again ≡ Tree (record { level = 0; prev = 0; next = 0; clock = 0; records = (K.key_in 1 8, 1) ∷ (K.key_in 2 8, 2) ∷ (K.key_in 3 8, 3) ∷ (K.key_in 4 8, 9) ∷ (K.key_in 5 8, 5) ∷ (K.key_in 6 8, 6) ∷ (K.key_in 7 8, 7) ∷ (K.key_in 8 8, 8) ∷ [] })
+unfolding page_of K.rank K.end_rank K.key_in is_key_words zero_bytes W.free_page_words W.zeros
 again_is = refl
 
 -- the heaps of these words are what inserts and the removal make of each other
@@ -68,15 +70,28 @@ removed_heap = refl
 again_heap : read_heap again ≡ put_in 3 (read_heap removed)
 again_heap = refl
 
--- the words of a free place may hold anything, its head and the chain's may not
-free_value : page_of (set removed 30 77) ≡ page_of removed
-unfolding page_of K.rank K.end_rank W.free_page_words W.zeros
+-- the words of a free place may hold anything, also what is no key, and those behind the top; its head and the chain's may not
+free_value : page_of (set (set removed 33 77) 34 255) ≡ page_of removed
+unfolding page_of K.rank K.end_rank K.key_in is_key_words zero_bytes W.free_page_words W.zeros
 free_value = refl
 
-free_head : page_of (set removed 29 256) ≡ Malformed
-unfolding page_of K.rank K.end_rank W.free_page_words W.zeros
+unused_value : page_of (set (set removed 52 77) 54 255) ≡ page_of removed
+unfolding page_of K.rank K.end_rank K.key_in is_key_words zero_bytes W.free_page_words W.zeros
+unused_value = refl
+
+free_head : page_of (set removed 32 256) ≡ Malformed
+unfolding page_of K.rank K.end_rank K.key_in is_key_words zero_bytes W.free_page_words W.zeros
 free_head = refl
 
-slot_without_entry : page_of (set eight 32 1059) ≡ Malformed
-unfolding page_of K.rank K.end_rank W.free_page_words W.zeros
+slot_without_entry : page_of (set eight 36 1064) ≡ Malformed
+unfolding page_of K.rank K.end_rank K.key_in is_key_words zero_bytes W.free_page_words W.zeros
 slot_without_entry = refl
+
+-- a record of the chain has a key: 15 bytes at most, and zeros behind them
+long_key : page_of (set ten 22 16) ≡ Malformed
+unfolding page_of K.rank K.end_rank K.key_in is_key_words zero_bytes W.free_page_words W.zeros
+long_key = refl
+
+byte_behind_key : page_of (set ten 22 264) ≡ Malformed
+unfolding page_of K.rank K.end_rank K.key_in is_key_words zero_bytes W.free_page_words W.zeros
+byte_behind_key = refl

@@ -1,10 +1,13 @@
 -- The record heap of a page: which words have which heap.
 -- The words: 0 the kind, 1 the level, 2 how many records, 3 and 4 the links, 5 the clock, 6 the first free place, 7 how many slots and the top, 8 to 17 the
--- directory, 18 the infimum, 19 the supremum, 20 to 124 the 35 record places of three words each (head, key, value), 125 to 127 are 0. A head is the place of the
+-- directory, 18 the infimum, 19 the supremum, 20 to 159 the 35 record places of four words each (head, the two words of the key, value). A head is the place of the
 -- next record, and 256 for each record that its slot owns.
 use Rattle.std.specs.Prelude.{ℕ, zero, suc, ◌+◌, ◌-◌, ◌*◌, ◌/◌, ◌%◌, Bool, true, nat_lt, nat_le, ◌==◌, ◌&&◌, List, [], ◌∷◌, ◌++◌, length, slice_index, if◌then◌else◌}
+use Rattle.ib_map.specs.KeyWords.{is_key_words}
+use Rattle.ib_map.specs.Keys.{MapKey, key_in}
 use Rattle.ib_map.specs.Pairs.{Pairs}
 use Rattle.ib_map.specs.declared.TheConstants.{PAGE_WORDS}
+use Rattle.ib_heap.specs.declared.form.TheConstants.{FIRST_PLACE, PLACE_WORDS, FIRST_KEY_WORD, SECOND_KEY_WORD, VALUE_WORD}
 use Rattle.ib_heap.specs.declared.TheConstants.{MOST_RECORDS}
 use Rattle.ib_heap.specs.Page.{Page, is_page}
 
@@ -62,7 +65,7 @@ times p (x ∷ xs) = (if x == p then 1 else 0) + times p xs
 
 -- whether a word is the head of one of the first n record places
 abbrev pub is_place : ℕ → ℕ → Bool
-is_place n p = nat_le 20 p && (((p - 20) % 3 == 0) && nat_lt p (20 + 3 * n))
+is_place n p = nat_le FIRST_PLACE p && (((p - FIRST_PLACE) % PLACE_WORDS == 0) && nat_lt p (FIRST_PLACE + PLACE_WORDS * n))
 
 abbrev pub are_places : ℕ → List ℕ → Bool
 are_places n [] = true
@@ -71,16 +74,29 @@ are_places n (p ∷ ps) = is_place n p && are_places n ps
 -- each of the first n record places stands once
 abbrev pub each_once : ℕ → List ℕ → Bool
 each_once zero ps = true
-each_once (suc n) ps = (times (20 + 3 * n) ps == 1) && each_once n ps
+each_once (suc n) ps = (times (FIRST_PLACE + PLACE_WORDS * n) ps == 1) && each_once n ps
 
 abbrev pub places_of : List Node → List ℕ
 places_of [] = []
 places_of (x ∷ xs) = x.place ∷ places_of xs
 
+-- whether the record at a place has the words of a key
+abbrev pub is_key_at : List ℕ → ℕ → Bool
+is_key_at ws p = is_key_words (slice_index ws (p + FIRST_KEY_WORD)) (slice_index ws (p + SECOND_KEY_WORD))
+
+-- the key of the record at a place
+abbrev pub key_at : List ℕ → ℕ → MapKey
+key_at ws p = key_in (slice_index ws (p + FIRST_KEY_WORD)) (slice_index ws (p + SECOND_KEY_WORD))
+
+-- each of these records has the words of a key
+abbrev pub are_keys : List ℕ → List Node → Bool
+are_keys ws [] = true
+are_keys ws (x ∷ xs) = is_key_at ws x.place && are_keys ws xs
+
 -- the keys and values of these records
 abbrev pub records_in : List ℕ → List Node → Pairs
 records_in ws [] = []
-records_in ws (x ∷ xs) = (slice_index ws (x.place + 1), slice_index ws (x.place + 2)) ∷ records_in ws xs
+records_in ws (x ∷ xs) = (key_at ws x.place, slice_index ws (x.place + VALUE_WORD)) ∷ records_in ws xs
 
 -- how many record places have been used
 abbrev pub used_places : Heap → ℕ
@@ -98,7 +114,7 @@ is_heap ws h =
     && ((slice_index ws 2 == length h.nodes)
     && (is_page (page_with ws (records_in ws h.nodes))
     && ((slice_index ws 6 == first_free h.free)
-    && ((slice_index ws 7 == (1 + length (owners h.nodes)) * 256 + (20 + 3 * used_places h))
+    && ((slice_index ws 7 == (1 + length (owners h.nodes)) * 256 + (FIRST_PLACE + PLACE_WORDS * used_places h))
     && (nat_le (used_places h) MOST_RECORDS
     && ((slice_index ws 18 == 256 + first_of h.nodes)
     && (is_chained ws h.nodes h.last
@@ -107,7 +123,7 @@ is_heap ws h =
     && (is_directory ws 10 8 (18 ∷ owners h.nodes)
     && (are_places (used_places h) (places_of h.nodes ++ h.free)
     && (each_once (used_places h) (places_of h.nodes ++ h.free)
-    && ((slice_index ws 125 == 0) && ((slice_index ws 126 == 0) && (slice_index ws 127 == 0))))))))))))))))
+    && are_keys ws h.nodes)))))))))))))
 
 -- the n records of the chain from a place on
 abbrev pub chain_from : List ℕ → ℕ → ℕ → List Node
@@ -124,7 +140,7 @@ abbrev pub read_heap : List ℕ → Heap
 read_heap ws = record {
   nodes = chain_from ws (slice_index ws 2) (slice_index ws 18 % 256);
   last = slice_index ws 19 / 256;
-  free = free_from ws ((slice_index ws 7 % 256 - 20) / 3 - slice_index ws 2) (slice_index ws 6);
+  free = free_from ws ((slice_index ws 7 % 256 - FIRST_PLACE) / PLACE_WORDS - slice_index ws 2) (slice_index ws 6);
 }
 
 -- the records of the chain

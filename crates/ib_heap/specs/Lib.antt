@@ -1,6 +1,7 @@
 pub mod Words
 pub mod Page
 pub mod Heap
+pub mod Order
 pub mod Form
 pub mod Image
 pub mod Put

@@ -1,5 +1,6 @@
 -- What an insert makes of a heap.
 use Rattle.std.specs.Prelude.{ℕ, zero, suc, ◌+◌, ◌-◌, ◌*◌, List, [], ◌∷◌, ◌==◌, length, take, drop, nat_le, if◌then◌else◌}
+use Rattle.ib_heap.specs.declared.form.TheConstants.{FIRST_PLACE, PLACE_WORDS}
 use Rattle.ib_heap.specs.Heap.{Node, Heap, owners, up_to}
 
 -- how many records the first slot of these owns, or the supremum's where they have none
@@ -55,7 +56,7 @@ give_slot_last (suc t) (x ∷ xs) last = give_slot_last t xs last
 
 -- the place that a new record takes: the first free one, or where there is none the one at the top
 abbrev pub place_for : Heap → ℕ
-place_for h = elim h.free as (λ ps. ℕ) [ [] ↦ 20 + 3 * (length h.nodes + length h.free) | ◌∷◌ p (ps → r) ↦ p ]
+place_for h = elim h.free as (λ ps. ℕ) [ [] ↦ FIRST_PLACE + PLACE_WORDS * (length h.nodes + length h.free) | ◌∷◌ p (ps → r) ↦ p ]
 
 -- the free places but for the first
 abbrev pub rest_of : List ℕ → List ℕ

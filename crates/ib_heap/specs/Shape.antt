@@ -1,9 +1,10 @@
 -- Words that have a heap but for how many records each slot owns: what a removal leaves before it balances.
 use Rattle.std.specs.Prelude.{ℕ, ◌+◌, ◌*◌, List, ◌∷◌, ◌++◌, ◌==◌, ◌&&◌, Bool, nat_le, length, slice_index}
 use Rattle.ib_map.specs.declared.TheConstants.{PAGE_WORDS}
+use Rattle.ib_heap.specs.declared.form.TheConstants.{FIRST_PLACE, PLACE_WORDS}
 use Rattle.ib_heap.specs.declared.TheConstants.{MOST_RECORDS}
 use Rattle.ib_heap.specs.Page.{is_page}
-use Rattle.ib_heap.specs.Heap.{Heap, first_of, first_free, owners, places_of, records_in, used_places, page_with, is_chained, is_freed, is_directory, are_places, each_once}
+use Rattle.ib_heap.specs.Heap.{Heap, first_of, first_free, owners, places_of, records_in, used_places, page_with, is_chained, is_freed, is_directory, are_places, each_once, are_keys}
 
 -- all that is asked of a heap, but for the counts of the slots
 abbrev pub is_shaped : List ℕ → Heap → Bool
@@ -13,7 +14,7 @@ is_shaped ws h =
     && ((slice_index ws 2 == length h.nodes)
     && (is_page (page_with ws (records_in ws h.nodes))
     && ((slice_index ws 6 == first_free h.free)
-    && ((slice_index ws 7 == (1 + length (owners h.nodes)) * 256 + (20 + 3 * used_places h))
+    && ((slice_index ws 7 == (1 + length (owners h.nodes)) * 256 + (FIRST_PLACE + PLACE_WORDS * used_places h))
     && (nat_le (used_places h) MOST_RECORDS
     && ((slice_index ws 18 == 256 + first_of h.nodes)
     && (is_chained ws h.nodes h.last
@@ -21,4 +22,4 @@ is_shaped ws h =
     && (is_directory ws 10 8 (18 ∷ owners h.nodes)
     && (are_places (used_places h) (places_of h.nodes ++ h.free)
     && (each_once (used_places h) (places_of h.nodes ++ h.free)
-    && ((slice_index ws 125 == 0) && ((slice_index ws 126 == 0) && (slice_index ws 127 == 0)))))))))))))))
+    && are_keys ws h.nodes))))))))))))

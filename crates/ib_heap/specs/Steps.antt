@@ -1,13 +1,16 @@
 -- The steps of an insert and of a removal: what each asks of the words, and what it leaves.
-use Rattle.std.specs.Prelude.{◌≡◌, ◌≢◌, ℕ, ◌+◌, ◌-◌, ◌*◌, ◌/◌, ◌%◌, ◌<◌, ◌≤◌, ◌⊎◌, List, length, take, drop, slice_index}
+use Rattle.std.specs.Prelude.{◌≡◌, ◌≢◌, ℕ, ◌+◌, ◌-◌, ◌*◌, ◌/◌, ◌%◌, ◌<◌, ◌≤◌, ◌⊎◌, List, length, take, drop, slice_index, IsTrue}
+use Rattle.ib_map.specs.Keys.{MapKey}
 use Rattle.ib_map.specs.Pairs.{place_of}
 use Rattle.ib_map.specs.declared.TheConstants.{PAGE_WORDS}
-use Rattle.ib_heap.specs.Heap.{first_of, first_free, owners, used_places, read_heap, nodes_of, last_from, up_to}
+use Rattle.ib_heap.specs.declared.form.TheConstants.{FIRST_PLACE, PLACE_WORDS, LAST_PLACE, VALUE_WORD}
+use Rattle.ib_heap.specs.Heap.{key_at, is_key_at, first_of, first_free, owners, used_places, read_heap, nodes_of, last_from, up_to}
 use Rattle.ib_heap.specs.Image.{records_of}
 use Rattle.ib_heap.specs.Put.{place_for, rest_of}
+use Rattle.ib_heap.specs.Kept.{IsOutside}
 
 -- where a key stands on a page: its neighbours in the chain, and its slot
-pub record IsPlaceOfKey (ws : List ℕ) (key slot before at : ℕ) : Type 0 where
+pub record IsPlaceOfKey (ws : List ℕ) (key : MapKey) (slot before at : ℕ) : Type 0 where
   pub before_is : before ≡ last_from 18 (take (place_of key (records_of ws)) (nodes_of ws))
   pub at_is : at ≡ first_of (drop (place_of key (records_of ws)) (nodes_of ws))
   pub some : 0 < slot
@@ -18,42 +21,43 @@ pub record IsPlaceOfKey (ws : List ℕ) (key slot before at : ℕ) : Type 0 wher
 -- a head that may be written
 pub record IsHead (place : ℕ) : Type 0 where
   pub low : 18 ≤ place
-  pub high : place ≤ 122
+  pub high : place ≤ LAST_PLACE
 
 -- the place for a new record is taken from the free ones, or from the top
 pub record IsPlaceTaken (ws vs : List ℕ) (p : ℕ) : Type 0 where
   pub place : p ≡ place_for (read_heap ws)
-  pub low : 20 ≤ p
-  pub high : p ≤ 122
+  pub low : FIRST_PLACE ≤ p
+  pub high : p ≤ LAST_PLACE
   pub front : slice_index vs 6 ≡ first_free (rest_of (read_heap ws).free)
-  pub top : slice_index vs 7 ≡ slice_index ws 7 + 3 * (length (nodes_of ws) + 1 + length (rest_of (read_heap ws).free) - used_places (read_heap ws))
+  pub top : slice_index vs 7 ≡ slice_index ws 7 + PLACE_WORDS * (length (nodes_of ws) + 1 + length (rest_of (read_heap ws).free) - used_places (read_heap ws))
   pub other : (i : ℕ) → i ≢ 6 → i ≢ 7 → slice_index vs i ≡ slice_index ws i
   pub size : length vs ≡ length ws
 
 -- a record can be linked in at a place that is none of its neighbours'
 pub record CanLink (ws : List ℕ) (before at owner p : ℕ) : Type 0 where
   pub size : length ws ≡ PAGE_WORDS
-  pub place_low : 20 ≤ p
-  pub place_high : p ≤ 122
+  pub place_low : FIRST_PLACE ≤ p
+  pub place_high : p ≤ LAST_PLACE
   pub before_head : IsHead before
   pub owner_head : IsHead owner
   pub apart : before ≢ owner
-  pub before_apart : (before ≢ p) × ((before ≢ p + 1) × (before ≢ p + 2))
-  pub owner_apart : (owner ≢ p) × ((owner ≢ p + 1) × (owner ≢ p + 2))
+  pub before_apart : IsOutside p before
+  pub owner_apart : IsOutside p owner
   pub reaches : at ≤ slice_index ws before
   pub before_word : slice_index ws before < 65536
   pub owner_word : slice_index ws owner < 65536
   pub count_word : slice_index ws 2 < 65536
 
 -- it stands between its neighbours, and is counted, and owned
-pub record IsLinkedIn (ws vs : List ℕ) (before at owner p key value : ℕ) : Type 0 where
+pub record IsLinkedIn (ws vs : List ℕ) (before at owner p : ℕ) (key : MapKey) (value : ℕ) : Type 0 where
   pub place_word : slice_index vs p ≡ at
-  pub key_word : slice_index vs (p + 1) ≡ key
-  pub value_word : slice_index vs (p + 2) ≡ value
+  pub key_word : key_at vs p ≡ key
+  pub is_key : IsTrue (is_key_at vs p)
+  pub value_word : slice_index vs (p + VALUE_WORD) ≡ value
   pub link : slice_index vs before + at ≡ slice_index ws before + p
   pub raised : slice_index vs owner ≡ slice_index ws owner + 256
   pub count : slice_index vs 2 ≡ slice_index ws 2 + 1
-  pub other : (i : ℕ) → i ≢ 2 → i ≢ p → i ≢ p + 1 → i ≢ p + 2 → i ≢ before → i ≢ owner → slice_index vs i ≡ slice_index ws i
+  pub other : (i : ℕ) → i ≢ 2 → IsOutside p i → i ≢ before → i ≢ owner → slice_index vs i ≡ slice_index ws i
   pub size : length vs ≡ length ws
 
 -- a slot can be split where there is room for one more
@@ -82,7 +86,7 @@ pub record IsSlotSplit (ws vs : List ℕ) (slot middle owner : ℕ) : Type 0 whe
 -- a record that owns no slot can be unlinked
 pub record CanUnlink (ws : List ℕ) (before at owner : ℕ) : Type 0 where
   pub size : length ws ≡ PAGE_WORDS
-  pub at_high : at ≤ 122
+  pub at_high : at ≤ LAST_PLACE
   pub before_head : IsHead before
   pub owner_head : IsHead owner
   pub apart : before ≢ owner
@@ -100,7 +104,7 @@ pub record IsLinkedPast (ws vs : List ℕ) (before at owner : ℕ) : Type 0 wher
 -- a slot can be handed over to the record before its owner
 pub record CanHandOver (ws : List ℕ) (before at slot : ℕ) : Type 0 where
   pub size : length ws ≡ PAGE_WORDS
-  pub at_high : at ≤ 122
+  pub at_high : at ≤ LAST_PLACE
   pub before_head : IsHead before
   pub slot_few : slot ≤ 9
   pub at_word : 256 ≤ slice_index ws at
@@ -115,8 +119,8 @@ pub record IsHandedOver (ws vs : List ℕ) (before at slot : ℕ) : Type 0 where
 -- a place can be given back
 pub record CanGiveBack (ws : List ℕ) (at : ℕ) : Type 0 where
   pub size : length ws ≡ PAGE_WORDS
-  pub low : 20 ≤ at
-  pub high : at ≤ 122
+  pub low : FIRST_PLACE ≤ at
+  pub high : at ≤ LAST_PLACE
   pub some : 0 < slice_index ws 2
 
 -- it is the first free one, and its record is counted out

@@ -1,11 +1,12 @@
 -- What the test of a page looks at, in one walk of the chain and one of the free list.
 use Rattle.std.specs.Prelude.{◌≡◌, ℕ, zero, suc, ◌+◌, ◌-◌, ◌/◌, ◌*◌, ◌%◌, ◌<◌, ◌≤◌, Bool, true, ◌==◌, ◌&&◌, List, [], ◌∷◌, Option, None, Some, length, slice_index, slice_set}
 use Rattle.ib_map.specs.declared.TheConstants.{PAGE_WORDS}
-use Rattle.ib_map.specs.Keys.{rank, end_rank}
+use Rattle.ib_map.specs.Keys.{MapKey, rank, end_rank}
+use Rattle.ib_heap.specs.declared.form.TheConstants.{FIRST_PLACE, PLACE_WORDS}
 use Rattle.ib_heap.specs.declared.TheConstants.{MOST_RECORDS}
 use Rattle.ib_heap.specs.declared.formed.ChainStep.{ChainStep}
 use Rattle.ib_heap.specs.Page.{rises}
-use Rattle.ib_heap.specs.Heap.{is_place, chain_from, owners, is_owned, is_directory, records_in}
+use Rattle.ib_heap.specs.Heap.{is_place, chain_from, owners, is_owned, is_directory, records_in, are_keys}
 
 -- where the chain stands after n records from a place on
 abbrev pub end_from : List ℕ → ℕ → ℕ → ℕ
@@ -17,10 +18,10 @@ abbrev pub free_end : List ℕ → ℕ → ℕ → ℕ
 free_end ws zero p = p
 free_end ws (suc n) p = free_end ws n (slice_index ws p)
 
--- the words of the head that stand by themselves: kind, count, top, the start and the end of the chain, and the zeros behind the records
+-- the words of the head that stand by themselves: kind, count, top, the start and the end of the chain
 abbrev pub HasHead : List ℕ → Type 0
-HasHead ws = (slice_index ws 0 ≡ 1) × ((slice_index ws 2 ≤ MOST_RECORDS) × ((20 ≤ slice_index ws 7 % 256) × (((slice_index ws 7 % 256 - 20) % 3 ≡ 0) × ((slice_index ws 7 % 256 ≤ 125)
-    × ((slice_index ws 2 ≤ (slice_index ws 7 % 256 - 20) / 3) × ((slice_index ws 18 / 256 ≡ 1) × ((slice_index ws 19 % 256 ≡ 0) × ((slice_index ws 8 ≡ 18) × ((slice_index ws 125 ≡ 0) × ((slice_index ws 126 ≡ 0) × (slice_index ws 127 ≡ 0)))))))))))
+HasHead ws = (slice_index ws 0 ≡ 1) × ((slice_index ws 2 ≤ MOST_RECORDS) × ((FIRST_PLACE ≤ slice_index ws 7 % 256) × (((slice_index ws 7 % 256 - FIRST_PLACE) % PLACE_WORDS ≡ 0) × ((slice_index ws 7 % 256 ≤ PAGE_WORDS)
+    × ((slice_index ws 2 ≤ (slice_index ws 7 % 256 - FIRST_PLACE) / PLACE_WORDS) × ((slice_index ws 18 / 256 ≡ 1) × ((slice_index ws 19 % 256 ≡ 0) × (slice_index ws 8 ≡ 18))))))))
 
 -- whether the top word's number of slots ends at the supremum's
 abbrev pub HasSlots : List ℕ → Type 0
@@ -28,12 +29,12 @@ HasSlots ws = (2 ≤ slice_index ws 7 / 256) × ((slice_index ws 7 / 256 ≤ 10)
 
 -- no word but the heads of record places is 0: only those may still be met
 abbrev pub HasOnlyPlaces : List ℕ → Type 0
-HasOnlyPlaces met = (p : ℕ) → p < 125 → slice_index met p ≡ 0 → is_place MOST_RECORDS p ≡ true
+HasOnlyPlaces met = (p : ℕ) → p < PAGE_WORDS → slice_index met p ≡ 0 → is_place MOST_RECORDS p ≡ true
 
 -- no record place is met
 pub record IsUnmet (met : List ℕ) : Type 0 where
   pub size : length met ≡ PAGE_WORDS
-  pub none : (r : ℕ) → r < MOST_RECORDS → slice_index met (20 + 3 * r) ≡ 0
+  pub none : (r : ℕ) → r < MOST_RECORDS → slice_index met (FIRST_PLACE + PLACE_WORDS * r) ≡ 0
   pub places : HasOnlyPlaces met
 
 -- the word is the head of one of the first n record places, and was not met before
@@ -51,7 +52,7 @@ met_with met [] = met
 met_with met (p ∷ ps) = met_with (slice_set met p 1) ps
 
 -- the least rank of a key behind another, where there is one
-abbrev pub low_of : Option ℕ → ℕ
+abbrev pub low_of : Option MapKey → ℕ
 low_of None = 0
 low_of (Some last) = rank last + 1
 
@@ -59,10 +60,10 @@ low_of (Some last) = rank last + 1
 abbrev pub first_step : List ℕ → ChainStep
 first_step ws = record { at = slice_index ws 18 % 256; owned = 0; slot = 1; last = None }
 
--- the next n records are the rest of a page's chain: it ends at the supremum, their slots are those of the directory, and their keys ascend
+-- the next n records are the rest of a page's chain: it ends at the supremum, their slots are those of the directory, and they have keys, which ascend
 abbrev pub chain_holds : List ℕ → ℕ → ChainStep → Bool
 chain_holds ws n s = (end_from ws n s.at == 19) && (is_owned s.owned (chain_from ws n s.at) (slice_index ws 19 / 256)
-    && (is_directory ws (10 - s.slot) (8 + s.slot) (owners (chain_from ws n s.at)) && rises (low_of s.last) (records_in ws (chain_from ws n s.at)) end_rank))
+    && (is_directory ws (10 - s.slot) (8 + s.slot) (owners (chain_from ws n s.at)) && (are_keys ws (chain_from ws n s.at) && rises (low_of s.last) (records_in ws (chain_from ws n s.at)) end_rank)))
 
 -- what the step behind a record leaves to be tested
 pub record LeavesStep (ws : List ℕ) (s next : ChainStep) : Type 0 where

@@ -1,13 +1,17 @@
 //! The directory of a page and its chain, over a source of the page's words (page0page).
 
-ghost use Rattle.std.specs.Prelude.{◌≡◌, ℕ, ◌+◌, ◌-◌, ◌/◌, ◌<◌, ◌≤◌, ◌⊎◌, length, take, drop, slice_index};
+ghost use Rattle.std.specs.Prelude.{◌≡◌, ℕ, ◌+◌, ◌-◌, ◌/◌, ◌<◌, ◌≤◌, ◌⊎◌, length, take, drop, slice_index, IsTrue};
 ghost use Rattle.ib_map.specs.Pairs.{place_of};
 ghost use Rattle.ib_heap.specs.Image.{IsTreePage, records_of};
-ghost use Rattle.ib_heap.specs.Heap.{nodes_of, owners, up_to, last_from, first_of};
+ghost use Rattle.ib_heap.specs.Heap.{key_at, is_key_at, nodes_of, owners, up_to, last_from, first_of};
+ghost use Rattle.ib_heap.specs.Order.{IsOrder};
 
-use crate::form::{DIRECTORY, OWNED_UNIT, TOP};
+use crate::form::{
+    DIRECTORY, FIRST_KEY_WORD, LAST_PLACE, OWNED_UNIT, SECOND_KEY_WORD, TOP, VALUE_WORD,
+};
 use crate::words::PageWords;
-use ib_map::{Key, is_below};
+use ib_map::{Key, order_by_first, order_by_second};
+use std::cmp::Ordering;
 
 /// The number of the last slot, the supremum's.
 pub(crate) fn last_slot<W: PageWords>(page: &mut W) -> usize
@@ -31,8 +35,9 @@ pub(crate) fn owner<W: PageWords>(page: &mut W, slot: usize) -> usize
     ensures place { slot < length (owners (nodes_of (W.words page.old))) → result ≡ last_from 18 (take (up_to slot (nodes_of (W.words page.old))) (nodes_of (W.words page.old))) }
     ensures word { result ≡ slice_index (W.words page.old) (8 + slot) }
     ensures low { 18 ≤ result }
-    ensures high { result ≤ 122 }
+    ensures high { result ≤ LAST_PLACE }
     ensures is_record { 0 < slot → slot < length (owners (nodes_of (W.words page.old))) → 20 ≤ result }
+    ensures keyed { 0 < slot → slot < length (owners (nodes_of (W.words page.old))) → IsTrue (is_key_at (W.words page.old) result) }
     ensures same { W.words page.new ≡ W.words page.old }
     ensures can { W.can_read page.new }
     ensures read { W.has_read page.old page.new }
@@ -44,7 +49,7 @@ pub(crate) fn owner<W: PageWords>(page: &mut W, slot: usize) -> usize
 pub(crate) fn owned_at<W: PageWords>(page: &mut W, place: usize) -> usize
     requires can { W.can_read page.old }
     requires tree { IsTreePage (W.words page.old) }
-    requires in_page { place ≤ 122 }
+    requires in_page { place ≤ LAST_PLACE }
     ensures owned { result ≡ slice_index (W.words page.old) place / 256 }
     ensures same { W.words page.new ≡ W.words page.old }
     ensures can { W.can_read page.new }
@@ -57,7 +62,7 @@ pub(crate) fn owned_at<W: PageWords>(page: &mut W, place: usize) -> usize
 pub(crate) fn next_place<W: PageWords>(page: &mut W, place: usize) -> usize
     requires can { W.can_read page.old }
     requires tree { IsTreePage (W.words page.old) }
-    requires in_page { place ≤ 122 }
+    requires in_page { place ≤ LAST_PLACE }
     ensures next { (k : ℕ) → k ≤ length (nodes_of (W.words page.old)) → place ≡ last_from 18 (take k (nodes_of (W.words page.old))) → result ≡ first_of (drop k (nodes_of (W.words page.old))) }
     ensures same { W.words page.new ≡ W.words page.old }
     ensures can { W.can_read page.new }
@@ -66,30 +71,36 @@ pub(crate) fn next_place<W: PageWords>(page: &mut W, place: usize) -> usize
     (page.word(place) % OWNED_UNIT) as usize
 }
 
-/// The key of the record at a place.
-pub(crate) fn key_word<W: PageWords>(page: &mut W, place: usize) -> Key
+/// How the key of the record at a place stands to another. Its second word is read only where the first ones are
+/// the same.
+pub(crate) fn order_at<W: PageWords>(page: &mut W, place: usize, key: Key) -> Ordering
     requires can { W.can_read page.old }
     requires tree { IsTreePage (W.words page.old) }
-    requires in_page { place ≤ 122 }
-    ensures key { result ≡ slice_index (W.words page.old) (place + 1) }
+    requires in_page { place ≤ LAST_PLACE }
+    requires keyed { IsTrue (is_key_at (W.words page.old) place) }
+    ensures order { IsOrder (key_at (W.words page.old) place) key result }
     ensures same { W.words page.new ≡ W.words page.old }
     ensures can { W.can_read page.new }
     ensures read { W.has_read page.old page.new }
 {
-    page.word(place + 1)
+    let order = order_by_first(page.word(place + FIRST_KEY_WORD), key);
+    if order.is_ne() {
+        return order;
+    }
+    order_by_second(page.word(place + SECOND_KEY_WORD), key)
 }
 
 /// The value of the record at a place.
 pub(crate) fn value_word<W: PageWords>(page: &mut W, place: usize) -> u64
     requires can { W.can_read page.old }
     requires tree { IsTreePage (W.words page.old) }
-    requires in_page { place ≤ 122 }
-    ensures value { result ≡ slice_index (W.words page.old) (place + 2) }
+    requires in_page { place ≤ LAST_PLACE }
+    ensures value { result ≡ slice_index (W.words page.old) (place + VALUE_WORD) }
     ensures same { W.words page.new ≡ W.words page.old }
     ensures can { W.can_read page.new }
     ensures read { W.has_read page.old page.new }
 {
-    page.word(place + 2)
+    page.word(place + VALUE_WORD)
 }
 
 /// The slot among whose records a key stands or would stand. By halving, over the keys of the slots' owners.
@@ -109,7 +120,7 @@ pub(crate) fn slot_of<W: PageWords>(page: &mut W, key: Key) -> usize
     while high - low > 1 {
         let middle = low + (high - low) / 2;
         let place = owner(page, middle);
-        if is_below(key_word(page, place), key) {
+        if order_at(page, place, key).is_lt() {
             low = middle;
         } else {
             high = middle;

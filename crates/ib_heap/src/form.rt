@@ -41,13 +41,21 @@ pub(crate) const INFIMUM: usize = 18;
 
 pub(crate) const SUPREMUM: usize = 19;
 
-// Where the record places begin, and how many words each has.
+// Where the record places begin, how many words each has, and where the last one stands: the page ends with it.
 pub(crate) const FIRST_PLACE: usize = 20;
 
-pub(crate) const PLACE_WORDS: usize = 3;
+pub(crate) const PLACE_WORDS: usize = 4;
 
-// The word behind the last record place.
-pub(crate) const PLACES_END: usize = FIRST_PLACE + PLACE_WORDS * MOST_RECORDS;
+pub(crate) const LAST_PLACE: usize = FIRST_PLACE + PLACE_WORDS * (MOST_RECORDS - 1);
+
+const _: () = prove!(LAST_PLACE + PLACE_WORDS == PAGE_WORDS);
+
+// The words of a place behind its head: the key's two, and the value.
+pub(crate) const FIRST_KEY_WORD: usize = 1;
+
+pub(crate) const SECOND_KEY_WORD: usize = 2;
+
+pub(crate) const VALUE_WORD: usize = 3;
 
 // What a head counts for each record that its slot owns: the head is so many of these, and the place behind
 // it in the chain. Word `TOP` is one for each slot, and the first word that no record has used.
@@ -77,7 +85,7 @@ pub fn empty_page(level: u32, clock: u64) -> [u64; PAGE_WORDS]
     ensures page { page_of result ≡ Tree (record { level = level; prev = 0; next = 0; clock = clock; records = [] }) }
     ensures leaf { level ≡ 0 → result ≡ empty_leaf_words clock }
     ensures heap { read_heap result ≡ empty_heap }
-    ensures rest { (i : ℕ) → 20 ≤ i → slice_index result i ≡ 0 }
+    ensures rest { (i : ℕ) → FIRST_PLACE ≤ i → slice_index result i ≡ 0 }
 {
     let mut words = [0; PAGE_WORDS];
     words[KIND] = TREE;

@@ -1,31 +1,34 @@
 //! The test whether words are a page, in one walk of the chain and one of the free list (`page_validate`, `page_simple_validate_new`).
 
-ghost use Rattle.std.specs.Prelude.{[], ◌∷◌, ℕ, ◌≡◌, true, false, suc, ◌+◌, ◌-◌, ◌/◌, ◌%◌, ◌<◌, ◌≤◌, ◌==◌, ◌&&◌, IsTrue, ◌↔◌, MatchOption, length, slice_index, slice_set};
+ghost use Rattle.std.specs.Prelude.{[], ◌∷◌, ℕ, ◌≡◌, true, false, suc, ◌+◌, ◌-◌, ◌/◌, ◌%◌, ◌<◌, ◌≤◌, ◌==◌, ◌&&◌, IsTrue, ◌↔◌, SomeIff, MatchOption, length, slice_index, slice_set};
 ghost use Rattle.ib_map.specs.Keys.{rank, end_rank};
 ghost use Rattle.ib_heap.specs.Image.{IsFormed};
-ghost use Rattle.ib_heap.specs.Heap.{places_of, chain_from, free_from, is_directory, is_heap, read_heap};
+ghost use Rattle.ib_heap.specs.Heap.{key_at, is_key_at, places_of, chain_from, free_from, is_directory, is_heap, read_heap};
 ghost use Rattle.ib_heap.specs.Walks.{IsUnmet, HasOnlyPlaces, is_new, are_new, met_with, first_step, low_of, chain_holds, LeavesStep, free_end, HasHead, HasSlots};
 
 use crate::MOST_RECORDS;
 use crate::form::{
-    COUNT, DIRECTORY, FEWEST_OWNED, FIRST_PLACE, FREE, INFIMUM, KIND, LEVEL, MOST_OWNED,
-    MOST_SLOTS, NEXT, OWNED_UNIT, PLACE_WORDS, PLACES_END, PREV, SUPREMUM, TOP, TREE,
+    COUNT, DIRECTORY, FEWEST_OWNED, FIRST_KEY_WORD, FIRST_PLACE, FREE, INFIMUM, KIND, LAST_PLACE,
+    LEVEL, MOST_OWNED, MOST_SLOTS, NEXT, OWNED_UNIT, PLACE_WORDS, PREV, SECOND_KEY_WORD, SUPREMUM,
+    TOP, TREE,
 };
 use crate::page::{has_limits, is_free};
 use ib_map::{Key, PAGE_WORDS, is_below};
 
 // What a walk has met before it begins: all words but the heads of record places.
 const NO_PLACES: [u8; PAGE_WORDS] = [
-    1, 1, 1, 1, 1, 1, 1, 1, 1, 1, 1, 1, 1, 1, 1, 1, 1, 1, 1, 1, 0, 1, 1, 0, 1, 1, 0, 1, 1, 0, 1, 1,
-    0, 1, 1, 0, 1, 1, 0, 1, 1, 0, 1, 1, 0, 1, 1, 0, 1, 1, 0, 1, 1, 0, 1, 1, 0, 1, 1, 0, 1, 1, 0, 1,
-    1, 0, 1, 1, 0, 1, 1, 0, 1, 1, 0, 1, 1, 0, 1, 1, 0, 1, 1, 0, 1, 1, 0, 1, 1, 0, 1, 1, 0, 1, 1, 0,
-    1, 1, 0, 1, 1, 0, 1, 1, 0, 1, 1, 0, 1, 1, 0, 1, 1, 0, 1, 1, 0, 1, 1, 0, 1, 1, 0, 1, 1, 1, 1, 1,
+    1, 1, 1, 1, 1, 1, 1, 1, 1, 1, 1, 1, 1, 1, 1, 1, 1, 1, 1, 1, 0, 1, 1, 1, 0, 1, 1, 1, 0, 1, 1, 1,
+    0, 1, 1, 1, 0, 1, 1, 1, 0, 1, 1, 1, 0, 1, 1, 1, 0, 1, 1, 1, 0, 1, 1, 1, 0, 1, 1, 1, 0, 1, 1, 1,
+    0, 1, 1, 1, 0, 1, 1, 1, 0, 1, 1, 1, 0, 1, 1, 1, 0, 1, 1, 1, 0, 1, 1, 1, 0, 1, 1, 1, 0, 1, 1, 1,
+    0, 1, 1, 1, 0, 1, 1, 1, 0, 1, 1, 1, 0, 1, 1, 1, 0, 1, 1, 1, 0, 1, 1, 1, 0, 1, 1, 1, 0, 1, 1, 1,
+    0, 1, 1, 1, 0, 1, 1, 1, 0, 1, 1, 1, 0, 1, 1, 1, 0, 1, 1, 1, 0, 1, 1, 1, 0, 1, 1, 1, 0, 1, 1, 1,
 ];
 
 /// Whether the words are those of a free page or of a page of the tree (`page_validate`): the head is within its
-/// limits, the chain ends at the supremum after as many records as are counted, their keys ascend, the slots are
-/// those of the directory and own no fewer and no more than they may, and each place that was used stands once
-/// in the chain or in the free list. Nothing is asked of the words but that they are as many as a page has.
+/// limits, the chain ends at the supremum after as many records as are counted, the two words of each are a key's
+/// and the keys ascend, the slots are those of the directory and own no fewer and no more than they may, and each
+/// place that was used stands once in the chain or in the free list. Nothing is asked of the words but that they
+/// are as many as a page has.
 pub fn is_formed(words: &[u64]) -> bool
     requires { length words.now ≡ PAGE_WORDS }
     ensures { IsTrue result ↔ IsFormed words.now }
@@ -70,14 +73,11 @@ fn has_head(words: &[u64]) -> bool
         && words[COUNT] <= MOST_RECORDS as u64
         && FIRST_PLACE <= top
         && (top - FIRST_PLACE) % PLACE_WORDS == 0
-        && top <= PLACES_END
+        && top <= PAGE_WORDS
         && words[COUNT] as usize <= (top - FIRST_PLACE) / PLACE_WORDS
         && words[INFIMUM] / OWNED_UNIT == 1
         && words[SUPREMUM] % OWNED_UNIT == 0
         && words[DIRECTORY] as usize == INFIMUM
-        && words[PLACES_END] == 0
-        && words[PLACES_END + 1] == 0
-        && words[PLACES_END + 2] == 0
 }
 
 // Whether the number of slots ends at the supremum's.
@@ -104,7 +104,7 @@ fn meet(met: &mut [u8], at: usize, n: usize) -> bool
     ensures is_new { result ≡ is_new n met.old at }
     ensures meets { result ≡ true → met.new ≡ slice_set met.old at 1 }
     ensures places { HasOnlyPlaces met.new }
-    ensures low { result ≡ true → at ≤ 122 }
+    ensures low { result ≡ true → at ≤ LAST_PLACE }
 {
     if at >= FIRST_PLACE + PLACE_WORDS * n {
         return false;
@@ -130,11 +130,11 @@ impl ChainStep {
     // The step behind the record here. None where no chain of a page goes on so.
     fn next(self, words: &[u64]) -> Option<ChainStep>
         requires size { length words.now ≡ PAGE_WORDS }
-        requires low { self.at ≤ 122 }
+        requires low { self.at ≤ LAST_PLACE }
         requires few { self.owned ≤ MOST_RECORDS }
         ensures { MatchOption result ((m : ℕ) → chain_holds words.now (suc m) self ≡ false) (LeavesStep words.now self) }
     {
-        let key = words[self.at + 1];
+        let key = key_of(words, self.at)?;
         if !is_above(key, self.last) {
             return None;
         }
@@ -180,6 +180,14 @@ impl ChainStep {
         }
         no_more(words, self.slot + 1)
     }
+}
+
+// The key of the record at a place, where its words are a key's.
+fn key_of(words: &[u64], at: usize) -> Option<Key>
+    requires { at + SECOND_KEY_WORD < length words.now }
+    ensures { SomeIff result (is_key_at words.now at ≡ true) (key_at words.now at) }
+{
+    Key::from_words(words[at + FIRST_KEY_WORD], words[at + SECOND_KEY_WORD])
 }
 
 // Whether a key is above another, where there is one.
@@ -230,7 +238,7 @@ fn no_more(words: &[u64], from: usize) -> bool
     true
 }
 
-// Whether so many records of the chain stand at new places, ascend, and have the slots of the directory, with the supremum behind them.
+// Whether so many records of the chain stand at new places, have keys that ascend, and have the slots of the directory, with the supremum behind them.
 fn has_chain(words: &[u64], met: &mut [u8], count: usize, n: usize) -> bool
     requires size { length words.now ≡ PAGE_WORDS }
     requires met_size { length met.old ≡ PAGE_WORDS }

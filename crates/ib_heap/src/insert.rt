@@ -6,14 +6,15 @@ ghost use Rattle.ib_heap.specs.Form.{page_of};
 ghost use Rattle.ib_heap.specs.Image.{IsTreePage, records_of, value_with_records};
 ghost use Rattle.ib_heap.specs.Heap.{nodes_of, read_heap, used_places};
 ghost use Rattle.ib_heap.specs.Put.{place_for, put_in};
-ghost use Rattle.ib_heap.specs.Kept.{IsKept};
+ghost use Rattle.ib_heap.specs.Kept.{IsKept, IsOutside};
 ghost use Rattle.ib_heap.specs.Steps.{IsPlaceOfKey, IsPlaceTaken, CanLink, IsLinkedIn, CanSplitSlot, IsSlotSplit};
 ghost use Rattle.ib_heap.specs.Walks.{end_from};
 
 use crate::MOST_RECORDS;
 use crate::fault::PageFault;
 use crate::form::{
-    COUNT, DIRECTORY, FEWEST_OWNED, FREE, MOST_OWNED, OWNED_UNIT, PLACE_WORDS, TOP, count,
+    COUNT, DIRECTORY, FEWEST_OWNED, FIRST_KEY_WORD, FREE, MOST_OWNED, OWNED_UNIT, PLACE_WORDS,
+    SECOND_KEY_WORD, TOP, VALUE_WORD, count,
 };
 use crate::search::{Cursor, find, seek};
 use crate::walk::{next_word, owned_word, slot_word};
@@ -32,7 +33,7 @@ pub fn put(words: &mut [u64], key: Key, value: u64) -> Result<(), PageFault>
     ensures never_missing { result ≢ Err PageFault.Missing }
     ensures unchanged { OnErr result (words.new ≡ words.old) }
     ensures heap { OnOk result (read_heap words.new ≡ put_in (place_of key (records_of words.old)) (read_heap words.old)) }
-    ensures kept { OnOk result ((i : ℕ) → IsKept (used_places (read_heap words.new)) i → i ≢ place_for (read_heap words.old) + 1 → i ≢ place_for (read_heap words.old) + 2 → slice_index words.new i ≡ slice_index words.old i) }
+    ensures kept { OnOk result ((i : ℕ) → IsKept (used_places (read_heap words.new)) i → IsOutside (place_for (read_heap words.old)) i → slice_index words.new i ≡ slice_index words.old i) }
 {
     match find(words, key) {
         Ok(_) => Err(PageFault::Duplicate),
@@ -54,7 +55,7 @@ pub(crate) fn put_new(words: &mut [u64], key: Key, value: u64)
     requires absent { value_at key (records_of words.old) ≡ None }
     ensures page { page_of words.new ≡ value_with_records (put key value (records_of words.old)) (page_of words.old) }
     ensures heap { read_heap words.new ≡ put_in (place_of key (records_of words.old)) (read_heap words.old) }
-    ensures kept { (i : ℕ) → IsKept (used_places (read_heap words.new)) i → i ≢ place_for (read_heap words.old) + 1 → i ≢ place_for (read_heap words.old) + 2 → slice_index words.new i ≡ slice_index words.old i }
+    ensures kept { (i : ℕ) → IsKept (used_places (read_heap words.new)) i → IsOutside (place_for (read_heap words.old)) i → slice_index words.new i ≡ slice_index words.old i }
 {
     let cursor = locate(words, key);
     let first = slot_word(words, cursor.slot - 1);
@@ -123,9 +124,11 @@ fn link(words: &mut [u64], cursor: Cursor, owner: usize, place: usize, key: Key,
     let count = words[COUNT];
     let head = words[cursor.before];
     let owned = words[owner];
+    let (first, second) = key.words();
     write(words, place, cursor.at as u64);
-    write(words, place + 1, key);
-    write(words, place + 2, value);
+    write(words, place + FIRST_KEY_WORD, first);
+    write(words, place + SECOND_KEY_WORD, second);
+    write(words, place + VALUE_WORD, value);
     write(words, cursor.before, head - cursor.at as u64 + place as u64);
     write(words, owner, owned + OWNED_UNIT);
     write(words, COUNT, count + 1);

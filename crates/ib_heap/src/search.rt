@@ -5,14 +5,14 @@ ghost use Rattle.std.specs.List.Sorted.{IsSearchInRange};
 ghost use Rattle.ib_map.specs.Keys.{rank};
 ghost use Rattle.ib_map.specs.Pairs.{value_at, place_of, place_after};
 ghost use Rattle.ib_heap.specs.Image.{IsTreePage, records_of};
-ghost use Rattle.ib_heap.specs.Heap.{nodes_of, owners, up_to, last_from, first_of};
+ghost use Rattle.ib_heap.specs.Heap.{key_at, is_key_at, nodes_of, owners, up_to, last_from, first_of};
 
 use crate::MOST_RECORDS;
-use crate::directory::{index_behind, key_word, next_place, owner, slot_of, value_word};
-use crate::form::SUPREMUM;
+use crate::directory::{index_behind, next_place, order_at, owner, slot_of, value_word};
+use crate::form::{LAST_PLACE, SUPREMUM, VALUE_WORD};
 use crate::walk::record_of;
 use crate::words::PageWords;
-use ib_map::{Key, is_below, is_same};
+use ib_map::Key;
 
 /// Where a key stands in the chain, or would stand: the slot, how many steps behind the owner of the slot
 /// before it, the place before the key, and the first place whose record is not below it.
@@ -66,10 +66,11 @@ pub(crate) fn seek<W: PageWords>(page: &mut W, key: Key) -> Cursor
 fn is_at<W: PageWords>(page: &mut W, place: usize, key: Key) -> bool
     requires can { W.can_read page.old }
     requires tree { IsTreePage (W.words page.old) }
-    requires in_page { place ≤ 122 }
-    ensures yes { IsTrue result → (place ≡ 19) ⊎ (rank key ≤ rank (slice_index (W.words page.old) (place + 1))) }
+    requires in_page { place ≤ LAST_PLACE }
+    requires keyed { place ≢ 19 → IsTrue (is_key_at (W.words page.old) place) }
+    ensures yes { IsTrue result → (place ≡ 19) ⊎ (rank key ≤ rank (key_at (W.words page.old) place)) }
     ensures end { result ≡ false → place ≢ 19 }
-    ensures below { result ≡ false → rank (slice_index (W.words page.old) (place + 1)) < rank key }
+    ensures below { result ≡ false → rank (key_at (W.words page.old) place) < rank key }
     ensures same { W.words page.new ≡ W.words page.old }
     ensures can { W.can_read page.new }
     ensures read { W.has_read page.old page.new }
@@ -77,16 +78,17 @@ fn is_at<W: PageWords>(page: &mut W, place: usize, key: Key) -> bool
     if place == SUPREMUM {
         return true;
     }
-    !is_below(key_word(page, place), key)
+    order_at(page, place, key).is_ge()
 }
 
 // Whether a place is that of the key's record.
 fn has_key<W: PageWords>(page: &mut W, place: usize, key: Key) -> bool
     requires can { W.can_read page.old }
     requires tree { IsTreePage (W.words page.old) }
-    requires in_page { place ≤ 122 }
-    ensures yes { IsTrue result → (place ≢ 19) × (slice_index (W.words page.old) (place + 1) ≡ key) }
-    ensures no { result ≡ false → (place ≡ 19) ⊎ ((place ≢ 19) × (rank (slice_index (W.words page.old) (place + 1)) ≢ rank key)) }
+    requires in_page { place ≤ LAST_PLACE }
+    requires keyed { place ≢ 19 → IsTrue (is_key_at (W.words page.old) place) }
+    ensures yes { IsTrue result → (place ≢ 19) × (key_at (W.words page.old) place ≡ key) }
+    ensures no { result ≡ false → (place ≡ 19) ⊎ ((place ≢ 19) × (rank (key_at (W.words page.old) place) ≢ rank key)) }
     ensures same { W.words page.new ≡ W.words page.old }
     ensures can { W.can_read page.new }
     ensures read { W.has_read page.old page.new }
@@ -94,7 +96,7 @@ fn has_key<W: PageWords>(page: &mut W, place: usize, key: Key) -> bool
     if place == SUPREMUM {
         return false;
     }
-    is_same(key_word(page, place), key)
+    order_at(page, place, key).is_eq()
 }
 
 /// Where a key stands among the records in their order, as `Ok`, or where it would stand, as `Err`
@@ -212,9 +214,9 @@ fn route_word<W: PageWords>(page: &mut W, key: Key) -> usize
     requires tree { IsTreePage (W.words page.old) }
     requires first { IsSomeAnd (slice_get (records_of (W.words page.old)) 0) (λ r. rank r.0 ≤ rank key) }
     ensures record { slice_get (records_of (W.words page.old)) (place_after key (records_of (W.words page.old)) - 1)
-        ≡ Some (slice_index (W.words page.old) (result + 1), slice_index (W.words page.old) (result + 2)) }
-    ensures not_above { rank (slice_index (W.words page.old) (result + 1)) ≤ rank key }
-    ensures in_page { result ≤ 122 }
+        ≡ Some (key_at (W.words page.old) result, slice_index (W.words page.old) (result + VALUE_WORD)) }
+    ensures not_above { rank (key_at (W.words page.old) result) ≤ rank key }
+    ensures in_page { result ≤ LAST_PLACE }
     ensures same { W.words page.new ≡ W.words page.old }
     ensures can { W.can_read page.new }
     ensures read { W.has_read page.old page.new }

@@ -3,9 +3,12 @@
 ghost use Rattle.std.specs.Prelude.{◌≡◌, ◌+◌, ◌/◌, ◌%◌, ◌<◌, ◌≤◌, ◌++◌, length, drop, slice_get, slice_index, IsTrue, Some, ◌↔◌};
 ghost use Rattle.ib_map.specs.Keys.{rank};
 ghost use Rattle.ib_map.specs.Pairs.{cut};
+ghost use Rattle.ib_heap.specs.Heap.{key_at};
 ghost use Rattle.ib_heap.specs.Image.{IsTreePage, records_of};
 
-use crate::form::{DIRECTORY, INFIMUM, OWNED_UNIT, count};
+use crate::form::{
+    DIRECTORY, FIRST_KEY_WORD, INFIMUM, OWNED_UNIT, SECOND_KEY_WORD, VALUE_WORD, count,
+};
 use ib_map::{Key, is_below};
 
 // The place behind another in the chain.
@@ -35,10 +38,14 @@ pub(crate) fn slot_word(words: &[u64], slot: usize) -> usize
 
 // The key and the value at a place.
 pub(crate) fn record_of(words: &[u64], place: usize) -> (Key, u64)
-    requires { place + 2 < length words.now }
-    ensures { result ≡ (slice_index words.now (place + 1), slice_index words.now (place + 2)) }
+    requires { place + VALUE_WORD < length words.now }
+    ensures { result ≡ (key_at words.now place, slice_index words.now (place + VALUE_WORD)) }
 {
-    (words[place + 1], words[place + 2])
+    let key = Key::in_words(
+        words[place + FIRST_KEY_WORD],
+        words[place + SECOND_KEY_WORD],
+    );
+    (key, words[place + VALUE_WORD])
 }
 
 /// The key and the value of a record, by its place in the order of keys (`page_rec_get_nth`). It is found along the

@@ -4,6 +4,10 @@
 #[cfg(test)]
 mod entries;
 #[cfg(test)]
+mod files;
+#[cfg(test)]
 mod logs;
 #[cfg(test)]
 mod trees;
+#[cfg(test)]
+mod worked;

@@ -5,7 +5,7 @@ use Rattle.std.proofs.Common.{◌≡◌, inl, inr, ℕ, true, cond, List, [], �
 use Rattle.std.proofs.lemmas.Bool.{cases_eq, eq-eqb, ne_eqb}
 use Rattle.std.proofs.lemmas.Bool.Decides.{nat_tests}
 use Rattle.std.proofs.lemmas.List.Elements.{All-head, All-tail}
-use Rattle.ib_map.specs.Keys.{MapKey, IsKey}
+use Rattle.ib_map.specs.Keys.{MapKey}
 use Rattle.ib_map.specs.Space.{has_pages}
 use Rattle.ib_map.proofs.KeyLaws.{rank-lt_end}
 use Rattle.ib_page.specs.Form.{page_of}
@@ -69,7 +69,7 @@ space-in : (pages : ℕ) (words : ℕ → ℕ) → IsSpacePage pages (image_of w
 space-in pages words space None is = tt
 space-in pages words space (Some image) is = subst (HasBits pages (bits_of pages words)) is (space, bits-in pages words)
 
-module _ (sizes : Sizes) (fits : has_pages sizes.pages ≡ true) (key : MapKey) (is : IsKey key) (path : List ℕ) (p : PassState) (at : StandsOnWay sizes key path p) where
+module _ (sizes : Sizes) (fits : has_pages sizes.pages ≡ true) (key : MapKey) (path : List ℕ) (p : PassState) (at : StandsOnWay sizes key path p) where
   abbrev start : ℕ → ℕ
   start = by_place opening sizes.pages
 
@@ -88,7 +88,7 @@ module _ (sizes : Sizes) (fits : has_pages sizes.pages ≡ true) (key : MapKey) 
     pub way-now : path ≡ way_of m key 1
     way-now =
         let shape = kept-shapes sizes.pages fits in
-        let lt = rank-lt_end key is in
+        let lt = rank-lt_end key in
         at.way ∙ sym (way_same (kept_pages sizes.pages seen) m 1 key
         (λ page level o. single_way sizes.pages 1 (IsKeptLog sizes.pages) start shape 1 (omega arith) (omega arith) key lt seen others page level legal calm o)
         (tree_of-log sizes.pages 1 (IsKeptLog sizes.pages) start shape.laws 1 (omega arith) (omega arith) (seen ++ others) legal) lt)
@@ -114,7 +114,6 @@ module _ (sizes : Sizes) (fits : has_pages sizes.pages ≡ true) (key : MapKey) 
           few = grind (arith, nat_tests, fits);
           some = omega arith;
           within = omega arith;
-          is_key = is;
           way = way-now;
           same = λ page ne there. state-in (memory_after start (seen ++ others)) page (changed_of page p.work) (still-in (memory_after start (seen ++ others)) page p.work images-now) there;
           space = space-in sizes.pages (memory_after start (seen ++ others)) memory.space (changed_of 0 p.work) (still-in (memory_after start (seen ++ others)) 0 p.work images-now);

@@ -2,7 +2,7 @@
 use Rattle.std.specs.Prelude.{◌==◌, ◌||◌}
 use Rattle.std.proofs.Common.{◌≡◌, ◌≢◌, ◌⊎◌, inl, inr, ℕ, zero, suc, ◌<◌, ◌≤◌, Bool, true, false, List, [], ◌∷◌, ◌++◌, length, refl, sym, ap, subst, ◌∙◌, arith, ne_eqb, length-append}
 use Rattle.std.proofs.lemmas.Bool.{cases_eq}
-use Rattle.ib_map.specs.Keys.{MapKey, IsKey, rank, end_rank}
+use Rattle.ib_map.specs.Keys.{MapKey, rank, end_rank}
 use Rattle.ib_map.specs.Space.{has_pages}
 use Rattle.ib_map.proofs.KeyLaws.{rank-lt_end}
 use Rattle.ib_layout.specs.Geometry.{Sizes}
@@ -48,7 +48,7 @@ or-cases false true b y h = inr (inl refl)
 or-cases false false true y h = inr (inr (inl refl))
 or-cases false false false y h = inr (inr (inr h))
 
-module _ (sizes : Sizes) (fits : has_pages sizes.pages ≡ true) (key : MapKey) (is : IsKey key) (path held : List ℕ) (p q : PassState)
+module _ (sizes : Sizes) (fits : has_pages sizes.pages ≡ true) (key : MapKey) (path held : List ℕ) (p q : PassState)
     (c : HasClaimed sizes (IsKeptLog sizes.pages) (by_place opening sizes.pages) 1 key path held p q) (w : IsWayWithLeaves (kept_pages sizes.pages q.view.memory.seen) path held) (claims : is_claimed q.view.memory.since ≡ true) where
   abbrev start : ℕ → ℕ
   start = by_place opening sizes.pages
@@ -57,16 +57,16 @@ module _ (sizes : Sizes) (fits : has_pages sizes.pages ≡ true) (key : MapKey) 
   m = kept_pages sizes.pages q.view.memory.seen
 
   abbrev bits : ℕ → ℕ
-  bits = way_bits sizes fits key is path held p q c claims
+  bits = way_bits sizes fits key path held p q c claims
 
   lt : rank key < end_rank
-  lt = rank-lt_end key is
+  lt = rank-lt_end key
 
   shape : ShapeLaws sizes.pages 1 (IsKeptLog sizes.pages) start
   shape = kept-shapes sizes.pages fits
 
   agreement : Agrees sizes.pages 1 1 key path q.work m bits
-  agreement = agreed sizes fits key is path held p q c claims
+  agreement = agreed sizes fits key path held p q c claims
 
   tree : IsTreeOf m (height_of m 1) 1
   tree = (agreement.lawful.trees 1 (omega arith) (omega arith)).0
@@ -131,26 +131,26 @@ module _ (sizes : Sizes) (fits : has_pages sizes.pages ≡ true) (key : MapKey) 
   held-few =
       let a = ap length w.are in let b = length-append w.front (beside (m w.leaf).prev ++ w.leaf ∷ beside (m w.leaf).next) in
       let d = length-append (beside (m w.leaf).prev) (w.leaf ∷ beside (m w.leaf).next) in let e = beside_few (m w.leaf).prev in let f = beside_few (m w.leaf).next in
-      let g = way-long sizes fits key is path held p q c claims in
+      let g = way-long sizes fits key path held p q c claims in
       let h = ap length w.ends in let i = length-append w.front (w.leaf ∷ []) in
-      let j = way-low sizes fits key is path held p q c claims in omega arith
+      let j = way-low sizes fits key path held p q c claims in omega arith
 
   pub has-come : HasComeToWay sizes key path p q
   has-come = record {
     held = held;
-    growing = growing sizes fits key is path held p q c claims way-held held-kind;
+    growing = growing sizes fits key path held p q c claims way-held held-kind;
     next =
-        let same = held-same sizes fits key is path held p q c claims way-held held-kind (last_of path) (last-held sizes fits key is path held p q c claims way-held held-kind) in
+        let same = held-same sizes fits key path held p q c claims way-held held-kind (last_of path) (last-held sizes fits key path held p q c claims way-held held-kind) in
         let link : (memory_in q.work (last_of path)).next ≡ (m w.leaf).next = ap (λ s. s.next) same ∙ ap (λ n. (m n).next) last-is in
-        λ ne. subst (IsThere q.work) (sym link) (held-there sizes fits key is path held p q c claims way-held held-kind (m w.leaf).next (next-held (λ z. ne (link ∙ z))));
+        λ ne. subst (IsThere q.work) (sym link) (held-there sizes fits key path held p q c claims way-held held-kind (m w.leaf).next (next-held (λ z. ne (link ∙ z))));
     few = held-few;
-    kinds = held-kinds sizes fits key is path held p q c claims way-held held-kind;
-    zero = held-zero sizes fits key is path held p q c claims way-held held-kind;
+    kinds = held-kinds sizes fits key path held p q c claims way-held held-kind;
+    zero = held-zero sizes fits key path held p q c claims way-held held-kind;
     once = once;
     went = c.went;
     looked = c.looked;
     claims = c.sx;
     grants =
-        let a = c.s in let b = c.sx in let d = c.x in let g = way-long sizes fits key is path held p q c claims in
-        let j = way-low sizes fits key is path held p q c claims in let f = held-few in omega arith;
+        let a = c.s in let b = c.sx in let d = c.x in let g = way-long sizes fits key path held p q c claims in
+        let j = way-low sizes fits key path held p q c claims in let f = held-few in omega arith;
   }

@@ -6,7 +6,7 @@ use Rattle.std.proofs.lemmas.Bool.{cases_eq, cases_lt}
 use Rattle.std.proofs.lemmas.List.{length-map}
 use Rattle.std.proofs.lemmas.List.Elements.{All-nil, All-cons}
 use Rattle.std.proofs.lemmas.List.Folds.{list_any-append}
-use Rattle.ib_map.specs.Keys.{MapKey, IsKey, rank, end_rank}
+use Rattle.ib_map.specs.Keys.{MapKey, rank, end_rank}
 use Rattle.ib_map.specs.Space.{has_pages}
 use Rattle.ib_map.proofs.KeyLaws.{rank-lt_end}
 use Rattle.ib_levels.specs.declared.level.Level.TheVariants.{TreeNode}
@@ -106,7 +106,7 @@ pages-same (x ∷ xs) = ap (λ ns. x ∷ ns) (pages-same xs)
 abbrev pub IsPageOfTree : PageMemory → ℕ → Type 0
 IsPageOfTree m n = ((m n).kind ≡ Tree) × (n ≢ 0)
 
-module _ (sizes : Sizes) (fits : has_pages sizes.pages ≡ true) (key : MapKey) (is : IsKey key) (path held : List ℕ) (p q : PassState)
+module _ (sizes : Sizes) (fits : has_pages sizes.pages ≡ true) (key : MapKey) (path held : List ℕ) (p q : PassState)
     (c : HasClaimed sizes (IsKeptLog sizes.pages) (by_place opening sizes.pages) 1 key path held p q) (claims : is_claimed q.view.memory.since ≡ true) where
   abbrev start : ℕ → ℕ
   start = by_place opening sizes.pages
@@ -118,7 +118,7 @@ module _ (sizes : Sizes) (fits : has_pages sizes.pages ≡ true) (key : MapKey) 
   way_bits = bits_of sizes.pages (memory_after start q.view.memory.seen)
 
   lt : rank key < end_rank
-  lt = rank-lt_end key is
+  lt = rank-lt_end key
 
   loaded-is : (n : ℕ) → is_loaded n q.work ≡ is_listed held n
   loaded-is n = bools-same (is_loaded n q.work) (is_listed held n) ((λ l. (c.there n).0 ((loaded_some n q.work).1 l)), (λ a. (loaded_some n q.work).0 ((c.there n).1 a)))
@@ -133,7 +133,7 @@ module _ (sizes : Sizes) (fits : has_pages sizes.pages ≡ true) (key : MapKey) 
   }
 
   pub agreed : Agrees sizes.pages 1 1 key path q.work m way_bits
-  agreed = agrees-now sizes fits key is path q standing
+  agreed = agrees-now sizes fits key path q standing
 
   tree : IsTreeOf m (height_of m 1) 1
   tree = (agreed.lawful.trees 1 (omega arith) (omega arith)).0

@@ -193,7 +193,6 @@ agrees-less pages key path old new memory bits kept a = record {
   few = a.few;
   some = a.some;
   within = a.within;
-  is_key = a.is_key;
   way = a.way;
   same = λ n ne there. ap state_or_free (sym (kept n there)) ∙ a.same n ne (subst IsSome (sym (kept n there)) there);
   space = go (changed_of 0 old) refl;

@@ -1,7 +1,7 @@
 -- An insert that came to the key's way and ended there was answered.
 use Rattle.std.specs.Prelude.{is_some, Result, Ok, Err, IfOk, IfErr}
 use Rattle.std.proofs.Common.{◌≡◌, ℕ, ◌<◌, ◌≤◌, true, false, cond, List, length, Option, Some, None, take, refl, sym, ap, subst, ◌∙◌}
-use Rattle.ib_map.specs.Keys.{MapKey, IsKey}
+use Rattle.ib_map.specs.Keys.{MapKey}
 use Rattle.ib_map.specs.Map.{answer_of, is_made}
 use Rattle.ib_map.specs.History.{map_after}
 use Rattle.ib_map.specs.Replies.{FitsChange}
@@ -34,12 +34,12 @@ use Rattle.ib_index.specs.Leaf.{IsSeated}
 use Rattle.ib_index.specs.Grows.{IsGrowing}
 use Rattle.ib_index.proofs.WayCalls.{agrees-l, called-committed, called-full, called-read, entry-c, log-full, looked-f, value-c, value-f, value-r, value_there, whole-f, whole-r, within-c, within-f, within-r}
 
-module _ (sizes : Sizes) (key : MapKey) (is : IsKey key) (path : List ℕ) (held : List (ℕ × Level)) (p q : PassState) (went : WentOn p q) (looked : 0 < length went.added) (can : IsGrowing sizes key path held q) (seated : IsSeated sizes q) where
+module _ (sizes : Sizes) (key : MapKey) (path : List ℕ) (held : List (ℕ × Level)) (p q : PassState) (went : WentOn p q) (looked : 0 < length went.added) (can : IsGrowing sizes key path held q) (seated : IsSeated sizes q) where
   abbrev start : ℕ → ℕ
   start = by_place opening sizes.pages
 
   abbrev there : Option ℕ
-  there = value_there sizes key is path held p q went looked can seated
+  there = value_there sizes key path held p q went looked can seated
 
   -- what holds of each memory that agrees
   abbrev ForAll : (PageMemory → (ℕ → ℕ) → Type 0) → Type 0
@@ -48,20 +48,20 @@ module _ (sizes : Sizes) (key : MapKey) (is : IsKey key) (path : List ℕ) (held
   -- the call ended without a change
   module _ (value place : ℕ) (r : PassState) (read : HasRead sizes (IsKeptLog sizes.pages) q place r) where
     answer-r : answer_of (map_after (history_of r.view.memory.seen) place) (Insert key value) ≡ cond (is_some there) Duplicate Inserted
-    answer-r = ap (λ (o : Option ℕ). cond (is_some o) Duplicate Inserted) (value-r sizes key is path held p q went looked can seated place r read)
+    answer-r = ap (λ (o : Option ℕ). cond (is_some o) Duplicate Inserted) (value-r sizes key path held p q went looked can seated place r read)
 
     refused : (reply : Reply) → is_made reply ≡ false → FitsChange (history_of r.view.memory.seen) r.number (Insert key value) reply place → FitsInsert (space_of sizes start) r.view.memory.seen key reply place
         → HasCalled sizes (IsKeptLog sizes.pages) start (InsertCall key value) (record { call = InsertCall key value; reply = reply; place = place }) p r
     refused reply not_made change tree =
-        called-read sizes key is path held p q went looked can seated place r read (InsertCall key value) reply not_made
-        (record { map = (within-r sizes key is path held p q went looked can seated place r read, (change, refl)); tree = tree })
+        called-read sizes key path held p q went looked can seated place r read (InsertCall key value) reply not_made
+        (record { map = (within-r sizes key path held p q went looked can seated place r read, (change, refl)); tree = tree })
 
     -- a memory that agrees is that after all seen
     seen-all : (P : List Entry → Type 0) → P read.log → P (take place r.view.memory.seen)
-    seen-all P has = subst P (sym (whole-r sizes key is path held p q went looked can seated place r read)) has
+    seen-all P has = subst P (sym (whole-r sizes key path held p q went looked can seated place r read)) has
 
     agreed : Agrees sizes.pages 1 1 key path q.work (kept_pages sizes.pages read.log) (bits_of sizes.pages (memory_after start read.log))
-    agreed = agrees-l sizes key is path held p q went looked can seated read.log read.looked
+    agreed = agrees-l sizes key path held p q went looked can seated read.log read.looked
 
     pub called-duplicate : (old : ℕ) → there ≡ Some old
         → HasCalled sizes (IsKeptLog sizes.pages) start (InsertCall key value) (record { call = InsertCall key value; reply = Duplicate; place = place }) p r
@@ -89,24 +89,24 @@ module _ (sizes : Sizes) (key : MapKey) (is : IsKey key) (path : List ℕ) (held
         → HasCalled sizes (IsKeptLog sizes.pages) start (InsertCall key value) (record { call = InsertCall key value; reply = LogFullReply full.used full.cap; place = length r.view.memory.seen }) p r
     called-full-insert full r f free =
         let made : is_made (answer_of (map_of r.view.memory.seen) (Insert key value)) ≡ true =
-        ap (λ (o : Option ℕ). is_made (cond (is_some o) Duplicate Inserted)) (value-f sizes key is path held p q went looked can seated work full r f ∙ missing) in
+        ap (λ (o : Option ℕ). is_made (cond (is_some o) Duplicate Inserted)) (value-f sizes key path held p q went looked can seated work full r f ∙ missing) in
         let both = subst (λ (log : List Entry). (is_too_high (kept_pages sizes.pages log) key 1 ≡ false) × (need_of (kept_pages sizes.pages log) key 1 ≤ free_of (bits_of sizes.pages (memory_after start log)) sizes.pages))
-        (sym (whole-f sizes key is path held p q went looked can seated work full r f))
-        (free (kept_pages sizes.pages f.log) (bits_of sizes.pages (memory_after start f.log)) (agrees-l sizes key is path held p q went looked can seated f.log (looked-f sizes key is path held p q went looked can seated work full r f))) in
-        called-full sizes key is path held p q went looked can seated work full r f (InsertCall key value) (record {
-          map = (within-f sizes key is path held p q went looked can seated work full r f, (made, refl));
-          tree = (both.0, both.1, log-full sizes key is path held p q went looked can seated work full r f);
+        (sym (whole-f sizes key path held p q went looked can seated work full r f))
+        (free (kept_pages sizes.pages f.log) (bits_of sizes.pages (memory_after start f.log)) (agrees-l sizes key path held p q went looked can seated f.log (looked-f sizes key path held p q went looked can seated work full r f))) in
+        called-full sizes key path held p q went looked can seated work full r f (InsertCall key value) (record {
+          map = (within-f sizes key path held p q went looked can seated work full r f, (made, refl));
+          tree = (both.0, both.1, log-full sizes key path held p q went looked can seated work full r f);
         })
 
     -- the change was committed
     pub called-inserted : (place : ℕ) (r : PassState) → HasCommitted sizes (IsKeptLog sizes.pages) start (Insert key value) (with_work work q) place r
         → HasCalled sizes (IsKeptLog sizes.pages) start (InsertCall key value) (record { call = InsertCall key value; reply = Inserted; place = place }) p r
     called-inserted place r c =
-        let none = value-c sizes key is path held p q went looked can seated (Insert key value) work place r c ∙ missing in
-        called-committed sizes key is path held p q went looked can seated (Insert key value) work place r c (InsertCall key value) Inserted refl (record {
+        let none = value-c sizes key path held p q went looked can seated (Insert key value) work place r c ∙ missing in
+        called-committed sizes key path held p q went looked can seated (Insert key value) work place r c (InsertCall key value) Inserted refl (record {
           map = (
-            within-c sizes key is path held p q went looked can seated (Insert key value) work place r c,
-            ((ap (λ (o : Option ℕ). cond (is_some o) Duplicate Inserted) none, entry-c sizes key is path held p q went looked can seated (Insert key value) work place r c), refl),
+            within-c sizes key path held p q went looked can seated (Insert key value) work place r c,
+            ((ap (λ (o : Option ℕ). cond (is_some o) Duplicate Inserted) none, entry-c sizes key path held p q went looked can seated (Insert key value) work place r c), refl),
           );
           tree = tt;
         })

@@ -4,7 +4,7 @@ use Rattle.std.specs.Prelude.{IsSome, IsSomeAnd, ◌==◌, ◌||◌, nat_lt}
 use Rattle.std.proofs.Common.{◌≡◌, ◌≢◌, inl, inr, ℕ, ◌+◌, ◌<◌, Bool, true, false, cond, List, [], ◌∷◌, ◌++◌, Option, Some, None, length, map, refl, sym, ap, subst, ◌∙◌, arith, eq-eqb, ne_eqb, length-append}
 use Rattle.std.proofs.lemmas.Bool.{cases_eq}
 use Rattle.std.proofs.lemmas.List.{map-append}
-use Rattle.ib_map.specs.Keys.{MapKey, IsKey}
+use Rattle.ib_map.specs.Keys.{MapKey}
 use Rattle.ib_map.specs.Space.{has_pages}
 use Rattle.ib_map.specs.Writes.{touches, word_place}
 use Rattle.ib_map.proofs.KeyLaws.{rank-lt_end}
@@ -109,7 +109,7 @@ module _ (sizes : Sizes) (key : MapKey) (path : List ℕ) (held : List (ℕ × L
   pub grow-absent : changed_of page p.work ≡ None
   grow-absent = absent_loaded page p.work (can.loaded page ∙ other)
 
-  module _ (fits : has_pages sizes.pages ≡ true) (is : IsKey key) (q r : PassState) (inside : page < sizes.pages) (was : All (λ w. 0 < holdings (w.page + 2) p.view.session) p.work) (taken : HasTaken (held_grant (page, level)) p q) (glanced : HasGlanced sizes (IsKeptLog sizes.pages) q r)
+  module _ (fits : has_pages sizes.pages ≡ true) (q r : PassState) (inside : page < sizes.pages) (was : All (λ w. 0 < holdings (w.page + 2) p.view.session) p.work) (taken : HasTaken (held_grant (page, level)) p q) (glanced : HasGlanced sizes (IsKeptLog sizes.pages) q r)
       (memo : r.memo ≡ q.memo) (session : r.view.session ≡ q.view.session) (grants : r.view.grants ≡ q.view.grants) (load : HasPage start page q r) (now : All (λ w. 0 < holdings (w.page + 2) r.view.session) r.work) where
     all-grants : HasGrants (claim_grant ∷ map held_grant (held ++ (page, level) ∷ [])) r
     all-grants = subst (λ gs. HasGrants gs r) (ap (λ gs. claim_grant ∷ gs) (sym (map-append held_grant held ((page, level) ∷ []))))
@@ -152,7 +152,7 @@ module _ (sizes : Sizes) (key : MapKey) (path : List ℕ) (held : List (ℕ × L
         at = record {
           claimed = keeps.claimed;
           read = all-both (IsAsRead start r.view.memory.seen) (λ w. 0 < holdings (w.page + 2) r.view.session) (IsHeldPage start r) r.work (λ w a b. record { read = a; watched = glanced.seen.watched (w.page + 2) b }) images now;
-          way = can.at.way ∙ sym (keeps_path sizes 1 (IsKeptLog sizes.pages) start (kept-shapes sizes.pages fits) 1 (omega arith) (omega arith) key (rank-lt_end key is) p r glanced.seen.known keeps);
+          way = can.at.way ∙ sym (keeps_path sizes 1 (IsKeptLog sizes.pages) start (kept-shapes sizes.pages fits) 1 (omega arith) (omega arith) key (rank-lt_end key) p r glanced.seen.known keeps);
           known = glanced.seen.known;
         };
         grants = all-grants;

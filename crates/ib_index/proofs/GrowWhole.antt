@@ -1,7 +1,7 @@
 -- The parts of a whole insert that changes the tree's structure.
 use Rattle.std.specs.Prelude.{IsSome, is_some, Result, Ok, Err, IfOk, IfErr}
 use Rattle.std.proofs.Common.{◌≡◌, ℕ, ◌+◌, ◌≤◌, true, false, List, Option, Some, None, refl, sym, ap, subst, ◌∙◌, arith}
-use Rattle.ib_map.specs.Keys.{MapKey, IsKey}
+use Rattle.ib_map.specs.Keys.{MapKey}
 use Rattle.ib_map.specs.Pairs.{value_at}
 use Rattle.ib_layout.specs.Geometry.{Sizes}
 use Rattle.ib_page.specs.Work.{WorkPage, changed_of}
@@ -66,10 +66,10 @@ ended-claims sizes t work change (Ok place) r committed refused = ap (λ (v : Gr
 ended-claims sizes t work change (Err full) r committed refused = ap (λ (v : Grants). v.sx) refused.ended.grants
 
 -- what is held suffices for the plan, where the clocks may tick
-pub can-insert : (sizes : Sizes) (key : MapKey) (is : IsKey key) (path fresh : List ℕ) (p q t : PassState) → IsSeated sizes t → HasComeToWay sizes key path p q → HoldsAllPages sizes key path fresh q t → MayTick t.work
+pub can-insert : (sizes : Sizes) (key : MapKey) (path fresh : List ℕ) (p q t : PassState) → IsSeated sizes t → HasComeToWay sizes key path p q → HoldsAllPages sizes key path fresh q t → MayTick t.work
     → CanInsert path fresh key t.work
-can-insert sizes key is path fresh p q t seated come ready clocks =
-    let a = agrees-now sizes seated.fits key is path t ready.growing.at in
+can-insert sizes key path fresh p q t seated come ready clocks =
+    let a = agrees-now sizes seated.fits key path t ready.growing.at in
     let last : memory_in t.work (last_of path) ≡ memory_in q.work (last_of path) = ap state_or_free (ready.same (last_of path) come.growing.leaf) in
     let next = ap (λ s. s.next) last in
     record {

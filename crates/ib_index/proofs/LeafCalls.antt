@@ -3,7 +3,7 @@ use Rattle.std.proofs.Common.{◌≡◌, ℕ, ◌+◌, ◌<◌, ◌≤◌, Bool,
 use Rattle.std.specs.Prelude.{IfErr, IfOk, IsTrue, is_some, slice_get, Result, Ok, Err}
 use Rattle.std.proofs.Math.Seq.{take-length}
 use Rattle.std.proofs.lemmas.List.{take_at}
-use Rattle.ib_map.specs.Keys.{MapKey, IsKey}
+use Rattle.ib_map.specs.Keys.{MapKey}
 use Rattle.ib_map.specs.Pairs.{Pairs, value_at}
 use Rattle.ib_map.specs.Map.{answer_of, delete_answer, is_made}
 use Rattle.ib_map.specs.History.{map_after}
@@ -108,7 +108,7 @@ ended-idle space q r taken seen own ends table sizes ended = record {
   scratch = ap (λ (s : PassState). s.has_scratch) ended.pass;
 }
 
-module _ (space : SpaceState) (key : MapKey) (is : IsKey key) (leaf : ℕ) (p q : PassState) (own : IsOf space p) (h : HasComeToLeaf space.sizes key leaf p q) where
+module _ (space : SpaceState) (key : MapKey) (leaf : ℕ) (p q : PassState) (own : IsOf space p) (h : HasComeToLeaf space.sizes key leaf p q) where
   abbrev sizes : Sizes
   sizes = space.sizes
 
@@ -132,17 +132,17 @@ module _ (space : SpaceState) (key : MapKey) (is : IsKey key) (leaf : ℕ) (p q 
     page-r : leaf_page sizes key r ≡ leaf_page sizes key q
     page-r =
         ap (λ (log : List Entry). kept_pages sizes.pages log (leaf_after sizes.pages log key)) seen-r
-        ∙ page-stays sizes h.seated.fits key is leaf q h.at (session_number_of q.view.role) read.looked.others read.looked.harmless legal-r
+        ∙ page-stays sizes h.seated.fits key leaf q h.at (session_number_of q.view.role) read.looked.others read.looked.harmless legal-r
 
     leaf-r : leaf ≡ the_leaf sizes key r
     leaf-r =
-        leaf-stays sizes h.seated.fits key is leaf q h.at (session_number_of q.view.role) read.looked.others read.looked.harmless legal-r
+        leaf-stays sizes h.seated.fits key leaf q h.at (session_number_of q.view.role) read.looked.others read.looked.harmless legal-r
         ∙ sym (ap (λ (log : List Entry). leaf_after sizes.pages log key) seen-r)
 
     value-r : value_at key (map_of r.view.memory.seen) ≡ value_at key (leaf_page sizes key q).records
     value-r =
         ap (λ (log : List Entry). value_at key (map_of log)) seen-r
-        ∙ value-stays sizes h.seated.fits key is leaf q h.at (session_number_of q.view.role) read.looked.others read.looked.harmless legal-r
+        ∙ value-stays sizes h.seated.fits key leaf q h.at (session_number_of q.view.role) read.looked.others read.looked.harmless legal-r
 
     pub idle-read : IsIdle space r
     idle-read = ended-idle space q r q.view.grants read.log q.view.memory.own (q.view.memory.ends ++ place ∷ []) table-q sizes-q read.ended
@@ -201,12 +201,12 @@ module _ (space : SpaceState) (key : MapKey) (is : IsKey key) (leaf : ℕ) (p q 
     page-f : leaf_page sizes key r ≡ leaf_page sizes key q
     page-f =
         ap (λ (log : List Entry). kept_pages sizes.pages log (leaf_after sizes.pages log key)) seen-f
-        ∙ page-stays sizes h.seated.fits key is leaf q h.at (session_number_of q.view.role) f.looked.others f.looked.harmless legal-f
+        ∙ page-stays sizes h.seated.fits key leaf q h.at (session_number_of q.view.role) f.looked.others f.looked.harmless legal-f
 
     value-f : value_at key (map_of r.view.memory.seen) ≡ value_at key (leaf_page sizes key q).records
     value-f =
         ap (λ (log : List Entry). value_at key (map_of log)) seen-f
-        ∙ value-stays sizes h.seated.fits key is leaf q h.at (session_number_of q.view.role) f.looked.others f.looked.harmless legal-f
+        ∙ value-stays sizes h.seated.fits key leaf q h.at (session_number_of q.view.role) f.looked.others f.looked.harmless legal-f
 
     -- of the pass with its pages as they were
     ended-f : HasEnded q (commit_grants q) f.log q.view.memory.own (q.view.memory.ends ++ length f.log ∷ []) r
@@ -254,7 +254,7 @@ module _ (space : SpaceState) (key : MapKey) (is : IsKey key) (leaf : ℕ) (p q 
     full-insert value missing room =
         let long = length-history_of r.view.memory.seen in
         let made : is_made (answer_of (map_of r.view.memory.seen) (Insert key value)) ≡ true = ap (λ (o : Option ℕ). is_made (cond (is_some o) Duplicate Inserted)) (value-f ∙ missing) in
-        let free = insert-room sizes.pages h.seated.fits r.view.memory.seen known-full.legal key is (subst (λ (s : PageState). length s.records < MOST_RECORDS) (sym page-f) room) in
+        let free = insert-room sizes.pages h.seated.fits r.view.memory.seen known-full.legal key (subst (λ (s : PageState). length s.records < MOST_RECORDS) (sym page-f) room) in
         let whole : take (length r.view.memory.seen) r.view.memory.seen ≡ r.view.memory.seen = take-length r.view.memory.seen in
         called-full (InsertCall key value) known-full (record {
           map = (omega arith, (made, refl));
@@ -311,7 +311,7 @@ module _ (space : SpaceState) (key : MapKey) (is : IsKey key) (leaf : ℕ) (p q 
     value-c : value_at key (map_of c.log) ≡ value_at key (leaf_page sizes key q).records
     value-c =
         ap (λ (log : List Entry). value_at key (map_of log)) (sym c.looked.longer)
-        ∙ value-stays sizes h.seated.fits key is leaf q h.at (session_number_of q.view.role) c.looked.others c.looked.harmless (subst (IsKeptLog sizes.pages) (sym c.looked.longer) c.looked.legal)
+        ∙ value-stays sizes h.seated.fits key leaf q h.at (session_number_of q.view.role) c.looked.others c.looked.harmless (subst (IsKeptLog sizes.pages) (sym c.looked.longer) c.looked.legal)
 
     history-c : history_of r.view.memory.seen ≡ history_of c.log ++ logged e ∷ []
     history-c = ap history_of seen-c ∙ history_of-push c.log e
@@ -387,9 +387,9 @@ module _ (space : SpaceState) (key : MapKey) (is : IsKey key) (leaf : ℕ) (p q 
   leaf-kind why log look has =
       let legal = subst (IsKeptLog sizes.pages) (sym look.longer) look.legal in
       let there : HasLeaf sizes why key (q.view.memory.seen ++ look.others) = subst (HasLeaf sizes why key) (sym look.longer) has in
-      subst (why leaf) (page-stays sizes h.seated.fits key is leaf q h.at (session_number_of q.view.role) look.others look.harmless legal)
+      subst (why leaf) (page-stays sizes h.seated.fits key leaf q h.at (session_number_of q.view.role) look.others look.harmless legal)
       (subst (λ n. why n (kept_pages sizes.pages (q.view.memory.seen ++ look.others) (leaf_after sizes.pages (q.view.memory.seen ++ look.others) key)))
-      (sym (leaf-stays sizes h.seated.fits key is leaf q h.at (session_number_of q.view.role) look.others look.harmless legal)) there)
+      (sym (leaf-stays sizes h.seated.fits key leaf q h.at (session_number_of q.view.role) look.others look.harmless legal)) there)
 
   -- so the change needed the leaf alone where it was answered
   pub alone-read : (why : ℕ → PageState → Type 0) (place : ℕ) (r : PassState) → HasRead sizes (IsKeptLog sizes.pages) q place r → (why leaf (leaf_page sizes key q) → ⊥) → NeededLeaf sizes why key place r

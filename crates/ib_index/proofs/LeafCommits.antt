@@ -4,7 +4,7 @@ use Rattle.std.proofs.Common.{◌≡◌, ℕ, ◌+◌, ◌<◌, ◌^◌, ◌⊎�
 use Rattle.std.specs.Prelude.{not}
 use Rattle.std.specs.List.{list_any}
 use Rattle.std.proofs.lemmas.Bool.{eq-eqb, ne_eqb, cases_eq}
-use Rattle.ib_map.specs.Keys.{MapKey, IsKey}
+use Rattle.ib_map.specs.Keys.{MapKey}
 use Rattle.ib_map.specs.Pairs.{value_at}
 use Rattle.ib_map.specs.History.{changes_of}
 use Rattle.ib_map.specs.Writes.{page_at, spans_pages, touches}
@@ -90,7 +90,7 @@ one-alone w page is = elim (cases_eq w.page page) [
   | inr away ↦ absurd (let none = untouched (w ∷ []) page (let no = ne_eqb w.page page away in rw no refl) in let z : true ≡ false = sym is ∙ none in cc)
 ]
 
-module _ (sizes : Sizes) (key : MapKey) (is : IsKey key) (leaf : ℕ) (p : PassState) (at : IsAtLeaf sizes key leaf p) (seated : IsSeated sizes p) where
+module _ (sizes : Sizes) (key : MapKey) (leaf : ℕ) (p : PassState) (at : IsAtLeaf sizes key leaf p) (seated : IsSeated sizes p) where
   abbrev start : ℕ → ℕ
   start = by_place opening sizes.pages
 
@@ -122,10 +122,10 @@ module _ (sizes : Sizes) (key : MapKey) (is : IsKey key) (leaf : ℕ) (p : PassS
         most_number = omega arith;
         change_is = refl;
         changed = changed;
-        writes_are = ap (λ (ws : List ℕ). writes_of (record { page = leaf; before = ws; changed = changed } ∷ [])) (sym (image-stays sizes seated.fits key is leaf p at p.number others harmless legal));
+        writes_are = ap (λ (ws : List ℕ). writes_of (record { page = leaf; before = ws; changed = changed } ∷ [])) (sym (image-stays sizes seated.fits key leaf p at p.number others harmless legal));
         structural = refl;
         state = refl;
-        moved = subst (λ (ws : List ℕ). IsMovedHeap move (records_of ws) (read_heap ws) (read_heap changed)) (sym (image-stays sizes seated.fits key is leaf p at p.number others harmless legal)) moved;
+        moved = subst (λ (ws : List ℕ). IsMovedHeap move (records_of ws) (read_heap ws) (read_heap changed)) (sym (image-stays sizes seated.fits key leaf p at p.number others harmless legal)) moved;
       }
 
   module _ (few : total p.view.grants < 2 ^ 52) where
@@ -140,7 +140,7 @@ module _ (sizes : Sizes) (key : MapKey) (is : IsKey key) (leaf : ℕ) (p : PassS
       pages_x = λ page touched. subst (λ n. 0 < x_grants (n + 2) p.view.session) (one-alone (record { page = leaf; before = at.image; changed = changed }) page touched) leaf-x;
       index = λ spans. absurd (let none = one-spans (record { page = leaf; before = at.image; changed = changed }) in let z : true ≡ false = sym spans ∙ none in cc);
       legal = λ others harmless legal. push (seen ++ others) (commit_entry (with_work (leaf_work changed) p) change) legal
-          (leaf-stays sizes seated.fits key is leaf p at p.number others harmless legal) (page-stays sizes seated.fits key is leaf p at p.number others harmless legal)
+          (leaf-stays sizes seated.fits key leaf p at p.number others harmless legal) (page-stays sizes seated.fits key leaf p at p.number others harmless legal)
           (next-changes move change changed moved others harmless legal);
     }
 
@@ -148,8 +148,8 @@ module _ (sizes : Sizes) (key : MapKey) (is : IsKey key) (leaf : ℕ) (p : PassS
         → state_of (page_of changed) ≡ with_pair key value (state_of (page_of at.image)) → IsMovedHeap (Puts key) (records_of at.image) (read_heap at.image) (read_heap changed) → MayCommit (IsKeptLog sizes.pages) (with_work (leaf_work changed) p) (Insert key value)
     may-insert value changed missing room put moved = may-commit (Puts key) (Insert key value) changed moved (λ log e legal here page changes.
         let state : state_of (page_of changed) ≡ with_pair key value (kept_pages sizes.pages log (leaf_after sizes.pages log key)) =
-        put ∙ ap (with_pair key value) (sym (page-is sizes seated.fits key is leaf p at) ∙ sym page) in
-        insert-kept sizes.pages seated.fits log legal key is e value
+        put ∙ ap (with_pair key value) (sym (page-is sizes seated.fits key leaf p at) ∙ sym page) in
+        insert-kept sizes.pages seated.fits log legal key e value
         (subst (λ (q : PageState). value_at key q.records ≡ None) (sym page) missing) (subst (λ (q : PageState). length q.records < MOST_RECORDS) (sym page) room)
         (subst (λ n. ChangesPage sizes.pages log n (with_pair key value (kept_pages sizes.pages log (leaf_after sizes.pages log key))) (Puts key) (Insert key value) e) here
         (subst (λ (q : PageState). ChangesPage sizes.pages log leaf q (Puts key) (Insert key value) e) state changes)))
@@ -158,8 +158,8 @@ module _ (sizes : Sizes) (key : MapKey) (is : IsKey key) (leaf : ℕ) (p : PassS
         → state_of (page_of changed) ≡ without_pair key (state_of (page_of at.image)) → IsMovedHeap (Takes key) (records_of at.image) (read_heap at.image) (read_heap changed) → MayCommit (IsKeptLog sizes.pages) (with_work (leaf_work changed) p) (Delete key)
     may-delete value changed there enough gone moved = may-commit (Takes key) (Delete key) changed moved (λ log e legal here page changes.
         let state : state_of (page_of changed) ≡ without_pair key (kept_pages sizes.pages log (leaf_after sizes.pages log key)) =
-        gone ∙ ap (without_pair key) (sym (page-is sizes seated.fits key is leaf p at) ∙ sym page) in
-        delete-kept sizes.pages seated.fits log legal key is e value
+        gone ∙ ap (without_pair key) (sym (page-is sizes seated.fits key leaf p at) ∙ sym page) in
+        delete-kept sizes.pages seated.fits log legal key e value
         (subst (λ (q : PageState). value_at key q.records ≡ Some value) (sym page) there)
         (elim enough [ inl root ↦ inl (sym here ∙ root) | inr more ↦ inr (subst (λ (q : PageState). FEWEST_RECORDS < length q.records) (sym page) more) ])
         (subst (λ n. ChangesPage sizes.pages log n (without_pair key (kept_pages sizes.pages log (leaf_after sizes.pages log key))) (Takes key) (Delete key) e) here

@@ -1,7 +1,7 @@
 -- The leaf on which a session stands: what its image says, and that harmless entries leave it as it is, the key's leaf still.
 use Rattle.std.specs.List.{AllByRecursion}
 use Rattle.std.proofs.Common.{◌≡◌, ℕ, ◌<◌, ◌^◌, true, false, List, ◌++◌, length, Some, sym, ap, subst, ◌∙◌, arith}
-use Rattle.ib_map.specs.Keys.{MapKey, IsKey}
+use Rattle.ib_map.specs.Keys.{MapKey}
 use Rattle.ib_map.specs.Pairs.{value_at}
 use Rattle.ib_map.specs.Space.{has_pages}
 use Rattle.ib_map.specs.Writes.{touches}
@@ -48,7 +48,7 @@ kept-laws pages fits = record {
   stays = λ xs e page r kept calm met. (IsKeptLog-stays pages xs e page r kept calm).1 met;
 }
 
-module _ (sizes : Sizes) (fits : has_pages sizes.pages ≡ true) (key : MapKey) (is : IsKey key) (leaf : ℕ) (p : PassState) (at : IsAtLeaf sizes key leaf p) where
+module _ (sizes : Sizes) (fits : has_pages sizes.pages ≡ true) (key : MapKey) (leaf : ℕ) (p : PassState) (at : IsAtLeaf sizes key leaf p) where
   abbrev start : ℕ → ℕ
   start = by_place opening sizes.pages
 
@@ -73,7 +73,7 @@ module _ (sizes : Sizes) (fits : has_pages sizes.pages ≡ true) (key : MapKey) 
   way-page : PathPage (kept_pages sizes.pages seen) 0 1 (the_leaf sizes key p)
   way-page =
       let memory = lawful-before sizes.pages fits seen at.known.legal in
-      leaf-page (kept_pages sizes.pages seen) (bits_of sizes.pages (memory_after start seen)) 1 memory.law key (rank-lt_end key is) 1 (omega arith) (omega arith)
+      leaf-page (kept_pages sizes.pages seen) (bits_of sizes.pages (memory_after start seen)) 1 memory.law key (rank-lt_end key) 1 (omega arith) (omega arith)
 
   in-tree : IsTreeImage (memory_after start seen) leaf
   in-tree = tree_image (memory_after start seen) leaf (subst (λ n. (kept_pages sizes.pages seen n).kind ≡ Tree) (sym at.is_leaf) way-page.kind)
@@ -100,7 +100,7 @@ module _ (sizes : Sizes) (fits : has_pages sizes.pages ≡ true) (key : MapKey) 
     leaf-stays =
         let on : IsOnWay (pages_after start seen) 1 key leaf 0 = record { depth = height_of (pages_after start seen) 1; height = omega arith; below = sym at.is_leaf } in
         leaf_on-way (pages_after start (seen ++ others)) 1 key leaf
-        (way_stays sizes.pages 1 (IsKeptLog sizes.pages) start (kept-laws sizes.pages fits) 1 (omega arith) (omega arith) key (rank-lt_end key is) seen others leaf 0 legal calm on)
+        (way_stays sizes.pages 1 (IsKeptLog sizes.pages) start (kept-laws sizes.pages fits) 1 (omega arith) (omega arith) key (rank-lt_end key) seen others leaf 0 legal calm on)
 
     pub image-stays : image_of (memory_after start (seen ++ others)) leaf ≡ at.image
     image-stays = image_stays start seen others leaf calm ∙ image-is
@@ -113,4 +113,4 @@ module _ (sizes : Sizes) (fits : has_pages sizes.pages ≡ true) (key : MapKey) 
 
     -- so what the leaf has of the key is what the map has
     pub value-stays : value_at key (map_of (seen ++ others)) ≡ value_at key (leaf_page sizes key p).records
-    value-stays = in-leaf sizes.pages fits (seen ++ others) legal key is ∙ ap (λ (q : PageState). value_at key q.records) page-stays
+    value-stays = in-leaf sizes.pages fits (seen ++ others) legal key ∙ ap (λ (q : PageState). value_at key q.records) page-stays

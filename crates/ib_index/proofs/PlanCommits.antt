@@ -3,7 +3,6 @@ use Rattle.std.specs.List.{All, AllByRecursion}
 use Rattle.std.specs.Prelude.{IsSome, IfSome}
 use Rattle.std.proofs.Common.{◌≡◌, ◌≢◌, ℕ, ◌+◌, ◌*◌, ◌^◌, ◌<◌, ◌≤◌, Bool, true, false, cond, List, [], ◌∷◌, ◌++◌, length, Option, Some, None, refl, sym, ap, subst, ◌∙◌, arith}
 use Rattle.std.proofs.lemmas.Bool.Decides.{nat_tests}
-use Rattle.ib_map.specs.Keys.{IsKey}
 use Rattle.ib_map.specs.History.{changes_of}
 use Rattle.ib_map.specs.Map.{answer_of, effect_of, is_made, key_of}
 use Rattle.ib_map.specs.Space.{has_pages}
@@ -44,6 +43,7 @@ use Rattle.ib_kept.proofs.LeadLaws.{planned-leads}
 use Rattle.ib_kept.proofs.LeafPlanLaws.{leaf-page}
 use Rattle.ib_kept.proofs.PageChangeLaws.{bits_of-space, some-writes}
 use Rattle.ib_kept.proofs.PushLaws.{IsKeptLog-push, content-before, lawful-before}
+use Rattle.ib_index.specs.Grows.{most_held}
 use Rattle.ib_index.proofs.WorkLaws.{IsAsBefore, image-after, image-still, none-same, still-after, work-count, work-differ}
 use Rattle.ib_split.proofs.Planning.{if-some}
 
@@ -60,6 +60,7 @@ pub record IsNextEntry (log : List Entry) (change : Change) (work : List WorkPag
 -- the work set as it is changed: in order, within the space, with the images as read those of the words, and so were those that it had
 pub record IsReadFrom (pages : ℕ) (words : ℕ → ℕ) (old new : List WorkPage) : Type 0 where
   pub work : IsWork new
+  pub few : length new ≤ most_held
   pub within : All (λ w. w.page < pages) new
   pub reads : reads_of new ≡ reads_of old
   pub read : All (IsAsBefore words) new
@@ -78,7 +79,7 @@ formed (TreeValue p) kind = tt
 formed (FreeValue clock) kind = tt
 formed MalformedValue kind = absurd (kind refl)
 
-module _ (pages : ℕ) (fits : has_pages pages ≡ true) (log : List Entry) (kept : IsKeptLog pages log) (change : Change) (is : IsKey (key_of change)) (old new : List WorkPage)
+module _ (pages : ℕ) (fits : has_pages pages ≡ true) (log : List Entry) (kept : IsKeptLog pages log) (change : Change) (old new : List WorkPage)
     (has : IsPlannedChange pages change (kept_pages pages log) (bits_of pages (memory_after (by_place opening pages) log)) old new)
     (made : is_made (answer_of (map_of log) change) ≡ true)
     (from : IsReadFrom pages (memory_after (by_place opening pages) log) old new) (e : Entry) (next : IsNextEntry log change new e) where
@@ -107,7 +108,7 @@ module _ (pages : ℕ) (fits : has_pages pages ≡ true) (log : List Entry) (kep
   few = grind (arith, nat_tests, fits)
 
   leads : LeadsTo m then g.bits 1 1 g.touched (effect_of (content_of m 1) change)
-  leads = planned-leads m bits pages before.law few change is
+  leads = planned-leads m bits pages before.law few change
       (subst (λ xs. is_made (answer_of xs change) ≡ true) (sym (content-before pages fits log kept)) made) has.may
 
   ascends : PagesAscend 0 new
@@ -232,7 +233,7 @@ module _ (pages : ℕ) (fits : has_pages pages ≡ true) (log : List Entry) (kep
 
   leaf-written : touches (leaf_for m (key_of change) 1) e.writes ≡ false → ⊥
   leaf-written none =
-      let leaf = leaf-page m bits 1 before.law (key_of change) (rank-lt_end (key_of change) is) 1 (omega arith) (omega arith) in
+      let leaf = leaf-page m bits 1 before.law (key_of change) (rank-lt_end (key_of change)) 1 (omega arith) (omega arith) in
       let on = has.leaf_on in
       let same = sym (pages-are (leaf_for m (key_of change) 1) leaf.some) ∙ pages_after-untouched start log e (leaf_for m (key_of change) 1) none in
       let clock : (then (leaf_for m (key_of change) 1)).clock ≡ (m (leaf_for m (key_of change) 1)).clock + 1 = rw on refl in
@@ -244,9 +245,8 @@ module _ (pages : ℕ) (fits : has_pages pages ≡ true) (log : List Entry) (kep
     most_session = next.most_session;
     number = let n = next.number in omega arith;
     most_number = next.most_number;
-    key = subst (λ k. IsKey (key_of k)) (sym next.change_is) is;
     writes = some-writes (leaf_for m (key_of change) 1) e.writes leaf-written;
-    most_writes = let a = ap length next.writes_are in let b = work-count (memory_after start log) new from.read in let work = from.work in let c = work.few in omega arith;
+    most_writes = let a = ap length next.writes_are in let b = work-count (memory_after start log) new from.read in let c = from.few in omega arith;
     places = subst (λ ws. PlacesRise 0 ws (pages * PAGE_WORDS)) (sym next.writes_are) (writes_rise 0 pages new ascends from.within);
     structural = next.structural;
   }

@@ -3,7 +3,7 @@ use Rattle.std.specs.Prelude.{IsSome}
 use Rattle.std.proofs.Common.{◌≡◌, ℕ, ◌<◌, ◌≤◌, true, false, List, [], ◌∷◌, ◌++◌, Option, Some, None, length, refl, sym, ap, subst, ◌∙◌, arith}
 use Rattle.std.proofs.lemmas.Bool.Decides.{nat_tests}
 use Rattle.std.proofs.lemmas.List.Elements.{All-nil}
-use Rattle.ib_map.specs.Keys.{MapKey, IsKey}
+use Rattle.ib_map.specs.Keys.{MapKey}
 use Rattle.ib_map.specs.Space.{has_pages}
 use Rattle.ib_levels.specs.declared.level.Level.TheVariants.{Space}
 use Rattle.ib_layout.specs.Geometry.{Sizes}
@@ -60,7 +60,7 @@ module _ (sizes : Sizes) (key : MapKey) (path : List ℕ) (need : ℕ) (p q : Pa
     same = λ n there. refl;
   }
 
-module _ (sizes : Sizes) (fits : has_pages sizes.pages ≡ true) (key : MapKey) (is : IsKey key) (path : List ℕ) (need : ℕ) (p q s : PassState) (come : HasComeToWay sizes key path p q) (g : HasGrown sizes key path (tree_pages come.held) 0 Space q s) where
+module _ (sizes : Sizes) (fits : has_pages sizes.pages ≡ true) (key : MapKey) (path : List ℕ) (need : ℕ) (p q s : PassState) (come : HasComeToWay sizes key path p q) (g : HasGrown sizes key path (tree_pages come.held) 0 Space q s) where
   pub image : List ℕ
   image = (some-image (changed_of 0 s.work) g.there).0
 
@@ -73,7 +73,7 @@ module _ (sizes : Sizes) (fits : has_pages sizes.pages ≡ true) (key : MapKey) 
 
   pub space-once : (fresh : List ℕ) → fresh ≡ chosen (bits_in sizes.pages image) sizes.pages need → AreOnce (come.held ++ 0 ∷ fresh) sizes.pages
   space-once fresh are =
-      let a = agrees-now sizes fits key is path s g.growing.at in
+      let a = agrees-now sizes fits key path s g.growing.at in
       let bits = bits-same sizes.pages key path s.work _ _ image a image-there in
       subst (λ xs. AreOnce (come.held ++ 0 ∷ xs) sizes.pages) (sym (are ∙ ap (λ b. chosen b sizes.pages need) bits))
       (fresh-once sizes.pages key path come.held s.work _ _ a need (some-pages sizes.pages fits) come.once come.zero (λ n among.

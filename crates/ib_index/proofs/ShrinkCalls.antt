@@ -1,7 +1,7 @@
 -- A delete that came to the key's way and ended there was answered.
 use Rattle.std.specs.Prelude.{Result, Ok, Err, IfOk, IfErr}
 use Rattle.std.proofs.Common.{◌≡◌, ℕ, ◌<◌, List, Option, Some, None, length, refl, sym, ap, subst, ◌∙◌}
-use Rattle.ib_map.specs.Keys.{MapKey, IsKey}
+use Rattle.ib_map.specs.Keys.{MapKey}
 use Rattle.ib_map.specs.Map.{delete_answer, is_made}
 use Rattle.ib_map.specs.declared.call.Call.TheVariants.{Delete as DeleteCall}
 use Rattle.ib_map.specs.declared.call.Change.TheVariants.{Delete}
@@ -23,19 +23,19 @@ use Rattle.ib_index.specs.Leaf.{IsSeated}
 use Rattle.ib_index.specs.Grows.{IsGrowing}
 use Rattle.ib_index.proofs.WayCalls.{called-committed, called-full, called-read, entry-c, log-full, value-c, value-f, value-r, value_there, within-c, within-f, within-r}
 
-module _ (sizes : Sizes) (key : MapKey) (is : IsKey key) (path : List ℕ) (held : List (ℕ × Level)) (p q : PassState) (went : WentOn p q) (looked : 0 < length went.added) (can : IsGrowing sizes key path held q) (seated : IsSeated sizes q) where
+module _ (sizes : Sizes) (key : MapKey) (path : List ℕ) (held : List (ℕ × Level)) (p q : PassState) (went : WentOn p q) (looked : 0 < length went.added) (can : IsGrowing sizes key path held q) (seated : IsSeated sizes q) where
   abbrev start : ℕ → ℕ
   start = by_place opening sizes.pages
 
   abbrev there : Option ℕ
-  there = value_there sizes key is path held p q went looked can seated
+  there = value_there sizes key path held p q went looked can seated
 
   -- the key was not there
   pub called-missing : (place : ℕ) (r : PassState) → HasRead sizes (IsKeptLog sizes.pages) q place r → there ≡ None
       → HasCalled sizes (IsKeptLog sizes.pages) start (DeleteCall key) (record { call = DeleteCall key; reply = Missing; place = place }) p r
   called-missing place r read none =
-      called-read sizes key is path held p q went looked can seated place r read (DeleteCall key) Missing refl (record {
-        map = (within-r sizes key is path held p q went looked can seated place r read, (ap delete_answer (value-r sizes key is path held p q went looked can seated place r read ∙ none), refl));
+      called-read sizes key path held p q went looked can seated place r read (DeleteCall key) Missing refl (record {
+        map = (within-r sizes key path held p q went looked can seated place r read, (ap delete_answer (value-r sizes key path held p q went looked can seated place r read ∙ none), refl));
         tree = tt;
       })
 
@@ -44,25 +44,25 @@ module _ (sizes : Sizes) (key : MapKey) (is : IsKey key) (path : List ℕ) (held
     called-full-delete : (full : LogFull) (r : PassState) → IsFull sizes (IsKeptLog sizes.pages) (with_work work q) full r
         → HasCalled sizes (IsKeptLog sizes.pages) start (DeleteCall key) (record { call = DeleteCall key; reply = LogFullReply full.used full.cap; place = length r.view.memory.seen }) p r
     called-full-delete full r f =
-        called-full sizes key is path held p q went looked can seated work full r f (DeleteCall key) (record {
+        called-full sizes key path held p q went looked can seated work full r f (DeleteCall key) (record {
           map = (
-            within-f sizes key is path held p q went looked can seated work full r f,
-            (ap (λ (o : Option ℕ). is_made (delete_answer o)) (value-f sizes key is path held p q went looked can seated work full r f ∙ some), refl),
+            within-f sizes key path held p q went looked can seated work full r f,
+            (ap (λ (o : Option ℕ). is_made (delete_answer o)) (value-f sizes key path held p q went looked can seated work full r f ∙ some), refl),
           );
-          tree = log-full sizes key is path held p q went looked can seated work full r f;
+          tree = log-full sizes key path held p q went looked can seated work full r f;
         })
 
     -- the change was committed
     called-deleted : (place : ℕ) (r : PassState) → HasCommitted sizes (IsKeptLog sizes.pages) start (Delete key) (with_work work q) place r
         → HasCalled sizes (IsKeptLog sizes.pages) start (DeleteCall key) (record { call = DeleteCall key; reply = Deleted value; place = place }) p r
     called-deleted place r c =
-        called-committed sizes key is path held p q went looked can seated (Delete key) work place r c (DeleteCall key) (Deleted value) refl (record {
+        called-committed sizes key path held p q went looked can seated (Delete key) work place r c (DeleteCall key) (Deleted value) refl (record {
           map = (
-            within-c sizes key is path held p q went looked can seated (Delete key) work place r c,
+            within-c sizes key path held p q went looked can seated (Delete key) work place r c,
             (
               (
-                ap delete_answer (value-c sizes key is path held p q went looked can seated (Delete key) work place r c ∙ some),
-                entry-c sizes key is path held p q went looked can seated (Delete key) work place r c,
+                ap delete_answer (value-c sizes key path held p q went looked can seated (Delete key) work place r c ∙ some),
+                entry-c sizes key path held p q went looked can seated (Delete key) work place r c,
               ),
               refl,
             ),

@@ -1,7 +1,7 @@
 -- A delete that is planned on the images of what is held may be committed.
 use Rattle.std.specs.List.{AllByRecursion}
-use Rattle.std.proofs.Common.{◌≡◌, ℕ, ◌<◌, ◌^◌, true, List, ◌∷◌, Option, Some, length, map, refl, ap, ◌∙◌}
-use Rattle.ib_map.specs.Keys.{MapKey, IsKey}
+use Rattle.std.proofs.Common.{◌≤◌, ◌≡◌, ℕ, ◌<◌, ◌^◌, true, List, ◌∷◌, Option, Some, length, map, refl, ap, ◌∙◌}
+use Rattle.ib_map.specs.Keys.{MapKey}
 use Rattle.ib_map.specs.Map.{delete_answer, is_made}
 use Rattle.ib_map.specs.Pairs.{value_at}
 use Rattle.ib_map.specs.declared.call.Change.TheVariants.{Delete}
@@ -20,18 +20,18 @@ use Rattle.ib_mtr.specs.Commits.{MayCommit}
 use Rattle.ib_mtr.specs.Mtr.{with_work}
 use Rattle.ib_cursor.specs.Claims.{claim_grant}
 use Rattle.ib_cursor.specs.Grants.{Grant}
-use Rattle.ib_index.specs.Grows.{IsGrowing, held_grant}
+use Rattle.ib_index.specs.Grows.{IsGrowing, held_grant, most_held}
 use Rattle.ib_index.specs.Leaf.{IsSeated}
 use Rattle.ib_plans.proofs.StayLaws.{planned_delete-stays}
 use Rattle.ib_index.proofs.ShrinkPlanLaws.{delete-bits, delete-on}
 use Rattle.ib_index.proofs.WayMay.{may-commit}
 
-module _ (sizes : Sizes) (key : MapKey) (is : IsKey key) (path : List ℕ) (held : List (ℕ × Level)) (p : PassState) (can : IsGrowing sizes key path held p) (seated : IsSeated sizes p)
-    (few : total p.view.grants < 2 ^ 52) (short : length held < 64) (follow : AllByRecursion (λ (g : Grant). may_follow g.level Log ≡ true) (claim_grant ∷ map held_grant held))
+module _ (sizes : Sizes) (key : MapKey) (path : List ℕ) (held : List (ℕ × Level)) (p : PassState) (can : IsGrowing sizes key path held p) (seated : IsSeated sizes p)
+    (few : total p.view.grants < 2 ^ 52) (short : length held ≤ most_held) (follow : AllByRecursion (λ (g : Grant). may_follow g.level Log ≡ true) (claim_grant ∷ map held_grant held))
     (value : ℕ) (there : value_at key (memory_in p.work (last_of path)).records ≡ Some value)
     (work : List WorkPage) (planned : IsPlannedDeleteForAll path key p.work work) (reads : reads_of work ≡ reads_of p.work) (is-work : IsWork work) where
   pub may-shrink : MayCommit (IsKeptLog sizes.pages) (with_work work p) (Delete key)
-  may-shrink = may-commit sizes key is path held p can seated few short follow (Delete key) is
+  may-shrink = may-commit sizes key path held p can seated few short follow (Delete key)
       (λ log same. ap (λ (o : Option ℕ). is_made (delete_answer o)) (same ∙ there)) work
       (λ memory bits a. record {
         may = tt;

@@ -2,7 +2,7 @@
 use Rattle.std.specs.List.{AllByRecursion}
 use Rattle.std.specs.Prelude.{IsSome, IfSome, MatchOption, get_or}
 use Rattle.std.proofs.Common.{◌≡◌, ℕ, ◌+◌, ◌<◌, ◌≤◌, true, false, List, [], ◌∷◌, append-nil, length, map, refl, sym, ap, subst, ◌∙◌, arith, Option, Some, None}
-use Rattle.ib_map.specs.Keys.{MapKey, IsKey}
+use Rattle.ib_map.specs.Keys.{MapKey}
 use Rattle.ib_map.specs.Pairs.{value_at}
 use Rattle.ib_levels.specs.declared.level.Level.{Level}
 use Rattle.ib_levels.specs.declared.level.Level.TheVariants.{Log, Space}
@@ -26,7 +26,7 @@ use Rattle.ib_cursor.specs.Claims.{claim_grant}
 use Rattle.ib_cursor.specs.Going.{WentOn}
 use Rattle.ib_cursor.specs.Grants.{Grant}
 use Rattle.ib_cursor.proofs.StandLaws.{looked_first, went_both}
-use Rattle.ib_index.specs.Grows.{HasGrown, IsGrowing, held_grant, space_pages, tree_pages}
+use Rattle.ib_index.specs.Grows.{HasGrown, IsGrowing, held_grant, most_held, space_pages, tree_pages}
 use Rattle.ib_index.specs.Leaf.{IsSeated}
 use Rattle.ib_index.specs.Shrinks.{HasChildren, HasComeToSiblings, HasWithNext}
 use Rattle.ib_index.proofs.AgreeLaws.{agrees-now}
@@ -86,7 +86,7 @@ module _ (key : MapKey) (old new : List WorkPage) (same : (n : ℕ) → IsThere 
 pub record IsReadyToShrink (sizes : Sizes) (key : MapKey) (path : List ℕ) (value : ℕ) (p t : PassState) : Type 0 where
   pub held : List (ℕ × Level)
   pub growing : IsGrowing sizes key path held t
-  pub short : length held < 64
+  pub short : length held ≤ most_held
   pub follow : AllByRecursion (λ (g : Grant). may_follow g.level Log ≡ true) (claim_grant ∷ map held_grant held)
   pub seated : IsSeated sizes t
   pub went : WentOn p t
@@ -96,7 +96,7 @@ pub record IsReadyToShrink (sizes : Sizes) (key : MapKey) (path : List ℕ) (val
   pub can : CanDelete path key t.work
   pub value_is : value_at key (memory_in t.work (last_of path)).records ≡ Some value
 
-module _ (sizes : Sizes) (key : MapKey) (is : IsKey key) (path : List ℕ) (value : ℕ) (p q t : PassState) (come : HasComeToSiblings sizes key path p q)
+module _ (sizes : Sizes) (key : MapKey) (path : List ℕ) (value : ℕ) (p q t : PassState) (come : HasComeToSiblings sizes key path p q)
     (old : Sizes) (same : old ≡ sizes)
     (taken : IsGrowing old key path (tree_pages come.held) q → is_listed come.held 0 ≡ false → HasGrown old key path (tree_pages come.held) 0 Space q t)
     (seats : IsSeated old t) (there : value_at key (memory_in q.work (last_of path)).records ≡ Some value) where
@@ -121,9 +121,9 @@ module _ (sizes : Sizes) (key : MapKey) (is : IsKey key) (path : List ℕ) (valu
     root = 1;
     memory = kept_pages sizes.pages t.view.memory.seen;
     bits = bits_of sizes.pages (memory_after (by_place opening sizes.pages) t.view.memory.seen);
-    agrees = agrees-now sizes seated-t.fits key is path t grown.growing.at;
+    agrees = agrees-now sizes seated-t.fits key path t grown.growing.at;
     images = images;
-    clocks = may-tick sizes key is path t seated-t grown.growing.at;
+    clocks = may-tick sizes key path t seated-t grown.growing.at;
   }
 
   pub ready-to-shrink : IsReadyToShrink sizes key path value p t

@@ -4,7 +4,7 @@ use Rattle.std.specs.Prelude.{IfSome, MatchOption, ◌==◌, ◌||◌}
 use Rattle.std.proofs.Common.{◌≡◌, ◌≢◌, ◌⊎◌, inl, inr, ℕ, zero, suc, ◌<◌, ◌≤◌, Bool, true, false, List, [], ◌∷◌, ◌++◌, Option, Some, None, length, refl, sym, ap, subst, ◌∙◌, arith, eq-eqb, ne_eqb, length-append}
 use Rattle.std.proofs.lemmas.Bool.{cases_eq}
 use Rattle.std.proofs.lemmas.List.Elements.{All-from_recursion}
-use Rattle.ib_map.specs.Keys.{MapKey, IsKey, rank, end_rank}
+use Rattle.ib_map.specs.Keys.{MapKey, rank, end_rank}
 use Rattle.ib_map.specs.Space.{has_pages}
 use Rattle.ib_map.proofs.KeyLaws.{rank-lt_end}
 use Rattle.ib_layout.specs.Geometry.{Sizes}
@@ -54,19 +54,19 @@ some-node : (h : ℕ) → (h ≡ 0) ⊎ ((d : ℕ) × (h ≡ suc d))
 some-node zero = inl refl
 some-node (suc d) = inr (d, refl)
 
-module _ (sizes : Sizes) (fits : has_pages sizes.pages ≡ true) (key : MapKey) (is : IsKey key) (path held : List ℕ) (p q : PassState)
+module _ (sizes : Sizes) (fits : has_pages sizes.pages ≡ true) (key : MapKey) (path held : List ℕ) (p q : PassState)
     (c : HasClaimed sizes (IsKeptLog sizes.pages) (by_place opening sizes.pages) 1 key path held p q) (w : IsWayWithSiblings (kept_pages sizes.pages q.view.memory.seen) 1 key path held) (claims : is_claimed q.view.memory.since ≡ true) where
   abbrev m : PageMemory
   m = kept_pages sizes.pages q.view.memory.seen
 
   abbrev bits : ℕ → ℕ
-  bits = way_bits sizes fits key is path held p q c claims
+  bits = way_bits sizes fits key path held p q c claims
 
   lt : rank key < end_rank
-  lt = rank-lt_end key is
+  lt = rank-lt_end key
 
   agreement : Agrees sizes.pages 1 1 key path q.work m bits
-  agreement = agreed sizes fits key is path held p q c claims
+  agreement = agreed sizes fits key path held p q c claims
 
   abbrev top : IsOnWay m 1 key 1 (height_of m 1)
   top = root_on-way m 1 key
@@ -132,10 +132,10 @@ module _ (sizes : Sizes) (fits : has_pages sizes.pages ≡ true) (key : MapKey) 
           subst (IsPageOfTree m) b.0 (behind-kind b.1)
 
   there : (n : ℕ) → is_listed held n ≡ true → IsThere q.work n
-  there = held-there sizes fits key is path held p q c claims way-held held-kind
+  there = held-there sizes fits key path held p q c claims way-held held-kind
 
   same-page : (n : ℕ) → is_listed held n ≡ true → memory_in q.work n ≡ m n
-  same-page = held-same sizes fits key is path held p q c claims way-held held-kind
+  same-page = held-same sizes fits key path held p q c claims way-held held-kind
 
   -- of a node of the way
   module _ (parent : ℕ) (among : is_listed nodes parent ≡ true) where
@@ -206,19 +206,19 @@ module _ (sizes : Sizes) (fits : has_pages sizes.pages ≡ true) (key : MapKey) 
   held-few : length held ≤ 23
   held-few =
       let a = ap length held-are in let b = length-append levels (beside (m (last_of levels)).next) in let d = beside_few (m (last_of levels)).next in
-      let e = length-levels m key (height_of m 1) 1 in let f = way-low sizes fits key is path held p q c claims in omega arith
+      let e = length-levels m key (height_of m 1) 1 in let f = way-low sizes fits key path held p q c claims in omega arith
 
   pub has-come-to-siblings : HasComeToSiblings sizes key path p q
   has-come-to-siblings = record {
     held = held;
-    growing = growing sizes fits key is path held p q c claims way-held held-kind;
+    growing = growing sizes fits key path held p q c claims way-held held-kind;
     children = subst (All (HasChildren key q.work)) (sym nodes-are) (All-from_recursion (HasChildren key q.work) nodes (each-of (HasChildren key q.work) nodes has-children));
-    zero = held-zero sizes fits key is path held p q c claims way-held held-kind;
+    zero = held-zero sizes fits key path held p q c claims way-held held-kind;
     few = held-few;
     went = c.went;
     looked = c.looked;
     claims = c.sx;
     grants =
-        let a = c.s in let b = c.sx in let d = c.x in let g = way-long sizes fits key is path held p q c claims in
-        let j = way-low sizes fits key is path held p q c claims in let f = held-few in omega arith;
+        let a = c.s in let b = c.sx in let d = c.x in let g = way-long sizes fits key path held p q c claims in
+        let j = way-low sizes fits key path held p q c claims in let f = held-few in omega arith;
   }

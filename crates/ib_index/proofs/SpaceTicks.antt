@@ -2,7 +2,7 @@
 use Rattle.std.specs.Prelude.{IfSome, IsSome, nat_lt}
 use Rattle.std.proofs.Common.{◌≡◌, ◌≢◌, ℕ, ◌^◌, ◌<◌, true, false, List, [], ◌++◌, length, Option, Some, None, inl, inr, refl, sym, ap, subst, ◌∙◌, arith, append-nil}
 use Rattle.std.proofs.lemmas.Bool.{cases_Bool, cases_eq}
-use Rattle.ib_map.specs.Keys.{MapKey, IsKey}
+use Rattle.ib_map.specs.Keys.{MapKey}
 use Rattle.ib_layout.specs.Geometry.{Sizes}
 use Rattle.ib_page.specs.Page.{PageValue, HoldsPage}
 use Rattle.ib_page.specs.Page.PageValue.{Malformed as MalformedValue, Free as FreeValue, Tree as TreeValue}
@@ -49,7 +49,7 @@ bit-taken pages image some = elim (cases_Bool (is_taken image 1)) [
   ]))
 ]
 
-module _ (sizes : Sizes) (key : MapKey) (is : IsKey key) (path : List ℕ) (t : PassState) (seated : IsSeated sizes t) (at : StandsOnWay sizes key path t) where
+module _ (sizes : Sizes) (key : MapKey) (path : List ℕ) (t : PassState) (seated : IsSeated sizes t) (at : StandsOnWay sizes key path t) where
   -- of another page than page 0
   page-ticks : (n : ℕ) → n ≢ 0 → (memory_in t.work n).clock < 2 ^ 63
   page-ticks n ne = go (changed_of n t.work) refl
@@ -57,7 +57,7 @@ module _ (sizes : Sizes) (key : MapKey) (is : IsKey key) (path : List ℕ) (t : 
       go : (o : Option (List ℕ)) → changed_of n t.work ≡ o → (memory_in t.work n).clock < 2 ^ 63
       go None none = let z : (memory_in t.work n).clock ≡ 0 = ap (λ o. (state_or_free o).clock) none in omega arith
       go (Some image) there =
-          let a = agrees-now sizes seated.fits key is path t at in
+          let a = agrees-now sizes seated.fits key path t at in
           let e = ap (λ s. s.clock) (a.same n ne (subst IsSome (sym there) refl)) in
           let le = clock-le sizes.pages seated.fits t.view.memory.seen n ne at.known.legal in
           let few = seated.few in omega arith
@@ -68,7 +68,7 @@ module _ (sizes : Sizes) (key : MapKey) (is : IsKey key) (path : List ℕ) (t : 
       go : (o : Option (List ℕ)) → changed_of 0 t.work ≡ o → (memory_in t.work 0).clock < 2 ^ 63
       go None none = let z : (memory_in t.work 0).clock ≡ 0 = ap (λ o. (state_or_free o).clock) none in omega arith
       go (Some image) there =
-          let a = agrees-now sizes seated.fits key is path t at in
+          let a = agrees-now sizes seated.fits key path t at in
           let m = kept_pages sizes.pages t.view.memory.seen in
           let bits = bits_of sizes.pages (memory_after (by_place opening sizes.pages) t.view.memory.seen) in
           let set = met-set _ m bits 1 a.lawful 1 (omega arith) (omega arith) 1 (root-met m 1) in
@@ -81,7 +81,7 @@ module _ (sizes : Sizes) (key : MapKey) (is : IsKey key) (path : List ℕ) (t : 
   space-ticks =
       let log = t.view.memory.seen in
       let kept = subst (IsKeptLog sizes.pages) (sym (append-nil log)) at.known.legal in
-      let all = images-now sizes seated.fits key is path t at t.number [] tt kept in
+      let all = images-now sizes seated.fits key path t at t.number [] tt kept in
       let here = still-in (memory_after (by_place opening sizes.pages) (log ++ [])) 0 t.work all in
       let le = space_clock-le sizes.pages seated.fits (log ++ []) kept in
       let long : length (log ++ []) ≡ length log = ap length (append-nil log) in

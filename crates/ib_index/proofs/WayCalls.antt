@@ -2,7 +2,7 @@
 use Rattle.std.specs.Prelude.{slice_get}
 use Rattle.std.proofs.Common.{◌≡◌, ℕ, ◌+◌, ◌<◌, ◌≤◌, true, false, List, [], ◌∷◌, ◌++◌, length, Option, Some, take, refl, sym, ap, subst, ◌∙◌, arith, length-append}
 use Rattle.std.proofs.Math.Seq.{take-length}
-use Rattle.ib_map.specs.Keys.{MapKey, IsKey}
+use Rattle.ib_map.specs.Keys.{MapKey}
 use Rattle.ib_map.specs.Pairs.{value_at}
 use Rattle.ib_map.specs.Map.{is_made}
 use Rattle.ib_map.specs.History.{map_after}
@@ -41,7 +41,7 @@ use Rattle.ib_index.specs.Grows.{IsGrowing}
 use Rattle.ib_index.proofs.CallLaws.{IsEnd, called-from, push-end, read-end, read-known}
 use Rattle.ib_index.proofs.WayMay.{agrees-then, value-then}
 
-module _ (sizes : Sizes) (key : MapKey) (is : IsKey key) (path : List ℕ) (held : List (ℕ × Level)) (p q : PassState) (went : WentOn p q) (looked : 0 < length went.added) (can : IsGrowing sizes key path held q) (seated : IsSeated sizes q) where
+module _ (sizes : Sizes) (key : MapKey) (path : List ℕ) (held : List (ℕ × Level)) (p q : PassState) (went : WentOn p q) (looked : 0 < length went.added) (can : IsGrowing sizes key path held q) (seated : IsSeated sizes q) where
   abbrev start : ℕ → ℕ
   start = by_place opening sizes.pages
 
@@ -57,11 +57,11 @@ module _ (sizes : Sizes) (key : MapKey) (is : IsKey key) (path : List ℕ) (held
     pub value-l : value_at key (map_of log) ≡ value_there
     value-l =
         ap (λ (log : List Entry). value_at key (map_of log)) (sym look.longer)
-        ∙ value-then sizes key is path held q can seated look.others (session_number_of q.view.role) look.harmless legal-l
+        ∙ value-then sizes key path held q can seated look.others (session_number_of q.view.role) look.harmless legal-l
 
     pub agrees-l : Agrees sizes.pages 1 1 key path q.work (kept_pages sizes.pages log) (bits_of sizes.pages (memory_after start log))
     agrees-l = subst (λ (log : List Entry). Agrees sizes.pages 1 1 key path q.work (kept_pages sizes.pages log) (bits_of sizes.pages (memory_after start log))) look.longer
-        (agrees-then sizes key is path held q can seated look.others (session_number_of q.view.role) look.harmless legal-l)
+        (agrees-then sizes key path held q can seated look.others (session_number_of q.view.role) look.harmless legal-l)
 
   -- the call ended without a change
   module _ (place : ℕ) (r : PassState) (read : HasRead sizes (IsKeptLog sizes.pages) q place r) where

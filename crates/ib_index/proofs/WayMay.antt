@@ -1,10 +1,10 @@
 -- A change that is planned on the images of what is held may be committed.
 use Rattle.std.specs.List.{AllByRecursion}
 use Rattle.std.specs.Prelude.{IsSome, ◌||◌}
-use Rattle.std.proofs.Common.{◌≡◌, inl, inr, ℕ, ◌+◌, ◌<◌, ◌^◌, true, false, List, [], ◌∷◌, ◌++◌, Option, Some, None, length, map, refl, sym, ap, subst, ◌∙◌, arith, ne_eqb}
+use Rattle.std.proofs.Common.{◌≤◌, ◌≡◌, inl, inr, ℕ, ◌+◌, ◌<◌, ◌^◌, true, false, List, [], ◌∷◌, ◌++◌, Option, Some, None, length, map, refl, sym, ap, subst, ◌∙◌, arith, ne_eqb}
 use Rattle.std.proofs.lemmas.Bool.{cases_eq}
 use Rattle.std.proofs.lemmas.List.{length-map}
-use Rattle.ib_map.specs.Keys.{MapKey, IsKey}
+use Rattle.ib_map.specs.Keys.{MapKey}
 use Rattle.ib_map.specs.Map.{answer_of, is_made, key_of}
 use Rattle.ib_map.specs.Pairs.{value_at}
 use Rattle.ib_map.specs.Writes.{touches}
@@ -43,11 +43,11 @@ use Rattle.ib_cursor.specs.Grants.{Grant, IsAway, hold_of}
 use Rattle.ib_cursor.proofs.EndLaws.{loaded_some}
 use Rattle.ib_cursor.proofs.GrantLaws.{away-none, can_wish, hold-latch, may_grow}
 use Rattle.ib_index.specs.Leaf.{IsSeated}
-use Rattle.ib_index.specs.Grows.{IsGrowing, held_grant, pages_held}
+use Rattle.ib_index.specs.Grows.{IsGrowing, held_grant, most_held, pages_held}
 use Rattle.ib_index.proofs.AgreeLaws.{agrees, images-before, images-now, still-in}
 use Rattle.ib_index.proofs.PlanCommits.{IsPlannedChange, entry-kept}
 use Rattle.ib_index.proofs.LeafCommits.{own-behind}
-use Rattle.ib_index.proofs.WorkLaws.{none-same, pages-same, reads-same}
+use Rattle.ib_index.proofs.WorkLaws.{count-same, none-same, pages-same, reads-same}
 
 -- X is held on each of the pages
 held-x : (held : List (ℕ × Level)) (page : ℕ) → is_listed (pages_held held) page ≡ true → 0 < on (page + 2) (λ h. h.x) (map hold_of (map held_grant held))
@@ -63,7 +63,7 @@ away-low : (l : ℕ) (held : List (ℕ × Level)) → l < 2 → IsAway l (map he
 away-low l [] low = tt
 away-low l (h ∷ hs) low = ((λ e. absurd (omega arith)), away-low l hs low)
 
-module _ (sizes : Sizes) (key : MapKey) (is : IsKey key) (path : List ℕ) (held : List (ℕ × Level)) (p : PassState) (can : IsGrowing sizes key path held p) (seated : IsSeated sizes p) where
+module _ (sizes : Sizes) (key : MapKey) (path : List ℕ) (held : List (ℕ × Level)) (p : PassState) (can : IsGrowing sizes key path held p) (seated : IsSeated sizes p) where
   abbrev start : ℕ → ℕ
   start = by_place opening sizes.pages
 
@@ -75,18 +75,18 @@ module _ (sizes : Sizes) (key : MapKey) (is : IsKey key) (path : List ℕ) (held
     m = kept_pages sizes.pages (seen ++ others)
 
     pub agrees-then : Agrees sizes.pages 1 1 key path p.work m (bits_of sizes.pages (memory_after start (seen ++ others)))
-    agrees-then = agrees sizes seated.fits key is path p can.at n others harmless legal
+    agrees-then = agrees sizes seated.fits key path p can.at n others harmless legal
 
     -- what the last page of the path has of the key is what the map has
     pub value-then : value_at key (map_of (seen ++ others)) ≡ value_at key (memory_in p.work (last_of path)).records
     value-then =
         let last = path-last sizes.pages 1 1 key path p.work m (bits_of sizes.pages (memory_after start (seen ++ others))) agrees-then in
         let leaf = path-page sizes.pages 1 1 key path p.work m (bits_of sizes.pages (memory_after start (seen ++ others))) agrees-then (height_of m 1) 0 (sym (above-zero (height_of m 1))) in
-        in-leaf sizes.pages seated.fits (seen ++ others) legal key is
+        in-leaf sizes.pages seated.fits (seen ++ others) legal key
         ∙ ap (λ s. value_at key s.records) (ap m (sym last) ∙ sym (agrees-then.same (last_of path) (λ z. leaf.some (sym last ∙ z)) can.leaf))
 
-  module _ (few : total p.view.grants < 2 ^ 52) (short : length held < 64) (follow : AllByRecursion (λ (g : Grant). may_follow g.level Log ≡ true) (claim_grant ∷ map held_grant held))
-      (change : Change) (of-key : IsKey (key_of change))
+  module _ (few : total p.view.grants < 2 ^ 52) (short : length held ≤ most_held) (follow : AllByRecursion (λ (g : Grant). may_follow g.level Log ≡ true) (claim_grant ∷ map held_grant held))
+      (change : Change)
       (made : (log : List Entry) → value_at key (map_of log) ≡ value_at key (memory_in p.work (last_of path)).records → is_made (answer_of (map_of log) change) ≡ true)
       (work : List WorkPage) (planned : (memory : PageMemory) (bits : ℕ → ℕ) → Agrees sizes.pages 1 1 key path p.work memory bits → IsPlannedChange sizes.pages change memory bits p.work work)
       (reads : reads_of work ≡ reads_of p.work) (is-work : IsWork work) where
@@ -120,15 +120,16 @@ module _ (sizes : Sizes) (key : MapKey) (is : IsKey key) (path : List ℕ) (held
         let behind = own-behind p.number p.view.memory.since seen others harmless in
         let mine = ap length can.at.known.mine in
         let made-few = seated.made in let seen-few = seated.few in
-        entry-kept sizes.pages seated.fits log legal change of-key p.work work
+        entry-kept sizes.pages seated.fits log legal change p.work work
         (planned (kept_pages sizes.pages log) (bits_of sizes.pages (memory_after start log)) (agrees-then others p.number harmless legal))
         (made log (value-then others p.number harmless legal))
         (record {
           work = is-work;
+          few = let c = count-same work p.work reads in let n = can.count in omega arith;
           within = pages-same (λ n. n < sizes.pages) work p.work reads can.within;
           reads = reads;
-          read = reads-same (memory_after start log) work p.work reads (images-before sizes seated.fits key is path p can.at p.number others harmless legal);
-          was = λ n. still-in (memory_after start log) n p.work (images-now sizes seated.fits key is path p can.at p.number others harmless legal);
+          read = reads-same (memory_after start log) work p.work reads (images-before sizes seated.fits key path p can.at p.number others harmless legal);
+          was = λ n. still-in (memory_after start log) n p.work (images-now sizes seated.fits key path p can.at p.number others harmless legal);
         })
         (commit_entry (with_work work p) change)
         (record {

@@ -1,6 +1,6 @@
 -- What an entry leaves that writes the words in which the images of a work set differ.
 use Rattle.std.specs.List.{All, AllByRecursion}
-use Rattle.std.proofs.Common.{◌≡◌, ◌≢◌, inl, inr, ℕ, ◌*◌, ◌≤◌, false, cond, List, [], ◌∷◌, ◌++◌, length, get_or, Some, None, refl, sym, ap, subst, ◌∙◌, arith, append-nil, length-append}
+use Rattle.std.proofs.Common.{◌≡◌, ◌≢◌, inl, inr, ℕ, suc, ◌*◌, ◌≤◌, false, cond, List, [], ◌∷◌, ◌++◌, length, get_or, Some, None, refl, sym, ap, subst, ◌∙◌, arith, append-nil, length-append}
 use Rattle.std.proofs.lemmas.Bool.{cases_eq, eq-eqb, ne_eqb}
 use Rattle.std.proofs.lemmas.List.Elements.{All-nil, All-cons, All-head, All-tail}
 use Rattle.ib_map.specs.declared.TheConstants.{PAGE_WORDS}
@@ -75,6 +75,13 @@ pub work-differ : (words : ℕ → ℕ) (ws : List WorkPage) → All (IsAsBefore
 work-differ words [] all = tt
 work-differ words (w ∷ ws) all = AllByRecursion-append (λ (v : Write). words v.place ≢ v.value) (page_writes w) (writes_of ws)
     (page-differ words w (All-head (IsAsBefore words) w ws all)) (work-differ words ws (All-tail (IsAsBefore words) w ws all))
+
+-- .. and as many
+pub count-same : (new old : List WorkPage) → reads_of new ≡ reads_of old → length new ≡ length old
+count-same [] [] same = refl
+count-same [] (v ∷ vs) same = cc
+count-same (w ∷ ws) [] same = cc
+count-same (w ∷ ws) (v ∷ vs) same = ap suc (count-same ws vs (ap other-reads same))
 
 -- one write a word at most
 pub work-count : (words : ℕ → ℕ) (ws : List WorkPage) → All (IsAsBefore words) ws → length (writes_of ws) ≤ length ws * PAGE_WORDS

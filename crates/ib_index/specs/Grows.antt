@@ -1,12 +1,14 @@
 -- An insert that changes the tree's structure.
-use Rattle.std.specs.Prelude.{◌≡◌, ℕ, ◌+◌, ◌<◌, ◌≤◌, true, false, List, [], ◌∷◌, ◌++◌, length, map, Some}
+use Rattle.std.specs.Prelude.{◌≡◌, ℕ, ◌+◌, ◌/◌, ◌<◌, ◌≤◌, true, false, List, [], ◌∷◌, ◌++◌, length, map, Some}
 use Rattle.std.specs.List.{All, AllByRecursion}
 use Rattle.ib_map.specs.Keys.{MapKey}
+use Rattle.ib_map.specs.declared.TheConstants.{PAGE_WORDS}
 use Rattle.ib_levels.specs.declared.level.Level.{Level}
 use Rattle.ib_levels.specs.declared.level.Level.TheVariants.{Log, PageNew, Space, TreeNode}
 use Rattle.ib_levels.specs.declared.level.Mode.TheVariants.{X}
 use Rattle.ib_layout.specs.Geometry.{Sizes}
 use Rattle.ib_logrec.specs.Log.{by_place}
+use Rattle.ib_logrec.specs.declared.entry.TheConstants.{MOST_WRITES}
 use Rattle.ib_page.specs.Work.{WorkPage, changed_of}
 use Rattle.ib_plans.specs.Agreement.{Agrees, HasTreePages, IsThere, last_of, memory_in, way_of}
 use Rattle.ib_levels.specs.Level.{may_follow}
@@ -107,11 +109,15 @@ abbrev pub IsFreshForAll : ℕ → MapKey → List ℕ → List ℕ → List Wor
 IsFreshForAll pages key path fresh work = (memory : PageMemory) (bits : ℕ → ℕ) → Agrees pages 1 1 key path work memory bits
     → (is_too_high memory key 1 ≡ false) × HasFresh pages 1 1 key fresh memory bits
 
+-- so many pages may be held that all their words are no more than an entry has writes
+abbrev pub most_held : ℕ
+most_held = MOST_WRITES / PAGE_WORDS
+
 -- all pages that the insert reads and writes are held
 pub record HoldsAllPages (sizes : Sizes) (key : MapKey) (path fresh : List ℕ) (p q : PassState) : Type 0 where
   pub held : List (ℕ × Level)
   pub growing : IsGrowing sizes key path held q
-  pub short : length held < 64
+  pub short : length held ≤ most_held
   pub follow : AllByRecursion (λ (g : Grant). may_follow g.level Log ≡ true) (claim_grant ∷ map held_grant held)
   pub went : WentOn p q
   pub claims : q.view.grants.sx ≡ p.view.grants.sx

@@ -1,7 +1,7 @@
 //! The insert that changes the tree's structure.
 
 ghost use Rattle.std.specs.Prelude.{◌≡◌, ◌≢◌, ℕ, ◌+◌, ◌<◌, ◌≤◌, ◌^◌, List, [], ◌∷◌, ◌++◌, Some, None, length, true, false, IfOk, IfErr, MatchResult, Result};
-ghost use Rattle.ib_map.specs.Keys.{MapKey, IsKey};
+ghost use Rattle.ib_map.specs.Keys.{MapKey};
 ghost use Rattle.ib_map.specs.Pairs.{value_at};
 ghost use Rattle.ib_core.specs.Holders.{CanWish};
 ghost use Rattle.ib_levels.specs.declared.level.Level.{Level as LevelValue};
@@ -79,7 +79,7 @@ fn take_at<R: Wait>(rt: &R, mtr: &mut Work<'_>, page: u32, level: Level)
     ensures mtr { IsMtr mtr.new.latches.now mtr.new.pass.now }
     ensures latches { mtr.new.latches ≡ mtr.old.latches }
     ensures pass { mtr.new.pass.ghost_name ≡ mtr.old.pass.ghost_name }
-    ensures grown { (key : MapKey) → IsKey key → (path : List ℕ) → (held : List (ℕ × LevelValue))
+    ensures grown { (key : MapKey) → (path : List ℕ) → (held : List (ℕ × LevelValue))
         → IsGrowing mtr.old.latches.now.sizes key path held mtr.old.pass.now
         → is_listed (pages_held held) page ≡ false
         → HasGrown mtr.old.latches.now.sizes key path held page level mtr.old.pass.now mtr.new.pass.now }
@@ -145,7 +145,7 @@ pub(crate) fn take_space<R: Wait>(rt: &R, mtr: &mut Work<'_>)
     ensures mtr { IsMtr mtr.new.latches.now mtr.new.pass.now }
     ensures latches { mtr.new.latches ≡ mtr.old.latches }
     ensures pass { mtr.new.pass.ghost_name ≡ mtr.old.pass.ghost_name }
-    ensures grown { (key : MapKey) → IsKey key → (path : List ℕ) → (held : List ℕ)
+    ensures grown { (key : MapKey) → (path : List ℕ) → (held : List ℕ)
         → IsGrowing mtr.old.latches.now.sizes key path (tree_pages held) mtr.old.pass.now → is_listed held 0 ≡ false
         → HasGrown mtr.old.latches.now.sizes key path (tree_pages held) 0 Space mtr.old.pass.now mtr.new.pass.now }
 {
@@ -178,11 +178,11 @@ fn take_new<R: Wait>(rt: &R, mtr: &mut Work<'_>, fresh: &Path)
     requires room { total mtr.old.pass.now.view.grants + 16 ≤ 2 ^ 52 }
     requires ready { (key : MapKey) × (path : List ℕ) × (held : List ℕ)
         × IsGrowing mtr.old.latches.now.sizes key path (space_pages held) mtr.old.pass.now
-        × AreOnce (held ++ 0 ∷ fresh.now) mtr.old.latches.now.sizes.pages × (length held ≤ 10) × IsKey key }
+        × AreOnce (held ++ 0 ∷ fresh.now) mtr.old.latches.now.sizes.pages × (length held ≤ 10) }
     ensures mtr { IsMtr mtr.new.latches.now mtr.new.pass.now }
     ensures latches { mtr.new.latches ≡ mtr.old.latches }
     ensures pass { mtr.new.pass.ghost_name ≡ mtr.old.pass.ghost_name }
-    ensures taken { (key : MapKey) → IsKey key → (path held : List ℕ)
+    ensures taken { (key : MapKey) → (path held : List ℕ)
         → IsGrowing mtr.old.latches.now.sizes key path (space_pages held) mtr.old.pass.now
         → AreOnce (held ++ 0 ∷ fresh.now) mtr.old.latches.now.sizes.pages
         → HasTakenNew mtr.old.latches.now.sizes key path (space_pages held) fresh.now mtr.old.pass.now mtr.new.pass.now }
@@ -209,18 +209,18 @@ fn free_pages(fault: TreeFault) -> u32
 // these are too few.
 fn take_fresh<R: Wait>(rt: &R, mtr: &mut Work<'_>, path: &Path, need: u32) -> Result<Path, u32>
     requires mtr { IsMtr mtr.old.latches.now mtr.old.pass.now }
-    requires ready { (key : MapKey) × IsKey key × (p : PassState)
+    requires ready { (key : MapKey) × (p : PassState)
         × HasComeToWay mtr.old.latches.now.sizes key path.now p mtr.old.pass.now }
     requires few { need ≤ MOST_PATH }
     requires room { total mtr.old.pass.now.view.grants + 64 ≤ 2 ^ 52 }
     ensures mtr { IsMtr mtr.new.latches.now mtr.new.pass.now }
     ensures latches { mtr.new.latches ≡ mtr.old.latches }
     ensures pass { mtr.new.pass.ghost_name ≡ mtr.old.pass.ghost_name }
-    ensures taken { IfOk result (λ fresh. (key : MapKey) → IsKey key → (p : PassState)
+    ensures taken { IfOk result (λ fresh. (key : MapKey) → (p : PassState)
         → HasComeToWay mtr.old.latches.now.sizes key path.now p mtr.old.pass.now
         → NeedsPages mtr.old.latches.now.sizes.pages key path.now need mtr.old.pass.now.work
         → HoldsAllPages mtr.old.latches.now.sizes key path.now fresh mtr.old.pass.now mtr.new.pass.now) }
-    ensures short { IfErr result (λ free. (key : MapKey) → IsKey key → (p : PassState)
+    ensures short { IfErr result (λ free. (key : MapKey) → (p : PassState)
         → HasComeToWay mtr.old.latches.now.sizes key path.now p mtr.old.pass.now
         → NeedsPages mtr.old.latches.now.sizes.pages key path.now need mtr.old.pass.now.work
         → IsShort mtr.old.latches.now.sizes key path.now free need mtr.old.pass.now mtr.new.pass.now) }

@@ -2,9 +2,9 @@
 use Rattle.std.proofs.Common.{◌≡◌, ℕ, ◌<◌, ◌≤◌, Bool, true, false, cond, eqb, Option, Some, None, refl, sym, ap, subst, arith, inl, inr}
 use Rattle.std.specs.Prelude.{is_some, ◌&&◌}
 use Rattle.std.proofs.lemmas.Bool.{cases_eq, eq-eqb}
-use Rattle.ib_map.specs.Keys.{MapKey, IsKey}
+use Rattle.ib_map.specs.Keys.{MapKey}
 use Rattle.ib_map.specs.Pairs.{Pairs, put, without, value_at}
-use Rattle.ib_map.specs.Map.{answer_of, effect_of, is_made, key_of}
+use Rattle.ib_map.specs.Map.{answer_of, effect_of, is_made}
 use Rattle.ib_map.specs.declared.call.Change.{Change}
 use Rattle.ib_map.specs.declared.call.Change.TheVariants.{Insert, Delete}
 use Rattle.ib_map.specs.declared.call.Reply.TheVariants.{Duplicate, Inserted}
@@ -43,30 +43,30 @@ low-enough full height none le is = elim (cases_eq height MOST_LEVEL) [
 ]
 
 module _ (m : PageMemory) (bits : ℕ → ℕ) (pages : ℕ) (law : IsLawful m bits 1) (few : pages ≤ MAPPED_PAGES) where
-  insert-leads : (key : MapKey) (value : ℕ) → IsKey key → value_at key (content_of m 1) ≡ None → MayPlan m bits pages (Insert key value)
+  insert-leads : (key : MapKey) (value : ℕ) → value_at key (content_of m 1) ≡ None → MayPlan m bits pages (Insert key value)
       → let g = planned_insert m bits (chosen bits pages (need_of m key 1)) key value 1 in
       LeadsTo m (ticked m g.touched g.memory) g.bits 1 1 g.touched (put key value (content_of m 1))
-  insert-leads key value is missing may =
+  insert-leads key value missing may =
       let count = chosen-length bits pages (need_of m key 1) may.1 in
       let low : height_of m 1 ≤ MOST_LEVEL = (law.trees 1 (omega arith) (omega arith)).1 in
-      let plan = IsPlannedInsert-need m bits 1 law key value (rank-lt_end key is) 1 (omega arith) (omega arith) (chosen bits pages (need_of m key 1))
+      let plan = IsPlannedInsert-need m bits 1 law key value (rank-lt_end key) 1 (omega arith) (omega arith) (chosen bits pages (need_of m key 1))
       (chosen-fresh bits pages (need_of m key 1) few) missing (omega arith) (low-enough (is_root_full m key 1) (height_of m 1) may.0 low) in
       let g = planned_insert m bits (chosen bits pages (need_of m key 1)) key value 1 in
       LeadsTo-ticked m g.memory g.bits 1 1 g.touched (put key value (content_of m 1)) (omega arith) (omega arith) plan.lawful plan.holds plan.others plan.ranges plan.rest
 
-  delete-leads : (key : MapKey) → IsKey key
+  delete-leads : (key : MapKey)
       → let s = planned_delete m bits key 1 in
       LeadsTo m (ticked m s.touched s.memory) s.bits 1 1 s.touched (without key (content_of m 1))
-  delete-leads key is =
-      let plan = IsPlannedDelete-plan m bits 1 law key (rank-lt_end key is) 1 (omega arith) (omega arith) in
+  delete-leads key =
+      let plan = IsPlannedDelete-plan m bits 1 law key (rank-lt_end key) 1 (omega arith) (omega arith) in
       let s = planned_delete m bits key 1 in
       LeadsTo-ticked m s.memory s.bits 1 1 s.touched (without key (content_of m 1)) (omega arith) (omega arith) plan.lawful plan.holds plan.others plan.ranges plan.rest
 
   -- the change, by cases
-  pub planned-leads : (change : Change) → IsKey (key_of change) → is_made (answer_of (content_of m 1) change) ≡ true → MayPlan m bits pages change
+  pub planned-leads : (change : Change) → is_made (answer_of (content_of m 1) change) ≡ true → MayPlan m bits pages change
       → LeadsTo m (ticked m (planned m bits pages change).touched (planned m bits pages change).memory) (planned m bits pages change).bits 1 1 (planned m bits pages change).touched (effect_of (content_of m 1) change)
-  planned-leads (Insert key value) is made may =
+  planned-leads (Insert key value) made may =
       let none = made-missing (content_of m 1) key value made in
       let g = planned m bits pages (Insert key value) in
-      subst (LeadsTo m (ticked m g.touched g.memory) g.bits 1 1 g.touched) (sym (effect-missing (content_of m 1) key value none)) (insert-leads key value is none may)
-  planned-leads (Delete key) is made may = delete-leads key is
+      subst (LeadsTo m (ticked m g.touched g.memory) g.bits 1 1 g.touched) (sym (effect-missing (content_of m 1) key value none)) (insert-leads key value none may)
+  planned-leads (Delete key) made may = delete-leads key

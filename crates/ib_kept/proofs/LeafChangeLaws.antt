@@ -3,7 +3,7 @@ use Rattle.std.proofs.Common.{◌≡◌, ◌≢◌, ℕ, ◌<◌, ◌≤◌, ◌
 use Rattle.std.specs.Prelude.{is_some}
 use Rattle.std.proofs.lemmas.Bool.{cases_lt, le-ltb}
 use Rattle.std.proofs.lemmas.Bool.Decides.{nat_tests}
-use Rattle.ib_map.specs.Keys.{MapKey, IsKey}
+use Rattle.ib_map.specs.Keys.{MapKey}
 use Rattle.ib_map.specs.Map.{answer_of, delete_answer, is_made}
 use Rattle.ib_map.specs.Pairs.{put, value_at, without}
 use Rattle.ib_map.specs.Space.{has_pages}
@@ -46,7 +46,7 @@ bit-inside pages words page bit = elim (cases_lt page pages) [
 made-insert : (key : MapKey) (value : ℕ) (o : Option ℕ) → o ≡ None → is_made (cond (is_some o) Duplicate Inserted) ≡ true
 made-insert key value o none = rw none refl
 
-module _ (pages : ℕ) (fits : has_pages pages ≡ true) (log : List Entry) (kept : IsKeptLog pages log) (key : MapKey) (is : IsKey key) where
+module _ (pages : ℕ) (fits : has_pages pages ≡ true) (log : List Entry) (kept : IsKeptLog pages log) (key : MapKey) where
   abbrev start : ℕ → ℕ
   start = by_place opening pages
 
@@ -66,13 +66,13 @@ module _ (pages : ℕ) (fits : has_pages pages ≡ true) (log : List Entry) (kep
   space = let memory = lawful-before pages fits log kept in memory.space
 
   the-leaf : PathPage m 0 1 leaf
-  the-leaf = leaf-page m bits 1 lawful key (rank-lt_end key is) 1 (omega arith) (omega arith)
+  the-leaf = leaf-page m bits 1 lawful key (rank-lt_end key) 1 (omega arith) (omega arith)
 
   inside : leaf < pages
   inside = bit-inside pages (memory_after start log) leaf (met-set (λ q. MOST_RECORDS) m bits 1 lawful 1 (omega arith) (omega arith) leaf the-leaf.met)
 
   in-content : value_at key (content_of m 1) ≡ value_at key (m leaf).records
-  in-content = value_at-content_of m key 1 (rank-lt_end key is) (lawful.trees 1 (omega arith) (omega arith)).0
+  in-content = value_at-content_of m key 1 (rank-lt_end key) (lawful.trees 1 (omega arith) (omega arith)).0
 
   -- what the map has of the key is what the leaf has
   pub in-leaf : value_at key (map_of log) ≡ value_at key (m leaf).records
@@ -81,8 +81,8 @@ module _ (pages : ℕ) (fits : has_pages pages ≡ true) (log : List Entry) (kep
   -- with room in the leaf an insert needs no page, and the tree grows no higher
   pub insert-room : length (m leaf).records < MOST_RECORDS → (is_too_high m key 1 ≡ false) × (need_of m key 1 ≡ 0)
   insert-room room = (
-    not-high m bits 1 lawful key (rank-lt_end key is) 1 (omega arith) (omega arith) room,
-    no-need m bits 1 lawful key (rank-lt_end key is) 1 (omega arith) (omega arith) room,
+    not-high m bits 1 lawful key (rank-lt_end key) 1 (omega arith) (omega arith) room,
+    no-need m bits 1 lawful key (rank-lt_end key) 1 (omega arith) (omega arith) room,
   )
 
   module _ (e : Entry) (value : ℕ) where
@@ -92,7 +92,7 @@ module _ (pages : ℕ) (fits : has_pages pages ≡ true) (log : List Entry) (kep
         let free = insert-room room in
         let may : MayPlan m bits pages (Insert key value) = (free.0, let need = free.1 in omega arith) in
         let few : pages ≤ MAPPED_PAGES = grind (arith, nat_tests, fits) in
-        let plan = insert-leaf m bits 1 lawful key (rank-lt_end key is) 1 (omega arith) (omega arith) room value (chosen bits pages (need_of m key 1))
+        let plan = insert-leaf m bits 1 lawful key (rank-lt_end key) 1 (omega arith) (omega arith) room value (chosen bits pages (need_of m key 1))
         (chosen-fresh bits pages (need_of m key 1) few) (in-content ∙ missing) in
         let as-planned : planned m bits pages (Insert key value) ≡ record { memory = put_at m leaf key value; bits = bits; touched = mark leaf untouched; moves = with_move leaf (Puts key) unmoved } =
         ap (λ (g : Growth). let p : Planned = record { memory = g.memory; bits = g.bits; touched = g.touched; moves = g.moves } in p) plan in
@@ -109,7 +109,7 @@ module _ (pages : ℕ) (fits : has_pages pages ≡ true) (log : List Entry) (kep
     insert-kept missing room c =
         let made : is_made (answer_of (map_of log) (Insert key value)) ≡ true = made-insert key value (value_at key (map_of log)) (in-leaf ∙ missing) in
         IsKeptLog-push pages fits log kept e
-        (IsInGrammar-page pages log e leaf (put key value (m leaf).records) (Puts key) (Insert key value) the-leaf.kind the-leaf.some c inside is)
+        (IsInGrammar-page pages log e leaf (put key value (m leaf).records) (Puts key) (Insert key value) the-leaf.kind the-leaf.some c inside)
         (subst (λ k. is_made (answer_of (map_of log) k) ≡ true) (sym c.change_is) made)
         (insert-planned missing room c) c.number
         (space-page pages log e leaf (put key value (m leaf).records) (Puts key) (Insert key value) the-leaf.kind the-leaf.some c space)
@@ -117,7 +117,7 @@ module _ (pages : ℕ) (fits : has_pages pages ≡ true) (log : List Entry) (kep
     pub delete-planned : value_at key (m leaf).records ≡ Some value → (leaf ≡ 1) ⊎ (FEWEST_RECORDS < length (m leaf).records)
         → ChangesPage pages log leaf (without_pair key (m leaf)) (Takes key) (Delete key) e → IsPlannedEntry pages start log e
     delete-planned there short c =
-        let plan = delete-leaf m bits 1 lawful key (rank-lt_end key is) 1 (omega arith) (omega arith) value there short in
+        let plan = delete-leaf m bits 1 lawful key (rank-lt_end key) 1 (omega arith) (omega arith) value there short in
         let as-planned : planned m bits pages (Delete key) ≡ record { memory = drop_at m leaf key; bits = bits; touched = mark leaf untouched; moves = with_move leaf (Takes key) unmoved } =
         ap (λ (s : Shrinkage). let p : Planned = record { memory = s.memory; bits = s.bits; touched = s.touched; moves = s.moves } in p) plan.1 in
         let step = IsPlannedStep-page pages log e leaf (without key (m leaf).records) (Takes key) (Delete key) the-leaf.kind the-leaf.some c in
@@ -133,7 +133,7 @@ module _ (pages : ℕ) (fits : has_pages pages ≡ true) (log : List Entry) (kep
     delete-kept there short c =
         let made : is_made (answer_of (map_of log) (Delete key)) ≡ true = ap (λ o. is_made (delete_answer o)) (in-leaf ∙ there) in
         IsKeptLog-push pages fits log kept e
-        (IsInGrammar-page pages log e leaf (without key (m leaf).records) (Takes key) (Delete key) the-leaf.kind the-leaf.some c inside is)
+        (IsInGrammar-page pages log e leaf (without key (m leaf).records) (Takes key) (Delete key) the-leaf.kind the-leaf.some c inside)
         (subst (λ k. is_made (answer_of (map_of log) k) ≡ true) (sym c.change_is) made)
         (delete-planned there short c) c.number
         (space-page pages log e leaf (without key (m leaf).records) (Takes key) (Delete key) the-leaf.kind the-leaf.some c space)

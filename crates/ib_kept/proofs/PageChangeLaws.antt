@@ -2,8 +2,6 @@
 use Rattle.std.specs.List.{AllByRecursion}
 use Rattle.std.proofs.Common.{◌≡◌, ◌≢◌, ℕ, ◌+◌, ◌*◌, ◌<◌, ◌≤◌, ◌∙◌, Bool, true, false, cond, List, [], ◌∷◌, ◌++◌, length, refl, sym, ap, subst, arith, inl, inr}
 use Rattle.std.proofs.lemmas.Bool.{cases_eq}
-use Rattle.ib_map.specs.Keys.{IsKey}
-use Rattle.ib_map.specs.Map.{key_of}
 use Rattle.ib_map.specs.Pairs.{Pairs}
 use Rattle.ib_map.specs.Writes.{touches, PlacesRise}
 use Rattle.ib_map.specs.declared.TheConstants.{PAGE_WORDS}
@@ -130,13 +128,12 @@ module _ (pages : ℕ) (log : List Entry) (e : Entry) (page : ℕ) (rs : Pairs) 
   pub space-page : IsSpacePage pages (image_of (memory_after start log) 0) → IsSpacePage pages (image_of (memory_after start (log ++ e ∷ [])) 0)
   space-page space = subst (IsSpacePage pages) (sym space-same) space
 
-  pub IsInGrammar-page : page < pages → IsKey (key_of change) → IsInGrammar pages e
-  IsInGrammar-page lt is = record {
+  pub IsInGrammar-page : page < pages → IsInGrammar pages e
+  IsInGrammar-page lt = record {
     session = c.session;
     most_session = c.most_session;
     number = let n = c.number in omega arith;
     most_number = c.most_number;
-    key = subst (λ k. IsKey (key_of k)) (sym c.change_is) is;
     writes = some-writes page e.writes written;
     most_writes = let a = ap length c.writes_are in let b = one-count (memory_after start log) page c.changed in omega arith;
     places = subst (λ ws. PlacesRise 0 ws (pages * PAGE_WORDS)) (sym c.writes_are) (one-rise (memory_after start log) page c.changed pages lt);

@@ -1,7 +1,7 @@
 //! The laws of kept logs, as contracts.
 
 ghost use Rattle.std.specs.Prelude.{◌≡◌, ◌≢◌, ℕ, ◌+◌, ◌<◌, ◌≤◌, ◌⊎◌, List, [], ◌∷◌, ◌++◌, length, None, Some, true, false};
-ghost use Rattle.ib_map.specs.Keys.{MapKey, IsKey};
+ghost use Rattle.ib_map.specs.Keys.{MapKey};
 ghost use Rattle.ib_map.specs.Pairs.{value_at};
 ghost use Rattle.ib_map.specs.Map.{answer_of, is_made};
 ghost use Rattle.ib_map.specs.History.{changes_of};
@@ -36,23 +36,23 @@ pub fn kept_law()
     ensures space_clock { (pages : ℕ) (log : List Entry) → has_pages pages ≡ true → IsKeptLog pages log
         → space_clock_of (image_of (memory_after (by_place opening pages) log) 0) ≤ length log }
     // What the map has of a key is what the key's leaf has.
-    ensures lookup { (pages : ℕ) (log : List Entry) (key : MapKey) → has_pages pages ≡ true → IsKeptLog pages log → IsKey key
+    ensures lookup { (pages : ℕ) (log : List Entry) (key : MapKey) → has_pages pages ≡ true → IsKeptLog pages log
         → value_at key (map_of log) ≡ value_at key (kept_pages pages log (leaf_after pages log key)).records }
     // With room in the key's leaf no page is full that an insert comes to: it needs no other page, and the tree
     // grows no higher.
-    ensures room { (pages : ℕ) (log : List Entry) (key : MapKey) → has_pages pages ≡ true → IsKeptLog pages log → IsKey key
+    ensures room { (pages : ℕ) (log : List Entry) (key : MapKey) → has_pages pages ≡ true → IsKeptLog pages log
         → length (kept_pages pages log (leaf_after pages log key)).records < MOST_RECORDS
         → (is_too_high (kept_pages pages log) key 1 ≡ false) × (need_of (kept_pages pages log) key 1 ≡ 0) }
     // An insert of a missing key into a leaf with room changes that leaf alone (`btr_cur_optimistic_insert`).
     ensures leaf_insert { (pages : ℕ) (log : List Entry) (key : MapKey) (value : ℕ) (e : Entry)
-        → has_pages pages ≡ true → IsKeptLog pages log → IsKey key
+        → has_pages pages ≡ true → IsKeptLog pages log
         → value_at key (kept_pages pages log (leaf_after pages log key)).records ≡ None
         → length (kept_pages pages log (leaf_after pages log key)).records < MOST_RECORDS
         → ChangesPage pages log (leaf_after pages log key) (with_pair key value (kept_pages pages log (leaf_after pages log key))) (Puts key) (Insert key value) e
         → IsPlannedEntry pages (by_place opening pages) log e × IsKeptLog pages (log ++ e ∷ []) }
     // A delete from the root, or from a leaf that is left with enough, changes that leaf alone (`btr_cur_optimistic_delete`).
     ensures leaf_delete { (pages : ℕ) (log : List Entry) (key : MapKey) (value : ℕ) (e : Entry)
-        → has_pages pages ≡ true → IsKeptLog pages log → IsKey key
+        → has_pages pages ≡ true → IsKeptLog pages log
         → value_at key (kept_pages pages log (leaf_after pages log key)).records ≡ Some value
         → (leaf_after pages log key ≡ 1) ⊎ (FEWEST_RECORDS < length (kept_pages pages log (leaf_after pages log key)).records)
         → ChangesPage pages log (leaf_after pages log key) (without_pair key (kept_pages pages log (leaf_after pages log key))) (Takes key) (Delete key) e

@@ -10,7 +10,7 @@ use ib_map::{LEAST_PAGES, MOST_PAGES, PAGE_WORDS};
 use std::marker::Model;
 use thiserror::Error;
 
-/// The fewest words that a log has: those of the longest entry.
+/// The fewest words that a log has: the longest entry has no more.
 pub const LEAST_LOG_WORDS: u32 = 8196;
 
 const _: () = prove!(LEAST_LOG_WORDS == 8196);

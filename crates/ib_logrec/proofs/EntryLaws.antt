@@ -51,7 +51,6 @@ HasHead-entry pages e is = record {
   most_session = is.most_session;
   number = is.number;
   most_number = is.most_number;
-  key = is.key;
   writes = is.writes;
   most_writes = is.most_writes;
 }
@@ -102,7 +101,6 @@ module _ (pages place : ℕ) (words : List ℕ) (none : fault_at pages place wor
         most_session = has.most_session;
         number = has.number;
         most_number = has.most_number;
-        key = has.key;
         writes = omega arith;
         most_writes = omega arith;
         places = places_right;

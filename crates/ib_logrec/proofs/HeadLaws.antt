@@ -4,7 +4,7 @@ use Rattle.std.specs.Prelude.{◌||◌, not}
 use Rattle.std.proofs.Math.Seq.{get_or-append_seam}
 use Rattle.std.proofs.lemmas.Bool.{eqb-true, or_cases, le-leb, leb-true, and_from, and_parts}
 use Rattle.std.proofs.lemmas.List.{drop_at, drop_more}
-use Rattle.ib_map.specs.Keys.{MapKey, IsKey}
+use Rattle.ib_map.specs.Keys.{MapKey}
 use Rattle.ib_map.specs.Map.{key_of}
 use Rattle.ib_map.specs.declared.call.Change.{Change}
 use Rattle.ib_map.specs.declared.call.Change.TheVariants.{Insert, Delete}
@@ -14,7 +14,7 @@ use Rattle.ib_logrec.specs.declared.head.Head.{Head}
 use Rattle.ib_logrec.specs.KeyWords.{key_words, spells_key, key_in}
 use Rattle.ib_logrec.specs.Heads.{flags_of, value_of, first_word, head_words, session_in, flags_in, count_in, is_delete, is_structural, first_at, number_at, key_part, value_word, head_in}
 use Rattle.ib_logrec.specs.Grammar.{is_flags, is_counted, is_first, head_fault}
-use Rattle.ib_logrec.proofs.KeyWordLaws.{length-key_words, key_in-key_words, spells_key-key_words, key_words-key_in, IsKey-key_in}
+use Rattle.ib_logrec.proofs.KeyWordLaws.{length-key_words, key_in-key_words, spells_key-key_words, key_words-key_in}
 use Rattle.ib_logrec.proofs.WriteLaws.{unless-none, or-none}
 
 -- ---- the parts of a first word
@@ -144,9 +144,9 @@ module _ (h : Head) (rest : List ℕ) (few : h.writes ≤ MOST_WRITES) where
   unfolding head_words
   number_at-words = refl
 
-  spells-words : IsKey (key_of h.change) → spells_key (key_part (head_words h ++ rest)) ≡ true
+  spells-words : spells_key (key_part (head_words h ++ rest)) ≡ true
   unfolding head_words
-  spells-words is_key = rw append_assoc (spells_key-key_words (key_of h.change) (value_of h.change ∷ rest) is_key)
+  spells-words = rw append_assoc (spells_key-key_words (key_of h.change) (value_of h.change ∷ rest))
 
   value_word-words : value_word (head_words h ++ rest) ≡ value_of h.change
   unfolding head_words
@@ -191,7 +191,6 @@ pub record HasHead (h : Head) : Type 0 where
   pub most_session : h.session ≤ MOST_SESSIONS
   pub number : 1 ≤ h.number
   pub most_number : h.number < 2 ^ 32
-  pub key : IsKey (key_of h.change)
   pub writes : 1 ≤ h.writes
   pub most_writes : h.writes ≤ MOST_WRITES
 
@@ -209,7 +208,7 @@ HeadIsRight-words h rest has long =
       whole = omega (arith, length-append (head_words h) rest, length-head_words h);
       first = rw (first_at-words h rest few) first;
       numbered = rw (number_at-words h rest few) number;
-      keyed = spells-words h rest few has.key;
+      keyed = spells-words h rest few;
       valued = rw (first_at-words h rest few, value_word-words h rest few) value;
       long = rw (first_at-words h rest few, drop-head_words h rest few) count;
     }
@@ -230,7 +229,6 @@ module _ (words : List ℕ) (right : HeadIsRight words) where
         most_session = leb-true _ _ session.1;
         number = leb-true _ _ numbered.0;
         most_number = omega arith;
-        key = rw (key_of-change_with (first_at words) (key_in (key_part words)) (value_word words)) (IsKey-key_in (key_part words) right.keyed);
         writes = leb-true _ _ count.0;
         most_writes = leb-true _ _ count.1;
       }

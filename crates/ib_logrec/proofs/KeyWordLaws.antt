@@ -1,7 +1,7 @@
 -- Keys and the words that they are written as: no other proof opens `key_words`, `spells_key` or `key_in`.
-use Rattle.std.proofs.Common.{◌≡◌, ℕ, ◌^◌, ◌≤◌, true, List, [], ◌∷◌, ◌++◌, length, drop, refl, arith}
-use Rattle.std.proofs.lemmas.Bool.{lt-ltb, ltb-true}
-use Rattle.ib_map.specs.Keys.{MapKey, IsKey}
+use Rattle.std.proofs.Common.{◌≡◌, ℕ, ◌≤◌, true, List, [], ◌∷◌, ◌++◌, length, drop, refl, arith}
+use Rattle.ib_map.specs.Keys.{MapKey}
+use Rattle.ib_map.proofs.KeyLaws.{key_in-words, words-key_in}
 use Rattle.ib_logrec.specs.declared.key_words.TheConstants.{KEY_WORDS}
 use Rattle.ib_logrec.specs.KeyWords.{key_words, spells_key, key_in}
 
@@ -12,18 +12,17 @@ length-key_words key = refl
 -- a key is the one that its words spell, whatever stands behind them
 pub key_in-key_words : (key : MapKey) (rest : List ℕ) → key_in (key_words key ++ rest) ≡ key
 unfolding key_in key_words
-key_in-key_words key rest = refl
+key_in-key_words key rest = key_in-words key
 
-pub spells_key-key_words : (key : MapKey) (rest : List ℕ) → IsKey key → spells_key (key_words key ++ rest) ≡ true
+pub spells_key-key_words : (key : MapKey) (rest : List ℕ) → spells_key (key_words key ++ rest) ≡ true
 unfolding spells_key key_words
-spells_key-key_words key rest is_key = lt-ltb key (2 ^ 64) is_key
+spells_key-key_words key rest = key.is_key
 
 -- words that spell a key are that key's, and it is one
 pub key_words-key_in : (words : List ℕ) → KEY_WORDS ≤ length words → spells_key words ≡ true → key_words (key_in words) ++ drop KEY_WORDS words ≡ words
-unfolding key_words key_in
+unfolding key_words key_in spells_key
 key_words-key_in [] long spells = absurd (omega arith)
-key_words-key_in (word ∷ words) long spells = refl
-
-pub IsKey-key_in : (words : List ℕ) → spells_key words ≡ true → IsKey (key_in words)
-unfolding spells_key key_in
-IsKey-key_in words spells = ltb-true _ _ spells
+key_words-key_in (first ∷ []) long spells = absurd (omega arith)
+key_words-key_in (first ∷ second ∷ words) long spells =
+    let parts = words-key_in first second spells in
+    λ i. parts.0 i ∷ parts.1 i ∷ words

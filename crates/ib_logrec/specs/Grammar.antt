@@ -1,8 +1,6 @@
 -- Which entries have words, and what is wrong with words that are no entry's.
 use Rattle.std.specs.Prelude.{◌≡◌, ℕ, ◌+◌, ◌*◌, ◌-◌, ◌^◌, ◌<◌, ◌≤◌, ◌==◌, ◌&&◌, ◌||◌, Bool, not, List, [], ◌∷◌, ◌++◌, length, drop, slice_index, nat_lt, nat_le, Option, Some, None, if◌then◌else◌}
 use Rattle.std.proofs.Math.Bool.{beq}
-use Rattle.ib_map.specs.Keys.{IsKey}
-use Rattle.ib_map.specs.Map.{key_of}
 use Rattle.ib_map.specs.declared.TheConstants.{PAGE_WORDS}
 use Rattle.ib_map.specs.declared.write.Write.{Write}
 use Rattle.ib_map.specs.Writes.{spans_pages, PlacesRise}
@@ -21,7 +19,6 @@ pub record IsInGrammar (pages : ℕ) (e : Entry) : Type 0 where
   pub most_session : e.session ≤ MOST_SESSIONS
   pub number : 1 ≤ e.number
   pub most_number : e.number < 2 ^ 32
-  pub key : IsKey (key_of e.change)
   pub writes : 1 ≤ length e.writes
   pub most_writes : length e.writes ≤ MOST_WRITES
   pub places : PlacesRise 0 e.writes (pages * PAGE_WORDS)

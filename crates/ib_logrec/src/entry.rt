@@ -10,15 +10,15 @@ use crate::writes::Writes;
 use ib_map::{Change, LoggedChange};
 
 /// How many words stand before an entry's writes: session, flags and number of writes in the first one,
-/// then the change's number, its key and its value.
-pub const HEAD_WORDS: usize = 4;
+/// then the change's number, the two words of its key, and its value.
+pub const HEAD_WORDS: usize = 5;
 
 const _: () = prove!(HEAD_WORDS == 3 + KEY_WORDS);
 
 /// The most writes of an entry.
-pub const MOST_WRITES: usize = 4096;
+pub const MOST_WRITES: usize = 4095;
 
-const _: () = prove!(MOST_WRITES == 4096);
+const _: () = prove!(MOST_WRITES == 4095);
 
 /// The greatest session number.
 pub const MOST_SESSIONS: u32 = 1024;

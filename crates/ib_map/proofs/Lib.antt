@@ -1,4 +1,6 @@
+pub mod ZeroBytes
 pub mod KeyLaws
+pub mod ByteLaws
 pub mod RiseLaws
 pub mod PairLaws
 pub mod CutLaws
@@ -10,4 +12,5 @@ pub mod RunLaws
 pub mod WriteLaws
 pub mod ChunkLaws
 pub mod FullRecordLaws
+mod CompareLaws
 mod WorkedRows

@@ -1,15 +1,15 @@
 -- Answers and effects in the words of the list of pairs, as the calls of the plain map give them.
 use Rattle.std.proofs.Common.{◌≡◌, ℕ, Some, None, Option, IsSome, IsNone, refl, arith}
-use Rattle.ib_map.specs.Keys.{MapKey, IsKey, end_rank}
+use Rattle.ib_map.specs.Keys.{MapKey, end_rank}
 use Rattle.ib_map.specs.Pairs.{Pairs, put, value_at}
-use Rattle.ib_map.specs.Map.{IsMap, key_of, answer_of, effect_of, lookup_of}
+use Rattle.ib_map.specs.Map.{IsMap, answer_of, effect_of, lookup_of}
 use Rattle.ib_map.specs.declared.call.Change.{Change}
 use Rattle.ib_map.specs.declared.call.Change.TheVariants.{Insert, Delete}
 use Rattle.ib_map.specs.declared.call.Reply.TheVariants.{Inserted, Duplicate, Deleted, Missing, Found, NotFound}
 use Rattle.ib_map.proofs.KeyLaws.{rank-lt_end}
 use Rattle.ib_map.proofs.PairLaws.{Rises-put, Rises-without, without-none}
 
-module _ (m : Pairs) (key value : ℕ) where
+module _ (m : Pairs) (key : MapKey) (value : ℕ) where
   -- an insert of a key that is not there, and of one that is
   pub answer_of-inserted : value_at key m ≡ None → answer_of m (Insert key value) ≡ Inserted
   answer_of-inserted absent = rw absent refl
@@ -49,10 +49,10 @@ module _ (m : Pairs) (key : MapKey) where
   lookup_of-not_found absent = rw absent refl
 
 -- a change about a key leaves a map a map
-pub IsMap-effect_of : (m : Pairs) (change : Change) → IsMap m → IsKey (key_of change) → IsMap (effect_of m change)
-IsMap-effect_of m (Insert key value) is_map is_key = go (value_at key m) refl
+pub IsMap-effect_of : (m : Pairs) (change : Change) → IsMap m → IsMap (effect_of m change)
+IsMap-effect_of m (Insert key value) is_map = go (value_at key m) refl
   where
     go : (o : Option ℕ) → value_at key m ≡ o → IsMap (effect_of m (Insert key value))
     go (Some v) there = rw there is_map
-    go None absent = rw absent (Rises-put key value 0 m end_rank is_map (omega arith) (rank-lt_end key is_key) absent)
-IsMap-effect_of m (Delete key) is_map is_key = Rises-without key 0 m end_rank is_map
+    go None absent = rw absent (Rises-put key value 0 m end_rank is_map (omega arith) (rank-lt_end key) absent)
+IsMap-effect_of m (Delete key) is_map = Rises-without key 0 m end_rank is_map

@@ -1,54 +1,56 @@
-//! The order of keys, and all that code outside this crate may know of a key.
+//! The type of keys.
 
-ghost use Rattle.std.specs.Prelude.{IsNone, IfSome, ◌≤◌, ◌≡◌, ◌<◌, ◌+◌, ◌↔◌, IsTrue};
-ghost use Rattle.ib_map.specs.Keys.{MapKey, IsKey, rank, end_rank, key_after};
+mod bytes;
+mod law;
+mod order;
+mod words;
 
-/// A key of the index. Code outside this crate copies keys and compares them by the calls below.
-pub type Key = u64;
+ghost use Rattle.std.specs.Prelude.{IsTrue};
+ghost use Rattle.ib_map.specs.KeyWords.{is_key_words};
 
-/// No key is below this one.
-pub const LEAST: Key = 0;
+pub use bytes::LongKey;
+pub use law::key_law;
+pub use order::{after, is_below, is_same};
+pub use words::{order_by_first, order_by_second};
 
-/// No key is above this one.
-pub const GREATEST: Key = u64::MAX;
-
-/// The next key: no key lies between. None exactly for `GREATEST`.
-#[tactic(auto, unfolding(crate::specs::Keys::rank, crate::specs::Keys::key_after))]
-pub fn after(key: Key) -> Option<Key>
-    ensures next { result ≡ key_after key }
-    ensures last { IsNone result ↔ (key ≡ GREATEST) }
-    ensures above { IfSome result (λ next. rank key < rank next) }
-    ensures adjacent { IfSome result (λ next. (other : MapKey) → IsKey other
-        → rank key < rank other → rank next ≤ rank other) }
-{
-    key.checked_add(1)
+/// A key of the index: 0 to 15 bytes, ordered byte by byte, a prefix first. Code outside this crate copies keys,
+/// and compares them by the calls beside.
+///
+/// It is kept as two words: the bytes with zeros behind them, up to 15, and how many they are as the sixteenth,
+/// read from the highest down. So the order of the pairs of words is that of the keys.
+#[derive(Clone, Copy, Debug, PartialEq, Eq)]
+pub struct Key {
+    first: u64,
+    second: u64,
+    ghost is_key: { IsTrue (is_key_words first second) },
 }
 
-/// Whether `a` stands before `b` in the order of keys.
-#[tactic(auto, unfolding(crate::specs::Keys::rank, crate::specs::Keys::end_rank))]
-pub fn is_below(a: Key, b: Key) -> bool
-    ensures below { IsTrue result ↔ (rank a < rank b) }
-    ensures first { rank a < end_rank }
-    ensures second { rank b < end_rank }
-{
-    a < b
-}
+/// The most bytes that a key has.
+pub const MOST_KEY_BYTES: usize = 15;
 
-/// Whether both are the same key.
-#[tactic(auto, unfolding(crate::specs::Keys::rank, crate::specs::Keys::end_rank))]
-pub fn is_same(a: Key, b: Key) -> bool
-    ensures same { IsTrue result ↔ (rank a ≡ rank b) }
-    ensures first { rank a < end_rank }
-    ensures second { rank b < end_rank }
-{
-    a == b
-}
+const _: () = prove!(MOST_KEY_BYTES == 15);
 
-/// The order of keys, as a contract. It is that of their ranks, natural numbers from 0, that of
-/// `LEAST`, to that of `GREATEST`.
-pub fn key_law()
-    ensures is_key { (key : MapKey) → IsKey key ↔ (rank key < end_rank) }
-    ensures injective { (a b : MapKey) → IsKey a → IsKey b → rank a ≡ rank b → a ≡ b }
-    ensures least { rank LEAST ≡ 0 }
-    ensures greatest { rank GREATEST + 1 ≡ end_rank }
-{}
+impl Key {
+    ghost use Rattle.std.specs.Prelude.{◌≡◌};
+    ghost use Rattle.ib_map.specs.Keys.{least, greatest};
+
+    /// The key with no bytes: no key is below it.
+    pub fn least() -> Key
+        ensures { result ≡ least }
+    {
+        Key {
+            first: 0,
+            second: 0,
+        }
+    }
+
+    /// The key of 15 bytes 255: no key is above it.
+    pub fn greatest() -> Key
+        ensures { result ≡ greatest }
+    {
+        Key {
+            first: u64::MAX,
+            second: u64::MAX - 240,
+        }
+    }
+}

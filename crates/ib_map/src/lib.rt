@@ -10,15 +10,18 @@ mod write;
 
 pub use call::{Call, Change, LoggedChange, Record, Reply};
 pub use chunks::{Chunk, Chunks, OutOfMemory};
-pub use key::{GREATEST, Key, LEAST, after, is_below, is_same, key_law};
+pub use key::{
+    Key, LongKey, MOST_KEY_BYTES, after, is_below, is_same, key_law, order_by_first,
+    order_by_second,
+};
 pub use plain::{MapFault, PlainMap};
 pub use runs::run_law;
 pub use write::{Write, spans_pages, write_law};
 
 /// The words of a page.
-pub const PAGE_WORDS: usize = 128;
+pub const PAGE_WORDS: usize = 160;
 
-const _: () = prove!(PAGE_WORDS == 128);
+const _: () = prove!(PAGE_WORDS == 160);
 
 /// The fewest pages that a space has.
 pub const LEAST_PAGES: u32 = 16;

@@ -39,7 +39,7 @@ IsAtForAll path key height freed old new = (pages roots root : ℕ) (memory : Pa
 -- the path by its places
 module _ (pages roots root : ℕ) (key : MapKey) (path : List ℕ) (old : List WorkPage) (m : PageMemory) (bits : ℕ → ℕ) (a : Agrees pages roots root key path old m bits) where
   in-range : rank key < end_rank
-  in-range = rank-lt_end key a.is_key
+  in-range = rank-lt_end key
 
   pub length-path : length path ≡ suc (height_of m root)
   length-path = ap length a.way ∙ length-way_down m key (height_of m root) root

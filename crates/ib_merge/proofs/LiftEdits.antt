@@ -92,7 +92,7 @@ module _ (pages roots root : ℕ) (key : MapKey) (path : List ℕ) (old : List W
     -- the child is the page of the key below the root
     child-page : (h : ℕ) → height ≡ suc h → PathPage s.memory h root child
     child-page h e =
-        let p = PathPage-child (λ n. MOST_RECORDS) s.memory s.bits roots was.lawful key (rank-lt_end key a.is_key) root a.some a.within 0 h root (was.level ∙ e) refl in
+        let p = PathPage-child (λ n. MOST_RECORDS) s.memory s.bits roots was.lawful key (rank-lt_end key) root a.some a.within 0 h root (was.level ∙ e) refl in
         let q : PathPage s.memory h root (child_for key 0 (one.0 ∷ [])) = subst (λ (rs : Pairs). PathPage s.memory h root (child_for key 0 rs)) one.1 p in
         elim (cases_Bool (ltb (rank key) (rank one.0.0))) [
           | inl lower ↦ let z : child_for key 0 (one.0 ∷ []) ≡ 0 = rw lower refl in absurd (q.some z)

@@ -48,7 +48,7 @@ module _ (pages roots root : ℕ) (key : MapKey) (path : List ℕ) (old : List W
   t = siblings_of key (s.memory page).records
 
   in-range : rank key < end_rank
-  in-range = rank-lt_end key a.is_key
+  in-range = rank-lt_end key
 
   up : PathAbove m s.memory key root depth height page
   up = above-is m bits roots a.lawful key in-range root a.some a.within depth height page tall at s was freed old mid x

@@ -9,8 +9,6 @@ use Rattle.std.proofs.lemmas.Option.{slice_get-get_or}
 use Rattle.ib_map.specs.declared.TheConstants.{LEAST_PAGES, MOST_PAGES}
 use Rattle.ib_map.specs.declared.call.Change.{Change}
 use Rattle.ib_map.specs.declared.write.Write.{Write}
-use Rattle.ib_map.specs.Keys.{IsKey}
-use Rattle.ib_map.specs.Map.{key_of}
 use Rattle.ib_map.specs.Space.{has_pages}
 use Rattle.ib_map.specs.Writes.{page_at, spans_pages, touches}
 use Rattle.ib_layout.specs.declared.geometry.TheConstants.{LEAST_LOG_WORDS, MOST_LOG_WORDS}
@@ -24,7 +22,6 @@ use Rattle.ib_logrec.specs.Law.{AllowsAny}
 use Rattle.ib_page.specs.Work.{IsWork, PagesAscend, WorkPage, changed_of}
 use Rattle.ib_page.specs.Writes.{writes_of}
 use Rattle.ib_page.proofs.StoreLaws.{changed_stands, page-ge, untouched, writes_rise}
-use Rattle.ib_page.proofs.WriteLaws.{writes_few}
 use Rattle.ib_rule.specs.Pass.{PassState}
 use Rattle.ib_rule.specs.Space.{SpaceState}
 use Rattle.ib_mtr.specs.Commits.{MayCommit, MayCommitAny, commit_entry}
@@ -183,16 +180,15 @@ few_entries own seen used words mine short room has =
 
 -- what is asked is enough where the law allows each entry in the grammar
 module _ (space : SpaceState) (lawful : List Entry → Type 0) (p : PassState) (mtr : IsMtr space p) (work : IsWork p.work) (number : (1 ≤ p.number) × (p.number ≤ MOST_SESSIONS)) (made : length p.view.memory.own + 1 < 2 ^ 32)
-    (change : Change) (allows : AllowsAny space.sizes.pages lawful) (is_key : IsKey (key_of change)) (any : MayCommitAny p) where
+    (change : Change) (allows : AllowsAny space.sizes.pages lawful) (any : MayCommitAny p) where
   entry_in_grammar : IsInGrammar space.sizes.pages (commit_entry p change)
   entry_in_grammar = record {
     session = number.0;
     most_session = number.1;
     number = omega arith;
     most_number = made;
-    key = is_key;
     writes = any.changes;
-    most_writes = let few = writes_few p.work in let pages = work.few in omega arith;
+    most_writes = any.few;
     places = writes_rise 0 space.sizes.pages p.work work.ascends (pages_known space p mtr);
     structural = refl;
   }

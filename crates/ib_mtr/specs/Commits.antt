@@ -10,6 +10,7 @@ use Rattle.ib_layout.specs.Geometry.{Sizes}
 use Rattle.ib_core.specs.Holders.{CanWish}
 use Rattle.ib_core.specs.Sessions.{idle, sx_grants, x_grants}
 use Rattle.ib_logrec.specs.declared.entry.Entry.{Entry}
+use Rattle.ib_logrec.specs.declared.entry.TheConstants.{MOST_WRITES}
 use Rattle.ib_logrec.specs.Log.{used}
 use Rattle.ib_frames.specs.declared.appends.LogFull.{LogFull}
 use Rattle.ib_frames.specs.Appends.{entry_for}
@@ -35,13 +36,14 @@ pub record MayCommit (lawful : List Entry → Type 0) (p : PassState) (change : 
   pub legal : (others : List Entry) → AllByRecursion (IsHarmless p.number p.view.memory.since) others → lawful (p.view.memory.seen ++ others)
       → lawful ((p.view.memory.seen ++ others) ++ commit_entry p change ∷ [])
 
--- what a commit asks under any law, and that a word is changed, since an entry has a write at least: where every entry in the grammar is lawful, it asks no more
+-- what a commit asks under any law, and that as many words are changed as an entry may have writes: where every entry in the grammar is lawful, it asks no more
 pub record MayCommitAny (p : PassState) : Type 0 where
   pub grows : MayGrow p.view
   pub log : CanWish 0 Log p.view.session
   pub pages_x : (page : ℕ) → touches page (writes_of p.work) ≡ true → 0 < x_grants (page + 2) p.view.session
   pub index : spans_pages (writes_of p.work) ≡ true → (0 < sx_grants 1 p.view.session) × (x_grants 1 p.view.session ≡ 0)
   pub changes : 0 < length (writes_of p.work)
+  pub few : length (writes_of p.work) ≤ MOST_WRITES
 
 -- the mini-transaction has ended: its scratch is free, its session holds nothing and knows of no page, and has seen these entries and made those, with these ends of the log
 pub record HasEnded (p : PassState) (taken : Grants) (seen own : List Entry) (ends : List ℕ) (q : PassState) : Type 0 where
@@ -61,7 +63,7 @@ one_end_more p found = p.view.memory.ends ++ found ∷ []
 abbrev pub commit_grants : PassState → Grants
 commit_grants p = with_grant (Some X) p.view.grants
 
--- it committed at this place: its entry stands last, behind all that was seen and the harmless entries of others, where the longest entry had room; and each page of the work set is in the memory after it as it was changed
+-- it committed at this place: its entry stands last, behind all that was seen and the harmless entries of others, where each entry had room; and each page of the work set is in the memory after it as it was changed
 pub record HasCommitted (sizes : Sizes) (lawful : List Entry → Type 0) (opening : ℕ → ℕ) (change : Change) (p : PassState) (answer : ℕ) (q : PassState) : Type 0 where
   pub log : List Entry
   pub looked : IsLook sizes lawful p.view log
@@ -73,7 +75,7 @@ pub record HasCommitted (sizes : Sizes) (lawful : List Entry → Type 0) (openin
   pub wide : used log + ENTRY_WORDS ≤ sizes.log_words
   pub pages : All (λ w. IsPageAfter opening (log ++ commit_entry p change ∷ []) w.page w.changed) p.work
 
--- the log, all of which was seen, had no room for the longest entry
+-- the log, all of which was seen, had no room for each entry
 pub record IsFull (sizes : Sizes) (lawful : List Entry → Type 0) (p : PassState) (full : LogFull) (q : PassState) : Type 0 where
   pub log : List Entry
   pub looked : IsLook sizes lawful p.view log

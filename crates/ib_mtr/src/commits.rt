@@ -25,7 +25,7 @@ impl<'a, L: Law> Mtr<'a, L, Parkers> {
     /// Commits (`mtr_t::commit`): takes X on the log latch, looks at the log's end, and appends one
     /// entry for the change, with the words in which the pages of the work set differ from what was
     /// read. It answers the entry's place, and each page of the work set is from there on as it was
-    /// changed. `LogFull` exactly where the log has no room for the longest entry, `ENTRY_WORDS` words: then nothing is
+    /// changed. `LogFull` exactly where the log has fewer than `ENTRY_WORDS` words left: then nothing is
     /// written. Either way all latches are given back, from the newest to the oldest, the log latch
     /// first.
     ///

@@ -3,7 +3,6 @@
 ghost use Rattle.std.specs.Prelude.{◌≡◌, ◌↔◌, ◌+◌, ◌<◌, ℕ, true, length, IsTrue};
 ghost use Rattle.std.specs.List.{All};
 ghost use Rattle.ib_map.specs.declared.call.Change.{Change};
-ghost use Rattle.ib_map.specs.Keys.{IsKey};
 ghost use Rattle.ib_map.specs.Map.{key_of};
 ghost use Rattle.ib_map.specs.Writes.{spans_pages, touches};
 ghost use Rattle.ib_levels.specs.declared.latch.TheConstants.{MOST_PAGES};
@@ -16,21 +15,21 @@ ghost use Rattle.ib_mtr.specs.Mtr.{IsMtr};
 use crate::mtr::Mtr;
 use ib_latch::Sleep;
 use ib_levels::{Latch, Level};
-use ib_logrec::Law;
+use ib_logrec::{Law, MOST_WRITES};
 use ib_page::WorkSet;
 use ib_rule::{Grants, Pass};
 
 impl<'a, L: Law, S: Sleep> Mtr<'a, L, S> {
     /// Whether it may commit where the law of logs allows every entry in the grammar: it may take a
-    /// grant and wish for X on the log latch, changes a word, holds X on each page that it changes,
-    /// and where these are several, SX on the index and not X. Then `commit` may be called with any
+    /// grant and wish for X on the log latch, changes a word, and no more than `MOST_WRITES` of them,
+    /// holds X on each page that it changes, and where these are several, SX on the index and not X. Then `commit` may be called with any
     /// change of a key.
     pub fn may_commit_any(&self) -> bool
         requires { IsMtr self.now.latches.now self.now.pass.now }
         ensures exact { IsTrue result ↔ MayCommitAny self.now.pass.now }
         ensures enough { (change : Change)
             → AllowsAny self.now.latches.now.sizes.pages (L.lawful self.now.latches.now.sizes.pages)
-            → IsKey (key_of change) → MayCommitAny self.now.pass.now
+            → MayCommitAny self.now.pass.now
             → MayCommit (L.lawful self.now.latches.now.sizes.pages) self.now.pass.now change }
     {
         let (pass, work) = (self.pass(), self.pass.work());
@@ -41,6 +40,7 @@ impl<'a, L: Law, S: Sleep> Mtr<'a, L, S> {
         pass.may_grow()
             && pass.can_wish(Latch::LOG, Level::Log)
             && work.changed() > 0
+            && work.changed() <= MOST_WRITES
             && owns_changed(pass, work)
             && owns_index(pass, work)
     }

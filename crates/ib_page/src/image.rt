@@ -24,7 +24,7 @@ use std::marker::Model;
 // Images are compared by blocks of words: how many words a block has, and how many blocks a page.
 const BLOCK_WORDS: usize = 8;
 
-const BLOCKS: usize = 16;
+const BLOCKS: usize = PAGE_WORDS / BLOCK_WORDS;
 
 const _: () = prove!(BLOCKS * BLOCK_WORDS == PAGE_WORDS);
 

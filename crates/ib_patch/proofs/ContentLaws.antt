@@ -30,28 +30,28 @@ slice_get-drop [] (suc i) x rest e = absurd (cc)
 slice_get-drop (y ∷ ys) zero x rest e = cc
 slice_get-drop (y ∷ ys) (suc i) x rest e = slice_get-drop ys i x rest e
 
-module _ (xs pairs : Pairs) (place i high : ℕ) (d : MapKey × ℕ) (A : Type 0) (lt : i < length pairs) (so_far : A ↔ (drop place xs ≡ pairs_inside high (drop i pairs))) where
-  next : drop i pairs ≡ get_or pairs i d ∷ drop (i + 1) pairs
-  next = drop-cons pairs i d lt ∙ rw (add-one i) refl
+module _ (xs pairs : Pairs) (place i high : ℕ) (pair : MapKey × ℕ) (read : pair ≡ get_or pairs i pair) (A : Type 0) (lt : i < length pairs) (so_far : A ↔ (drop place xs ≡ pairs_inside high (drop i pairs))) where
+  next : drop i pairs ≡ pair ∷ drop (i + 1) pairs
+  next = drop-cons pairs i pair lt ∙ (ap (λ (x : MapKey × ℕ). x ∷ drop (suc i) pairs) (sym read) ∙ rw (add-one i) refl)
 
-  inside : rank (get_or pairs i d).0 < high → pairs_inside high (drop i pairs) ≡ get_or pairs i d ∷ pairs_inside high (drop (i + 1) pairs)
-  inside under = ap (pairs_inside high) next ∙ cond-true (ltb (rank (get_or pairs i d).0) high) _ _ (lt-ltb (rank (get_or pairs i d).0) high under)
+  inside : rank pair.0 < high → pairs_inside high (drop i pairs) ≡ pair ∷ pairs_inside high (drop (i + 1) pairs)
+  inside under = ap (pairs_inside high) next ∙ cond-true (ltb (rank pair.0) high) _ _ (lt-ltb (rank pair.0) high under)
 
   -- a pair outside is left out
-  pub pair-outside : high ≤ rank (get_or pairs i d).0 → A ↔ (drop place xs ≡ pairs_inside high (drop (i + 1) pairs))
+  pub pair-outside : high ≤ rank pair.0 → A ↔ (drop place xs ≡ pairs_inside high (drop (i + 1) pairs))
   pair-outside over =
       let e : pairs_inside high (drop i pairs) ≡ pairs_inside high (drop (i + 1) pairs) =
-      ap (pairs_inside high) next ∙ cond-false (ltb (rank (get_or pairs i d).0) high) _ _ (le-ltb (rank (get_or pairs i d).0) high over) in
+      ap (pairs_inside high) next ∙ cond-false (ltb (rank pair.0) high) _ _ (le-ltb (rank pair.0) high over) in
       (λ a. so_far.0 a ∙ e, λ h. so_far.1 (h ∙ sym e))
 
   -- a pair inside stands at the place, or the lists differ
-  pub pair-inside : rank (get_or pairs i d).0 < high → slice_get xs place ≡ Some (get_or pairs i d) → A ↔ (drop (place + 1) xs ≡ pairs_inside high (drop (i + 1) pairs))
+  pub pair-inside : rank pair.0 < high → slice_get xs place ≡ Some pair → A ↔ (drop (place + 1) xs ≡ pairs_inside high (drop (i + 1) pairs))
   pair-inside under at =
-      let e = inside under in let f = drop-slice_get xs place (get_or pairs i d) at in
-      (λ a. let whole = sym f ∙ (so_far.0 a ∙ e) in cc, λ h. so_far.1 (f ∙ (ap (λ zs. get_or pairs i d ∷ zs) h ∙ sym e)))
+      let e = inside under in let f = drop-slice_get xs place pair at in
+      (λ a. let whole = sym f ∙ (so_far.0 a ∙ e) in cc, λ h. so_far.1 (f ∙ (ap (λ zs. pair ∷ zs) h ∙ sym e)))
 
-  pub pair-differs : rank (get_or pairs i d).0 < high → (slice_get xs place ≡ Some (get_or pairs i d) → ⊥) → IsTrue false ↔ A
-  pair-differs under other = (λ t. absurd (let x = t in cc), λ a. absurd (other (slice_get-drop xs place (get_or pairs i d) _ (so_far.0 a ∙ inside under))))
+  pub pair-differs : rank pair.0 < high → (slice_get xs place ≡ Some pair → ⊥) → IsTrue false ↔ A
+  pair-differs under other = (λ t. absurd (let x = t in cc), λ a. absurd (other (slice_get-drop xs place pair _ (so_far.0 a ∙ inside under))))
 
 -- behind the last pair no record may be left
 pub pairs-end : (xs pairs : Pairs) (place i high n : ℕ) (A : Type 0) → length pairs ≤ i → place ≤ length xs → n ≡ length xs → A ↔ (drop place xs ≡ pairs_inside high (drop i pairs)) → IsTrue (nat_eq place n) ↔ A

@@ -14,7 +14,7 @@ ghost use Rattle.ib_patch.specs.Positions.{end_of, positions_of};
 
 use crate::position::{PagePosition, ROOT, is_inside, position_at};
 use crate::reading;
-use ib_map::{GREATEST, Key, PAGE_WORDS, PlainMap, is_below, is_same};
+use ib_map::{Key, PAGE_WORDS, PlainMap, is_below, is_same};
 use ib_page::Image;
 
 // Whether a pair is the record at a place of a page, which has `count` records.
@@ -53,7 +53,7 @@ fn has_content(image: &Image, map: &PlainMap, low: Key, high: Option<Key>) -> bo
     ensures same { IsTrue result ↔ ((state_of (page_of image.now)).records ≡ slice map.now (rank low) (end_of high)) }
     ensures size { length image.now ≡ PAGE_WORDS }
 {
-    has_pairs(image, map.range(low, high.unwrap_or(GREATEST)), high)
+    has_pairs(image, map.range(low, high.unwrap_or(Key::greatest())), high)
 }
 
 // Whether a page is met as a leaf of the tree.

@@ -10,7 +10,7 @@ ghost use Rattle.ib_patch.specs.Positions.{position_in, positions_of};
 
 use crate::position::{PagePosition, is_same_end, position_at};
 use crate::reading;
-use ib_map::{LEAST, is_same};
+use ib_map::{Key, is_same};
 use ib_page::Image;
 
 // Whether a leaf ends where another one begins.
@@ -39,7 +39,7 @@ fn is_linked_left(
     ensures { IsTrue result ↔ IsLinkedLeft (memory_of after.now) (positions_of table.now) page (position_in at) }
 {
     let prev = reading::prev(&after[page as usize]);
-    if is_same(at.low, LEAST) {
+    if is_same(at.low, Key::least()) {
         return prev == 0;
     }
     let Some(left) = position_at(table, prev as usize) else {

@@ -16,7 +16,7 @@ use crate::marks::mark_pages;
 use crate::patch::leaves_tree;
 use crate::position::{PagePosition, ROOT};
 use crate::stores::store_words;
-use ib_map::{Key, LEAST, PlainMap, Write};
+use ib_map::{Key, PlainMap, Write};
 use ib_page::{Image, opening_image};
 use std::alloc::{AllocError, Global};
 use std::marker::Model;
@@ -174,7 +174,7 @@ fn opening_position(page: u32) -> Option<PagePosition>
     Some(PagePosition {
         tree: ROOT,
         height: 0,
-        low: LEAST,
+        low: Key::least(),
         high: None,
     })
 }

@@ -11,7 +11,7 @@ use crate::attach::attach_children;
 use crate::good::is_good;
 use crate::position::{PagePosition, ROOT, is_marked, position_at};
 use crate::reading;
-use ib_map::LEAST;
+use ib_map::Key;
 use ib_page::{Image, MOST_LEVEL};
 
 // A page, where it is met at this height: it must be good there, and its children are met.
@@ -100,7 +100,7 @@ pub(crate) fn visit_root(table: &mut [Option<PagePosition>], after: &[Image], wr
         table[ROOT as usize] = Some(PagePosition {
             tree: ROOT,
             height: reading::level(&after[ROOT as usize]),
-            low: LEAST,
+            low: Key::least(),
             high: None,
         });
     }

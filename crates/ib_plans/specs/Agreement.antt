@@ -1,6 +1,6 @@
 -- A work set beside memories: of which its pages are those, and when its changed images are those of a plan.
 use Rattle.std.specs.Prelude.{◌≡◌, ◌≢◌, ℕ, zero, suc, ◌+◌, ◌<◌, ◌≤◌, Bool, true, false, List, [], ◌∷◌, map, nat_lt, Option, Some, None, IsSome, IsSomeAnd, IfSome, ◌^◌, if◌then◌else◌}
-use Rattle.ib_map.specs.Keys.{MapKey, IsKey}
+use Rattle.ib_map.specs.Keys.{MapKey}
 use Rattle.ib_page.specs.declared.space.TheConstants.{MAPPED_PAGES}
 use Rattle.ib_page.specs.Form.{page_of}
 use Rattle.std.specs.List.{All}
@@ -49,7 +49,6 @@ pub record Agrees (pages roots root : ℕ) (key : MapKey) (path : List ℕ) (wor
   pub few : pages ≤ MAPPED_PAGES
   pub some : 0 < root
   pub within : root ≤ roots
-  pub is_key : IsKey key
   pub way : path ≡ way_of memory key root
   pub same : (page : ℕ) → page ≢ 0 → IsThere work page → memory_in work page ≡ memory page
   pub space : IfSome (changed_of 0 work) (HasBits pages bits)

@@ -1,7 +1,7 @@
 //! What planned changes lead to, as contracts (`btr_cur_pessimistic_insert`, `btr_cur_pessimistic_delete`).
 
 ghost use Rattle.std.specs.Prelude.{◌≡◌, ℕ, ◌<◌, ◌≤◌, None, true};
-ghost use Rattle.ib_map.specs.Keys.{MapKey, IsKey};
+ghost use Rattle.ib_map.specs.Keys.{MapKey};
 ghost use Rattle.ib_map.specs.Pairs.{put, without, value_at};
 ghost use Rattle.ib_page.specs.declared.space.TheConstants.{MAPPED_PAGES};
 ghost use Rattle.ib_walk.specs.Pages.{PageMemory};
@@ -16,7 +16,7 @@ ghost use Rattle.ib_plans.specs.Leads.{LeadsTo};
 /// is as high as it may be, a planned insert of a missing key leads from lawful trees to lawful trees with the pair put in.
 pub fn insert_law()
     ensures { (memory : PageMemory) (bits : ℕ → ℕ) (pages roots root : ℕ) (key : MapKey) (value : ℕ)
-        → IsLawful memory bits roots → pages ≤ MAPPED_PAGES → 0 < root → root ≤ roots → IsKey key
+        → IsLawful memory bits roots → pages ≤ MAPPED_PAGES → 0 < root → root ≤ roots
         → value_at key (content_of memory root) ≡ None
         → need_of memory key root ≤ free_of bits pages
         → (is_root_full memory key root ≡ true → height_of memory root < most_height roots)
@@ -27,7 +27,7 @@ pub fn insert_law()
 /// The law of planned deletes: a planned delete leads from lawful trees to lawful trees without the key.
 pub fn delete_law()
     ensures { (memory : PageMemory) (bits : ℕ → ℕ) (roots root : ℕ) (key : MapKey)
-        → IsLawful memory bits roots → 0 < root → root ≤ roots → IsKey key
+        → IsLawful memory bits roots → 0 < root → root ≤ roots
         → let s = planned_delete memory bits key root in
         LeadsTo memory (ticked memory s.touched s.memory) s.bits roots root s.touched (without key (content_of memory root)) }
 {}

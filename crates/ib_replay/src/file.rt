@@ -11,11 +11,11 @@ use ib_map::{LEAST_PAGES, MOST_PAGES};
 use std::alloc::{AllocError, Global};
 use std::marker::Model;
 
-/// What a log file begins with: the text `IBLOG57` and the digit of its version, 1. In files of version 0 pages were
-/// sorted records, and no heaps.
-pub const FILE_FORM: u64 = 0x4942_4c4f_4735_3731;
+/// What a log file begins with: the text `IBLOG57` and the digit of its version, 2. In files of version 1 a key was a
+/// number in one word, in those of version 0 pages were sorted records, and no heaps.
+pub const FILE_FORM: u64 = 0x4942_4c4f_4735_3732;
 
-const _: () = prove!(FILE_FORM == 0x4942_4c4f_4735_3731);
+const _: () = prove!(FILE_FORM == 0x4942_4c4f_4735_3732);
 
 /// A log as a file has it: the number of pages of its space, and its words.
 #[derive(Debug, Drop)]

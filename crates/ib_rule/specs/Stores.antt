@@ -2,8 +2,8 @@
 use Rattle.std.specs.Prelude.{◌≡◌, ◌≢◌, ℕ, ◌+◌, ◌*◌, ◌^◌, ◌<◌, ◌≤◌, true, false, List, [], ◌∷◌, ◌++◌, map, length, Option, Some, None}
 use Rattle.std.specs.List.{AllByRecursion}
 use mathlib.Core.List.{IsPrefix}
+use Rattle.ib_map.specs.Keys.{least}
 use Rattle.ib_map.specs.Writes.{writes_at}
-use Rattle.ib_map.specs.declared.key.TheConstants.{LEAST}
 use Rattle.ib_map.specs.declared.call.Change.TheVariants.{Delete}
 use Rattle.ib_layout.specs.Geometry.{Sizes}
 use Rattle.ib_logrec.specs.declared.entry.Entry.{Entry}
@@ -19,7 +19,7 @@ use Rattle.ib_rule.specs.Memory.{conflicts, entries_of, has, SinceFact, LoadedFa
 
 -- the entry that is named where none is written
 abbrev pub no_entry : Entry
-no_entry = record { session = 0; number = 0; change = Delete LEAST; structural = false; writes = [] }
+no_entry = record { session = 0; number = 0; change = Delete least; structural = false; writes = [] }
 
 -- no loaded word is fresh any more
 abbrev pub stale : List Loaded → List Loaded

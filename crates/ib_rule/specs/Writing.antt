@@ -13,7 +13,7 @@ use Rattle.ib_rule.specs.Stores.{IsReady}
 abbrev pub entry_of : PassState → Entry
 entry_of p = entry_in p.words
 
--- words of it may be stored: they stand there, the longest entry has room in the log, and where the entry is structural, its writer has SX on the index and not X
+-- words of it may be stored: they stand there, the log has room for each entry, and where the entry is structural, its writer has SX on the index and not X
 pub record MayStore (sizes : Sizes) (lawful : List Entry → Type 0) (p : PassState) : Type 0 where
   pub spelled : IsPrefix (words_of_entry (entry_of p)) p.words
   pub longest : used p.view.memory.seen + ENTRY_WORDS ≤ sizes.log_words

@@ -24,7 +24,7 @@ use ib_layout::Geometry;
 use ib_levels::{Against, Holding, Latch, Level, Mode};
 use std::marker::Model;
 
-/// How many words the longest entry has.
+/// How many words a pass has for an entry, and an append asks for in the log: the longest entry has one less.
 pub const ENTRY_WORDS: usize = 8196;
 
 const _: () = prove!(ENTRY_WORDS == 8196);

@@ -7,7 +7,7 @@ use Rattle.std.proofs.lemmas.List.{map-append, length-map, length-take-le}
 use Rattle.std.proofs.lemmas.List.Elements.{filter_map-append}
 use Rattle.std.proofs.lemmas.List.Folds.{concat-append}
 use Rattle.std.proofs.lemmas.List.Sums.{sum_by-append, sum_by-cons}
-use Rattle.ib_map.specs.Keys.{MapKey, IsKey, rank}
+use Rattle.ib_map.specs.Keys.{MapKey, rank}
 use Rattle.ib_map.specs.Pairs.{Pairs, value_at}
 use Rattle.ib_map.specs.Map.{is_made, lookup_answer}
 use Rattle.ib_map.specs.Chunks.{HeldChunks, spans_of, span_of, pairs_of, AreAdjacent}
@@ -271,11 +271,11 @@ module _ (sizes : Sizes) (low high : MapKey) (old new : KeptAnswers) (p q : Pass
       (let e = ap (λ (s : PassState). total s.view.grants) same in omega arith)
 
   -- a scan read all its chunks
-  all-scanned : (answer : Record) (now : HeldChunks) → KeptLaws sizes → IsKey high → (h : HasReadAll sizes low high old.chunks now p q) → new.records ≡ old.records ++ answer ∷ [] → new.chunks ≡ now
+  all-scanned : (answer : Record) (now : HeldChunks) → KeptLaws sizes → (h : HasReadAll sizes low high old.chunks now p q) → new.records ≡ old.records ++ answer ∷ [] → new.chunks ≡ now
       → AreAdjacent 0 old.chunks.list (length old.chunks.pairs) → AreAdjacent 0 now.list (length now.pairs)
       → answer ≡ record { call = Scan low high; reply = Scanned (length now.list - length old.chunks.list) (length now.pairs - length old.chunks.pairs); place = length q.view.memory.seen }
       → HasOneMore sizes (Scan low high) old new p q
-  all-scanned answer now laws is_key h records chunks before after is =
+  all-scanned answer now laws h records chunks before after is =
       let spans = h.read.spans in
       let first = h.read.first in
       let log = q.view.memory.seen in
@@ -288,7 +288,7 @@ module _ (sizes : Sizes) (low high : MapKey) (old new : KeptAnswers) (p q : Pass
       let b = chunks_counted now after in
       let sums = ap pair_count h.read.more ∙ sum_by-append (λ (s : Span). length s.pairs) (spans_of old.chunks.list old.chunks.pairs) spans in
       let pairs : length now.pairs - length old.chunks.pairs ≡ pair_count spans = omega arith in
-      let fits = FitsLog-whole (index_space sizes) log (content_at sizes laws log h.read.known.legal) high is_key q.number (length p.view.memory.seen) low first spans (length log) h.ascends h.chunks in
+      let fits = FitsLog-whole (index_space sizes) log (content_at sizes laws log h.read.known.legal) high q.number (length p.view.memory.seen) low first spans (length log) h.ascends h.chunks in
       let look : AllByRecursion (λ n. (length p.view.memory.seen ≤ n) × (n ≤ length log)) (first ∷ h.read.rest) = subst (AllByRecursion (λ n. (length p.view.memory.seen ≤ n) × (n ≤ length log))) h.read.looks h.read.went.bounds in
       let places = whole-places (by_place opening sizes.pages) log low high first spans (length log) h.chunks in
       let answered : IsAnswered sizes (Scan low high) (scan_record low high spans (length log)) p q = record {
@@ -313,19 +313,19 @@ module _ (sizes : Sizes) (low high : MapKey) (old new : KeptAnswers) (p q : Pass
       h.grants
 
   -- a scan read its keys
-  pub scan_more : (answer : Record) (now : HeldChunks) → KeptLaws sizes → IsKey high → IsKnown sizes (IsKeptLog sizes.pages) p → HasReadKeys sizes low high old.chunks now p q → new.records ≡ old.records ++ answer ∷ [] → new.chunks ≡ now
+  pub scan_more : (answer : Record) (now : HeldChunks) → KeptLaws sizes → IsKnown sizes (IsKeptLog sizes.pages) p → HasReadKeys sizes low high old.chunks now p q → new.records ≡ old.records ++ answer ∷ [] → new.chunks ≡ now
       → AreAdjacent 0 old.chunks.list (length old.chunks.pairs) → AreAdjacent 0 now.list (length now.pairs)
       → answer ≡ record { call = Scan low high; reply = Scanned (length now.list - length old.chunks.list) (length now.pairs - length old.chunks.pairs); place = length q.view.memory.seen }
       → HasOneMore sizes (Scan low high) old new p q
   unfolding none-scanned all-scanned
-  scan_more answer now laws is_key known (inl h) records chunks before after is =
+  scan_more answer now laws known (inl h) records chunks before after is =
       let a : length now.list - length old.chunks.list ≡ 0 = (let e = ap (λ (c : HeldChunks). length c.list) h.chunks in omega arith) in
       let b : length now.pairs - length old.chunks.pairs ≡ 0 = (let e = ap (λ (c : HeldChunks). length c.pairs) h.chunks in omega arith) in
       none-scanned answer h.below known h.same records (chunks ∙ h.chunks)
       (is ∙ (ap (λ n. record { call = Scan low high; reply = Scanned n (length now.pairs - length old.chunks.pairs); place = length q.view.memory.seen }) a
       ∙ (ap (λ n. record { call = Scan low high; reply = Scanned 0 n; place = length q.view.memory.seen }) b
       ∙ ap (λ (s : PassState). record { call = Scan low high; reply = Scanned 0 0; place = length s.view.memory.seen }) h.same)))
-  scan_more answer now laws is_key known (inr h) records chunks before after is = all-scanned answer now laws is_key h records chunks before after is
+  scan_more answer now laws known (inr h) records chunks before after is = all-scanned answer now laws h records chunks before after is
 
 -- a scan leaves no fewer pairs
 pub pairs_more : (sizes : Sizes) (low high : MapKey) (old now : HeldChunks) (p q : PassState) → HasReadKeys sizes low high old now p q → AreAdjacent 0 old.list (length old.pairs) → AreAdjacent 0 now.list (length now.pairs) → length old.pairs ≤ length now.pairs

@@ -2,14 +2,14 @@
 use Rattle.std.proofs.Common.{◌≡◌, ◌≢◌, inl, inr, ℕ, ◌+◌, ◌<◌, ◌≤◌, List, [], ◌∷◌, ◌++◌, take, drop, true, false, None, length, cond, leb, refl, sym, ap, subst, ◌∙◌, arith, take-append-drop}
 use Rattle.std.specs.Prelude.{nat_le, is_some, if◌then◌else◌}
 use Rattle.std.proofs.lemmas.Bool.{cases_eq, cases_lt, le-leb, lt-leb}
-use Rattle.ib_map.specs.Keys.{MapKey, IsKey, rank}
+use Rattle.ib_map.specs.Keys.{MapKey, rank}
 use Rattle.ib_map.specs.Pairs.{Pairs, value_at, put}
 use Rattle.ib_map.specs.Map.{effect_of, key_of}
 use Rattle.ib_map.specs.History.{History, map_with, map_after}
 use Rattle.ib_map.specs.Replies.{Span}
 use Rattle.ib_map.specs.declared.call.Change.{Change}
 use Rattle.ib_map.specs.declared.call.Change.TheVariants.{Insert, Delete}
-use Rattle.ib_map.proofs.KeyLaws.{after-least_above, IsKey-rank, rank-lt_end}
+use Rattle.ib_map.proofs.KeyLaws.{after-least_above, rank-lt_end}
 use Rattle.ib_map.proofs.PairLaws.{value_at-put_other, value_at-without_other}
 use Rattle.ib_logrec.specs.declared.entry.Entry.{Entry}
 use Rattle.ib_logrec.specs.Log.{history_of}
@@ -76,7 +76,7 @@ about-reached key n place h lt some =
     omega arith
 
 -- over a log whose first tree has at each place what the map has there
-module _ (opening : ℕ → ℕ) (log : List Entry) (content : (n : ℕ) → n ≤ length log → content_of (pages_after opening (take n log)) 1 ≡ map_after (history_of log) n) (high : MapKey) (is_key : IsKey high) where
+module _ (opening : ℕ → ℕ) (log : List Entry) (content : (n : ℕ) → n ≤ length log → content_of (pages_after opening (take n log)) 1 ≡ map_after (history_of log) n) (high : MapKey) where
   ends-rise : (low : MapKey) (floor : ℕ) (spans : List Span) (next : MapKey) (last : ℕ) → rank low ≤ rank high → AreFront opening log 1 low high floor spans next last
       → length spans + about_from (rank next) (history_of log) ≤ about_from (rank low) (history_of log)
   ends-rise low floor [] next last le are = let e : rank next ≡ rank low = ap rank are.0 in rw e (omega arith)
@@ -86,9 +86,9 @@ module _ (opening : ℕ → ℕ) (log : List Entry) (content : (n : ℕ) → n �
       let read = are.0 in
       let from = (IsChunk-bounds (pages_after opening (take span.place log)) 1 low high span.high span.pairs le read.chunk).0 in
       let there = subst (λ m. value_at span.high m ≢ None) (content span.place read.within) (chunk_end (pages_after opening (take span.place log)) 1 low high span.high span.pairs read.chunk are.1) in
-      let up = (after-least_above span.high after high is_key are.2.1).0 are.1 in
-      let top = rank-lt_end high is_key in
-      let gt = (after-least_above span.high after after (IsKey-rank after (omega arith)) are.2.1).1 (omega arith) in
+      let up = (after-least_above span.high after high are.2.1).0 are.1 in
+      let top = rank-lt_end high in
+      let gt = (after-least_above span.high after after are.2.1).1 (omega arith) in
       let one = about-reached span.high (rank after) span.place h gt there in
       let below = about_from-le (rank low) (rank span.high) h from in
       let rest = ends-rise after span.place spans next last up are.2.2 in

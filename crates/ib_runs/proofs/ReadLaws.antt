@@ -3,7 +3,7 @@ use Rattle.std.specs.List.{AllByRecursion}
 use Rattle.std.proofs.Common.{◌≡◌, inl, inr, ℕ, ◌+◌, ◌*◌, ◌≤◌, ◌^◌, List, [], ◌∷◌, ◌++◌, take, drop, length, max, refl, sym, ap, subst, ◌∙◌, arith, append_assoc, length-append, take-append-drop}
 use Rattle.std.proofs.lemmas.List.{length-take-le}
 use Rattle.std.proofs.lemmas.List.Sums.{sum_by-cons}
-use Rattle.ib_map.specs.Keys.{MapKey, IsKey, rank}
+use Rattle.ib_map.specs.Keys.{MapKey, rank}
 use Rattle.ib_map.specs.Chunks.{HeldChunks, spans_of}
 use Rattle.ib_map.specs.History.{map_after}
 use Rattle.ib_map.specs.Replies.{Span, pair_count}
@@ -92,7 +92,7 @@ module _ (sizes : Sizes) (laws : KeptLaws sizes) where
   pub few_seen : (q : PassState) → IsKnown sizes (IsKeptLog sizes.pages) q → length q.view.memory.seen ≤ 4194304
   few_seen q known = let a = used-least q.view.memory.seen in let b = known.room in let c = laws.few in omega arith
 
-  module _ (low high : MapKey) (is_key : IsKey high) (le : rank low ≤ rank high) where
+  module _ (low high : MapKey) (le : rank low ≤ rank high) where
     -- where there was no room for more, all places were used
     all-used : (from next : MapKey) (now new : HeldChunks) (q r : PassState) → now.chunk_room ≡ 64 → 4096 ≤ now.pair_room
         → (h : HasStopped sizes (IsKeptLog sizes.pages) start 1 from high next now new q r) → length h.gone.spans ≡ 64
@@ -184,7 +184,7 @@ module _ (sizes : Sizes) (laws : KeptLaws sizes) where
 
         few : length a.read.spans ≤ 4194304
         few =
-            let b = front_few start q.view.memory.seen (content_at q.view.memory.seen a.read.known.legal) high is_key low a.read.first a.read.spans mid a.last le a.chunks in
+            let b = front_few start q.view.memory.seen (content_at q.view.memory.seen a.read.known.legal) high low a.read.first a.read.spans mid a.last le a.chunks in
             let c = few_seen q a.read.known in omega arith
 
       read-more : (mid next : MapKey) (cur now new : HeldChunks) (q r : PassState) (a : HasReadTo sizes low high mid old cur p q) → spans_of now.list now.pairs ≡ spans_of cur.list cur.pairs → now.chunk_room ≡ 64 → 4096 ≤ now.pair_room
@@ -240,6 +240,6 @@ module _ (sizes : Sizes) (laws : KeptLaws sizes) where
       pub so_far_room : (mid : MapKey) (cur now : HeldChunks) (q : PassState) → IsSoFar sizes low high mid old cur p q → now.chunk_room ≡ 64 → total p.view.grants + most_scan_grants ≤ 2 ^ 52 → total q.view.grants + 8192 * now.chunk_room + 8192 ≤ 2 ^ 52
       so_far_room mid cur now q (inl a) room most = let e = ap (λ (s : PassState). total s.view.grants) a.same in omega arith
       so_far_room mid cur now q (inr a) room most =
-          let b = front_few start q.view.memory.seen (content_at q.view.memory.seen a.read.known.legal) high is_key low a.read.first a.read.spans mid a.last le a.chunks in
+          let b = front_few start q.view.memory.seen (content_at q.view.memory.seen a.read.known.legal) high low a.read.first a.read.spans mid a.last le a.chunks in
           let c = few_seen q a.read.known in
           let d = a.grants in omega arith

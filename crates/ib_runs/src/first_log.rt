@@ -14,9 +14,9 @@ use ib_map::{Call, Record, Reply};
 use ib_rule::ENTRY_WORDS;
 use ib_script::Script;
 
-// How many log words a run begins with for each change of its script. An entry of a change of one leaf has 16 to 20
-// words, and splits and merges add up to as many: keys in order, which split most, come to 43 words a change.
-const WORDS_A_CHANGE: usize = 48;
+// How many log words a run begins with for each change of its script. An entry of a change of one leaf has 19 to 25
+// words, and splits and merges add up to as many: keys in order, which split most, come to 44 to 50 words a change.
+const WORDS_A_CHANGE: usize = 52;
 
 // How many changes the commands ask for.
 fn change_count(commands: &[Call]) -> usize {
@@ -33,7 +33,7 @@ pub(crate) fn first_sizes(script: &Script) -> Geometry
     ensures log { result.log_words ≤ script.now.sizes.log_words }
 {
     let sizes = script.geometry();
-    // An append asks for the room of the longest entry.
+    // An append asks for so much room.
     let mut words = ENTRY_WORDS;
     for before in 0..script.sessions() {
         let changes = change_count(script.commands(before + 1));

@@ -41,9 +41,10 @@ fn history_in(alloc: Global, words: &[u64], pages: u32) -> Result<Vec<LoggedChan
     let mut history = Vec::new(alloc);
     let mut place = 0;
     while (place as usize) < words.len() {
-        let Ok((head, next)) = head_at(words, place, pages) else {
+        let Ok(found) = head_at(words, place, pages) else {
             unreachable!()
         };
+        let (head, next) = found;
         history.push(head.logged())?;
         place = next;
     }

@@ -4,7 +4,7 @@ use Rattle.std.specs.Prelude.{is_some}
 use Rattle.std.proofs.Common.{Option, None, true, ◌≡◌, ◌⊎◌, inl, inr, ℕ, ◌+◌, ◌<◌, ◌≤◌, ◌^◌, List, [], ◌∷◌, ◌++◌, take, Some, length, refl, sym, ap, subst, ◌∙◌, arith, length-append}
 use Rattle.std.proofs.Math.Seq.{take-length}
 use Rattle.std.proofs.lemmas.List.{length-map}
-use Rattle.ib_map.specs.Keys.{MapKey, IsKey, rank, end_rank, key_after}
+use Rattle.ib_map.specs.Keys.{MapKey, rank, end_rank, key_after}
 use Rattle.ib_map.specs.Pairs.{cut}
 use Rattle.ib_heap.proofs.CopyLaws.{length-cut}
 use Rattle.ib_map.specs.Chunks.{HeldChunks}
@@ -271,10 +271,10 @@ module _ (sizes : Sizes) (roots : ℕ) (lawful : List Entry → Type 0) (opening
             | inr c ↦ record { last = subst (IsLastKey (records_of image)) (sym c.1) b.1.is_last; from = let e : rank found.end ≡ rank b.0 = ap rank c.1 in let f = b.1.from in omega arith }
           ]
 
-          pub again : (next : MapKey) → key_after found.end ≡ Some next → rank found.end < rank high → IsKey high → IsKey found.end → IsScannedTo sizes lawful opening roots root found.leaf low next high out0 new p0 r
-          again next after lt high_is end_is =
+          pub again : (next : MapKey) → key_after found.end ≡ Some next → rank found.end < rank high → IsScannedTo sizes lawful opening roots root found.leaf low next high out0 new p0 r
+          again next after lt =
               let key = on-key lt come.ends in
-              let up = after-above found.end next end_is after in
+              let up = after-above found.end next after in
               let from = key.from in
               let gs = ap (λ (g : Grants). g.s) aside.grants in let gsx = ap (λ (g : Grants). g.sx) aside.grants in let gx = ap (λ (g : Grants). g.x) aside.grants in
               let cs = come.along.s in let csx = come.along.sx in let cx = come.along.x in let few = come.along.few in
@@ -296,7 +296,7 @@ module _ (sizes : Sizes) (roots : ℕ) (lawful : List Entry → Type 0) (opening
                   chunks = subst (λ es. AreFront opening es root low high (length p0.view.memory.seen) (i.up_to.spans ++ span_read ∷ []) next (length q.view.memory.seen)) (sym aside.seen)
                       (front_push opening root high q.view.memory.seen low (length p0.view.memory.seen) i.up_to.spans start i.up_to.last span_read next before read lt after);
                   within = let c = ap length aside.seen in omega arith;
-                  to = (after-least_above found.end next high high_is after).0 lt;
+                  to = (after-least_above found.end next high after).0 lt;
                   first = inr (elim i.up_to.first [ inl same ↦ let e = ap rank same.1 in omega arith | inr below ↦ omega arith ]);
                 };
                 image = image;
@@ -334,9 +334,9 @@ ends_within start high end image (inr b) = elim b.2 [
   | inr c ↦ let e : rank end ≡ rank b.0 = ap rank c.1 in let f = c.0 in omega arith
 ]
 
-pub some_after : (end high : MapKey) (o : Option MapKey) → o ≡ key_after end → IsKey end → rank end < rank high → rank high < end_rank → is_some o ≡ true
-some_after end high None e key lt top = absurd (let f = after-none end key (sym e) in omega arith)
-some_after end high (Some next) e key lt top = refl
+pub some_after : (end high : MapKey) (o : Option MapKey) → o ≡ key_after end → rank end < rank high → rank high < end_rank → is_some o ≡ true
+some_after end high None e lt top = absurd (let f = after-none end (sym e) in omega arith)
+some_after end high (Some next) e lt top = refl
 
 -- a leaf has few records between any two keys
 pub part_short : (image : List ℕ) (low high : MapKey) → IsTreePage image → length (cut (records_of image) low high) ≤ MOST_RECORDS

@@ -4,7 +4,7 @@ use Rattle.std.specs.Prelude.{MatchOption, Result, Ok, Err, IfOk}
 use Rattle.std.proofs.Common.{inl, Option, Some, get_or, drop, ◌≡◌, ℕ, ◌+◌, ◌*◌, ◌-◌, ◌<◌, ◌≤◌, ◌^◌, false, None, List, [], ◌∷◌, ◌++◌, take, length, refl, sym, ap, subst, ◌∙◌, arith, length-append}
 use Rattle.std.proofs.Math.Seq.{get_or-append_seam}
 use Rattle.std.proofs.lemmas.List.{length-take-le, take-append-drop}
-use Rattle.ib_map.specs.Keys.{MapKey, IsKey, rank, end_rank}
+use Rattle.ib_map.specs.Keys.{MapKey, rank, end_rank}
 use Rattle.ib_map.specs.Chunks.{HeldChunks}
 use Rattle.ib_map.specs.History.{map_after}
 use Rattle.ib_map.specs.Replies.{Span, pair_count}
@@ -196,12 +196,12 @@ map-taken log n le =
 
 -- the record of a whole scan of the first tree fits what is seen
 pub scan_fits : (sizes : Sizes) (lawful : List Entry → Type 0) (opening : ℕ → ℕ) → ((xs ys : List Entry) → lawful (xs ++ ys) → lawful xs) → ((log : List Entry) → lawful log → content_of (pages_after opening log) 1 ≡ map_of log)
-    → (low high : MapKey) → IsKey high → rank low ≤ rank high → (answer : Record) (out new : HeldChunks) (p q : PassState) (h : HasScanned sizes lawful opening 1 low high answer out new p q) → FitsSeen sizes opening answer h.gone.spans p q
-scan_fits sizes lawful opening begin content low high is_key le answer out new p q h =
+    → (low high : MapKey) → rank low ≤ rank high → (answer : Record) (out new : HeldChunks) (p q : PassState) (h : HasScanned sizes lawful opening 1 low high answer out new p q) → FitsSeen sizes opening answer h.gone.spans p q
+scan_fits sizes lawful opening begin content low high le answer out new p q h =
     let log = q.view.memory.seen in
     let content_at : (n : ℕ) → n ≤ length q.view.memory.seen → content_of (pages_after opening (take n q.view.memory.seen)) 1 ≡ map_after (history_of q.view.memory.seen) n = λ n some.
     content (take n q.view.memory.seen) (begin (take n q.view.memory.seen) (drop n q.view.memory.seen) (subst lawful (sym (take-append-drop n q.view.memory.seen)) h.gone.known.legal)) ∙ map-taken q.view.memory.seen n some in
-    let fits = FitsLog-whole (space_of sizes opening) q.view.memory.seen content_at high is_key q.number (length p.view.memory.seen) low h.gone.first h.gone.spans (length q.view.memory.seen) le h.chunks in
+    let fits = FitsLog-whole (space_of sizes opening) q.view.memory.seen content_at high q.number (length p.view.memory.seen) low h.gone.first h.gone.spans (length q.view.memory.seen) le h.chunks in
     subst (λ (r : Record). FitsSeen sizes opening r h.gone.spans p q) (sym h.answer_is) fits
 
 -- what holds of each value

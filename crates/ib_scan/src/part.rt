@@ -99,7 +99,7 @@ pub(crate) fn put<L: Law, S: Sleep>(
         }) result out.old out.new }
 {
     let image = mtr.image(leaf).unwrap();
-    let mut pairs = [(0, 0); MOST_RECORDS];
+    let mut pairs = [(Key::least(), 0); MOST_RECORDS];
     let count = copy_part(image, start, end, &mut pairs);
     append_part(out, start, end, place, &pairs, count)
 }

@@ -7,7 +7,7 @@ use Rattle.std.proofs.lemmas.List.{get_or_append_left, map_push}
 use Rattle.std.proofs.lemmas.List.Sums.{sum_by-cons}
 use Rattle.ib_map.specs.declared.call.Call.{Call}
 use Rattle.ib_map.proofs.HistoryLaws.{slice_get-append, slice_get-last}
-use Rattle.ib_map.specs.Keys.{MapKey}
+use Rattle.ib_map.specs.Keys.{MapKey, least}
 use Rattle.ib_map.specs.declared.call.Call.TheVariants.{Insert, Delete, Get}
 use Rattle.ib_script.specs.Generated.{call_at, call_back, key_of, share_of}
 use Rattle.ib_script.specs.Lists.{lists_of}
@@ -60,9 +60,9 @@ no-scan-at load session at = by-half (nat_lt at (share_of load session / 2))
 -- none of a session's commands is a scan
 pub no-scans : (load : Load) (session : ℕ) (calls : List Call) → length calls ≡ share_of load session
     → ((at : ℕ) → at < share_of load session → slice_get calls at ≡ Some (call_at load session at)) → scan_count calls ≡ 0
-no-scans load session calls size known = go calls (λ at lt. ap asks_scan (same_Some (get_or calls at (Get 0)) (call_at load session at) (sym (slice_get-get_or calls at (Get 0) lt) ∙ known at (subst (λ k. at < k) size lt))) ∙ no-scan-at load session at)
+no-scans load session calls size known = go calls (λ at lt. ap asks_scan (same_Some (get_or calls at (Get least)) (call_at load session at) (sym (slice_get-get_or calls at (Get least) lt) ∙ known at (subst (λ k. at < k) size lt))) ∙ no-scan-at load session at)
   where
-    go : (xs : List Call) → ((at : ℕ) → at < length xs → asks_scan (get_or xs at (Get 0)) ≡ false) → scan_count xs ≡ 0
+    go : (xs : List Call) → ((at : ℕ) → at < length xs → asks_scan (get_or xs at (Get least)) ≡ false) → scan_count xs ≡ 0
     go [] none = refl
     go (x ∷ xs) none =
         let rest = go xs (λ at lt. none (suc at) (omega arith)) in

@@ -1,5 +1,7 @@
 -- Scripts that are generated: what each session asks for is a function of three numbers.
 use Rattle.std.specs.Prelude.{◌≡◌, ℕ, ◌+◌, ◌-◌, ◌*◌, ◌/◌, ◌%◌, ◌<◌, [], Some, length, nat_le, nat_lt, ◌==◌, slice_get, slice_index_or, if◌then◌else◌}
+use Rattle.std.specs.Int.{w64, to_be_bytes}
+use Rattle.ib_map.specs.KeyBytes.{key_of_bytes}
 use Rattle.ib_map.specs.Keys.{MapKey}
 use Rattle.ib_map.specs.declared.call.Call.{Call}
 use Rattle.ib_map.specs.declared.call.Call.TheVariants.{Insert, Delete, Get}
@@ -10,9 +12,13 @@ use Rattle.ib_script.specs.declared.load.Load.{Load}
 abbrev pub share_of : Load → ℕ → ℕ
 share_of load session = load.commands / load.sessions + (if nat_le session (load.commands % load.sessions) then 1 else 0)
 
--- the key of a session's command, counted from 0: no two are alike
-abbrev pub key_of : Load → ℕ → ℕ → MapKey
-key_of load session at = (at * 40503 + load.seed) % 65536 * 64 + (session - 1)
+-- the number of a session's command, counted from 0: no two are alike
+abbrev pub number_of : Load → ℕ → ℕ → ℕ
+number_of load session at = (at * 40503 + load.seed) % 65536 * 64 + (session - 1)
+
+-- its key: the 8 bytes of that number, from the highest down
+unfoldable pub key_of : Load → ℕ → ℕ → MapKey
+key_of load session at = key_of_bytes (to_be_bytes w64 (number_of load session at))
 
 -- three keys of four are taken out again, and the fourth is looked up
 abbrev pub call_back : ℕ → MapKey → Call

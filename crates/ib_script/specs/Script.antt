@@ -2,7 +2,6 @@
 use Rattle.std.specs.Prelude.{◌≡◌, ℕ, ◌<◌, ◌≤◌, ◌+◌, ◌^◌, List, [], ◌∷◌, Bool, true, false, Option, Some, None, Result, Ok, Err, codes, bytes_eq, nat_lt, ◌&&◌, ◌||◌, not, ◌==◌, length, map, filter, count_by, max, fold, sum_by, slice_index_or, if◌then◌else◌}
 use Rattle.std.specs.List.{list_all}
 use Rattle.ib_layout.specs.Geometry.{Sizes, has_log}
-use Rattle.ib_map.specs.Keys.{IsKey}
 use Rattle.ib_map.specs.Space.{has_pages}
 use Rattle.ib_map.specs.declared.TheConstants.{MOST_PAGES}
 use Rattle.ib_layout.specs.declared.geometry.TheConstants.{MOST_LOG_WORDS}
@@ -47,12 +46,10 @@ abbrev pub IsLineInRange : ScriptLine → Type 0
 IsLineInRange (Session number) = (1 ≤ number) × (number ≤ MOST_SCRIPT_SESSIONS)
 IsLineInRange _ = Unit {0}
 
--- its keys are keys, and its value is a word
+-- the value of an insert is a word
 abbrev pub IsCallInRange : Call → Type 0
-IsCallInRange (Insert key value) = IsKey key × (value < 2 ^ 64)
-IsCallInRange (Delete key) = IsKey key
-IsCallInRange (Get key) = IsKey key
-IsCallInRange (Scan low high) = IsKey low × IsKey high
+IsCallInRange (Insert key value) = value < 2 ^ 64
+IsCallInRange _ = Unit {0}
 
 abbrev pub says_nothing : Reading → Bool
 says_nothing (Ok Skipped) = true

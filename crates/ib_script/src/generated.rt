@@ -2,7 +2,7 @@
 
 ghost use Rattle.std.specs.Prelude.{◌≡◌, ◌≤◌, ◌<◌, ◌+◌, ◌/◌, ℕ, IfOk, Some, true, length, slice_get};
 ghost use Rattle.ib_edge.specs.declared.line_kind.TheConstants.{MOST_SCRIPT_SESSIONS};
-ghost use Rattle.ib_script.specs.Generated.{IsGenerated, call_at, key_of, share_of};
+ghost use Rattle.ib_script.specs.Generated.{IsGenerated, call_at, key_of, number_of, share_of};
 ghost use Rattle.ib_script.specs.Loads.{is_load};
 ghost use Rattle.ib_script.specs.Script.{IsSmall};
 ghost use Rattle.ib_script.specs.declared.load.TheConstants.{MOST_GENERATED};
@@ -23,14 +23,24 @@ fn share_of(load: Load, session: u32) -> u32
     load.commands / load.sessions + u32::from(session <= load.commands % load.sessions)
 }
 
-// The key of a session's command.
+// The number of a session's command.
+fn number_of(load: Load, session: u32, at: u32) -> u64
+    requires session { 1 ≤ session }
+    requires few { session ≤ MOST_SCRIPT_SESSIONS }
+    requires at { at < MOST_GENERATED }
+    ensures { result ≡ number_of load session at }
+{
+    (u64::from(at) * 40503 + u64::from(load.seed)) % 65536 * 64 + u64::from(session - 1)
+}
+
+// Its key.
 fn key_of(load: Load, session: u32, at: u32) -> Key
     requires session { 1 ≤ session }
     requires few { session ≤ MOST_SCRIPT_SESSIONS }
     requires at { at < MOST_GENERATED }
     ensures { result ≡ key_of load session at }
 {
-    (u64::from(at) * 40503 + u64::from(load.seed)) % 65536 * 64 + u64::from(session - 1)
+    Key::of_number(number_of(load, session, at))
 }
 
 // A session's command.

@@ -168,8 +168,8 @@ fn reading_of_fields(word: &[u8], fields: Option<&[u8]>) -> Result<ScriptLine, L
     Err(LineKind::Word)
 }
 
-/// What a line, without its line feed, says by itself, or what is wrong with it: tested in the order of `LineKind`,
-/// and from left to right.
+/// What a line, without its line feed, says by itself, or the first thing that is wrong with it: its word, how many
+/// fields it has, then each field from left to right, and last the sizes of a space.
 #[inline(always)]
 pub fn reading_of(line: &[u8]) -> Result<ScriptLine, LineKind>
     ensures reading { result ≡ reading_of line.now }

@@ -8,6 +8,7 @@ ghost use Rattle.ib_rule.specs.Views.{no_grants};
 use ib_cursor::{Search, descend, descend_to_delete, descend_to_insert, find, find_nowait};
 use ib_latch::{Latches, NoSleep, Sleep};
 use ib_layout::Geometry;
+use ib_map::Key;
 use ib_mtr::Mtr;
 use ib_rule::Pass;
 use ib_tree::TreeLaw;
@@ -37,7 +38,7 @@ fn a_reader_comes_to_the_root(rt: HostRuntime) {
     let mut table: Latches<TreeLaw> = smallest(&rt, rt.alloc());
     let mut one = come(&rt, rt.alloc(), &mut table);
     let mut mtr = Mtr::start(&table, &mut one);
-    let path = descend(&rt, &mut mtr, Search::Find, 5);
+    let path = descend(&rt, &mut mtr, Search::Find, Key::of_number(5));
     assert_eq!(rt; path.pages(), [1].as_slice());
     assert_eq!(rt; mtr.commit_read(), 0);
     let grants = one.grants_taken();
@@ -52,7 +53,7 @@ fn a_key_is_looked_up_on_the_root(rt: HostRuntime) {
     let mut table: Latches<TreeLaw> = smallest(&rt, rt.alloc());
     let mut one = come(&rt, rt.alloc(), &mut table);
     let mut mtr = Mtr::start(&table, &mut one);
-    assert_eq!(rt; find(&rt, &mut mtr, 5), None);
+    assert_eq!(rt; find(&rt, &mut mtr, Key::of_number(5)), None);
     assert_eq!(rt; mtr.commit_read(), 0);
     let grants = one.grants_taken();
     assert_eq!(rt; (grants.s, grants.sx, grants.x), (2, 0, 0));
@@ -66,7 +67,7 @@ fn who_changes_the_root_owns_it(rt: HostRuntime) {
     let mut table: Latches<TreeLaw> = smallest(&rt, rt.alloc());
     let mut one = come(&rt, rt.alloc(), &mut table);
     let mut mtr = Mtr::start(&table, &mut one);
-    let path = descend(&rt, &mut mtr, Search::ModifyLeaf, 5);
+    let path = descend(&rt, &mut mtr, Search::ModifyLeaf, Key::of_number(5));
     assert_eq!(rt; path.pages(), [1].as_slice());
     assert_eq!(rt; mtr.commit_read(), 0);
     let grants = one.grants_taken();
@@ -81,7 +82,7 @@ fn who_may_split_the_root_claims_the_index(rt: HostRuntime) {
     let mut table: Latches<TreeLaw> = smallest(&rt, rt.alloc());
     let mut one = come(&rt, rt.alloc(), &mut table);
     let mut mtr = Mtr::start(&table, &mut one);
-    let path = descend_to_insert(&rt, &mut mtr, 1, 5);
+    let path = descend_to_insert(&rt, &mut mtr, 1, Key::of_number(5));
     assert_eq!(rt; path.pages(), [1].as_slice());
     assert_eq!(rt; mtr.commit_read(), 0);
     let grants = one.grants_taken();
@@ -96,7 +97,7 @@ fn who_may_merge_pages_claims_the_index(rt: HostRuntime) {
     let mut table: Latches<TreeLaw> = smallest(&rt, rt.alloc());
     let mut one = come(&rt, rt.alloc(), &mut table);
     let mut mtr = Mtr::start(&table, &mut one);
-    let path = descend_to_delete(&rt, &mut mtr, 1, 5);
+    let path = descend_to_delete(&rt, &mut mtr, 1, Key::of_number(5));
     assert_eq!(rt; path.pages(), [1].as_slice());
     assert_eq!(rt; mtr.commit_read(), 0);
     let grants = one.grants_taken();
@@ -111,7 +112,7 @@ fn nobody_is_in_the_way(rt: HostRuntime) {
     let mut table: Latches<TreeLaw, NoSleep> = smallest(&rt, rt.alloc());
     let mut one = come(&rt, rt.alloc(), &mut table);
     let mut mtr = Mtr::start(&table, &mut one);
-    match find_nowait(&mut mtr, 5) {
+    match find_nowait(&mut mtr, Key::of_number(5)) {
         Ok(value) => assert_eq!(rt; value, None),
         Err(_) => assert!(rt; false),
     }

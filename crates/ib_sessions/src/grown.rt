@@ -8,7 +8,7 @@ use crate::pages::{check_page, close, free_pages, leaf, node};
 use crate::rows::{deleted, insert_up_to, inserted, missing};
 use crate::space::{come, delete, insert, open, scan_keys};
 use ib_index::Index;
-use ib_map::{Call, Chunk, Chunks, Record, Reply};
+use ib_map::{Call, Chunk, Chunks, Key, Record, Reply, after};
 use ib_page::Image;
 use ib_rule::Pass;
 use ib_scan::More;
@@ -16,7 +16,7 @@ use std::process::Abort;
 use std::sync::Wait;
 
 // A scan of this part that finds one chunk, at this place.
-fn scanned(low: u64, high: u64, pairs: u32, place: u32) -> Record {
+fn scanned(low: Key, high: Key, pairs: u32, place: u32) -> Record {
     Record {
         call: Call::Scan { low, high },
         reply: Reply::Scanned { chunks: 1, pairs },
@@ -33,12 +33,8 @@ fn a_full_root_becomes_a_node(rt: HostRuntime) {
     assert_eq!(rt; taken.sx, 1);
     index.disconnect(one);
     let closed = close(&rt, rt.alloc(), index);
-    check_page(
-        &rt,
-        &closed,
-        1,
-        &node(&rt, 36, [(0, 2), (19, 3)].as_slice()),
-    );
+    let records = [(Key::least(), 2), (Key::of_number(19), 3)];
+    check_page(&rt, &closed, 1, &node(&rt, 36, records.as_slice()));
     check_page(&rt, &closed, 2, &leaf(&rt, 1, 0, 3, 1, 18));
     check_page(&rt, &closed, 3, &leaf(&rt, 1, 2, 0, 19, 36));
     assert_eq!(rt; free_pages(&closed), 12);
@@ -62,44 +58,48 @@ fn two_leaves_are_merged_and_the_root_is_lifted(rt: HostRuntime) {
     assert_eq!(rt; free_pages(&closed), 14);
 }
 
+// It goes on at the key behind the one at which it stopped, and nothing lies between.
 #[test]
 fn a_scan_goes_on_where_it_stopped(rt: HostRuntime) {
     let mut index = open(&rt, rt.alloc(), 16384);
     let mut one = come(&rt, rt.alloc(), &mut index);
     insert_up_to(&rt, &index, &mut one, 36);
+    let low = Key::of_number(1);
+    let high = Key::of_number(36);
+    let next = after(Key::of_number(18)).expect(&rt, "there is a key behind");
     let mut out = Chunks::with_room(rt.alloc(), 1, 4).expect(&rt, "there is memory");
     assert_eq!(rt;
-        scan_keys(&rt, &index, &mut one, 1, 36, &mut out),
-        Err(More { next: 1 })
+        scan_keys(&rt, &index, &mut one, low, high, &mut out),
+        Err(More { next: low })
     );
     assert!(rt; out.list().is_empty());
     out.reserve(1, 18).expect(&rt, "there is memory");
     assert_eq!(rt;
-        scan_keys(&rt, &index, &mut one, 1, 36, &mut out),
-        Err(More { next: 19 })
+        scan_keys(&rt, &index, &mut one, low, high, &mut out),
+        Err(More { next })
     );
     out.reserve(1, 18).expect(&rt, "there is memory");
     assert_eq!(rt;
-        scan_keys(&rt, &index, &mut one, 19, 36, &mut out),
-        Ok(scanned(19, 36, 18, 36))
+        scan_keys(&rt, &index, &mut one, next, high, &mut out),
+        Ok(scanned(next, high, 18, 36))
     );
     let first = Chunk {
-        low: 1,
-        high: 18,
+        low,
+        high: Key::of_number(18),
         place: 36,
         start: 0,
         len: 18,
     };
     let second = Chunk {
-        low: 19,
-        high: 36,
+        low: next,
+        high,
         place: 36,
         start: 18,
         len: 18,
     };
     assert_eq!(rt; out.list(), [first, second].as_slice());
     assert_eq!(rt; out.pairs().len(), 36);
-    assert_eq!(rt; out.pairs().last().copied(), Some((36, 36)));
+    assert_eq!(rt; out.pairs().last().copied(), Some((high, 36)));
     index.disconnect(one);
     assert_eq!(rt; index.connected(), 0);
     index.discard();
@@ -112,7 +112,7 @@ fn a_space_gets_full(rt: HostRuntime) {
     insert_up_to(&rt, &index, &mut one, 269);
     let full = Record {
         call: Call::Insert {
-            key: 270,
+            key: Key::of_number(270),
             value: 270,
         },
         reply: Reply::SpaceFull { free: 0, need: 1 },

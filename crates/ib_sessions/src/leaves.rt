@@ -77,13 +77,16 @@ fn a_reader_goes_on_to_the_next_leaf(rt: HostRuntime) {
     let before = one.grants_taken().s;
     assert!(rt; before < 1000);
     let mut mtr = Mtr::start(index.latches(), &mut one);
-    assert_eq!(rt; leaf_and_next(&rt, &mut mtr, 5), (2, Some(3)));
+    assert_eq!(rt;
+        leaf_and_next(&rt, &mut mtr, Key::of_number(5)),
+        (2, Some(3))
+    );
     assert!(rt; mtr.image(2).is_none());
     assert!(rt; mtr.image(3).is_some());
     assert_eq!(rt; mtr.commit_read(), 36);
     assert_eq!(rt; one.grants_taken().s, before + 4);
     let mut mtr = Mtr::start(index.latches(), &mut one);
-    assert_eq!(rt; leaf_and_next(&rt, &mut mtr, 36), (3, None));
+    assert_eq!(rt; leaf_and_next(&rt, &mut mtr, Key::of_number(36)), (3, None));
     assert!(rt; mtr.image(3).is_some());
     assert_eq!(rt; mtr.commit_read(), 36);
     index.disconnect(one);

@@ -12,7 +12,7 @@ use ib_index::Index;
 use ib_latch::{NoSleep, Sleep, TryFault};
 use ib_layout::Geometry;
 use ib_levels::{Latch, Level};
-use ib_map::{Call, Record, Reply};
+use ib_map::{Call, Key, Record, Reply};
 use ib_mtr::Mtr;
 use ib_rule::Pass;
 use ib_word::LockWord;
@@ -49,7 +49,7 @@ fn leave<S: Sleep>(rt: &impl Abort, index: &mut Index<S>, pass: Pass)
     index.disconnect(pass);
 }
 
-fn not_found(key: u64) -> Record {
+fn not_found(key: Key) -> Record {
     Record {
         call: Call::Get { key },
         reply: Reply::NotFound,
@@ -61,12 +61,19 @@ fn not_found(key: u64) -> Record {
 fn a_lookup_takes_the_index_and_the_root(rt: HostRuntime) {
     let mut index: Index = smallest(&rt, rt.alloc());
     let mut one = come(&rt, rt.alloc(), &mut index);
+    let five = Key::of_number(5);
     may_call(&rt, &one);
-    assert_eq!(rt; index.get(&rt, &mut one, 5), not_found(5));
+    assert_eq!(rt; index.get(&rt, &mut one, five), not_found(five));
     may_call(&rt, &one);
-    assert_eq!(rt; index.get(&rt, &mut one, 0), not_found(0));
+    assert_eq!(rt;
+        index.get(&rt, &mut one, Key::least()),
+        not_found(Key::least())
+    );
     may_call(&rt, &one);
-    assert_eq!(rt; index.get(&rt, &mut one, u64::MAX), not_found(u64::MAX));
+    assert_eq!(rt;
+        index.get(&rt, &mut one, Key::greatest()),
+        not_found(Key::greatest())
+    );
     let taken = one.grants_taken();
     assert_eq!(rt; (taken.s, taken.sx, taken.x), (6, 0, 0));
     index.disconnect(one);
@@ -120,13 +127,14 @@ fn who_does_not_wait_is_told_what_is_in_the_way(rt: HostRuntime) {
         latch: ROOT,
         word: LockWord(0),
     };
-    assert_eq!(rt; index.get_nowait(&mut two, 5), Err(busy));
+    assert_eq!(rt; index.get_nowait(&mut two, Key::of_number(5)), Err(busy));
     assert_eq!(rt; two.grants_taken().s, 1);
     may_call(&rt, &two);
     assert_eq!(rt; index_word(&rt, &index, &mut two), LockWord(536_870_912));
     leave_root(&rt, &index, &mut one);
     may_call(&rt, &two);
-    assert_eq!(rt; index.get_nowait(&mut two, 5), Ok(not_found(5)));
+    let five = Key::of_number(5);
+    assert_eq!(rt; index.get_nowait(&mut two, five), Ok(not_found(five)));
     leave(&rt, &mut index, one);
     leave(&rt, &mut index, two);
     assert_eq!(rt; index.connected(), 0);
@@ -145,7 +153,7 @@ fn a_descent_that_does_not_wait_is_refused_beside_a_writer(rt: HostRuntime) {
         latch: ROOT,
         word: LockWord(0),
     };
-    match descend_nowait(&mut mtr, 5) {
+    match descend_nowait(&mut mtr, Key::of_number(5)) {
         Ok(_) => panic!(rt; "the root is owned by another"),
         Err(fault) => assert_eq!(rt; fault, busy),
     }
@@ -155,7 +163,7 @@ fn a_descent_that_does_not_wait_is_refused_beside_a_writer(rt: HostRuntime) {
     leave_root(&rt, &index, &mut one);
     may_call(&rt, &two);
     let mut mtr = Mtr::start(index.latches(), &mut two);
-    match descend_nowait(&mut mtr, 5) {
+    match descend_nowait(&mut mtr, Key::of_number(5)) {
         Ok(path) => assert_eq!(rt; path.pages(), [1].as_slice()),
         Err(_) => panic!(rt; "nobody is in the way"),
     }

@@ -3,7 +3,7 @@
 ghost use Rattle.std.specs.Prelude.{◌≡◌, ◌<◌};
 
 use ib_index::Index;
-use ib_map::PAGE_WORDS;
+use ib_map::{Key, PAGE_WORDS};
 use ib_page::{Image, SpaceImage};
 use ib_rule::Closed;
 use std::alloc::Global;
@@ -35,13 +35,14 @@ pub(crate) fn leaf(
     let mut page = Image::leaf(clock);
     page.set_links(prev, next);
     for key in low..=high {
-        page.insert(key, key).expect(rt, "there is room");
+        page.insert(Key::of_number(key), key)
+            .expect(rt, "there is room");
     }
     page
 }
 
 // A node of level 1 with these records.
-pub(crate) fn node(rt: &impl Abort, clock: u64, records: &[(u64, u64)]) -> Image {
+pub(crate) fn node(rt: &impl Abort, clock: u64, records: &[(Key, u64)]) -> Image {
     let mut page = Image::node(1, clock);
     for (key, child) in records {
         page.insert(*key, *child).expect(rt, "there is room");

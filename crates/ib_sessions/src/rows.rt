@@ -6,7 +6,7 @@ ghost use Rattle.ib_rule.specs.Pass.{IsOf};
 
 use crate::space::{come, delete, get, insert, open, scan_keys};
 use ib_index::Index;
-use ib_map::{Call, Chunk, Chunks, Record, Reply};
+use ib_map::{Call, Chunk, Chunks, Key, Record, Reply};
 use ib_rule::Pass;
 use ib_scan::More;
 use std::process::Abort;
@@ -32,7 +32,10 @@ pub(crate) fn insert_up_to<R: Abort + Wait>(rt: &R, index: &Index, pass: &mut Pa
 
 pub(crate) fn inserted(key: u64, value: u64, place: u32) -> Record {
     Record {
-        call: Call::Insert { key, value },
+        call: Call::Insert {
+            key: Key::of_number(key),
+            value,
+        },
         reply: Reply::Inserted,
         place,
     }
@@ -40,7 +43,9 @@ pub(crate) fn inserted(key: u64, value: u64, place: u32) -> Record {
 
 pub(crate) fn deleted(key: u64, value: u64, place: u32) -> Record {
     Record {
-        call: Call::Delete { key },
+        call: Call::Delete {
+            key: Key::of_number(key),
+        },
         reply: Reply::Deleted { value },
         place,
     }
@@ -48,7 +53,9 @@ pub(crate) fn deleted(key: u64, value: u64, place: u32) -> Record {
 
 pub(crate) fn missing(key: u64, place: u32) -> Record {
     Record {
-        call: Call::Delete { key },
+        call: Call::Delete {
+            key: Key::of_number(key),
+        },
         reply: Reply::Missing,
         place,
     }
@@ -61,7 +68,10 @@ fn a_full_leaf_is_changed_alone(rt: HostRuntime) {
     let mut one = come(&rt, rt.alloc(), &mut index);
     insert_up_to(&rt, &index, &mut one, 35);
     let there = Record {
-        call: Call::Insert { key: 3, value: 9 },
+        call: Call::Insert {
+            key: Key::of_number(3),
+            value: 9,
+        },
         reply: Reply::Duplicate,
         place: 35,
     };
@@ -82,16 +92,18 @@ fn a_scan_waits_for_room(rt: HostRuntime) {
     let mut index = open(&rt, rt.alloc(), 16384);
     let mut one = come(&rt, rt.alloc(), &mut index);
     insert_up_to(&rt, &index, &mut one, 18);
+    let low = Key::of_number(1);
+    let high = Key::of_number(36);
     let mut out = Chunks::with_room(rt.alloc(), 1, 4).expect(&rt, "there is memory");
     assert_eq!(rt;
-        scan_keys(&rt, &index, &mut one, 1, 36, &mut out),
-        Err(More { next: 1 })
+        scan_keys(&rt, &index, &mut one, low, high, &mut out),
+        Err(More { next: low })
     );
     assert!(rt; out.list().is_empty());
     assert_eq!(rt; out.room(), (1, 4));
     out.reserve(1, 18).expect(&rt, "there is memory");
     let whole = Record {
-        call: Call::Scan { low: 1, high: 36 },
+        call: Call::Scan { low, high },
         reply: Reply::Scanned {
             chunks: 1,
             pairs: 18,
@@ -99,20 +111,20 @@ fn a_scan_waits_for_room(rt: HostRuntime) {
         place: 18,
     };
     assert_eq!(rt;
-        scan_keys(&rt, &index, &mut one, 1, 36, &mut out),
+        scan_keys(&rt, &index, &mut one, low, high, &mut out),
         Ok(whole)
     );
     let chunk = Chunk {
-        low: 1,
-        high: 36,
+        low,
+        high,
         place: 18,
         start: 0,
         len: 18,
     };
     assert_eq!(rt; out.list(), [chunk].as_slice());
     assert_eq!(rt; out.pairs().len(), 18);
-    assert_eq!(rt; out.pairs().first().copied(), Some((1, 1)));
-    assert_eq!(rt; out.pairs().last().copied(), Some((18, 18)));
+    assert_eq!(rt; out.pairs().first().copied(), Some((low, 1)));
+    assert_eq!(rt; out.pairs().last().copied(), Some((Key::of_number(18), 18)));
     assert_eq!(rt; out.room(), (0, 0));
     index.disconnect(one);
     assert_eq!(rt; index.connected(), 0);
@@ -128,29 +140,39 @@ fn a_log_has_room_for_one_entry(rt: HostRuntime) {
         inserted(10, 100, 0)
     );
     let full = Reply::LogFull {
-        used: 20,
+        used: 23,
         cap: 8196,
     };
     let refused = Record {
-        call: Call::Insert { key: 11, value: 1 },
+        call: Call::Insert {
+            key: Key::of_number(11),
+            value: 1,
+        },
         reply: full,
         place: 1,
     };
     assert_eq!(rt; insert(&rt, &index, &mut one, 11, 1), refused);
     let kept = Record {
-        call: Call::Delete { key: 10 },
+        call: Call::Delete {
+            key: Key::of_number(10),
+        },
         reply: full,
         place: 1,
     };
     assert_eq!(rt; delete(&rt, &index, &mut one, 10), kept);
     let there = Record {
-        call: Call::Insert { key: 10, value: 3 },
+        call: Call::Insert {
+            key: Key::of_number(10),
+            value: 3,
+        },
         reply: Reply::Duplicate,
         place: 1,
     };
     assert_eq!(rt; insert(&rt, &index, &mut one, 10, 3), there);
     let found = Record {
-        call: Call::Get { key: 10 },
+        call: Call::Get {
+            key: Key::of_number(10),
+        },
         reply: Reply::Found { value: 100 },
         place: 1,
     };

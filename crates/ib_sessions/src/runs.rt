@@ -6,9 +6,10 @@ ghost use Rattle.ib_rule.specs.Pass.{IsOf};
 ghost use Rattle.ib_rule.specs.Views.{nothing_seen, no_grants};
 ghost use Rattle.ib_script.specs.Script.{IsSmall};
 
+use crate::space::key;
 use ib_index::Index;
 use ib_layout::Geometry;
-use ib_map::{Call, Record, Reply};
+use ib_map::{Call, Key, Record, Reply};
 use ib_rule::Pass;
 use ib_runs::{OpenGate, SessionOut, run_script, run_session};
 use ib_script::{PlainLines, Script, read_script};
@@ -38,12 +39,19 @@ fn a_session_sees_its_own_changes(rt: HostRuntime) {
     let mut pass = come(&rt, rt.alloc(), &mut index);
     let mut out = SessionOut::new(rt.alloc());
     let insert = Call::Insert {
-        key: 10,
+        key: Key::of_number(10),
         value: 100,
     };
-    let get = Call::Get { key: 10 };
-    let delete = Call::Delete { key: 10 };
-    let back = Call::Scan { low: 5, high: 3 };
+    let get = Call::Get {
+        key: Key::of_number(10),
+    };
+    let delete = Call::Delete {
+        key: Key::of_number(10),
+    };
+    let back = Call::Scan {
+        low: Key::of_number(5),
+        high: Key::of_number(3),
+    };
     run_session(
         &rt,
         &index,
@@ -88,11 +96,64 @@ fn sessions_share_an_index(rt: HostRuntime) {
     let ran = run_script(&rt, rt.alloc(), &script, &OpenGate).expect(&rt, "there is memory");
     assert_eq!(rt; ran.sessions.len(), 3);
     assert_eq!(rt; ran.history.len(), 2);
-    assert_eq!(rt; ran.map.get(1), Some(10));
-    assert_eq!(rt; ran.map.get(3), Some(30));
+    let three = key(&rt, b"3");
+    assert_eq!(rt; ran.map.get(key(&rt, b"1")), Some(10));
+    assert_eq!(rt; ran.map.get(three), Some(30));
     let third = ran.sessions[2].chunks();
-    assert_eq!(rt; third.pairs(), [(3, 30)].as_slice());
+    assert_eq!(rt; third.pairs(), [(three, 30)].as_slice());
     assert!(rt; ran.sessions[1].records().is_empty());
+}
+
+#[test]
+fn the_least_and_the_greatest_key(rt: HostRuntime) {
+    let text =
+        b"space 16 16384\ninsert x:ffffffffffffffffffffffffffffff 1\ninsert x: 2\nscan x: x:ffffffffffffffffffffffffffffff\nscan 5 3\n";
+    let script = script(&rt, rt.alloc(), text);
+    let ran = run_script(&rt, rt.alloc(), &script, &OpenGate).expect(&rt, "there is memory");
+    assert_eq!(rt; ran.sessions.len(), 1);
+    let least = Key::least();
+    let greatest = Key::greatest();
+    let first = Call::Insert {
+        key: greatest,
+        value: 1,
+    };
+    let second = Call::Insert {
+        key: least,
+        value: 2,
+    };
+    let all = Call::Scan {
+        low: least,
+        high: greatest,
+    };
+    let back = Call::Scan {
+        low: key(&rt, b"5"),
+        high: key(&rt, b"3"),
+    };
+    let records = [
+        record(first, Reply::Inserted, 0),
+        record(second, Reply::Inserted, 1),
+        record(
+            all,
+            Reply::Scanned {
+                chunks: 1,
+                pairs: 2,
+            },
+            2,
+        ),
+        record(
+            back,
+            Reply::Scanned {
+                chunks: 0,
+                pairs: 0,
+            },
+            2,
+        ),
+    ];
+    assert_eq!(rt; ran.sessions[0].records(), records.as_slice());
+    let chunks = ran.sessions[0].chunks();
+    assert_eq!(rt; chunks.pairs(), [(least, 2), (greatest, 1)].as_slice());
+    assert_eq!(rt; ran.map.get(least), Some(2));
+    assert_eq!(rt; ran.map.get(greatest), Some(1));
 }
 
 // Inserts up to one more than a leaf has room for, and then deletes that merge the two leaves again and inserts that
@@ -101,12 +162,12 @@ fn splits_and_merges(rt: &impl Abort, alloc: Global, log_words: u32) -> Script
     ensures { IsSmall result }
 {
     let mut text = format!(in alloc; "space 16 {log_words}\n").expect(rt, "there is memory");
-    for key in 1..37 {
+    for key in 10..46 {
         let line = format!(in alloc; "insert {key} {key}\n").expect(rt, "there is memory");
         text.push_str(line.as_str()).expect(rt, "there is memory");
     }
     for _ in 0..4 {
-        text.push_str("delete 1\ndelete 2\ninsert 1 1\ninsert 2 2\n")
+        text.push_str("delete 10\ndelete 11\ninsert 10 10\ninsert 11 11\n")
             .expect(rt, "there is memory");
     }
     let bytes = text.as_bytes();
@@ -123,8 +184,8 @@ fn tells_full(records: &[Record]) -> bool {
 
 #[test]
 fn a_first_log_that_gets_full(rt: HostRuntime) {
-    // Both are run on a log of 10,692 words first, which gets full. The first script has a longer one.
-    for (log_words, is_full) in [(20_000, false), (10_692, true)] {
+    // Both are run on a log of 10,900 words first, which gets full. The first script has a longer one.
+    for (log_words, is_full) in [(20_000, false), (10_900, true)] {
         let script = splits_and_merges(&rt, rt.alloc(), log_words);
         let ran = run_script(&rt, rt.alloc(), &script, &OpenGate).expect(&rt, "there is memory");
         assert_eq!(rt; ran.sessions.len(), 1);

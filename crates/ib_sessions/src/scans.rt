@@ -7,7 +7,7 @@ ghost use Rattle.ib_rule.specs.Views.{no_grants};
 
 use ib_latch::Latches;
 use ib_layout::Geometry;
-use ib_map::{Call, Chunk, Chunks, Record, Reply};
+use ib_map::{Call, Chunk, Chunks, Key, Record, Reply};
 use ib_rule::Pass;
 use ib_scan::{More, scan};
 use ib_tree::TreeLaw;
@@ -33,7 +33,10 @@ fn come(rt: &impl Abort, alloc: Global, table: &mut Latches<TreeLaw>) -> Pass
 
 fn scanned(low: u64, high: u64, chunks: u32) -> Record {
     Record {
-        call: Call::Scan { low, high },
+        call: Call::Scan {
+            low: Key::of_number(low),
+            high: Key::of_number(high),
+        },
         reply: Reply::Scanned { chunks, pairs: 0 },
         place: 0,
     }
@@ -44,11 +47,18 @@ fn an_empty_tree_has_one_empty_chunk(rt: HostRuntime) {
     let mut table = smallest(&rt, rt.alloc());
     let mut one = come(&rt, rt.alloc(), &mut table);
     let mut out = Chunks::with_room(rt.alloc(), 1, 0).expect(&rt, "there is memory");
-    let answer = scan(&rt, &table, &mut one, 3, 5, &mut out);
+    let answer = scan(
+        &rt,
+        &table,
+        &mut one,
+        Key::of_number(3),
+        Key::of_number(5),
+        &mut out,
+    );
     assert_eq!(rt; answer, Ok(scanned(3, 5, 1)));
     let chunk = Chunk {
-        low: 3,
-        high: 5,
+        low: Key::of_number(3),
+        high: Key::of_number(5),
         place: 0,
         start: 0,
         len: 0,
@@ -65,7 +75,14 @@ fn from_a_key_to_a_lower_one_there_is_none(rt: HostRuntime) {
     let mut table = smallest(&rt, rt.alloc());
     let mut one = come(&rt, rt.alloc(), &mut table);
     let mut out = Chunks::with_room(rt.alloc(), 1, 0).expect(&rt, "there is memory");
-    let answer = scan(&rt, &table, &mut one, 5, 3, &mut out);
+    let answer = scan(
+        &rt,
+        &table,
+        &mut one,
+        Key::of_number(5),
+        Key::of_number(3),
+        &mut out,
+    );
     assert_eq!(rt; answer, Ok(scanned(5, 3, 0)));
     assert_eq!(rt; out.list(), [].as_slice());
     assert_eq!(rt; one.grants_taken().s, 0);
@@ -79,8 +96,20 @@ fn a_chunk_takes_a_place(rt: HostRuntime) {
     let mut table = smallest(&rt, rt.alloc());
     let mut one = come(&rt, rt.alloc(), &mut table);
     let mut out = Chunks::with_room(rt.alloc(), 0, 0).expect(&rt, "there is memory");
-    let answer = scan(&rt, &table, &mut one, 3, 5, &mut out);
-    assert_eq!(rt; answer, Err(More { next: 3 }));
+    let answer = scan(
+        &rt,
+        &table,
+        &mut one,
+        Key::of_number(3),
+        Key::of_number(5),
+        &mut out,
+    );
+    assert_eq!(rt;
+        answer,
+        Err(More {
+            next: Key::of_number(3)
+        })
+    );
     assert_eq!(rt; out.list(), [].as_slice());
     table.disconnect(one);
     assert_eq!(rt; table.connected(), 0);

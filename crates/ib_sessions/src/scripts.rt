@@ -1,26 +1,37 @@
 //! Scripts read, and the first bad line of each kind.
 
+use crate::space::key;
 use ib_edge::{LineKind, ScriptFault};
-use ib_map::Call;
+use ib_map::{Call, Key};
 use ib_script::{Load, PlainLines, generate, read_script};
 use std::alloc::{AllocError, Global};
 
 #[test]
 fn reads_the_commands_of_each_session(rt: HostRuntime) -> Result<(), ScriptFault> {
     let text =
-        b"# two sessions\n\nspace 16 8196\nget 5\nsession 3\ninsert 18446744073709551615 0\n#\nsession 1\ndelete 7\nsession 3\nscan 2 9";
+        b"# two sessions\n\nspace 16 8196\nget 5\nsession 3\ninsert x:ffffffffffffffffffffffffffffff 0\n#\nsession 1\ndelete 7\nsession 3\nscan 2 9";
     let script = read_script::<PlainLines>(rt.alloc(), text)?;
     let geometry = script.geometry();
     assert_eq!(rt; (geometry.pages(), geometry.log_words()), (16, 8196));
     assert_eq!(rt; script.sessions(), 3);
-    let first = [Call::Get { key: 5 }, Call::Delete { key: 7 }];
+    let first = [
+        Call::Get {
+            key: key(&rt, b"5"),
+        },
+        Call::Delete {
+            key: key(&rt, b"7"),
+        },
+    ];
     assert_eq!(rt; script.commands(1), first.as_slice());
     let third = [
         Call::Insert {
-            key: u64::MAX,
+            key: Key::greatest(),
             value: 0,
         },
-        Call::Scan { low: 2, high: 9 },
+        Call::Scan {
+            low: key(&rt, b"2"),
+            high: key(&rt, b"9"),
+        },
     ];
     assert_eq!(rt; script.commands(3), third.as_slice());
     for session in [0, 2, 4, u32::MAX] {
@@ -53,13 +64,16 @@ fn first_bad(alloc: Global, text: &[u8]) -> Option<(u32, LineKind)> {
 
 #[test]
 fn tells_the_first_bad_line(rt: HostRuntime) {
-    let rows: [(&[u8], u32, LineKind); 14] = [
+    let rows: [(&[u8], u32, LineKind); 17] = [
         (b"get 1\nput 1 2\nget", 2, LineKind::Word),
         (b"# a blank\n\n \n", 3, LineKind::Word),
         (b"get 1 2", 1, LineKind::Fields),
         (b"get 1\n#\nscan 1\n", 3, LineKind::Fields),
         (b"insert 1 2 ", 1, LineKind::Fields),
-        (b"delete 01", 1, LineKind::Number),
+        (b"insert 1 01", 1, LineKind::Number),
+        (b"insert -1 2", 1, LineKind::Key),
+        (b"get 1\ndelete x:31", 2, LineKind::Key),
+        (b"scan x: x:0", 1, LineKind::Key),
         (b"get 1\ninsert 1 18446744073709551616", 2, LineKind::Number),
         (b"session 65", 1, LineKind::Session),
         (b"session 0\n", 1, LineKind::Session),
@@ -83,19 +97,33 @@ fn generates_the_commands_of_each_session(rt: HostRuntime) -> Result<(), AllocEr
     let load = Load::new(7, 1, 2).expect(&rt, "there is such a load");
     let script = generate(rt.alloc(), load)?;
     let first = [
-        Call::Insert { key: 64, value: 0 },
         Call::Insert {
-            key: 2_592_256,
+            key: Key::of_number(64),
+            value: 0,
+        },
+        Call::Insert {
+            key: Key::of_number(2_592_256),
             value: 1,
         },
-        Call::Delete { key: 64 },
-        Call::Delete { key: 2_592_256 },
+        Call::Delete {
+            key: Key::of_number(64),
+        },
+        Call::Delete {
+            key: Key::of_number(2_592_256),
+        },
     ];
     assert_eq!(rt; script.commands(1), first.as_slice());
     let second = [
-        Call::Insert { key: 65, value: 0 },
-        Call::Delete { key: 65 },
-        Call::Delete { key: 2_592_257 },
+        Call::Insert {
+            key: Key::of_number(65),
+            value: 0,
+        },
+        Call::Delete {
+            key: Key::of_number(65),
+        },
+        Call::Delete {
+            key: Key::of_number(2_592_257),
+        },
     ];
     assert_eq!(rt; script.commands(2), second.as_slice());
     assert_eq!(rt; script.sessions(), 2);

@@ -8,12 +8,17 @@ ghost use Rattle.ib_rule.specs.Views.{total};
 use ib_index::Index;
 use ib_latch::Sleep;
 use ib_layout::Geometry;
-use ib_map::{Chunks, Record};
+use ib_map::{Chunks, Key, Record};
 use ib_rule::Pass;
 use ib_scan::{More, scan};
 use std::alloc::Global;
 use std::process::Abort;
 use std::sync::Wait;
+
+// The key of these bytes.
+pub(crate) fn key(rt: &impl Abort, bytes: &[u8]) -> Key {
+    Key::from_bytes(bytes).expect(rt, "it is a key")
+}
 
 // An index on 16 pages, with a log of so many words.
 pub(crate) fn open(rt: &impl Abort, alloc: Global, log_words: u32) -> Index
@@ -70,7 +75,7 @@ pub(crate) fn insert<R: Abort + Wait>(
     ensures scratch { pass.new.has_scratch ≡ true }
 {
     may_call(rt, pass);
-    index.insert(rt, pass, key, value)
+    index.insert(rt, pass, Key::of_number(key), value)
 }
 
 pub(crate) fn delete<R: Abort + Wait>(rt: &R, index: &Index, pass: &mut Pass, key: u64) -> Record
@@ -82,7 +87,7 @@ pub(crate) fn delete<R: Abort + Wait>(rt: &R, index: &Index, pass: &mut Pass, ke
     ensures scratch { pass.new.has_scratch ≡ true }
 {
     may_call(rt, pass);
-    index.delete(rt, pass, key)
+    index.delete(rt, pass, Key::of_number(key))
 }
 
 pub(crate) fn get<R: Abort + Wait>(rt: &R, index: &Index, pass: &mut Pass, key: u64) -> Record
@@ -94,15 +99,15 @@ pub(crate) fn get<R: Abort + Wait>(rt: &R, index: &Index, pass: &mut Pass, key: 
     ensures scratch { pass.new.has_scratch ≡ true }
 {
     may_call(rt, pass);
-    index.get(rt, pass, key)
+    index.get(rt, pass, Key::of_number(key))
 }
 
 pub(crate) fn scan_keys<R: Abort + Wait>(
     rt: &R,
     index: &Index,
     pass: &mut Pass,
-    low: u64,
-    high: u64,
+    low: Key,
+    high: Key,
     out: &mut Chunks,
 ) -> Result<Record, More>
     requires own { IsOf index.now pass.old }

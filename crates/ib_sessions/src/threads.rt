@@ -7,7 +7,7 @@ ghost use Rattle.ib_rule.specs.Pass.{IsOf};
 
 use crate::space::{come, get, insert, open, scan_keys};
 use ib_index::Index;
-use ib_map::{Chunks, Reply};
+use ib_map::{Chunks, Key, Reply};
 use ib_rule::Pass;
 use std::process::Abort;
 use std::sync::Wait;
@@ -66,10 +66,15 @@ fn four_sessions_share_a_leaf(rt: HostRuntime) {
         &mut || pair(&rt, &index, &mut three, &mut four),
     );
     let mut out = Chunks::with_room(rt.alloc(), 1, 35).expect(&rt, "there is memory");
-    let scanned = scan_keys(&rt, &index, &mut one, 0, u64::MAX, &mut out).expect(
+    let scanned = scan_keys(
         &rt,
-        "there is room",
-    );
+        &index,
+        &mut one,
+        Key::least(),
+        Key::greatest(),
+        &mut out,
+    )
+    .expect(&rt, "there is room");
     assert_eq!(rt; scanned.place, 32);
     assert_eq!(rt;
         scanned.reply,

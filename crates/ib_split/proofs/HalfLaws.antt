@@ -3,7 +3,7 @@ use Rattle.std.proofs.Common.{◌≡◌, ◌∙◌, ℕ, zero, suc, ◌+◌, ◌
 use Rattle.std.specs.Prelude.{◌↔◌, List, Result, Ok, Err, OnOk, IsSome, IsNone}
 use Rattle.std.proofs.lemmas.Bool.{cases_Bool}
 use Rattle.std.proofs.Common.{inl, inr}
-use Rattle.ib_map.specs.Keys.{MapKey, IsKey, rank, end_rank}
+use Rattle.ib_map.specs.Keys.{MapKey, rank, end_rank, least}
 use Rattle.ib_map.specs.Pairs.{Pairs, Rises, put, place_of, value_at}
 use Rattle.ib_heap.specs.declared.TheConstants.{MOST_RECORDS}
 use Rattle.ib_heap.specs.declared.fault.PageFault.{PageFault}
@@ -14,7 +14,6 @@ use Rattle.ib_page.specs.Form.{page_of}
 use Rattle.ib_page.specs.Page.{PageValue, HoldsTree, page_in}
 use Rattle.ib_page.specs.Page.PageValue.{Malformed, Free, Tree}
 use Rattle.ib_page.specs.Image.{records_of, value_with_records, with_links, with_level, value_with_clock}
-use Rattle.ib_map.specs.declared.key.TheConstants.{LEAST}
 use Rattle.ib_map.proofs.KeyLaws.{rank-least, rank-lt_end}
 use Rattle.ib_map.proofs.PairLaws.{length-put, Rises-put}
 use Rattle.ib_plans.specs.declared.TheConstants.{LEFT_RECORDS}
@@ -158,10 +157,10 @@ module _ (key : MapKey) (value : ℕ) (xs : Pairs) (full : length xs ≡ MOST_RE
   pub right_part-some : 0 < length (right_part (put key value xs))
   right_part-some = let p = length-put key value xs in let d = length-drop LEFT_RECORDS (put key value xs) in omega arith
 
-  pub right_part-above : IsKey key → value_at key xs ≡ None → Rises 0 xs end_rank → rank LEAST < rank (first_key (right_part (put key value xs)))
-  right_part-above is_key absent rises =
+  pub right_part-above : value_at key xs ≡ None → Rises 0 xs end_rank → rank least < rank (first_key (right_part (put key value xs)))
+  right_part-above absent rises =
       let p = length-put key value xs in
-      let r = Rises-put key value 0 xs end_rank rises (omega arith) (rank-lt_end key is_key) absent in
+      let r = Rises-put key value 0 xs end_rank rises (omega arith) (rank-lt_end key) absent in
       let d = first_key-drop 0 LEFT_RECORDS (put key value xs) end_rank r (omega arith) in
       let z = rank-least in omega arith
 

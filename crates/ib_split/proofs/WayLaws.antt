@@ -46,7 +46,7 @@ full_run-same a b (p ∷ ps) same = let here = same.0 in let rest = full_run-sam
 -- the pages of the path of a work set that agrees with a memory
 module _ (pages roots root : ℕ) (key : MapKey) (path : List ℕ) (work : List WorkPage) (m : PageMemory) (bits : ℕ → ℕ) (agrees : Agrees pages roots root key path work m bits) where
   pub in-range : rank key < end_rank
-  in-range = rank-lt_end key agrees.is_key
+  in-range = rank-lt_end key
 
   pub path-length : length path ≡ suc (height_of m root)
   path-length = ap length agrees.way ∙ length-way_down m key (height_of m root) root

@@ -1,7 +1,7 @@
 //! A page that has one record too many, as two halves (`btr_page_get_split_rec`, `btr_attach_half_pages`).
 
 ghost use Rattle.std.specs.Prelude.{◌≡◌, ◌≢◌, ◌<◌, ◌^◌, ◌+◌, ◌-◌, ◌==◌, ◌↔◌, if◌then◌else◌, [], ◌∷◌, length, None, IsNone, IsSome, OnOk};
-ghost use Rattle.ib_map.specs.Keys.{rank};
+ghost use Rattle.ib_map.specs.Keys.{rank, least};
 ghost use Rattle.ib_map.specs.Pairs.{put, place_of, value_at};
 ghost use Rattle.ib_heap.specs.declared.TheConstants.{MOST_LEVEL, MOST_RECORDS};
 ghost use Rattle.ib_heap.specs.Filled.{filled};
@@ -15,7 +15,7 @@ ghost use Rattle.ib_plans.specs.Split.{left_part, right_part, first_key, lower_h
 ghost use Rattle.ib_plans.specs.Agreement.{tick};
 ghost use Rattle.ib_split.specs.Inserts.{with_record};
 
-use ib_map::{Key, LEAST};
+use ib_map::Key;
 use ib_page::{Image, PageFault};
 use ib_plans::LEFT_RECORDS;
 
@@ -95,7 +95,7 @@ fn give_children(root: &mut Image, left: u32, first: Key, right: u32)
     requires tree { IsTreePage root.old }
     requires empty { records_of root.old ≡ [] }
     requires empty_heap { read_heap root.old ≡ filled 0 }
-    requires above { rank LEAST < rank first }
+    requires above { rank least < rank first }
     requires lowest { level_of root.old < MOST_LEVEL }
     requires no_prev { prev_of root.old ≡ 0 }
     requires no_next { next_of root.old ≡ 0 }
@@ -105,12 +105,12 @@ fn give_children(root: &mut Image, left: u32, first: Key, right: u32)
       prev = 0;
       next = 0;
       clock = clock_of root.old + 1;
-      records = (LEAST, left) ∷ (first, right) ∷ [];
+      records = (least, left) ∷ (first, right) ∷ [];
     }) }
     ensures heap { read_heap root.new ≡ filled 2 }
 {
     root.set_level(root.level() + 1);
-    let _ = root.insert(LEAST, left as u64);
+    let _ = root.insert(Key::least(), left as u64);
     let _ = root.insert(first, right as u64);
     root.touch();
 }

@@ -4,15 +4,20 @@ ghost use Rattle.std.specs.Prelude.{◌≡◌, ◌++◌};
 ghost use Rattle.ib_edge.specs.Writer.{Puts};
 ghost use Rattle.ib_text.specs.Keys.{key_in, key_text, pair_text};
 
-use ib_edge::{LineKind, Sink, Writer, number_in};
+use crate::spelling::{hex_key, is_plain_key, plain_key, print_hex, print_plain};
+use ib_edge::{LineKind, Sink, Writer};
 use ib_map::Key;
 
-/// The key that a field is; `Number` where it is none.
+/// The key that a field is: its bytes, 1 to 15 letters, digits, `_` or `.`; or `x:` and two hexadecimal digits, with small
+/// letters, for each byte, where the key is not written so. `Key` where it is none. So each key has one text.
 #[tactic(auto, unfolding(crate::specs::Keys::key_in))]
 pub fn key_in(field: &[u8]) -> Result<Key, LineKind>
     ensures { result ≡ key_in field.now }
 {
-    number_in(field)
+    match field {
+        [b'x', b':', digits @ ..] => hex_key(digits),
+        _ => plain_key(field),
+    }
 }
 
 /// A key.
@@ -20,7 +25,12 @@ pub fn key_in(field: &[u8]) -> Result<Key, LineKind>
 pub fn print_key<K: Sink>(writer: &mut Writer<'_, K>, key: Key)
     ensures puts { Puts K.written K.faults writer.old writer.new (key_text key) }
 {
-    writer.number(key);
+    if is_plain_key(key) {
+        print_plain(writer, key);
+    } else {
+        writer.text(b"x:");
+        print_hex(writer, key);
+    }
 }
 
 // A key and its value.

@@ -8,6 +8,7 @@ mod map_part;
 mod record_part;
 mod session_part;
 mod span_part;
+mod spelling;
 
 pub use key::{key_in, print_key};
 pub use laws::key_text_law;

@@ -6,7 +6,7 @@ ghost use Rattle.ib_text.specs.Output.{map_line, map_text};
 
 use crate::key::print_pair;
 use ib_edge::{Sink, Writer};
-use ib_map::{GREATEST, Key, LEAST, PlainMap};
+use ib_map::{Key, PlainMap};
 
 // `K V` on a line.
 fn print_map_line<K: Sink>(writer: &mut Writer<'_, K>, key: Key, value: u64)
@@ -37,5 +37,5 @@ pub fn print_map<K: Sink>(writer: &mut Writer<'_, K>, pairs: &[(Key, u64)])
 pub fn all_pairs(map: &PlainMap) -> &[(Key, u64)]
     ensures { result.now ≡ map.now }
 {
-    map.range(LEAST, GREATEST)
+    map.range(Key::least(), Key::greatest())
 }

@@ -62,7 +62,7 @@ module _ (pages roots : ℕ) (some : 0 < roots) (opening : ℕ → ℕ) (opens :
   rises-front = subst (λ xs. Rises 0 xs end_rank) content (Rises-content_of m 1 tree)
 
   rises : Rises 0 target end_rank
-  rises = subst (λ xs. Rises 0 xs end_rank) (sym (map_of-push front e)) (IsMap-effect_of (map_of front) e.change rises-front given.grammar.key)
+  rises = subst (λ xs. Rises 0 xs end_rank) (sym (map_of-push front e)) (IsMap-effect_of (map_of front) e.change rises-front)
 
   elsewhere : (lo hi : ℕ) → IsOutside (key_of e.change) lo hi → slice target lo hi ≡ slice (content_of m 1) lo hi
   elsewhere lo hi out =
@@ -109,6 +109,6 @@ module _ (pages roots : ℕ) (some : 0 < roots) (opening : ℕ → ℕ) (opens :
           space = λ w. entry.lawful.space;
           patch = found.1;
           content = IsSliced-content_of (writes_page e) m new same 1 tree low (fresh_of ps found.0 1) grounded level (key_of e.change) target rises elsewhere
-              (rank-lt_end (key_of e.change) given.grammar.key) now differs entry.content;
+              (rank-lt_end (key_of e.change)) now differs entry.content;
         },
       )

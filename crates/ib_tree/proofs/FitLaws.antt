@@ -2,7 +2,7 @@
 use Rattle.std.proofs.Common.{◌≡◌, ℕ, ◌<◌, ◌≤◌, List, [], ◌∷◌, ◌++◌, Some, take, length, ap, sym, subst, ◌∙◌, arith, inl, inr, refl}
 use Rattle.std.specs.List.{AllByRecursion}
 use Rattle.std.proofs.lemmas.List.{take-append-le}
-use Rattle.ib_map.specs.Keys.{MapKey, IsKey, rank, key_after}
+use Rattle.ib_map.specs.Keys.{MapKey, rank, key_after}
 use Rattle.ib_map.specs.Pairs.{Pairs, cut}
 use Rattle.ib_map.specs.History.{History, map_after}
 use Rattle.ib_map.specs.Replies.{Span, FullRecord, Fits, BeginsAt, AreChunks, FitsScan, pair_count}
@@ -143,7 +143,7 @@ lower_floor h low high floor (span ∷ []) end are = (begins_low h low floor spa
 lower_floor h low high floor (span ∷ next ∷ spans) end are = (begins_low h low floor span are.0, are.1, are.2, are.3)
 
 -- over a log whose first tree has at each place what the map has there
-module _ (space : TreeSpace) (log : List Entry) (content : (n : ℕ) → n ≤ length log → content_of (tree_at space log n) 1 ≡ map_after (history_of log) n) (high : MapKey) (is_key : IsKey high) where
+module _ (space : TreeSpace) (log : List Entry) (content : (n : ℕ) → n ≤ length log → content_of (tree_at space log n) 1 ≡ map_after (history_of log) n) (high : MapKey) where
   begins_at : (low : MapKey) (floor : ℕ) (span : Span) → rank low ≤ rank high → IsReadAt space.opening log 1 low high floor span → BeginsAt (history_of log) low floor span
   begins_at low floor span le read =
       let bounds = IsChunk-bounds (tree_at space log span.place) 1 low high span.high span.pairs le read.chunk in
@@ -175,7 +175,7 @@ module _ (space : TreeSpace) (log : List Entry) (content : (n : ℕ) → n ≤ l
   chunks_with low next floor between [] last end le are read to placed =
       (begins_at low floor last le (subst (λ n. IsReadAt space.opening log 1 low high n last) are.1 (subst (λ key. IsReadAt space.opening log 1 key high between last) are.0 read)), to, placed)
   chunks_with low next floor between (span ∷ front) last end le are read to placed =
-      let up = (after-least_above span.high are.2.0 high is_key are.2.1).0 are.1 in
+      let up = (after-least_above span.high are.2.0 high are.2.1).0 are.1 in
       chunk_before low are.2.0 floor span (front ++ last ∷ []) end (begins_at low floor span le are.0) are.1 are.2.1
       (chunks_with are.2.0 next span.place between front last end up are.2.2 read to placed)
 

@@ -36,15 +36,15 @@ is_refused (SpaceFull free need) = true
 is_refused TooHigh = true
 is_refused _ = false
 
--- the longest entry
-abbrev pub most_entry_words : ℕ
-most_entry_words = HEAD_WORDS + 2 * MOST_WRITES
+-- so much of the log an append asks for: a word more than the longest entry has
+abbrev pub entry_room : ℕ
+entry_room = HEAD_WORDS + 2 * MOST_WRITES + 1
 
--- the log has no room for it behind the entries before the place
+-- the log has less left behind the entries before the place
 pub record IsLogFull (space : TreeSpace) (log : List Entry) (place words cap : ℕ) : Type 0 where
   pub words_are : words ≡ used (take place log)
   pub cap_is : cap ≡ space.log_words
-  pub short : space.log_words < words + most_entry_words
+  pub short : space.log_words < words + entry_room
 
 -- an insert of the key that was refused: the tree cannot grow higher, else the space has too few free pages, else the log has no room
 abbrev pub FitsInsert : TreeSpace → List Entry → MapKey → Reply → ℕ → Type 0

@@ -2,7 +2,7 @@
 //! page is met afterwards.
 
 ghost use Rattle.std.specs.Prelude.{◌≡◌, ◌≢◌, ℕ, ◌+◌, ◌*◌, ◌<◌, ◌≤◌, Bool, true, false, List, [], ◌∷◌, ◌++◌, Some, length, take};
-ghost use Rattle.ib_map.specs.Keys.{MapKey, IsKey, rank, end_rank};
+ghost use Rattle.ib_map.specs.Keys.{MapKey, rank, end_rank};
 ghost use Rattle.ib_map.specs.History.{map_after};
 ghost use Rattle.ib_map.specs.Map.{answer_of, is_made};
 ghost use Rattle.ib_map.specs.Replies.{Span, FullRecord, change_of, pair_count, AreChunks};
@@ -92,11 +92,11 @@ pub fn fits_law()
     // Where the first tree has at each place what the map has there.
     ensures chunks { (space : TreeSpace) (log : List Entry) (low high : MapKey) (floor : ℕ) (spans : List Span) (end : ℕ)
         → ((n : ℕ) → n ≤ length log → content_of (tree_at space log n) 1 ≡ map_after (history_of log) n)
-        → IsKey high → rank low ≤ rank high → AreWhole space.opening log 1 low high floor spans end
+        → rank low ≤ rank high → AreWhole space.opening log 1 low high floor spans end
         → AreChunks (history_of log) low high floor spans end }
     ensures scan { (space : TreeSpace) (log : List Entry) (session reach : ℕ) (low high : MapKey) (floor : ℕ) (spans : List Span) (end : ℕ)
         → ((n : ℕ) → n ≤ length log → content_of (tree_at space log n) 1 ≡ map_after (history_of log) n)
-        → IsKey high → rank low ≤ rank high → AreWhole space.opening log 1 low high floor spans end
+        → rank low ≤ rank high → AreWhole space.opening log 1 low high floor spans end
         → FitsLog space log session reach (record {
           call = Scan low high;
           reply = Scanned (length spans) (pair_count spans);
@@ -115,7 +115,7 @@ pub fn refusal_law()
         → FitsLog space log session reach r → is_refused r.reply ≡ true
         → (change : Change) × (change_of r.call ≡ Some change)
         × (is_made (answer_of (map_after (history_of log) r.place) change) ≡ true) × (r.spans ≡ []) }
-    // A full log tells how many words stand before the place, and of how many: the longest entry has no room there.
+    // A full log tells how many words stand before the place, and of how many: fewer than 8,196 are left.
     ensures full { (space : TreeSpace) (log : List Entry) (session reach words cap : ℕ) (r : FullRecord)
         → FitsLog space log session reach r → r.reply ≡ LogFull words cap
         → (words ≡ used (take r.place log)) × (cap ≡ space.log_words) × (cap < words + 8196) }

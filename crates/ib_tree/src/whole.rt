@@ -12,7 +12,7 @@ ghost use Rattle.ib_tree.specs.PageLists.{is_below, pages_below};
 ghost use Rattle.ib_tree.specs.Tests.{root_positions};
 ghost use Rattle.ib_tree.specs.WholeTest.{AreLow, PassesAllPages};
 
-use ib_map::{LEAST, LEAST_PAGES, MOST_PAGES, PAGE_WORDS};
+use ib_map::{Key, LEAST_PAGES, MOST_PAGES, PAGE_WORDS};
 use ib_page::{Image, SpaceImage};
 use ib_patch::{PagePosition, all_pass, reading, space_page, visit_levels};
 
@@ -172,7 +172,7 @@ fn meet_opening(table: &mut [Option<PagePosition>], roots: u32)
         table[root as usize] = Some(PagePosition {
             tree: root,
             height: 0,
-            low: LEAST,
+            low: Key::least(),
             high: None,
         });
     }
@@ -189,7 +189,7 @@ fn meet_roots(table: &mut [Option<PagePosition>], memory: &[Image], roots: u32)
         table[root as usize] = Some(PagePosition {
             tree: root,
             height: reading::level(&memory[root as usize]),
-            low: LEAST,
+            low: Key::least(),
             high: None,
         });
     }

@@ -1,7 +1,7 @@
 -- A work set with images of a lawful memory agrees with it.
 use Rattle.std.proofs.Common.{◌≡◌, ◌∙◌, ℕ, suc, ◌+◌, ◌-◌, ◌<◌, ◌≤◌, ◌^◌, List, [], ◌∷◌, ◌++◌, length, append_assoc, refl, sym, ap, subst, Option, Some, None, arith}
 use Rattle.std.specs.Prelude.{IfSome, IsSome}
-use Rattle.ib_map.specs.Keys.{MapKey, IsKey}
+use Rattle.ib_map.specs.Keys.{MapKey}
 use Rattle.ib_map.specs.declared.TheConstants.{MOST_PAGES}
 use Rattle.ib_page.specs.Form.{page_of}
 use Rattle.ib_page.specs.Memory.{word_at}
@@ -53,13 +53,12 @@ image-at memory None there at = absurd (cc)
 image-at memory (Some image) there at = ap Some (sym at.is)
 
 module _ (memory : List (List ℕ)) (key : MapKey) (path : List ℕ) (work : List WorkPage) (read : IsRead memory key path work) where
-  pub agrees-read : length memory ≤ MOST_PAGES → IsKey key → Agrees (length memory) 1 1 key path work (memory_of memory) (bits_of (length memory) (word_at memory))
-  agrees-read few is_key = record {
+  pub agrees-read : length memory ≤ MOST_PAGES → Agrees (length memory) 1 1 key path work (memory_of memory) (bits_of (length memory) (word_at memory))
+  agrees-read few = record {
     lawful = read.lawful.law;
     few = omega arith;
     some = omega arith;
     within = omega arith;
-    is_key = is_key;
     way = read.way;
     same = λ page ne there. same-at memory page (changed_of page work) there (read.read page);
     space = bits-at memory (changed_of 0 work) read.lawful (read.read 0);

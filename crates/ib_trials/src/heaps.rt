@@ -2,6 +2,7 @@
 
 ghost use Rattle.ib_heap.specs.Image.{IsTreePage};
 
+use crate::keys::key;
 use ib_heap::{
     MOST_RECORDS, PageFault, child_in, copy_between, count, empty_leaf_word, empty_page, find,
     free_page, get, is_formed, level, move_tail, put, record_at, set_links, take,
@@ -37,18 +38,19 @@ fn differing(before: &[u64; PAGE_WORDS], after: &[u64; PAGE_WORDS]) -> usize {
 }
 
 #[test]
-fn one_insert_writes_seven_words(rt: HostRuntime) -> Result<(), Fail> {
+fn one_insert_writes_eight_words(rt: HostRuntime) -> Result<(), Fail> {
     let empty = empty_page(0, 0);
     let mut words = empty;
-    put(&mut words, 10, 100)?;
+    put(&mut words, key(10), 100)?;
     assert_eq!(rt; words[2], 1);
-    assert_eq!(rt; words[7], 535);
+    assert_eq!(rt; words[7], 536);
     assert_eq!(rt; words[18], 276);
     assert_eq!(rt; words[19], 512);
     assert_eq!(rt; words[20], 19);
     assert_eq!(rt; words[21], 10);
-    assert_eq!(rt; words[22], 100);
-    assert_eq!(rt; differing(&empty, &words), 7);
+    assert_eq!(rt; words[22], 8);
+    assert_eq!(rt; words[23], 100);
+    assert_eq!(rt; differing(&empty, &words), 8);
     Ok(())
 }
 
@@ -57,8 +59,8 @@ fn eight() -> [u64; PAGE_WORDS]
     ensures { IsTreePage result }
 {
     let mut words = empty_page(0, 0);
-    for key in 1..9 {
-        let _ = put(&mut words, key, key);
+    for number in 1..9 {
+        let _ = put(&mut words, key(number), number);
     }
     words
 }
@@ -67,41 +69,42 @@ fn eight() -> [u64; PAGE_WORDS]
 fn a_slot_of_nine_is_split(rt: HostRuntime) {
     let words = eight();
     assert_eq!(rt; words[2], 8);
-    assert_eq!(rt; words[7], 812);
+    assert_eq!(rt; words[7], 820);
     assert_eq!(rt; words[8], 18);
-    assert_eq!(rt; words[9], 29);
+    assert_eq!(rt; words[9], 32);
     assert_eq!(rt; words[10], 19);
     assert_eq!(rt; words[18], 276);
     assert_eq!(rt; words[19], 1280);
-    assert_eq!(rt; words[29], 1056);
-    assert_eq!(rt; words[41], 19);
+    assert_eq!(rt; words[32], 1060);
+    assert_eq!(rt; words[48], 19);
 }
 
 #[test]
 fn a_removed_place_is_taken_again(rt: HostRuntime) -> Result<(), Fail> {
     let mut words = eight();
-    assert_eq!(rt; take(&mut words, 4), Ok(4));
+    assert_eq!(rt; take(&mut words, key(4)), Ok(4));
     assert_eq!(rt; words[2], 7);
-    assert_eq!(rt; words[6], 29);
-    assert_eq!(rt; words[7], 812);
-    assert_eq!(rt; words[9], 32);
+    assert_eq!(rt; words[6], 32);
+    assert_eq!(rt; words[7], 820);
+    assert_eq!(rt; words[9], 36);
     assert_eq!(rt; words[19], 1024);
-    assert_eq!(rt; words[26], 32);
-    assert_eq!(rt; words[29], 0);
-    assert_eq!(rt; words[32], 1059);
-    put(&mut words, 4, 9)?;
+    assert_eq!(rt; words[28], 36);
+    assert_eq!(rt; words[32], 0);
+    assert_eq!(rt; words[36], 1064);
+    put(&mut words, key(4), 9)?;
     assert_eq!(rt; words[2], 8);
     assert_eq!(rt; words[6], 0);
-    assert_eq!(rt; words[26], 29);
-    assert_eq!(rt; words[29], 32);
-    assert_eq!(rt; words[30], 4);
-    assert_eq!(rt; words[31], 9);
-    assert_eq!(rt; words[32], 1315);
+    assert_eq!(rt; words[28], 32);
+    assert_eq!(rt; words[32], 36);
+    assert_eq!(rt; words[33], 4);
+    assert_eq!(rt; words[34], 8);
+    assert_eq!(rt; words[35], 9);
+    assert_eq!(rt; words[36], 1320);
     Ok(())
 }
 
 // One word of the leaf below, as it must not be: its number, and what it holds.
-const FAULTS: [(usize, u64); 34] = [
+const FAULTS: [(usize, u64); 36] = [
     // The kind, the level, the links, the number of records.
     (0, 2),
     (1, 8),
@@ -112,38 +115,40 @@ const FAULTS: [(usize, u64); 34] = [
     (2, 6),
     // The free list: a place is in neither list, in both, or none.
     (6, 0),
-    (6, 23),
-    (6, 30),
-    (29, 20),
-    (29, 256),
+    (6, 24),
+    (6, 33),
+    (32, 20),
+    (32, 256),
     // The top: a place in neither list, or one above it; a slot too many, or too few.
-    (7, 815),
-    (7, 809),
-    (7, 813),
-    (7, 1068),
-    (7, 556),
+    (7, 824),
+    (7, 816),
+    (7, 821),
+    (7, 1076),
+    (7, 564),
     // The directory: the infimum's slot, a slot that is another's or none, the supremum's, and what is behind it.
     (8, 20),
-    (9, 35),
+    (9, 40),
     (9, 0),
     (10, 20),
     (11, 19),
     // The infimum owns itself alone, and the chain goes on from it to the supremum, with all records.
     (18, 532),
-    (18, 279),
+    (18, 280),
     (19, 1280),
     (19, 1044),
-    (20, 26),
-    (41, 20),
+    (20, 28),
+    (48, 20),
     // What the slots own: one too many, or a record that owns no slot.
-    (32, 1315),
-    (35, 294),
+    (36, 1320),
+    (40, 300),
     // Keys ascend.
-    (24, 1),
-    (24, 9),
-    // The last words are 0.
-    (125, 1),
-    (127, 1),
+    (25, 1),
+    (25, 3),
+    (25, 9),
+    // Their words are those of keys: of 16 bytes they are not, nor where one of the bytes behind the last is not 0.
+    (26, 16),
+    (26, 0x108),
+    (26, 7),
 ];
 
 // Whether a page is formed with this word in place of its own.
@@ -160,10 +165,14 @@ fn one_wrong_word_is_refused(rt: HostRuntime) {
     let mut words = eight();
     assert_eq!(rt; level(&words), 0);
     set_links(&mut words, 5, 6);
-    let _ = take(&mut words, 4);
+    let _ = take(&mut words, key(4));
     assert!(rt; is_formed(&words));
-    assert!(rt; is_formed_with(&words, 30, 77));
-    assert!(rt; is_formed_with(&words, 124, 77));
+    // Words of the free place, and words that no place was ever in, may hold anything.
+    for index in [33, 34, 35, 52, 159] {
+        assert!(rt; is_formed_with(&words, index, 77));
+    }
+    // The key of 2 with a zero byte behind it stands before that of 3, too.
+    assert!(rt; is_formed_with(&words, 26, 9));
     for (index, word) in FAULTS.iter() {
         assert!(rt; !is_formed_with(&words, *index, *word));
     }
@@ -184,7 +193,7 @@ fn full() -> [u64; PAGE_WORDS]
 {
     let mut words = empty_page(0, 0);
     for number in 1..36 {
-        let _ = put(&mut words, 2 * number, number);
+        let _ = put(&mut words, key(2 * number), number);
     }
     words
 }
@@ -193,21 +202,21 @@ fn full() -> [u64; PAGE_WORDS]
 fn each_key_is_found(rt: HostRuntime) {
     let words = full();
     for number in 0..35usize {
-        let key = 2 * number as u64 + 2;
-        assert_eq!(rt; find(&words, key), Ok(number));
-        assert_eq!(rt; find(&words, key - 1), Err(number));
-        assert_eq!(rt; get(&words, key), Some(key / 2));
-        assert_eq!(rt; get(&words, key - 1), None);
+        let twice = 2 * number as u64 + 2;
+        assert_eq!(rt; find(&words, key(twice)), Ok(number));
+        assert_eq!(rt; find(&words, key(twice - 1)), Err(number));
+        assert_eq!(rt; get(&words, key(twice)), Some(twice / 2));
+        assert_eq!(rt; get(&words, key(twice - 1)), None);
     }
-    assert_eq!(rt; find(&words, 71), Err(35));
+    assert_eq!(rt; find(&words, key(71)), Err(35));
 }
 
 #[test]
 fn a_full_page_refuses(rt: HostRuntime) {
     let mut words = full();
-    assert_eq!(rt; put(&mut words, 71, 1), Err(PageFault::PageFull));
-    assert_eq!(rt; put(&mut words, 70, 1), Err(PageFault::Duplicate));
-    assert_eq!(rt; take(&mut words, 71), Err(PageFault::Missing));
+    assert_eq!(rt; put(&mut words, key(71), 1), Err(PageFault::PageFull));
+    assert_eq!(rt; put(&mut words, key(70), 1), Err(PageFault::Duplicate));
+    assert_eq!(rt; take(&mut words, key(71)), Err(PageFault::Missing));
 }
 
 // The child of a key, where the first record is not above it.
@@ -223,10 +232,10 @@ fn child(rt: &impl Abort, words: &[u64], key: Key) -> u64
 #[test]
 fn a_key_is_led_to_its_child(rt: HostRuntime) {
     let words = full();
-    assert_eq!(rt; child(&rt, &words, 2), 1);
-    assert_eq!(rt; child(&rt, &words, 3), 1);
-    assert_eq!(rt; child(&rt, &words, 41), 20);
-    assert_eq!(rt; child(&rt, &words, 99), 35);
+    assert_eq!(rt; child(&rt, &words, key(2)), 1);
+    assert_eq!(rt; child(&rt, &words, key(3)), 1);
+    assert_eq!(rt; child(&rt, &words, key(41)), 20);
+    assert_eq!(rt; child(&rt, &words, key(99)), 35);
 }
 
 #[test]
@@ -237,12 +246,22 @@ fn cuts_and_joins(rt: HostRuntime) {
     move_tail(&mut left, 20, &mut right);
     assert_eq!(rt; count(&left), 20);
     assert_eq!(rt; count(&right), 15);
-    assert_eq!(rt; record_at(&right, 0), (42, 21));
-    assert_eq!(rt; left[7] % 256, 80);
-    assert_eq!(rt; right[7] % 256, 65);
-    let mut out = [(0, 0); MOST_RECORDS];
-    assert_eq!(rt; copy_between(&right, 43, 50, &mut out), 4);
-    assert_eq!(rt; out[0], (44, 22));
+    assert_eq!(rt; record_at(&right, 0), (key(42), 21));
+    assert_eq!(rt; left[7] % 256, 100);
+    assert_eq!(rt; right[7] % 256, 80);
+    let mut out = [(key(0), 0); MOST_RECORDS];
+    assert_eq!(rt; copy_between(&right, key(43), key(50), &mut out), 4);
+    assert_eq!(rt; out[0], (key(44), 22));
+}
+
+// Inserts a record where it fits and its key is not there, and takes the key out where not.
+fn put_or_take(words: &mut [u64; PAGE_WORDS], key: Key, value: u64)
+    requires { IsTreePage words.old }
+    ensures { IsTreePage words.new }
+{
+    if put(words, key, value).is_err() {
+        let _ = take(words, key);
+    }
 }
 
 #[test]
@@ -253,10 +272,8 @@ fn many_changes_leave_a_page(rt: HostRuntime) {
         seed = seed
             .wrapping_mul(6364136223846793005)
             .wrapping_add(1442695040888963407);
-        let key = (seed >> 33) % 60;
-        if put(&mut words, key, seed).is_err() {
-            let _ = take(&mut words, key);
-        }
+        let one = key((seed >> 33) % 60);
+        put_or_take(&mut words, one, seed);
         assert!(rt; is_formed(&words));
     }
     assert!(rt; count(&words) > 20);

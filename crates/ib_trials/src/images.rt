@@ -3,6 +3,7 @@
 ghost use Rattle.std.specs.Prelude.{◌≡◌};
 ghost use Rattle.ib_heap.specs.Image.{IsTreePage};
 
+use crate::keys::key;
 use ib_map::{Key, is_below};
 use ib_page::{
     Image, MAPPED_PAGES, MOST_RECORDS, PageFault, Path, SpaceImage, WorkSet, child_in, level_in,
@@ -16,8 +17,8 @@ fn counts_the_words_that_differ(rt: HostRuntime) -> Result<(), Fail> {
     let mut work = WorkSet::with_room(rt.alloc())?;
     work.add(3, &Image::leaf(0));
     assert_eq!(rt; work.changed(), 0);
-    work.edit(3).insert(10, 100)?;
-    assert_eq!(rt; work.changed(), 7);
+    work.edit(3).insert(key(10), 100)?;
+    assert_eq!(rt; work.changed(), 8);
     assert!(rt; work.image(4).is_none());
     Ok(())
 }
@@ -27,9 +28,9 @@ fn counts_the_clock(rt: HostRuntime) -> Result<(), Fail> {
     let mut work = WorkSet::with_room(rt.alloc())?;
     work.add(3, &Image::leaf(0));
     let image = work.edit(3);
-    image.insert(10, 100)?;
+    image.insert(key(10), 100)?;
     image.touch();
-    assert_eq!(rt; work.changed(), 8);
+    assert_eq!(rt; work.changed(), 9);
     Ok(())
 }
 
@@ -44,7 +45,7 @@ fn writes_the_words_that_differ(rt: HostRuntime) -> Result<(), Fail> {
     let written = work.write_into(&mut out);
     assert_eq!(rt; written.count, 1);
     assert!(rt; !written.structural);
-    assert_eq!(rt; out[0], 389);
+    assert_eq!(rt; out[0], 485);
     assert_eq!(rt; out[2], 0);
     Ok(())
 }
@@ -55,6 +56,18 @@ fn a_new_space_has_its_pages(rt: HostRuntime) {
     assert_eq!(rt; opening_word(1, 0), 1);
     assert!(rt; SpaceImage::from_image(&opening_image(0)).is_formed(16));
     assert!(rt; opening_image(1).is_formed());
+}
+
+#[test]
+fn page_0_ends_with_zeros(rt: HostRuntime) {
+    let mut image = opening_image(0);
+    image.set_word(64, 7);
+    assert!(rt; SpaceImage::from_image(&image).is_formed(16));
+    for index in [65, 128, 159] {
+        let mut other = image;
+        other.set_word(index, 7);
+        assert!(rt; !SpaceImage::from_image(&other).is_formed(16));
+    }
 }
 
 #[test]
@@ -69,12 +82,12 @@ fn a_path_has_its_pages(rt: HostRuntime) {
 #[test]
 fn a_full_page_refuses(rt: HostRuntime) -> Result<(), Fail> {
     let mut leaf = Image::leaf(0);
-    for key in 1..36 {
-        leaf.insert(key, key)?;
+    for number in 1..36 {
+        leaf.insert(key(number), number)?;
     }
-    assert_eq!(rt; leaf.insert(36, 1), Err(PageFault::PageFull));
-    assert_eq!(rt; leaf.insert(35, 1), Err(PageFault::Duplicate));
-    assert_eq!(rt; leaf.remove(99), Err(PageFault::Missing));
+    assert_eq!(rt; leaf.insert(key(36), 1), Err(PageFault::PageFull));
+    assert_eq!(rt; leaf.insert(key(35), 1), Err(PageFault::Duplicate));
+    assert_eq!(rt; leaf.remove(key(99)), Err(PageFault::Missing));
     assert!(rt; leaf.is_formed());
     Ok(())
 }
@@ -82,29 +95,29 @@ fn a_full_page_refuses(rt: HostRuntime) -> Result<(), Fail> {
 #[test]
 fn any_order_gives_the_same_records(rt: HostRuntime) -> Result<(), Fail> {
     let mut rising = Image::leaf(0);
-    for key in 1..36 {
-        rising.insert(key, key)?;
+    for number in 1..36 {
+        rising.insert(key(number), number)?;
     }
     let mut mixed = Image::leaf(0);
-    for key in 1..36 {
-        mixed.insert(key * 7 % 37, key * 7 % 37)?;
+    for number in 1..36 {
+        mixed.insert(key(number * 7 % 37), number * 7 % 37)?;
     }
     assert_eq!(rt; rising.len(), 35);
     assert_eq!(rt; mixed.len(), 35);
-    let mut all = [(0, 0); MOST_RECORDS];
-    let mut some = [(0, 0); MOST_RECORDS];
-    assert_eq!(rt; rising.copy_between(7, 30, &mut all), 24);
-    assert_eq!(rt; mixed.copy_between(7, 30, &mut some), 23);
-    assert_eq!(rt; all[0], (7, 7));
-    assert_eq!(rt; rising.get(30), Some(30));
+    let mut all = [(key(0), 0); MOST_RECORDS];
+    let mut some = [(key(0), 0); MOST_RECORDS];
+    assert_eq!(rt; rising.copy_between(key(7), key(30), &mut all), 24);
+    assert_eq!(rt; mixed.copy_between(key(7), key(30), &mut some), 23);
+    assert_eq!(rt; all[0], (key(7), 7));
+    assert_eq!(rt; rising.get(key(30)), Some(30));
     Ok(())
 }
 
 #[test]
 fn cuts_and_joins(rt: HostRuntime) -> Result<(), Fail> {
     let mut left = Image::leaf(0);
-    for key in 1..36 {
-        left.insert(key, key)?;
+    for number in 1..36 {
+        left.insert(key(number), number)?;
     }
     assert_eq!(rt; left.len(), 35);
     let mut none = Image::leaf(0);
@@ -115,7 +128,7 @@ fn cuts_and_joins(rt: HostRuntime) -> Result<(), Fail> {
     left.cut(18, &mut right);
     assert_eq!(rt; left.len(), 18);
     assert_eq!(rt; right.len(), 17);
-    assert_eq!(rt; right.record_at(0), (19, 19));
+    assert_eq!(rt; right.record_at(0), (key(19), 19));
     let mut all = Image::leaf(0);
     right.cut(0, &mut all);
     assert!(rt; right.is_empty());
@@ -158,13 +171,13 @@ fn child(rt: &impl Abort, image: &mut Image, key: Key) -> u64
 #[test]
 fn a_key_is_led_to_its_child(rt: HostRuntime) -> Result<(), Fail> {
     let mut image = Image::node(1, 0);
-    image.insert(0, 7)?;
-    image.insert(10, 8)?;
-    image.insert(20, 9)?;
+    image.insert(key(0), 7)?;
+    image.insert(key(10), 8)?;
+    image.insert(key(20), 9)?;
     assert_eq!(rt; level_in(&mut image), 1);
-    assert_eq!(rt; child(&rt, &mut image, 0), 7);
-    assert_eq!(rt; child(&rt, &mut image, 9), 7);
-    assert_eq!(rt; child(&rt, &mut image, 10), 8);
-    assert_eq!(rt; child(&rt, &mut image, 21), 9);
+    assert_eq!(rt; child(&rt, &mut image, key(0)), 7);
+    assert_eq!(rt; child(&rt, &mut image, key(9)), 7);
+    assert_eq!(rt; child(&rt, &mut image, key(10)), 8);
+    assert_eq!(rt; child(&rt, &mut image, key(21)), 9);
     Ok(())
 }

@@ -15,6 +15,8 @@ mod images;
 #[cfg(test)]
 mod kept;
 #[cfg(test)]
+mod keys;
+#[cfg(test)]
 mod maps;
 #[cfg(test)]
 mod memories;

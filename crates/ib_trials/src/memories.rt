@@ -2,7 +2,8 @@
 
 ghost use Rattle.std.specs.Prelude.{◌<◌, ◌≤◌, length};
 
-use ib_map::{GREATEST, LEAST, LEAST_PAGES, MOST_PAGES, OutOfMemory, PAGE_WORDS, PlainMap};
+use crate::keys::key;
+use ib_map::{Key, LEAST_PAGES, MOST_PAGES, OutOfMemory, PAGE_WORDS, PlainMap};
 use ib_page::{Image, opening_image};
 use ib_tree::{check_tree, content_of};
 use std::alloc::Global;
@@ -38,19 +39,19 @@ fn page(words: &[(usize, u64)]) -> Image {
     image
 }
 
-// A leaf with one record.
-fn leaf(prev: u32, next: u32, key: u64, value: u64) -> Image {
+// A leaf with one record, of the key of a number.
+fn leaf(prev: u32, next: u32, number: u64, value: u64) -> Image {
     let mut image = Image::leaf(0);
     image.set_links(prev, next);
-    let _ = image.insert(key, value);
+    let _ = image.insert(key(number), value);
     image
 }
 
-// A node over leaf 2, and over leaf 3 from this key on.
-fn node(key: u64) -> Image {
+// A node over leaf 2, and over leaf 3 from the key of a number on.
+fn node(number: u64) -> Image {
     let mut image = Image::node(1, 0);
-    let _ = image.insert(LEAST, 2);
-    let _ = image.insert(key, 3);
+    let _ = image.insert(Key::least(), 2);
+    let _ = image.insert(key(number), 3);
     image
 }
 
@@ -92,7 +93,10 @@ fn a_bit_of_a_page_that_is_not_met_is_refused(rt: HostRuntime) -> Result<(), Fai
 #[test]
 fn a_root_over_two_leaves_is_lawful(rt: HostRuntime) -> Result<(), Fail> {
     match content(rt.alloc(), &raised_root(2), 1, 1)? {
-        Some(map) => assert_eq!(rt; map.range(LEAST, GREATEST), [(3, 0), (7, 5)].as_slice()),
+        Some(map) => assert_eq!(rt;
+            map.range(Key::least(), Key::greatest()),
+            [(key(3), 0), (key(7), 5)].as_slice()
+        ),
         None => assert!(rt; false),
     }
     Ok(())
@@ -111,7 +115,10 @@ fn a_second_root_is_another_tree(rt: HostRuntime) -> Result<(), Fail> {
     pages[2] = leaf(0, 0, 4, 6);
     assert!(rt; !check_tree(&pages, 1));
     match content(rt.alloc(), &pages, 2, 2)? {
-        Some(map) => assert_eq!(rt; map.range(LEAST, GREATEST), [(4, 6)].as_slice()),
+        Some(map) => assert_eq!(rt;
+            map.range(Key::least(), Key::greatest()),
+            [(key(4), 6)].as_slice()
+        ),
         None => assert!(rt; false),
     }
     Ok(())

@@ -15,7 +15,7 @@ ghost use Rattle.ib_plans.specs.Merge.{siblings_of};
 ghost use Rattle.ib_plans.specs.Agreement.{memory_in, way_of, HasTreePages, IsThere};
 ghost use Rattle.ib_trials.specs.Reads.{IsReadFrom};
 
-use ib_map::{Key, PAGE_WORDS};
+use ib_map::{Key, PAGE_WORDS, is_below};
 use ib_merge::{Beside, records_beside};
 use ib_page::{Image, Kind, MOST_WORK_PAGES, Path, WorkSet};
 use ib_patch::reading;
@@ -97,7 +97,7 @@ pub(crate) fn is_node_for(image: &Image, key: Key) -> bool
         return false;
     }
     let (first, _) = image.record_at(0);
-    first <= key
+    !is_below(key, first)
 }
 
 // Whether the words are those of a page of a tree.

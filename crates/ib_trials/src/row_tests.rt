@@ -1,10 +1,11 @@
-//! Two leaves below a raised root, and their merge; a path that is full to the highest root, and a space with one free page.
+//! Two leaves below a raised root, and their merge; fourteen leaves in a full space; a path that is full to the highest root, and a space with one free page.
 
 ghost use Rattle.std.specs.Prelude.{◌+◌, ◌<◌, ◌≤◌, ◌^◌};
 ghost use Rattle.ib_heap.specs.declared.TheConstants.{MOST_LEVEL};
 ghost use Rattle.ib_page.specs.Image.{IsTreePage};
 
 use crate::changes::check_path;
+use crate::keys::key;
 use crate::trial::{Shape, Trial};
 use ib_map::{Key, OutOfMemory};
 use ib_page::{Image, MOST_LEVEL, MOST_PATH, MOST_RECORDS, Path, WorkSet, opening_image};
@@ -19,22 +20,22 @@ use std::test::Fail;
 fn two_leaves(rt: &impl Abort, alloc: Global) -> Result<Trial, OutOfMemory> {
     let mut trial = Trial::new(rt, alloc, 16)?;
     for n in 0..36 {
-        trial.insert(rt, n + 1, n + 1);
+        trial.insert(rt, key(n + 1), n + 1);
     }
     trial.compare(rt, alloc)?;
     Ok(trial)
 }
 
-// Whether the records of a page are so many, of the keys from this one on, with values equal to keys.
-fn has_keys(image: &Image, first: Key, count: usize) -> bool
+// Whether the records of a page are so many, of the numbers from this one on, with values equal to them.
+fn has_keys(image: &Image, first: u64, count: usize) -> bool
     requires { first + count < 2 ^ 32 }
 {
     if reading::count(image) != count {
         return false;
     }
     for place in 0..count {
-        let key = first + place as u64;
-        if reading::record_at(image, place) != (key, key) {
+        let number = first + place as u64;
+        if reading::record_at(image, place) != (key(number), number) {
             return false;
         }
     }
@@ -62,8 +63,8 @@ fn inserts_of_1_to_36(rt: HostRuntime) -> Result<(), Fail> {
     );
     let root = trial.page(&rt, 1);
     assert!(rt; reading::count(root) == 2);
-    assert_eq!(rt; reading::record_at(root, 0), (0, 2));
-    assert_eq!(rt; reading::record_at(root, 1), (19, 3));
+    assert_eq!(rt; reading::record_at(root, 0), (Key::least(), 2));
+    assert_eq!(rt; reading::record_at(root, 1), (key(19), 3));
     assert!(rt; has_keys(trial.page(&rt, 2), 1, 18));
     assert_eq!(rt; links(trial.page(&rt, 2)), Some((0, 3)));
     assert!(rt; has_keys(trial.page(&rt, 3), 19, 18));
@@ -74,9 +75,9 @@ fn inserts_of_1_to_36(rt: HostRuntime) -> Result<(), Fail> {
 #[test]
 fn deletes_of_36_and_35(rt: HostRuntime) -> Result<(), Fail> {
     let mut trial = two_leaves(&rt, rt.alloc())?;
-    trial.delete(&rt, 36);
+    trial.delete(&rt, key(36));
     assert!(rt; has_keys(trial.page(&rt, 3), 19, 17));
-    trial.delete(&rt, 35);
+    trial.delete(&rt, key(35));
     trial.compare(&rt, rt.alloc())?;
     assert_eq!(rt;
         trial.shape(&rt),
@@ -90,6 +91,49 @@ fn deletes_of_36_and_35(rt: HostRuntime) -> Result<(), Fail> {
     Ok(())
 }
 
+// The digit of a number below 10.
+fn digit(number: u64) -> u8
+    requires { number < 10 }
+{
+    b'0' + number as u8
+}
+
+// The key of the letter `k` and the three digits of a number.
+fn key_of_digits(number: u64) -> Key
+    requires { number < 1000 }
+{
+    let bytes = [
+        b'k',
+        digit(number / 100),
+        digit(number / 10 % 10),
+        digit(number % 10),
+    ];
+    Key::from_bytes(&bytes).unwrap_or(Key::least())
+}
+
+#[test]
+fn inserts_of_k001_to_k270(rt: HostRuntime) -> Result<(), Fail> {
+    let mut trial = Trial::new(&rt, rt.alloc(), 16)?;
+    for number in 1..270 {
+        trial.insert(&rt, key_of_digits(number), number);
+    }
+    let full = Shape {
+        level: 1,
+        root: 14,
+        free: 0,
+    };
+    assert_eq!(rt; (trial.len(), trial.shape(&rt)), (269, full));
+    // A further leaf would be needed.
+    trial.insert(&rt, key_of_digits(270), 270);
+    assert_eq!(rt; (trial.len(), trial.shape(&rt)), (269, full));
+    trial.delete(&rt, key_of_digits(1));
+    assert_eq!(rt; trial.len(), 268);
+    trial.insert(&rt, key_of_digits(1), 5);
+    assert_eq!(rt; (trial.len(), trial.shape(&rt)), (269, full));
+    trial.compare(&rt, rt.alloc())?;
+    Ok(())
+}
+
 // A page at this level with as many records as fit.
 fn full_page(level: u32) -> Image
     requires { level ≤ MOST_LEVEL }
@@ -97,7 +141,7 @@ fn full_page(level: u32) -> Image
 {
     let mut image = Image::empty(level, 0);
     for place in 0..MOST_RECORDS {
-        let _ = image.insert(place as u64, 2);
+        let _ = image.insert(key(place as u64), 2);
     }
     image
 }

@@ -1,5 +1,6 @@
 //! Each shape of a plan: what the tree is like behind a change.
 
+use crate::keys::key;
 use crate::trial::{Shape, Trial};
 use ib_map::OutOfMemory;
 use std::alloc::Global;
@@ -18,7 +19,7 @@ fn grown(rt: &impl Abort, alloc: Global, count: u64) -> Result<Trial, OutOfMemor
 fn grow(rt: &impl Abort, trial: &mut Trial, was: u64, count: u64) {
     for n in was..count {
         assert!(rt; n < 5000);
-        trial.insert(rt, 2 * n + 2, n);
+        trial.insert(rt, key(2 * n + 2), n);
     }
 }
 
@@ -26,7 +27,7 @@ fn grow(rt: &impl Abort, trial: &mut Trial, was: u64, count: u64) {
 fn shrink(rt: &impl Abort, trial: &mut Trial, was: u64, count: u64) {
     for gone in 0..was.saturating_sub(count) {
         assert!(rt; was < 5000);
-        trial.delete(rt, 2 * (was - gone));
+        trial.delete(rt, key(2 * (was - gone)));
     }
 }
 
@@ -87,9 +88,9 @@ fn merges_and_lifts(rt: HostRuntime) -> Result<(), Fail> {
 #[test]
 fn a_first_leaf_is_merged_with_the_one_to_its_right(rt: HostRuntime) -> Result<(), Fail> {
     let mut trial = grown(&rt, rt.alloc(), 72)?;
-    trial.delete(&rt, 2);
+    trial.delete(&rt, key(2));
     assert_eq!(rt; trial.shape(&rt), shape(1, 4, 58));
-    trial.delete(&rt, 4);
+    trial.delete(&rt, key(4));
     assert_eq!(rt; trial.shape(&rt), shape(1, 3, 59));
     trial.compare(&rt, rt.alloc())?;
     Ok(())
@@ -98,13 +99,13 @@ fn a_first_leaf_is_merged_with_the_one_to_its_right(rt: HostRuntime) -> Result<(
 #[test]
 fn a_leaf_beside_long_ones_stays(rt: HostRuntime) -> Result<(), Fail> {
     let mut trial = grown(&rt, rt.alloc(), 90)?;
-    for key in [3, 5, 75, 77] {
-        trial.insert(&rt, key, 0);
+    for number in [3, 5, 75, 77] {
+        trial.insert(&rt, key(number), 0);
     }
-    trial.delete(&rt, 40);
-    trial.delete(&rt, 42);
+    trial.delete(&rt, key(40));
+    trial.delete(&rt, key(42));
     assert_eq!(rt; trial.shape(&rt), shape(1, 5, 57));
-    trial.delete(&rt, 44);
+    trial.delete(&rt, key(44));
     assert_eq!(rt; trial.shape(&rt), shape(1, 4, 58));
     trial.compare(&rt, rt.alloc())?;
     Ok(())
@@ -114,8 +115,8 @@ fn a_leaf_beside_long_ones_stays(rt: HostRuntime) -> Result<(), Fail> {
 fn a_key_that_is_not_there_is_refused(rt: HostRuntime) -> Result<(), Fail> {
     let mut trial = grown(&rt, rt.alloc(), 72)?;
     let was = trial.shape(&rt);
-    trial.delete(&rt, 5);
-    trial.insert(&rt, 6, 1);
+    trial.delete(&rt, key(5));
+    trial.insert(&rt, key(6), 1);
     assert_eq!(rt; trial.shape(&rt), was);
     trial.compare(&rt, rt.alloc())?;
     Ok(())

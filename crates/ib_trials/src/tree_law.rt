@@ -34,6 +34,6 @@ fn opens_with_the_pages_of_a_new_space(rt: HostRuntime) -> Result<(), Fail> {
     assert_eq!(rt; TreeLaw::opening_word(16, 0, 0), 3);
     assert_eq!(rt; TreeLaw::opening_word(16, 1, 0), 1);
     assert_eq!(rt; TreeLaw::opening_word(16, 2, 0), 0);
-    assert_eq!(rt; TreeLaw::opening_word(16, 1, 128), 0);
+    assert_eq!(rt; TreeLaw::opening_word(16, 1, 160), 0);
     Ok(())
 }

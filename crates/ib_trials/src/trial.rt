@@ -4,7 +4,7 @@ ghost use Rattle.std.specs.Prelude.{◌≤◌, length, IsTrue};
 ghost use Rattle.ib_map.specs.declared.TheConstants.{LEAST_PAGES, MOST_PAGES};
 
 use crate::changes;
-use ib_map::{GREATEST, Key, LEAST, LEAST_PAGES, MOST_PAGES, OutOfMemory, PlainMap};
+use ib_map::{Key, LEAST_PAGES, MOST_PAGES, OutOfMemory, PlainMap};
 use ib_page::{Image, SpaceImage, WorkSet, opening_image};
 use ib_patch::reading;
 use ib_plans::TreeFault;
@@ -68,7 +68,8 @@ impl Trial {
         assert!(rt; has_pages(&self.memory));
         assert!(rt; check_tree(&self.memory, 1));
         let content = content_of(alloc, &self.memory, 1)?;
-        assert!(rt; content.range(LEAST, GREATEST) == self.map.range(LEAST, GREATEST));
+        let (low, high) = (Key::least(), Key::greatest());
+        assert!(rt; content.range(low, high) == self.map.range(low, high));
         Ok(())
     }
 

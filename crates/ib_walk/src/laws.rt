@@ -1,7 +1,7 @@
 //! The laws of walks and of lawful memories, as a contract.
 
 ghost use Rattle.std.specs.Prelude.{◌≡◌, ℕ, ◌<◌, ◌≤◌, [], true};
-ghost use Rattle.ib_map.specs.Keys.{MapKey, IsKey, end_rank};
+ghost use Rattle.ib_map.specs.Keys.{MapKey, end_rank};
 ghost use Rattle.ib_map.specs.Pairs.{value_at};
 ghost use Rattle.ib_map.specs.Map.{IsMap};
 ghost use Rattle.ib_map.specs.Space.{has_pages};
@@ -26,9 +26,9 @@ pub fn walk_law()
         → times_met memory roots page ≤ 1 }
     // The path of a key ends at the leaf whose range has it, and the tree has of the key what that leaf has.
     ensures leaf { (memory : PageMemory) (bits : ℕ → ℕ) (roots root : ℕ) (key : MapKey) → IsLawful memory bits roots
-        → 0 < root → root ≤ roots → IsKey key → IsPageFor key (leaves_of memory root) (leaf_for memory key root) }
+        → 0 < root → root ≤ roots → IsPageFor key (leaves_of memory root) (leaf_for memory key root) }
     ensures value { (memory : PageMemory) (bits : ℕ → ℕ) (roots root : ℕ) (key : MapKey) → IsLawful memory bits roots
-        → 0 < root → root ≤ roots → IsKey key
+        → 0 < root → root ≤ roots
         → value_at key (content_of memory root) ≡ value_at key (memory (leaf_for memory key root)).records }
     // The pages of a new space are lawful: one tree, which has no records.
     ensures opening { (pages : ℕ) → has_pages pages ≡ true → IsLawfulMemory pages 1 opening_word }

@@ -62,12 +62,12 @@ fn a_hundred_thousand_scans(rt: HostRuntime) -> Result<(), Fail> {
 }
 
 #[test]
-fn the_greatest_numbers(rt: HostRuntime) -> Result<(), Fail> {
+fn the_greatest_key_and_value(rt: HostRuntime) -> Result<(), Fail> {
     let alloc = rt.alloc();
     accepted(
         &rt,
         alloc,
-        b"space 4096 16777216\nsession 64\ninsert 18446744073709551615 18446744073709551615\n",
+        b"space 4096 16777216\nsession 64\ninsert x:ffffffffffffffffffffffffffffff 18446744073709551615\n",
     )
 }
 

@@ -84,13 +84,13 @@ const ROWS: [(&str, &[u8], Status, &[u8]); 6] = [
     ),
     (
         "replay",
-        b"IBLOG571\0\0\0\0\0\0\0\x10",
+        b"IBLOG572\0\0\0\0\0\0\0\x10",
         Status::Done,
         b"log 0\nmap 0\n",
     ),
     (
         "replay",
-        b"IBLOG571",
+        b"IBLOG572",
         Status::BadLog,
         b"bad log: short at 0\n",
     ),

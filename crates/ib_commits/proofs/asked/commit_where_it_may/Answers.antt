@@ -6,4 +6,4 @@ use Rattle.ib_commits.proofs.asked.commit_where_it_may.Goals as goal
 pub commit-requires-clause-may : goal.commit-requires-clause-may
 commit-requires-clause-may g c =
     let asked = c.may_commit_any.ensures in
-    asked.enough (Insert c.args.key c.args.value) (grammar_push c.args.mtr.latches.now.sizes.pages) c.ranges.key.fits (asked.exact.0 c.if-may_commit_any.true)
+    asked.enough (Insert c.args.key c.args.value) (grammar_push c.args.mtr.latches.now.sizes.pages) (asked.exact.0 c.if-may_commit_any.true)

@@ -9,4 +9,4 @@ pub returns : goal.returns
 returns g c =
     let asked = c.may_commit_any.ensures in
     let may : MayCommitAny c.args.mtr.now.pass.now = asked.exact.0 (search rules) in
-    asked.enough (Insert c.args.key c.args.value) (grammar_push c.args.mtr.now.latches.now.sizes.pages) c.ranges.key.fits may
+    asked.enough (Insert c.args.key c.args.value) (grammar_push c.args.mtr.now.latches.now.sizes.pages) may

@@ -21,13 +21,12 @@ append-requires-clause-may c = λ room.
     let session = ap (λ (v : View). v.session) viewed in
     let own = ap (λ (v : View). v.memory.own) viewed in
     let p : WorkPage = record { page = 3; before = c.args.before.now; changed = c.args.changed.now } in
-    subst (λ (ps : List WorkPage). MayAppend (AreInGrammar c.args.space.now.sizes.pages) c.log_end.new.pass (Insert 10 7) ps) (sym c.requires.work)
-    (may_append_one (record { page = 3; before = c.args.before.now; changed = c.args.changed.now }) c.args.space.now.sizes.pages c.log_end.new.pass 10 7 c.requires.page
+    subst (λ (ps : List WorkPage). MayAppend (AreInGrammar c.args.space.now.sizes.pages) c.log_end.new.pass (Insert c.of_number-key.result 7) ps) (sym c.requires.work)
+    (may_append_one (record { page = 3; before = c.args.before.now; changed = c.args.changed.now }) c.args.space.now.sizes.pages c.log_end.new.pass c.of_number-key.result 7 c.requires.page
     (let n = c.number.ensures.number in let a = c.number.ensures.least in let b = c.number.ensures.most in (omega arith, omega arith))
     (let n = ap length own in let m = c.requires.made in omega arith)
-    (omega arith)
     (subst (λ (ps : List WorkPage). 0 < length (writes_of ps)) c.requires.work c.requires.some)
-    (subst (λ (ps : List WorkPage). length (writes_of ps) ≤ 128) c.requires.work c.requires.few)
+    (subst (λ (ps : List WorkPage). length (writes_of ps) ≤ 160) c.requires.work c.requires.few)
     (ap (λ (a : Session). a.phase) session ∙ c.requires.free)
     (subst (λ a. 0 < x_grants 0 a) (sym session) c.requires.log)
     (subst (λ (v : View). is_watched 0 v.memory.since ≡ true) (sym viewed) (watched_after c.log_end.new.pass.view.memory.seen c.args.pass.now.view 0 (held_by_x 0 c.args.pass.now.view.session c.requires.log)))

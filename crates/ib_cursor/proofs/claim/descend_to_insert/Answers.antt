@@ -16,7 +16,7 @@ use Rattle.ib_cursor.proofs.claim.descend_to_insert.Goals as goal
 pub read_way-way-requires-clause-index : goal.read_way-way-requires-clause-index
 read_way-way-requires-clause-index g c =
     let sizes : Sizes = c.args.mtr.now.latches.now.sizes in
-    let lt = rank-lt_end c.args.key c.ranges.key.fits in
+    let lt = rank-lt_end c.args.key in
     let p : PassState = c.args.mtr.now.pass.now in let q : PassState = c.claim_index.new.mtr.pass.now in
     let idle = none_granted c.args.mtr.now.latches.now p c.requires.mtr c.requires.memo in
     subst (λ (s : Sizes). HasIndex s (g.L.Law.lawful s.pages) q) (sym (ap (λ m. m.now.sizes) c.claim_index.ensures.latches)) (start_index sizes g.L.Trees.ROOTS (g.L.Law.lawful sizes.pages) (by_place g.L.Law.opening sizes.pages) c.shape_of.ensures.shapes c.args.root c.requires.some c.requires.root c.args.key lt [] 0 0 p q q q q idle c.requires.none c.claim_index.ensures.stood c.claim_index.ensures.claimed)
@@ -26,7 +26,7 @@ read_way-way-requires-clause-room g c =
     let gs = c.claim_index.ensures.stood.grants in let a = ap (λ (g : Grants). g.s) gs in let b = ap (λ (g : Grants). g.sx) gs in let d = ap (λ (g : Grants). g.x) gs in let room = c.requires.room in omega arith
 
 pub read_way-way-requires-clause-key : goal.read_way-way-requires-clause-key
-read_way-way-requires-clause-key g c = rank-lt_end c.args.key c.ranges.key.fits
+read_way-way-requires-clause-key g c = rank-lt_end c.args.key
 
 pub take_nodes-requires-clause-room : goal.take_nodes-requires-clause-room
 take_nodes-requires-clause-room g c =
@@ -36,7 +36,7 @@ take_nodes-requires-clause-room g c =
 pub take_nodes-requires-clause-ready : goal.take_nodes-requires-clause-ready
 take_nodes-requires-clause-ready g c =
     let sizes : Sizes = c.args.mtr.now.latches.now.sizes in
-    let lt = rank-lt_end c.args.key c.ranges.key.fits in
+    let lt = rank-lt_end c.args.key in
     let p : PassState = c.args.mtr.now.pass.now in let q : PassState = c.claim_index.new.mtr.pass.now in
     let idle = none_granted c.args.mtr.now.latches.now p c.requires.mtr c.requires.memo in
     let r : PassState = c.read_way-way.new.mtr.pass.now in
@@ -52,7 +52,7 @@ take_nodes-requires-clause-ready g c =
 pub take_leaves-requires-clause-room : goal.take_leaves-requires-clause-room
 take_leaves-requires-clause-room g c =
     let sizes : Sizes = c.args.mtr.now.latches.now.sizes in
-    let lt = rank-lt_end c.args.key c.ranges.key.fits in
+    let lt = rank-lt_end c.args.key in
     let p : PassState = c.args.mtr.now.pass.now in let q : PassState = c.claim_index.new.mtr.pass.now in
     let idle = none_granted c.args.mtr.now.latches.now p c.requires.mtr c.requires.memo in
     let r : PassState = c.read_way-way.new.mtr.pass.now in
@@ -74,7 +74,7 @@ take_leaves-requires-clause-room g c =
 pub take_leaves-requires-clause-ready : goal.take_leaves-requires-clause-ready
 take_leaves-requires-clause-ready g c =
     let sizes : Sizes = c.args.mtr.now.latches.now.sizes in
-    let lt = rank-lt_end c.args.key c.ranges.key.fits in
+    let lt = rank-lt_end c.args.key in
     let p : PassState = c.args.mtr.now.pass.now in let q : PassState = c.claim_index.new.mtr.pass.now in
     let idle = none_granted c.args.mtr.now.latches.now p c.requires.mtr c.requires.memo in
     let r : PassState = c.read_way-way.new.mtr.pass.now in
@@ -94,7 +94,7 @@ take_leaves-requires-clause-ready g c =
 pub returns-clause-claimed : goal.returns-clause-claimed
 returns-clause-claimed g c =
     let sizes : Sizes = c.args.mtr.now.latches.now.sizes in
-    let lt = rank-lt_end c.args.key c.ranges.key.fits in
+    let lt = rank-lt_end c.args.key in
     let p : PassState = c.args.mtr.now.pass.now in let q : PassState = c.claim_index.new.mtr.pass.now in
     let idle = none_granted c.args.mtr.now.latches.now p c.requires.mtr c.requires.memo in
     let r : PassState = c.read_way-way.new.mtr.pass.now in
@@ -120,7 +120,7 @@ returns-clause-claimed g c =
 pub returns-clause-alone : goal.returns-clause-alone
 returns-clause-alone g c =
     let sizes : Sizes = c.args.mtr.now.latches.now.sizes in
-    let lt = rank-lt_end c.args.key c.ranges.key.fits in
+    let lt = rank-lt_end c.args.key in
     let p : PassState = c.args.mtr.now.pass.now in let q : PassState = c.claim_index.new.mtr.pass.now in
     let idle = none_granted c.args.mtr.now.latches.now p c.requires.mtr c.requires.memo in
     let r : PassState = c.read_way-way.new.mtr.pass.now in

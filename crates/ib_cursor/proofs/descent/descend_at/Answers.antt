@@ -3,7 +3,7 @@ use Rattle.ib_map.proofs.KeyLaws.{rank-lt_end}
 use Rattle.ib_cursor.proofs.descent.descend_at.Goals as goal
 
 pub come_to_leaf-path-requires-clause-key : goal.come_to_leaf-path-requires-clause-key
-come_to_leaf-path-requires-clause-key g c = rank-lt_end c.args.key c.ranges.key.fits
+come_to_leaf-path-requires-clause-key g c = rank-lt_end c.args.key
 
 pub load_end-requires-clause-key : goal.load_end-requires-clause-key
-load_end-requires-clause-key g c = rank-lt_end c.args.key c.ranges.key.fits
+load_end-requires-clause-key g c = rank-lt_end c.args.key

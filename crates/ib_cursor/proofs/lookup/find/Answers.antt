@@ -3,4 +3,4 @@ use Rattle.ib_map.proofs.KeyLaws.{rank-lt_end}
 use Rattle.ib_cursor.proofs.lookup.find.Goals as goal
 
 pub come_to_leaf-path-requires-clause-key : goal.come_to_leaf-path-requires-clause-key
-come_to_leaf-path-requires-clause-key g c = rank-lt_end c.args.key c.ranges.key.fits
+come_to_leaf-path-requires-clause-key g c = rank-lt_end c.args.key

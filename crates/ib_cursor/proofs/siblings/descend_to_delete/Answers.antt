@@ -19,21 +19,21 @@ use Rattle.ib_cursor.proofs.siblings.descend_to_delete.Goals as goal
 pub read_way-way-requires-clause-index : goal.read_way-way-requires-clause-index
 read_way-way-requires-clause-index g c =
     let sizes : Sizes = c.args.mtr.now.latches.now.sizes in
-    let lt = rank-lt_end c.args.key c.ranges.key.fits in
+    let lt = rank-lt_end c.args.key in
     let p : PassState = c.args.mtr.now.pass.now in let q : PassState = c.claim_index.new.mtr.pass.now in
     let idle = none_granted c.args.mtr.now.latches.now p c.requires.mtr c.requires.memo in
     subst (λ (s : Sizes). HasIndex s (g.L.Law.lawful s.pages) q) (sym (ap (λ m. m.now.sizes) c.claim_index.ensures.latches)) (start_index sizes g.L.Trees.ROOTS (g.L.Law.lawful sizes.pages) (by_place g.L.Law.opening sizes.pages) c.shape_of.ensures.shapes c.args.root c.requires.some c.requires.root c.args.key lt [] 0 0 p q q q q idle c.requires.none c.claim_index.ensures.stood c.claim_index.ensures.claimed)
 
 pub read_way-way-requires-clause-key : goal.read_way-way-requires-clause-key
-read_way-way-requires-clause-key g c = rank-lt_end c.args.key c.ranges.key.fits
+read_way-way-requires-clause-key g c = rank-lt_end c.args.key
 
 pub take_rows-last-requires-clause-key : goal.take_rows-last-requires-clause-key
-take_rows-last-requires-clause-key g c = rank-lt_end c.args.key c.ranges.key.fits
+take_rows-last-requires-clause-key g c = rank-lt_end c.args.key
 
 pub right_of-behind-requires-clause-loaded : goal.right_of-behind-requires-clause-loaded
 right_of-behind-requires-clause-loaded g c =
     let sizes : Sizes = c.args.mtr.now.latches.now.sizes in
-    let lt = rank-lt_end c.args.key c.ranges.key.fits in
+    let lt = rank-lt_end c.args.key in
     let q : PassState = c.claim_index.new.mtr.pass.now in let r : PassState = c.read_way-way.new.mtr.pass.now in let s : PassState = c.take_rows-last.new.mtr.pass.now in
     let path = c.read_way-way.result.path in let last = c.take_rows-last.result in
     let second = ap (λ m. m.now.sizes) (c.read_way-way.ensures.latches ∙ c.claim_index.ensures.latches) in
@@ -48,7 +48,7 @@ right_of-behind-requires-clause-loaded g c =
 pub take_beside-requires-clause-room : goal.take_beside-requires-clause-room
 take_beside-requires-clause-room g c =
     let sizes : Sizes = c.args.mtr.now.latches.now.sizes in
-    let lt = rank-lt_end c.args.key c.ranges.key.fits in
+    let lt = rank-lt_end c.args.key in
     let q : PassState = c.claim_index.new.mtr.pass.now in let r : PassState = c.read_way-way.new.mtr.pass.now in let s : PassState = c.take_rows-last.new.mtr.pass.now in
     let path = c.read_way-way.result.path in let last = c.take_rows-last.result in
     let second = ap (λ m. m.now.sizes) (c.read_way-way.ensures.latches ∙ c.claim_index.ensures.latches) in
@@ -64,7 +64,7 @@ take_beside-requires-clause-room g c =
 pub take_beside-requires-clause-ready : goal.take_beside-requires-clause-ready
 take_beside-requires-clause-ready g c =
     let sizes : Sizes = c.args.mtr.now.latches.now.sizes in
-    let lt = rank-lt_end c.args.key c.ranges.key.fits in
+    let lt = rank-lt_end c.args.key in
     let q : PassState = c.claim_index.new.mtr.pass.now in let r : PassState = c.read_way-way.new.mtr.pass.now in let s : PassState = c.take_rows-last.new.mtr.pass.now in
     let path = c.read_way-way.result.path in let last = c.take_rows-last.result in
     let second = ap (λ m. m.now.sizes) (c.read_way-way.ensures.latches ∙ c.claim_index.ensures.latches) in
@@ -84,7 +84,7 @@ take_beside-requires-clause-ready g c =
 pub returns-clause-claimed : goal.returns-clause-claimed
 returns-clause-claimed g c =
     let sizes : Sizes = c.args.mtr.now.latches.now.sizes in
-    let lt = rank-lt_end c.args.key c.ranges.key.fits in
+    let lt = rank-lt_end c.args.key in
     let q : PassState = c.claim_index.new.mtr.pass.now in let r : PassState = c.read_way-way.new.mtr.pass.now in let s : PassState = c.take_rows-last.new.mtr.pass.now in
     let path = c.read_way-way.result.path in let last = c.take_rows-last.result in
     let second = ap (λ m. m.now.sizes) (c.read_way-way.ensures.latches ∙ c.claim_index.ensures.latches) in
@@ -114,7 +114,7 @@ returns-clause-claimed g c =
 pub returns-clause-alone : goal.returns-clause-alone
 returns-clause-alone g c =
     let sizes : Sizes = c.args.mtr.now.latches.now.sizes in
-    let lt = rank-lt_end c.args.key c.ranges.key.fits in
+    let lt = rank-lt_end c.args.key in
     let q : PassState = c.claim_index.new.mtr.pass.now in let r : PassState = c.read_way-way.new.mtr.pass.now in let s : PassState = c.take_rows-last.new.mtr.pass.now in
     let path = c.read_way-way.result.path in let last = c.take_rows-last.result in
     let second = ap (λ m. m.now.sizes) (c.read_way-way.ensures.latches ∙ c.claim_index.ensures.latches) in

@@ -1,5 +1,6 @@
 -- All words of the entry are stored, and then the log's end.
 use Rattle.std.proofs.Common.{◌+◌, ◌*◌, length, arith, ap}
+use Rattle.ib_logrec.specs.declared.entry.TheConstants.{HEAD_WORDS}
 use Rattle.ib_logrec.specs.declared.entry.Entry.{Entry}
 use Rattle.ib_logrec.specs.Words.{words_of_entry}
 use Rattle.ib_logrec.proofs.EntryLaws.{length-words_of_entry}
@@ -27,16 +28,16 @@ store_words-requires-clause-room g c = let n = c.requires.writes in let most = c
 pub store_end-requires-clause-ready : goal.store_end-requires-clause-ready
 store_end-requires-clause-ready g c =
     let n = c.requires.writes in let l = length-words_of_entry (entry_of c.args.pass.now) in
-    let whole = stored_whole c.args.pass.now c.store_pages.new.pass c.store_words.new.pass c.args.writes (4 + 2 * c.args.writes) c.store_pages.ensures.during c.store_pages.ensures.stored c.store_words.ensures.during c.store_words.ensures.stored c.requires.writes (omega arith) (omega arith) in
+    let whole = stored_whole c.args.pass.now c.store_pages.new.pass c.store_words.new.pass c.args.writes (HEAD_WORDS + 2 * c.args.writes) c.store_pages.ensures.during c.store_pages.ensures.stored c.store_words.ensures.during c.store_words.ensures.stored c.requires.writes (omega arith) (omega arith) in
     during_may c.args.space.now.sizes (g.L.Law.lawful c.args.space.now.sizes.pages) c.args.pass.now c.store_words.new.pass whole.0 c.requires.ready
 
 pub store_end-requires-clause-stored : goal.store_end-requires-clause-stored
 store_end-requires-clause-stored g c =
     let n = c.requires.writes in let l = length-words_of_entry (entry_of c.args.pass.now) in
-    (stored_whole c.args.pass.now c.store_pages.new.pass c.store_words.new.pass c.args.writes (4 + 2 * c.args.writes) c.store_pages.ensures.during c.store_pages.ensures.stored c.store_words.ensures.during c.store_words.ensures.stored c.requires.writes (omega arith) (omega arith)).1
+    (stored_whole c.args.pass.now c.store_pages.new.pass c.store_words.new.pass c.args.writes (HEAD_WORDS + 2 * c.args.writes) c.store_pages.ensures.during c.store_pages.ensures.stored c.store_words.ensures.during c.store_words.ensures.stored c.requires.writes (omega arith) (omega arith)).1
 
 pub returns : goal.returns
 returns g c =
     let n = c.requires.writes in let l = length-words_of_entry (entry_of c.args.pass.now) in
-    let whole = stored_whole c.args.pass.now c.store_pages.new.pass c.store_words.new.pass c.args.writes (4 + 2 * c.args.writes) c.store_pages.ensures.during c.store_pages.ensures.stored c.store_words.ensures.during c.store_words.ensures.stored c.requires.writes (omega arith) (omega arith) in
+    let whole = stored_whole c.args.pass.now c.store_pages.new.pass c.store_words.new.pass c.args.writes (HEAD_WORDS + 2 * c.args.writes) c.store_pages.ensures.during c.store_pages.ensures.stored c.store_words.ensures.during c.store_words.ensures.stored c.requires.writes (omega arith) (omega arith) in
     ends_so c.args.pass.now c.store_words.new.pass c.store_end.new.pass whole.0 c.store_end.ensures

@@ -20,3 +20,6 @@ returns-clause-high g c = let k = known (g.W.PageWords.words c.args.page.now) c.
 
 pub returns-clause-is_record : goal.returns-clause-is_record
 returns-clause-is_record g c = let k = known (g.W.PageWords.words c.args.page.now) c.requires.tree in rw c.word.ensures.word (owner-is _ c.args.slot k c.requires.in_range).is_record
+
+pub returns-clause-keyed : goal.returns-clause-keyed
+returns-clause-keyed g c = let k = known (g.W.PageWords.words c.args.page.now) c.requires.tree in rw c.word.ensures.word (owner-is _ c.args.slot k c.requires.in_range).keyed

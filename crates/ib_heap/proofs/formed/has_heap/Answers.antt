@@ -23,7 +23,7 @@ pub returns : goal.returns
 returns c =
     let ws = c.args.words.now in
     let met = c.has_chain.ensures.meets c.if-not-has_chain.false in
-    let same = ap (λ (v : List ℕ). are_new ((get_or ws 7 0 % 256 - 20) / 3) v (read_heap ws).free && eqb (free_end ws ((get_or ws 7 0 % 256 - 20) / 3 - get_or ws 2 0) (get_or ws 6 0)) 0) met in
+    let same = ap (λ (v : List ℕ). are_new ((get_or ws 7 0 % 256 - 20) / 4) v (read_heap ws).free && eqb (free_end ws ((get_or ws 7 0 % 256 - 20) / 4 - get_or ws 2 0) (get_or ws 6 0)) 0) met in
     elim (cases_Bool c.has_free.result) [
       | inl good ↦ good ∙ sym ((IsHeap-Decides ws (read_heap ws)).1 (formed-from ws c.unmet-met.result c.unmet-met.ensures c.requires (c.has_head.ensures.0 c.if-not-has_head.false) (c.has_limits.ensures.0 c.if-not-has_limits.false)
           (c.has_slots.ensures.0 c.if-not-has_slots.false) (sym c.has_chain.ensures.holds ∙ c.if-not-has_chain.false) (sym same ∙ (sym c.has_free.ensures ∙ good))))

@@ -5,11 +5,11 @@ use Rattle.ib_heap.specs.declared.formed.TheConstants.{NO_PLACES}
 use Rattle.ib_heap.specs.Heap.{is_place}
 use Rattle.ib_heap.proofs.formed.unmet.Goals as goal
 
-none : (r : ℕ) → r < 35 → get_or NO_PLACES (20 + 3 * r) 0 ≡ 0
-none r lt = eqb-true (get_or NO_PLACES (20 + 3 * r) 0) 0 (agree_below_at (λ q. eqb (get_or NO_PLACES (20 + 3 * q) 0) 0) (λ q. true) 35 r refl lt)
+none : (r : ℕ) → r < 35 → get_or NO_PLACES (20 + 4 * r) 0 ≡ 0
+none r lt = eqb-true (get_or NO_PLACES (20 + 4 * r) 0) 0 (agree_below_at (λ q. eqb (get_or NO_PLACES (20 + 4 * q) 0) 0) (λ q. true) 35 r refl lt)
 
-only : (p : ℕ) → p < 125 → get_or NO_PLACES p 0 ≡ 0 → is_place 35 p ≡ true
-only p lt z = sym (agree_below_at (λ q. eqb (get_or NO_PLACES q 0) 0) (λ q. is_place 35 q) 125 p refl lt) ∙ eq-eqb (get_or NO_PLACES p 0) 0 z
+only : (p : ℕ) → p < 160 → get_or NO_PLACES p 0 ≡ 0 → is_place 35 p ≡ true
+only p lt z = sym (agree_below_at (λ q. eqb (get_or NO_PLACES q 0) 0) (λ q. is_place 35 q) 160 p refl lt) ∙ eq-eqb (get_or NO_PLACES p 0) 0 z
 
 pub returns : goal.returns
 returns c = record { size = refl; none = none; places = only }

@@ -8,7 +8,7 @@ use Rattle.ib_heap.proofs.rebuild.copy_all.Goals as goal
 
 pub returns-clause-records : goal.returns-clause-records
 returns-clause-records c =
-    c.copy_between.ensures.records ∙ ap (λ (rs : Pairs). rs ++ drop (length rs) c.args.out.now) (cut-whole (records_of c.args.words.now) (records_ascend c.args.words.now c.requires.tree))
+    rw (c.least.ensures, c.greatest.ensures) at c.copy_between.ensures.records ∙ ap (λ (rs : Pairs). rs ++ drop (length rs) c.args.out.now) (cut-whole (records_of c.args.words.now) (records_ascend c.args.words.now c.requires.tree))
 
 pub returns-clause-count : goal.returns-clause-count
-returns-clause-count c = c.copy_between.ensures.count ∙ ap length (cut-whole (records_of c.args.words.now) (records_ascend c.args.words.now c.requires.tree))
+returns-clause-count c = rw (c.least.ensures, c.greatest.ensures) at c.copy_between.ensures.count ∙ ap length (cut-whole (records_of c.args.words.now) (records_ascend c.args.words.now c.requires.tree))

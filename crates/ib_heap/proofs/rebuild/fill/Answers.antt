@@ -1,7 +1,7 @@
 -- The next record stands behind all so far, and its place is the number of these.
-use Rattle.std.proofs.Common.{◌≡◌, ◌<◌, ◌+◌, ◌∙◌, ◌*◌, ap, sym, subst, arith, length, take, get_or, List, ℕ, None}
+use Rattle.std.proofs.Common.{◌≡◌, ◌<◌, ◌+◌, ◌∙◌, ◌*◌, ap, sym, subst, arith, inr, length, take, get_or, List, ℕ, None}
 use Rattle.std.proofs.lemmas.List.{length-take-le, take_more}
-use Rattle.ib_map.specs.Keys.{end_rank}
+use Rattle.ib_map.specs.Keys.{MapKey, end_rank}
 use Rattle.ib_map.specs.Pairs.{Pairs, Rises, put, value_at, place_of}
 use Rattle.ib_heap.specs.Page.{HoldsTree, page_in}
 use Rattle.ib_heap.specs.Form.{page_of}
@@ -15,26 +15,26 @@ use Rattle.ib_heap.proofs.RecordsLaws.{holds-with, records-with, with-with, with
 use Rattle.ib_heap.proofs.rebuild.fill.Goals as goal
 
 -- what a page holds after some records
-module _ (ws vs : List ℕ) (rs : Pairs) (i : ℕ) (holds : HoldsTree (page_of ws)) (is : page_of vs ≡ value_with_records (take i rs) (page_of ws)) where
+module _ (ws vs : List ℕ) (rs : Pairs) (i : ℕ) (item : MapKey × ℕ) (holds : HoldsTree (page_of ws)) (is : page_of vs ≡ value_with_records (take i rs) (page_of ws)) where
   still-tree : HoldsTree (page_of vs)
   still-tree = subst HoldsTree (sym is) (holds-with (take i rs) (page_of ws) holds)
 
   so-far : records_of vs ≡ take i rs
   so-far = ap (λ v. (page_in v).records) is ∙ records-with (take i rs) (page_of ws) holds
 
-  -- the next record
-  next-absent : Rises 0 rs end_rank → i < length rs → value_at (get_or rs i (0, 0)).0 (records_of vs) ≡ None
-  next-absent rises lt = ap (λ (xs : Pairs). value_at (get_or rs i (0, 0)).0 xs) so-far ∙ is-absent (take i rs) (get_or rs i (0, 0)) (take-rises 0 rs end_rank i (0, 0) rises lt)
+  -- the next record, read with this one as what stands for none
+  next-absent : Rises 0 rs end_rank → i < length rs → value_at (get_or rs i item).0 (records_of vs) ≡ None
+  next-absent rises lt = ap (λ (xs : Pairs). value_at (get_or rs i item).0 xs) so-far ∙ is-absent (take i rs) (get_or rs i item) (take-rises 0 rs end_rank i item rises lt)
 
-  next-put : Rises 0 rs end_rank → i < length rs → value_with_records (put (get_or rs i (0, 0)).0 (get_or rs i (0, 0)).1 (records_of vs)) (page_of vs) ≡ value_with_records (take (i + 1) rs) (page_of ws)
+  next-put : Rises 0 rs end_rank → i < length rs → value_with_records (put (get_or rs i item).0 (get_or rs i item).1 (records_of vs)) (page_of vs) ≡ value_with_records (take (i + 1) rs) (page_of ws)
   next-put rises lt =
-      let r = get_or rs i (0, 0) in
-      let all : put r.0 r.1 (records_of vs) ≡ take (i + 1) rs = ap (λ (xs : Pairs). put r.0 r.1 xs) so-far ∙ (is-put-last (take i rs) r (take-rises 0 rs end_rank i (0, 0) rises lt) ∙ sym (take_more rs i (0, 0) lt)) in
+      let r = get_or rs i item in
+      let all : put r.0 r.1 (records_of vs) ≡ take (i + 1) rs = ap (λ (xs : Pairs). put r.0 r.1 xs) so-far ∙ (is-put-last (take i rs) r (take-rises 0 rs end_rank i item rises lt) ∙ sym (take_more rs i item lt)) in
       ap (λ (xs : Pairs). value_with_records xs (page_of vs)) all ∙ (ap (λ v. value_with_records (take (i + 1) rs) v) is ∙ with-with (take (i + 1) rs) (take i rs) (page_of ws))
 
-  next-place : Rises 0 rs end_rank → i < length rs → place_of (get_or rs i (0, 0)).0 (records_of vs) ≡ i
+  next-place : Rises 0 rs end_rank → i < length rs → place_of (get_or rs i item).0 (records_of vs) ≡ i
   next-place rises lt =
-      ap (λ (xs : Pairs). place_of (get_or rs i (0, 0)).0 xs) so-far ∙ (is-last-place (take i rs) (get_or rs i (0, 0)) (take-rises 0 rs end_rank i (0, 0) rises lt) ∙ length-take-le i rs (omega arith))
+      ap (λ (xs : Pairs). place_of (get_or rs i item).0 xs) so-far ∙ (is-last-place (take i rs) (get_or rs i item) (take-rises 0 rs end_rank i item rises lt) ∙ length-take-le i rs (omega arith))
 
 pub loop-record-init : goal.loop-record-init
 loop-record-init c = record {
@@ -44,27 +44,31 @@ loop-record-init c = record {
 }
 
 pub put_new-requires-clause-tree : goal.put_new-requires-clause-tree
-put_new-requires-clause-tree c = still-tree c.args.words.now c.loop-record.words c.args.records.now c.loop-record.record-index c.requires.tree c.loop-record.invariant.page
+put_new-requires-clause-tree c = still-tree c.args.words.now c.loop-record.words c.args.records.now c.loop-record.record-index c.record-item.result c.requires.tree c.loop-record.invariant.page
 
 pub put_new-requires-clause-few : goal.put_new-requires-clause-few
 put_new-requires-clause-few c =
     let rs = c.args.records.now in
-    let same = ap length (so-far c.args.words.now c.loop-record.words rs c.loop-record.record-index c.requires.tree c.loop-record.invariant.page) in
+    let same = ap length (so-far c.args.words.now c.loop-record.words rs c.loop-record.record-index c.record-item.result c.requires.tree c.loop-record.invariant.page) in
     let t = c.loop-record-test.true in let few = c.requires.few in
     omega (arith, same, length-take-le c.loop-record.record-index rs (omega arith))
 
 pub put_new-requires-clause-absent : goal.put_new-requires-clause-absent
-put_new-requires-clause-absent c = next-absent c.args.words.now c.loop-record.words c.args.records.now c.loop-record.record-index c.requires.tree c.loop-record.invariant.page c.requires.ascends c.loop-record-test.true
+put_new-requires-clause-absent c =
+    subst (λ (r : MapKey × ℕ). value_at r.0 (records_of c.loop-record.words) ≡ None) (sym c.record-item.is)
+    (next-absent c.args.words.now c.loop-record.words c.args.records.now c.loop-record.record-index c.record-item.result c.requires.tree c.loop-record.invariant.page c.requires.ascends c.loop-record-test.true)
 
 pub loop-record-preserved : goal.loop-record-preserved
 loop-record-preserved c =
     let ws = c.args.words.now in let vs = c.loop-record.words in let rs = c.args.records.now in let i = c.loop-record.record-index in
     let is = c.loop-record.invariant.page in
-    let now : read_heap c.put_new.new.words ≡ filled (i + 1) = c.put_new.ensures.heap ∙ (ap (λ k. put_in k (read_heap vs)) (next-place ws vs rs i c.requires.tree is c.requires.ascends c.loop-record-test.true)
+    let now : read_heap c.put_new.new.words ≡ filled (i + 1) = c.put_new.ensures.heap ∙ (ap (λ (r : MapKey × ℕ). put_in (place_of r.0 (records_of vs)) (read_heap vs)) c.record-item.is
+    ∙ ap (λ k. put_in k (read_heap vs)) (next-place ws vs rs i c.record-item.result c.requires.tree is c.requires.ascends c.loop-record-test.true)
     ∙ (ap (λ h. put_in i h) c.loop-record.invariant.heap ∙ filled-more i)) in
-    let place : place_for (read_heap vs) ≡ 20 + 3 * i = ap place_for c.loop-record.invariant.heap ∙ filled-place i in
+    let place : place_for (read_heap vs) ≡ 20 + 4 * i = ap place_for c.loop-record.invariant.heap ∙ filled-place i in
     record {
-      page = c.put_new.ensures.page ∙ next-put ws vs rs i c.requires.tree is c.requires.ascends c.loop-record-test.true;
+      page = c.put_new.ensures.page ∙ ap (λ (r : MapKey × ℕ). value_with_records (put r.0 r.1 (records_of vs)) (page_of vs)) c.record-item.is
+          ∙ next-put ws vs rs i c.record-item.result c.requires.tree is c.requires.ascends c.loop-record-test.true;
       heap = now;
-      rest = λ j le. c.put_new.ensures.kept j (behind-kept c.put_new.new.words (i + 1) j now le) (λ e. absurd (omega arith)) (λ e. absurd (omega arith)) ∙ c.loop-record.invariant.rest j (omega arith);
+      rest = λ j le. c.put_new.ensures.kept j (behind-kept c.put_new.new.words (i + 1) j now le) (inr (omega arith)) ∙ c.loop-record.invariant.rest j (omega arith);
     }

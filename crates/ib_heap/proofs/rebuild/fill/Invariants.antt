@@ -10,5 +10,5 @@ abbrev pub invariant-loop-record : goal.invariant-loop-record
 invariant-loop-record l = record {
   page : page_of l.words ≡ value_with_records (take l.record-index l.records) (page_of l.initial.words);
   heap : read_heap l.words ≡ filled l.record-index;
-  rest : (i : ℕ) → 20 + 3 * l.record-index ≤ i → get_or l.words i 0 ≡ 0;
+  rest : (i : ℕ) → 20 + 4 * l.record-index ≤ i → get_or l.words i 0 ≡ 0;
 }

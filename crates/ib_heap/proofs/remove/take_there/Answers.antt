@@ -1,5 +1,6 @@
 -- The record is taken out, and its slot is balanced where it is short.
 use Rattle.std.proofs.Common.{◌≡◌, ◌<◌, ◌≤◌, ◌/◌, ◌+◌, ◌∙◌, ap, sym, arith, inl, inr, get_or, ℕ, Some}
+use Rattle.ib_map.specs.Keys.{MapKey}
 use Rattle.ib_heap.proofs.RemovalLaws.{IsOut, record-read, value-there, short-slot-read, short-read, removed-well, after-slot-read, after-read, can-lend, removed-lent, can-join, removed-joined}
 use Rattle.ib_heap.proofs.remove.take_there.Goals as goal
 
@@ -21,7 +22,7 @@ pub returns-then-short-eq-SUPREMUM : goal.returns-then-short-eq-SUPREMUM
 returns-then-short-eq-SUPREMUM c =
     let out : IsOut c.args.words.now c.take_out.new.words c.args.key = record { shaped = c.take_out.ensures.shaped; page = c.take_out.ensures.page; kept = c.take_out.ensures.kept } in
     let done = removed-well _ _ _ _ _ c.requires.tree c.requires.found c.locate-cursor.ensures _ out (inl (sym c.slot_word-short.ensures ∙ c.if-short-eq-SUPREMUM.true)) in
-    record { value = value-there _ _ _ _ _ c.requires.tree c.requires.found c.locate-cursor.ensures ∙ ap (λ (v : ℕ). Some v) (sym (ap (λ (r : ℕ × ℕ). r.1) c.record_of-value.ensures)); page = done.page; heap = done.heap; kept = done.kept }
+    record { value = value-there _ _ _ _ _ c.requires.tree c.requires.found c.locate-cursor.ensures ∙ ap (λ (v : ℕ). Some v) (sym (ap (λ (r : MapKey × ℕ). r.1) c.record_of-value.ensures)); page = done.page; heap = done.heap; kept = done.kept }
 
 pub owned_word-requires : goal.owned_word-requires
 owned_word-requires c =
@@ -33,7 +34,7 @@ returns-then-owned_word-ne-ONE_TOO_FEW c =
     let out : IsOut c.args.words.now c.take_out.new.words c.args.key = record { shaped = c.take_out.ensures.shaped; page = c.take_out.ensures.page; kept = c.take_out.ensures.kept } in
     let owned = rw c.slot_word-short.ensures at c.owned_word.ensures in
     let done = removed-well _ _ _ _ _ c.requires.tree c.requires.found c.locate-cursor.ensures _ out (inr (λ z. c.if-owned_word-ne-ONE_TOO_FEW.true (owned ∙ z))) in
-    record { value = value-there _ _ _ _ _ c.requires.tree c.requires.found c.locate-cursor.ensures ∙ ap (λ (v : ℕ). Some v) (sym (ap (λ (r : ℕ × ℕ). r.1) c.record_of-value.ensures)); page = done.page; heap = done.heap; kept = done.kept }
+    record { value = value-there _ _ _ _ _ c.requires.tree c.requires.found c.locate-cursor.ensures ∙ ap (λ (v : ℕ). Some v) (sym (ap (λ (r : MapKey × ℕ). r.1) c.record_of-value.ensures)); page = done.page; heap = done.heap; kept = done.kept }
 
 pub overflow_add-cursor : goal.overflow_add-cursor
 overflow_add-cursor c =
@@ -91,7 +92,7 @@ returns-then-owned_word-gt-FEWEST_OWNED c =
     let first = rw c.slot_word-short.ensures at c.next_word-first.ensures.next in
     let lent = rw (after, first, c.slot_word-short.ensures) at c.lend.ensures in
     let done = removed-lent _ _ _ _ _ c.requires.tree c.requires.found c.locate-cursor.ensures _ out ne three five _ lent in
-    record { value = value-there _ _ _ _ _ c.requires.tree c.requires.found c.locate-cursor.ensures ∙ ap (λ (v : ℕ). Some v) (sym (ap (λ (r : ℕ × ℕ). r.1) c.record_of-value.ensures)); page = done.page; heap = done.heap; kept = done.kept }
+    record { value = value-there _ _ _ _ _ c.requires.tree c.requires.found c.locate-cursor.ensures ∙ ap (λ (v : ℕ). Some v) (sym (ap (λ (r : MapKey × ℕ). r.1) c.record_of-value.ensures)); page = done.page; heap = done.heap; kept = done.kept }
 
 pub join_slots-requires : goal.join_slots-requires
 join_slots-requires c =
@@ -117,4 +118,4 @@ returns c =
     let few : get_or c.take_out.new.words (get_or c.take_out.new.words (9 + c.locate-cursor.result.slot) 0) 0 / 256 < 5 = omega arith in
     let joined = rw (after, c.slot_word-short.ensures) at c.join_slots.ensures in
     let done = removed-joined _ _ _ _ _ c.requires.tree c.requires.found c.locate-cursor.ensures _ out ne three few _ joined in
-    record { value = value-there _ _ _ _ _ c.requires.tree c.requires.found c.locate-cursor.ensures ∙ ap (λ (v : ℕ). Some v) (sym (ap (λ (r : ℕ × ℕ). r.1) c.record_of-value.ensures)); page = done.page; heap = done.heap; kept = done.kept }
+    record { value = value-there _ _ _ _ _ c.requires.tree c.requires.found c.locate-cursor.ensures ∙ ap (λ (v : ℕ). Some v) (sym (ap (λ (r : MapKey × ℕ). r.1) c.record_of-value.ensures)); page = done.page; heap = done.heap; kept = done.kept }

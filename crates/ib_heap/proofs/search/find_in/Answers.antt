@@ -5,7 +5,7 @@ use Rattle.ib_map.specs.Pairs.{place_of, value_at}
 use Rattle.ib_heap.specs.Heap.{nodes_of, up_to}
 use Rattle.ib_heap.specs.Image.{records_of}
 use Rattle.ib_heap.proofs.SeekLaws.{known}
-use Rattle.ib_heap.proofs.FindLaws.{at-low, found, absent-at, has-record, within-records, up_to-records}
+use Rattle.ib_heap.proofs.FindLaws.{at-low, at-keyed, found, absent-at, has-record, within-records, up_to-records}
 use Rattle.ib_heap.proofs.search.find_in.Goals as goal
 
 pub has_key-requires-clause-in_page : goal.has_key-requires-clause-in_page
@@ -14,8 +14,13 @@ has_key-requires-clause-in_page g c =
     at-low ws c.args.key c.seek-cursor.result.before c.seek-cursor.result.at (known ws c.requires.tree) se.before se.at
 
 -- the index is the key's place
-is-place : (steps index : ℕ) (ws : List ℕ) (slot key : ℕ) → up_to slot (nodes_of ws) + steps ≡ place_of key (records_of ws) → index ≡ up_to slot (nodes_of ws) → index + steps ≡ place_of key (records_of ws)
+is-place : (steps index : ℕ) (ws : List ℕ) (slot : ℕ) (key : MapKey) → up_to slot (nodes_of ws) + steps ≡ place_of key (records_of ws) → index ≡ up_to slot (nodes_of ws) → index + steps ≡ place_of key (records_of ws)
 is-place steps index ws slot key one two = omega arith
+
+pub has_key-requires-clause-keyed : goal.has_key-requires-clause-keyed
+has_key-requires-clause-keyed g c =
+    let ws = g.W.PageWords.words c.args.page.now in let se = c.seek-cursor.ensures in
+    λ ne. rw (c.index_behind.ensures.same ∙ se.same) (at-keyed ws c.args.key c.seek-cursor.result.before c.seek-cursor.result.at (known ws c.requires.tree) se.before se.at ne)
 
 pub overflow_add-index : goal.overflow_add-index
 overflow_add-index g c =

@@ -2,13 +2,18 @@
 use Rattle.std.proofs.Common.{arith, ap}
 use Rattle.ib_map.specs.Keys.{rank}
 use Rattle.ib_heap.proofs.SeekLaws.{known}
-use Rattle.ib_heap.proofs.FindLaws.{at-low, before-low, absent-at, routed-at, routed-before, routed-not_above}
+use Rattle.ib_heap.proofs.FindLaws.{at-low, at-keyed, before-low, absent-at, routed-at, routed-before, routed-not_above}
 use Rattle.ib_heap.proofs.search.route_word.Goals as goal
 
 pub has_key-requires-clause-in_page : goal.has_key-requires-clause-in_page
 has_key-requires-clause-in_page g c =
     let ws = g.W.PageWords.words c.args.page.now in let se = c.seek-cursor.ensures in
     at-low ws c.args.key c.seek-cursor.result.before c.seek-cursor.result.at (known ws c.requires.tree) se.before se.at
+
+pub has_key-requires-clause-keyed : goal.has_key-requires-clause-keyed
+has_key-requires-clause-keyed g c =
+    let ws = g.W.PageWords.words c.args.page.now in let se = c.seek-cursor.ensures in
+    λ ne. rw (se.same) (at-keyed ws c.args.key c.seek-cursor.result.before c.seek-cursor.result.at (known ws c.requires.tree) se.before se.at ne)
 
 pub returns-then-has_key-clause-record : goal.returns-then-has_key-clause-record
 returns-then-has_key-clause-record g c =

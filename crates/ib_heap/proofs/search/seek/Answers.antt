@@ -1,6 +1,6 @@
 -- Where the walk ends is the place of the key.
 use Rattle.std.proofs.Common.{arith, ◌∙◌, ◌-◌, inl}
-use Rattle.ib_heap.proofs.SeekLaws.{known, walk-start, walk-low, walk-before, walk-at, walk-on, walk-full, walk-steps}
+use Rattle.ib_heap.proofs.SeekLaws.{known, walk-start, walk-low, walk-keyed, walk-before, walk-at, walk-on, walk-full, walk-steps}
 use Rattle.ib_heap.proofs.search.seek.Goals as goal
 
 pub loop-steps-init : goal.loop-steps-init
@@ -22,6 +22,9 @@ loop-steps-init g c =
 
 pub is_at-requires-clause-in_page : goal.is_at-requires-clause-in_page
 is_at-requires-clause-in_page g c = walk-low _ c.args.key _ _ _ _ (known _ c.requires.tree) c.loop-steps.invariant.walk
+
+pub is_at-requires-clause-keyed : goal.is_at-requires-clause-keyed
+is_at-requires-clause-keyed g c = λ ne. rw c.loop-steps.invariant.same (walk-keyed _ c.args.key _ _ _ _ (known _ c.requires.tree) c.loop-steps.invariant.walk ne)
 
 pub next_place-at-requires-in-loop-steps-clause-in_page : goal.next_place-at-requires-in-loop-steps-clause-in_page
 next_place-at-requires-in-loop-steps-clause-in_page g c = walk-low _ c.args.key _ _ _ _ (known _ c.requires.tree) c.loop-steps.invariant.walk

@@ -15,4 +15,4 @@ returns-clause-come g c =
     let size : c.geometry.result ≡ sizes = c.geometry.ensures in
     let fits = subst (λ (s : Sizes). has_pages s.pages ≡ true) size (subst (λ n. has_pages n ≡ true) c.pages.ensures.pages c.pages.ensures.in_range) in
     let d = c.descend_to_insert.ensures.claimed in
-    has-come sizes fits c.args.key c.ranges.key.fits c.descend_to_insert.result d.0 c.args.mtr.now.pass.now c.descend_to_insert.new.mtr.pass.now d.1 d.2 c.descend_to_insert.ensures.alone
+    has-come sizes fits c.args.key c.descend_to_insert.result d.0 c.args.mtr.now.pass.now c.descend_to_insert.new.mtr.pass.now d.1 d.2 c.descend_to_insert.ensures.alone

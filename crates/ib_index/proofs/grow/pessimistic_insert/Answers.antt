@@ -1,6 +1,6 @@
 -- The call was answered.
 use Rattle.std.proofs.Common.{rules, ◌≡◌, ◌∙◌, ◌<◌, ◌≤◌, ◌+◌, ℕ, List, length, ap, sym, subst, arith}
-use Rattle.ib_map.specs.Keys.{MapKey, IsKey}
+use Rattle.ib_map.specs.Keys.{MapKey}
 use Rattle.ib_map.specs.Pairs.{value_at}
 use Rattle.ib_map.specs.declared.call.Call.TheVariants.{Insert as InsertCall}
 use Rattle.ib_map.specs.declared.call.Change.TheVariants.{Insert}
@@ -43,7 +43,7 @@ returns-then-is_some-clause-called g c =
     let seated : IsSeated sizes q = subst (λ (s : Sizes). IsSeated s q) same c.be_seated.ensures in
     let read : HasRead sizes (IsKeptLog sizes.pages) q c.commit_read-place.result r = subst (λ (s : Sizes). HasRead s (IsKeptLog s.pages) q c.commit_read-place.result r) same c.commit_read-place.ensures in
     let some = some-value c.value_in.result (sym c.is_some.ensures ∙ c.if-is_some.true) in
-    let called = called-duplicate sizes key c.ranges.key.fits path (tree_pages come.held) p q come.went come.looked come.growing seated c.args.value c.commit_read-place.result r read some.0 (sym c.value_in.ensures ∙ some.1) in
+    let called = called-duplicate sizes key path (tree_pages come.held) p q come.went come.looked come.growing seated c.args.value c.commit_read-place.result r read some.0 (sym c.value_in.ensures ∙ some.1) in
     subst (HasCalled sizes (IsKeptLog sizes.pages) (by_place opening sizes.pages) (InsertCall key c.args.value) (record { call = InsertCall key c.args.value; reply = Duplicate; place = c.commit_read-place.result }) p) (search rules) called
 
 pub needed-requires-clause-some : goal.needed-requires-clause-some
@@ -52,6 +52,18 @@ needed-requires-clause-some g c = λ e.
     let a = ap length (sym way ∙ e) in
     let m = kept_pages c.start-mtr.result.latches.now.sizes.pages c.come_to_way-path.new.mtr.pass.now.view.memory.seen in
     let b = length-way_down m c.args.key (height_of m 1) 1 in omega arith
+
+pub take_fresh-requires-clause-ready : goal.take_fresh-requires-clause-ready
+take_fresh-requires-clause-ready g c =
+    let key = c.args.key in let path : List ℕ = c.come_to_way-path.result in let q : PassState = c.come_to_way-path.new.mtr.pass.now in
+    let k : Sizes = c.start-mtr.result.latches.now.sizes in
+    let size : c.needed.new.mtr.latches.now.sizes ≡ k = ap (λ m. m.now.sizes) (c.needed.ensures.latches ∙ c.come_to_way-path.ensures.latches) in
+    let pass : c.needed.new.mtr.pass.now ≡ q = ap (λ m. m.now) c.needed.ensures.pass in (
+      key,
+      c.start-mtr.result.pass.now,
+      subst (λ (s : Sizes). HasComeToWay s key path c.start-mtr.result.pass.now c.needed.new.mtr.pass.now) (sym size)
+          (subst (HasComeToWay k key path c.start-mtr.result.pass.now) (sym pass) c.come_to_way-path.ensures.come),
+    )
 
 pub returns-in_default-clause-called : goal.returns-in_default-clause-called
 returns-in_default-clause-called g c =
@@ -67,7 +79,7 @@ returns-in_default-clause-called g c =
     let read : HasRead sizes (IsKeptLog sizes.pages) q place r = subst (λ (u : PassState). HasRead sizes (IsKeptLog sizes.pages) u place r) pass
     (subst (λ (s : Sizes). HasRead s (IsKeptLog s.pages) c.needed.new.mtr.pass.now place r) then c.commit_read-place-in_default.ensures) in
     let missing = sym c.value_in.ensures ∙ no-value c.value_in.result (sym c.is_some.ensures ∙ c.if-is_some.false) in
-    let called = called-high sizes key c.ranges.key.fits path (tree_pages come.held) p q come.went come.looked come.growing seated c.args.value place r read missing
+    let called = called-high sizes key path (tree_pages come.held) p q come.went come.looked come.growing seated c.args.value place r read missing
     (λ memory bits a. (c.in_default.ensures.needed sizes.pages 1 1 key memory bits a).0) in
     subst (HasCalled sizes (IsKeptLog sizes.pages) (by_place opening sizes.pages) (InsertCall key c.args.value) (record { call = InsertCall key c.args.value; reply = TooHigh; place = place }) p) (search rules) called
 
@@ -82,7 +94,7 @@ plan_in-requires-clause-missing g c =
     let at = subst (λ (s : Sizes). HasComeToWay s key path c.start-mtr.result.pass.now c.needed.new.mtr.pass.now) (sym size) (subst (HasComeToWay k key path c.start-mtr.result.pass.now) (sym pass) come) in
     let needs : NeedsPages c.needed.new.mtr.latches.now.sizes.pages key path c.in-Ok.need c.needed.new.mtr.pass.now.work = subst (λ (u : PassState). NeedsPages c.needed.new.mtr.latches.now.sizes.pages key path c.in-Ok.need u.work) (sym pass)
     (λ memory bits a. c.in-Ok.ensures.needed c.needed.new.mtr.latches.now.sizes.pages 1 1 key memory bits a) in
-    let ready = c.in-Ok-take_fresh.ensures.taken key c.ranges.key.fits c.start-mtr.result.pass.now at needs in
+    let ready = c.in-Ok-take_fresh.ensures.taken key c.start-mtr.result.pass.now at needs in
     let missing = sym c.value_in.ensures ∙ no-value c.value_in.result (sym c.is_some.ensures ∙ c.if-is_some.false) in
     value-kept key (last_of path) c.needed.new.mtr.pass.now.work t.work (ready.same (last_of path) at.growing.leaf)
     ∙ (ap (λ (u : PassState). value_at key (memory_in u.work (last_of path)).records) pass ∙ missing)
@@ -100,14 +112,14 @@ returns-in-Err-clause-called g c =
     let needs : NeedsPages sizes.pages key path c.in-Ok.need q.work = λ memory bits a. c.in-Ok.ensures.needed sizes.pages 1 1 key memory bits a in
     let absent = sym c.value_in.ensures ∙ no-value c.value_in.result (sym c.is_some.ensures ∙ c.if-is_some.false) in
     let short : IsShort sizes key path c.in-Err.free c.in-Ok.need q t =
-    subst (λ (u : PassState). (key : MapKey) → IsKey key → (p : PassState) → HasComeToWay sizes key path p u → NeedsPages sizes.pages key path c.in-Ok.need u.work → IsShort sizes key path c.in-Err.free c.in-Ok.need u t) pass
-    (subst (λ (s : Sizes). (key : MapKey) → IsKey key → (p : PassState) → HasComeToWay s key path p c.needed.new.mtr.pass.now → NeedsPages s.pages key path c.in-Ok.need c.needed.new.mtr.pass.now.work → IsShort s key path c.in-Err.free c.in-Ok.need c.needed.new.mtr.pass.now t) then c.in-Err.ensures.short)
-    key c.ranges.key.fits p come needs in
+    subst (λ (u : PassState). (key : MapKey) → (p : PassState) → HasComeToWay sizes key path p u → NeedsPages sizes.pages key path c.in-Ok.need u.work → IsShort sizes key path c.in-Err.free c.in-Ok.need u t) pass
+    (subst (λ (s : Sizes). (key : MapKey) → (p : PassState) → HasComeToWay s key path p c.needed.new.mtr.pass.now → NeedsPages s.pages key path c.in-Ok.need c.needed.new.mtr.pass.now.work → IsShort s key path c.in-Err.free c.in-Ok.need c.needed.new.mtr.pass.now t) then c.in-Err.ensures.short)
+    key p come needs in
     let seated : IsSeated sizes t = subst (λ (s : Sizes). IsSeated s t) taken-by c.be_seated-in-Err.ensures in
     let missing = value-kept key (last_of path) q.work t.work (short.same (last_of path) come.growing.leaf) ∙ absent in
     let r : PassState = c.commit_read-place-in-Err.new.self.1.0 in let place = c.commit_read-place-in-Err.result in
     let read : HasRead sizes (IsKeptLog sizes.pages) t place r = subst (λ (s : Sizes). HasRead s (IsKeptLog s.pages) t place r) taken-by c.commit_read-place-in-Err.ensures in
-    let called = called-short sizes key c.ranges.key.fits path short.held p t (went_both p q t come.went short.went) (looked_first p q t come.went short.went come.looked) short.growing seated c.args.value place r read missing c.in-Err.free c.in-Ok.need short.lacks in
+    let called = called-short sizes key path short.held p t (went_both p q t come.went short.went) (looked_first p q t come.went short.went come.looked) short.growing seated c.args.value place r read missing c.in-Err.free c.in-Ok.need short.lacks in
     called)
 
 pub returns-in-Err-clause-grants : goal.returns-in-Err-clause-grants
@@ -123,9 +135,9 @@ returns-in-Err-clause-grants g c =
     let needs : NeedsPages sizes.pages key path c.in-Ok.need q.work = λ memory bits a. c.in-Ok.ensures.needed sizes.pages 1 1 key memory bits a in
     let absent = sym c.value_in.ensures ∙ no-value c.value_in.result (sym c.is_some.ensures ∙ c.if-is_some.false) in
     let short : IsShort sizes key path c.in-Err.free c.in-Ok.need q t =
-    subst (λ (u : PassState). (key : MapKey) → IsKey key → (p : PassState) → HasComeToWay sizes key path p u → NeedsPages sizes.pages key path c.in-Ok.need u.work → IsShort sizes key path c.in-Err.free c.in-Ok.need u t) pass
-    (subst (λ (s : Sizes). (key : MapKey) → IsKey key → (p : PassState) → HasComeToWay s key path p c.needed.new.mtr.pass.now → NeedsPages s.pages key path c.in-Ok.need c.needed.new.mtr.pass.now.work → IsShort s key path c.in-Err.free c.in-Ok.need c.needed.new.mtr.pass.now t) then c.in-Err.ensures.short)
-    key c.ranges.key.fits p come needs in
+    subst (λ (u : PassState). (key : MapKey) → (p : PassState) → HasComeToWay sizes key path p u → NeedsPages sizes.pages key path c.in-Ok.need u.work → IsShort sizes key path c.in-Err.free c.in-Ok.need u t) pass
+    (subst (λ (s : Sizes). (key : MapKey) → (p : PassState) → HasComeToWay s key path p c.needed.new.mtr.pass.now → NeedsPages s.pages key path c.in-Ok.need c.needed.new.mtr.pass.now.work → IsShort s key path c.in-Err.free c.in-Ok.need c.needed.new.mtr.pass.now t) then c.in-Err.ensures.short)
+    key p come needs in
     let seated : IsSeated sizes t = subst (λ (s : Sizes). IsSeated s t) taken-by c.be_seated-in-Err.ensures in
     let missing = value-kept key (last_of path) q.work t.work (short.same (last_of path) come.growing.leaf) ∙ absent in
     let r : PassState = c.commit_read-place-in-Err.new.self.1.0 in let place = c.commit_read-place-in-Err.result in
@@ -148,15 +160,15 @@ commit-committed-requires-clause-may g c =
     let absent = sym c.value_in.ensures ∙ no-value c.value_in.result (sym c.is_some.ensures ∙ c.if-is_some.false) in
     let fresh : List ℕ = c.in-Ok-take_fresh.fresh in
     let ready : HoldsAllPages sizes key path fresh q t =
-    subst (λ (u : PassState). (key : MapKey) → IsKey key → (p : PassState) → HasComeToWay sizes key path p u → NeedsPages sizes.pages key path c.in-Ok.need u.work → HoldsAllPages sizes key path fresh u t) pass
-    (subst (λ (s : Sizes). (key : MapKey) → IsKey key → (p : PassState) → HasComeToWay s key path p c.needed.new.mtr.pass.now → NeedsPages s.pages key path c.in-Ok.need c.needed.new.mtr.pass.now.work → HoldsAllPages s key path fresh c.needed.new.mtr.pass.now t) then c.in-Ok-take_fresh.ensures.taken)
-    key c.ranges.key.fits p come needs in
+    subst (λ (u : PassState). (key : MapKey) → (p : PassState) → HasComeToWay sizes key path p u → NeedsPages sizes.pages key path c.in-Ok.need u.work → HoldsAllPages sizes key path fresh u t) pass
+    (subst (λ (s : Sizes). (key : MapKey) → (p : PassState) → HasComeToWay s key path p c.needed.new.mtr.pass.now → NeedsPages s.pages key path c.in-Ok.need c.needed.new.mtr.pass.now.work → HoldsAllPages s key path fresh c.needed.new.mtr.pass.now t) then c.in-Ok-take_fresh.ensures.taken)
+    key p come needs in
     let seated : IsSeated sizes t = subst (λ (s : Sizes). IsSeated s t) taken-by c.be_seated-2.ensures in
     let missing = value-kept key (last_of path) q.work t.work (ready.same (last_of path) come.growing.leaf) ∙ absent in
     let planned = c.plan_in.ensures.planned in
     let last : c.plan_in.new.mtr.latches.now.sizes ≡ sizes = ap (λ m. m.now.sizes) c.plan_in.ensures.latches ∙ taken-by in
     let few : total t.view.grants < 2 ^ 52 = (let a = ready.grants in let b = come.grants in let room = c.requires.room in omega arith) in
-    let may = may-grow sizes key c.ranges.key.fits path ready.held t ready.growing seated few ready.short ready.follow c.args.value fresh ready.fresh_are missing planned.0 planned.2 planned.3 planned.4 in
+    let may = may-grow sizes key path ready.held t ready.growing seated few ready.short ready.follow c.args.value fresh ready.fresh_are missing planned.0 planned.2 planned.3 planned.4 in
     subst (λ (s : Sizes). MayCommit (IsKeptLog s.pages) c.plan_in.new.mtr.pass.now (Insert key c.args.value)) (sym last)
     (subst (λ (u : PassState). MayCommit (IsKeptLog sizes.pages) u (Insert key c.args.value)) (sym planned.1) may)
 
@@ -175,9 +187,9 @@ returns-clause-called g c =
     let absent = sym c.value_in.ensures ∙ no-value c.value_in.result (sym c.is_some.ensures ∙ c.if-is_some.false) in
     let fresh : List ℕ = c.in-Ok-take_fresh.fresh in
     let ready : HoldsAllPages sizes key path fresh q t =
-    subst (λ (u : PassState). (key : MapKey) → IsKey key → (p : PassState) → HasComeToWay sizes key path p u → NeedsPages sizes.pages key path c.in-Ok.need u.work → HoldsAllPages sizes key path fresh u t) pass
-    (subst (λ (s : Sizes). (key : MapKey) → IsKey key → (p : PassState) → HasComeToWay s key path p c.needed.new.mtr.pass.now → NeedsPages s.pages key path c.in-Ok.need c.needed.new.mtr.pass.now.work → HoldsAllPages s key path fresh c.needed.new.mtr.pass.now t) then c.in-Ok-take_fresh.ensures.taken)
-    key c.ranges.key.fits p come needs in
+    subst (λ (u : PassState). (key : MapKey) → (p : PassState) → HasComeToWay sizes key path p u → NeedsPages sizes.pages key path c.in-Ok.need u.work → HoldsAllPages sizes key path fresh u t) pass
+    (subst (λ (s : Sizes). (key : MapKey) → (p : PassState) → HasComeToWay s key path p c.needed.new.mtr.pass.now → NeedsPages s.pages key path c.in-Ok.need c.needed.new.mtr.pass.now.work → HoldsAllPages s key path fresh c.needed.new.mtr.pass.now t) then c.in-Ok-take_fresh.ensures.taken)
+    key p come needs in
     let seated : IsSeated sizes t = subst (λ (s : Sizes). IsSeated s t) taken-by c.be_seated-2.ensures in
     let missing = value-kept key (last_of path) q.work t.work (ready.same (last_of path) come.growing.leaf) ∙ absent in
     let planned = c.plan_in.ensures.planned in let r : PassState = c.commit-committed.new.self.1.0 in
@@ -191,7 +203,7 @@ returns-clause-called g c =
     let call = InsertCall key c.args.value in
     let full : IfErr c.commit-committed.result (λ full. c.changed.result ≡ record { call = call; reply = LogFullReply full.used full.cap; place = length r.view.memory.seen }) =
     subst (λ (n : ℕ). IfErr c.commit-committed.result (λ full. c.changed.result ≡ record { call = call; reply = LogFullReply full.used full.cap; place = n })) seen c.changed.ensures.full in
-    let called = called-ended sizes key c.ranges.key.fits path ready.held p t (went_both p q t come.went ready.went) (looked_first p q t come.went ready.went come.looked) ready.growing seated c.commit-committed.result planned.0 c.args.value c.changed.result r missing
+    let called = called-ended sizes key path ready.held p t (went_both p q t come.went ready.went) (looked_first p q t come.went ready.went come.looked) ready.growing seated c.commit-committed.result planned.0 c.args.value c.changed.result r missing
     (λ memory bits a. let f = ready.fresh_are memory bits a in (f.0, f.1.enough)) c.changed.ensures.made full committed refused in
     called)
 
@@ -209,9 +221,9 @@ returns-clause-grants g c =
     let absent = sym c.value_in.ensures ∙ no-value c.value_in.result (sym c.is_some.ensures ∙ c.if-is_some.false) in
     let fresh : List ℕ = c.in-Ok-take_fresh.fresh in
     let ready : HoldsAllPages sizes key path fresh q t =
-    subst (λ (u : PassState). (key : MapKey) → IsKey key → (p : PassState) → HasComeToWay sizes key path p u → NeedsPages sizes.pages key path c.in-Ok.need u.work → HoldsAllPages sizes key path fresh u t) pass
-    (subst (λ (s : Sizes). (key : MapKey) → IsKey key → (p : PassState) → HasComeToWay s key path p c.needed.new.mtr.pass.now → NeedsPages s.pages key path c.in-Ok.need c.needed.new.mtr.pass.now.work → HoldsAllPages s key path fresh c.needed.new.mtr.pass.now t) then c.in-Ok-take_fresh.ensures.taken)
-    key c.ranges.key.fits p come needs in
+    subst (λ (u : PassState). (key : MapKey) → (p : PassState) → HasComeToWay sizes key path p u → NeedsPages sizes.pages key path c.in-Ok.need u.work → HoldsAllPages sizes key path fresh u t) pass
+    (subst (λ (s : Sizes). (key : MapKey) → (p : PassState) → HasComeToWay s key path p c.needed.new.mtr.pass.now → NeedsPages s.pages key path c.in-Ok.need c.needed.new.mtr.pass.now.work → HoldsAllPages s key path fresh c.needed.new.mtr.pass.now t) then c.in-Ok-take_fresh.ensures.taken)
+    key p come needs in
     let seated : IsSeated sizes t = subst (λ (s : Sizes). IsSeated s t) taken-by c.be_seated-2.ensures in
     let missing = value-kept key (last_of path) q.work t.work (ready.same (last_of path) come.growing.leaf) ∙ absent in
     let planned = c.plan_in.ensures.planned in let r : PassState = c.commit-committed.new.self.1.0 in
@@ -266,9 +278,9 @@ plan_in-requires-clause-can g c =
     let absent = sym c.value_in.ensures ∙ no-value c.value_in.result (sym c.is_some.ensures ∙ c.if-is_some.false) in
     let fresh : List ℕ = c.in-Ok-take_fresh.fresh in
     let ready : HoldsAllPages sizes key path fresh q t =
-    subst (λ (u : PassState). (key : MapKey) → IsKey key → (p : PassState) → HasComeToWay sizes key path p u → NeedsPages sizes.pages key path c.in-Ok.need u.work → HoldsAllPages sizes key path fresh u t) pass
-    (subst (λ (s : Sizes). (key : MapKey) → IsKey key → (p : PassState) → HasComeToWay s key path p c.needed.new.mtr.pass.now → NeedsPages s.pages key path c.in-Ok.need c.needed.new.mtr.pass.now.work → HoldsAllPages s key path fresh c.needed.new.mtr.pass.now t) then c.in-Ok-take_fresh.ensures.taken)
-    key c.ranges.key.fits p come needs in
+    subst (λ (u : PassState). (key : MapKey) → (p : PassState) → HasComeToWay sizes key path p u → NeedsPages sizes.pages key path c.in-Ok.need u.work → HoldsAllPages sizes key path fresh u t) pass
+    (subst (λ (s : Sizes). (key : MapKey) → (p : PassState) → HasComeToWay s key path p c.needed.new.mtr.pass.now → NeedsPages s.pages key path c.in-Ok.need c.needed.new.mtr.pass.now.work → HoldsAllPages s key path fresh c.needed.new.mtr.pass.now t) then c.in-Ok-take_fresh.ensures.taken)
+    key p come needs in
     let seated : IsSeated sizes t = subst (λ (s : Sizes). IsSeated s t) taken-by c.be_seated-2.ensures in
     let missing = value-kept key (last_of path) q.work t.work (ready.same (last_of path) come.growing.leaf) ∙ absent in
-    can-insert sizes key c.ranges.key.fits path fresh p q t seated come ready (may-tick sizes key c.ranges.key.fits path t seated ready.growing.at)
+    can-insert sizes key path fresh p q t seated come ready (may-tick sizes key path t seated ready.growing.at)

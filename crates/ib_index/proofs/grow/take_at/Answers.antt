@@ -23,7 +23,7 @@ pub read-requires-clause-absent : goal.read-requires-clause-absent
 read-requires-clause-absent g c = ap (λ (r : PassState). changed_of c.args.page r.work) c.take.ensures.taken.pass ∙ c.requires.absent
 
 pub returns-clause-grown : goal.returns-clause-grown
-returns-clause-grown g c = λ key is path held can other.
+returns-clause-grown g c = λ key path held can other.
     let sizes : Sizes = c.args.mtr.now.latches.now.sizes in
     let p : PassState = c.args.mtr.now.pass.now in let q : PassState = c.take.new.mtr.pass.now in let r : PassState = c.read.new.mtr.pass.now in
     let size : c.geometry.result ≡ sizes = c.geometry.ensures in
@@ -31,5 +31,5 @@ returns-clause-grown g c = λ key is path held can other.
     let taken = subst (λ (l : Latch). HasTaken (record { latch = l.0; mode = X; level = c.args.level }) p q) c.page.ensures c.take.ensures.taken in
     let same = ap (λ m. m.now.sizes) c.take.ensures.latches in
     let l = c.read.ensures in
-    has-grown sizes key path held c.args.page c.args.level p can other fits is q r c.requires.page c.requires.mtr.held taken (subst (λ (k : Sizes). HasGlanced k (IsKeptLog k.pages) q r) same l.glanced) l.memo l.session l.grants
+    has-grown sizes key path held c.args.page c.args.level p can other fits q r c.requires.page c.requires.mtr.held taken (subst (λ (k : Sizes). HasGlanced k (IsKeptLog k.pages) q r) same l.glanced) l.memo l.session l.grants
     (subst (λ (k : Sizes). HasPage (by_place opening k.pages) c.args.page q r) same l.loaded) l.mtr.held

@@ -1,6 +1,6 @@
 -- Page 0 and the pages that it says are free.
 use Rattle.std.proofs.Common.{◌≡◌, ◌∙◌, ◌∷◌, ◌++◌, ◌<◌, ◌≤◌, List, Some, true, ℕ, ap, sym, subst, arith, length}
-use Rattle.ib_map.specs.Keys.{MapKey, IsKey}
+use Rattle.ib_map.specs.Keys.{MapKey}
 use Rattle.ib_map.specs.Space.{has_pages}
 use Rattle.ib_layout.specs.Geometry.{Sizes}
 use Rattle.ib_page.specs.Work.{changed_of}
@@ -16,17 +16,21 @@ use Rattle.ib_index.proofs.ReadyLaws.{image, image-there, ready-none, ready-some
 use Rattle.ib_index.proofs.grow.take_fresh.Goals as goal
 
 pub returns-then-need-eq0-clause-taken : goal.returns-then-need-eq0-clause-taken
-returns-then-need-eq0-clause-taken g c = λ key is p come needs.
+returns-then-need-eq0-clause-taken g c = λ key p come needs.
     let sizes : Sizes = c.args.mtr.now.latches.now.sizes in let q : PassState = c.args.mtr.now.pass.now in
     subst (λ (fresh : List ℕ). HoldsAllPages sizes key c.args.path.now fresh q q) (sym c.new.ensures) (ready-none sizes key c.args.path.now c.args.need p q come needs c.if-need-eq0.true)
 
+pub take_space-requires-clause-ready : goal.take_space-requires-clause-ready
+take_space-requires-clause-ready g c =
+    let r = c.requires.ready in (r.0, c.args.path.now, r.2.held, r.2.growing, r.2.zero, (let few = r.2.few in omega arith))
+
 pub choose-requires-clause-space : goal.choose-requires-clause-space
 choose-requires-clause-space g c =
-    let r = c.requires.ready in (c.take_space.ensures.grown r.0 r.1 c.args.path.now r.3.held r.3.growing r.3.zero).there
+    let r = c.requires.ready in (c.take_space.ensures.grown r.0 c.args.path.now r.2.held r.2.growing r.2.zero).there
 
 pub take_new-requires-clause-room : goal.take_new-requires-clause-room
 take_new-requires-clause-room g c =
-    let r = c.requires.ready in let h = c.take_space.ensures.grown r.0 r.1 c.args.path.now r.3.held r.3.growing r.3.zero in
+    let r = c.requires.ready in let h = c.take_space.ensures.grown r.0 c.args.path.now r.2.held r.2.growing r.2.zero in
     let x = ap (λ (v : Grants). v.x) h.grants in let y = ap (λ (v : Grants). v.s) h.grants in let z = ap (λ (v : Grants). v.sx) h.grants in let room = c.requires.room in
     let same = ap (λ m. m.now.view.grants) c.choose.ensures.pass in
     let a = ap (λ (v : Grants). v.x) same in let b = ap (λ (v : Grants). v.s) same in let d = ap (λ (v : Grants). v.sx) same in omega arith
@@ -35,46 +39,46 @@ pub take_new-requires-clause-ready : goal.take_new-requires-clause-ready
 take_new-requires-clause-ready g c =
     let sizes : Sizes = c.args.mtr.now.latches.now.sizes in let q : PassState = c.args.mtr.now.pass.now in let s : PassState = c.take_space.new.mtr.pass.now in
     let path : List ℕ = c.args.path.now in let fresh : List ℕ = c.in-Ok.fresh in
-    let r = c.requires.ready in let h = c.take_space.ensures.grown r.0 r.1 path r.3.held r.3.growing r.3.zero in
+    let r = c.requires.ready in let h = c.take_space.ensures.grown r.0 path r.2.held r.2.growing r.2.zero in
     let size : c.geometry.result ≡ sizes = c.geometry.ensures in
     let fits = subst (λ (s : Sizes). has_pages s.pages ≡ true) size (subst (λ n. has_pages n ≡ true) c.pages.ensures.pages c.pages.ensures.in_range) in
     let first : c.take_space.new.mtr.latches.now.sizes ≡ sizes = ap (λ m. m.now.sizes) c.take_space.ensures.latches in
     let second : c.choose.new.mtr.latches.now.sizes ≡ sizes = ap (λ m. m.now.sizes) (c.choose.ensures.latches ∙ c.take_space.ensures.latches) in
     let pass : c.choose.new.mtr.pass.now ≡ s = ap (λ m. m.now) c.choose.ensures.pass in
     let ch = subst (λ (k : Sizes). (image : List ℕ) → changed_of 0 s.work ≡ Some image → (fresh ≡ chosen (bits_in k.pages image) k.pages c.args.need) × (c.args.need ≤ free_of (bits_in k.pages image) k.pages)) first c.in-Ok.ensures.chosen
-    (image sizes fits r.0 r.1 path c.args.need r.2 q s r.3 h) (image-there sizes fits r.0 r.1 path c.args.need r.2 q s r.3 h) in
-    subst (λ (k : Sizes). (x : MapKey) × (y : List ℕ) × (z : List ℕ) × IsGrowing k x y (space_pages z) c.choose.new.mtr.pass.now × AreOnce (z ++ 0 ∷ fresh) k.pages × (length z ≤ 10) × IsKey x) (sym second)
-    (r.0, path, r.3.held, subst (IsGrowing sizes r.0 path (space_pages r.3.held)) (sym pass) h.growing, space-once sizes fits r.0 r.1 path c.args.need r.2 q s r.3 h fresh ch.0, r.3.few, r.1)
+    (image sizes fits r.0 path c.args.need r.1 q s r.2 h) (image-there sizes fits r.0 path c.args.need r.1 q s r.2 h) in
+    subst (λ (k : Sizes). (x : MapKey) × (y : List ℕ) × (z : List ℕ) × IsGrowing k x y (space_pages z) c.choose.new.mtr.pass.now × AreOnce (z ++ 0 ∷ fresh) k.pages × (length z ≤ 10)) (sym second)
+    (r.0, path, r.2.held, subst (IsGrowing sizes r.0 path (space_pages r.2.held)) (sym pass) h.growing, space-once sizes fits r.0 path c.args.need r.1 q s r.2 h fresh ch.0, r.2.few)
 
 pub returns-in-Ok-clause-taken : goal.returns-in-Ok-clause-taken
-returns-in-Ok-clause-taken g c = λ key is p come needs.
+returns-in-Ok-clause-taken g c = λ key p come needs.
     let sizes : Sizes = c.args.mtr.now.latches.now.sizes in let q : PassState = c.args.mtr.now.pass.now in let s : PassState = c.take_space.new.mtr.pass.now in let t : PassState = c.take_new.new.mtr.pass.now in
     let path : List ℕ = c.args.path.now in let fresh : List ℕ = c.in-Ok.fresh in
-    let h = c.take_space.ensures.grown key is path come.held come.growing come.zero in
+    let h = c.take_space.ensures.grown key path come.held come.growing come.zero in
     let size : c.geometry.result ≡ sizes = c.geometry.ensures in
     let fits = subst (λ (s : Sizes). has_pages s.pages ≡ true) size (subst (λ n. has_pages n ≡ true) c.pages.ensures.pages c.pages.ensures.in_range) in
     let first : c.take_space.new.mtr.latches.now.sizes ≡ sizes = ap (λ m. m.now.sizes) c.take_space.ensures.latches in
     let second : c.choose.new.mtr.latches.now.sizes ≡ sizes = ap (λ m. m.now.sizes) (c.choose.ensures.latches ∙ c.take_space.ensures.latches) in
     let pass : c.choose.new.mtr.pass.now ≡ s = ap (λ m. m.now) c.choose.ensures.pass in
     let ch = subst (λ (k : Sizes). (image : List ℕ) → changed_of 0 s.work ≡ Some image → (fresh ≡ chosen (bits_in k.pages image) k.pages c.args.need) × (c.args.need ≤ free_of (bits_in k.pages image) k.pages)) first c.in-Ok.ensures.chosen
-    (image sizes fits key is path c.args.need p q s come h) (image-there sizes fits key is path c.args.need p q s come h) in
+    (image sizes fits key path c.args.need p q s come h) (image-there sizes fits key path c.args.need p q s come h) in
     let took = subst (λ (u : PassState). IsGrowing sizes key path (space_pages come.held) u → AreOnce (come.held ++ 0 ∷ fresh) sizes.pages → HasTakenNew sizes key path (space_pages come.held) fresh u t) pass
     (subst (λ (k : Sizes). IsGrowing k key path (space_pages come.held) c.choose.new.mtr.pass.now → AreOnce (come.held ++ 0 ∷ fresh) k.pages → HasTakenNew k key path (space_pages come.held) fresh c.choose.new.mtr.pass.now t) second
-    (c.take_new.ensures.taken key is path come.held)) in
-    let long : length fresh ≤ 9 = (let a = ap length ch.0 in let b = chosen-length (bits_in sizes.pages (image sizes fits key is path c.args.need p q s come h)) sizes.pages c.args.need ch.1 in let f = c.requires.few in omega arith) in
-    ready-some sizes fits key is path c.args.need p q s come h needs fresh t ch.0 ch.1 long (took h.growing (space-once sizes fits key is path c.args.need p q s come h fresh ch.0))
+    (c.take_new.ensures.taken key path come.held)) in
+    let long : length fresh ≤ 9 = (let a = ap length ch.0 in let b = chosen-length (bits_in sizes.pages (image sizes fits key path c.args.need p q s come h)) sizes.pages c.args.need ch.1 in let f = c.requires.few in omega arith) in
+    ready-some sizes fits key path c.args.need p q s come h needs fresh t ch.0 ch.1 long (took h.growing (space-once sizes fits key path c.args.need p q s come h fresh ch.0))
 
 pub returns-in-Err-clause-short : goal.returns-in-Err-clause-short
-returns-in-Err-clause-short g c = λ key is p come needs.
+returns-in-Err-clause-short g c = λ key p come needs.
     let sizes : Sizes = c.args.mtr.now.latches.now.sizes in let q : PassState = c.args.mtr.now.pass.now in let s : PassState = c.take_space.new.mtr.pass.now in
     let path : List ℕ = c.args.path.now in
-    let h = c.take_space.ensures.grown key is path come.held come.growing come.zero in
+    let h = c.take_space.ensures.grown key path come.held come.growing come.zero in
     let size : c.geometry.result ≡ sizes = c.geometry.ensures in
     let fits = subst (λ (s : Sizes). has_pages s.pages ≡ true) size (subst (λ n. has_pages n ≡ true) c.pages.ensures.pages c.pages.ensures.in_range) in
     let first : c.take_space.new.mtr.latches.now.sizes ≡ sizes = ap (λ m. m.now.sizes) c.take_space.ensures.latches in
     let pass : c.choose.new.mtr.pass.now ≡ s = ap (λ m. m.now) c.choose.ensures.pass in
-    let i = image sizes fits key is path c.args.need p q s come h in
+    let i = image sizes fits key path c.args.need p q s come h in
     let less = subst (λ (k : Sizes). (image : List ℕ) → changed_of 0 s.work ≡ Some image → (c.in-Err.fault ≡ NeedPages (free_of (bits_in k.pages image) k.pages) c.args.need) × (free_of (bits_in k.pages image) k.pages < c.args.need)) first c.in-Err.ensures.short
-    i (image-there sizes fits key is path c.args.need p q s come h) in
+    i (image-there sizes fits key path c.args.need p q s come h) in
     subst (λ (u : PassState). IsShort sizes key path c.free_pages.result c.args.need q u) (sym pass)
-    (short-some sizes fits key is path c.args.need p q s come h needs c.free_pages.result (c.free_pages.ensures (free_of (bits_in sizes.pages i) sizes.pages) c.args.need less.0) less.1)
+    (short-some sizes fits key path c.args.need p q s come h needs c.free_pages.result (c.free_pages.ensures (free_of (bits_in sizes.pages i) sizes.pages) c.args.need less.0) less.1)

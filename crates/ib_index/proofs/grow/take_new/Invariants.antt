@@ -1,7 +1,7 @@
 -- The fresh pages that are taken.
 use Rattle.std.proofs.Common.{◌≡◌, ◌≤◌, ◌-◌, ◌++◌, ◌∷◌, List, ℕ, length}
 use Rattle.std.specs.Prelude.{take}
-use Rattle.ib_map.specs.Keys.{MapKey, IsKey}
+use Rattle.ib_map.specs.Keys.{MapKey}
 use Rattle.ib_tree.specs.PageLists.{AreOnce}
 use Rattle.ib_mtr.specs.Mtr.{IsMtr}
 use Rattle.ib_index.specs.Grows.{HasTakenNew, IsGrowing, space_pages}
@@ -13,7 +13,7 @@ invariant-loop-at g l = record {
   latches : l.mtr.latches ≡ l.fn.mtr.latches;
   pass : l.mtr.pass.ghost_name ≡ l.fn.mtr.pass.ghost_name;
   within : l.at ≤ length l.fresh;
-  taken : (key : MapKey) → IsKey key → (path held : List ℕ) → IsGrowing l.fn.mtr.latches.now.sizes key path (space_pages held) l.fn.mtr.pass.now
+  taken : (key : MapKey) → (path held : List ℕ) → IsGrowing l.fn.mtr.latches.now.sizes key path (space_pages held) l.fn.mtr.pass.now
       → AreOnce (held ++ 0 ∷ l.fresh) l.fn.mtr.latches.now.sizes.pages → HasTakenNew l.fn.mtr.latches.now.sizes key path (space_pages held) (take l.at l.fresh) l.fn.mtr.pass.now l.mtr.pass.now;
 }
 

@@ -35,4 +35,4 @@ take_at-requires-clause-few g c =
     let r = c.requires.ready in let f = r.5 in let n = length-tree r.2 in let k = r.3.count in omega arith
 
 pub returns-clause-grown : goal.returns-clause-grown
-returns-clause-grown g c = λ key is path held can none. c.take_at.ensures.grown key is path (tree_pages held) can (among-tree held 0 ∙ none)
+returns-clause-grown g c = λ key path held can none. c.take_at.ensures.grown key path (tree_pages held) can (among-tree held 0 ∙ none)

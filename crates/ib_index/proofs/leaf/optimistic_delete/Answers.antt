@@ -30,7 +30,7 @@ returns-in_default-clause-called g c =
     subst (λ (s : Sizes). c.look_in-looked.result.value ≡ value_at key (leaf_page s key q).records) same c.look_in-looked.ensures.value in
     let read : HasRead space.sizes (IsKeptLog space.sizes.pages) q c.commit_read-place.result r = subst (λ (s : Sizes). HasRead s (IsKeptLog s.pages) q c.commit_read-place.result r) same c.commit_read-place.ensures in
     let none : c.look_in-looked.result.value ≡ None = search rules in
-    let called = called-missing space key c.ranges.key.fits c.come_to_leaf-leaf.result p q c.requires.rest.own come c.commit_read-place.result r read (sym value ∙ none) in
+    let called = called-missing space key c.come_to_leaf-leaf.result p q c.requires.rest.own come c.commit_read-place.result r read (sym value ∙ none) in
     subst (HasCalled space.sizes (IsKeptLog space.sizes.pages) (by_place opening space.sizes.pages) (DeleteCall key) (record { call = DeleteCall key; reply = Missing; place = c.commit_read-place.result }) p) (search rules) called
 
 pub returns-then-looked-le-FEWEST_RECORDS-clause-called : goal.returns-then-looked-le-FEWEST_RECORDS-clause-called
@@ -48,7 +48,7 @@ returns-then-looked-le-FEWEST_RECORDS-clause-called g c =
     let there : IsSome (value_at key (leaf_page space.sizes key q).records) = subst IsSome (sym c.in-Some.is ∙ value) refl in
     let few : length (leaf_page space.sizes key q).records ≤ FEWEST_RECORDS = (let le = c.if-looked-le-FEWEST_RECORDS.true in omega arith) in
     let needs : NeedsTree space.sizes (IsShortFor key) key p r =
-    needs-read space key c.ranges.key.fits c.come_to_leaf-leaf.result p q c.requires.rest.own come c.commit_read.result r read (IsShortFor key) (there, c.if-leaf-ne-ROOT.true, few) in
+    needs-read space key c.come_to_leaf-leaf.result p q c.requires.rest.own come c.commit_read.result r read (IsShortFor key) (there, c.if-leaf-ne-ROOT.true, few) in
     subst (NeedsTree space.sizes (IsShortFor key) key p) (search rules) needs
 
 pub returns-clause-called : goal.returns-clause-called
@@ -72,7 +72,7 @@ returns-clause-called g c =
     let seen : c.place.result ≡ length r.view.memory.seen = search rules in
     let full : IfErr c.commit-committed.result (λ full. c.changed.result ≡ record { call = call; reply = LogFullReply full.used full.cap; place = length r.view.memory.seen }) =
     subst (λ (n : ℕ). IfErr c.commit-committed.result (λ full. c.changed.result ≡ record { call = call; reply = LogFullReply full.used full.cap; place = n })) seen c.changed.ensures.full in
-    let called = answered-delete space key c.ranges.key.fits c.come_to_leaf-leaf.result p q c.requires.rest.own come c.commit-committed.result taken.0 c.in-Some.value c.changed.result r (sym value ∙ c.in-Some.is) c.changed.ensures.made full committed refused in
+    let called = answered-delete space key c.come_to_leaf-leaf.result p q c.requires.rest.own come c.commit-committed.result taken.0 c.in-Some.value c.changed.result r (sym value ∙ c.in-Some.is) c.changed.ensures.made full committed refused in
     subst (HasCalled space.sizes (IsKeptLog space.sizes.pages) (by_place opening space.sizes.pages) call c.changed.result p) (search rules) called
 
 pub returns-in_default-clause-alone : goal.returns-in_default-clause-alone
@@ -86,7 +86,7 @@ returns-in_default-clause-alone g c =
     subst (λ (s : Sizes). c.look_in-looked.result.value ≡ value_at key (leaf_page s key q).records) same c.look_in-looked.ensures.value in
     let read : HasRead space.sizes (IsKeptLog space.sizes.pages) q c.commit_read-place.result r = subst (λ (s : Sizes). HasRead s (IsKeptLog s.pages) q c.commit_read-place.result r) same c.commit_read-place.ensures in
     let none : c.look_in-looked.result.value ≡ None = search rules in
-    let alone = alone-read space key c.ranges.key.fits c.come_to_leaf-leaf.result p q c.requires.rest.own come (IsShortFor key) c.commit_read-place.result r read
+    let alone = alone-read space key c.come_to_leaf-leaf.result p q c.requires.rest.own come (IsShortFor key) c.commit_read-place.result r read
     (λ short. let bad : IsSome {T = ℕ} None = subst IsSome (sym value ∙ none) short.0 in let z : false ≡ true = bad in cc) in
     subst (NeededLeaf space.sizes (IsShortFor key) key c.commit_read-place.result) (search rules) alone
 
@@ -112,7 +112,7 @@ returns-clause-alone g c =
     let full : IfErr c.commit-committed.result (λ full. c.changed.result ≡ record { call = call; reply = LogFullReply full.used full.cap; place = length r.view.memory.seen }) =
     subst (λ (n : ℕ). IfErr c.commit-committed.result (λ full. c.changed.result ≡ record { call = call; reply = LogFullReply full.used full.cap; place = n })) seen c.changed.ensures.full in
     let enough : (c.come_to_leaf-leaf.result ≡ 1) ⊎ (FEWEST_RECORDS < c.look_in-looked.result.count) = search rules in
-    let alone = alone-ended space key c.ranges.key.fits c.come_to_leaf-leaf.result p q c.requires.rest.own come (IsShortFor key) c.commit-committed.result taken.0 (Delete key) c.changed.result call (Deleted c.in-Some.value) r
+    let alone = alone-ended space key c.come_to_leaf-leaf.result p q c.requires.rest.own come (IsShortFor key) c.commit-committed.result taken.0 (Delete key) c.changed.result call (Deleted c.in-Some.value) r
     (λ short. elim enough [ inl root ↦ short.1 root | inr more ↦ absurd (let few = short.2 in omega arith) ]) c.changed.ensures.made full committed refused in
     subst (NeededLeaf space.sizes (IsShortFor key) key c.changed.result.place) (search rules) alone
 
@@ -135,7 +135,7 @@ returns-clause-grants g c =
     let seen : c.place.result ≡ length r.view.memory.seen = search rules in
     let full : IfErr c.commit-committed.result (λ full. c.changed.result ≡ record { call = call; reply = LogFullReply full.used full.cap; place = length r.view.memory.seen }) =
     subst (λ (n : ℕ). IfErr c.commit-committed.result (λ full. c.changed.result ≡ record { call = call; reply = LogFullReply full.used full.cap; place = n })) seen c.changed.ensures.full in
-    let takes = takes-ended space key c.ranges.key.fits c.come_to_leaf-leaf.result p q c.requires.rest.own come c.commit-committed.result taken.0 (Delete key) c.changed.result call (Deleted c.in-Some.value) r refl
+    let takes = takes-ended space key c.come_to_leaf-leaf.result p q c.requires.rest.own come c.commit-committed.result taken.0 (Delete key) c.changed.result call (Deleted c.in-Some.value) r refl
     c.changed.ensures.made full committed refused in
     subst (TakesFor space.sizes c.changed.result.reply p) (search rules) takes
 
@@ -147,7 +147,7 @@ returns-in_default-clause-grants g c =
     let come : HasComeToLeaf space.sizes key c.come_to_leaf-leaf.result p q = come-started space.sizes key c.come_to_leaf-leaf.result p q (search (rules, at)) in
     let same : c.come_to_leaf-leaf.new.mtr.latches.now.sizes ≡ space.sizes = ap (λ m. m.now.sizes) (c.come_to_leaf-leaf.ensures.latches ∙ c.start-mtr.ensures.latches) in
     let read : HasRead space.sizes (IsKeptLog space.sizes.pages) q c.commit_read-place.result r = subst (λ (s : Sizes). HasRead s (IsKeptLog s.pages) q c.commit_read-place.result r) same c.commit_read-place.ensures in
-    let takes : TakesFor space.sizes Missing p r = takes-read space key c.ranges.key.fits c.come_to_leaf-leaf.result p q c.requires.rest.own come c.commit_read-place.result r read in
+    let takes : TakesFor space.sizes Missing p r = takes-read space key c.come_to_leaf-leaf.result p q c.requires.rest.own come c.commit_read-place.result r read in
     subst (TakesFor space.sizes Missing p) (search rules) takes
 
 pub returns-then-looked-le-FEWEST_RECORDS-clause-grants : goal.returns-then-looked-le-FEWEST_RECORDS-clause-grants
@@ -158,5 +158,5 @@ returns-then-looked-le-FEWEST_RECORDS-clause-grants g c =
     let come : HasComeToLeaf space.sizes key c.come_to_leaf-leaf.result p q = come-started space.sizes key c.come_to_leaf-leaf.result p q (search (rules, at)) in
     let same : c.come_to_leaf-leaf.new.mtr.latches.now.sizes ≡ space.sizes = ap (λ m. m.now.sizes) (c.come_to_leaf-leaf.ensures.latches ∙ c.start-mtr.ensures.latches) in
     let read : HasRead space.sizes (IsKeptLog space.sizes.pages) q c.commit_read.result r = subst (λ (s : Sizes). HasRead s (IsKeptLog s.pages) q c.commit_read.result r) same c.commit_read.ensures in
-    let takes : TakesFew space.sizes 1 p r = takes-read space key c.ranges.key.fits c.come_to_leaf-leaf.result p q c.requires.rest.own come c.commit_read.result r read in
+    let takes : TakesFew space.sizes 1 p r = takes-read space key c.come_to_leaf-leaf.result p q c.requires.rest.own come c.commit_read.result r read in
     subst (TakesFew space.sizes 1 p) (search rules) takes

@@ -32,7 +32,7 @@ returns-then-is_some-clause-called g c =
     subst (λ (s : Sizes). c.look_in-looked.result.value ≡ value_at key (leaf_page s key q).records) same c.look_in-looked.ensures.value in
     let some = some-value c.look_in-looked.result.value (sym c.is_some.ensures ∙ c.if-is_some.true) in
     let called : HasCalled space.sizes (IsKeptLog space.sizes.pages) (by_place opening space.sizes.pages) (InsertCall key c.args.value) (record { call = InsertCall key c.args.value; reply = Duplicate; place = c.commit_read-place.result }) p r =
-    called-duplicate space key c.ranges.key.fits c.come_to_leaf-leaf.result p q c.requires.rest.own come c.commit_read-place.result r read c.args.value some.0 (sym value ∙ some.1) in
+    called-duplicate space key c.come_to_leaf-leaf.result p q c.requires.rest.own come c.commit_read-place.result r read c.args.value some.0 (sym value ∙ some.1) in
     subst (HasCalled space.sizes (IsKeptLog space.sizes.pages) (by_place opening space.sizes.pages) (InsertCall key c.args.value) (record { call = InsertCall key c.args.value; reply = Duplicate; place = c.commit_read-place.result }) p) (search rules) called
 
 pub returns-then-looked-eq-MOST_RECORDS-clause-called : goal.returns-then-looked-eq-MOST_RECORDS-clause-called
@@ -49,7 +49,7 @@ returns-then-looked-eq-MOST_RECORDS-clause-called g c =
     subst (λ (s : Sizes). c.look_in-looked.result.count ≡ length (leaf_page s key q).records) same c.look_in-looked.ensures.count in
     let none = no-value c.look_in-looked.result.value (sym c.is_some.ensures ∙ c.if-is_some.false) in
     let needs : NeedsTree space.sizes (IsFullFor key) key p r =
-    needs-read space key c.ranges.key.fits c.come_to_leaf-leaf.result p q c.requires.rest.own come c.commit_read.result r read (IsFullFor key) (sym value ∙ none, sym count ∙ c.if-looked-eq-MOST_RECORDS.true) in
+    needs-read space key c.come_to_leaf-leaf.result p q c.requires.rest.own come c.commit_read.result r read (IsFullFor key) (sym value ∙ none, sym count ∙ c.if-looked-eq-MOST_RECORDS.true) in
     subst (NeedsTree space.sizes (IsFullFor key) key p) (search rules) needs
 
 pub returns-clause-called : goal.returns-clause-called
@@ -77,7 +77,7 @@ returns-clause-called g c =
     let seen : c.place.result ≡ length r.view.memory.seen = search rules in
     let full : IfErr c.commit-committed.result (λ full. c.changed.result ≡ record { call = call; reply = LogFullReply full.used full.cap; place = length r.view.memory.seen }) =
     subst (λ (n : ℕ). IfErr c.commit-committed.result (λ full. c.changed.result ≡ record { call = call; reply = LogFullReply full.used full.cap; place = n })) seen c.changed.ensures.full in
-    let called = answered-insert space key c.ranges.key.fits c.come_to_leaf-leaf.result p q c.requires.rest.own come c.commit-committed.result put.0 c.args.value c.changed.result r (sym value ∙ none) room c.changed.ensures.made full committed refused in
+    let called = answered-insert space key c.come_to_leaf-leaf.result p q c.requires.rest.own come c.commit-committed.result put.0 c.args.value c.changed.result r (sym value ∙ none) room c.changed.ensures.made full committed refused in
     subst (HasCalled space.sizes (IsKeptLog space.sizes.pages) (by_place opening space.sizes.pages) call c.changed.result p) (search rules) called
 
 pub returns-then-is_some-clause-alone : goal.returns-then-is_some-clause-alone
@@ -92,7 +92,7 @@ returns-then-is_some-clause-alone g c =
     subst (λ (s : Sizes). c.look_in-looked.result.value ≡ value_at key (leaf_page s key q).records) same c.look_in-looked.ensures.value in
     let some = some-value c.look_in-looked.result.value (sym c.is_some.ensures ∙ c.if-is_some.true) in
     let there = sym value ∙ some.1 in
-    let alone = alone-read space key c.ranges.key.fits c.come_to_leaf-leaf.result p q c.requires.rest.own come (IsFullFor key) c.commit_read-place.result r read (λ full. let none = full.0 in let both : Some some.0 ≡ None = sym there ∙ none in cc) in
+    let alone = alone-read space key c.come_to_leaf-leaf.result p q c.requires.rest.own come (IsFullFor key) c.commit_read-place.result r read (λ full. let none = full.0 in let both : Some some.0 ≡ None = sym there ∙ none in cc) in
     subst (NeededLeaf space.sizes (IsFullFor key) key c.commit_read-place.result) (search rules) alone
 
 pub returns-clause-alone : goal.returns-clause-alone
@@ -117,7 +117,7 @@ returns-clause-alone g c =
     let seen : c.place.result ≡ length r.view.memory.seen = search rules in
     let full : IfErr c.commit-committed.result (λ full. c.changed.result ≡ record { call = call; reply = LogFullReply full.used full.cap; place = length r.view.memory.seen }) =
     subst (λ (n : ℕ). IfErr c.commit-committed.result (λ full. c.changed.result ≡ record { call = call; reply = LogFullReply full.used full.cap; place = n })) seen c.changed.ensures.full in
-    let alone = alone-ended space key c.ranges.key.fits c.come_to_leaf-leaf.result p q c.requires.rest.own come (IsFullFor key) c.commit-committed.result put.0 (Insert key c.args.value) c.changed.result call Inserted r
+    let alone = alone-ended space key c.come_to_leaf-leaf.result p q c.requires.rest.own come (IsFullFor key) c.commit-committed.result put.0 (Insert key c.args.value) c.changed.result call Inserted r
     (λ many. let all = many.1 in omega arith) c.changed.ensures.made full committed refused in
     subst (NeededLeaf space.sizes (IsFullFor key) key c.changed.result.place) (search rules) alone
 
@@ -140,7 +140,7 @@ returns-clause-grants g c =
     let seen : c.place.result ≡ length r.view.memory.seen = search rules in
     let full : IfErr c.commit-committed.result (λ full. c.changed.result ≡ record { call = call; reply = LogFullReply full.used full.cap; place = length r.view.memory.seen }) =
     subst (λ (n : ℕ). IfErr c.commit-committed.result (λ full. c.changed.result ≡ record { call = call; reply = LogFullReply full.used full.cap; place = n })) seen c.changed.ensures.full in
-    let takes = takes-ended space key c.ranges.key.fits c.come_to_leaf-leaf.result p q c.requires.rest.own come c.commit-committed.result put.0 (Insert key c.args.value) c.changed.result call Inserted r refl
+    let takes = takes-ended space key c.come_to_leaf-leaf.result p q c.requires.rest.own come c.commit-committed.result put.0 (Insert key c.args.value) c.changed.result call Inserted r refl
     c.changed.ensures.made full committed refused in
     subst (TakesFor space.sizes c.changed.result.reply p) (search rules) takes
 
@@ -152,7 +152,7 @@ returns-then-is_some-clause-grants g c =
     let come : HasComeToLeaf space.sizes key c.come_to_leaf-leaf.result p q = come-started space.sizes key c.come_to_leaf-leaf.result p q (search (rules, at)) in
     let same : c.come_to_leaf-leaf.new.mtr.latches.now.sizes ≡ space.sizes = ap (λ m. m.now.sizes) (c.come_to_leaf-leaf.ensures.latches ∙ c.start-mtr.ensures.latches) in
     let read : HasRead space.sizes (IsKeptLog space.sizes.pages) q c.commit_read-place.result r = subst (λ (s : Sizes). HasRead s (IsKeptLog s.pages) q c.commit_read-place.result r) same c.commit_read-place.ensures in
-    let takes : TakesFor space.sizes Duplicate p r = takes-read space key c.ranges.key.fits c.come_to_leaf-leaf.result p q c.requires.rest.own come c.commit_read-place.result r read in
+    let takes : TakesFor space.sizes Duplicate p r = takes-read space key c.come_to_leaf-leaf.result p q c.requires.rest.own come c.commit_read-place.result r read in
     subst (TakesFor space.sizes Duplicate p) (search rules) takes
 
 pub returns-then-looked-eq-MOST_RECORDS-clause-grants : goal.returns-then-looked-eq-MOST_RECORDS-clause-grants
@@ -163,5 +163,5 @@ returns-then-looked-eq-MOST_RECORDS-clause-grants g c =
     let come : HasComeToLeaf space.sizes key c.come_to_leaf-leaf.result p q = come-started space.sizes key c.come_to_leaf-leaf.result p q (search (rules, at)) in
     let same : c.come_to_leaf-leaf.new.mtr.latches.now.sizes ≡ space.sizes = ap (λ m. m.now.sizes) (c.come_to_leaf-leaf.ensures.latches ∙ c.start-mtr.ensures.latches) in
     let read : HasRead space.sizes (IsKeptLog space.sizes.pages) q c.commit_read.result r = subst (λ (s : Sizes). HasRead s (IsKeptLog s.pages) q c.commit_read.result r) same c.commit_read.ensures in
-    let takes : TakesFew space.sizes 1 p r = takes-read space key c.ranges.key.fits c.come_to_leaf-leaf.result p q c.requires.rest.own come c.commit_read.result r read in
+    let takes : TakesFew space.sizes 1 p r = takes-read space key c.come_to_leaf-leaf.result p q c.requires.rest.own come c.commit_read.result r read in
     subst (TakesFew space.sizes 1 p) (search rules) takes

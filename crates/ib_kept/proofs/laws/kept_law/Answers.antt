@@ -14,15 +14,15 @@ pub returns-clause-space_clock : goal.returns-clause-space_clock
 returns-clause-space_clock c pages log fits kept = space_clock-le pages fits log kept
 
 pub returns-clause-lookup : goal.returns-clause-lookup
-returns-clause-lookup c pages log key fits kept is = in-leaf pages fits log kept key is
+returns-clause-lookup c pages log key fits kept = in-leaf pages fits log kept key
 
 pub returns-clause-room : goal.returns-clause-room
-returns-clause-room c pages log key fits kept is room = insert-room pages fits log kept key is room
+returns-clause-room c pages log key fits kept room = insert-room pages fits log kept key room
 
 pub returns-clause-leaf_insert : goal.returns-clause-leaf_insert
-returns-clause-leaf_insert c pages log key value e fits kept is missing room changes =
-    (insert-planned pages fits log kept key is e value missing room changes, insert-kept pages fits log kept key is e value missing room changes)
+returns-clause-leaf_insert c pages log key value e fits kept missing room changes =
+    (insert-planned pages fits log kept key e value missing room changes, insert-kept pages fits log kept key e value missing room changes)
 
 pub returns-clause-leaf_delete : goal.returns-clause-leaf_delete
-returns-clause-leaf_delete c pages log key value e fits kept is there enough changes =
-    (delete-planned pages fits log kept key is e value there enough changes, delete-kept pages fits log kept key is e value there enough changes)
+returns-clause-leaf_delete c pages log key value e fits kept there enough changes =
+    (delete-planned pages fits log kept key e value there enough changes, delete-kept pages fits log kept key e value there enough changes)

@@ -14,5 +14,5 @@ up-to (Some key) = omega arith
 pub returns-clause-same : goal.returns-clause-same
 returns-clause-same c =
     let e = ap (pairs_inside (end_of c.args.high)) c.range.ensures.pairs ∙ pairs_inside-cut c.args.map.now c.args.low c.unwrap_or.result (end_of c.args.high)
-    (subst (λ (k : MapKey). end_of c.args.high ≤ rank k + 1) (sym c.unwrap_or.ensures) (up-to c.args.high)) in
+    (subst (λ (k : MapKey). end_of c.args.high ≤ rank k + 1) (sym (rw c.greatest.ensures at c.unwrap_or.ensures)) (up-to c.args.high)) in
     (λ t. c.has_pairs.ensures.same.0 t ∙ e, λ h. c.has_pairs.ensures.same.1 (h ∙ sym e))

@@ -13,14 +13,14 @@ not-inside b x y h e = elim (cases_lt x y) [ inl lt ↦ let t : b ≡ true = h.1
 
 pub returns-then-not-is_record_at-clause-same : goal.returns-then-not-is_record_at-clause-same
 returns-then-not-is_record_at-clause-same c =
-    pair-differs (state_of (page_of c.args.image.now)).records c.args.pairs.now c.loop-pair.place c.loop-pair.pair-index (end_of c.args.high) _ _ c.loop-pair-test.true c.loop-pair.invariant.same
+    pair-differs (state_of (page_of c.args.image.now)).records c.args.pairs.now c.loop-pair.place c.loop-pair.pair-index (end_of c.args.high) c.pair-item.result c.pair-item.is _ c.loop-pair-test.true c.loop-pair.invariant.same
     (c.is_inside.ensures.0 c.if-is_inside.true) (λ h. let t : c.is_record_at.result ≡ true = c.is_record_at.ensures.1 h in let f = c.if-not-is_record_at.true in cc)
 
 pub loop-pair-preserved : goal.loop-pair-preserved
 loop-pair-preserved c = elim c.if-is_inside.branch [
   | then-is_inside+else-not-is_record_at w ↦
       let at = w.is_record_at.ensures.0 w.if-not-is_record_at.false in
-      let next = pair-inside (state_of (page_of c.args.image.now)).records c.args.pairs.now c.loop-pair.place c.loop-pair.pair-index (end_of c.args.high) _ _ c.loop-pair-test.true c.loop-pair.invariant.same
+      let next = pair-inside (state_of (page_of c.args.image.now)).records c.args.pairs.now c.loop-pair.place c.loop-pair.pair-index (end_of c.args.high) c.pair-item.result c.pair-item.is _ c.loop-pair-test.true c.loop-pair.invariant.same
       (c.is_inside.ensures.0 w.if-is_inside.true) at in
       record {
         same = subst (λ (k : ℕ). ((state_of (page_of c.args.image.now)).records ≡ pairs_inside (end_of c.args.high) c.args.pairs.now)
@@ -28,7 +28,7 @@ loop-pair-preserved c = elim c.if-is_inside.branch [
         far = let within : c.loop-pair.place + 1 ≤ length (state_of (page_of c.args.image.now)).records = within-slice_get _ _ _ at in let e = w.place-is in omega arith;
       }
   | else-is_inside w ↦
-      let next = pair-outside (state_of (page_of c.args.image.now)).records c.args.pairs.now c.loop-pair.place c.loop-pair.pair-index (end_of c.args.high) _ _ c.loop-pair-test.true c.loop-pair.invariant.same
+      let next = pair-outside (state_of (page_of c.args.image.now)).records c.args.pairs.now c.loop-pair.place c.loop-pair.pair-index (end_of c.args.high) c.pair-item.result c.pair-item.is _ c.loop-pair-test.true c.loop-pair.invariant.same
       (not-inside c.is_inside.result _ _ c.is_inside.ensures w.if-is_inside.false) in
       record {
         same = subst (λ (k : ℕ). ((state_of (page_of c.args.image.now)).records ≡ pairs_inside (end_of c.args.high) c.args.pairs.now)

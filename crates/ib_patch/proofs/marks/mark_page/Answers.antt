@@ -22,18 +22,18 @@ returns-then-not-written-page-clause-marks c other = elim (cases_eq other c.args
       ∙ sym (ap (λ b. marks_of c.args.written.now other || b) (ne_eqb c.args.page other (λ e. ne (sym e))) ∙ or-false (marks_of c.args.written.now other))
 ]
 
+pub push_reserved-requires : goal.push_reserved-requires
+push_reserved-requires c =
+    let fresh = marks_of-at c.args.written.now c.args.page false c.requires.in_range ∙ c.if-not-written-page.true in
+    let few = listed-room (marks_of c.args.written.now) c.args.pages.now.items (length c.args.written.now) c.args.page c.requires.listed fresh c.requires.in_range in
+    omega (arith, c.args.pages.now.ok, c.requires.room)
+
 pub returns-then-not-written-page-clause-listed : goal.returns-then-not-written-page-clause-listed
 returns-then-not-written-page-clause-listed c =
     let fresh = marks_of-at c.args.written.now c.args.page false c.requires.in_range ∙ c.if-not-written-page.true in
     subst (λ (ps : List ℕ). IsListed (marks_of (set c.args.written.now c.args.page true)) ps (length c.args.written.now)) (sym c.push_reserved.ensures.items)
     (listed-push (marks_of c.args.written.now) (marks_of (set c.args.written.now c.args.page true)) c.args.page (λ q ne. marks_of-set_other c.args.written.now c.args.page true q ne)
     (marks_of-set_same c.args.written.now c.args.page true c.requires.in_range) fresh c.args.pages.now.items (length c.args.written.now) c.requires.in_range c.requires.listed)
-
-pub push_reserved-requires : goal.push_reserved-requires
-push_reserved-requires c =
-    let fresh = marks_of-at c.args.written.now c.args.page false c.requires.in_range ∙ c.if-not-written-page.true in
-    let few = listed-room (marks_of c.args.written.now) c.args.pages.now.items (length c.args.written.now) c.args.page c.requires.listed fresh c.requires.in_range in
-    omega (arith, c.args.pages.now.ok, c.requires.room)
 
 pub returns-else-not-written-page-clause-marks : goal.returns-else-not-written-page-clause-marks
 returns-else-not-written-page-clause-marks c other = elim (cases_eq other c.args.page) [

@@ -1,5 +1,5 @@
 use Rattle.std.proofs.Common.{◌≡◌, ◌∙◌, sym, ap, Some, None}
-use Rattle.ib_map.specs.Keys.{end_rank}
+use Rattle.ib_map.specs.Keys.{rank, end_rank}
 use Rattle.ib_map.proofs.KeyLaws.{rank-least}
 use Rattle.ib_patch.specs.declared.position.PagePosition.{PagePosition}
 use Rattle.ib_patch.specs.PatchTest.{Position}
@@ -9,8 +9,8 @@ use Rattle.ib_patch.proofs.tree_pages.opening_position.Goals as goal
 
 pub returns : goal.returns
 returns c =
-    let low = rank-least in
-    let position : PagePosition = record { tree = 1; height = 0; low = 0; high = None } in
+    let low = ap rank c.least.ensures ∙ rank-least in
+    let position : PagePosition = record { tree = 1; height = 0; low = c.least.result; high = None } in
     let first : Position = record { tree = 1; height = 0; low = 0; high = end_rank } in
     let same : position_in position ≡ first = λ i. record { tree = 1; height = 0; low = low i; high = end_rank } in
     ap (λ (e : Position). Some e) same ∙ sym (cond-eq c.args.page 1 (Some first) None c.if-page-ne-ROOT.false)

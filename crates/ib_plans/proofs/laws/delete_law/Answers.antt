@@ -8,7 +8,7 @@ use Rattle.ib_plans.proofs.LeadsLaws.{LeadsTo-ticked}
 use Rattle.ib_plans.proofs.laws.delete_law.Goals as goal
 
 pub returns : goal.returns
-returns c memory bits roots root key law some le is =
-    let plan = IsPlannedDelete-plan memory bits roots law key (rank-lt_end key is) root some le in
+returns c memory bits roots root key law some le =
+    let plan = IsPlannedDelete-plan memory bits roots law key (rank-lt_end key) root some le in
     let s = planned_delete memory bits key root in
     LeadsTo-ticked memory s.memory s.bits roots root s.touched (without key (content_of memory root)) some le plan.lawful plan.holds plan.others plan.ranges plan.rest

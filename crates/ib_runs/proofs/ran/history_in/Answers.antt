@@ -17,13 +17,13 @@ loop-place-smaller c =
     let a = f.stands.ends in
     let b = f.stands.within in
     let d = length-words_of_entry f.entry in
-    let smaller : length c.args.words.now - c.in-Ok.next < length c.args.words.now - c.loop-place.place = omega arith in smaller
+    let smaller : length c.args.words.now - c.in-Ok.found.1 < length c.args.words.now - c.loop-place.place = omega arith in smaller
 
 pub loop-place-preserved : goal.loop-place-preserved
 loop-place-preserved c = record {
   within = c.in-Ok.ensures.found.stands.within;
   read = λ log grammar spelled. read_more c.args.pages c.args.words.now c.loop-place.place c.loop-place.history.items log grammar spelled (c.loop-place.invariant.read log grammar spelled) c.loop-place-test.true
-      c.head_at.result c.in-Ok.head c.in-Ok.next c.head_at.ensures.only c.in-Ok.is c.push.new.self.items
+      c.head_at.result c.in-Ok.found.0 c.in-Ok.found.1 c.head_at.ensures.only c.in-Ok.is c.push.new.self.items
       (c.in_ok-push.ensures.items ∙ ap (λ (x : LoggedChange). c.loop-place.history.items ++ x ∷ []) c.logged.ensures);
 }
 

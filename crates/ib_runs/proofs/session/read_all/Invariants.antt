@@ -9,9 +9,9 @@ invariant-loop-pass g l = record {
   rest : IsAtRest l.index l.pass;
   number : l.pass.number ≡ l.fn.pass.number;
   room : l.chunks.chunk_room ≤ 64;
-  ascends : rank l.low ≤ rank l.high;
+  ascends : rank l.fn.low ≤ rank l.high;
   to : rank l.next ≤ rank l.high;
-  so_far : IsSoFar l.index.sizes l.low l.high l.next l.fn.chunks l.chunks l.fn.pass l.pass;
+  so_far : IsSoFar l.index.sizes l.fn.low l.high l.next l.fn.chunks l.chunks l.fn.pass l.pass;
 }
 
 abbrev pub decreases-loop-pass : goal.decreases-loop-pass

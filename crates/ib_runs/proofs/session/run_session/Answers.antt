@@ -3,7 +3,6 @@ use Rattle.std.proofs.lemmas.List.{nil_from_length, take_more}
 use Rattle.ib_map.specs.FullRecords.{total_chunks}
 use Rattle.ib_map.specs.Replies.{FullRecord}
 use Rattle.ib_map.specs.declared.call.Call.{Call}
-use Rattle.ib_map.specs.declared.call.Call.TheVariants.{Insert}
 use Rattle.ib_layout.specs.Geometry.{Sizes}
 use Rattle.ib_rule.specs.Views.{total}
 use Rattle.ib_runs.specs.Answers.{KeptAnswers, answers_of}
@@ -38,10 +37,12 @@ loop-call-preserved g c =
     let i = c.loop-call.invariant in
     let calls : List Call = c.args.commands.now in
     let at = c.loop-call.call-index in
-    let call : Call = get_or calls at (Insert 0 0) in
-    let a : HasOneMore sizes call c.loop-call.out c.answer.new.out c.loop-call.pass c.answer.new.pass = c.in_ok-answer.ensures.more in
+    let item : Call = c.call-item.result in
+    let call : Call = get_or calls at item in
+    let a : HasOneMore sizes call c.loop-call.out c.answer.new.out c.loop-call.pass c.answer.new.pass =
+    subst (λ (it : Call). HasOneMore sizes it c.loop-call.out c.answer.new.out c.loop-call.pass c.answer.new.pass) c.call-item.is c.in_ok-answer.ensures.more in
     let more = answered_more sizes call a.r c.args.pass.now c.loop-call.pass c.answer.new.pass a.answered (take at calls) (answers_of c.loop-call.out) a.least a.grants i.answered in
-    let next : take at calls ++ call ∷ [] ≡ take (at + 1) calls = sym (take_more calls at (Insert 0 0) c.loop-call-test.true) in
+    let next : take at calls ++ call ∷ [] ≡ take (at + 1) calls = sym (take_more calls at item c.loop-call-test.true) in
     record {
       rest = c.answer.ensures.rest;
       same = c.answer.ensures.number ∙ i.same;

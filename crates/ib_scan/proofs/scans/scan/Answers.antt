@@ -14,5 +14,5 @@ returns-clause-fits g c = λ le.
     let has : has_pages sizes.pages ≡ true = search rules in
     if_any (λ answer. (h : HasScanned sizes (g.L.Law.lawful sizes.pages) (by_place g.L.Law.opening sizes.pages) 1 c.args.low c.args.high answer c.args.out.now c.scan_at.new.out c.args.pass.now c.scan_at.new.pass)
     → FitsSeen sizes (by_place g.L.Law.opening sizes.pages) answer h.gone.spans c.args.pass.now c.scan_at.new.pass) c.scan_at.result
-    (λ answer. scan_fits sizes (g.L.Law.lawful sizes.pages) (by_place g.L.Law.opening sizes.pages) (λ xs ys. g.met.L.Law.begins sizes.pages xs ys has) (λ log. c.trees_law.ensures.content sizes.pages log has) c.args.low c.args.high c.ranges.high.fits le
+    (λ answer. scan_fits sizes (g.L.Law.lawful sizes.pages) (by_place g.L.Law.opening sizes.pages) (λ xs ys. g.met.L.Law.begins sizes.pages xs ys has) (λ log. c.trees_law.ensures.content sizes.pages log has) c.args.low c.args.high le
     answer c.args.out.now c.scan_at.new.out c.args.pass.now c.scan_at.new.pass)

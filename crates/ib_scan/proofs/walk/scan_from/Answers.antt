@@ -2,7 +2,7 @@
 use Rattle.std.proofs.Common.{◌≡◌, ◌≢◌, ◌<◌, ◌∙◌, ℕ, Bool, true, false, sym, ap, subst, arith}
 use Rattle.ib_map.specs.Keys.{rank}
 use Rattle.ib_map.specs.Chunks.{HeldChunks}
-use Rattle.ib_map.proofs.KeyLaws.{rank_injective, IsKey-rank}
+use Rattle.ib_map.proofs.KeyLaws.{rank_injective}
 use Rattle.ib_layout.specs.Geometry.{Sizes}
 use Rattle.ib_logrec.specs.Log.{by_place}
 use Rattle.ib_rule.specs.Pass.{PassState}
@@ -60,7 +60,7 @@ returns-then-is_same-clause-scanned g c =
     let front = some_front sizes g.L.Trees.ROOTS (g.L.Law.lawful sizes.pages) (by_place g.L.Law.opening sizes.pages) c.trees_of.ensures.laws c.args.sought.root c.loop-sought.start found.leaf found.passed p q come.along in
     let span = span_read sizes g.L.Trees.ROOTS (g.L.Law.lawful sizes.pages) (by_place g.L.Law.opening sizes.pages) c.trees_of.ensures.laws c.args.sought.root c.loop-sought.leaf c.args.sought.low c.loop-sought.start c.args.sought.high c.args.out.now c.loop-sought.out p0 p i found q come in
     let put = subst (λ (b : Bool). HasPut span b c.loop-sought.out c.put-fits.new.out) c.if-not-fits.false (subst (λ (n : ℕ). HasPut (record span { place = n }) c.put-fits.result c.loop-sought.out c.put-fits.new.out) c.place-place.ensures (c.put-fits.ensures come.along.last.image l.is)) in
-    let same : found.end ≡ c.args.sought.high = rank_injective found.end c.args.sought.high (IsKey-rank found.end c.is_same.ensures.first) (IsKey-rank c.args.sought.high c.is_same.ensures.second) (c.is_same.ensures.same.0 c.if-is_same.true) in
+    let same : found.end ≡ c.args.sought.high = rank_injective found.end c.args.sought.high (c.is_same.ensures.same.0 c.if-is_same.true) in
     ended sizes g.L.Trees.ROOTS (g.L.Law.lawful sizes.pages) (by_place g.L.Law.opening sizes.pages) c.trees_of.ensures.laws c.args.sought.root c.loop-sought.leaf c.args.sought.low c.loop-sought.start c.args.sought.high c.args.out.now c.loop-sought.out p0 p i found q come
     r (c.leave_front.ensures.left front) c.leave_front.ensures.aside c.put-fits.new.out put (part_short come.along.last.image c.loop-sought.start found.end l.tree) same
 
@@ -73,7 +73,7 @@ unwrap-start-requires g c =
     (on_leaf sizes g.L.Trees.ROOTS (g.L.Law.lawful sizes.pages) (by_place g.L.Law.opening sizes.pages) c.trees_of.ensures.laws c.args.sought.root c.loop-sought.leaf c.args.sought.low c.loop-sought.start c.args.sought.high c.args.out.now c.loop-sought.out p0 p c.loop-sought.invariant.to) in
     let le = ends_within c.loop-sought.start c.args.sought.high found.end come.along.last.image come.ends in
     let ne : rank found.end ≢ rank c.args.sought.high = λ e. (let t : c.is_same.result ≡ true = c.is_same.ensures.same.1 e in let f : c.is_same.result ≡ false = c.if-is_same.false in cc) in
-    some_after found.end c.args.sought.high c.after.result c.after.ensures.next (IsKey-rank found.end c.is_same.ensures.first) (omega arith) c.is_same.ensures.second
+    some_after found.end c.args.sought.high c.after.result c.after.ensures.next (omega arith) c.is_same.ensures.second
 
 pub loop-sought-smaller : goal.loop-sought-smaller
 loop-sought-smaller g c =
@@ -111,5 +111,5 @@ loop-sought-preserved g c =
       pass = c.leave_front.ensures.pass ∙ (c.come_to_end-found.ensures.pass ∙ c.loop-sought.invariant.pass);
       to = again sizes g.L.Trees.ROOTS (g.L.Law.lawful sizes.pages) (by_place g.L.Law.opening sizes.pages) c.trees_of.ensures.laws c.args.sought.root c.loop-sought.leaf c.args.sought.low c.loop-sought.start c.args.sought.high c.args.out.now c.loop-sought.out p0 p i found q come
           r (c.leave_front.ensures.left front) c.leave_front.ensures.aside c.put-fits.new.out put (part_short come.along.last.image c.loop-sought.start found.end l.tree)
-          c.unwrap-start.result (sym c.after.ensures.next ∙ c.unwrap-start.ensures) lt (IsKey-rank c.args.sought.high c.is_same.ensures.second) (IsKey-rank found.end c.is_same.ensures.first);
+          c.unwrap-start.result (sym c.after.ensures.next ∙ c.unwrap-start.ensures) lt;
     }

@@ -26,7 +26,7 @@ next_leaf-requires-clause-held g c =
     let same = ap (λ m. m.now.sizes) c.descend-path.ensures.latches in
     let end = c.descend-path.ensures.descended in
     let at : c.unwrap-leaf.result ≡ end.come.leaf = last_of_path c.last.result c.unwrap-leaf.result c.descend-path.result end.come.front end.come.leaf end.come.ends c.last.ensures.last c.unwrap-leaf.ensures in
-    let held = holds_end sizes g.L.Trees.ROOTS (g.L.Law.lawful sizes.pages) (by_place g.L.Law.opening sizes.pages) laws 1 (omega arith) c.requires.root c.args.key (rank-lt_end c.args.key c.ranges.key.fits)
+    let held = holds_end sizes g.L.Trees.ROOTS (g.L.Law.lawful sizes.pages) (by_place g.L.Law.opening sizes.pages) laws 1 (omega arith) c.requires.root c.args.key (rank-lt_end c.args.key)
     c.descend-path.result c.args.mtr.now.pass.now q end in
     let there : changed_of c.unwrap-leaf.result q.work ≡ Some end.image = ap (λ (n : ℕ). changed_of n q.work) at ∙ (ap (changed_of end.come.leaf) end.work ∙ there_in end.come.leaf end.image) in
     let link : c.link_of.result ≡ next_of end.image = subst (λ (o : Option (List ℕ)). IfSome o (λ image. c.link_of.result ≡ next_of image)) there c.link_of.ensures.link in

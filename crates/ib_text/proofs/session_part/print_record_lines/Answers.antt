@@ -1,10 +1,10 @@
-use Rattle.std.proofs.Common.{◌≡◌, ℕ, ◌+◌, ◌-◌, List, refl, arith, ap, get_or, length, take}
+use Rattle.std.proofs.Common.{◌≡◌, ◌∙◌, ℕ, ◌+◌, ◌-◌, List, refl, arith, ap, subst, get_or, length, take}
 use Rattle.ib_map.specs.Replies.{Span}
 use Rattle.ib_map.specs.Chunks.{spans_of}
 use Rattle.ib_map.specs.FullRecords.{chunk_count, total_chunks}
-use Rattle.ib_map.specs.declared.call.Call.TheVariants.{Insert}
 use Rattle.ib_map.specs.declared.call.Record.{Record}
-use Rattle.ib_map.specs.declared.call.Reply.TheVariants.{Inserted}
+use Rattle.ib_edge.specs.Writer.{Puts}
+use Rattle.ib_text.specs.Output.{record_line}
 use Rattle.ib_text.proofs.Neighbours.{AreNeighbours-within, spans_of-within}
 use Rattle.ib_text.proofs.Records.{records_text-more, total_chunks-more, total_chunks-within}
 use Rattle.ib_edge.proofs.Writing.{puts_none, puts_on}
@@ -12,9 +12,11 @@ use Rattle.ib_text.proofs.session_part.print_record_lines.Goals as goal
 
 pub slice_bounds-print_chunk_lines-end : goal.slice_bounds-print_chunk_lines-end
 slice_bounds-print_chunk_lines-end g c =
-    let none : Record = record { call = Insert 0 0; reply = Inserted; place = 0 } in
+    let rs : List Record = c.args.records.now in
     let i : ℕ = c.loop-answered.answered-index in
-    omega (arith, total_chunks-within c.args.records.now (i + 1), total_chunks-more c.args.records.now i none c.loop-answered-test.true, c.chunk_count.ensures, c.loop-answered.invariant.0, c.requires, ap length c.list-list.ensures.list)
+    let item : Record = c.answered-item.result in
+    let count : c.chunk_count.result ≡ chunk_count (get_or rs i item).reply = c.chunk_count.ensures ∙ ap (λ (r : Record). chunk_count r.reply) c.answered-item.is in
+    omega (arith, total_chunks-within rs (i + 1), total_chunks-more rs i item c.loop-answered-test.true, count, c.loop-answered.invariant.0, c.requires, ap length c.list-list.ensures.list)
 
 pub print_chunk_lines-requires : goal.print_chunk_lines-requires
 print_chunk_lines-requires g c = rw (c.list-list.ensures.list, c.pairs.ensures.pairs) (AreNeighbours-within _ c.loop-answered.next c.args.chunks.now.list c.args.chunks.now.pairs c.list-list.ensures.adjacent)
@@ -24,16 +26,17 @@ loop-answered-init g c = (refl, puts_none _)
 
 pub loop-answered-preserved : goal.loop-answered-preserved
 loop-answered-preserved g c =
-    let none : Record = record { call = Insert 0 0; reply = Inserted; place = 0 } in
     let rs : List Record = c.args.records.now in
     let i : ℕ = c.loop-answered.answered-index in
-    let n : ℕ = chunk_count (get_or rs i none).reply in
+    let item : Record = c.answered-item.result in
+    let n : ℕ = chunk_count (get_or rs i item).reply in
     let spans : List Span = spans_of c.args.chunks.now.list c.args.chunks.now.pairs in
-    let count : c.chunk_count.result ≡ n = c.chunk_count.ensures in
+    let count : c.chunk_count.result ≡ n = c.chunk_count.ensures ∙ ap (λ (r : Record). chunk_count r.reply) c.answered-item.is in
     let at : c.loop-answered.next ≡ total_chunks (take i rs) = c.loop-answered.invariant.0 in
     let len : (c.loop-answered.next + c.chunk_count.result) - c.loop-answered.next ≡ n = omega (arith, count) in
     let own = spans_of-within n (total_chunks (take i rs)) c.args.chunks.now.list c.args.chunks.now.pairs in
-    let chunks = rw (c.list-list.ensures.list, c.pairs.ensures.pairs, len, at, own) at c.print_chunk_lines.ensures.puts in (
-      omega (arith, total_chunks-more rs i none c.loop-answered-test.true, at, count),
-      rw (records_text-more rs i none spans c.loop-answered-test.true) (puts_on c.loop-answered.invariant.1 (puts_on c.print_record_line.ensures.puts chunks)),
+    let chunks = rw (c.list-list.ensures.list, c.pairs.ensures.pairs, len, at, own) at c.print_chunk_lines.ensures.puts in
+    let line = subst (λ (r : Record). Puts g.K.Sink.written g.K.Sink.faults c.loop-answered.writer c.print_record_line.new.writer (record_line r.call r.reply r.place)) c.answered-item.is c.print_record_line.ensures.puts in (
+      omega (arith, total_chunks-more rs i item c.loop-answered-test.true, at, count),
+      rw (records_text-more rs i item spans c.loop-answered-test.true) (puts_on c.loop-answered.invariant.1 (puts_on line chunks)),
     )

@@ -1,4 +1,4 @@
-use Rattle.std.proofs.Common.{◌≡◌, ◌+◌, List, ◌∷◌, [], ◌++◌, arith, flat_map, get_or, drop, add-one, length, refl}
+use Rattle.std.proofs.Common.{◌≡◌, ◌∙◌, ◌+◌, List, ◌∷◌, [], ◌++◌, ap, sym, arith, flat_map, drop, add-one, length, refl}
 use Rattle.std.proofs.Math.Seq.{drop-cons}
 use Rattle.std.proofs.lemmas.List.{drop_all}
 use Rattle.ib_map.specs.Chunks.{spans_of}
@@ -29,9 +29,10 @@ print_joined_chunks-requires-clause-within g c = within_pairs _ _ _ _ _ _ c.loop
 pub loop-chunk-preserved : goal.loop-chunk-preserved
 loop-chunk-preserved g c =
     let inv = c.loop-chunk.invariant in
-    let none : Chunk = record { low = 0; high = 0; place = 0; start = 0; len = 0 } in
-    let chunk : Chunk = get_or c.in-Some.rest.now c.loop-chunk.chunk-index none in
-    let split : drop c.loop-chunk.chunk-index c.in-Some.rest.now ≡ chunk ∷ drop (c.loop-chunk.chunk-index + 1) c.in-Some.rest.now = rw add-one (drop-cons c.in-Some.rest.now c.loop-chunk.chunk-index none c.loop-chunk-test.true) in
+    let chunk : Chunk = c.chunk-item.result in
+    let behind : List Chunk = drop (c.loop-chunk.chunk-index + 1) c.in-Some.rest.now in
+    let split : drop c.loop-chunk.chunk-index c.in-Some.rest.now ≡ chunk ∷ behind =
+    (rw add-one (drop-cons c.in-Some.rest.now c.loop-chunk.chunk-index chunk c.loop-chunk-test.true)) ∙ ap (λ (it : Chunk). it ∷ behind) (sym c.chunk-item.is) in
     let is = rw split at inv.2 in
     elim c.if-chunk-first.branch [
       | then-chunk-first w ↦ (

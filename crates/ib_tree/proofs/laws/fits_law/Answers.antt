@@ -12,7 +12,7 @@ pub returns-clause-answers : goal.returns-clause-answers
 returns-clause-answers c space log more session reach rs are = answers_longer space log more session reach rs are
 
 pub returns-clause-chunks : goal.returns-clause-chunks
-returns-clause-chunks c space log low high floor spans end content is_key le whole = chunks_whole space log content high is_key low floor spans end le whole
+returns-clause-chunks c space log low high floor spans end content le whole = chunks_whole space log content high low floor spans end le whole
 
 pub returns-clause-scan : goal.returns-clause-scan
-returns-clause-scan c space log session reach low high floor spans end content is_key le whole = FitsLog-whole space log content high is_key session reach low floor spans end le whole
+returns-clause-scan c space log session reach low high floor spans end content le whole = FitsLog-whole space log content high session reach low floor spans end le whole

@@ -1,5 +1,5 @@
 use Rattle.std.proofs.Common.{◌≡◌, ◌∙◌, ◌+◌, suc, sym, ap, arith, Some, None}
-use Rattle.ib_map.specs.Keys.{end_rank}
+use Rattle.ib_map.specs.Keys.{rank, end_rank}
 use Rattle.ib_map.proofs.KeyLaws.{rank-least}
 use Rattle.ib_patch.specs.declared.position.PagePosition.{PagePosition}
 use Rattle.ib_patch.specs.PatchTest.{set_at}
@@ -15,8 +15,8 @@ loop-met-preserved c =
     let kept = c.loop-met.auto.table in
     let root = c.loop-met.met + 1 in
     let next : root ≡ suc c.loop-met.met = omega arith in
-    let low = rank-least in
-    let position : PagePosition = record { tree = root; height = 0; low = 0; high = None } in
+    let low = ap rank c.least.ensures ∙ rank-least in
+    let position : PagePosition = record { tree = root; height = 0; low = c.least.result; high = None } in
     let same : position_in position ≡ root_position root = λ i. record { tree = root; height = 0; low = low i; high = end_rank } in
     positions_of-set c.loop-met.table root (Some position) (omega arith)
     ∙ (ap (λ e. set_at (positions_of c.loop-met.table) root (Some e)) same

@@ -1,6 +1,6 @@
 use Rattle.std.proofs.Common.{◌≡◌, ◌∙◌, ◌-◌, ◌+◌, suc, sym, ap, arith, Some, None, length}
 use Rattle.std.proofs.lemmas.Bool.{cond-true, lt-ltb}
-use Rattle.ib_map.specs.Keys.{end_rank}
+use Rattle.ib_map.specs.Keys.{rank, end_rank}
 use Rattle.ib_map.proofs.KeyLaws.{rank-least}
 use Rattle.ib_walk.specs.Pages.{PageState}
 use Rattle.ib_walk.specs.Words.{memory_of}
@@ -26,8 +26,8 @@ loop-met-preserved c =
     let before = positions_of c.loop-met.table in
     let page = memory_of-read c.args.memory.now root c.index-memory-root.result (omega arith) c.index-memory-root.is c.level.ensures.size in
     let level : c.level.result ≡ (m root).level = c.level.ensures.level ∙ ap (λ (p : PageState). p.level) (sym page) in
-    let low = rank-least in
-    let position : PagePosition = record { tree = root; height = c.level.result; low = 0; high = None } in
+    let low = ap rank c.least.ensures ∙ rank-least in
+    let position : PagePosition = record { tree = root; height = c.level.result; low = c.least.result; high = None } in
     let same : position_in position ≡ root_at m root end_rank = λ i. record { tree = root; height = level i; low = low i; high = end_rank } in
     ap (set_roots (is_below n) m end_rank left)
     (positions_of-set c.loop-met.table root (Some position) (omega arith)

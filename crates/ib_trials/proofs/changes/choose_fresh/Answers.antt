@@ -38,7 +38,7 @@ returns g c =
     let m = memory_of memory in
     let words = word_at memory in
     let read = c.requires.read in
-    let agrees = agrees-read memory c.args.key c.args.path.now c.args.work.now read c.requires.most (let key = c.ranges.key.fits in omega arith) in
+    let agrees = agrees-read memory c.args.key c.args.path.now c.args.work.now read c.requires.most in
     let most = (read.lawful.law.trees 1 (omega arith) (omega arith)).1 in
     fresh-of (length memory) c.args.key m words (changed_of 0 c.args.work.now) c.in_ok-need.need c.choose_pages.result (omega arith)
     (space-read memory c.args.key c.args.path.now c.args.work.now read c.check_path.ensures.space)

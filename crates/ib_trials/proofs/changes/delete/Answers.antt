@@ -1,5 +1,5 @@
 -- All that the plan reads was read from a lawful memory.
-use Rattle.std.proofs.Common.{length, arith}
+use Rattle.std.proofs.Common.{length}
 use Rattle.ib_page.specs.Memory.{word_at}
 use Rattle.ib_walk.specs.Words.{memory_of, bits_of}
 use Rattle.ib_trials.specs.Reads.{IsRead}
@@ -20,7 +20,7 @@ plan_delete-requires g c =
       root = 1;
       memory = memory_of memory;
       bits = bits_of (length memory) (word_at memory);
-      agrees = agrees-read memory c.args.key path work read c.requires.most (let key = c.ranges.key.fits in omega arith);
+      agrees = agrees-read memory c.args.key path work read c.requires.most;
       images = record { path_there = some.path; siblings_there = some.siblings; behind_there = some.behind; space_there = λ more. some.space };
       clocks = may_tick-read memory c.args.key path work read;
     }

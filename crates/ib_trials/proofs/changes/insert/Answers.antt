@@ -24,7 +24,7 @@ plan_insert-requires g c =
       root = 1;
       memory = memory_of memory;
       bits = bits_of (length memory) (word_at memory);
-      agrees = agrees-read memory c.args.key path work read c.requires.most (let key = c.ranges.key.fits in omega arith);
+      agrees = agrees-read memory c.args.key path work read c.requires.most;
       fits = c.in_ok-fresh.ensures;
       images = record { path_there = c.check_insert.ensures.path; fresh_there = c.check_insert.ensures.fresh; next_there = λ full. next; space_there = λ more. c.check_insert.ensures.space };
       clocks = may_tick-read memory c.args.key path work read;

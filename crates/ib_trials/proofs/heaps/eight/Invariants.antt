@@ -2,5 +2,5 @@
 use Rattle.ib_heap.specs.Image.{IsTreePage}
 use Rattle.ib_trials.proofs.heaps.eight.Given as goal
 
-abbrev pub invariant-loop-key : goal.invariant-loop-key
-invariant-loop-key l = IsTreePage l.words
+abbrev pub invariant-loop-number : goal.invariant-loop-number
+invariant-loop-number l = IsTreePage l.words

@@ -2,5 +2,5 @@
 use Rattle.ib_heap.specs.Image.{IsTreePage}
 use Rattle.ib_trials.proofs.images.a_full_page_refuses.Given as goal
 
-abbrev pub invariant-loop-key : goal.invariant-loop-key
-invariant-loop-key g l = IsTreePage l.leaf
+abbrev pub invariant-loop-number : goal.invariant-loop-number
+invariant-loop-number g l = IsTreePage l.leaf

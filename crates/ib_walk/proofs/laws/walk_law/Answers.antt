@@ -15,10 +15,10 @@ pub returns-clause-once : goal.returns-clause-once
 returns-clause-once c memory bits roots page law = times_met-le (λ n. MOST_RECORDS) memory bits roots page law
 
 pub returns-clause-leaf : goal.returns-clause-leaf
-returns-clause-leaf c memory bits roots root key law some le is = IsPageFor-leaf memory key root (rank-lt_end key is) (law.trees root some le).0
+returns-clause-leaf c memory bits roots root key law some le = IsPageFor-leaf memory key root (rank-lt_end key) (law.trees root some le).0
 
 pub returns-clause-value : goal.returns-clause-value
-returns-clause-value c memory bits roots root key law some le is = value_at-content_of memory key root (rank-lt_end key is) (law.trees root some le).0
+returns-clause-value c memory bits roots root key law some le = value_at-content_of memory key root (rank-lt_end key) (law.trees root some le).0
 
 pub returns-clause-opening : goal.returns-clause-opening
 returns-clause-opening c pages fits = IsLawfulMemory-opening pages fits

@@ -15,7 +15,7 @@ pub invariant_of-self : goal.invariant_of-self
 invariant_of-self c =
     let search = rw c.deref.ensures.value at c.in-Err.ensures in
     rw c.insert.ensures.items (cond_both _ _ _ IsMap
-    (λ ok. Rises-insert c.args.key c.args.value 0 c.self.inside.pairs.items end_rank c.in-Err.place c.self.invariant (omega arith) (rank-lt_end c.args.key c.ranges.key.fits) search.absent search.place)
+    (λ ok. Rises-insert c.args.key c.args.value 0 c.self.inside.pairs.items end_rank c.in-Err.place c.self.invariant (omega arith) (rank-lt_end c.args.key) search.absent search.place)
     (λ err. c.self.invariant))
 
 pub returns-in-Ok-clause-duplicate : goal.returns-in-Ok-clause-duplicate
