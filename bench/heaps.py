@@ -1,10 +1,14 @@
 """Pages as record heaps, apart from the crates: a page is a list of words, and its heap is read, changed and written back as a whole.
 
+A record has four words: its head, the two words of its key (keys.py), and its value.
+
 A record's head is the number of records that its slot owns, times 256, and the word of the next record; it owns none where it has no
 slot. The directory names the records that have slots, in order; a slot owns its record and those before it back to the slot before.
 """
 
-WORDS, MOST = 128, 35
+import keys
+
+WORDS, MOST, RECORD = 160, 35, 4
 FREE, TOP, DIRECTORY, INFIMUM, SUPREMUM, FIRST = 6, 7, 8, 18, 19, 20
 MOST_SLOTS, MOST_OWNED, LEAST_OWNED = 10, 8, 4
 
@@ -41,7 +45,7 @@ class Heap:
         """Takes a place for a record that is to stand at an index, and answers it."""
         place = self.free.pop(0) if self.free else self.top
         if place == self.top:
-            self.top += 3
+            self.top += RECORD
         self.chain.insert(at, place)
         self.owned.insert(at, 0)
         owner = self.owner_from(at)
@@ -101,8 +105,8 @@ def read(words):
     heap = Heap()
     count, slots = words[2], words[TOP] // 256
     heap.top, heap.last = words[TOP] % 256, words[SUPREMUM] // 256
-    must(count <= MOST and FIRST <= heap.top <= FIRST + 3 * MOST and (heap.top - FIRST) % 3 == 0, "count or top")
-    places = set(range(FIRST, heap.top, 3))
+    must(count <= MOST and FIRST <= heap.top <= FIRST + RECORD * MOST and (heap.top - FIRST) % RECORD == 0, "count or top")
+    places = set(range(FIRST, heap.top, RECORD))
     at = words[INFIMUM] % 256
     for _ in range(count):
         must(at in places, "a record's place")
@@ -126,26 +130,27 @@ def read(words):
     must(heap.last == since + 1 and heap.last <= MOST_OWNED, "what the last slot owns")
     same = list(words)
     heap.write(same)
-    must(same == words and 2 <= slots <= MOST_SLOTS and not any(words[125:]), "directory, or words that are to be 0")
+    must(same == words and 2 <= slots <= MOST_SLOTS, "directory")
     return heap
 
 
 def records(words):
-    heap = read(words)
-    return [(words[place + 1], words[place + 2]) for place in heap.chain]
+    found = [(keys.key_of_words(*words[place + 1 : place + 3]), words[place + 3]) for place in read(words).chain]
+    must(all(key is not None for key, _ in found), "words that are no key")
+    return found
 
 
 def insert(words, key, value):
-    heap = read(words)
-    at = sum(words[place + 1] < key for place in heap.chain)
+    heap, pair = read(words), list(keys.words_of(key))
+    at = sum(words[place + 1 : place + 3] < pair for place in heap.chain)
     place = heap.put(at)
     heap.write(words)
-    words[place + 1 : place + 3] = [key, value]
+    words[place + 1 : place + 4] = [*pair, value]
 
 
 def remove(words, key):
     heap = read(words)
-    heap.take([words[place + 1] for place in heap.chain].index(key))
+    heap.take([words[place + 1 : place + 3] for place in heap.chain].index(list(keys.words_of(key))))
     heap.write(words)
 
 

@@ -2,13 +2,15 @@
 answers at its place, and each session's changes in the log once and in order.
 
 This stands apart from the definitions that the proofs speak of: it reads the script and the printed text alone, and replays the
-log on a dictionary and a sorted list of its keys.
+log on a dictionary and a sorted list of its keys. Keys are read and ordered by keys.py.
 """
 
 from bisect import bisect_left, bisect_right, insort
 from collections import defaultdict
+from functools import lru_cache
 
-GREATEST = 2**64 - 1
+import keys
+
 ENTRY_WORDS = 8_196
 
 
@@ -19,6 +21,15 @@ class Wrong(Exception):
 def need(holds, what):
     if not holds:
         raise Wrong(what)
+
+
+@lru_cache(maxsize=1 << 18)
+def key_of(field):
+    """The key that a field spells; each key has one spelling."""
+    try:
+        return keys.key_in(field)
+    except keys.BadKey:
+        raise Wrong(f"`{field}` is no key") from None
 
 
 def commands_of(script):
@@ -96,20 +107,20 @@ class Run:
 def scan_lines(run, output, session, command, count, reach):
     """The chunks of a scan: from its low key to its high key, at places that never fall, none before what was seen."""
     _, low, high = command.split(" ")
-    low, high = int(low), int(high)
+    low, high = key_of(low), key_of(high)
     start, place, pairs = low, reach, 0
     while output.starts("from "):
         _, first, _, last, _, at = output.take().split(" ")
-        first, last, at = int(first), int(last), int(at)
-        need(first == start and first <= last <= high, f"a chunk of `{command}` begins at {first}")
+        first, last, at = key_of(first), key_of(last), int(at)
+        need(first == start and first <= last <= high, f"a chunk of `{command}` begins at {keys.text(first)}")
         need(at >= place, f"a chunk of `{command}` stands before another")
         found = []
         while output.starts("pair "):
             _, key, value = output.take().split(" ")
-            found.append((int(key), int(value)))
+            found.append((key_of(key), int(value)))
         run.ask(at, ("cut", first, last, found))
-        start, place, pairs = last + 1, at, pairs + len(found)
-    need(start == high + 1 if low <= high else start == low, f"the chunks of `{command}` end at {start}")
+        start, place, pairs = keys.after(last), at, pairs + len(found)
+    need(start == (keys.after(high) if low <= high else low), f"the chunks of `{command}` do not end at its high key")
     need(pairs == count, f"`{command}` counts {count} of {pairs} pairs")
     return place
 
@@ -118,7 +129,7 @@ def reply_line(run, session, command, reply, place, reach):
     """A record of any other call."""
     need(place >= reach, f"`{command}` stands before what session {session} had seen")
     words = command.split(" ")
-    key = int(words[1])
+    key = key_of(words[1])
     if words[0] == "get":
         run.ask(place, ("value", key, None if reply == "none" else int(reply)))
         return place
@@ -166,23 +177,23 @@ def session_part(run, output, session, commands):
             reach = reply_line(run, session, command, reply, int(place), reach)
 
 
-def holds(values, keys, what):
+def holds(values, ordered, what):
     if what[0] == "value":
         return values.get(what[1]) == what[2]
     if what[0] == "there":
         return what[1] in values
     low, high, found = what[1:]
-    part = keys[bisect_left(keys, low) : bisect_right(keys, high)]
+    part = ordered[bisect_left(ordered, low) : bisect_right(ordered, high)]
     return found == [(key, values[key]) for key in part]
 
 
 def replay(run, scans):
     """The log is a legal history, and what must hold at each place does."""
-    values, keys = {}, []
+    values, ordered = {}, []
     numbers, made = defaultdict(int), defaultdict(list)
     for place in range(len(run.log) + 1):
         for what in run.at.get(place, ()):
-            need(holds(values, keys, what), f"at {place}: {what}")
+            need(holds(values, ordered, what), f"at {place}: {what}")
         if place == len(run.log):
             break
         session, number, command = run.log[place].split(" ", 2)
@@ -191,16 +202,16 @@ def replay(run, scans):
         need(int(number) == numbers[session], f"entry {place} has the number {number}")
         made[session].append((place, command))
         words = command.split(" ")
-        key = int(words[1])
+        key = key_of(words[1])
         if words[0] == "insert":
-            need(key not in values, f"entry {place} puts {key} in again")
+            need(key not in values, f"entry {place} puts {words[1]} in again")
             values[key] = int(words[2])
             if scans:
-                insort(keys, key)
+                insort(ordered, key)
         else:
-            need(words[0] == "delete" and values.pop(key, None) is not None, f"entry {place} takes {key} out of nothing")
+            need(words[0] == "delete" and values.pop(key, None) is not None, f"entry {place} takes {words[1]} out of nothing")
             if scans:
-                del keys[bisect_left(keys, key)]
+                del ordered[bisect_left(ordered, key)]
     need(made == run.made, "the log's entries are not the sessions' changes")
     return values
 
@@ -210,7 +221,7 @@ def judge(script, text):
     sizes, commands = commands_of(script)
     output = Output(text)
     run = Run(sizes)
-    output.at = max((i for i, line in enumerate(output.lines) if line.startswith("log ")), default=len(output.lines))
+    output.at = next((i for i, line in enumerate(output.lines) if line.startswith("log ")), len(output.lines))
     run.log = output.part("log")
     pairs = output.part("map")
     need(output.at == len(output.lines), "lines behind the map")
@@ -219,5 +230,5 @@ def judge(script, text):
         session_part(run, output, session, commands[session])
     need(output.starts("log "), "lines before the log")
     values = replay(run, any(what[0] == "cut" for asked in run.at.values() for what in asked))
-    need(pairs == [f"{key} {values[key]}" for key in sorted(values)], "the map is not what the log makes")
+    need(pairs == [f"{keys.text(key)} {values[key]}" for key in sorted(values)], "the map is not what the log makes")
     return len(run.log)

@@ -1,10 +1,9 @@
 #!/usr/bin/env python3
-"""Lists the lemmas of crates/*/proofs that state the same, but for the names of what they bind.
+"""Lists the lemmas of crates/*/proofs that state the same, but for the names of what they bind. It runs no program.
 
-usage: bench/same_lemmas.py, at the top of the repository
-
-It compares the written types alone: two definitions of one name make two statements look alike, and goals (`goal.X`) are left out. What it lists
-may stand in crates of which neither stands on the other.
+It is called at the top of the repository, without words. It compares the written types alone: two definitions of one name make two
+statements look alike, and goals (`goal.X`) are left out. What it lists may stand in crates of which neither stands on the other.
+It prints each such type, and below it the file, the line and the name of each lemma. It takes some seconds.
 """
 
 import collections

@@ -1,24 +1,17 @@
-#!/usr/bin/env python3
-"""Makes log files whose pages are a tree, and tells how long `ib_tool replay` takes for each entry.
+"""Log files whose pages are a tree, made apart from the crates. Other scripts of this folder take their logs from here.
 
-A log has inserts of the keys 1 to N in turn, with the splits and root raises that they need, and then twice N changes of one
-key: a delete and an insert in turn. The pages are kept here as lists of words, apart from the crates, and an entry is the
-words in which they differ. Words: N, for each log one (20000 40000). The changes are of the greatest key, so that each of
-them writes a few words, and the file stays below the program's limit. Other scripts of this folder take their logs from here.
+The pages are kept here as lists of words, and the inserts split pages and raise the root as the program's do. An entry is the words in
+which the pages before it and after it differ.
 """
 
-import os
 import struct
-import subprocess
-import sys
-import time
 
 import heaps
+import keys
 
-TOP = os.path.dirname(os.path.dirname(os.path.abspath(__file__)))
-PROGRAM = os.path.join(TOP, "crates", "ib_tool", "out", "ib_tool")
-PAGES, WORDS, MOST = 4096, 128, 35
-FORM = 0x49424C4F47353731
+PAGES, WORDS, MOST = 4096, heaps.WORDS, heaps.MOST
+FORM = 0x49424C4F47353732
+HEAD = 5
 INSERT, DELETE, STRUCTURAL = 1, 2, 4
 
 
@@ -34,7 +27,7 @@ def new_space():
 def entry_words(session, number, inserts, key, value, writes):
     """The words of an entry; writes are pairs of a place and a word."""
     flags = (INSERT if inserts else DELETE) | (STRUCTURAL if len({place // WORDS for place, _ in writes}) > 1 else 0)
-    return [session << 32 | flags << 16 | len(writes), number, key, value, *(word for write in writes for word in write)]
+    return [session << 32 | flags << 16 | len(writes), number, *keys.words_of(key), value, *(word for write in writes for word in write)]
 
 
 def file_of(pages, words):
@@ -109,7 +102,7 @@ class Tree:
         leaf = level == 0
         self.put(left, level, 0, right if leaf else 0, records[:18])
         self.put(right, level, left if leaf else 0, 0, records[18:])
-        self.put(1, level + 1, 0, 0, [(0, left), (records[18][0], right)])
+        self.put(1, level + 1, 0, 0, [(keys.LEAST, left), (records[18][0], right)])
 
     def commit(self, inserts, key, value):
         writes = []
@@ -136,30 +129,14 @@ class Tree:
 
 
 def log_of(inserts, changes):
-    """Inserts of the keys from 1 on in turn, and then so many changes of the greatest."""
+    """The log file of so many inserts, of the keys of the numbers from 1 on in turn, and then of so many changes of the greatest: a delete
+    and an insert in turn. Each of these changes writes a few words, so that the file stays below the program's limit.
+    """
     tree = Tree()
-    for key in range(1, inserts + 1):
-        tree.insert(key, key)
+    for number in range(1, inserts + 1):
+        tree.insert(keys.of_number(number), number)
+    last = keys.of_number(inserts)
     for _ in range(changes // 2):
-        tree.delete(inserts)
-        tree.insert(inserts, inserts)
+        tree.delete(last)
+        tree.insert(last, inserts)
     return tree.file()
-
-
-def main():
-    subprocess.run([os.path.join(TOP, "ib_tool"), "run"], stdin=subprocess.DEVNULL, stdout=subprocess.DEVNULL, check=True)
-    for count in [int(word) for word in sys.argv[1:]] or [20_000, 40_000]:
-        data = log_of(count, 2 * count)
-        times = []
-        for _ in range(5):
-            start = time.monotonic()
-            done = subprocess.run([PROGRAM, "replay"], input=data, stdout=subprocess.PIPE)
-            times.append(time.monotonic() - start)
-        head = done.stdout.decode().split("\n", 1)[0]
-        entries = 3 * count
-        best = min(times)
-        print(f"{len(data)} bytes, {head}, status {done.returncode}: {best:.3f} s, {best / entries * 1e6:.2f} microseconds an entry", flush=True)
-
-
-if __name__ == "__main__":
-    main()

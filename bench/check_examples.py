@@ -1,21 +1,20 @@
 #!/usr/bin/env python3
-"""Runs each example, and compares what it prints with what stands beside it.
+"""Runs each example of examples/, and compares what the program prints with what stands beside the example.
 
-`sessions` may print many outputs: it is judged by judge.py. `race` has two, and is run until both have come, or as often as the
-word says (10,000 times if none); how often each came is printed. The status is 1 where anything differs, and where one of the
-two did not come.
+The example `sessions` may print many outputs: each is judged by judge.py. The example `race` may print two, and is run until both have
+come. Word: how often `race` is run at most (10,000 if none).
+It prints a line for each example, and how often each output of `race` came. The status is 1 where anything differs, and where one of
+the two outputs did not come. It takes a few seconds where both come soon, and a minute where one does not come.
 """
 
 import os
-import subprocess
 import sys
 from collections import Counter
 
 from judge import Wrong, judge
+from program import TOP, answer, built
 
-TOP = os.path.dirname(os.path.dirname(os.path.abspath(__file__)))
 EXAMPLES = os.path.join(TOP, "examples")
-WRAPPER = os.path.join(TOP, "ib_tool")
 
 # Each example's form, its input, what it prints and its status.
 FIXED = (
@@ -31,16 +30,10 @@ def contents(name):
         return it.read()
 
 
-def run(form, data):
-    """The status and the output of a form for these bytes."""
-    ran = subprocess.run([WRAPPER, form], input=data, stdout=subprocess.PIPE)
-    return ran.returncode, ran.stdout
-
-
 def check_fixed():
     well = True
     for form, given, printed, status in FIXED:
-        same = run(form, contents(given)) == (status, contents(printed))
+        same = answer([form], contents(given)) == (status, contents(printed))
         print(f"{given}: {'as it stands' if same else 'DIFFERS'}")
         well = well and same
     return well
@@ -50,7 +43,7 @@ def check_sessions():
     given = contents("sessions.script").decode()
     try:
         judge(given, contents("sessions.out").decode())
-        judge(given, run("run", given.encode())[1].decode())
+        judge(given, answer(["run"], given.encode())[1].decode())
     except Wrong as wrong:
         print(f"sessions.script: {wrong}")
         return False
@@ -63,17 +56,19 @@ def check_race(most):
     outputs = [contents("race.1.out"), contents("race.2.out")]
     came = Counter()
     while sum(came.values()) < most and len(came) < 2:
-        came[run("run", given)] += 1
-    if not all(it in [(0, out) for out in outputs] for it in came):
-        print("race.script: neither of its outputs")
-        return False
-    first, second = (came[0, out] for out in outputs)
-    print(f"race.script: the first output {first} times, the second {second} times")
-    return len(came) == 2
+        status, text = answer(["run"], given)
+        if status != 0 or text not in outputs:
+            print("race.script: neither of its outputs")
+            return False
+        came[text] += 1
+    first, second = (came[text] for text in outputs)
+    print(f"race.script: the first output {first} times, the second {second} times{'' if first and second else ': ONE DID NOT COME'}")
+    return first > 0 and second > 0
 
 
 def main():
     most = int(sys.argv[1]) if len(sys.argv) > 1 else 10_000
+    built()
     return 0 if all([check_fixed(), check_sessions(), check_race(most)]) else 1
 
 

@@ -1,10 +1,11 @@
 #!/usr/bin/env python3
-"""Makes each allocation of the program fail in turn: the N-th alone, from the first on until none is left to fail.
+"""Makes each allocation of the program fail in turn: the N-th alone, for each N from 1 on, until a run makes fewer than N.
 
-A small library is put in front of the C library's malloc and realloc (it is compiled here, with cc). It counts the calls that come from
-the program itself, and refuses one of them. Where memory is refused the program must end with status 5 and have written nothing, or
-with what it writes otherwise. Of several sessions the output is judged by judge.py. How many allocations were made to fail is printed,
-and what came of them; the first other ending is told, and the status is then 1.
+A small library is put in front of the C library's malloc and realloc. It is compiled here, with cc. It counts the calls that come from
+the program itself, and refuses one of them. Then the program must end with status 5 and have written nothing, or with what it writes
+otherwise. What is printed of several sessions is judged by judge.py. There are no words.
+It prints for each input how many allocations were made to fail, and what came of them. The first other ending of an input is printed
+in place of that, and the status is then 1. It takes some seconds.
 """
 
 import os
@@ -13,9 +14,7 @@ import sys
 import tempfile
 
 from judge import Wrong, judge
-
-TOP = os.path.dirname(os.path.dirname(os.path.abspath(__file__)))
-PROGRAM = os.path.join(TOP, "crates", "ib_tool", "out", "ib_tool")
+from program import PROGRAM, built
 
 LIBRARY = r"""
 #define _GNU_SOURCE
@@ -65,8 +64,8 @@ void *realloc(void *old, size_t size) {
 }
 """
 
-ONE = b"space 64 65536\ninsert 1 10\ninsert 2 20\nget 1\ndelete 2\nscan 0 9\nscan 9 0\n"
-TWO = b"space 64 200000\nsession 1\n" + b"".join(b"insert %d 1\n" % key for key in range(60)) + b"scan 0 99\nsession 2\nscan 0 99\ndelete 5\nget 7\nsession 4\nget 1\n"
+ONE = b"space 64 65536\ninsert 1 10\ninsert x: 20\nget 1\ndelete x:\ninsert x:00ff 30\nscan x: 9\nscan 9 0\n"
+TWO = b"space 64 200000\nsession 1\n" + b"".join(b"insert %d 1\ninsert x:%016x 2\n" % (key, key) for key in range(30)) + b"scan x: 99\nsession 2\nscan 0 99\ndelete 5\nget 7\nsession 4\nget 1\n"
 
 ROWS = (
     (["run"], ONE),
@@ -76,6 +75,7 @@ ROWS = (
     (["gen", "300", "7", "3"], b""),
     (["run"], b"insert 1\n"),
     (["run"], b"insert 1 10\ninsert 1\n"),
+    (["run"], b"insert 1 10\nget x:31\n"),
     (["latch"], b"1 x 0 4\n2 arm 0 s 4\n1 ux 0\n"),
     (["latch"], b"1 x 0 4\n1 ux\n"),
 )
@@ -117,7 +117,7 @@ def sweep(library, words, data):
 
 
 def main():
-    subprocess.run([os.path.join(TOP, "ib_tool"), "run"], stdin=subprocess.DEVNULL, stdout=subprocess.DEVNULL, check=True)
+    built()
     with tempfile.TemporaryDirectory() as folder:
         source, library = os.path.join(folder, "failing.c"), os.path.join(folder, "failing.so")
         with open(source, "w") as file:
@@ -126,4 +126,5 @@ def main():
         return 0 if all([sweep(library, words, data) for words, data in ROWS]) else 1
 
 
-sys.exit(main())
+if __name__ == "__main__":
+    sys.exit(main())

@@ -1,25 +1,27 @@
 #!/usr/bin/env python3
 """Where the time of the program goes on the peer's workloads, by samples of perf (Debian's linux-perf), grouped by what functions are for.
 
-Words: the peer's workload.py, and how often each is run (5 if none). The share is that of all samples of the process, the kernel's among
-them: a sample tells where time went, waiting for memory too, where a count of instructions does not.
+A sample tells where time went, waiting for memory too, which a count of instructions does not. The workloads are those of
+peer/workload.py: loads, lookups and mixed commands, of one session and of four.
+Words: how often each workload is run (5 if none), and how many commands it has (200,000).
+It prints for each workload the number of samples, and for each group its share of all samples of the process, the kernel's among them.
+It takes about a minute.
 """
 
-import os
 import re
 import subprocess
 import sys
 import tempfile
 from collections import Counter
 
-TOP = os.path.dirname(os.path.dirname(os.path.abspath(__file__)))
-PROGRAM = os.path.join(TOP, "crates", "ib_tool", "out", "ib_tool")
+from program import PROGRAM, WORKLOAD, built
+
 WORKLOADS = (("read", 1), ("fill", 1), ("mixed", 1), ("read", 4), ("mixed", 4))
 PARTS = (
     ("the kernel: memory given and taken back, threads", r"kernel"),
-    ("the script read", r"answer_script|ib_script|ib_edge::(lines|fields|numbers|input|read)|first_line"),
+    ("the script read", r"answer_script|ib_script|ib_edge::(lines|fields|numbers|input|read)|first_line|key_in|plain_key|is_plain_text|hex_key|read_hex|byte_of|digit_number|from_bytes"),
     ("replies printed", r"print_|ib_text|itoa|Writer|ib_edge"),
-    ("searches where pages lie", r"ib_heap::(search|directory|words)|held_page"),
+    ("searches where pages lie", r"ib_heap::(search|directory|words)|held_page|order_by_(first|second)"),
     ("pages loaded", r"read_page|load"),
     ("commits", r"commits::Mtr\+L"),
     ("records put in, taken out, looked at", r"ib_heap|ib_page|index::leaf|ib_index::(grow|shrink)|ib_split|ib_merge|ib_plans"),
@@ -45,14 +47,13 @@ def samples(script):
 
 
 def main():
-    workload = sys.argv[1]
-    times = int(sys.argv[2]) if len(sys.argv) > 2 else 5
-    subprocess.run([os.path.join(TOP, "ib_tool"), "run"], stdin=subprocess.DEVNULL, stdout=subprocess.DEVNULL, check=True)
+    times, commands = [int(word) for word in sys.argv[1:]] + [5, 200_000][len(sys.argv) - 1 :]
+    built()
     with tempfile.NamedTemporaryFile("w") as script:
         for kind, sessions in WORKLOADS:
             script.seek(0)
             script.truncate()
-            subprocess.run([sys.executable, workload, kind, "200000", str(sessions)], stdout=script, check=True)
+            subprocess.run([sys.executable, WORKLOAD, kind, str(commands), str(sessions)], stdout=script, check=True)
             found = sum((samples(script.name) for _ in range(times)), Counter())
             print(f"{kind}, {sessions} sessions: {found.total()} samples")
             for name, count in found.most_common():

@@ -1,23 +1,24 @@
 #!/usr/bin/env python3
-"""How the cost of an operation grows with the tree, of a replay with the log, and of opening and closing with the space.
+"""How the cost of an operation grows with the tree, that of a replay with the log, and that of opening and closing with the space.
 
 An operation's instructions are counted by callgrind: those of a script with the operations less those of the script without them, by
-their number, with reading its line and printing its reply. Its time is measured alike, over more of them, as the best of five runs.
+their number. So reading its line and printing its reply are in them. Its time is measured alike, over more of them, as the best of five
+runs. A key is the 8 bytes of a number.
 Words: the numbers of keys (1000 10000 60000 if none).
+It prints a line for each number of keys and each operation, then nanoseconds for each entry of three replays, and the milliseconds that
+a script of one lookup takes in spaces of some sizes. It takes some minutes.
 """
 
-import os
 import random
-import re
 import subprocess
 import sys
-import tempfile
 import time
 
+from callgrind import instructions
+from keys import numbered
+from program import PROGRAM, built
 from tree_logs import log_of
 
-TOP = os.path.dirname(os.path.dirname(os.path.abspath(__file__)))
-PROGRAM = os.path.join(TOP, "crates", "ib_tool", "out", "ib_tool")
 SPACE = "space 4096 8000000\n"
 FEW, MANY = 500, 40_000
 
@@ -33,14 +34,9 @@ def seconds(form, data, times=5):
     return best
 
 
-def instructions(data):
-    with tempfile.NamedTemporaryFile() as file:
-        file.write(data)
-        file.flush()
-        words = ["valgrind", "--tool=callgrind", "--callgrind-out-file=/dev/null", PROGRAM, "run"]
-        with open(file.name) as given:
-            told = subprocess.run(words, stdin=given, stdout=subprocess.DEVNULL, stderr=subprocess.PIPE, check=True, text=True).stderr
-    return int(re.search(r"Collected : (\d+)", told).group(1))
+def counted(data):
+    """The instructions of a run of this script."""
+    return instructions([PROGRAM, "run"], data)
 
 
 def keys_of(count):
@@ -50,22 +46,22 @@ def keys_of(count):
 
 
 def load(keys):
-    return [f"insert {key} {key % 1000}" for key in keys]
+    return [f"insert {numbered(key)} {key % 1000}" for key in keys]
 
 
 def operations(kind, keys, others, count):
     dice = random.Random(7)
     if kind == "get":
-        return [f"get {dice.choice(keys)}" for _ in range(count)]
+        return [f"get {numbered(dice.choice(keys))}" for _ in range(count)]
     if kind == "scan":
-        return [f"scan {low} {low + 10_000_030}" for low in (dice.choice(keys) for _ in range(count // 10))]
+        return [f"scan {numbered(low)} {numbered(low + 10_000_030)}" for low in (dice.choice(keys) for _ in range(count // 10))]
     if kind == "insert":
         return load(others[:count])
     if kind == "delete":
-        return [f"delete {key}" for key in keys[: min(count, len(keys) // 2)]]
+        return [f"delete {numbered(key)}" for key in keys[: min(count, len(keys) // 2)]]
     pairs = []
     for key in (dice.choice(others) for _ in range(count // 2)):
-        pairs += [f"insert {key} 1", f"delete {key}"]
+        pairs += [f"insert {numbered(key)} 1", f"delete {numbered(key)}"]
     return pairs
 
 
@@ -76,19 +72,19 @@ def text(*parts):
 def measure(count):
     keys, others = keys_of(count)
     base = load(keys)
-    bare, bare_seconds = instructions(text(base)), seconds("run", text(base))
+    bare, bare_seconds = counted(text(base)), seconds("run", text(base))
     for kind in ("get", "scan", "insert", "delete", "insert and delete"):
         few, many = operations(kind, keys, others, FEW), operations(kind, keys, others, MANY)
-        counted = (instructions(text(base, few)) - bare) / len(few)
+        one = (counted(text(base, few)) - bare) / len(few)
         if kind in ("insert", "delete"):
-            print(f"{count} keys, {kind}: {counted:.0f} instructions", flush=True)
+            print(f"{count} keys, {kind}: {one:.0f} instructions", flush=True)
         else:
             took = (seconds("run", text(base, many)) - bare_seconds) / len(many)
-            print(f"{count} keys, {kind}: {counted:.0f} instructions, {took * 1e9:.0f} ns", flush=True)
+            print(f"{count} keys, {kind}: {one:.0f} instructions, {took * 1e9:.0f} ns", flush=True)
 
 
 def main():
-    subprocess.run([os.path.join(TOP, "ib_tool"), "run"], stdin=subprocess.DEVNULL, stdout=subprocess.DEVNULL, check=True)
+    built()
     for count in [int(word) for word in sys.argv[1:]] or [1_000, 10_000, 60_000]:
         measure(count)
     empty = seconds("replay", log_of(0, 0))

@@ -1,27 +1,25 @@
 #!/usr/bin/env python3
 """Compares the program with small models of its forms, on random inputs, good ones and bad ones.
 
-The models stand apart from the definitions: scripts on a dictionary, events on latches that keep who holds them, logs
-by their table, with a walk of the whole tree after each entry. What a script of several sessions prints is no function of the
-script: judge.py judges it, and what is refused for a full log or a full space too. What `raw` writes of it must replay, and what
-`gen` counts must be what the sessions' keys give. The proofs say that the program answers as the definitions do; this tries whether they
-say what was meant. Words: how many inputs of each form (2,000 if none), and a seed (57). The first difference is printed, with the
-input in a file, and the status is then 1.
+The proofs say that the program answers as the definitions do. This looks whether the definitions say what was meant. So the models
+stand apart from them: scripts on a dictionary, events on latches that keep who holds them, logs by their table, with a walk of the
+whole tree after each entry. Keys are spelled, ordered and kept as words by keys.py. A script of several sessions may print many
+outputs, and so may one whose log or space gets full: these are judged by judge.py. What `raw` writes must replay. What `gen` counts
+must be what the sessions' keys give.
+Words: how many inputs of each form (2,000 if none; `gen` has a tenth of them), and a seed (57).
+It prints a line for each form. At the first difference it prints what differs and the file with the input, and ends with the
+status 1. It takes some ten seconds for 100 inputs, and some minutes for 2,000.
 """
 
-import os
 import random
-import subprocess
 import sys
 import tempfile
 
 import heaps
-from judge import Wrong, judge
-from tree_logs import FORM, WORDS, Tree, entry_words, file_of, new_space
-
-TOP = os.path.dirname(os.path.dirname(os.path.abspath(__file__)))
-WRAPPER = os.path.join(TOP, "ib_tool")
-PROGRAM = os.path.join(TOP, "crates", "ib_tool", "out", "ib_tool")
+import keys
+from judge import Wrong, commands_of, judge
+from program import answer, built
+from tree_logs import FORM, HEAD, WORDS, Tree, entry_words, file_of, new_space
 
 GREATEST = 2**64 - 1
 FULL = 0x2000_0000
@@ -40,6 +38,14 @@ def number(field):
     return int(field)
 
 
+def key_in(field):
+    """The key that a field spells."""
+    try:
+        return keys.key_in(field)
+    except keys.BadKey:
+        raise Bad("key") from None
+
+
 def lines(data):
     """The lines that are not skipped, with their numbers."""
     for count, line in enumerate(data.split(b"\n"), 1):
@@ -53,16 +59,24 @@ def refused(line, kind):
 
 # Scripts.
 
-FIELDS = {b"insert": 2, b"delete": 1, b"get": 1, b"scan": 2, b"session": 1, b"space": 2}
+# What each field of a line is read as.
+FIELDS = {
+    b"insert": (key_in, number),
+    b"delete": (key_in,),
+    b"get": (key_in,),
+    b"scan": (key_in, key_in),
+    b"session": (number,),
+    b"space": (number, number),
+}
 
 
 def script_line(line, is_first):
     word, *fields = line.split(b" ")
     if word not in FIELDS:
         raise Bad("word")
-    if len(fields) != FIELDS[word]:
+    if len(fields) != len(FIELDS[word]):
         raise Bad("fields")
-    values = [number(field) for field in fields]
+    values = [read(field) for read, field in zip(FIELDS[word], fields)]
     if word == b"session" and not 1 <= values[0] <= 64:
         raise Bad("session")
     if word == b"space" and not (is_first and 16 <= values[0] <= 4096 and 8196 <= values[1] <= 16777216):
@@ -70,25 +84,30 @@ def script_line(line, is_first):
     return word.decode(), values
 
 
+def written(value):
+    return keys.text(value) if isinstance(value, bytes) else str(value)
+
+
 def answered(pairs, log, made, session, word, values):
     """A command's line, and what the command makes of the map and the log."""
     place = len(log)
     key = values[0]
-    asked = f"{word} {' '.join(map(str, values))} -> "
+    line = f"{word} {' '.join(map(written, values))}"
+    asked = f"{line} -> "
     if word == "get":
         return f"{asked}{pairs.get(key, 'none')} at {place}\n"
     if word == "scan":
         low, high = values
         found = sorted(k for k in pairs if low <= k <= high)
-        head = f"from {low} to {high} at {place}\n" if low <= high else ""
-        return f"{asked}{len(found)} pairs\n{head}" + "".join(f"pair {k} {pairs[k]}\n" for k in found)
+        head = f"from {written(low)} to {written(high)} at {place}\n" if low <= high else ""
+        return f"{asked}{len(found)} pairs\n{head}" + "".join(f"pair {written(k)} {pairs[k]}\n" for k in found)
     if word == "insert":
         reply = "duplicate" if key in pairs else "inserted"
     else:
         reply = f"deleted {pairs[key]}" if key in pairs else "missing"
     if reply not in ("duplicate", "missing"):
         made[session] = made.get(session, 0) + 1
-        log.append(f"{session} {made[session]} {word} {' '.join(map(str, values))}\n")
+        log.append(f"{session} {made[session]} {line}\n")
         if word == "insert":
             pairs[key] = values[1]
         else:
@@ -97,7 +116,7 @@ def answered(pairs, log, made, session, word, values):
 
 
 def log_and_map(log, pairs):
-    shown = "".join(f"{key} {pairs[key]}\n" for key in sorted(pairs))
+    shown = "".join(f"{written(key)} {pairs[key]}\n" for key in sorted(pairs))
     return f"log {len(log)}\n{''.join(log)}map {len(pairs)}\n{shown}"
 
 
@@ -358,28 +377,31 @@ def latch(data):
 
 def entry_fault(words, at, pages):
     """The first fault of the entry that begins at a word, or none and how many words it has."""
-    here = words[at : at + 4]
-    if len(here) < 4:
+    here = words[at : at + HEAD]
+    if len(here) < HEAD:
         return f"short at {at}", 0
-    head, count, _, value = here
+    head, count, first, second, value = here
     session, flags, writes = head >> 32, head >> 16 & 0xFFFF, head & 0xFFFF
-    if not 1 <= session <= 1024 or flags not in (1, 2, 5, 6) or not 1 <= writes <= 4096:
+    if not 1 <= session <= 1024 or flags not in (1, 2, 5, 6) or not 1 <= writes <= 4095:
         return f"head at {at} word {head}", 0
     if not 1 <= count < 2**32:
         return f"head at {at} word {count}", 0
+    if keys.key_of_words(first, second) is None:
+        return f"head at {at} word {second}", 0
     if flags in (2, 6) and value:
         return f"head at {at} word {value}", 0
-    if len(words) - at - 4 < 2 * writes:
+    end = at + HEAD + 2 * writes
+    if len(words) < end:
         return f"short at {at}", 0
-    places = words[at + 4 : at + 4 + 2 * writes : 2]
+    places = words[at + HEAD : end : 2]
     for place, before in zip(places, [-1] + places):
-        if place >= pages * 128:
+        if place >= pages * WORDS:
             return f"outside at {at} word {place}", 0
         if place <= before:
             return f"write at {at} word {place}", 0
-    if (flags in (5, 6)) != (len({place // 128 for place in places}) > 1):
+    if (flags in (5, 6)) != (len({place // WORDS for place in places}) > 1):
         return f"head at {at} word {head}", 0
-    return None, 4 + 2 * writes
+    return None, end - at
 
 
 class NoTree(Exception):
@@ -403,22 +425,22 @@ def records_of(words):
 
 def tree_of(pages, count):
     """Where each page is met, as a level and the ends of its keys, and the records of the leaves; all pages but these are free."""
-    must(not any(pages[0][WORDS // 2 + 1 :]), "space page")
+    must(not any(pages[0][65:]), "space page")
     bits = {page for page in range(64 * 64) if pages[0][page // 64] >> page % 64 & 1}
     met, content = {}, []
-    visits, level = [(1, 0, 2**64)], pages[1][1]
+    visits, level = [(1, keys.LEAST, keys.END)], pages[1][1]
     while visits:
         below, before = [], 0
         for i, (page, low, high) in enumerate(visits):
             must(page not in met and page in pages, "a page met twice, or none")
             words = pages[page]
             records = records_of(words)
-            keys = [key for key, _ in records]
-            must(words[1] == level and all(low <= key < high for key in keys), "level or range")
+            firsts = [key for key, _ in records]
+            must(words[1] == level and all(low <= key < high for key in firsts), "level or range")
             met[page] = (level, low, high)
             if level:
-                must(keys[:1] == [low], "first key")
-                below += zip([child for _, child in records], keys, keys[1:] + [high])
+                must(firsts[:1] == [low], "first key")
+                below += zip([child for _, child in records], firsts, firsts[1:] + [high])
             else:
                 must(words[3] == before and words[4] == (visits[i + 1][0] if i + 1 < len(visits) else 0), "links")
                 before, content = page, content + records
@@ -458,7 +480,8 @@ def replay(data):
         fault, length = entry_fault(words, at, count)
         if fault:
             return 7, f"bad log: {fault}\n"
-        head, number, key, value = words[at : at + 4]
+        head, number, first, second, value = words[at : at + HEAD]
+        key = keys.key_of_words(first, second)
         session, flags = head >> 32, head >> 16 & 0xFFFF
         inserts = flags in (1, 5)
         if number != made.get(session, 0) + 1:
@@ -468,11 +491,11 @@ def replay(data):
         made[session] = number
         if inserts:
             pairs[key] = value
-            log.append(f"{session} {number} insert {key} {value}\n")
+            log.append(f"{session} {number} insert {written(key)} {value}\n")
         else:
             del pairs[key]
-            log.append(f"{session} {number} delete {key}\n")
-        writes = list(zip(words[at + 4 : at + length : 2], words[at + 5 : at + length : 2]))
+            log.append(f"{session} {number} delete {written(key)}\n")
+        writes = list(zip(words[at + HEAD : at + length : 2], words[at + HEAD + 1 : at + length : 2]))
         for place, word in writes:
             pages.setdefault(place // WORDS, [0] * WORDS)[place % WORDS] = word
         met = is_tree_behind(met, pages, count, pairs, writes)
@@ -489,12 +512,16 @@ def a_number(dice, small):
     return dice.choice([dice.randrange(small), dice.randrange(small), dice.randrange(small), dice.choice([0, GREATEST, 2**63, 2**32])])
 
 
+def a_key(dice, small):
+    return keys.text(keys.some_key(dice, small))
+
+
 def spoiled(dice, text):
     """The text with one byte put in, taken out or changed."""
     if not text:
         return text
     at, how = dice.randrange(len(text)), dice.randrange(3)
-    byte = bytes([dice.choice(b" 0123456789\n#\r\tabsxug-+\xff")])
+    byte = bytes([dice.choice(b" 0123456789\n#\r\tabsxug-+:._fFX\xff")])
     return text[:at] + (byte if how else b"") + text[at + (how != 1) :]
 
 
@@ -503,17 +530,38 @@ def some_script(dice):
     if not dice.randrange(4):
         text.append(f"space {dice.choice([16, 64, 4096, 15])} {dice.choice([8196, 16384, 16777216, 16777217])}")
     for _ in range(dice.choice([0, 1, 5, 40, 200])):
-        kind, key = dice.randrange(14), a_number(dice, small)
+        kind, key = dice.randrange(14), a_key(dice, small)
         text.append(
             f"insert {key} {a_number(dice, 1000)}" if kind < 5
             else f"delete {key}" if kind < 8
             else f"get {key}" if kind < 10
-            else f"scan {key} {a_number(dice, small)}" if kind < 12
+            else f"scan {key} {a_key(dice, small)}" if kind < 12
             else f"session {dice.choice([1, 2, 3, 64, dice.randrange(1, 65)])}" if kind < 13
             else dice.choice(["", "# a comment", "#"])
         )
-    script = "\n".join(text).encode() + dice.choice([b"", b"\n", b"\n\n"])
+    if text and not dice.randrange(4):
+        text[dice.randrange(len(text))] = a_bad_line(dice, small)
+    script = "\n".join(text).encode("latin-1") + dice.choice([b"", b"\n", b"\n\n"])
     return script if dice.randrange(3) else spoiled(dice, script)
+
+
+def a_bad_line(dice, small):
+    """A line with a field that is no key, which mostly stands where a key is wanted."""
+    key, bad = a_key(dice, small), keys.bad_field(dice)
+    return dice.choice(
+        [
+            f"insert {bad} {a_number(dice, 1000)}",
+            f"insert {bad} {dice.choice(['01', '-1', key])}",
+            f"insert {key} {bad}",
+            f"delete {bad}",
+            f"get {bad}",
+            f"scan {bad} {key}",
+            f"scan {key} {bad}",
+            f"get {bad} {key}",
+            f"{bad} {key}",
+            f"session {bad}",
+        ]
+    )
 
 
 def some_events(dice):
@@ -537,15 +585,15 @@ def some_events(dice):
 
 def some_tree(dice, pages):
     """Entries of a tree, in the middle of which one may be changed."""
-    tree, keys = Tree(), set()
+    tree, there = Tree(), set()
     small = dice.choice([3, 12, 200])
     for _ in range(dice.choice([0, 1, 3, 20, 120])):
-        key = a_number(dice, small)
-        if key in keys:
+        key = keys.some_key(dice, small)
+        if key in there:
             tree.delete(key)
         else:
             tree.insert(key, a_number(dice, 1000))
-        keys ^= {key}
+        there ^= {key}
     if tree.entries and dice.randrange(3):
         _, _, _, writes = dice.choice(tree.entries[-5:])
         writes[:] = sorted(changed(dice, dict(writes), pages).items())
@@ -567,13 +615,14 @@ def changed(dice, writes, pages):
 
 
 def some_log(dice):
-    pages, made, words = dice.choice([16, 17, 4096]), {}, []
+    pages, made, words, heads = dice.choice([16, 17, 4096]), {}, [], []
     for entry in some_tree(dice, pages):
         session = dice.choice([1, 2, 1024])
+        heads += range(len(words), len(words) + HEAD)
         made[session] = made.get(session, 0) + 1
         words += entry_words(session, made[session], *entry)
     for _ in range(dice.choice([0, 0, 0, 1, 2]) if words else 0):
-        at = dice.randrange(len(words))
+        at = dice.choice([dice.randrange(len(words)), dice.choice(heads)])
         words[at] = dice.choice([0, 1, words[at] + 1, words[at] ^ 1 << dice.randrange(64), words[dice.randrange(len(words))], GREATEST]) & GREATEST
     data = bytearray(file_of(pages, words))
     if not dice.randrange(10):
@@ -582,11 +631,6 @@ def some_log(dice):
 
 
 # The program beside them.
-
-
-def answer(words, data):
-    ran = subprocess.run([PROGRAM, *words], input=data, stdout=subprocess.PIPE, timeout=300)
-    return ran.returncode, ran.stdout
 
 
 def differ(form, data, why):
@@ -636,7 +680,7 @@ def compare_scripts(dice, count):
         except Wrong as wrong:
             differ("run", data, wrong)
         full += is_told_full(found[1])
-        is_alone = text.count("session ") < 2 and not is_told_full(found[1])
+        is_alone = len(commands_of(data.decode("latin-1"))[1]) < 2 and not is_told_full(found[1])
         alone += is_alone
         if is_alone:
             same("run", data, found, (0, text.encode()))
@@ -644,7 +688,7 @@ def compare_scripts(dice, count):
         if status != 0 or replay(log)[0] != 0:
             differ("raw", data, "what is written is no log")
         if is_alone:
-            same("raw, replayed", data, answer(["replay"], log), (0, text[text.rindex("log ") :].encode()))
+            same("raw, replayed", data, answer(["replay"], log), (0, text[f"\n{text}".index("\nlog ") :].encode()))
     print(f"run, raw: {count} inputs, {refusals} of them refused; {alone} of one session the same, {full} with a full log or space, no difference")
 
 
@@ -659,18 +703,18 @@ def counted(commands, seed, sessions):
     left = 0
     for session in range(1, sessions + 1):
         mine = commands // sessions + (session <= commands % sessions)
-        keys = [(turn * 40503 + seed) % 65536 * 64 + session - 1 for turn in range(mine)]
+        numbers = [(turn * 40503 + seed) % 65536 * 64 + session - 1 for turn in range(mine)]
         pairs = set()
         for turn in range(mine // 2):
-            counts["duplicate" if keys[turn] in pairs else "inserted"] += 1
-            pairs.add(keys[turn])
+            counts["duplicate" if numbers[turn] in pairs else "inserted"] += 1
+            pairs.add(numbers[turn])
         for turn in range(mine - mine // 2):
-            key = keys[turn]
+            number = numbers[turn]
             if turn % 4 == 3:
-                counts["found" if key in pairs else "none"] += 1
+                counts["found" if number in pairs else "none"] += 1
             else:
-                counts["deleted" if key in pairs else "missing"] += 1
-                pairs.discard(key)
+                counts["deleted" if number in pairs else "missing"] += 1
+                pairs.discard(number)
         left += len(pairs)
     return "".join(f"{name} {count}\n" for name, count in counts.items()) + f"map {left}\n"
 
@@ -686,7 +730,7 @@ def compare_loads(dice, count):
 def main():
     count = int(sys.argv[1]) if len(sys.argv) > 1 else 2000
     dice = random.Random(int(sys.argv[2]) if len(sys.argv) > 2 else 57)
-    subprocess.run([WRAPPER, "run"], stdin=subprocess.DEVNULL, stdout=subprocess.DEVNULL, check=True)
+    built()
     compare_scripts(dice, count)
     compare_loads(dice, count // 10)
     compare("latch", latch, some_events, dice, count)

@@ -1,9 +1,13 @@
 #!/usr/bin/env python3
-"""Times the program beside a peer: the same job in plain Rust, unproved.
+"""Times the program beside its peer: the same job in plain Rust, unproved (peer/README.md).
 
-Words: the peer's program, its workload.py, and how often each is run (5 if none). Both run the same scripts in turn; the peer prints how
-long it opened, ran and printed, and ours is timed from outside: its run phase is its wall time less that of a script of the same
-sessions without commands to speak of. Of one session the best time counts, of more the median. Peak memory is that of the process.
+Both run the same scripts in turn, which peer/workload.py makes: loads, lookups and mixed commands, of 20,000 and 200,000 commands, in
+one, two and four sessions. The peer prints how long it opened, ran and printed. Ours is timed from outside: its run phase is its wall
+time less that of a script of the same sessions with one lookup each. Of one session the best time counts, of more the median. Peak
+memory is that of the process.
+Words: the peer's program, as peer/build.sh builds it, how often each script is run (5 if none), and how many commands the scripts have
+(20,000 and 200,000; each number is a row).
+It prints for each script the run phase, the whole, and the peak, ours beside the peer's. It takes some minutes.
 """
 
 import os
@@ -14,11 +18,10 @@ import sys
 import tempfile
 import time
 
-TOP = os.path.dirname(os.path.dirname(os.path.abspath(__file__)))
-PROGRAM = os.path.join(TOP, "crates", "ib_tool", "out", "ib_tool")
+from program import PROGRAM, WORKLOAD, built
 
 KINDS = ("fill", "read", "mixed")
-COUNTS = (20_000, 200_000)
+COUNTS = [20_000, 200_000]
 SESSIONS = (1, 2, 4)
 
 
@@ -60,19 +63,21 @@ def measure(peer, script, bare, sessions, times):
 
 
 def main():
-    peer, workload = sys.argv[1:3]
-    times = int(sys.argv[3]) if len(sys.argv) > 3 else 5
-    subprocess.run([os.path.join(TOP, "ib_tool"), "run"], stdin=subprocess.DEVNULL, stdout=subprocess.DEVNULL, check=True)
+    peer = sys.argv[1]
+    times = int(sys.argv[2]) if len(sys.argv) > 2 else 5
+    counts = [int(word) for word in sys.argv[3:]] or COUNTS
+    built()
     with tempfile.TemporaryDirectory() as folder:
         script, bare = os.path.join(folder, "script"), os.path.join(folder, "bare")
         for kind in KINDS:
-            for count in COUNTS:
+            for count in counts:
                 for sessions in SESSIONS:
                     with open(script, "w") as file:
-                        subprocess.run([sys.executable, workload, kind, str(count), str(sessions)], stdout=file, check=True)
+                        subprocess.run([sys.executable, WORKLOAD, kind, str(count), str(sessions)], stdout=file, check=True)
                     with open(bare, "w") as file:
                         file.writelines(f"session {session}\nget 0\n" for session in range(1, sessions + 1))
                     print(f"{kind:5} {count:6} commands, {sessions} sessions: {measure(peer, script, bare, sessions, times)}", flush=True)
 
 
-main()
+if __name__ == "__main__":
+    main()
