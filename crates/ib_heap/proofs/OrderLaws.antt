@@ -1,38 +1,15 @@
--- How one key stands to another, by the words of the first.
-use Rattle.std.proofs.Common.{◌≡◌, ℕ, ◌<◌, ◌≤◌, ◌≢◌, ◌↔◌, ◌∙◌, true, false, refl, ap, sym, arith, Less, Equal, Greater}
+-- How one key stands to another.
+use Rattle.std.proofs.Common.{◌≡◌, ℕ, ◌<◌, ◌≤◌, ◌≢◌, ◌⊎◌, ◌∙◌, true, false, refl, ap, sym, arith, inl, inr, Less, Equal, Greater}
 use Rattle.std.specs.declared.cmp.Ordering.{Ordering}
-use Rattle.std.specs.Ordering.{is_lt, is_eq, is_ge, is_ne}
-use Rattle.std.proofs.lemmas.Bool.{true≢false, false≢true}
-use Rattle.ib_map.specs.KeyWords.{is_key_words}
+use Rattle.std.specs.Ordering.{is_lt, is_eq, is_ge}
+use Rattle.std.proofs.lemmas.Bool.{cases_eq, true≢false, false≢true}
 use Rattle.ib_map.specs.Keys.{MapKey, rank, key_in}
 use Rattle.ib_map.proofs.KeyLaws.{key_in-words}
 use Rattle.ib_heap.specs.Order.{IsOrder}
 
--- the first words decide
-pub first-decides : (first second : ℕ) (key : MapKey) (order : Ordering) → is_key_words first second ≡ true → is_ne order ≡ true
-    → (order ≡ Less → (word : ℕ) → is_key_words first word ≡ true → rank (key_in first word) < rank key)
-    → (order ≡ Greater → (word : ℕ) → is_key_words first word ≡ true → rank key < rank (key_in first word))
-    → IsOrder (key_in first second) key order
-first-decides first second key Less is ne less greater = less refl second is
-first-decides first second key Equal is ne less greater = absurd (false≢true ne)
-first-decides first second key Greater is ne less greater = greater refl second is
-
--- they are the same, and the second ones decide
-pub second-decides : (first second : ℕ) (key : MapKey) (order : Ordering) → is_key_words first second ≡ true → first ≡ key.first
-    → (is_key_words key.first second ≡ true → (order ≡ Less) ↔ (rank (key_in key.first second) < rank key))
-    → ((order ≡ Equal) ↔ (second ≡ key.second))
-    → (is_key_words key.first second ≡ true → (order ≡ Greater) ↔ (rank key < rank (key_in key.first second)))
-    → IsOrder (key_in first second) key order
-second-decides first second key order is same less equal greater =
-    let words : is_key_words key.first second ≡ true = ap (λ n. is_key_words n second) (sym same) ∙ is in
-    let read : key_in first second ≡ key_in key.first second = ap (λ n. key_in n second) same in
-    go order refl (less words) equal (greater words) read
-  where
-    go : (o : Ordering) → order ≡ o → ((order ≡ Less) ↔ (rank (key_in key.first second) < rank key)) → ((order ≡ Equal) ↔ (second ≡ key.second)) → ((order ≡ Greater) ↔ (rank key < rank (key_in key.first second)))
-        → key_in first second ≡ key_in key.first second → IsOrder (key_in first second) key o
-    go Less e less equal greater read = rw read (less.0 e)
-    go Equal e less equal greater read = read ∙ (ap (λ n. key_in key.first n) (equal.0 e) ∙ key_in-words key)
-    go Greater e less equal greater read = rw read (greater.0 e)
+-- the words are those of the key
+pub order-words : (first second : ℕ) (key : MapKey) → first ≡ key.first → second ≡ key.second → key_in first second ≡ key
+order-words first second key one two = ap (λ n. key_in n second) one ∙ (ap (λ n. key_in key.first n) two ∙ key_in-words key)
 
 -- what an order says
 pub order-below : (a b : MapKey) (order : Ordering) → IsOrder a b order → is_lt order ≡ true → rank a < rank b
@@ -65,7 +42,23 @@ order-lt Less lt = refl
 order-lt Equal lt = absurd (true≢false lt)
 order-lt Greater lt = absurd (true≢false lt)
 
-pub order-equal : (order : Ordering) → is_ne order ≡ false → order ≡ Equal
-order-equal Less eq = absurd (true≢false eq)
-order-equal Equal eq = refl
-order-equal Greater eq = absurd (true≢false eq)
+-- .. of the supremum, which stands above each, too
+pub standing-from : (place : ℕ) (a b : MapKey) (order : Ordering) → (place ≡ 19 → order ≡ Greater) → (place ≢ 19 → IsOrder a b order) → is_ge order ≡ true → (place ≡ 19) ⊎ (rank b ≤ rank a)
+standing-from place a b order top is ge = elim (cases_eq place 19) [
+  | inl e ↦ inl e
+  | inr ne ↦ inr (order-not_below a b order (is ne) (order-ge order ge))
+]
+
+pub standing-record : (place : ℕ) (order : Ordering) → (place ≡ 19 → order ≡ Greater) → is_ge order ≡ false → place ≢ 19
+standing-record place order top lt e = let z : true ≡ false = ap is_ge (sym (top e)) ∙ lt in true≢false z
+
+pub standing-found : (place : ℕ) (a b : MapKey) (order : Ordering) → (place ≡ 19 → order ≡ Greater) → (place ≢ 19 → IsOrder a b order) → is_eq order ≡ true → (place ≢ 19) × (a ≡ b)
+standing-found place a b order top is eq =
+    let ne : place ≢ 19 = λ e. (let z : false ≡ true = ap is_eq (sym (top e)) ∙ eq in true≢false (sym z)) in
+    (ne, order-same a b order (is ne) eq)
+
+pub standing-other : (place : ℕ) (a b : MapKey) (order : Ordering) → (place ≢ 19 → IsOrder a b order) → is_eq order ≡ false → (place ≡ 19) ⊎ ((place ≢ 19) × (rank a ≢ rank b))
+standing-other place a b order is differ = elim (cases_eq place 19) [
+  | inl e ↦ inl e
+  | inr ne ↦ inr (ne, order-differs a b order (is ne) differ)
+]

@@ -1,6 +1,7 @@
 //! The directory of a page and its chain, over a source of the page's words (page0page).
 
-ghost use Rattle.std.specs.Prelude.{◌≡◌, ℕ, ◌+◌, ◌-◌, ◌/◌, ◌<◌, ◌≤◌, ◌⊎◌, length, take, drop, slice_index, IsTrue};
+ghost use Rattle.std.specs.Prelude.{◌≡◌, ℕ, ◌+◌, ◌-◌, ◌/◌, ◌<◌, ◌≤◌, ◌⊎◌, ◌↔◌, length, take, drop, slice_index, IsTrue};
+ghost use Rattle.ib_map.specs.Keys.{rank};
 ghost use Rattle.ib_map.specs.Pairs.{place_of};
 ghost use Rattle.ib_heap.specs.Image.{IsTreePage, records_of};
 ghost use Rattle.ib_heap.specs.Heap.{key_at, is_key_at, nodes_of, owners, up_to, last_from, first_of};
@@ -10,7 +11,7 @@ use crate::form::{
     DIRECTORY, FIRST_KEY_WORD, LAST_PLACE, OWNED_UNIT, SECOND_KEY_WORD, TOP, VALUE_WORD,
 };
 use crate::words::PageWords;
-use ib_map::{Key, order_by_first, order_by_second};
+use ib_map::Key;
 use std::cmp::Ordering;
 
 /// The number of the last slot, the supremum's.
@@ -71,6 +72,29 @@ pub(crate) fn next_place<W: PageWords>(page: &mut W, place: usize) -> usize
     (page.word(place) % OWNED_UNIT) as usize
 }
 
+/// Whether the key of the record at a place is below another. Its second word is read only where the first ones are
+/// the same.
+pub(crate) fn is_below_at<W: PageWords>(page: &mut W, place: usize, key: Key) -> bool
+    requires can { W.can_read page.old }
+    requires tree { IsTreePage (W.words page.old) }
+    requires in_page { place ≤ LAST_PLACE }
+    requires keyed { IsTrue (is_key_at (W.words page.old) place) }
+    ensures below { IsTrue result ↔ (rank (key_at (W.words page.old) place) < rank key) }
+    ensures same { W.words page.new ≡ W.words page.old }
+    ensures can { W.can_read page.new }
+    ensures read { W.has_read page.old page.new }
+{
+    let (first, second) = key.words();
+    let word = page.word(place + FIRST_KEY_WORD);
+    if word < first {
+        return true;
+    }
+    if word > first {
+        return false;
+    }
+    page.word(place + SECOND_KEY_WORD) < second
+}
+
 /// How the key of the record at a place stands to another. Its second word is read only where the first ones are
 /// the same.
 pub(crate) fn order_at<W: PageWords>(page: &mut W, place: usize, key: Key) -> Ordering
@@ -83,11 +107,23 @@ pub(crate) fn order_at<W: PageWords>(page: &mut W, place: usize, key: Key) -> Or
     ensures can { W.can_read page.new }
     ensures read { W.has_read page.old page.new }
 {
-    let order = order_by_first(page.word(place + FIRST_KEY_WORD), key);
-    if order.is_ne() {
-        return order;
+    let (first, second) = key.words();
+    let word = page.word(place + FIRST_KEY_WORD);
+    // Branches, since the compiler makes a number of an order that is asked for twice.
+    if word < first {
+        return Ordering::Less;
     }
-    order_by_second(page.word(place + SECOND_KEY_WORD), key)
+    if word > first {
+        return Ordering::Greater;
+    }
+    let rest = page.word(place + SECOND_KEY_WORD);
+    if rest < second {
+        return Ordering::Less;
+    }
+    if rest > second {
+        return Ordering::Greater;
+    }
+    Ordering::Equal
 }
 
 /// The value of the record at a place.
@@ -117,10 +153,10 @@ pub(crate) fn slot_of<W: PageWords>(page: &mut W, key: Key) -> usize
 {
     let mut low = 0;
     let mut high = last_slot(page);
-    while high - low > 1 {
-        let middle = low + (high - low) / 2;
+    while low + 1 < high {
+        let middle = (low + high) / 2;
         let place = owner(page, middle);
-        if order_at(page, place, key).is_lt() {
+        if is_below_at(page, place, key) {
             low = middle;
         } else {
             high = middle;

@@ -5,6 +5,8 @@ ghost use Rattle.std.specs.List.Sorted.{IsSearchInRange};
 ghost use Rattle.ib_map.specs.Keys.{rank};
 ghost use Rattle.ib_map.specs.Pairs.{value_at, place_of, place_after};
 ghost use Rattle.ib_heap.specs.Image.{IsTreePage, records_of};
+ghost use Rattle.std.specs.declared.cmp.Ordering.TheVariants.{Greater};
+ghost use Rattle.ib_heap.specs.Order.{IsOrder};
 ghost use Rattle.ib_heap.specs.Heap.{key_at, is_key_at, nodes_of, owners, up_to, last_from, first_of};
 
 use crate::MOST_RECORDS;
@@ -13,15 +15,17 @@ use crate::form::{LAST_PLACE, SUPREMUM, VALUE_WORD};
 use crate::walk::record_of;
 use crate::words::PageWords;
 use ib_map::Key;
+use std::cmp::Ordering;
 
 /// Where a key stands in the chain, or would stand: the slot, how many steps behind the owner of the slot
-/// before it, the place before the key, and the first place whose record is not below it.
+/// before it, the place before the key, the first place whose record is not below it, and whether that is the key's.
 #[derive(Clone, Copy)]
 pub(crate) struct Cursor {
     pub(crate) slot: usize,
     pub(crate) steps: usize,
     pub(crate) before: usize,
     pub(crate) at: usize,
+    pub(crate) found: bool,
 }
 
 /// Finds a key.
@@ -30,6 +34,8 @@ pub(crate) fn seek<W: PageWords>(page: &mut W, key: Key) -> Cursor
     requires tree { IsTreePage (W.words page.old) }
     ensures before { let nodes = nodes_of (W.words page.old) in result.before ≡ last_from 18 (take (place_of key (records_of (W.words page.old))) nodes) }
     ensures at { let nodes = nodes_of (W.words page.old) in result.at ≡ first_of (drop (place_of key (records_of (W.words page.old))) nodes) }
+    ensures found { IsTrue result.found → (result.at ≢ 19) × (key_at (W.words page.old) result.at ≡ key) }
+    ensures other { result.found ≡ false → (result.at ≡ 19) ⊎ ((result.at ≢ 19) × (rank (key_at (W.words page.old) result.at) ≢ rank key)) }
     ensures some { 0 < result.slot }
     ensures in_range { result.slot ≤ length (owners (nodes_of (W.words page.old))) }
     ensures steps { up_to (result.slot - 1) (nodes_of (W.words page.old)) + result.steps ≡ place_of key (records_of (W.words page.old)) }
@@ -43,12 +49,14 @@ pub(crate) fn seek<W: PageWords>(page: &mut W, key: Key) -> Cursor
     let mut before = owner(page, slot - 1);
     let mut at = next_place(page, before);
     for steps in 0..MOST_RECORDS {
-        if is_at(page, at, key) {
+        let order = standing(page, at, key);
+        if order.is_ge() {
             return Cursor {
                 slot,
                 steps,
                 before,
                 at,
+                found: order.is_eq(),
             };
         }
         before = at;
@@ -59,44 +67,26 @@ pub(crate) fn seek<W: PageWords>(page: &mut W, key: Key) -> Cursor
         steps: MOST_RECORDS,
         before,
         at,
+        found: false,
     }
 }
 
-// Whether a place is the supremum's, or that of a record that is not below the key.
-fn is_at<W: PageWords>(page: &mut W, place: usize, key: Key) -> bool
+// How the record at a place stands to a key; the supremum stands above each.
+fn standing<W: PageWords>(page: &mut W, place: usize, key: Key) -> Ordering
     requires can { W.can_read page.old }
     requires tree { IsTreePage (W.words page.old) }
     requires in_page { place ≤ LAST_PLACE }
     requires keyed { place ≢ 19 → IsTrue (is_key_at (W.words page.old) place) }
-    ensures yes { IsTrue result → (place ≡ 19) ⊎ (rank key ≤ rank (key_at (W.words page.old) place)) }
-    ensures end { result ≡ false → place ≢ 19 }
-    ensures below { result ≡ false → rank (key_at (W.words page.old) place) < rank key }
+    ensures supremum { place ≡ 19 → result ≡ Greater }
+    ensures order { place ≢ 19 → IsOrder (key_at (W.words page.old) place) key result }
     ensures same { W.words page.new ≡ W.words page.old }
     ensures can { W.can_read page.new }
     ensures read { W.has_read page.old page.new }
 {
     if place == SUPREMUM {
-        return true;
+        return Ordering::Greater;
     }
-    order_at(page, place, key).is_ge()
-}
-
-// Whether a place is that of the key's record.
-fn has_key<W: PageWords>(page: &mut W, place: usize, key: Key) -> bool
-    requires can { W.can_read page.old }
-    requires tree { IsTreePage (W.words page.old) }
-    requires in_page { place ≤ LAST_PLACE }
-    requires keyed { place ≢ 19 → IsTrue (is_key_at (W.words page.old) place) }
-    ensures yes { IsTrue result → (place ≢ 19) × (key_at (W.words page.old) place ≡ key) }
-    ensures no { result ≡ false → (place ≡ 19) ⊎ ((place ≢ 19) × (rank (key_at (W.words page.old) place) ≢ rank key)) }
-    ensures same { W.words page.new ≡ W.words page.old }
-    ensures can { W.can_read page.new }
-    ensures read { W.has_read page.old page.new }
-{
-    if place == SUPREMUM {
-        return false;
-    }
-    order_at(page, place, key).is_eq()
+    order_at(page, place, key)
 }
 
 /// Where a key stands among the records in their order, as `Ok`, or where it would stand, as `Err`
@@ -129,11 +119,7 @@ fn find_in<W: PageWords>(page: &mut W, key: Key) -> Result<usize, usize>
 {
     let cursor = seek(page, key);
     let index = index_behind(page, cursor.slot - 1) + cursor.steps;
-    if has_key(page, cursor.at, key) {
-        Ok(index)
-    } else {
-        Err(index)
-    }
+    if cursor.found { Ok(index) } else { Err(index) }
 }
 
 /// The value of a key, by the search of `find`. None exactly where the key is not there.
@@ -156,7 +142,7 @@ pub fn get_in<W: PageWords>(page: &mut W, key: Key) -> Option<u64>
     ensures read { W.has_read page.old page.new }
 {
     let cursor = seek(page, key);
-    if has_key(page, cursor.at, key) {
+    if cursor.found {
         return Some(value_word(page, cursor.at));
     }
     None
@@ -222,7 +208,7 @@ fn route_word<W: PageWords>(page: &mut W, key: Key) -> usize
     ensures read { W.has_read page.old page.new }
 {
     let cursor = seek(page, key);
-    if has_key(page, cursor.at, key) {
+    if cursor.found {
         return cursor.at;
     }
     cursor.before

@@ -12,5 +12,5 @@ pub mod RunLaws
 pub mod WriteLaws
 pub mod ChunkLaws
 pub mod FullRecordLaws
-mod CompareLaws
+pub mod CompareLaws
 mod WorkedRows

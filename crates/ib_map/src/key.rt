@@ -11,7 +11,6 @@ ghost use Rattle.ib_map.specs.KeyWords.{is_key_words};
 pub use bytes::LongKey;
 pub use law::key_law;
 pub use order::{after, is_below, is_same};
-pub use words::{order_by_first, order_by_second};
 
 /// A key of the index: 0 to 15 bytes, ordered byte by byte, a prefix first. Code outside this crate copies keys,
 /// and compares them by the calls beside.

@@ -10,10 +10,7 @@ mod write;
 
 pub use call::{Call, Change, LoggedChange, Record, Reply};
 pub use chunks::{Chunk, Chunks, OutOfMemory};
-pub use key::{
-    Key, LongKey, MOST_KEY_BYTES, after, is_below, is_same, key_law, order_by_first,
-    order_by_second,
-};
+pub use key::{Key, LongKey, MOST_KEY_BYTES, after, is_below, is_same, key_law};
 pub use plain::{MapFault, PlainMap};
 pub use runs::run_law;
 pub use write::{Write, spans_pages, write_law};

@@ -1,13 +1,11 @@
 //! Keys as two words, as pages and the log keep them.
 
-ghost use Rattle.std.specs.Prelude.{ℕ, ◌≡◌, ◌<◌, ◌↔◌, true, IsTrue, SomeIff};
-ghost use Rattle.std.specs.declared.cmp.Ordering.TheVariants.{Less, Equal, Greater};
+ghost use Rattle.std.specs.Prelude.{◌≡◌, true, IsTrue, SomeIff};
 ghost use Rattle.ib_map.specs.KeyWords.{is_key_words};
-ghost use Rattle.ib_map.specs.Keys.{key_in, rank};
+ghost use Rattle.ib_map.specs.Keys.{key_in};
 
 use super::Key;
 use super::order::are_key_words;
-use std::cmp::Ordering;
 
 impl Key {
     /// The key of two words. None exactly where they are no key's: the last byte is above 15, or a byte behind so
@@ -40,26 +38,4 @@ impl Key {
     {
         (self.first, self.second)
     }
-}
-
-/// How a key with this first word stands to `key`, whatever its second word is. `Equal` where that decides.
-pub fn order_by_first(first: u64, key: Key) -> Ordering
-    ensures less { result ≡ Less → (second : ℕ) → is_key_words first second ≡ true
-        → rank (key_in first second) < rank key }
-    ensures equal { (result ≡ Equal) ↔ (first ≡ key.first) }
-    ensures greater { result ≡ Greater → (second : ℕ) → is_key_words first second ≡ true
-        → rank key < rank (key_in first second) }
-{
-    first.cmp(&key.first)
-}
-
-/// How the key with the first word of `key` and this second word stands to `key`.
-pub fn order_by_second(second: u64, key: Key) -> Ordering
-    ensures less { is_key_words key.first second ≡ true
-        → (result ≡ Less) ↔ (rank (key_in key.first second) < rank key) }
-    ensures equal { (result ≡ Equal) ↔ (second ≡ key.second) }
-    ensures greater { is_key_words key.first second ≡ true
-        → (result ≡ Greater) ↔ (rank key < rank (key_in key.first second)) }
-{
-    second.cmp(&key.second)
 }

@@ -1,53 +1,57 @@
 -- The owner in the middle is below the key, or it is not.
-use Rattle.std.proofs.Common.{◌≡◌, arith, ◌+◌, ◌-◌, ◌/◌, ◌∙◌, inl, sym, subst, true, List, ℕ}
-use Rattle.ib_heap.specs.Heap.{is_key_at}
+use Rattle.std.proofs.Common.{◌≡◌, arith, ◌+◌, ◌-◌, ◌/◌, ◌∙◌, ◌≤◌, inl, inr, sym, subst, true, List, ℕ}
+use Rattle.std.proofs.lemmas.Bool.{cases_lt}
+use Rattle.ib_map.specs.Keys.{rank}
+use Rattle.ib_heap.specs.Heap.{is_key_at, key_at}
 use Rattle.ib_heap.proofs.SeekLaws.{known, slot-below, slot-above}
-use Rattle.ib_heap.proofs.OrderLaws.{order-below, order-not_below}
 use Rattle.ib_heap.proofs.directory.slot_of.Goals as goal
 
-pub order_at-requires-clause-keyed : goal.order_at-requires-clause-keyed
-order_at-requires-clause-keyed g c =
-    let test = c.loop-high-test.true in
-    let range = c.loop-high.invariant.in_range in
-    let keyed = rw c.loop-high.invariant.same at c.owner-place.ensures.keyed in
-    subst (λ (xs : List ℕ). is_key_at xs c.owner-place.result ≡ true) (sym (c.owner-place.ensures.same ∙ c.loop-high.invariant.same)) (keyed (omega arith) (omega arith))
+pub is_below_at-requires-clause-keyed : goal.is_below_at-requires-clause-keyed
+is_below_at-requires-clause-keyed g c =
+    let test = c.loop-low-test.true in
+    let range = c.loop-low.invariant.in_range in
+    let keyed = rw c.loop-low.invariant.same at c.owner-place.ensures.keyed in
+    subst (λ (xs : List ℕ). is_key_at xs c.owner-place.result ≡ true) (sym (c.owner-place.ensures.same ∙ c.loop-low.invariant.same)) (keyed (omega arith) (omega arith))
 
-pub loop-high-preserved-then-is_lt : goal.loop-high-preserved-then-is_lt
-loop-high-preserved-then-is_lt g c =
+pub loop-low-preserved-then-is_below_at : goal.loop-low-preserved-then-is_below_at
+loop-low-preserved-then-is_below_at g c =
     let ws = g.W.PageWords.words c.args.page.now in
-    let middle = c.loop-high.low + (c.loop-high.high - c.loop-high.low) / 2 in
-    let test = c.loop-high-test.true in
-    let range = c.loop-high.invariant.in_range in
-    let place = rw c.loop-high.invariant.same at c.owner-place.ensures.place in
-    let same = c.owner-place.ensures.same ∙ c.loop-high.invariant.same in
-    let order = rw same at c.order_at.ensures.order in
-    let lower = order-below _ _ _ order (sym c.is_lt.ensures ∙ c.if-is_lt.true) in
+    let middle = (c.loop-low.low + c.loop-low.high) / 2 in
+    let test = c.loop-low-test.true in
+    let range = c.loop-low.invariant.in_range in
+    let place = rw c.loop-low.invariant.same at c.owner-place.ensures.place in
+    let same = c.owner-place.ensures.same ∙ c.loop-low.invariant.same in
+    let below = rw same at c.is_below_at.ensures.below in
+    let lower = below.0 c.if-is_below_at.true in
     record {
-      same = c.order_at.ensures.same ∙ same;
-      can = c.order_at.ensures.can;
-      read = g.met.W.PageWords.read_more _ _ _ c.loop-high.invariant.read (g.met.W.PageWords.read_more _ _ _ c.owner-place.ensures.read c.order_at.ensures.read);
+      same = c.is_below_at.ensures.same ∙ same;
+      can = c.is_below_at.ensures.can;
+      read = g.met.W.PageWords.read_more _ _ _ c.loop-low.invariant.read (g.met.W.PageWords.read_more _ _ _ c.owner-place.ensures.read c.is_below_at.ensures.read);
       between = omega arith;
       in_range = range;
       low = slot-below ws middle c.owner-place.result c.args.key (known ws c.requires.tree) (omega arith) (omega arith) (place (omega arith)) lower;
-      high = c.loop-high.invariant.high;
+      high = c.loop-low.invariant.high;
     }
 
-pub loop-high-preserved : goal.loop-high-preserved
-loop-high-preserved g c =
+pub loop-low-preserved : goal.loop-low-preserved
+loop-low-preserved g c =
     let ws = g.W.PageWords.words c.args.page.now in
-    let middle = c.loop-high.low + (c.loop-high.high - c.loop-high.low) / 2 in
-    let test = c.loop-high-test.true in
-    let range = c.loop-high.invariant.in_range in
-    let place = rw c.loop-high.invariant.same at c.owner-place.ensures.place in
-    let same = c.owner-place.ensures.same ∙ c.loop-high.invariant.same in
-    let order = rw same at c.order_at.ensures.order in
-    let higher = order-not_below _ _ _ order (sym c.is_lt.ensures ∙ c.if-is_lt.false) in
+    let middle = (c.loop-low.low + c.loop-low.high) / 2 in
+    let test = c.loop-low-test.true in
+    let range = c.loop-low.invariant.in_range in
+    let place = rw c.loop-low.invariant.same at c.owner-place.ensures.place in
+    let same = c.owner-place.ensures.same ∙ c.loop-low.invariant.same in
+    let below = rw same at c.is_below_at.ensures.below in
+    let higher : rank c.args.key ≤ rank (key_at ws c.owner-place.result) = elim (cases_lt (rank (key_at ws c.owner-place.result)) (rank c.args.key)) [
+      | inl lt ↦ absurd (let yes = below.1 lt in let no = c.if-is_below_at.false in cc)
+      | inr ge ↦ ge
+    ] in
     record {
-      same = c.order_at.ensures.same ∙ same;
-      can = c.order_at.ensures.can;
-      read = g.met.W.PageWords.read_more _ _ _ c.loop-high.invariant.read (g.met.W.PageWords.read_more _ _ _ c.owner-place.ensures.read c.order_at.ensures.read);
+      same = c.is_below_at.ensures.same ∙ same;
+      can = c.is_below_at.ensures.can;
+      read = g.met.W.PageWords.read_more _ _ _ c.loop-low.invariant.read (g.met.W.PageWords.read_more _ _ _ c.owner-place.ensures.read c.is_below_at.ensures.read);
       between = omega arith;
       in_range = omega arith;
-      low = c.loop-high.invariant.low;
+      low = c.loop-low.invariant.low;
       high = inl (slot-above ws middle c.owner-place.result c.args.key (known ws c.requires.tree) (omega arith) (omega arith) (place (omega arith)) higher);
     }

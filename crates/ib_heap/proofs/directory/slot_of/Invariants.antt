@@ -5,8 +5,8 @@ use Rattle.ib_heap.specs.Heap.{nodes_of, owners, up_to}
 use Rattle.ib_heap.specs.Image.{records_of}
 use Rattle.ib_heap.proofs.directory.slot_of.Given as goal
 
-abbrev pub invariant-loop-high : goal.invariant-loop-high
-invariant-loop-high g l =
+abbrev pub invariant-loop-low : goal.invariant-loop-low
+invariant-loop-low g l =
     let words = g.W.PageWords.words in
     let ws = words l.fn.page in
     record {
@@ -19,5 +19,5 @@ invariant-loop-high g l =
       high : (place_of l.key (records_of ws) < up_to l.high (nodes_of ws)) ⊎ (l.high ≡ length (owners (nodes_of ws)));
     }
 
-abbrev pub decreases-loop-high : goal.decreases-loop-high
-decreases-loop-high g l = l.high - l.low
+abbrev pub decreases-loop-low : goal.decreases-loop-low
+decreases-loop-low g l = l.high - l.low

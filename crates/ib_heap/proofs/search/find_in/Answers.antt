@@ -8,19 +8,9 @@ use Rattle.ib_heap.proofs.SeekLaws.{known}
 use Rattle.ib_heap.proofs.FindLaws.{at-low, at-keyed, found, absent-at, has-record, within-records, up_to-records}
 use Rattle.ib_heap.proofs.search.find_in.Goals as goal
 
-pub has_key-requires-clause-in_page : goal.has_key-requires-clause-in_page
-has_key-requires-clause-in_page g c =
-    let ws = g.W.PageWords.words c.args.page.now in let se = c.seek-cursor.ensures in
-    at-low ws c.args.key c.seek-cursor.result.before c.seek-cursor.result.at (known ws c.requires.tree) se.before se.at
-
 -- the index is the key's place
 is-place : (steps index : ℕ) (ws : List ℕ) (slot : ℕ) (key : MapKey) → up_to slot (nodes_of ws) + steps ≡ place_of key (records_of ws) → index ≡ up_to slot (nodes_of ws) → index + steps ≡ place_of key (records_of ws)
 is-place steps index ws slot key one two = omega arith
-
-pub has_key-requires-clause-keyed : goal.has_key-requires-clause-keyed
-has_key-requires-clause-keyed g c =
-    let ws = g.W.PageWords.words c.args.page.now in let se = c.seek-cursor.ensures in
-    λ ne. rw (c.index_behind.ensures.same ∙ se.same) (at-keyed ws c.args.key c.seek-cursor.result.before c.seek-cursor.result.at (known ws c.requires.tree) se.before se.at ne)
 
 pub overflow_add-index : goal.overflow_add-index
 overflow_add-index g c =
@@ -30,46 +20,42 @@ overflow_add-index g c =
     let few = up_to-records ws c.args.key c.seek-cursor.result.before c.seek-cursor.result.at kn se.before se.at in
     let long = kn.long in let most = kn.few in omega arith
 
-pub returns-then-has_key-clause-in_range : goal.returns-then-has_key-clause-in_range
-returns-then-has_key-clause-in_range g c =
+pub returns-then-cursor-clause-in_range : goal.returns-then-cursor-clause-in_range
+returns-then-cursor-clause-in_range g c =
     let ws = g.W.PageWords.words c.args.page.now in let kn = known ws c.requires.tree in let se = c.seek-cursor.ensures in
     let behind = rw se.same at c.index_behind.ensures.index in
     let e = is-place c.seek-cursor.result.steps c.index_behind.result ws (c.seek-cursor.result.slot - 1) c.args.key se.steps behind in
-    let has = rw (c.index_behind.ensures.same ∙ se.same) at c.has_key.ensures.yes in
-    let lt = within-records ws c.args.key c.seek-cursor.result.before c.seek-cursor.result.at kn se.before se.at (has c.if-has_key.true).0 in
+    let lt = within-records ws c.args.key c.seek-cursor.result.before c.seek-cursor.result.at kn se.before se.at (se.found c.if-cursor.true).0 in
     omega arith
 
-pub returns-then-has_key-clause-found : goal.returns-then-has_key-clause-found
-returns-then-has_key-clause-found g c =
+pub returns-then-cursor-clause-found : goal.returns-then-cursor-clause-found
+returns-then-cursor-clause-found g c =
     let ws = g.W.PageWords.words c.args.page.now in let kn = known ws c.requires.tree in let se = c.seek-cursor.ensures in
     let behind = rw se.same at c.index_behind.ensures.index in
     let e = is-place c.seek-cursor.result.steps c.index_behind.result ws (c.seek-cursor.result.slot - 1) c.args.key se.steps behind in
-    let has = rw (c.index_behind.ensures.same ∙ se.same) at c.has_key.ensures.yes in
-    let there = has c.if-has_key.true in
+    let there = se.found c.if-cursor.true in
     let at = ap (λ i. slice_get (records_of ws) i) e ∙ has-record ws c.args.key c.seek-cursor.result.before c.seek-cursor.result.at kn se.before se.at there.0 in
     subst (λ (o : Option (MapKey × ℕ)). IsSomeAnd o (λ r. r.0 ≡ c.args.key)) (sym at) there.1
 
-pub returns-then-has_key-clause-value : goal.returns-then-has_key-clause-value
-returns-then-has_key-clause-value g c =
+pub returns-then-cursor-clause-value : goal.returns-then-cursor-clause-value
+returns-then-cursor-clause-value g c =
     let ws = g.W.PageWords.words c.args.page.now in let kn = known ws c.requires.tree in let se = c.seek-cursor.ensures in
     let behind = rw se.same at c.index_behind.ensures.index in
     let e = is-place c.seek-cursor.result.steps c.index_behind.result ws (c.seek-cursor.result.slot - 1) c.args.key se.steps behind in
-    let has = rw (c.index_behind.ensures.same ∙ se.same) at c.has_key.ensures.yes in
-    let there = has c.if-has_key.true in
+    let there = se.found c.if-cursor.true in
     let at = ap (λ i. slice_get (records_of ws) i) e ∙ has-record ws c.args.key c.seek-cursor.result.before c.seek-cursor.result.at kn se.before se.at there.0 in
     subst (λ (o : Option (MapKey × ℕ)). IsSomeAnd o (λ r. value_at c.args.key (records_of ws) ≡ Some r.1)) (sym at)
     (found ws c.args.key c.seek-cursor.result.before c.seek-cursor.result.at kn se.before se.at there.0 (ap rank there.1))
 
-pub returns-else-has_key-clause-in_range : goal.returns-else-has_key-clause-in_range
-returns-else-has_key-clause-in_range g c =
+pub returns-else-cursor-clause-in_range : goal.returns-else-cursor-clause-in_range
+returns-else-cursor-clause-in_range g c =
     let ws = g.W.PageWords.words c.args.page.now in let kn = known ws c.requires.tree in let se = c.seek-cursor.ensures in
     let behind = rw se.same at c.index_behind.ensures.index in
     let e = is-place c.seek-cursor.result.steps c.index_behind.result ws (c.seek-cursor.result.slot - 1) c.args.key se.steps behind in
     let few = up_to-records ws c.args.key c.seek-cursor.result.before c.seek-cursor.result.at kn se.before se.at in
     omega arith
 
-pub returns-else-has_key-clause-absent : goal.returns-else-has_key-clause-absent
-returns-else-has_key-clause-absent g c =
+pub returns-else-cursor-clause-absent : goal.returns-else-cursor-clause-absent
+returns-else-cursor-clause-absent g c =
     let ws = g.W.PageWords.words c.args.page.now in let kn = known ws c.requires.tree in let se = c.seek-cursor.ensures in
-    let none = rw (c.index_behind.ensures.same ∙ se.same) at c.has_key.ensures.no in
-    absent-at ws c.args.key c.seek-cursor.result.before c.seek-cursor.result.at kn se.before se.at (none c.if-has_key.false)
+    absent-at ws c.args.key c.seek-cursor.result.before c.seek-cursor.result.at kn se.before se.at (se.other c.if-cursor.false)

@@ -5,32 +5,20 @@ use Rattle.ib_heap.proofs.SeekLaws.{known}
 use Rattle.ib_heap.proofs.FindLaws.{at-low, at-keyed, found, absent-at}
 use Rattle.ib_heap.proofs.search.get_in.Goals as goal
 
-pub has_key-requires-clause-in_page : goal.has_key-requires-clause-in_page
-has_key-requires-clause-in_page g c =
-    let ws = g.W.PageWords.words c.args.page.now in let se = c.seek-cursor.ensures in
-    at-low ws c.args.key c.seek-cursor.result.before c.seek-cursor.result.at (known ws c.requires.tree) se.before se.at
-
-pub has_key-requires-clause-keyed : goal.has_key-requires-clause-keyed
-has_key-requires-clause-keyed g c =
-    let ws = g.W.PageWords.words c.args.page.now in let se = c.seek-cursor.ensures in
-    λ ne. rw (se.same) (at-keyed ws c.args.key c.seek-cursor.result.before c.seek-cursor.result.at (known ws c.requires.tree) se.before se.at ne)
-
 pub value_word-requires-clause-in_page : goal.value_word-requires-clause-in_page
 value_word-requires-clause-in_page g c =
     let ws = g.W.PageWords.words c.args.page.now in let se = c.seek-cursor.ensures in
     at-low ws c.args.key c.seek-cursor.result.before c.seek-cursor.result.at (known ws c.requires.tree) se.before se.at
 
-pub returns-then-has_key-clause-value : goal.returns-then-has_key-clause-value
-returns-then-has_key-clause-value g c =
+pub returns-then-cursor-clause-value : goal.returns-then-cursor-clause-value
+returns-then-cursor-clause-value g c =
     let ws = g.W.PageWords.words c.args.page.now in let kn = known ws c.requires.tree in let se = c.seek-cursor.ensures in
-    let same = c.has_key.ensures.same ∙ se.same in
-    let has = rw se.same at c.has_key.ensures.yes in
-    let there = has c.if-has_key.true in
+    let same = se.same in
+    let there = se.found c.if-cursor.true in
     ap (λ n. Some n) (c.value_word.ensures.value ∙ ap (λ (xs : List ℕ). get_or xs (c.seek-cursor.result.at + 3) 0) same)
     ∙ sym (found ws c.args.key c.seek-cursor.result.before c.seek-cursor.result.at kn se.before se.at there.0 (ap rank there.1))
 
 pub returns-clause-value : goal.returns-clause-value
 returns-clause-value g c =
     let ws = g.W.PageWords.words c.args.page.now in let kn = known ws c.requires.tree in let se = c.seek-cursor.ensures in
-    let none = rw se.same at c.has_key.ensures.no in
-    sym (absent-at ws c.args.key c.seek-cursor.result.before c.seek-cursor.result.at kn se.before se.at (none c.if-has_key.false))
+    sym (absent-at ws c.args.key c.seek-cursor.result.before c.seek-cursor.result.at kn se.before se.at (se.other c.if-cursor.false))

@@ -5,50 +5,36 @@ use Rattle.ib_heap.proofs.SeekLaws.{known}
 use Rattle.ib_heap.proofs.FindLaws.{at-low, at-keyed, before-low, absent-at, routed-at, routed-before, routed-not_above}
 use Rattle.ib_heap.proofs.search.route_word.Goals as goal
 
-pub has_key-requires-clause-in_page : goal.has_key-requires-clause-in_page
-has_key-requires-clause-in_page g c =
-    let ws = g.W.PageWords.words c.args.page.now in let se = c.seek-cursor.ensures in
-    at-low ws c.args.key c.seek-cursor.result.before c.seek-cursor.result.at (known ws c.requires.tree) se.before se.at
-
-pub has_key-requires-clause-keyed : goal.has_key-requires-clause-keyed
-has_key-requires-clause-keyed g c =
-    let ws = g.W.PageWords.words c.args.page.now in let se = c.seek-cursor.ensures in
-    λ ne. rw (se.same) (at-keyed ws c.args.key c.seek-cursor.result.before c.seek-cursor.result.at (known ws c.requires.tree) se.before se.at ne)
-
-pub returns-then-has_key-clause-record : goal.returns-then-has_key-clause-record
-returns-then-has_key-clause-record g c =
+pub returns-then-cursor-clause-record : goal.returns-then-cursor-clause-record
+returns-then-cursor-clause-record g c =
     let ws = g.W.PageWords.words c.args.page.now in let kn = known ws c.requires.tree in let se = c.seek-cursor.ensures in
-    let has = rw se.same at c.has_key.ensures.yes in
-    let there = has c.if-has_key.true in
+    let there = se.found c.if-cursor.true in
     routed-at ws c.args.key c.seek-cursor.result.before c.seek-cursor.result.at kn se.before se.at there.0 there.1
 
-pub returns-then-has_key-clause-in_page : goal.returns-then-has_key-clause-in_page
-returns-then-has_key-clause-in_page g c =
+pub returns-then-cursor-clause-in_page : goal.returns-then-cursor-clause-in_page
+returns-then-cursor-clause-in_page g c =
     let ws = g.W.PageWords.words c.args.page.now in let se = c.seek-cursor.ensures in
     at-low ws c.args.key c.seek-cursor.result.before c.seek-cursor.result.at (known ws c.requires.tree) se.before se.at
 
 pub returns-clause-record : goal.returns-clause-record
 returns-clause-record g c =
     let ws = g.W.PageWords.words c.args.page.now in let kn = known ws c.requires.tree in let se = c.seek-cursor.ensures in
-    let none = rw se.same at c.has_key.ensures.no in
     routed-before ws c.args.key c.seek-cursor.result.before c.seek-cursor.result.at kn se.before se.at
-    (absent-at ws c.args.key c.seek-cursor.result.before c.seek-cursor.result.at kn se.before se.at (none c.if-has_key.false)) c.requires.first
+    (absent-at ws c.args.key c.seek-cursor.result.before c.seek-cursor.result.at kn se.before se.at (se.other c.if-cursor.false)) c.requires.first
 
 pub returns-clause-in_page : goal.returns-clause-in_page
 returns-clause-in_page g c =
     let ws = g.W.PageWords.words c.args.page.now in let se = c.seek-cursor.ensures in
     before-low ws c.args.key c.seek-cursor.result.before c.seek-cursor.result.at (known ws c.requires.tree) se.before se.at
 
-pub returns-then-has_key-clause-not_above : goal.returns-then-has_key-clause-not_above
-returns-then-has_key-clause-not_above g c =
+pub returns-then-cursor-clause-not_above : goal.returns-then-cursor-clause-not_above
+returns-then-cursor-clause-not_above g c =
     let se = c.seek-cursor.ensures in
-    let has = rw se.same at c.has_key.ensures.yes in
-    let there = has c.if-has_key.true in
+    let there = se.found c.if-cursor.true in
     let same = ap rank there.1 in omega arith
 
 pub returns-clause-not_above : goal.returns-clause-not_above
 returns-clause-not_above g c =
     let ws = g.W.PageWords.words c.args.page.now in let kn = known ws c.requires.tree in let se = c.seek-cursor.ensures in
-    let none = rw se.same at c.has_key.ensures.no in
     routed-not_above ws c.args.key c.seek-cursor.result.before c.seek-cursor.result.at kn se.before se.at
-    (absent-at ws c.args.key c.seek-cursor.result.before c.seek-cursor.result.at kn se.before se.at (none c.if-has_key.false)) c.requires.first
+    (absent-at ws c.args.key c.seek-cursor.result.before c.seek-cursor.result.at kn se.before se.at (se.other c.if-cursor.false)) c.requires.first

@@ -1,5 +1,6 @@
 -- The order of keys, clause by clause.
 use Rattle.ib_map.proofs.KeyLaws.{rank_injective, rank-least, rank-lt_end, rank-greatest, key_in-words}
+use Rattle.ib_map.proofs.CompareLaws.{rank-pairs}
 use Rattle.ib_map.proofs.ByteLaws.{bytes-injective, bytes-key_of_bytes, key-bytes, key-few, rank-bytes}
 use Rattle.ib_map.proofs.key.law.key_law.Goals as goal
 
@@ -32,3 +33,6 @@ returns-clause-few_bytes c key = key-few key
 
 pub returns-clause-one_key : goal.returns-clause-one_key
 returns-clause-one_key c a b same = bytes-injective a b same
+
+pub returns-clause-pairs : goal.returns-clause-pairs
+returns-clause-pairs c a b = rank-pairs a b
