@@ -1,7 +1,7 @@
 #!/usr/bin/env python3
 """Makes random inserts and deletes by plan on one memory, and looks after each whether the memory is lawful and has what a map has.
 
-The program is check_plans_main.txt beside this, with the changes of the crate ib_trials, whose asserts it runs. It stands in no crate,
+The program is check_plans_main.txt beside this, with the changes of the crate ib_plan_tests, whose asserts it runs. It stands in no crate,
 since its asserts are run and not proved: `rt try` runs it over a copy of the crates. Each change begins on pages that `check_tree`
 finds lawful, and so does one after the last. After each change the content of the tree is compared with that of a plain map. Keys have
 0 to 15 bytes, and many begin alike. At first four of five changes are inserts, then four of five are deletes, and so on.
@@ -20,7 +20,7 @@ import sys
 import copied
 
 LINE = re.compile(r"changes \d+ raises \d+ lifts \d+ keys \d+")
-TESTS = "ib_trials"
+TESTS = "ib_plan_tests"
 TAKEN = ["src/beside.rt", "src/changes.rt", "src/pages.rt", "src/trial.rt", "specs/Lib.antt", "specs/Reads.antt"]
 LEFT_OUT = ("out", "must-fail")
 # Inserts and deletes change places after so many changes, or after half of all.

@@ -19,13 +19,13 @@ from program import PROGRAM, WORKLOAD, built
 WORKLOADS = (("read", 1), ("fill", 1), ("mixed", 1), ("read", 4), ("mixed", 4))
 PARTS = (
     ("the kernel: memory given and taken back, threads", r"kernel"),
-    ("the script read", r"answer_script|ib_script|ib_edge::(lines|fields|numbers|input|read)|first_line|key_in|plain_key|is_plain_text|hex_key|read_hex|byte_of|digit_number|from_bytes"),
-    ("replies printed", r"print_|ib_text|itoa|Writer|ib_edge"),
+    ("the script read", r"answer_script|ib_script|ib_io::(lines|fields|numbers|input|read)|first_line|key_in|plain_key|is_plain_text|hex_key|read_hex|byte_of|digit_number|from_bytes"),
+    ("replies printed", r"print_|ib_text|itoa|Writer|ib_io"),
     ("searches where pages lie", r"ib_heap::(search|directory|words)|held_page|order_by_(first|second)"),
     ("pages loaded", r"read_page|load"),
     ("commits", r"commits::Mtr\+L"),
     ("records put in, taken out, looked at", r"ib_heap|ib_page|index::leaf|ib_index::(grow|shrink)|ib_split|ib_merge|ib_plans"),
-    ("opening, closing, the map read off", r"run_in|run_script|mem(set|move|cpy)|decode|PlainMap|ib_patch|ib_tree|chunks_from|ib_map|move_within"),
+    ("opening, closing, the map read off", r"run_in|run_script|mem(set|move|cpy)|decode|PlainMap|ib_validate|ib_tree|chunks_from|ib_map|move_within"),
     ("latches, their turns, the memo, the way down", r"ib_core|ib_latch|ib_rule|ib_mtr|ib_cursor|ib_index|ib_runs::session|ForeverIterator"),
 )
 

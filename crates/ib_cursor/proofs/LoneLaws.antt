@@ -11,7 +11,7 @@ use Rattle.ib_walk.specs.Pages.{PageMemory}
 use Rattle.ib_walk.specs.Walk.{Visit, children_of, children, below, sum_of, weight_along, counts_visit, IsNodeAt, AreNodes, IsTree, IsTiled, AreLinked}
 use Rattle.ib_walk.specs.Trees.{top_of, height_of, leaves_of, weight_of, IsTreeOf}
 use Rattle.ib_walk.proofs.SearchLaws.{above, IsTiled-below}
-use Rattle.ib_patch.specs.Patch.{IsGoodAt}
+use Rattle.ib_validate.specs.Patch.{IsGoodAt}
 use Rattle.ib_plans.proofs.LevelLaws.{above-sum, level-le_weight}
 use Rattle.ib_tree.proofs.PatchLaws.{counts_visit-own, IsGoodAt-tree, end_rank-some}
 use Rattle.ib_tree.proofs.ContentLaws.{below-children}

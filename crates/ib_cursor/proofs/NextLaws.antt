@@ -31,7 +31,7 @@ use Rattle.ib_walk.proofs.MeetLaws.{counts_page-own, lowest-le_weight}
 use Rattle.ib_walk.proofs.SearchLaws.{IsTiled-right}
 use Rattle.ib_walk.proofs.TreeLaws.{weight_of-le, IsTiled-leaves}
 use Rattle.ib_walk.proofs.WalkLaws.{sum_of-append}
-use Rattle.ib_patch.specs.Patch.{IsGoodAt}
+use Rattle.ib_validate.specs.Patch.{IsGoodAt}
 use Rattle.ib_tree.specs.Logs.{HasRange, pages_after}
 use Rattle.ib_tree.proofs.PatchLaws.{counts_visit-own, IsGoodAt-tree}
 use Rattle.ib_mtr.specs.Memo.{IsNewest}

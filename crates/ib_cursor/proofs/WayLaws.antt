@@ -16,7 +16,7 @@ use Rattle.ib_walk.proofs.TreeLaws.{weight_of-le, IsPageFor-top}
 use Rattle.ib_walk.proofs.WalkLaws.{sum_of-append}
 use Rattle.ib_plans.proofs.LevelLaws.{above-sum, below-le_weight, level-le_weight}
 use Rattle.ib_plans.proofs.PathLaws.{page_below-child}
-use Rattle.ib_patch.specs.Patch.{IsGoodAt}
+use Rattle.ib_validate.specs.Patch.{IsGoodAt}
 use Rattle.ib_tree.specs.Logs.{HasRange}
 use Rattle.ib_tree.proofs.PatchLaws.{counts_visit-own, counts_visit-same, IsGoodAt-tree}
 use Rattle.ib_cursor.specs.Way.{IsOnWay}

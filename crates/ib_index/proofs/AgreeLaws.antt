@@ -21,10 +21,10 @@ use Rattle.ib_walk.proofs.ImageLaws.{image_of-list, pages_of-image}
 use Rattle.ib_walk.proofs.WalkLaws.{AllByRecursion-right}
 use Rattle.ib_plans.specs.Agreement.{Agrees, HasBits, bits_in, state_or_free, way_of}
 use Rattle.ib_tree.specs.TreeLog.{opening}
-use Rattle.ib_kept.specs.Kept.{IsKeptLog}
-use Rattle.ib_kept.specs.KeptLog.{IsKeptLog-stays}
-use Rattle.ib_kept.specs.LeafChange.{kept_pages}
-use Rattle.ib_kept.proofs.PushLaws.{lawful-before}
+use Rattle.ib_planned_log.specs.Kept.{IsKeptLog}
+use Rattle.ib_planned_log.specs.KeptLog.{IsKeptLog-stays}
+use Rattle.ib_planned_log.specs.LeafChange.{kept_pages}
+use Rattle.ib_planned_log.proofs.PushLaws.{lawful-before}
 use Rattle.ib_rule.specs.Pass.{PassState}
 use Rattle.ib_rule.specs.Stores.{IsHarmless}
 use Rattle.ib_rule.proofs.Watching.{untouched}

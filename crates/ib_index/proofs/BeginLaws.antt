@@ -14,8 +14,8 @@ use Rattle.ib_plans.specs.Agreement.{Agrees, IsThere, last_of, memory_in, way_do
 use Rattle.ib_split.proofs.WayLaws.{path-last}
 use Rattle.ib_tree.specs.PageLists.{AreOnce, is_listed}
 use Rattle.ib_tree.specs.TreeLog.{opening}
-use Rattle.ib_kept.specs.Kept.{IsKeptLog}
-use Rattle.ib_kept.specs.LeafChange.{kept_pages}
+use Rattle.ib_planned_log.specs.Kept.{IsKeptLog}
+use Rattle.ib_planned_log.specs.LeafChange.{kept_pages}
 use Rattle.ib_rule.specs.Pass.{PassState}
 use Rattle.ib_cursor.specs.Claims.{HasClaimed, IsWayWithLeaves, beside}
 use Rattle.ib_cursor.specs.Shapes.{ShapeLaws, is_claimed}

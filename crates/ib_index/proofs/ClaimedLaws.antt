@@ -24,8 +24,8 @@ use Rattle.ib_plans.specs.Agreement.{Agrees, HasTreePages, IsThere, last_of, mem
 use Rattle.ib_split.proofs.WayLaws.{path-length}
 use Rattle.ib_tree.specs.PageLists.{is_listed}
 use Rattle.ib_tree.specs.TreeLog.{opening}
-use Rattle.ib_kept.specs.Kept.{IsKeptLog}
-use Rattle.ib_kept.specs.LeafChange.{kept_pages}
+use Rattle.ib_planned_log.specs.Kept.{IsKeptLog}
+use Rattle.ib_planned_log.specs.LeafChange.{kept_pages}
 use Rattle.ib_rule.specs.Pass.{PassState}
 use Rattle.ib_rule.specs.Views.{is_watched}
 use Rattle.ib_cursor.specs.Claims.{HasClaimed, IsAsRead, beside, claim_grant}

@@ -21,8 +21,8 @@ use Rattle.ib_walk.specs.Words.{bits_of}
 use Rattle.ib_plans.specs.Agreement.{Agrees}
 use Rattle.ib_tree.specs.Fits.{FitsInsert}
 use Rattle.ib_tree.specs.TreeLog.{opening}
-use Rattle.ib_kept.specs.Kept.{IsKeptLog}
-use Rattle.ib_kept.specs.LeafChange.{kept_pages}
+use Rattle.ib_planned_log.specs.Kept.{IsKeptLog}
+use Rattle.ib_planned_log.specs.LeafChange.{kept_pages}
 use Rattle.ib_frames.specs.declared.appends.LogFull.{LogFull}
 use Rattle.ib_rule.specs.Pass.{PassState}
 use Rattle.ib_mtr.specs.Commits.{HasCommitted, HasRead, IsFull}

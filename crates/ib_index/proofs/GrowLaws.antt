@@ -23,7 +23,7 @@ use Rattle.ib_plans.specs.Agreement.{IsThere, last_of, memory_in, reads_of, stat
 use Rattle.ib_plans.proofs.EditLaws.{IsSome-and}
 use Rattle.ib_tree.specs.PageLists.{is_listed}
 use Rattle.ib_tree.specs.TreeLog.{opening}
-use Rattle.ib_kept.specs.Kept.{IsKeptLog}
+use Rattle.ib_planned_log.specs.Kept.{IsKeptLog}
 use Rattle.ib_rule.specs.declared.memory.Knowledge.{Knowledge}
 use Rattle.ib_rule.specs.Pass.{PassState}
 use Rattle.ib_rule.specs.Views.{is_watched}

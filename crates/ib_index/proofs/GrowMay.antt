@@ -17,7 +17,7 @@ use Rattle.ib_walk.specs.Pages.{PageMemory}
 use Rattle.ib_walk.specs.Search.{leaf_for}
 use Rattle.ib_plans.specs.Agreement.{last_of, memory_in, reads_of}
 use Rattle.ib_split.specs.Inserts.{HasFresh, IsPlannedInsertForAll, IsPlannedInsert}
-use Rattle.ib_kept.specs.Kept.{IsKeptLog}
+use Rattle.ib_planned_log.specs.Kept.{IsKeptLog}
 use Rattle.ib_rule.specs.Pass.{PassState}
 use Rattle.ib_rule.specs.Views.{total}
 use Rattle.ib_mtr.specs.Commits.{MayCommit}

@@ -12,7 +12,7 @@ use Rattle.ib_mtr.specs.Commits.{HasCommitted, IsFull}
 use Rattle.ib_frames.specs.declared.appends.LogFull.{LogFull}
 use Rattle.ib_rule.specs.declared.looks.Grants.{Grants}
 use Rattle.ib_rule.specs.Views.{total}
-use Rattle.ib_kept.specs.Kept.{IsKeptLog}
+use Rattle.ib_planned_log.specs.Kept.{IsKeptLog}
 use Rattle.ib_tree.specs.TreeLog.{opening}
 use Rattle.ib_logrec.specs.Log.{by_place, memory_after}
 use Rattle.ib_map.specs.declared.call.Change.{Change}
@@ -21,7 +21,7 @@ use Rattle.ib_index.specs.Leaf.{IsSeated}
 use Rattle.ib_index.proofs.AgreeLaws.{agrees-now}
 use Rattle.ib_split.specs.Inserts.{CanInsert}
 use Rattle.ib_walk.specs.Words.{bits_of}
-use Rattle.ib_kept.specs.LeafChange.{kept_pages}
+use Rattle.ib_planned_log.specs.LeafChange.{kept_pages}
 
 -- where the mini-transaction started is where the call began
 pub way-started : (sizes : Sizes) (key : MapKey) (path : List ℕ) (p q : PassState) → HasComeToWay sizes key path (started p) q → HasComeToWay sizes key path p q

@@ -28,9 +28,9 @@ use Rattle.ib_walk.specs.Full.{is_too_high, need_of}
 use Rattle.ib_walk.specs.Pages.{PageState}
 use Rattle.ib_tree.specs.Fits.{FitsLog, IsLogFull, tree_at}
 use Rattle.ib_tree.specs.TreeLog.{opening}
-use Rattle.ib_kept.specs.Kept.{IsKeptLog}
-use Rattle.ib_kept.specs.LeafChange.{kept_pages, leaf_after}
-use Rattle.ib_kept.proofs.LeafChangeLaws.{insert-room}
+use Rattle.ib_planned_log.specs.Kept.{IsKeptLog}
+use Rattle.ib_planned_log.specs.LeafChange.{kept_pages, leaf_after}
+use Rattle.ib_planned_log.proofs.LeafChangeLaws.{insert-room}
 use Rattle.ib_frames.specs.declared.appends.LogFull.{LogFull}
 use Rattle.ib_rule.specs.declared.looks.Grants.{Grants}
 use Rattle.ib_rule.specs.declared.memory.Knowledge.{Knowledge}

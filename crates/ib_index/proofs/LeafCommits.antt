@@ -34,9 +34,9 @@ use Rattle.ib_walk.specs.Words.{state_of}
 use Rattle.ib_plans.specs.declared.TheConstants.{FEWEST_RECORDS}
 use Rattle.ib_plans.specs.Moves.{Move, Puts, Takes, IsMovedHeap}
 use Rattle.ib_tree.specs.TreeLog.{opening}
-use Rattle.ib_kept.specs.Kept.{IsKeptLog}
-use Rattle.ib_kept.specs.LeafChange.{ChangesPage, kept_pages, leaf_after, with_pair, without_pair}
-use Rattle.ib_kept.proofs.LeafChangeLaws.{delete-kept, insert-kept}
+use Rattle.ib_planned_log.specs.Kept.{IsKeptLog}
+use Rattle.ib_planned_log.specs.LeafChange.{ChangesPage, kept_pages, leaf_after, with_pair, without_pair}
+use Rattle.ib_planned_log.proofs.LeafChangeLaws.{delete-kept, insert-kept}
 use Rattle.ib_rule.specs.declared.memory.Since.{Since}
 use Rattle.ib_rule.specs.Memory.{entries_of}
 use Rattle.ib_rule.specs.Pass.{PassState}

@@ -21,13 +21,13 @@ use Rattle.ib_plans.proofs.EditLaws.{state-clock, state-records}
 use Rattle.ib_plans.proofs.PathLaws.{PathPage}
 use Rattle.ib_tree.specs.Logs.{pages_after}
 use Rattle.ib_tree.specs.TreeLog.{opening}
-use Rattle.ib_kept.specs.Kept.{IsKeptLog}
-use Rattle.ib_kept.specs.KeptLog.{IsKeptLog-front, IsKeptLog-stays}
-use Rattle.ib_kept.specs.LeafChange.{kept_pages, leaf_after}
-use Rattle.ib_kept.proofs.ClockLaws.{clock-le}
-use Rattle.ib_kept.proofs.LeafChangeLaws.{in-leaf}
-use Rattle.ib_kept.proofs.LeafPlanLaws.{leaf-page}
-use Rattle.ib_kept.proofs.PushLaws.{lawful-before}
+use Rattle.ib_planned_log.specs.Kept.{IsKeptLog}
+use Rattle.ib_planned_log.specs.KeptLog.{IsKeptLog-front, IsKeptLog-stays}
+use Rattle.ib_planned_log.specs.LeafChange.{kept_pages, leaf_after}
+use Rattle.ib_planned_log.proofs.ClockLaws.{clock-le}
+use Rattle.ib_planned_log.proofs.LeafChangeLaws.{in-leaf}
+use Rattle.ib_planned_log.proofs.LeafPlanLaws.{leaf-page}
+use Rattle.ib_planned_log.proofs.PushLaws.{lawful-before}
 use Rattle.ib_rule.specs.Pass.{PassState}
 use Rattle.ib_rule.specs.Stores.{IsHarmless}
 use Rattle.ib_rule.proofs.Watching.{untouched}

@@ -37,12 +37,12 @@ use Rattle.ib_plans.specs.Marks.{ticked}
 use Rattle.ib_plans.specs.Moves.{Move, Stays, IsMovedHeap}
 use Rattle.ib_tree.specs.TreeLog.{opening}
 use Rattle.ib_tree.proofs.LogLaws.{pages_after-untouched}
-use Rattle.ib_kept.specs.Kept.{IsKeptLog, IsPlannedEntry, IsPlannedStep, MayPlan, Planned, planned}
-use Rattle.ib_kept.specs.LeafChange.{kept_pages}
-use Rattle.ib_kept.proofs.LeadLaws.{planned-leads}
-use Rattle.ib_kept.proofs.LeafPlanLaws.{leaf-page}
-use Rattle.ib_kept.proofs.PageChangeLaws.{bits_of-space, some-writes}
-use Rattle.ib_kept.proofs.PushLaws.{IsKeptLog-push, content-before, lawful-before}
+use Rattle.ib_planned_log.specs.Kept.{IsKeptLog, IsPlannedEntry, IsPlannedStep, MayPlan, Planned, planned}
+use Rattle.ib_planned_log.specs.LeafChange.{kept_pages}
+use Rattle.ib_planned_log.proofs.LeadLaws.{planned-leads}
+use Rattle.ib_planned_log.proofs.LeafPlanLaws.{leaf-page}
+use Rattle.ib_planned_log.proofs.PageChangeLaws.{bits_of-space, some-writes}
+use Rattle.ib_planned_log.proofs.PushLaws.{IsKeptLog-push, content-before, lawful-before}
 use Rattle.ib_index.specs.Grows.{most_held}
 use Rattle.ib_index.proofs.WorkLaws.{IsAsBefore, image-after, image-still, none-same, still-after, work-count, work-differ}
 use Rattle.ib_split.proofs.Planning.{if-some}

@@ -14,7 +14,7 @@ use Rattle.ib_walk.specs.Trees.{height_of}
 use Rattle.ib_plans.specs.Agreement.{Agrees, IsThere, bits_in, state_or_free}
 use Rattle.ib_split.specs.Inserts.{HasFresh}
 use Rattle.ib_tree.specs.PageLists.{AreOnce, is_listed}
-use Rattle.ib_kept.proofs.LeadLaws.{low-enough}
+use Rattle.ib_planned_log.proofs.LeadLaws.{low-enough}
 use Rattle.ib_rule.specs.declared.looks.Grants.{Grants}
 use Rattle.ib_rule.specs.Pass.{PassState}
 use Rattle.ib_cursor.proofs.EndLaws.{loaded_some}

@@ -13,7 +13,7 @@ use Rattle.ib_page.specs.Work.{WorkPage, IsWork}
 use Rattle.ib_walk.specs.Search.{leaf_for}
 use Rattle.ib_plans.specs.Agreement.{last_of, memory_in, reads_of}
 use Rattle.ib_merge.specs.Deletes.{IsPlannedDeleteForAll}
-use Rattle.ib_kept.specs.Kept.{IsKeptLog}
+use Rattle.ib_planned_log.specs.Kept.{IsKeptLog}
 use Rattle.ib_rule.specs.Pass.{PassState}
 use Rattle.ib_rule.specs.Views.{total}
 use Rattle.ib_mtr.specs.Commits.{MayCommit}

@@ -17,7 +17,7 @@ use Rattle.ib_plans.specs.Merge.{siblings_of}
 use Rattle.ib_merge.specs.Deletes.{CanDelete, HasDeleteImages, HasNext, HasSiblings, nodes_on_path}
 use Rattle.ib_tree.specs.PageLists.{is_listed}
 use Rattle.ib_tree.specs.TreeLog.{opening}
-use Rattle.ib_kept.specs.LeafChange.{kept_pages}
+use Rattle.ib_planned_log.specs.LeafChange.{kept_pages}
 use Rattle.ib_rule.specs.declared.looks.Grants.{Grants}
 use Rattle.ib_rule.specs.Pass.{PassState}
 use Rattle.ib_rule.specs.Views.{total}

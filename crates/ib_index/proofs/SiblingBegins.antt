@@ -19,8 +19,8 @@ use Rattle.ib_plans.proofs.LinkLaws.{NextLeaf-leaf_for}
 use Rattle.ib_merge.specs.Deletes.{HasNext, nodes_on_path}
 use Rattle.ib_tree.specs.PageLists.{is_listed}
 use Rattle.ib_tree.specs.TreeLog.{opening}
-use Rattle.ib_kept.specs.Kept.{IsKeptLog}
-use Rattle.ib_kept.specs.LeafChange.{kept_pages}
+use Rattle.ib_planned_log.specs.Kept.{IsKeptLog}
+use Rattle.ib_planned_log.specs.LeafChange.{kept_pages}
 use Rattle.ib_rule.specs.Pass.{PassState}
 use Rattle.ib_cursor.specs.Claims.{HasClaimed, beside}
 use Rattle.ib_cursor.specs.Shapes.{is_claimed}

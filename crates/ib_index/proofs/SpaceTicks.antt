@@ -16,9 +16,9 @@ use Rattle.ib_logrec.specs.Log.{by_place, memory_after}
 use Rattle.ib_tree.specs.TreeLog.{opening}
 use Rattle.ib_plans.specs.Agreement.{MayTick, bits_in, memory_in, state_or_free}
 use Rattle.ib_plans.proofs.MetLaws.{met-set, root-met}
-use Rattle.ib_kept.specs.Kept.{IsKeptLog}
-use Rattle.ib_kept.specs.LeafChange.{kept_pages}
-use Rattle.ib_kept.proofs.ClockLaws.{clock-le, space_clock-le}
+use Rattle.ib_planned_log.specs.Kept.{IsKeptLog}
+use Rattle.ib_planned_log.specs.LeafChange.{kept_pages}
+use Rattle.ib_planned_log.proofs.ClockLaws.{clock-le, space_clock-le}
 use Rattle.ib_rule.specs.Pass.{PassState}
 use Rattle.ib_index.specs.Grows.{StandsOnWay}
 use Rattle.ib_index.specs.Leaf.{IsSeated}

@@ -30,9 +30,9 @@ use Rattle.ib_split.proofs.WayLaws.{path-last, path-page}
 use Rattle.ib_walk.proofs.SearchLaws.{above-zero}
 use Rattle.ib_tree.specs.PageLists.{is_listed}
 use Rattle.ib_tree.specs.TreeLog.{opening}
-use Rattle.ib_kept.specs.Kept.{IsKeptLog}
-use Rattle.ib_kept.specs.LeafChange.{kept_pages}
-use Rattle.ib_kept.proofs.LeafChangeLaws.{in-leaf}
+use Rattle.ib_planned_log.specs.Kept.{IsKeptLog}
+use Rattle.ib_planned_log.specs.LeafChange.{kept_pages}
+use Rattle.ib_planned_log.proofs.LeafChangeLaws.{in-leaf}
 use Rattle.ib_rule.specs.Pass.{PassState}
 use Rattle.ib_rule.specs.Stores.{IsHarmless}
 use Rattle.ib_rule.specs.Views.{total}

@@ -17,7 +17,7 @@ use Rattle.ib_walk.proofs.ImageLaws.{image_of-list, word_of_image}
 use Rattle.ib_walk.proofs.WalkLaws.{AllByRecursion-append}
 use Rattle.ib_plans.specs.Agreement.{reads_of}
 use Rattle.ib_tree.proofs.LogLaws.{image_of-untouched}
-use Rattle.ib_kept.proofs.WordLaws.{one-count, one-differ}
+use Rattle.ib_planned_log.proofs.WordLaws.{one-count, one-differ}
 
 -- a page is the image that was read
 abbrev pub IsAsBefore : (ℕ → ℕ) → WorkPage → Type 0

@@ -18,8 +18,8 @@ use Rattle.ib_split.specs.Inserts.{HasFresh}
 use Rattle.ib_merge.specs.Deletes.{HasNext}
 use Rattle.ib_tree.specs.PageLists.{AreOnce, is_listed}
 use Rattle.ib_tree.specs.TreeLog.{opening}
-use Rattle.ib_kept.specs.Kept.{IsKeptLog}
-use Rattle.ib_kept.specs.LeafChange.{kept_pages}
+use Rattle.ib_planned_log.specs.Kept.{IsKeptLog}
+use Rattle.ib_planned_log.specs.LeafChange.{kept_pages}
 use Rattle.ib_rule.specs.Pass.{PassState}
 use Rattle.ib_rule.specs.Views.{total, with_grant}
 use Rattle.ib_cursor.specs.Claims.{claim_grant}

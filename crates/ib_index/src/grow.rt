@@ -17,7 +17,7 @@ ghost use Rattle.ib_plans.specs.Agreement.{Agrees, HasTreePages, IsThere, bits_i
 ghost use Rattle.ib_split.specs.Inserts.{CanInsert, IsPlannedInsertForAll};
 ghost use Rattle.ib_tree.specs.PageLists.{AreOnce, is_listed};
 ghost use Rattle.ib_tree.specs.TreeLog.{opening};
-ghost use Rattle.ib_kept.specs.Kept.{IsKeptLog};
+ghost use Rattle.ib_planned_log.specs.Kept.{IsKeptLog};
 ghost use Rattle.ib_rule.specs.Conditions.{MayGrow};
 ghost use Rattle.ib_rule.specs.Pass.{IsAtRest, PassState};
 ghost use Rattle.ib_rule.specs.Views.{total};
@@ -29,12 +29,12 @@ ghost use Rattle.ib_index.specs.Grows.{HasComeToWay, HasGrown, HasTakenNew, IsGr
 
 use crate::leaf::{ROOT, Work, changed};
 use ib_cursor::{descend_to_insert, read, take};
-use ib_kept::KeptLaw;
 use ib_latch::{Latches, Parkers};
 use ib_levels::{Latch, Level, Mode};
 use ib_map::{Call, Change, Key, Record, Reply};
 use ib_mtr::Mtr;
 use ib_page::Path;
+use ib_planned_log::KeptLaw;
 use ib_plans::TreeFault;
 use ib_rule::Pass;
 use ib_split::{choose_pages, pages_needed, plan_insert};

@@ -15,8 +15,8 @@ ghost use Rattle.ib_walk.specs.Words.{state_of};
 ghost use Rattle.ib_plans.specs.declared.TheConstants.{FEWEST_RECORDS};
 ghost use Rattle.ib_plans.specs.Moves.{IsMovedHeap, Puts, Takes};
 ghost use Rattle.ib_tree.specs.TreeLog.{opening};
-ghost use Rattle.ib_kept.specs.Kept.{IsKeptLog};
-ghost use Rattle.ib_kept.specs.LeafChange.{with_pair, without_pair};
+ghost use Rattle.ib_planned_log.specs.Kept.{IsKeptLog};
+ghost use Rattle.ib_planned_log.specs.LeafChange.{with_pair, without_pair};
 ghost use Rattle.ib_rule.specs.Pass.{IsAtRest};
 ghost use Rattle.ib_rule.specs.Views.{total};
 ghost use Rattle.ib_mtr.specs.Commits.{MayCommit};
@@ -26,11 +26,11 @@ ghost use Rattle.ib_index.specs.Leaf.{HasComeToLeaf, IsAtLeaf, IsFullFor, IsSeat
 
 use ib_cursor::{Search, descend};
 use ib_frames::LogFull;
-use ib_kept::KeptLaw;
 use ib_latch::{Latches, Parkers};
 use ib_map::{Call, Change, Key, Record, Reply};
 use ib_mtr::Mtr;
 use ib_page::{Image, MOST_RECORDS};
+use ib_planned_log::KeptLaw;
 use ib_plans::FEWEST_RECORDS;
 use ib_rule::Pass;
 use std::sync::Wait;

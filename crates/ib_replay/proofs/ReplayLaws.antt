@@ -24,8 +24,8 @@ use Rattle.ib_logrec.proofs.EntryLaws.{length-words_of_entry, entry_in-words, fa
 use Rattle.ib_logrec.proofs.LogLaws.{log_words-push, used-push, history_of-push, length-history_of}
 use Rattle.ib_replay.specs.declared.log_replay.TheConstants.{COUNTS}
 use Rattle.ib_walk.specs.Opening.{opening_word}
-use Rattle.ib_patch.specs.TreeMemory.{TreeMemory, IsSettled, opening_positions}
-use Rattle.ib_patch.specs.Positions.{positions_of}
+use Rattle.ib_validate.specs.TreeMemory.{TreeMemory, IsSettled, opening_positions}
+use Rattle.ib_validate.specs.Positions.{positions_of}
 use Rattle.ib_tree.specs.Logs.{IsTreeEntry}
 use Rattle.ib_tree.specs.TreeLog.{opening, IsTreeLog, IsLawfulLog-none}
 use Rattle.ib_tree.proofs.LogLaws.{map_of-push, map_of-with}

@@ -20,11 +20,11 @@ use Rattle.ib_walk.specs.Opening.{opening_word}
 use Rattle.ib_walk.specs.Pages.{PageMemory}
 use Rattle.ib_walk.specs.Words.{image_of, pages_of, bits_of, memory_of}
 use Rattle.ib_walk.proofs.SpaceLaws.{IsLawfulMemory-opening, content_of-opening}
-use Rattle.ib_patch.specs.Patch.{IsSliced}
-use Rattle.ib_patch.specs.PatchTest.{Positions, PassesTest, IsListed, IsKeptBeside, fresh_of}
-use Rattle.ib_patch.specs.Positions.{is_good_at, marks_of, positions_of}
-use Rattle.ib_patch.specs.TreeMemory.{TreeMemory, IsTreeMemory, IsTreePatch, IsSettled, opening_positions}
-use Rattle.ib_patch.proofs.GoodLaws.{good-at, at-good}
+use Rattle.ib_validate.specs.Patch.{IsSliced}
+use Rattle.ib_validate.specs.PatchTest.{Positions, PassesTest, IsListed, IsKeptBeside, fresh_of}
+use Rattle.ib_validate.specs.Positions.{is_good_at, marks_of, positions_of}
+use Rattle.ib_validate.specs.TreeMemory.{TreeMemory, IsTreeMemory, IsTreePatch, IsSettled, opening_positions}
+use Rattle.ib_validate.proofs.GoodLaws.{good-at, at-good}
 use Rattle.ib_tree.specs.Logs.{IsLawfulLog, IsTreeEntry, pages_after}
 use Rattle.ib_tree.specs.TreeLog.{IsTreeLog}
 use Rattle.ib_tree.specs.Tests.{writes_page, TellsGood, IsEntryGiven, PassesEntry}

@@ -7,9 +7,9 @@ use Rattle.ib_logrec.specs.declared.entry.Entry.{Entry}
 use Rattle.ib_logrec.specs.Grammar.{IsInGrammar}
 use Rattle.ib_logrec.specs.Log.{history_of, map_of}
 use Rattle.ib_walk.specs.Opening.{opening_word}
-use Rattle.ib_patch.specs.PatchTest.{IsKeptBeside}
-use Rattle.ib_patch.specs.Positions.{positions_of}
-use Rattle.ib_patch.specs.TreeMemory.{TreeMemory, IsSettled}
+use Rattle.ib_validate.specs.PatchTest.{IsKeptBeside}
+use Rattle.ib_validate.specs.Positions.{positions_of}
+use Rattle.ib_validate.specs.TreeMemory.{TreeMemory, IsSettled}
 use Rattle.ib_tree.specs.Logs.{pages_after}
 use Rattle.ib_tree.specs.TreeLog.{IsTreeLog}
 use Rattle.ib_replay.specs.Replays.{IsMemory}

@@ -8,7 +8,7 @@ ghost use Rattle.ib_logrec.specs.Grammar.{IsFault};
 ghost use Rattle.ib_logrec.specs.declared.entry.Entry.{Entry};
 ghost use Rattle.ib_logrec.specs.Log.{log_words, map_of};
 ghost use Rattle.ib_walk.specs.Opening.{opening_word};
-ghost use Rattle.ib_patch.specs.TreeMemory.{IsSettled};
+ghost use Rattle.ib_validate.specs.TreeMemory.{IsSettled};
 ghost use Rattle.ib_tree.specs.Logs.{IsTreeEntry};
 ghost use Rattle.ib_tree.specs.TreeLog.{IsTreeLog};
 ghost use Rattle.ib_replay.specs.Replays.{IsMemory, IsReplayFault, change_fault};
@@ -17,7 +17,7 @@ ghost use Rattle.ib_replay.specs.TreeSteps.{AreTreePages, IsNext};
 use crate::memory::Memory;
 use ib_logrec::{Entry, LogFault, MOST_SESSIONS, UnlawfulKind, decode_at};
 use ib_map::{Change, Key, MapFault, PlainMap};
-use ib_patch::TreePages;
+use ib_validate::TreePages;
 use std::alloc::{AllocError, Global};
 
 /// What a log makes of the opening memory and of the empty map.

@@ -20,7 +20,7 @@ use Rattle.ib_logrec.proofs.LogLaws.{length-history_of}
 use Rattle.ib_tree.specs.Fits.{FitsLog, FitsTree}
 use Rattle.ib_tree.specs.Logs.{pages_after}
 use Rattle.ib_tree.specs.TreeLog.{opening}
-use Rattle.ib_kept.specs.Kept.{IsKeptLog}
+use Rattle.ib_planned_log.specs.Kept.{IsKeptLog}
 use Rattle.ib_runs.specs.Alone.{AreNeverFull, IsNotFull, IsAlone}
 use Rattle.ib_runs.specs.Answers.{calls_in}
 use Rattle.ib_runs.specs.Outcomes.{IsOutcome}

@@ -28,7 +28,7 @@ use Rattle.ib_plans.specs.Marks.{ticked}
 use Rattle.ib_plans.proofs.MetLaws.{root-times_met}
 use Rattle.ib_tree.specs.Logs.{pages_after}
 use Rattle.ib_tree.specs.TreeLog.{opening}
-use Rattle.ib_kept.specs.Kept.{IsKeptLog, IsPlannedEntry, Planned, planned}
+use Rattle.ib_planned_log.specs.Kept.{IsKeptLog, IsPlannedEntry, Planned, planned}
 
 -- two logs have the same history, and lead to the same pages and bits
 pub record SaySame (pages : ℕ) (xs ys : List Entry) : Type 0 where

@@ -20,7 +20,7 @@ use Rattle.ib_walk.specs.Pages.{PageMemory}
 use Rattle.ib_walk.specs.Full.{free_of, is_too_high, need_of}
 use Rattle.ib_tree.specs.Fits.{FitsInsert, FitsTree, free_at, tree_at}
 use Rattle.ib_tree.proofs.RefusalLaws.{delete-inserted}
-use Rattle.ib_kept.specs.Kept.{IsKeptLog, MayPlan}
+use Rattle.ib_planned_log.specs.Kept.{IsKeptLog, MayPlan}
 use Rattle.ib_runs.specs.Alone.{IsNotFull}
 use Rattle.ib_runs.specs.Sessions.{index_space}
 use Rattle.ib_runs.proofs.AloneChunkLaws.{scan-one}

@@ -38,8 +38,8 @@ use Rattle.ib_tree.specs.Fits.{FitsLog}
 use Rattle.ib_tree.specs.Scans.{AreFront, AreWhole}
 use Rattle.ib_tree.specs.TreeLog.{opening}
 use Rattle.ib_tree.proofs.FitLaws.{answers_longer, FitsLog-whole}
-use Rattle.ib_kept.specs.Kept.{IsKeptLog}
-use Rattle.ib_kept.specs.KeptLog.{IsKeptLog-none}
+use Rattle.ib_planned_log.specs.Kept.{IsKeptLog}
+use Rattle.ib_planned_log.specs.KeptLog.{IsKeptLog-none}
 use Rattle.ib_rule.specs.Memory.{entries_of}
 use Rattle.ib_script.specs.Script.{asks_scan, scan_count}
 use Rattle.ib_rule.specs.Pass.{PassState}

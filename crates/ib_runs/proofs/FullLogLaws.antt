@@ -17,7 +17,7 @@ use Rattle.ib_walk.specs.Trees.{content_of}
 use Rattle.ib_tree.specs.Fits.{FitsDelete, FitsInsert, FitsLog, FitsTree, TreeSpace}
 use Rattle.ib_tree.specs.Logs.{pages_after}
 use Rattle.ib_tree.specs.TreeLog.{opening}
-use Rattle.ib_kept.specs.Kept.{IsKeptLog}
+use Rattle.ib_planned_log.specs.Kept.{IsKeptLog}
 use Rattle.ib_runs.specs.Alone.{AreNeverFull, IsNotFull, tells_full}
 use Rattle.ib_runs.specs.Answers.{KeptAnswers, answers_of}
 use Rattle.ib_runs.specs.Outcomes.{HasRan, IsOutcome}

@@ -19,7 +19,7 @@ use Rattle.ib_map.specs.Writes.{word_place}
 use Rattle.ib_tree.specs.Fits.{FitsLog}
 use Rattle.ib_tree.specs.TreeLog.{opening}
 use Rattle.ib_tree.proofs.FitLaws.{answers_longer}
-use Rattle.ib_kept.specs.Kept.{IsKeptLog}
+use Rattle.ib_planned_log.specs.Kept.{IsKeptLog}
 use Rattle.ib_rule.specs.Closed.{IsClosed, log_in, used_in}
 use Rattle.ib_rule.specs.Memory.{EndedFact, entries_of}
 use Rattle.ib_rule.specs.Pass.{PassState}

@@ -15,7 +15,7 @@ use Rattle.ib_walk.specs.Trees.{content_of}
 use Rattle.ib_tree.specs.Fits.{FitsLog}
 use Rattle.ib_tree.specs.Logs.{pages_after}
 use Rattle.ib_tree.specs.TreeLog.{opening}
-use Rattle.ib_kept.specs.Kept.{IsKeptLog}
+use Rattle.ib_planned_log.specs.Kept.{IsKeptLog}
 use Rattle.ib_rule.specs.Closed.{log_in}
 use Rattle.ib_runs.specs.declared.ran.Ran.{Ran}
 use Rattle.ib_runs.specs.Alone.{AreNeverFull}

@@ -16,7 +16,7 @@ use Rattle.ib_tree.specs.Fits.{FitsLog}
 use Rattle.ib_tree.specs.Logs.{pages_after}
 use Rattle.ib_tree.specs.Scans.{AreFront, AreWhole}
 use Rattle.ib_tree.specs.TreeLog.{opening}
-use Rattle.ib_kept.specs.Kept.{IsKeptLog}
+use Rattle.ib_planned_log.specs.Kept.{IsKeptLog}
 use Rattle.ib_rule.specs.Pass.{PassState}
 use Rattle.ib_rule.specs.Views.{total}
 use Rattle.ib_cursor.specs.Going.{IsKnown, WentOn}

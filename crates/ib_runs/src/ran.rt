@@ -10,11 +10,11 @@ ghost use Rattle.ib_logrec.specs.Log.{history_of, log_words};
 ghost use Rattle.ib_runs.specs.Outcomes.{HasLog, IsReadOff};
 
 use crate::session_out::SessionOut;
-use ib_kept::KeptLaw;
 use ib_layout::Geometry;
 use ib_logrec::head_at;
 use ib_map::{LoggedChange, OutOfMemory, PAGE_WORDS, PlainMap};
 use ib_page::Image;
+use ib_planned_log::KeptLaw;
 use ib_rule::Closed;
 use ib_tree::{Trees, content_of};
 use std::alloc::Global;

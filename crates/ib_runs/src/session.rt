@@ -1,7 +1,7 @@
 //! A session's commands, one after another.
 
 ghost use Rattle.std.specs.Prelude.{◌≡◌, ◌≤◌, ◌+◌, ◌^◌, [], OnOk};
-ghost use Rattle.ib_kept.specs.Kept.{IsKeptLog};
+ghost use Rattle.ib_planned_log.specs.Kept.{IsKeptLog};
 ghost use Rattle.ib_rule.specs.Pass.{IsAtRest};
 ghost use Rattle.ib_rule.specs.Views.{no_grants, total};
 ghost use Rattle.ib_cursor.specs.Going.{IsKnown};
@@ -12,8 +12,8 @@ ghost use Rattle.ib_runs.specs.Steps.{HasOneMore, HasReadKeys, KeptLaws};
 use crate::gate::Gate;
 use crate::session_out::SessionOut;
 use ib_index::Index;
-use ib_kept::KeptLaw;
 use ib_map::{Call, Chunks, Key, OutOfMemory, Record, Reply, is_below};
+use ib_planned_log::KeptLaw;
 use ib_rule::Pass;
 use ib_scan::scan;
 use ib_tree::Trees;

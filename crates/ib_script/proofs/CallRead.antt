@@ -1,10 +1,10 @@
 -- A command that is printed is read again.
 use Rattle.std.proofs.Common.{◌≡◌, ◌∙◌, ℕ, List, [], ◌∷◌, ◌++◌, ap, subst}
 use Rattle.std.specs.Prelude.{Result, Ok, Some, codes, decimal}
-use Rattle.ib_edge.proofs.Decimals.{fields-alone, number_in-printed}
-use Rattle.ib_edge.specs.Fields.{◌>>=◌, number_in, one_field, two_fields}
-use Rattle.ib_edge.specs.Lines.{fields_of}
-use Rattle.ib_edge.specs.declared.line_kind.LineKind.{LineKind}
+use Rattle.ib_io.proofs.Decimals.{fields-alone, number_in-printed}
+use Rattle.ib_io.specs.Fields.{◌>>=◌, number_in, one_field, two_fields}
+use Rattle.ib_io.specs.Lines.{fields_of}
+use Rattle.ib_io.specs.declared.line_kind.LineKind.{LineKind}
 use Rattle.ib_map.specs.Keys.{MapKey}
 use Rattle.ib_map.specs.Replies.{change_of}
 use Rattle.ib_map.specs.declared.call.Call.{Call}

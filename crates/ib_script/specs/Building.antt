@@ -2,12 +2,12 @@
 use Rattle.std.specs.Prelude.{◌≡◌, ℕ, ◌+◌, List, [], ◌∷◌, ◌++◌, None, Result, Ok, not, length, count_by, sum_by, fold, slice_index_or, MatchResult}
 use Rattle.std.specs.List.{list_all}
 use Rattle.ib_map.specs.declared.call.Call.{Call}
-use Rattle.ib_edge.specs.BadLines.{IsLineFault}
+use Rattle.ib_io.specs.BadLines.{IsLineFault}
 use Rattle.ib_script.specs.Lists.{lists_of}
 use Rattle.ib_script.specs.Script.{Reading, says_nothing, is_command, is_scan, scan_count, fault_behind, commands_of, session_count, sizes_of}
 use Rattle.ib_script.specs.declared.script_line.ScriptLine.TheVariants.{Session}
 use Rattle.ib_script.specs.declared.builder.Builder.{Builder}
-use Rattle.ib_edge.specs.declared.bad_line.LineFault.{LineFault}
+use Rattle.ib_io.specs.declared.bad_line.LineFault.{LineFault}
 
 -- the session behind a line
 abbrev pub session_then : ℕ → Reading → ℕ

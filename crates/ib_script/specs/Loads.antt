@@ -1,6 +1,6 @@
 -- What a script may be generated from.
 use Rattle.std.specs.Prelude.{ℕ, ◌^◌, Bool, ◌&&◌, nat_le, nat_lt}
-use Rattle.ib_edge.specs.declared.line_kind.TheConstants.{MOST_SCRIPT_SESSIONS}
+use Rattle.ib_io.specs.declared.line_kind.TheConstants.{MOST_SCRIPT_SESSIONS}
 use Rattle.ib_script.specs.declared.load.TheConstants.{MOST_GENERATED}
 
 -- so many commands in all, a seed, and so many sessions

@@ -7,13 +7,13 @@ use Rattle.ib_map.specs.declared.TheConstants.{MOST_PAGES}
 use Rattle.ib_layout.specs.declared.geometry.TheConstants.{MOST_LOG_WORDS}
 use Rattle.ib_map.specs.declared.call.Call.{Call}
 use Rattle.ib_map.specs.declared.call.Call.TheVariants.{Insert, Delete, Get, Scan}
-use Rattle.ib_edge.specs.Lines.{fields_of, first_bad, is_skipped}
-use Rattle.ib_edge.specs.Fields.{◌>>=◌, number_in, one_field, session_in, two_fields}
+use Rattle.ib_io.specs.Lines.{fields_of, first_bad, is_skipped}
+use Rattle.ib_io.specs.Fields.{◌>>=◌, number_in, one_field, session_in, two_fields}
 use Rattle.ib_text.specs.Keys.{key_in}
 use Rattle.ib_script.specs.declared.script_line.TheConstants.{MOST_COMMANDS, MOST_SCANS}
-use Rattle.ib_edge.specs.declared.line_kind.TheConstants.{MOST_SCRIPT_SESSIONS}
-use Rattle.ib_edge.specs.declared.line_kind.LineKind.{LineKind}
-use Rattle.ib_edge.specs.declared.line_kind.LineKind.TheVariants.{Word, Space as SpaceKind, Many}
+use Rattle.ib_io.specs.declared.line_kind.TheConstants.{MOST_SCRIPT_SESSIONS}
+use Rattle.ib_io.specs.declared.line_kind.LineKind.{LineKind}
+use Rattle.ib_io.specs.declared.line_kind.LineKind.TheVariants.{Word, Space as SpaceKind, Many}
 use Rattle.ib_script.specs.declared.script_line.ScriptLine.{ScriptLine}
 use Rattle.ib_script.specs.declared.script_line.ScriptLine.TheVariants.{Skipped, Space, Session, Command}
 

@@ -1,7 +1,7 @@
 -- What a further line of a script is tested against.
 use Rattle.std.specs.Prelude.{◌≡◌, List, [], ◌∷◌, ◌++◌, None, Some, Result, not, count_by, MatchResult}
 use Rattle.std.specs.List.{list_all}
-use Rattle.ib_edge.specs.declared.line_kind.LineKind.{LineKind}
+use Rattle.ib_io.specs.declared.line_kind.LineKind.{LineKind}
 use Rattle.ib_script.specs.Script.{Reading, says_nothing, is_command, is_scan, fault_behind}
 use Rattle.ib_script.specs.declared.tally.Tally.{Tally}
 

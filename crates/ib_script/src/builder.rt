@@ -2,13 +2,13 @@
 
 ghost use Rattle.std.specs.Prelude.{ℕ, ◌≤◌, vec_len};
 ghost use Rattle.ib_script.specs.declared.script_line.TheConstants.{MOST_COMMANDS, MOST_SCANS};
-ghost use Rattle.ib_edge.specs.declared.line_kind.TheConstants.{MOST_SCRIPT_SESSIONS};
+ghost use Rattle.ib_io.specs.declared.line_kind.TheConstants.{MOST_SCRIPT_SESSIONS};
 
 use crate::lists::add_command;
 use crate::reader::LineReader;
 use crate::script::Script;
 use crate::script_line::{MOST_COMMANDS, MOST_SCANS, ScriptLine, is_scan};
-use ib_edge::{LineFault, LineKind};
+use ib_io::{LineFault, LineKind};
 use ib_layout::Geometry;
 use ib_map::Call;
 use std::alloc::Global;
@@ -38,7 +38,7 @@ impl Builder {
     ghost use Rattle.ib_script.specs.Building.{IsBuilt, Takes};
     ghost use Rattle.ib_script.specs.Lists.{lists_of};
     ghost use Rattle.ib_script.specs.declared.script_line.TheConstants.{MOST_COMMANDS, MOST_SCANS};
-    ghost use Rattle.ib_edge.specs.declared.line_kind.TheConstants.{MOST_SCRIPT_SESSIONS};
+    ghost use Rattle.ib_io.specs.declared.line_kind.TheConstants.{MOST_SCRIPT_SESSIONS};
     ghost use Rattle.ib_script.specs.declared.script_line.ScriptLine.TheVariants.{Command, Session, Skipped, Space};
 
     // No line is read.

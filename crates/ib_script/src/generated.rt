@@ -1,7 +1,7 @@
 //! Scripts that are generated.
 
 ghost use Rattle.std.specs.Prelude.{◌≡◌, ◌≤◌, ◌<◌, ◌+◌, ◌/◌, ℕ, IfOk, Some, true, length, slice_get};
-ghost use Rattle.ib_edge.specs.declared.line_kind.TheConstants.{MOST_SCRIPT_SESSIONS};
+ghost use Rattle.ib_io.specs.declared.line_kind.TheConstants.{MOST_SCRIPT_SESSIONS};
 ghost use Rattle.ib_script.specs.Generated.{IsGenerated, call_at, key_of, number_of, share_of};
 ghost use Rattle.ib_script.specs.Loads.{is_load};
 ghost use Rattle.ib_script.specs.Script.{IsSmall};
@@ -9,7 +9,7 @@ ghost use Rattle.ib_script.specs.declared.load.TheConstants.{MOST_GENERATED};
 
 use crate::load::{Load, MOST_GENERATED};
 use crate::script::Script;
-use ib_edge::MOST_SCRIPT_SESSIONS;
+use ib_io::MOST_SCRIPT_SESSIONS;
 use ib_layout::Geometry;
 use ib_map::{Call, Key};
 use std::alloc::{AllocError, Global};

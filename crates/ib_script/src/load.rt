@@ -3,7 +3,7 @@
 ghost use Rattle.std.specs.Prelude.{◌≡◌, SomeIff, true};
 ghost use Rattle.ib_script.specs.Loads.{is_load};
 
-use ib_edge::MOST_SCRIPT_SESSIONS;
+use ib_io::MOST_SCRIPT_SESSIONS;
 
 /// The most commands of a generated script.
 pub const MOST_GENERATED: u32 = 30_000;

@@ -4,7 +4,7 @@ ghost use Rattle.std.specs.Prelude.{◌≡◌, ℕ, List, IfOk};
 ghost use Rattle.ib_script.specs.Script.{IsLineInRange, Reading};
 
 use crate::script_line::{ScriptLine, reading_of};
-use ib_edge::LineKind;
+use ib_io::LineKind;
 
 /// A reading of the lines of scripts: that of the grammar, maybe with a further test of what a line says.
 pub trait LineReader {

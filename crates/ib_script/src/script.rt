@@ -1,16 +1,16 @@
 //! A script, or its first bad line.
 
 ghost use Rattle.std.specs.Prelude.{◌≡◌, ◌≤◌, ◌-◌, ◌<◌, ◌^◌, ℕ, None, Some, Ok, Err, [], length, slice_index_or, vec_len, IfOk};
-ghost use Rattle.ib_edge.specs.Lines.{readings_by};
+ghost use Rattle.ib_io.specs.Lines.{readings_by};
 ghost use Rattle.ib_script.specs.Lists.{lists_of};
 ghost use Rattle.ib_script.specs.Script.{IsScript, IsSmall, first_fault};
-ghost use Rattle.ib_edge.specs.declared.line_kind.LineKind.{LineKind};
-ghost use Rattle.ib_edge.specs.declared.line_kind.TheConstants.{MOST_SCRIPT_SESSIONS};
+ghost use Rattle.ib_io.specs.declared.line_kind.LineKind.{LineKind};
+ghost use Rattle.ib_io.specs.declared.line_kind.TheConstants.{MOST_SCRIPT_SESSIONS};
 
 use crate::builder::Builder;
 use crate::reader::LineReader;
 use crate::tally::refusal;
-use ib_edge::{LineFault, LineKind, MOST_SCRIPT_SESSIONS, ScriptFault, first_line};
+use ib_io::{LineFault, LineKind, MOST_SCRIPT_SESSIONS, ScriptFault, first_line};
 use ib_layout::Geometry;
 use ib_map::Call;
 use std::alloc::Global;
@@ -27,7 +27,7 @@ impl Model for Script {
     ghost use Rattle.std.specs.Prelude.{◌≤◌, vec_len};
     ghost use Rattle.ib_script.specs.Lists.{lists_of};
     ghost use Rattle.ib_script.specs.Script.{ScriptValue};
-    ghost use Rattle.ib_edge.specs.declared.line_kind.TheConstants.{MOST_SCRIPT_SESSIONS};
+    ghost use Rattle.ib_io.specs.declared.line_kind.TheConstants.{MOST_SCRIPT_SESSIONS};
 
     ghost Value = { ScriptValue };
 

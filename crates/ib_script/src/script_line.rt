@@ -3,14 +3,14 @@
 ghost use Rattle.std.specs.Prelude.{◌≡◌, ◌≤◌, ◌∷◌, ◌&&◌, IfOk, IsTrue, Ok, SomeIff};
 ghost use Rattle.ib_layout.specs.Geometry.{has_log};
 ghost use Rattle.ib_map.specs.Space.{has_pages};
-ghost use Rattle.ib_edge.specs.Fields.{number_in, one_field, session_in, two_fields};
-ghost use Rattle.ib_edge.specs.declared.line_kind.TheConstants.{MOST_SCRIPT_SESSIONS};
-ghost use Rattle.ib_edge.specs.Lines.{fields_behind};
+ghost use Rattle.ib_io.specs.Fields.{number_in, one_field, session_in, two_fields};
+ghost use Rattle.ib_io.specs.declared.line_kind.TheConstants.{MOST_SCRIPT_SESSIONS};
+ghost use Rattle.ib_io.specs.Lines.{fields_behind};
 ghost use Rattle.ib_text.specs.Keys.{key_in};
 ghost use Rattle.ib_script.specs.Script.{IsLineInRange, asks_scan, reading_of, reading_of_fields, space_line};
 ghost use Rattle.ib_script.specs.declared.script_line.ScriptLine.TheVariants.{Command};
 
-use ib_edge::{LineKind, first_field, is_skipped, number_in, session_in};
+use ib_io::{LineKind, first_field, is_skipped, number_in, session_in};
 use ib_layout::Geometry;
 use ib_map::{Call, Key};
 use ib_text::key_in;

@@ -1,14 +1,14 @@
 //! Which line of a script is the first bad one, where nothing of it is kept: so no memory is asked for.
 
 ghost use Rattle.std.specs.Prelude.{◌≡◌, ◌≤◌, ◌-◌, ◌<◌, ◌^◌, ◌+◌, ℕ, None, Some, Ok, [], length};
-ghost use Rattle.ib_edge.specs.Lines.{readings_by};
-ghost use Rattle.ib_edge.specs.declared.line_kind.LineKind.{LineKind};
+ghost use Rattle.ib_io.specs.Lines.{readings_by};
+ghost use Rattle.ib_io.specs.declared.line_kind.LineKind.{LineKind};
 ghost use Rattle.ib_script.specs.Script.{first_fault};
 ghost use Rattle.ib_script.specs.declared.script_line.TheConstants.{MOST_COMMANDS, MOST_SCANS};
 
 use crate::reader::LineReader;
 use crate::script_line::{MOST_COMMANDS, MOST_SCANS, ScriptLine, is_scan};
-use ib_edge::{LineKind, ScriptFault, first_line};
+use ib_io::{LineKind, ScriptFault, first_line};
 use ib_map::Call;
 
 // What a further line is tested against.

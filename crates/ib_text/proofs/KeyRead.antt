@@ -3,8 +3,8 @@ use Rattle.std.proofs.Common.{◌≡◌, ◌≢◌, ◌∙◌, ℕ, ◌+◌, ◌
 use Rattle.std.specs.Prelude.{codes, flat_map, length, nat_lt, ◌==◌}
 use Rattle.std.specs.List.{list_all}
 use Rattle.std.proofs.lemmas.Bool.{and_from, and_parts, cases_lt, lt-ltb, le-ltb, ne_eqb}
-use Rattle.ib_edge.proofs.Decimals.{split-alone, split-past}
-use Rattle.ib_edge.specs.Lines.{fields_of}
+use Rattle.ib_io.proofs.Decimals.{split-alone, split-past}
+use Rattle.ib_io.specs.Lines.{fields_of}
 use Rattle.ib_map.specs.KeyBytes.{bytes_of}
 use Rattle.ib_map.specs.Keys.{MapKey}
 use Rattle.ib_text.specs.Keys.{bytes_text, hex_byte, hex_digit, is_plain, is_plain_text, key_text}

@@ -1,9 +1,9 @@
 -- The step of a loop over elements that hold keys: its item is the element at its place, with itself as what stands for none.
 use Rattle.std.proofs.Common.{◌≡◌, ◌<◌, ◌+◌, ℕ, List, get_or, length, take, subst}
 use Rattle.std.specs.Prelude.{Option, flat_map}
-use Rattle.ib_edge.proofs.Writing.{puts_each}
-use Rattle.ib_edge.specs.Writer.{Puts}
-use Rattle.ib_edge.specs.declared.writer.Writer.{Writer}
+use Rattle.ib_io.proofs.Writing.{puts_each}
+use Rattle.ib_io.specs.Writer.{Puts}
+use Rattle.ib_io.specs.declared.writer.Writer.{Writer}
 
 module _ {K : Type 0} {written : K → Option (List ℕ)} {faults : K → ℕ} where
   -- the texts of the first i were put, and then the item's

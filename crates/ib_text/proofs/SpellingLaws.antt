@@ -3,7 +3,7 @@ use Rattle.std.proofs.Common.{◌≡◌, ◌≢◌, ◌∙◌, ℕ, suc, ◌+◌
 use Rattle.std.specs.Prelude.{Option, Some, None, Ok, Err, codes, flat_map, nat_le, nat_lt, ◌==◌}
 use Rattle.std.specs.List.{list_all}
 use Rattle.std.proofs.lemmas.Bool.{and_parts, cases_lt, cases_eq, le-leb, lt-ltb, le-ltb, leb-true, ne_eqb, eq-eqb}
-use Rattle.ib_edge.specs.declared.line_kind.LineKind.TheVariants.{Key as KeyKind}
+use Rattle.ib_io.specs.declared.line_kind.LineKind.TheVariants.{Key as KeyKind}
 use Rattle.ib_map.specs.KeyBytes.{AreBytes, bytes_of, key_of_bytes}
 use Rattle.ib_map.specs.Keys.{MapKey}
 use Rattle.ib_map.proofs.ByteLaws.{bytes-key_of_bytes, key-bytes, key-few, key_of_bytes-bytes}

@@ -2,8 +2,8 @@
 use Rattle.std.specs.Prelude.{ℕ, ◌+◌, ◌-◌, ◌*◌, ◌/◌, ◌%◌, Bool, not, ◌||◌, ◌&&◌, ◌==◌, nat_lt, nat_le, if◌then◌else◌, List, [], ◌∷◌, ◌++◌, flat_map, length, Option, Some, None, Result, Ok, Err, codes, decimal}
 use Rattle.std.specs.Char.{is_ascii_alphanumeric}
 use Rattle.std.specs.List.{list_all}
-use Rattle.ib_edge.specs.declared.line_kind.LineKind.{LineKind}
-use Rattle.ib_edge.specs.declared.line_kind.LineKind.TheVariants.{Key as KeyKind}
+use Rattle.ib_io.specs.declared.line_kind.LineKind.{LineKind}
+use Rattle.ib_io.specs.declared.line_kind.LineKind.TheVariants.{Key as KeyKind}
 use Rattle.ib_map.specs.Keys.{MapKey}
 use Rattle.ib_map.specs.KeyBytes.{bytes_of, key_of_bytes}
 

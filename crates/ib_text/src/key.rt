@@ -1,11 +1,11 @@
 //! The one text of a key, and the one reading of it.
 
 ghost use Rattle.std.specs.Prelude.{◌≡◌, ◌++◌};
-ghost use Rattle.ib_edge.specs.Writer.{Puts};
+ghost use Rattle.ib_io.specs.Writer.{Puts};
 ghost use Rattle.ib_text.specs.Keys.{key_in, key_text, pair_text};
 
 use crate::spelling::{hex_key, is_plain_key, plain_key, print_hex, print_plain};
-use ib_edge::{LineKind, Sink, Writer};
+use ib_io::{LineKind, Sink, Writer};
 use ib_map::Key;
 
 /// The key that a field is: its bytes, 1 to 15 letters, digits, `_` or `.`; or `x:` and two hexadecimal digits, with small

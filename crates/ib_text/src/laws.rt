@@ -1,7 +1,7 @@
 //! What holds of texts by their definitions alone.
 
 ghost use Rattle.std.specs.Prelude.{◌≡◌, ◌∷◌, ◌++◌, [], ℕ, List, Ok, codes};
-ghost use Rattle.ib_edge.specs.Lines.{fields_of};
+ghost use Rattle.ib_io.specs.Lines.{fields_of};
 ghost use Rattle.ib_map.specs.Keys.{MapKey};
 ghost use Rattle.ib_text.specs.Keys.{key_in, key_text};
 

@@ -1,12 +1,12 @@
 //! The log as text, whatever keeps it.
 
 ghost use Rattle.std.specs.Prelude.{◌≡◌, ◌<◌, Some, flat_map, length, slice_get};
-ghost use Rattle.ib_edge.specs.Writer.{Puts};
+ghost use Rattle.ib_io.specs.Writer.{Puts};
 ghost use Rattle.ib_map.specs.History.{History};
 ghost use Rattle.ib_text.specs.Output.{change_text, log_line, log_text};
 
 use crate::key::{print_word_and_key, print_word_and_pair};
-use ib_edge::{Sink, Writer};
+use ib_io::{Sink, Writer};
 use ib_map::{Change, LoggedChange};
 
 /// What keeps logged changes in order.

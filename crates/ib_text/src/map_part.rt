@@ -1,11 +1,11 @@
 //! The map as text.
 
 ghost use Rattle.std.specs.Prelude.{◌≡◌, flat_map};
-ghost use Rattle.ib_edge.specs.Writer.{Puts};
+ghost use Rattle.ib_io.specs.Writer.{Puts};
 ghost use Rattle.ib_text.specs.Output.{map_line, map_text};
 
 use crate::key::print_pair;
-use ib_edge::{Sink, Writer};
+use ib_io::{Sink, Writer};
 use ib_map::{Key, PlainMap};
 
 // `K V` on a line.

@@ -1,10 +1,10 @@
 //! The line of a call and its reply.
 
-ghost use Rattle.ib_edge.specs.Writer.{Puts};
+ghost use Rattle.ib_io.specs.Writer.{Puts};
 ghost use Rattle.ib_text.specs.Output.{call_text, place_text, record_line, reply_text};
 
 use crate::key::{print_two_keys, print_word_and_key, print_word_and_pair};
-use ib_edge::{Sink, Writer};
+use ib_io::{Sink, Writer};
 use ib_map::{Call, Record, Reply};
 
 fn print_call<K: Sink>(writer: &mut Writer<'_, K>, call: Call)

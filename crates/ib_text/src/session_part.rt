@@ -3,12 +3,12 @@
 ghost use Rattle.std.specs.Prelude.{◌≡◌, flat_map, length};
 ghost use Rattle.ib_map.specs.Chunks.{spans_of};
 ghost use Rattle.ib_map.specs.FullRecords.{chunk_count, full_records, total_chunks};
-ghost use Rattle.ib_edge.specs.Writer.{Puts};
+ghost use Rattle.ib_io.specs.Writer.{Puts};
 ghost use Rattle.ib_text.specs.Output.{record_text, session_text};
 
 use crate::record_part::print_record_line;
 use crate::span_part::print_chunk_lines;
-use ib_edge::{Sink, Writer};
+use ib_io::{Sink, Writer};
 use ib_map::{Chunks, Record, Reply};
 
 fn chunk_count(reply: Reply) -> usize

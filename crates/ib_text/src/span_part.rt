@@ -2,12 +2,12 @@
 
 ghost use Rattle.std.specs.Prelude.{◌≡◌, ◌+◌, ◌≤◌, flat_map, length};
 ghost use Rattle.ib_map.specs.Chunks.{spans_of};
-ghost use Rattle.ib_edge.specs.Writer.{Puts};
+ghost use Rattle.ib_io.specs.Writer.{Puts};
 ghost use Rattle.ib_text.specs.Output.{joined_spans, pair_line, span_text};
 ghost use Rattle.ib_text.specs.Spans.{AreNeighbours, span_between};
 
 use crate::key::{print_two_keys, print_word_and_pair};
-use ib_edge::{Sink, Writer};
+use ib_io::{Sink, Writer};
 use ib_map::{Chunk, Key};
 
 fn print_pair_line<K: Sink>(writer: &mut Writer<'_, K>, key: Key, value: u64)

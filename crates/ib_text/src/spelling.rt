@@ -2,11 +2,11 @@
 
 ghost use Rattle.std.specs.Prelude.{◌≡◌, ◌<◌, ◌≤◌, ◌*◌, Some, None, OnSome, IfSome, flat_map, length, take, true};
 ghost use Rattle.std.specs.List.{list_all};
-ghost use Rattle.ib_edge.specs.Writer.{Puts};
+ghost use Rattle.ib_io.specs.Writer.{Puts};
 ghost use Rattle.ib_map.specs.KeyBytes.{bytes_of};
 ghost use Rattle.ib_text.specs.Keys.{byte_of, digit_number, hex_byte, hex_bytes, hex_digit, hex_key, is_plain, is_plain_text, plain_key};
 
-use ib_edge::{LineKind, Sink, Writer};
+use ib_io::{LineKind, Sink, Writer};
 use ib_map::{Key, MOST_KEY_BYTES};
 
 // Whether a byte is written as it is.

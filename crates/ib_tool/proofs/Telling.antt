@@ -1,15 +1,15 @@
 -- What is told of a part is told of the whole.
 use Rattle.std.proofs.Common.{◌≡◌, ◌⊎◌, ◌∙◌, ℕ, List, [], inl, inr, sym, ap, subst, arith, true, false, Some, None, Option}
 use Rattle.std.specs.Io.KnownBytes.{Keeps}
-use Rattle.ib_edge.proofs.Reading.{ReadsAll-known, ConsumesMore-known}
-use Rattle.ib_edge.proofs.Telling.{complete, done_lines, told_as}
-use Rattle.ib_edge.specs.Input.{ReadsAll}
-use Rattle.ib_edge.specs.Told.{Ending, IsComplete, IsOutOfMemory, IsOutOfMemoryWhere, OwesLines, Told}
-use Rattle.ib_edge.specs.declared.line_kind.LineKind.{LineKind}
-use Rattle.ib_edge.specs.declared.read.TheConstants.{INPUT_BYTES}
-use Rattle.ib_edge.specs.declared.status.Status.{Status}
-use Rattle.ib_edge.specs.declared.status.Status.TheVariants.{Done, ReadFault, WriteFault, Memory}
-use Rattle.ib_logs.specs.Answers.{AnswersLog}
+use Rattle.ib_io.proofs.Reading.{ReadsAll-known, ConsumesMore-known}
+use Rattle.ib_io.proofs.Telling.{complete, done_lines, told_as}
+use Rattle.ib_io.specs.Input.{ReadsAll}
+use Rattle.ib_io.specs.Told.{Ending, IsComplete, IsOutOfMemory, IsOutOfMemoryWhere, OwesLines, Told}
+use Rattle.ib_io.specs.declared.line_kind.LineKind.{LineKind}
+use Rattle.ib_io.specs.declared.read.TheConstants.{INPUT_BYTES}
+use Rattle.ib_io.specs.declared.status.Status.{Status}
+use Rattle.ib_io.specs.declared.status.Status.TheVariants.{Done, ReadFault, WriteFault, Memory}
+use Rattle.ib_replay_form.specs.Answers.{AnswersLog}
 use Rattle.ib_replay.proofs.OneFault.{raw_log-no_fault}
 use Rattle.ib_tool.specs.Answers.{AnswersInput, HasGood, IsCutOff, IsGoodInput, IsOwedAt, IsServed, IsSilent, IsSilentAt, MayLackInput, Owes, OwesInput}
 use Rattle.ib_tool.specs.Words.{form_of, reads}

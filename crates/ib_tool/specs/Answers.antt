@@ -2,17 +2,17 @@
 use Rattle.std.specs.Prelude.{◌≡◌, ◌⊎◌, ℕ, List, [], ◌≤◌, length, Some, None}
 use Rattle.std.specs.declared.option.Option.{Option}
 use Rattle.std.specs.Io.KnownBytes.{Keeps}
-use Rattle.ib_edge.specs.Input.{ReadsAll, ConsumesMore, ConsumesAtMost}
-use Rattle.ib_edge.specs.Lines.{readings_by}
-use Rattle.ib_edge.specs.Told.{Ending, OwesLines, ends}
-use Rattle.ib_edge.specs.declared.read.TheConstants.{INPUT_BYTES}
-use Rattle.ib_edge.specs.declared.status.Status.{Status}
-use Rattle.ib_edge.specs.declared.status.Status.TheVariants.{Done, Usage, ReadFault, Memory, TooLarge}
+use Rattle.ib_io.specs.Input.{ReadsAll, ConsumesMore, ConsumesAtMost}
+use Rattle.ib_io.specs.Lines.{readings_by}
+use Rattle.ib_io.specs.Told.{Ending, OwesLines, ends}
+use Rattle.ib_io.specs.declared.read.TheConstants.{INPUT_BYTES}
+use Rattle.ib_io.specs.declared.status.Status.{Status}
+use Rattle.ib_io.specs.declared.status.Status.TheVariants.{Done, Usage, ReadFault, Memory, TooLarge}
 use Rattle.ib_script.specs.Script.{ScriptValue, IsScript, first_fault, reading_of}
-use Rattle.ib_events.specs.Answers.{AnswersEvents}
-use Rattle.ib_events.specs.Events.{event_fault}
+use Rattle.ib_latch_form.specs.Answers.{AnswersEvents}
+use Rattle.ib_latch_form.specs.Events.{event_fault}
 use Rattle.ib_logrec.specs.declared.entry.Entry.{Entry}
-use Rattle.ib_logs.specs.Answers.{AnswersLog}
+use Rattle.ib_replay_form.specs.Answers.{AnswersLog}
 use Rattle.ib_replay.specs.Files.{file_fault}
 use Rattle.ib_replay.specs.RawLogs.{IsRawLog}
 use Rattle.ib_tool.specs.Texts.{IsCountText, IsWrittenRun}

@@ -1,6 +1,6 @@
 -- The words of the command line.
 use Rattle.std.specs.Prelude.{◌≡◌, ℕ, List, [], ◌∷◌, Bool, true, false, Option, Some, None, codes, bytes_eq, if◌then◌else◌}
-use Rattle.ib_edge.specs.Numbers.{number_of}
+use Rattle.ib_io.specs.Numbers.{number_of}
 use Rattle.ib_script.specs.Loads.{is_load}
 use Rattle.ib_tool.specs.declared.form.Form.{Form}
 use Rattle.ib_tool.specs.declared.form.Form.TheVariants.{Run, Raw, Latch, Replay, Gen}

@@ -1,9 +1,9 @@
 //! What the program answers to an input that was read.
 
 ghost use Rattle.std.specs.Prelude.{◌≡◌, ◌≢◌, ◌<◌, ◌≤◌, ◌^◌, IfOk, None, length, true};
-ghost use Rattle.ib_edge.specs.Faults.{Rose};
-ghost use Rattle.ib_edge.specs.Lines.{readings_by};
-ghost use Rattle.ib_edge.specs.Told.{IsOutOfMemory, IsOutOfMemoryWhere, Told};
+ghost use Rattle.ib_io.specs.Faults.{Rose};
+ghost use Rattle.ib_io.specs.Lines.{readings_by};
+ghost use Rattle.ib_io.specs.Told.{IsOutOfMemory, IsOutOfMemoryWhere, Told};
 ghost use Rattle.ib_replay.specs.Files.{AreWords, file_of};
 ghost use Rattle.ib_runs.specs.Outcomes.{HasRan};
 ghost use Rattle.ib_script.specs.Loads.{is_load};
@@ -15,10 +15,10 @@ ghost use Rattle.ib_tool.specs.Words.{IsLawfulForm};
 use crate::form::Form;
 use crate::print::{Bytes, CountText, RunText};
 use crate::shape::Shape;
-use ib_edge::{INPUT_BYTES, Sink, Status, refuse, tell};
-use ib_events::answer_events;
-use ib_logs::answer_log;
+use ib_io::{INPUT_BYTES, Sink, Status, refuse, tell};
+use ib_latch_form::answer_events;
 use ib_replay::write_log;
+use ib_replay_form::answer_log;
 use ib_runs::{Gate, Ran, run_script};
 use ib_script::{Load, PlainLines, Script, generate, read_script};
 use std::alloc::{AllocError, Global};

@@ -1,10 +1,10 @@
 //! The forms of the command line.
 
 ghost use Rattle.std.specs.Prelude.{◌≡◌, IfSome, map, string_bytes};
-ghost use Rattle.ib_edge.specs.Numbers.{number_of};
+ghost use Rattle.ib_io.specs.Numbers.{number_of};
 ghost use Rattle.ib_tool.specs.Words.{IsLawfulForm, form_named, form_of, gen_by, reads};
 
-use ib_edge::number_in;
+use ib_io::number_in;
 use ib_script::Load;
 
 /// What the program is asked for.

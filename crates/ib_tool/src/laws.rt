@@ -1,8 +1,8 @@
 //! What holds of a script by its definitions alone.
 
 ghost use Rattle.std.specs.Prelude.{◌≡◌, ◌++◌, ℕ, List};
-ghost use Rattle.ib_edge.specs.Told.{Ending};
-ghost use Rattle.ib_edge.specs.declared.status.Status.TheVariants.{Done};
+ghost use Rattle.ib_io.specs.Told.{Ending};
+ghost use Rattle.ib_io.specs.declared.status.Status.TheVariants.{Done};
 ghost use Rattle.ib_replay.specs.RawLogs.{IsRawLog};
 ghost use Rattle.ib_script.specs.Script.{ScriptValue};
 ghost use Rattle.ib_runs.specs.Alone.{AreNeverFull, IsAlone};
@@ -11,7 +11,7 @@ ghost use Rattle.ib_tool.specs.Answers.{AnswersInput};
 ghost use Rattle.ib_tool.specs.Texts.{IsRawText, IsRunText};
 ghost use Rattle.ib_tool.specs.declared.form.Form.TheVariants.{Replay};
 
-use ib_logs::log_law;
+use ib_replay_form::log_law;
 use ib_runs::alone_law;
 
 /// The law of a session alone, as a contract: where no other session of a script has a command, its runs in which no log

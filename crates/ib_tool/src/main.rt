@@ -14,7 +14,7 @@ mod told_lines;
 mod top;
 
 use args::words;
-pub use ib_edge::{
+pub use ib_io::{
     Failed, INPUT_BYTES, MemorySink, MemorySource, PIECE_BYTES, ReadError, Sink, Source, Status,
     read_all,
 };

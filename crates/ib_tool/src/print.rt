@@ -1,15 +1,15 @@
 //! What is printed of a run: the sessions' parts, the log and the map, or counts alone.
 
 ghost use Rattle.std.specs.Prelude.{◌≡◌, ◌≤◌, All, length, map, sum_by, vec_len};
-ghost use Rattle.ib_edge.specs.Writer.{Puts};
-ghost use Rattle.ib_edge.specs.declared.line_kind.TheConstants.{MOST_SCRIPT_SESSIONS};
+ghost use Rattle.ib_io.specs.Writer.{Puts};
+ghost use Rattle.ib_io.specs.declared.line_kind.TheConstants.{MOST_SCRIPT_SESSIONS};
 ghost use Rattle.ib_runs.specs.Answers.{IsWhole, answers_of};
 ghost use Rattle.ib_script.specs.declared.script_line.TheConstants.{MOST_COMMANDS};
 ghost use Rattle.ib_text.specs.Output.{sessions_from};
 ghost use Rattle.ib_tool.specs.Counts.{count_line, count_of};
 
 use crate::counting::{ReplyKind, count_of};
-use ib_edge::{Printed, Sink, Writer};
+use ib_io::{Printed, Sink, Writer};
 use ib_runs::{Ran, SessionOut};
 use ib_text::{all_pairs, print_log, print_map, print_session};
 

@@ -2,7 +2,7 @@
 
 ghost use Rattle.std.specs.Prelude.{◌≡◌};
 
-use ib_edge::{Failed, Sink, Source};
+use ib_io::{Failed, Sink, Source};
 use std::io::{Read, Write};
 
 /// A reader of std as a source. It has left what the reader has left, where that is known (of standard input

@@ -1,6 +1,6 @@
 //! The lines that the program tells of itself.
 
-use ib_edge::{Printed, Sink, Writer};
+use ib_io::{Printed, Sink, Writer};
 
 /// How the program is called.
 #[derive(Drop)]

@@ -1,16 +1,16 @@
 //! The public call `top`: the program, from the bytes that it reads to the bytes that it writes.
 
 ghost use Rattle.std.specs.Prelude.{◌≡◌, ◌≢◌, Some, map, string_bytes};
-ghost use Rattle.ib_edge.specs.Faults.{Rose};
+ghost use Rattle.ib_io.specs.Faults.{Rose};
 ghost use Rattle.ib_tool.specs.Answers.{IsCutOff, IsOwedAt, IsServed, IsSilent, IsSilentAt, Owes, OwesInput};
-ghost use Rattle.ib_edge.specs.Told.{IsComplete, Told};
+ghost use Rattle.ib_io.specs.Told.{IsComplete, Told};
 ghost use Rattle.ib_tool.specs.Words.{IsLawfulForm, form_of};
 ghost use Rattle.ib_tool.specs.declared.form.Form.{Form};
 
 use crate::answer::answer;
 use crate::form::{Form, form_of};
 use crate::told_lines::{TooLargeLine, UsageLine};
-use ib_edge::{INPUT_BYTES, ReadError, Sink, Source, Status, read_all, tell};
+use ib_io::{INPUT_BYTES, ReadError, Sink, Source, Status, read_all, tell};
 use ib_runs::Gate;
 use std::alloc::Global;
 use std::sync::Wait;

@@ -3,10 +3,10 @@ use Rattle.std.proofs.Common.{◌≡◌, ℕ, ◌+◌, ◌<◌, ◌≤◌, ◌�
 use Rattle.std.specs.Prelude.{◌&&◌, ◌||◌}
 use Rattle.std.proofs.lemmas.Bool.{cases_lt, cases_eq, and_parts}
 use Rattle.ib_walk.specs.Walk.{Visit, sum_of}
-use Rattle.ib_patch.specs.PatchTest.{Position, Positions, at_page, positions_over, set_at, position_of, same_position, is_none, attach}
+use Rattle.ib_validate.specs.PatchTest.{Position, Positions, at_page, positions_over, set_at, position_of, same_position, is_none, attach}
 use Rattle.ib_walk.proofs.ChoiceLaws.{Some-same, cond-eq, cond-ne}
 use Rattle.ib_tree.proofs.DetachLaws.{in_tree, in_tree-plus}
-use Rattle.ib_patch.proofs.RestLaws.{same_position-is}
+use Rattle.ib_validate.proofs.RestLaws.{same_position-is}
 use Rattle.ib_tree.proofs.PositionLaws.{is_none-None, positions_over-set_at}
 
 -- the children that are met

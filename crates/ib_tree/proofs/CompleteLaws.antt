@@ -8,13 +8,13 @@ use Rattle.ib_heap.specs.declared.TheConstants.{MOST_RECORDS}
 use Rattle.ib_walk.specs.Pages.{PageMemory}
 use Rattle.ib_walk.specs.Walk.{Visit, sum_of, counts_page}
 use Rattle.ib_walk.specs.Trees.{height_of, top_of, weight_of, IsLawful}
-use Rattle.ib_patch.specs.Patch.{on_written, off_written, children_weight, top, IsGoodAt}
+use Rattle.ib_validate.specs.Patch.{on_written, off_written, children_weight, top, IsGoodAt}
 use Rattle.ib_walk.specs.Walk.{counts_visit}
-use Rattle.ib_patch.specs.PatchTest.{Position, Positions, visit_of, at_page, positions_over, set_at, position_of, same_position, is_none, attach, children_at, height_below, detach_pages, root_at, set_roots, visit_at, then_do, visit_level, visit_levels, are_back, back_at, all_back, list_over, visited, IsListed, IsKeptBeside}
+use Rattle.ib_validate.specs.PatchTest.{Position, Positions, visit_of, at_page, positions_over, set_at, position_of, same_position, is_none, attach, children_at, height_below, detach_pages, root_at, set_roots, visit_at, then_do, visit_level, visit_levels, are_back, back_at, all_back, list_over, visited, IsListed, IsKeptBeside}
 use Rattle.ib_walk.proofs.ChoiceLaws.{Some-same, cond-eq, cond-ne}
 use Rattle.ib_walk.proofs.MeetLaws.{counts_page-own}
 use Rattle.ib_walk.proofs.TreeLaws.{times_met-le, weight_of-le, weight_of-two_le}
-use Rattle.ib_patch.proofs.RestLaws.{detach_pages-each}
+use Rattle.ib_validate.proofs.RestLaws.{detach_pages-each}
 use Rattle.ib_tree.proofs.DetachLaws.{in_tree, in_tree-own, in_tree-plus, sum_of-children_at}
 use Rattle.ib_tree.proofs.PatchLaws.{IsGoodAt-tree, counts_visit-own, weight_along-off_other}
 use Rattle.ib_tree.proofs.PatchedLaws.{AreKept, most_height-lt, written-cases}

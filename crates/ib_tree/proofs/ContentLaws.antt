@@ -17,9 +17,9 @@ use Rattle.ib_walk.proofs.ChoiceLaws.{Some-same}
 use Rattle.ib_walk.proofs.MeetLaws.{AreLinked-right, counts_page-own, lowest-le_weight}
 use Rattle.ib_walk.proofs.TreeLaws.{weight_of-le, Rises-content_of}
 use Rattle.ib_walk.proofs.WalkLaws.{records_along-append}
-use Rattle.ib_patch.specs.PatchTest.{Position, Positions, at_page, positions_over}
-use Rattle.ib_patch.proofs.ChildLaws.{drop-slice_get}
-use Rattle.ib_patch.proofs.PassLaws.{image_bits-past}
+use Rattle.ib_validate.specs.PatchTest.{Position, Positions, at_page, positions_over}
+use Rattle.ib_validate.proofs.ChildLaws.{drop-slice_get}
+use Rattle.ib_validate.proofs.PassLaws.{image_bits-past}
 use Rattle.ib_tree.specs.Roots.{HasRoot}
 use Rattle.ib_tree.proofs.WholeTestLaws.{lawful-positions}
 

@@ -4,9 +4,9 @@ use Rattle.std.specs.Prelude.{◌||◌, not}
 use Rattle.std.proofs.lemmas.Bool.{cases_eq, and_parts}
 use Rattle.ib_walk.specs.Pages.{PageMemory}
 use Rattle.ib_walk.specs.Walk.{Visit, sum_of}
-use Rattle.ib_patch.specs.Patch.{children_weight}
+use Rattle.ib_validate.specs.Patch.{children_weight}
 use Rattle.ib_walk.specs.Walk.{counts_visit}
-use Rattle.ib_patch.specs.PatchTest.{Position, Positions, visit_of, at_page, positions_over, set_at, is_none, detach, children_at, height_below, detach_at, detach_pages, are_back, back_at, all_back, list_over}
+use Rattle.ib_validate.specs.PatchTest.{Position, Positions, visit_of, at_page, positions_over, set_at, is_none, detach, children_at, height_below, detach_at, detach_pages, are_back, back_at, all_back, list_over}
 use Rattle.ib_walk.proofs.ChoiceLaws.{cond-eq, cond-ne}
 use Rattle.ib_tree.proofs.PatchLaws.{counts_visit-own}
 use Rattle.ib_tree.proofs.PositionLaws.{Stands-counted, positions_over-set_at}

@@ -12,8 +12,8 @@ use Rattle.ib_walk.specs.Pages.{PageMemory}
 use Rattle.ib_walk.specs.Walk.{Visit}
 use Rattle.ib_walk.specs.Trees.{height_of, content_of, IsTreeOf, IsLawful}
 use Rattle.ib_walk.specs.Words.{image_of, pages_of, bits_of, IsLawfulMemory}
-use Rattle.ib_patch.specs.Patch.{slice, IsGoodAt}
-use Rattle.ib_patch.specs.PatchTest.{Positions, fresh_of, IsKeptBeside}
+use Rattle.ib_validate.specs.Patch.{slice, IsGoodAt}
+use Rattle.ib_validate.specs.PatchTest.{Positions, fresh_of, IsKeptBeside}
 use Rattle.ib_tree.specs.Logs.{pages_after, IsTreeEntry}
 use Rattle.ib_tree.specs.Tests.{writes_page, IsEntryGiven, PassesEntry}
 use Rattle.ib_walk.proofs.TreeLaws.{Rises-content_of}

@@ -4,7 +4,7 @@ use Rattle.ib_map.specs.Keys.{end_rank}
 use Rattle.ib_walk.specs.Pages.{PageMemory}
 use Rattle.ib_walk.specs.Walk.{Visit}
 use Rattle.ib_walk.specs.Trees.{IsLawful}
-use Rattle.ib_patch.specs.PatchTest.{Positions, IsKeptBeside, PassesTest}
+use Rattle.ib_validate.specs.PatchTest.{Positions, IsKeptBeside, PassesTest}
 use Rattle.ib_tree.specs.Tests.{KeepRanges, IsPatchGiven}
 use Rattle.ib_tree.proofs.KeptLaws.{AreKept-ranges, ranges-AreKept}
 use Rattle.ib_tree.proofs.PatchTheorem.{test-complete, test-sound}

@@ -6,7 +6,7 @@ use Rattle.ib_logrec.specs.Law.{PageRange}
 use Rattle.ib_walk.specs.Pages.{PageMemory}
 use Rattle.ib_walk.specs.Walk.{Visit, counts_page, counts_visit}
 use Rattle.ib_walk.specs.Trees.{height_of, top_of, weight_of, IsLawful}
-use Rattle.ib_patch.specs.Patch.{LevelVisit, over, on_written, off_written, written_below}
+use Rattle.ib_validate.specs.Patch.{LevelVisit, over, on_written, off_written, written_below}
 use Rattle.ib_tree.specs.Logs.{visit_with}
 use Rattle.ib_tree.specs.Tests.{KeepRanges}
 use Rattle.ib_walk.proofs.TreeLaws.{weight_of-le}

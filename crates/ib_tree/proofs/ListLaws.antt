@@ -9,8 +9,8 @@ use Rattle.ib_map.specs.declared.TheConstants.{PAGE_WORDS}
 use Rattle.ib_map.specs.declared.write.Write.{Write}
 use Rattle.ib_logrec.specs.declared.entry.Entry.{Entry}
 use Rattle.ib_walk.specs.Walk.{Visit}
-use Rattle.ib_patch.specs.Patch.{on_written}
-use Rattle.ib_patch.specs.PatchTest.{Position, Positions, visit_of, at_page, positions_over, list_over, IsListed}
+use Rattle.ib_validate.specs.Patch.{on_written}
+use Rattle.ib_validate.specs.PatchTest.{Position, Positions, visit_of, at_page, positions_over, list_over, IsListed}
 use Rattle.ib_tree.specs.PageLists.{is_listed, AreOnce, touched_pages, pages_below, is_below}
 use Rattle.ib_tree.specs.Tests.{writes_page}
 

@@ -19,7 +19,7 @@ use Rattle.ib_logrec.specs.Log.{memory_after, history_of, logged, map_of}
 use Rattle.ib_logrec.proofs.LogLaws.{memory_after-untouched, history_of-push, length-history_of}
 use Rattle.ib_walk.specs.Trees.{content_of}
 use Rattle.ib_walk.specs.Words.{image_of, pages_of, IsLawfulMemory}
-use Rattle.ib_patch.specs.Patch.{slice}
+use Rattle.ib_validate.specs.Patch.{slice}
 use Rattle.ib_tree.specs.Logs.{pages_after, IsTreeEntry, IsLawfulLog}
 use Rattle.ib_walk.proofs.ImageLaws.{image_of-same, pages_of-same}
 use Rattle.ib_walk.proofs.WalkLaws.{AllByRecursion-append}

@@ -21,8 +21,8 @@ use Rattle.ib_walk.specs.Trees.{free_page}
 use Rattle.ib_walk.specs.Words.{image_of, bits_of, memory_of}
 use Rattle.ib_walk.proofs.ImageLaws.{image_of-same, pages_of-same, memory_of-beyond}
 use Rattle.ib_walk.proofs.SpaceLaws.{pages_of-other}
-use Rattle.ib_patch.specs.Patch.{IsSliced}
-use Rattle.ib_patch.specs.PatchTest.{Positions, fresh_of, PassesTest}
+use Rattle.ib_validate.specs.Patch.{IsSliced}
+use Rattle.ib_validate.specs.PatchTest.{Positions, fresh_of, PassesTest}
 use Rattle.ib_tree.specs.Logs.{pages_after}
 use Rattle.ib_tree.specs.Tests.{writes_page, PassesEntry}
 

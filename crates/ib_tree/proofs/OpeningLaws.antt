@@ -10,7 +10,7 @@ use Rattle.ib_logrec.specs.Log.{by_place}
 use Rattle.ib_walk.specs.Opening.{opening_word}
 use Rattle.ib_walk.specs.Trees.{content_of}
 use Rattle.ib_walk.specs.Words.{pages_of, IsLawfulMemory}
-use Rattle.ib_patch.specs.PatchTest.{IsKeptBeside}
+use Rattle.ib_validate.specs.PatchTest.{IsKeptBeside}
 use Rattle.ib_tree.specs.TreeLog.{opening}
 use Rattle.ib_tree.specs.Tests.{root_positions}
 use Rattle.ib_walk.proofs.SpaceLaws.{IsLawfulMemory-opening, content_of-opening, pages_of-root}

@@ -8,7 +8,7 @@ use Rattle.ib_map.proofs.KeyLaws.{rank-greatest}
 use Rattle.ib_map.proofs.RiseLaws.{first_rank-between}
 use Rattle.ib_walk.specs.Pages.{PageMemory}
 use Rattle.ib_walk.specs.Walk.{Visit, children_of, children, below, sum_of, weight_along, IsNodeAt, IsLeafAt, AreNodes, IsTree, AreLinked, first_page, IsTiled}
-use Rattle.ib_patch.specs.Patch.{LevelVisit, over, off_written, IsGoodAt}
+use Rattle.ib_validate.specs.Patch.{LevelVisit, over, off_written, IsGoodAt}
 use Rattle.ib_walk.specs.Walk.{counts_visit}
 use Rattle.ib_walk.proofs.ChoiceLaws.{cond-eq, cond-ne}
 use Rattle.ib_walk.proofs.WalkLaws.{AllByRecursion-append}

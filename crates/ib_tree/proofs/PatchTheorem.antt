@@ -6,12 +6,12 @@ use Rattle.ib_map.specs.Keys.{end_rank}
 use Rattle.ib_walk.specs.Pages.{PageMemory}
 use Rattle.ib_walk.specs.Walk.{Visit, counts_page, IsTiled}
 use Rattle.ib_walk.specs.Trees.{leaves_of, weight_of, times_met, IsLawful}
-use Rattle.ib_patch.specs.Patch.{LevelVisit, over, on_written, off_written, IsGoodAt, IsLeafIn, IsLinkedAt, IsGrounded, IsPatched, times_in}
+use Rattle.ib_validate.specs.Patch.{LevelVisit, over, on_written, off_written, IsGoodAt, IsLeafIn, IsLinkedAt, IsGrounded, IsPatched, times_in}
 use Rattle.ib_walk.specs.Walk.{counts_visit}
-use Rattle.ib_patch.specs.PatchTest.{Position, Positions, visit_of, at_page, positions_over, position_of, is_none, detach_pages, root_at, set_roots, fresh_of, visited, IsListed, IsKeptBeside, IsLinkedBy, PassesTest}
+use Rattle.ib_validate.specs.PatchTest.{Position, Positions, visit_of, at_page, positions_over, position_of, is_none, detach_pages, root_at, set_roots, fresh_of, visited, IsListed, IsKeptBeside, IsLinkedBy, PassesTest}
 use Rattle.ib_walk.proofs.ChoiceLaws.{Some-same, cond-eq, cond-ne}
 use Rattle.ib_tree.proofs.CompleteLaws.{Reached, all_back-reached, visited-some}
-use Rattle.ib_patch.proofs.RestLaws.{detach_pages-each}
+use Rattle.ib_validate.proofs.RestLaws.{detach_pages-each}
 use Rattle.ib_tree.proofs.PatchLaws.{AreNeighbours-linked, HasWidth, IsAmong, IsAmong-counted, IsTiled-within, counted-IsAmong, next-last, prev-first}
 use Rattle.ib_tree.proofs.PatchedLaws.{AreKept, AreKept-patched, HasWidth-leaves_of, IsLawful-patched, IsTiled-leaves_of, IsTree-after, most_height-lt, weight_of-after, weight_of-leaf, weight_of-off_other, written-cases}
 use Rattle.ib_tree.proofs.PositionLaws.{Stands-counted, counted-Stands}

@@ -7,7 +7,7 @@ use Rattle.ib_heap.specs.declared.TheConstants.{MOST_RECORDS}
 use Rattle.ib_walk.specs.Pages.{Free, PageState, PageMemory, IsSound}
 use Rattle.ib_walk.specs.Walk.{Visit, sum_of, counts_page, IsTree, AreLinked, IsTiled}
 use Rattle.ib_walk.specs.Trees.{height_of, top_of, leaves_of, weight_of, times_met, IsTreeOf, IsLawful, most_height}
-use Rattle.ib_patch.specs.Patch.{LevelVisit, over, on_written, off_written, old_visits, IsGoodAt, IsLeafIn, IsLinkedAt, IsGrounded, IsPatch, times_in, IsPatched}
+use Rattle.ib_validate.specs.Patch.{LevelVisit, over, on_written, off_written, old_visits, IsGoodAt, IsLeafIn, IsLinkedAt, IsGrounded, IsPatch, times_in, IsPatched}
 use Rattle.ib_walk.specs.Walk.{counts_visit}
 use Rattle.ib_walk.proofs.ChoiceLaws.{cond-ne}
 use Rattle.ib_walk.proofs.SearchLaws.{IsTiled-below}

@@ -3,7 +3,7 @@ use Rattle.std.proofs.Common.{◌≡◌, ℕ, zero, suc, ◌+◌, ◌<◌, ◌�
 use Rattle.std.proofs.lemmas.Bool.{cases_eq}
 use Rattle.ib_walk.specs.Pages.{PageMemory, PageState}
 use Rattle.ib_walk.specs.Walk.{Visit}
-use Rattle.ib_patch.specs.PatchTest.{Position, Positions, visit_of, at_page, positions_over, set_at, root_at, set_roots}
+use Rattle.ib_validate.specs.PatchTest.{Position, Positions, visit_of, at_page, positions_over, set_at, root_at, set_roots}
 use Rattle.ib_walk.proofs.ChoiceLaws.{cond-eq, cond-ne}
 use Rattle.ib_tree.proofs.PositionLaws.{positions_over-set_at}
 

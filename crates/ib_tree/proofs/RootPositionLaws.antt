@@ -5,8 +5,8 @@ use Rattle.std.specs.Prelude.{◌&&◌}
 use Rattle.ib_walk.specs.Pages.{PageMemory}
 use Rattle.ib_walk.specs.Walk.{Visit, weight_along}
 use Rattle.ib_walk.specs.Trees.{top_of, weight_of}
-use Rattle.ib_patch.specs.Patch.{top}
-use Rattle.ib_patch.specs.PatchTest.{Position, Positions, visit_of, at_page, positions_over, children_at, detach, detach_at, detach_pages, are_back, back_at, all_back, IsKeptBeside}
+use Rattle.ib_validate.specs.Patch.{top}
+use Rattle.ib_validate.specs.PatchTest.{Position, Positions, visit_of, at_page, positions_over, children_at, detach, detach_at, detach_pages, are_back, back_at, all_back, IsKeptBeside}
 use Rattle.ib_tree.specs.Tests.{root_position, root_positions}
 use Rattle.ib_walk.proofs.ChoiceLaws.{Some-same, cond-eq, cond-ne}
 use Rattle.ib_tree.proofs.PositionLaws.{positions_over-set_at}

@@ -10,7 +10,7 @@ use Rattle.ib_map.proofs.RiseLaws.{Rises-le}
 use Rattle.ib_walk.specs.Pages.{PageState, PageMemory}
 use Rattle.ib_walk.specs.Walk.{Visit, records_along, IsLeafAt, IsTiled, IsTree}
 use Rattle.ib_walk.specs.Trees.{height_of, top_of, leaves_of, content_of, IsTreeOf}
-use Rattle.ib_patch.specs.Patch.{LevelVisit, over, IsGrounded, slice, IsSliced}
+use Rattle.ib_validate.specs.Patch.{LevelVisit, over, IsGrounded, slice, IsSliced}
 use Rattle.ib_walk.specs.Walk.{counts_visit}
 use Rattle.ib_walk.specs.Search.{leaf_for, IsPageFor}
 use Rattle.ib_walk.proofs.SearchLaws.{Rises-records_along, value_at-records_along}

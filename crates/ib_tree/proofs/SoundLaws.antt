@@ -8,11 +8,11 @@ use Rattle.ib_map.specs.Keys.{end_rank}
 use Rattle.ib_walk.specs.Pages.{PageMemory}
 use Rattle.ib_walk.specs.Walk.{Visit}
 use Rattle.ib_walk.specs.Trees.{height_of, top_of, weight_of, IsLawful}
-use Rattle.ib_patch.specs.Patch.{LevelVisit, over, on_written, off_written, old_visits, children_weight, top, IsGoodAt, IsBalanced}
+use Rattle.ib_validate.specs.Patch.{LevelVisit, over, on_written, off_written, old_visits, children_weight, top, IsGoodAt, IsBalanced}
 use Rattle.ib_walk.specs.Walk.{counts_visit}
-use Rattle.ib_patch.specs.PatchTest.{Position, Positions, visit_of, at_page, positions_over, is_none, detach_pages, root_at, set_roots, all_back, list_over, visit_in, fresh_of, visited, IsListed, IsKeptBeside}
+use Rattle.ib_validate.specs.PatchTest.{Position, Positions, visit_of, at_page, positions_over, is_none, detach_pages, root_at, set_roots, all_back, list_over, visit_in, fresh_of, visited, IsListed, IsKeptBeside}
 use Rattle.ib_walk.proofs.ChoiceLaws.{Some-same, cond-eq, cond-ne}
-use Rattle.ib_patch.proofs.RestLaws.{detach_pages-each}
+use Rattle.ib_validate.proofs.RestLaws.{detach_pages-each}
 use Rattle.ib_tree.proofs.DetachLaws.{DetachedPages-detach, detach_pages-unwritten}
 use Rattle.ib_tree.proofs.PatchLaws.{counts_visit-height, counts_visit-own}
 use Rattle.ib_tree.proofs.PatchedLaws.{most_height-lt, written-cases}

@@ -4,8 +4,8 @@ use Rattle.std.proofs.lemmas.Bool.{cases_eq}
 use Rattle.std.proofs.lemmas.Bool.Decides.{nat_tests}
 use Rattle.ib_walk.specs.Pages.{PageMemory}
 use Rattle.ib_walk.specs.Walk.{Visit}
-use Rattle.ib_patch.specs.Patch.{children_weight}
-use Rattle.ib_patch.specs.PatchTest.{Position, Positions, visit_of, at_page, positions_over, attach, children_at, height_below, visit_at, then_do, visit_level, visit_levels, list_over}
+use Rattle.ib_validate.specs.Patch.{children_weight}
+use Rattle.ib_validate.specs.PatchTest.{Position, Positions, visit_of, at_page, positions_over, attach, children_at, height_below, visit_at, then_do, visit_level, visit_levels, list_over}
 use Rattle.ib_walk.proofs.ChoiceLaws.{Some-same, cond-eq, cond-ne}
 use Rattle.ib_tree.proofs.AttachLaws.{Attached, Attached-attach}
 use Rattle.ib_tree.proofs.DetachLaws.{in_tree}

@@ -4,7 +4,7 @@ use Rattle.std.proofs.Common.{◌≡◌, ℕ, zero, suc, ◌+◌, ◌<◌, ◌�
 use Rattle.ib_walk.specs.Pages.{PageState, PageMemory}
 use Rattle.ib_walk.specs.Walk.{Visit, children_of, children, sum_of, weight_along}
 use Rattle.ib_walk.specs.Trees.{height_of, top_of, weight_of}
-use Rattle.ib_patch.specs.Patch.{LevelVisit, over, children_weight, on_written, off_written, written_visits, written_below, old_visits, top, IsBalanced}
+use Rattle.ib_validate.specs.Patch.{LevelVisit, over, children_weight, on_written, off_written, written_visits, written_below, old_visits, top, IsBalanced}
 use Rattle.ib_walk.proofs.WalkLaws.{sum_of-append}
 
 pub sum_of-same : (f g : Visit → ℕ) (vs : List Visit) → ((v : Visit) → f v ≡ g v) → sum_of f vs ≡ sum_of g vs

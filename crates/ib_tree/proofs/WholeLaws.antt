@@ -6,9 +6,9 @@ use Rattle.ib_map.specs.Keys.{end_rank}
 use Rattle.ib_walk.specs.Pages.{PageMemory}
 use Rattle.ib_walk.specs.Walk.{Visit, children, sum_of, weight_along, counts_page}
 use Rattle.ib_walk.specs.Trees.{height_of, top_of, weight_of, IsLawful}
-use Rattle.ib_patch.specs.Patch.{off_written, IsGoodAt}
+use Rattle.ib_validate.specs.Patch.{off_written, IsGoodAt}
 use Rattle.ib_walk.specs.Walk.{counts_visit}
-use Rattle.ib_patch.specs.PatchTest.{Positions, IsListed, IsKeptBeside, PassesTest}
+use Rattle.ib_validate.specs.PatchTest.{Positions, IsListed, IsKeptBeside, PassesTest}
 use Rattle.ib_map.specs.Space.{has_pages}
 use Rattle.ib_map.specs.declared.TheConstants.{MOST_PAGES}
 use Rattle.ib_page.specs.declared.space.TheConstants.{MAPPED_PAGES}

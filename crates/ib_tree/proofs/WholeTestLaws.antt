@@ -11,19 +11,19 @@ use Rattle.ib_page.specs.Memory.{image_at, word_at}
 use Rattle.ib_page.specs.Space.{is_taken, IsSpacePage}
 use Rattle.ib_walk.specs.Trees.{most_height, opening_pages, opening_bits}
 use Rattle.ib_walk.specs.Words.{memory_of, bits_of, IsLawfulMemory}
-use Rattle.ib_patch.specs.declared.position.PagePosition.{PagePosition}
-use Rattle.ib_patch.specs.PageTests.{PassesAt, bit_of}
-use Rattle.ib_patch.specs.PatchTest.{Positions, IsKeptBeside, detach_pages, set_roots, visited}
-use Rattle.ib_patch.specs.Positions.{is_good_at, marks_of, positions_of, IsStep}
+use Rattle.ib_validate.specs.declared.position.PagePosition.{PagePosition}
+use Rattle.ib_validate.specs.PageTests.{PassesAt, bit_of}
+use Rattle.ib_validate.specs.PatchTest.{Positions, IsKeptBeside, detach_pages, set_roots, visited}
+use Rattle.ib_validate.specs.Positions.{is_good_at, marks_of, positions_of, IsStep}
 use Rattle.ib_tree.specs.PageLists.{is_below, pages_below}
 use Rattle.ib_tree.specs.Tests.{TellsGood, root_positions, PassesWhole}
 use Rattle.ib_tree.specs.WholeTest.{AreLow, PassesAllPages}
 use Rattle.ib_walk.proofs.ChoiceLaws.{Some-same}
 use Rattle.ib_walk.proofs.ImageLaws.{image_of-images, memory_of-beyond}
-use Rattle.ib_patch.proofs.PositionLaws.{positions-same}
-use Rattle.ib_patch.proofs.PassLaws.{image_bits-there, image_bits-past, bit-once, low-level}
-use Rattle.ib_patch.proofs.GoodLaws.{good-at, at-good}
-use Rattle.ib_patch.proofs.StepLaws.{step-true, step-false}
+use Rattle.ib_validate.proofs.PositionLaws.{positions-same}
+use Rattle.ib_validate.proofs.PassLaws.{image_bits-there, image_bits-past, bit-once, low-level}
+use Rattle.ib_validate.proofs.GoodLaws.{good-at, at-good}
+use Rattle.ib_validate.proofs.StepLaws.{step-true, step-false}
 use Rattle.ib_tree.proofs.RootPositionLaws.{root_positions-above, detach_pages-opening, all_back-opening}
 use Rattle.ib_tree.proofs.WholeLaws.{IsLawfulMemory-passes, passes-IsLawfulMemory}
 

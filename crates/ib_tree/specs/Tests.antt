@@ -13,8 +13,8 @@ use Rattle.ib_walk.specs.Pages.{PageMemory}
 use Rattle.ib_walk.specs.Walk.{Visit}
 use Rattle.ib_walk.specs.Trees.{IsLawful, opening_pages, opening_bits}
 use Rattle.ib_walk.specs.Words.{image_of, pages_of, bits_of}
-use Rattle.ib_patch.specs.Patch.{IsGoodAt, IsSliced}
-use Rattle.ib_patch.specs.PatchTest.{Position, Positions, set_at, fresh_of, IsListed, IsKeptBeside, PassesTest}
+use Rattle.ib_validate.specs.Patch.{IsGoodAt, IsSliced}
+use Rattle.ib_validate.specs.PatchTest.{Position, Positions, set_at, fresh_of, IsListed, IsKeptBeside, PassesTest}
 use Rattle.ib_tree.specs.Logs.{HasRange, pages_after, IsLawfulLog}
 use Rattle.ib_tree.specs.PageLists.{pages_below, is_below}
 

@@ -5,8 +5,8 @@ use Rattle.ib_page.specs.Memory.{image_at}
 use Rattle.ib_page.specs.Space.{is_taken, IsSpacePage}
 use Rattle.ib_walk.specs.Trees.{most_height}
 use Rattle.ib_walk.specs.Words.{memory_of}
-use Rattle.ib_patch.specs.PageTests.{PassesAt, bit_of}
-use Rattle.ib_patch.specs.PatchTest.{Positions}
+use Rattle.ib_validate.specs.PageTests.{PassesAt, bit_of}
+use Rattle.ib_validate.specs.PatchTest.{Positions}
 use Rattle.ib_tree.specs.PageLists.{pages_below}
 
 -- the levels of the roots are those that so many trees may have

@@ -11,7 +11,7 @@ ghost use Rattle.ib_tree.specs.Roots.{HasRoot};
 
 use ib_map::{Key, OutOfMemory, PlainMap};
 use ib_page::Image;
-use ib_patch::reading;
+use ib_validate::reading;
 use std::alloc::{AllocError, Global};
 
 /// The content of the tree of a root, as a map: the records of its leaves, from the first one along the links. The

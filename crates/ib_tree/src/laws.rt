@@ -20,7 +20,7 @@ ghost use Rattle.ib_walk.specs.Pages.{PageMemory};
 ghost use Rattle.ib_walk.specs.Walk.{Visit};
 ghost use Rattle.ib_walk.specs.Trees.{content_of, IsLawful, free_page};
 ghost use Rattle.ib_walk.specs.Words.{pages_of, IsLawfulMemory};
-ghost use Rattle.ib_patch.specs.PatchTest.{Positions, IsListed, IsKeptBeside, PassesTest};
+ghost use Rattle.ib_validate.specs.PatchTest.{Positions, IsListed, IsKeptBeside, PassesTest};
 ghost use Rattle.ib_tree.specs.Logs.{pages_after, IsTreeEntry};
 ghost use Rattle.ib_tree.specs.TreeLog.{opening, IsTreeLog};
 ghost use Rattle.ib_tree.specs.PageLists.{touched_pages};

@@ -6,15 +6,15 @@ ghost use Rattle.ib_map.specs.Keys.{end_rank};
 ghost use Rattle.ib_page.specs.Memory.{image_at, word_at};
 ghost use Rattle.ib_walk.specs.Trees.{opening_pages};
 ghost use Rattle.ib_walk.specs.Words.{memory_of, IsLawfulMemory};
-ghost use Rattle.ib_patch.specs.PatchTest.{set_roots, visited};
-ghost use Rattle.ib_patch.specs.Positions.{is_good_at, marks_of, positions_of, IsStep};
+ghost use Rattle.ib_validate.specs.PatchTest.{set_roots, visited};
+ghost use Rattle.ib_validate.specs.Positions.{is_good_at, marks_of, positions_of, IsStep};
 ghost use Rattle.ib_tree.specs.PageLists.{is_below, pages_below};
 ghost use Rattle.ib_tree.specs.Tests.{root_positions};
 ghost use Rattle.ib_tree.specs.WholeTest.{AreLow, PassesAllPages};
 
 use ib_map::{Key, LEAST_PAGES, MOST_PAGES, PAGE_WORDS};
 use ib_page::{Image, SpaceImage};
-use ib_patch::{PagePosition, all_pass, reading, space_page, visit_levels};
+use ib_validate::{PagePosition, all_pass, reading, space_page, visit_levels};
 
 // The most pages, as the length of a list.
 const MOST_LISTED: usize = MOST_PAGES as usize;

@@ -4,7 +4,7 @@ ghost use Rattle.std.specs.Prelude.{◌≡◌, ◌<◌};
 
 use super::rows::FILE;
 use super::*;
-use ib_edge::{BUFFER_BYTES, Writer};
+use ib_io::{BUFFER_BYTES, Writer};
 
 #[test]
 fn words_that_are_no_form(rt: HostRuntime) -> Result<(), Fail> {

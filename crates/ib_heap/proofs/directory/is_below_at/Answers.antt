@@ -1,5 +1,5 @@
 -- The first words decide, or the second ones do.
-use Rattle.std.proofs.Common.{◌≡◌, ◌<◌, ◌+◌, ◌∙◌, ap, refl, arith, inl, inr, get_or, true, List, ℕ}
+use Rattle.std.proofs.Common.{◌≡◌, ◌+◌, ◌∙◌, ap, refl, arith, inl, inr, get_or, List, ℕ}
 use Rattle.std.proofs.lemmas.Bool.{cases_eq, cases_lt, false≢true, lt-ltb, ltb-true}
 use Rattle.ib_map.specs.Keys.{rank}
 use Rattle.ib_map.proofs.CompareLaws.{first_above, first_below, second_above, second_below}

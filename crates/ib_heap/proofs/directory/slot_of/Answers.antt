@@ -1,5 +1,5 @@
 -- The owner in the middle is below the key, or it is not.
-use Rattle.std.proofs.Common.{◌≡◌, arith, ◌+◌, ◌-◌, ◌/◌, ◌∙◌, ◌≤◌, inl, inr, sym, subst, true, List, ℕ}
+use Rattle.std.proofs.Common.{◌≡◌, arith, ◌+◌, ◌/◌, ◌∙◌, ◌≤◌, inl, inr, sym, subst, true, List, ℕ}
 use Rattle.std.proofs.lemmas.Bool.{cases_lt}
 use Rattle.ib_map.specs.Keys.{rank}
 use Rattle.ib_heap.specs.Heap.{is_key_at, key_at}

@@ -5,7 +5,7 @@ use Rattle.ib_map.specs.Pairs.{place_of, value_at}
 use Rattle.ib_heap.specs.Heap.{nodes_of, up_to}
 use Rattle.ib_heap.specs.Image.{records_of}
 use Rattle.ib_heap.proofs.SeekLaws.{known}
-use Rattle.ib_heap.proofs.FindLaws.{at-low, at-keyed, found, absent-at, has-record, within-records, up_to-records}
+use Rattle.ib_heap.proofs.FindLaws.{found, absent-at, has-record, within-records, up_to-records}
 use Rattle.ib_heap.proofs.search.find_in.Goals as goal
 
 -- the index is the key's place

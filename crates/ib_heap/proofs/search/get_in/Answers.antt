@@ -2,7 +2,7 @@
 use Rattle.std.proofs.Common.{◌∙◌, ◌+◌, ap, sym, get_or, List, ℕ, Some}
 use Rattle.ib_map.specs.Keys.{rank}
 use Rattle.ib_heap.proofs.SeekLaws.{known}
-use Rattle.ib_heap.proofs.FindLaws.{at-low, at-keyed, found, absent-at}
+use Rattle.ib_heap.proofs.FindLaws.{at-low, found, absent-at}
 use Rattle.ib_heap.proofs.search.get_in.Goals as goal
 
 pub value_word-requires-clause-in_page : goal.value_word-requires-clause-in_page

@@ -2,7 +2,7 @@
 use Rattle.std.proofs.Common.{arith, ap}
 use Rattle.ib_map.specs.Keys.{rank}
 use Rattle.ib_heap.proofs.SeekLaws.{known}
-use Rattle.ib_heap.proofs.FindLaws.{at-low, at-keyed, before-low, absent-at, routed-at, routed-before, routed-not_above}
+use Rattle.ib_heap.proofs.FindLaws.{at-low, before-low, absent-at, routed-at, routed-before, routed-not_above}
 use Rattle.ib_heap.proofs.search.route_word.Goals as goal
 
 pub returns-then-cursor-clause-record : goal.returns-then-cursor-clause-record

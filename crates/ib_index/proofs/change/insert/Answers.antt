@@ -2,7 +2,7 @@
 use Rattle.ib_map.specs.declared.call.Call.TheVariants.{Insert}
 use Rattle.ib_logrec.specs.Log.{by_place}
 use Rattle.ib_tree.specs.TreeLog.{opening}
-use Rattle.ib_kept.specs.Kept.{IsKeptLog}
+use Rattle.ib_planned_log.specs.Kept.{IsKeptLog}
 use Rattle.ib_rule.specs.Pass.{PassState}
 use Rattle.ib_layout.specs.Geometry.{Sizes}
 use Rattle.ib_index.specs.Leaf.{IsFullFor}

@@ -11,8 +11,8 @@ use Rattle.ib_plans.specs.Agreement.{last_of, memory_in}
 use Rattle.ib_plans.proofs.PathListLaws.{length-way_down}
 use Rattle.ib_tree.specs.TreeLog.{opening}
 use Rattle.ib_walk.specs.Trees.{height_of}
-use Rattle.ib_kept.specs.Kept.{IsKeptLog}
-use Rattle.ib_kept.specs.LeafChange.{kept_pages}
+use Rattle.ib_planned_log.specs.Kept.{IsKeptLog}
+use Rattle.ib_planned_log.specs.LeafChange.{kept_pages}
 use Rattle.ib_rule.specs.declared.looks.Grants.{Grants}
 use Rattle.ib_rule.specs.Pass.{PassState}
 use Rattle.ib_rule.specs.Space.{SpaceState}

@@ -9,7 +9,7 @@ use Rattle.ib_logrec.specs.Log.{by_place}
 use Rattle.ib_page.specs.Work.{changed_of}
 use Rattle.ib_rule.specs.Pass.{PassState}
 use Rattle.ib_tree.specs.TreeLog.{opening}
-use Rattle.ib_kept.specs.Kept.{IsKeptLog}
+use Rattle.ib_planned_log.specs.Kept.{IsKeptLog}
 use Rattle.ib_cursor.specs.Descent.{HasPage}
 use Rattle.ib_cursor.specs.Grants.{HasTaken}
 use Rattle.ib_cursor.specs.Shapes.{HasGlanced}

@@ -9,7 +9,7 @@ use Rattle.ib_map.specs.declared.call.Change.TheVariants.{Delete}
 use Rattle.ib_map.specs.declared.call.Call.TheVariants.{Delete as DeleteCall}
 use Rattle.ib_map.specs.declared.call.Reply.TheVariants.{Deleted, LogFull as LogFullReply, Missing}
 use Rattle.ib_plans.specs.declared.TheConstants.{FEWEST_RECORDS}
-use Rattle.ib_kept.specs.Kept.{IsKeptLog}
+use Rattle.ib_planned_log.specs.Kept.{IsKeptLog}
 use Rattle.ib_rule.specs.Pass.{PassState}
 use Rattle.ib_rule.specs.Space.{SpaceState}
 use Rattle.ib_mtr.specs.Commits.{HasCommitted, HasRead, IsFull}

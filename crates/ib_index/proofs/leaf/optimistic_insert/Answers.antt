@@ -9,7 +9,7 @@ use Rattle.ib_map.specs.declared.call.Change.TheVariants.{Insert}
 use Rattle.ib_map.specs.declared.call.Call.TheVariants.{Insert as InsertCall}
 use Rattle.ib_map.specs.declared.call.Reply.TheVariants.{Duplicate, Inserted, LogFull as LogFullReply}
 use Rattle.ib_heap.specs.declared.TheConstants.{MOST_RECORDS}
-use Rattle.ib_kept.specs.Kept.{IsKeptLog}
+use Rattle.ib_planned_log.specs.Kept.{IsKeptLog}
 use Rattle.ib_rule.specs.Pass.{PassState}
 use Rattle.ib_rule.specs.Space.{SpaceState}
 use Rattle.ib_mtr.specs.Commits.{HasCommitted, HasRead, IsFull}

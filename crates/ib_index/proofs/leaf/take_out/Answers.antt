@@ -9,8 +9,8 @@ use Rattle.ib_page.specs.Image.{IsTreePage, clock_of, records_of}
 use Rattle.ib_page.specs.Work.{WorkPage, with_changed}
 use Rattle.ib_walk.specs.Words.{state_of}
 use Rattle.ib_plans.specs.Moves.{Takes, IsMovedHeap}
-use Rattle.ib_kept.specs.Kept.{IsKeptLog}
-use Rattle.ib_kept.specs.LeafChange.{without_pair}
+use Rattle.ib_planned_log.specs.Kept.{IsKeptLog}
+use Rattle.ib_planned_log.specs.LeafChange.{without_pair}
 use Rattle.ib_mtr.specs.Commits.{MayCommit}
 use Rattle.ib_mtr.specs.Mtr.{with_work}
 use Rattle.ib_mtr.proofs.Looking.{edited_mtr}

@@ -7,7 +7,7 @@ use Rattle.ib_map.specs.declared.call.Reply.TheVariants.{LogFull as LogFullReply
 use Rattle.ib_layout.specs.Geometry.{Sizes}
 use Rattle.ib_logrec.specs.Log.{by_place}
 use Rattle.ib_tree.specs.TreeLog.{opening}
-use Rattle.ib_kept.specs.Kept.{IsKeptLog}
+use Rattle.ib_planned_log.specs.Kept.{IsKeptLog}
 use Rattle.ib_rule.specs.Pass.{PassState}
 use Rattle.ib_rule.specs.Views.{total}
 use Rattle.ib_mtr.specs.Commits.{HasCommitted, HasRead, IsFull, MayCommit}

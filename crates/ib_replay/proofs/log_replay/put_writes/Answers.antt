@@ -1,7 +1,7 @@
 -- The test of the pages is the test of the entry.
 use Rattle.std.proofs.Common.{◌∙◌, sym, ap}
-use Rattle.ib_patch.specs.Positions.{positions_of}
-use Rattle.ib_patch.specs.TreeMemory.{TreeMemory}
+use Rattle.ib_validate.specs.Positions.{positions_of}
+use Rattle.ib_validate.specs.TreeMemory.{TreeMemory}
 use Rattle.ib_replay.proofs.TreeSteps.{entry-patch, patch-entry}
 use Rattle.ib_replay.proofs.log_replay.put_writes.Goals as goal
 

@@ -1,7 +1,7 @@
 use Rattle.std.proofs.Common.{◌∙◌, ap, refl, sym, subst}
 use Rattle.ib_layout.specs.Geometry.{Sizes}
 use Rattle.ib_rule.specs.Closed.{IsClosed}
-use Rattle.ib_kept.specs.Kept.{IsKeptLog}
+use Rattle.ib_planned_log.specs.Kept.{IsKeptLog}
 use Rattle.ib_tree.specs.TreeLog.{opening}
 use Rattle.ib_runs.specs.Outcomes.{HasLog}
 use Rattle.ib_runs.proofs.OutcomeLaws.{done_whole, log_of, outcome_of, used_is}

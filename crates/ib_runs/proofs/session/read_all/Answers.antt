@@ -1,7 +1,7 @@
 use Rattle.std.proofs.Common.{◌∙◌, subst, arith, inr}
 use Rattle.ib_logrec.specs.Log.{by_place}
 use Rattle.ib_tree.specs.TreeLog.{opening}
-use Rattle.ib_kept.specs.Kept.{IsKeptLog}
+use Rattle.ib_planned_log.specs.Kept.{IsKeptLog}
 use Rattle.ib_rule.specs.Pass.{IsAtRest}
 use Rattle.ib_rule.specs.Space.{SpaceState}
 use Rattle.ib_scan.specs.Scanning.{HasScanned, HasStopped}

@@ -1,9 +1,9 @@
 use Rattle.std.proofs.Common.{sym, refl}
 use Rattle.std.specs.Prelude.{Err}
-use Rattle.ib_edge.proofs.Fields.{one-more}
-use Rattle.ib_edge.specs.Fields.{one_field, session_in}
-use Rattle.ib_edge.specs.Lines.{fields_behind}
-use Rattle.ib_edge.specs.declared.line_kind.LineKind.TheVariants.{Fields}
+use Rattle.ib_io.proofs.Fields.{one-more}
+use Rattle.ib_io.specs.Fields.{one_field, session_in}
+use Rattle.ib_io.specs.Lines.{fields_behind}
+use Rattle.ib_io.specs.declared.line_kind.LineKind.TheVariants.{Fields}
 use Rattle.ib_script.proofs.script_line.one_session.Goals as goal
 
 pub returns-in-Some-clause-session : goal.returns-in-Some-clause-session

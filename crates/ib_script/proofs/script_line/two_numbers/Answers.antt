@@ -1,9 +1,9 @@
 use Rattle.std.proofs.Common.{sym, refl}
 use Rattle.std.specs.Prelude.{Err}
-use Rattle.ib_edge.proofs.Fields.{two-more}
-use Rattle.ib_edge.specs.Fields.{number_in, two_fields}
-use Rattle.ib_edge.specs.Lines.{fields_behind}
-use Rattle.ib_edge.specs.declared.line_kind.LineKind.TheVariants.{Fields}
+use Rattle.ib_io.proofs.Fields.{two-more}
+use Rattle.ib_io.specs.Fields.{number_in, two_fields}
+use Rattle.ib_io.specs.Lines.{fields_behind}
+use Rattle.ib_io.specs.declared.line_kind.LineKind.TheVariants.{Fields}
 use Rattle.ib_script.proofs.script_line.two_numbers.Goals as goal
 
 pub returns-in-Some : goal.returns-in-Some

@@ -1,6 +1,6 @@
 use Rattle.std.proofs.Common.{arith, rules}
-use Rattle.ib_edge.proofs.Reached.{reached-none, reached-more, reached-fault, reached-all, lines-cut, lines-end}
-use Rattle.ib_edge.specs.Lines.{readings_by}
+use Rattle.ib_io.proofs.Reached.{reached-none, reached-more, reached-fault, reached-all, lines-cut, lines-end}
+use Rattle.ib_io.specs.Lines.{readings_by}
 use Rattle.ib_script.specs.Script.{fault_behind}
 use Rattle.ib_script.specs.Tallies.{IsTallied}
 use Rattle.ib_script.proofs.tally.refusal.Goals as goal

@@ -1,6 +1,6 @@
 use Rattle.std.proofs.Common.{◌+◌, ◌≤◌, length}
-use Rattle.ib_edge.proofs.Reached.{Reached}
-use Rattle.ib_edge.specs.Lines.{readings_by}
+use Rattle.ib_io.proofs.Reached.{Reached}
+use Rattle.ib_io.specs.Lines.{readings_by}
 use Rattle.ib_script.specs.Script.{fault_behind}
 use Rattle.ib_script.specs.Tallies.{IsTallied}
 use Rattle.ib_script.proofs.tally.refusal.Given as goal

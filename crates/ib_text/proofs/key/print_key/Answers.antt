@@ -1,6 +1,6 @@
 -- A key that is not written as it is has `x:` in front of its digits.
 use Rattle.std.proofs.Common.{◌≡◌, ◌∙◌, false, sym}
-use Rattle.ib_edge.proofs.Writing.{puts_on}
+use Rattle.ib_io.proofs.Writing.{puts_on}
 use Rattle.ib_map.specs.KeyBytes.{bytes_of}
 use Rattle.ib_text.specs.Keys.{is_plain_text, key_text}
 use Rattle.ib_text.proofs.key.print_key.Goals as goal

@@ -1,7 +1,7 @@
 use Rattle.std.proofs.Common.{◌≡◌, get_or, subst, sym}
 use Rattle.std.proofs.lemmas.Option.{get_or_from_slice_get, slice_get_within}
-use Rattle.ib_edge.proofs.Writing.{puts_each, puts_none}
-use Rattle.ib_edge.specs.Writer.{Puts}
+use Rattle.ib_io.proofs.Writing.{puts_each, puts_none}
+use Rattle.ib_io.specs.Writer.{Puts}
 use Rattle.ib_map.specs.History.{History}
 use Rattle.ib_map.specs.declared.call.LoggedChange.{LoggedChange}
 use Rattle.ib_text.specs.Output.{log_line}

@@ -1,6 +1,6 @@
 use Rattle.std.proofs.Common.{take}
 use Rattle.std.specs.Prelude.{flat_map}
-use Rattle.ib_edge.specs.Writer.{Puts}
+use Rattle.ib_io.specs.Writer.{Puts}
 use Rattle.ib_text.specs.Output.{log_line}
 use Rattle.ib_text.proofs.log_part.print_log_lines.Given as goal
 

@@ -1,4 +1,4 @@
-use Rattle.ib_edge.proofs.Writing.{puts_on}
+use Rattle.ib_io.proofs.Writing.{puts_on}
 use Rattle.ib_text.proofs.map_part.print_map_line.Goals as goal
 
 pub returns : goal.returns

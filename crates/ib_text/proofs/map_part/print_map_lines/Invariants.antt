@@ -1,7 +1,7 @@
 use Rattle.std.proofs.Common.{take}
 use Rattle.std.specs.Prelude.{flat_map}
 use Rattle.ib_text.specs.Output.{map_line}
-use Rattle.ib_edge.specs.Writer.{Puts}
+use Rattle.ib_io.specs.Writer.{Puts}
 use Rattle.ib_text.proofs.map_part.print_map_lines.Given as goal
 
 abbrev pub invariant-loop-pair : goal.invariant-loop-pair

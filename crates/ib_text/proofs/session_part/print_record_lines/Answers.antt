@@ -3,11 +3,11 @@ use Rattle.ib_map.specs.Replies.{Span}
 use Rattle.ib_map.specs.Chunks.{spans_of}
 use Rattle.ib_map.specs.FullRecords.{chunk_count, total_chunks}
 use Rattle.ib_map.specs.declared.call.Record.{Record}
-use Rattle.ib_edge.specs.Writer.{Puts}
+use Rattle.ib_io.specs.Writer.{Puts}
 use Rattle.ib_text.specs.Output.{record_line}
 use Rattle.ib_text.proofs.Neighbours.{AreNeighbours-within, spans_of-within}
 use Rattle.ib_text.proofs.Records.{records_text-more, total_chunks-more, total_chunks-within}
-use Rattle.ib_edge.proofs.Writing.{puts_none, puts_on}
+use Rattle.ib_io.proofs.Writing.{puts_none, puts_on}
 use Rattle.ib_text.proofs.session_part.print_record_lines.Goals as goal
 
 pub slice_bounds-print_chunk_lines-end : goal.slice_bounds-print_chunk_lines-end

@@ -3,7 +3,7 @@ use Rattle.std.specs.Prelude.{flat_map}
 use Rattle.ib_map.specs.Chunks.{spans_of}
 use Rattle.ib_map.specs.FullRecords.{full_records, total_chunks}
 use Rattle.ib_text.specs.Output.{record_text}
-use Rattle.ib_edge.specs.Writer.{Puts}
+use Rattle.ib_io.specs.Writer.{Puts}
 use Rattle.ib_text.proofs.session_part.print_record_lines.Given as goal
 
 abbrev pub invariant-loop-answered : goal.invariant-loop-answered

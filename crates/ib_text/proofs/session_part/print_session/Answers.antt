@@ -1,7 +1,7 @@
 use Rattle.std.proofs.Common.{subst, sym, ◌∙◌}
 use Rattle.ib_map.specs.Chunks.{spans_of}
-use Rattle.ib_edge.specs.Writer.{Puts}
-use Rattle.ib_edge.proofs.Writing.{puts_on}
+use Rattle.ib_io.specs.Writer.{Puts}
+use Rattle.ib_io.proofs.Writing.{puts_on}
 use Rattle.ib_text.proofs.Records.{session_lines-text}
 use Rattle.ib_text.proofs.session_part.print_session.Goals as goal
 

@@ -7,7 +7,7 @@ use Rattle.ib_map.specs.declared.chunks.Chunk.{Chunk}
 use Rattle.ib_text.specs.Output.{joined_spans, span_text}
 use Rattle.ib_text.specs.Spans.{span_between}
 use Rattle.ib_text.proofs.ChunkLines.{printed_none, printed_together, printed_apart, printed_all, within_pairs}
-use Rattle.ib_edge.proofs.Writing.{puts_on, puts_none}
+use Rattle.ib_io.proofs.Writing.{puts_on, puts_none}
 use Rattle.ib_text.proofs.span_part.print_chunk_lines.Goals as goal
 use Rattle.ib_text.proofs.span_part.print_chunk_lines.Goals.{then-chunk-first, else-chunk-first}
 

@@ -1,6 +1,6 @@
 use Rattle.std.proofs.Common.{List, ℕ, drop}
 use Rattle.ib_map.specs.Chunks.{spans_of}
-use Rattle.ib_edge.specs.Writer.{Puts}
+use Rattle.ib_io.specs.Writer.{Puts}
 use Rattle.ib_text.proofs.ChunkLines.{IsPrintedUpTo, spans_text}
 use Rattle.ib_text.proofs.span_part.print_chunk_lines.Given as goal
 

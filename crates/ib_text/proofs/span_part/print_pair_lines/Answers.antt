@@ -1,5 +1,5 @@
 use Rattle.ib_text.specs.Output.{pair_line}
-use Rattle.ib_edge.proofs.Writing.{puts_none}
+use Rattle.ib_io.proofs.Writing.{puts_none}
 use Rattle.ib_text.proofs.NextItem.{puts_item}
 use Rattle.ib_text.proofs.span_part.print_pair_lines.Goals as goal
 

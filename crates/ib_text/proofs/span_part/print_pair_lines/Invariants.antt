@@ -1,7 +1,7 @@
 use Rattle.std.proofs.Common.{take}
 use Rattle.std.specs.Prelude.{flat_map}
 use Rattle.ib_text.specs.Output.{pair_line}
-use Rattle.ib_edge.specs.Writer.{Puts}
+use Rattle.ib_io.specs.Writer.{Puts}
 use Rattle.ib_text.proofs.span_part.print_pair_lines.Given as goal
 
 abbrev pub invariant-loop-pair : goal.invariant-loop-pair

@@ -1,7 +1,7 @@
 -- The two digits of the next byte of the key.
 use Rattle.std.proofs.Common.{◌≡◌, ◌∙◌, ◌<◌, ◌/◌, ◌%◌, [], ◌∷◌, get_or, length, ap, arith, subst₂}
-use Rattle.ib_edge.proofs.Writing.{puts_each, puts_on}
-use Rattle.ib_edge.specs.Writer.{Puts}
+use Rattle.ib_io.proofs.Writing.{puts_each, puts_on}
+use Rattle.ib_io.specs.Writer.{Puts}
 use Rattle.ib_map.specs.KeyBytes.{bytes_of}
 use Rattle.ib_text.specs.Keys.{hex_byte, hex_digit}
 use Rattle.ib_text.proofs.spelling.print_hex.Goals as goal

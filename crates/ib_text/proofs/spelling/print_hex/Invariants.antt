@@ -1,6 +1,6 @@
 use Rattle.std.proofs.Common.{take}
 use Rattle.std.specs.Prelude.{flat_map}
-use Rattle.ib_edge.specs.Writer.{Puts}
+use Rattle.ib_io.specs.Writer.{Puts}
 use Rattle.ib_map.specs.KeyBytes.{bytes_of}
 use Rattle.ib_text.specs.Keys.{hex_byte}
 use Rattle.ib_text.proofs.spelling.print_hex.Given as goal

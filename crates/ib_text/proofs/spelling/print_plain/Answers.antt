@@ -1,7 +1,7 @@
 -- The next byte of the key.
 use Rattle.std.proofs.Common.{◌<◌, [], ◌∷◌, length, arith, subst}
-use Rattle.ib_edge.proofs.Writing.{puts_byte}
-use Rattle.ib_edge.specs.Writer.{Puts}
+use Rattle.ib_io.proofs.Writing.{puts_byte}
+use Rattle.ib_io.specs.Writer.{Puts}
 use Rattle.ib_map.specs.KeyBytes.{bytes_of}
 use Rattle.ib_text.proofs.spelling.print_plain.Goals as goal
 

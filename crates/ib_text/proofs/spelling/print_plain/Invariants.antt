@@ -1,5 +1,5 @@
 use Rattle.std.proofs.Common.{take}
-use Rattle.ib_edge.specs.Writer.{Puts}
+use Rattle.ib_io.specs.Writer.{Puts}
 use Rattle.ib_map.specs.KeyBytes.{bytes_of}
 use Rattle.ib_text.proofs.spelling.print_plain.Given as goal
 

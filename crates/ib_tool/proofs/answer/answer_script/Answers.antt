@@ -1,9 +1,9 @@
 use Rattle.std.proofs.Common.{◌≡◌, ℕ, List, ap}
 use Rattle.std.specs.Prelude.{Err, None}
-use Rattle.ib_edge.proofs.Telling.{owed_good, told_as, told_fault}
-use Rattle.ib_edge.specs.Lines.{readings_by}
-use Rattle.ib_edge.specs.Told.{Ending, IsOutOfMemory, IsOutOfMemoryWhere}
-use Rattle.ib_edge.specs.declared.status.Status.TheVariants.{Done}
+use Rattle.ib_io.proofs.Telling.{owed_good, told_as, told_fault}
+use Rattle.ib_io.specs.Lines.{readings_by}
+use Rattle.ib_io.specs.Told.{Ending, IsOutOfMemory, IsOutOfMemoryWhere}
+use Rattle.ib_io.specs.declared.status.Status.TheVariants.{Done}
 use Rattle.ib_script.specs.Script.{IsScript, ScriptValue, first_fault, reading_of}
 use Rattle.ib_tool.specs.Answers.{AnswersScript, IsScriptText}
 use Rattle.ib_tool.specs.Texts.{IsWrittenRun}

@@ -1,9 +1,9 @@
 -- What is owed for the file of a run's log is the end of the run's text.
 use Rattle.std.proofs.Common.{◌≡◌, ◌∙◌, ℕ, List, ◌++◌, ap, append_assoc, sym}
-use Rattle.ib_edge.specs.Told.{Ending, ends}
-use Rattle.ib_edge.specs.declared.status.Status.TheVariants.{Done}
+use Rattle.ib_io.specs.Told.{Ending, ends}
+use Rattle.ib_io.specs.declared.status.Status.TheVariants.{Done}
 use Rattle.ib_logrec.specs.Log.{by_place, history_of, map_of}
-use Rattle.ib_logs.specs.Replaying.{replay_output}
+use Rattle.ib_replay_form.specs.Replaying.{replay_output}
 use Rattle.ib_map.specs.Pairs.{Pairs}
 use Rattle.ib_script.specs.Script.{ScriptValue}
 use Rattle.ib_text.specs.Output.{log_text, map_text, output_of, sessions_from}

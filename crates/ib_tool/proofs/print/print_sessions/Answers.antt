@@ -1,8 +1,8 @@
 use Rattle.std.proofs.Common.{ℕ, List, get_or, sym, subst, arith}
 use Rattle.ib_runs.specs.Answers.{KeptAnswers, answers_of}
 use Rattle.ib_text.specs.Output.{session_text}
-use Rattle.ib_edge.specs.Writer.{Puts}
-use Rattle.ib_edge.proofs.Writing.{puts_none, puts_on}
+use Rattle.ib_io.specs.Writer.{Puts}
+use Rattle.ib_io.proofs.Writing.{puts_none, puts_on}
 use Rattle.ib_tool.proofs.Printing.{sessions_from-more}
 use Rattle.ib_tool.proofs.print.print_sessions.Goals as goal
 

@@ -1,7 +1,7 @@
 use Rattle.std.proofs.Common.{◌≡◌, ◌+◌, map, take}
 use Rattle.ib_runs.specs.Answers.{answers_of}
 use Rattle.ib_text.specs.Output.{sessions_from}
-use Rattle.ib_edge.specs.Writer.{Puts}
+use Rattle.ib_io.specs.Writer.{Puts}
 use Rattle.ib_tool.proofs.print.print_sessions.Given as goal
 
 abbrev pub invariant-loop-out : goal.invariant-loop-out

@@ -1,7 +1,7 @@
 use Rattle.std.proofs.Common.{◌∙◌, inl, map, refl, string_bytes, sym}
 use Rattle.std.proofs.KnownBytes.{Keeps-refl}
-use Rattle.ib_edge.specs.Told.{ends}
-use Rattle.ib_edge.specs.declared.status.Status.TheVariants.{Usage}
+use Rattle.ib_io.specs.Told.{ends}
+use Rattle.ib_io.specs.declared.status.Status.TheVariants.{Usage}
 use Rattle.ib_tool.specs.Words.{usage_line}
 use Rattle.ib_tool.proofs.Telling.{told_form}
 use Rattle.ib_tool.proofs.top.dispatch.Goals as goal

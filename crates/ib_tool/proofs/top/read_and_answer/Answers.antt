@@ -1,6 +1,6 @@
 use Rattle.std.proofs.Common.{inl, refl}
-use Rattle.ib_edge.specs.Told.{ends}
-use Rattle.ib_edge.specs.declared.status.Status.TheVariants.{TooLarge}
+use Rattle.ib_io.specs.Told.{ends}
+use Rattle.ib_io.specs.declared.status.Status.TheVariants.{TooLarge}
 use Rattle.ib_tool.specs.Words.{too_large_line}
 use Rattle.ib_tool.proofs.Telling.{told_input}
 use Rattle.ib_tool.proofs.top.read_and_answer.Goals as goal

@@ -1,5 +1,5 @@
 use Rattle.std.proofs.Common.{map, string_bytes}
-use Rattle.ib_edge.specs.Faults.{Rose}
+use Rattle.ib_io.specs.Faults.{Rose}
 use Rattle.ib_tool.proofs.Telling.{completes}
 use Rattle.ib_tool.proofs.top.top.Goals as goal
 

@@ -1,4 +1,4 @@
-use Rattle.ib_patch.proofs.MemoryLaws.{memory_of-read}
+use Rattle.ib_validate.proofs.MemoryLaws.{memory_of-read}
 use Rattle.ib_tree.proofs.content.image_at.Goals as goal
 
 pub returns : goal.returns

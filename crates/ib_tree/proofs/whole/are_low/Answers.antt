@@ -2,7 +2,7 @@ use Rattle.std.proofs.Common.{ap, sym, arith, ◌∙◌, ◌≡◌}
 use Rattle.std.proofs.lemmas.Bool.{eq-eqb, leb-true, le-leb}
 use Rattle.ib_walk.specs.Pages.{PageState}
 use Rattle.ib_walk.specs.Words.{memory_of}
-use Rattle.ib_patch.proofs.MemoryLaws.{memory_of-read}
+use Rattle.ib_validate.proofs.MemoryLaws.{memory_of-read}
 use Rattle.ib_tree.proofs.WholeTestLaws.{AreLow-one, AreLow-two, two-AreLow}
 use Rattle.ib_tree.proofs.whole.are_low.Goals as goal
 

@@ -1,5 +1,5 @@
 use Rattle.std.proofs.Common.{sym, ◌∙◌}
-use Rattle.ib_patch.specs.Positions.{positions_of}
+use Rattle.ib_validate.specs.Positions.{positions_of}
 use Rattle.ib_tree.proofs.WholeTestLaws.{lawful-visited, lawful-unvisited}
 use Rattle.ib_tree.proofs.whole.is_lawful.Goals as goal
 

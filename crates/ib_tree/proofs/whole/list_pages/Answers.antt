@@ -1,6 +1,6 @@
 use Rattle.std.proofs.Common.{length, arith}
 use Rattle.std.proofs.lemmas.List.FromFn.{length-range_with_len, get_or-range_with_len}
-use Rattle.ib_patch.proofs.CopyLaws.{same-list}
+use Rattle.ib_validate.proofs.CopyLaws.{same-list}
 use Rattle.ib_tree.specs.PageLists.{pages_below}
 use Rattle.ib_tree.proofs.whole.list_pages.Goals as goal
 

@@ -1,10 +1,10 @@
 use Rattle.std.proofs.Common.{◌≡◌, ◌∙◌, ◌+◌, suc, sym, ap, arith, Some, None}
 use Rattle.ib_map.specs.Keys.{rank, end_rank}
 use Rattle.ib_map.proofs.KeyLaws.{rank-least}
-use Rattle.ib_patch.specs.declared.position.PagePosition.{PagePosition}
-use Rattle.ib_patch.specs.PatchTest.{set_at}
-use Rattle.ib_patch.specs.Positions.{position_in, positions_of}
-use Rattle.ib_patch.proofs.PositionLaws.{positions_of-set}
+use Rattle.ib_validate.specs.declared.position.PagePosition.{PagePosition}
+use Rattle.ib_validate.specs.PatchTest.{set_at}
+use Rattle.ib_validate.specs.Positions.{position_in, positions_of}
+use Rattle.ib_validate.proofs.PositionLaws.{positions_of-set}
 use Rattle.ib_tree.specs.Tests.{root_position, root_positions}
 use Rattle.ib_tree.proofs.whole.meet_opening.Goals as goal
 

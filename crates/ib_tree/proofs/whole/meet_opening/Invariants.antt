@@ -1,5 +1,5 @@
 use Rattle.std.proofs.Common.{◌≡◌}
-use Rattle.ib_patch.specs.Positions.{positions_of}
+use Rattle.ib_validate.specs.Positions.{positions_of}
 use Rattle.ib_tree.specs.Tests.{root_positions}
 use Rattle.ib_tree.proofs.whole.meet_opening.Given as goal
 

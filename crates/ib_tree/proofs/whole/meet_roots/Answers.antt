@@ -4,11 +4,11 @@ use Rattle.ib_map.specs.Keys.{rank, end_rank}
 use Rattle.ib_map.proofs.KeyLaws.{rank-least}
 use Rattle.ib_walk.specs.Pages.{PageState}
 use Rattle.ib_walk.specs.Words.{memory_of}
-use Rattle.ib_patch.specs.declared.position.PagePosition.{PagePosition}
-use Rattle.ib_patch.specs.PatchTest.{set_at, root_at, set_roots}
-use Rattle.ib_patch.specs.Positions.{position_in, positions_of}
-use Rattle.ib_patch.proofs.MemoryLaws.{memory_of-read}
-use Rattle.ib_patch.proofs.PositionLaws.{positions_of-set}
+use Rattle.ib_validate.specs.declared.position.PagePosition.{PagePosition}
+use Rattle.ib_validate.specs.PatchTest.{set_at, root_at, set_roots}
+use Rattle.ib_validate.specs.Positions.{position_in, positions_of}
+use Rattle.ib_validate.proofs.MemoryLaws.{memory_of-read}
+use Rattle.ib_validate.proofs.PositionLaws.{positions_of-set}
 use Rattle.ib_tree.specs.PageLists.{is_below}
 use Rattle.ib_tree.proofs.whole.meet_roots.Goals as goal
 

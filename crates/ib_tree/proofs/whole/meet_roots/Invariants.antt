@@ -1,8 +1,8 @@
 use Rattle.std.proofs.Common.{◌≡◌, ◌-◌, length}
 use Rattle.ib_map.specs.Keys.{end_rank}
 use Rattle.ib_walk.specs.Words.{memory_of}
-use Rattle.ib_patch.specs.PatchTest.{set_roots}
-use Rattle.ib_patch.specs.Positions.{positions_of}
+use Rattle.ib_validate.specs.PatchTest.{set_roots}
+use Rattle.ib_validate.specs.Positions.{positions_of}
 use Rattle.ib_tree.specs.PageLists.{is_below}
 use Rattle.ib_tree.proofs.whole.meet_roots.Given as goal
 

@@ -2,9 +2,9 @@ use Rattle.std.proofs.Common.{ℕ, ◌<◌, ◌∙◌, List, length, All, sym, a
 use Rattle.ib_map.specs.Keys.{end_rank}
 use Rattle.ib_heap.specs.declared.TheConstants.{MOST_LEVEL}
 use Rattle.ib_walk.specs.Words.{memory_of}
-use Rattle.ib_patch.specs.PatchTest.{set_roots, visit_levels}
-use Rattle.ib_patch.specs.Positions.{is_good_at, positions_of}
-use Rattle.ib_patch.proofs.StepLaws.{step-by}
+use Rattle.ib_validate.specs.PatchTest.{set_roots, visit_levels}
+use Rattle.ib_validate.specs.Positions.{is_good_at, positions_of}
+use Rattle.ib_validate.proofs.StepLaws.{step-by}
 use Rattle.ib_tree.specs.PageLists.{is_below, pages_below}
 use Rattle.ib_tree.proofs.WholeTestLaws.{All-pages_below, visited-whole}
 use Rattle.ib_tree.proofs.whole.visit_all.Goals as goal

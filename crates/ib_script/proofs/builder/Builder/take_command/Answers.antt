@@ -4,7 +4,7 @@ use Rattle.std.proofs.lemmas.List.Sums.{fold_push}
 use Rattle.std.proofs.lemmas.Result.{err_from_is_err_and}
 use Rattle.ib_script.specs.Script.{has_room, is_command, is_scan}
 use Rattle.ib_script.specs.Building.{session_then}
-use Rattle.ib_edge.specs.declared.line_kind.LineKind.TheVariants.{Many}
+use Rattle.ib_io.specs.declared.line_kind.LineKind.TheVariants.{Many}
 use Rattle.ib_script.specs.declared.script_line.ScriptLine.TheVariants.{Command}
 use Rattle.ib_script.proofs.Readings.{something, sizes-kept, lists-push, count-one, count-more}
 use Rattle.ib_script.proofs.builder.Builder.take_command.Goals as goal

@@ -4,7 +4,7 @@ use Rattle.std.specs.List.{list_all}
 use Rattle.std.proofs.lemmas.List.Sums.{fold_push}
 use Rattle.ib_script.specs.Script.{says_nothing, is_command, is_scan}
 use Rattle.ib_script.specs.Building.{session_then}
-use Rattle.ib_edge.specs.declared.line_kind.LineKind.TheVariants.{Space as SpaceKind}
+use Rattle.ib_io.specs.declared.line_kind.LineKind.TheVariants.{Space as SpaceKind}
 use Rattle.ib_script.specs.declared.script_line.ScriptLine.TheVariants.{Space}
 use Rattle.ib_script.proofs.Readings.{not-false, something, sizes-first, same-lists, count-other}
 use Rattle.ib_script.proofs.builder.Builder.take_space.Goals as goal

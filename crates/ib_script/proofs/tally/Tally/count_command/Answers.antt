@@ -1,7 +1,7 @@
 use Rattle.std.proofs.Common.{◌≡◌, ◌+◌, true, refl, ◌∙◌, ap}
 use Rattle.std.specs.Prelude.{Ok, not, Some, None, if◌then◌else◌}
 use Rattle.ib_script.specs.Script.{has_room, is_command, is_scan}
-use Rattle.ib_edge.specs.declared.line_kind.LineKind.TheVariants.{Many}
+use Rattle.ib_io.specs.declared.line_kind.LineKind.TheVariants.{Many}
 use Rattle.ib_script.specs.declared.script_line.ScriptLine.TheVariants.{Command}
 use Rattle.ib_script.proofs.Readings.{something, count-one, count-more}
 use Rattle.ib_script.proofs.tally.Tally.count_command.Goals as goal

@@ -2,7 +2,7 @@ use Rattle.std.proofs.Common.{◌≡◌, true, refl, sym, ◌∙◌, ap}
 use Rattle.std.specs.Prelude.{Ok, Some, None, if◌then◌else◌}
 use Rattle.std.specs.List.{list_all}
 use Rattle.ib_script.specs.Script.{says_nothing, is_command, is_scan}
-use Rattle.ib_edge.specs.declared.line_kind.LineKind.TheVariants.{Space as SpaceKind}
+use Rattle.ib_io.specs.declared.line_kind.LineKind.TheVariants.{Space as SpaceKind}
 use Rattle.ib_script.specs.declared.script_line.ScriptLine.TheVariants.{Space}
 use Rattle.ib_script.proofs.Readings.{not-false, something, count-other}
 use Rattle.ib_script.proofs.tally.Tally.count_space.Goals as goal

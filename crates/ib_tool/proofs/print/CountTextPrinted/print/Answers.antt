@@ -1,4 +1,4 @@
-use Rattle.ib_edge.proofs.Writing.{puts_on}
+use Rattle.ib_io.proofs.Writing.{puts_on}
 use Rattle.ib_tool.proofs.print.CountTextPrinted.print.Goals as goal
 
 pub returns : goal.returns

@@ -1,5 +1,0 @@
-use Rattle.ib_frames.proofs.Trying.{held_by_x}
-use Rattle.ib_commits.proofs.frames.read_owned.Goals as goal
-
-pub read_page-requires-clause-held : goal.read_page-requires-clause-held
-read_page-requires-clause-held c = held_by_x 5 c.args.pass.now.view.session c.requires.frame

@@ -1,5 +1,0 @@
-use Rattle.ib_edge.proofs.Writing.{puts_on}
-use Rattle.ib_events.proofs.event_part.print_text_and_word.Goals as goal
-
-pub returns : goal.returns
-returns g c = record { puts = puts_on c.text.ensures.puts c.print_lock_word.ensures.puts }

@@ -1,8 +1,0 @@
-use Rattle.std.proofs.Common.{ap, inl}
-use Rattle.ib_edge.specs.Told.{ends}
-use Rattle.ib_edge.specs.declared.status.Status.TheVariants.{Done}
-use Rattle.ib_events.specs.Latching.{lines_from}
-use Rattle.ib_events.proofs.latching.make_events.Goals as goal
-
-pub returns-in-Ok-clause-told : goal.returns-in-Ok-clause-told
-returns-in-Ok-clause-told g c = inl (ends Done (lines_from c.in-Ok.core.state c.args.events), ap (λ m. ends Done (lines_from m.state c.args.events)) c.in-Ok.ensures.opens, c.tell.ensures.told)

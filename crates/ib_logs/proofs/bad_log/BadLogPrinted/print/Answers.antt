@@ -1,5 +1,0 @@
-use Rattle.ib_edge.proofs.Writing.{puts_on}
-use Rattle.ib_logs.proofs.bad_log.BadLogPrinted.print.Goals as goal
-
-pub returns : goal.returns
-returns g c = record { puts = puts_on (puts_on c.text.ensures.puts c.print_fault.ensures.puts) c.byte.ensures.puts }

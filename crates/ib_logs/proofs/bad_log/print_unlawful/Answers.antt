@@ -1,5 +1,0 @@
-use Rattle.ib_edge.proofs.Writing.{puts_on}
-use Rattle.ib_logs.proofs.bad_log.print_unlawful.Goals as goal
-
-pub returns : goal.returns
-returns g c = record { puts = puts_on (rw c.from.ensures at c.word_and_number.ensures.puts) (rw c.unlawful_word.ensures at c.text.ensures.puts) }

@@ -1,0 +1,6 @@
+-- The page stays a page of the tree.
+use Rattle.ib_heap.specs.Image.{IsTreePage}
+use Rattle.ib_plan_tests.proofs.images.a_full_page_refuses.Given as goal
+
+abbrev pub invariant-loop-number : goal.invariant-loop-number
+invariant-loop-number g l = IsTreePage l.leaf

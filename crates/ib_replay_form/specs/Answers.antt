@@ -1,0 +1,14 @@
+-- What is owed for the bytes of a raw log.
+use Rattle.std.specs.Prelude.{◌≡◌, ◌⊎◌, ℕ, List}
+use Rattle.ib_io.specs.Told.{Ending, ends}
+use Rattle.ib_io.specs.declared.status.Status.TheVariants.{Done, BadLog}
+use Rattle.ib_logrec.specs.declared.entry.Entry.{Entry}
+use Rattle.ib_logrec.specs.declared.fault.LogFault.{LogFault}
+use Rattle.ib_replay_form.specs.Replaying.{replay_output, bad_log_line}
+use Rattle.ib_replay.specs.RawLogs.{IsRawLog, IsRawFault}
+
+-- the log that the bytes are the file of is printed, or else their first fault is told
+abbrev pub AnswersLog : List ℕ → Ending → Type 0
+AnswersLog input e =
+    ((pages : ℕ) × (log : List Entry) × IsRawLog input pages log × (e ≡ ends Done (replay_output log)))
+    ⊎ ((fault : LogFault) × IsRawFault input fault × (e ≡ ends BadLog (bad_log_line fault)))

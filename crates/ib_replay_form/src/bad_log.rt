@@ -1,0 +1,81 @@
+//! The line that tells why a raw log is refused.
+
+ghost use Rattle.std.specs.Prelude.{◌≡◌, ◌≢◌, ◌++◌, [], codes, decimal};
+ghost use Rattle.std.specs.Io.KnownBytes.{Appends};
+ghost use Rattle.ib_io.specs.Faults.{Rose};
+ghost use Rattle.ib_io.specs.Told.{IsWritten, ends};
+ghost use Rattle.ib_io.specs.Writer.{Puts};
+ghost use Rattle.ib_replay_form.specs.Replaying.{bad_log_line, log_fault_text, unlawful_text, word_text};
+
+use ib_io::{Printed, Sink, Status, Writer, tell};
+use ib_logrec::{LogFault, UnlawfulKind};
+
+// A place, and the word that is wrong there.
+fn print_word<K: Sink>(writer: &mut Writer<'_, K>, what: &[u8], place: u32, word: u64)
+    ensures puts { Puts K.written K.faults writer.old writer.new (what.now ++ word_text place word) }
+{
+    writer.two_numbers(what, u64::from(place), b" word ", word);
+}
+
+fn unlawful_word(kind: UnlawfulKind) -> &'static [u8]
+    ensures { result.now ≡ unlawful_text kind }
+{
+    match kind {
+        UnlawfulKind::Number => b" number",
+        UnlawfulKind::Change => b" change",
+        UnlawfulKind::Tree => b" tree",
+    }
+}
+
+fn print_unlawful<K: Sink>(writer: &mut Writer<'_, K>, place: u32, kind: UnlawfulKind)
+    ensures puts { Puts K.written K.faults writer.old writer.new (codes "unlawful at " ++ decimal place ++ unlawful_text kind) }
+{
+    writer.word_and_number(b"unlawful at ", u64::from(place));
+    writer.text(unlawful_word(kind));
+}
+
+fn print_fault<K: Sink>(writer: &mut Writer<'_, K>, fault: LogFault)
+    ensures puts { Puts K.written K.faults writer.old writer.new (log_fault_text fault) }
+{
+    match fault {
+        LogFault::OddLength { bytes } => writer.word_and_number(b"odd length ", bytes as u64),
+        LogFault::Short { place } => writer.word_and_number(b"short at ", u64::from(place)),
+        LogFault::BadHead { place, word } => print_word(writer, b"head at ", place, word),
+        LogFault::BadWrite { place, word } => print_word(writer, b"write at ", place, word),
+        LogFault::Outside { place, word } => print_word(writer, b"outside at ", place, word),
+        LogFault::BadFile { at, word } => print_word(writer, b"file at ", at, word),
+        LogFault::Unlawful { place, kind } => print_unlawful(writer, place, kind),
+        LogFault::OutOfMemory => writer.text(b"out of memory"),
+    }
+}
+
+// Why a raw log is refused. Its text is `bad log: ` and the fault.
+#[derive(Drop)]
+struct BadLog {
+    fault: LogFault,
+}
+
+impl Printed for BadLog {
+    ghost use Rattle.ib_replay_form.specs.Replaying.{bad_log_line};
+
+    ghost text = { λ bad. bad_log_line bad.fault };
+
+    fn print<K: Sink>(self, writer: &mut Writer<'_, K>) {
+        writer.text(b"bad log: ");
+        print_fault(writer, self.fault);
+        writer.byte(b'\n');
+    }
+}
+
+/// Writes where a raw log is refused, and why; want of memory is no fault of a log.
+pub fn refuse<K: Sink>(sink: &mut K, fault: LogFault) -> Status
+    ensures told { (fault ≡ LogFault.OutOfMemory → ⊥) → IsWritten (ends Status.BadLog (bad_log_line fault)) (K.written sink.old) (K.written sink.new) result }
+    ensures memory { fault ≡ LogFault.OutOfMemory → (result ≡ Status.Memory) × Appends (K.written sink.old) (K.written sink.new) [] }
+    ensures calm { result ≢ Status.WriteFault → K.faults sink.new ≡ K.faults sink.old }
+    ensures write { result ≡ Status.WriteFault → Rose (K.faults sink.old) (K.faults sink.new) }
+{
+    match fault {
+        LogFault::OutOfMemory => Status::Memory,
+        _ => tell(sink, BadLog { fault }, Status::BadLog),
+    }
+}

@@ -1,6 +1,0 @@
--- The page is one of a tree.
-use Rattle.ib_page.specs.Image.{IsTreePage}
-use Rattle.ib_sessions.proofs.pages.node.Given as goal
-
-abbrev pub invariant-loop-key : goal.invariant-loop-key
-invariant-loop-key g l = record { tree : IsTreePage l.page }

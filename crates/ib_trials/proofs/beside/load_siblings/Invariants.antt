@@ -1,5 +1,0 @@
-use Rattle.ib_trials.specs.Reads.{IsReadFrom}
-use Rattle.ib_trials.proofs.beside.load_siblings.Given as goal
-
-abbrev pub invariant-loop-height : goal.invariant-loop-height
-invariant-loop-height g l = IsReadFrom l.memory l.work

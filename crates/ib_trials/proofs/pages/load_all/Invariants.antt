@@ -1,5 +1,0 @@
-use Rattle.ib_trials.specs.Reads.{IsReadFrom}
-use Rattle.ib_trials.proofs.pages.load_all.Given as goal
-
-abbrev pub invariant-loop-page : goal.invariant-loop-page
-invariant-loop-page g l = IsReadFrom l.memory l.work

@@ -1,5 +1,0 @@
-use Rattle.ib_page.specs.Image.{IsTreePage}
-use Rattle.ib_trials.proofs.row_tests.full_page.Given as goal
-
-abbrev pub invariant-loop-place : goal.invariant-loop-place
-invariant-loop-place l = IsTreePage l.image

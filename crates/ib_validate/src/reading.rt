@@ -1,0 +1,90 @@
+//! What an image says of its page, whatever its words are: one that cannot be read has level 0, no
+//! links and no records.
+
+ghost use Rattle.std.specs.Prelude.{◌≡◌, ◌<◌, ◌≤◌, length, ◌↔◌, IsTrue, slice_get, Some};
+ghost use Rattle.ib_page.specs.Form.{page_of};
+ghost use Rattle.ib_page.specs.Image.{IsTreePage, IsFormed};
+ghost use Rattle.ib_walk.specs.Pages.{Free, IsSound};
+ghost use Rattle.ib_walk.specs.Words.{state_of};
+ghost use Rattle.ib_validate.specs.Positions.{is_tree_page};
+
+use ib_map::{Key, PAGE_WORDS};
+use ib_page::{Image, Kind, MOST_LEVEL, MOST_RECORDS};
+
+// Whether the words can be read. An image has all words of a page, whatever they are.
+fn is_formed(image: &Image) -> bool
+    ensures formed { IsTrue result ↔ IsFormed image.now }
+    ensures size { length image.now ≡ PAGE_WORDS }
+{
+    let _first = image.word(0);
+    image.is_formed()
+}
+
+// Whether the page is one of a tree.
+pub(crate) fn is_tree(image: &Image) -> bool
+    ensures kind { result ≡ is_tree_page (state_of (page_of image.now)).kind }
+    ensures tree { IsTrue result → IsTreePage image.now }
+    ensures size { length image.now ≡ PAGE_WORDS }
+{
+    is_formed(image) && image.kind() != Kind::Free
+}
+
+/// The level of the page.
+pub fn level(image: &Image) -> u32
+    ensures level { result ≡ (state_of (page_of image.now)).level }
+    ensures low { result ≤ MOST_LEVEL }
+    ensures size { length image.now ≡ PAGE_WORDS }
+{
+    if is_formed(image) { image.level() } else { 0 }
+}
+
+// The leaf before the page, 0 for none.
+pub(crate) fn prev(image: &Image) -> u32
+    ensures prev { result ≡ (state_of (page_of image.now)).prev }
+    ensures size { length image.now ≡ PAGE_WORDS }
+{
+    if is_formed(image) { image.prev() } else { 0 }
+}
+
+/// The leaf behind the page, 0 for none.
+pub fn next(image: &Image) -> u32
+    ensures next { result ≡ (state_of (page_of image.now)).next }
+    ensures size { length image.now ≡ PAGE_WORDS }
+{
+    if is_formed(image) { image.next() } else { 0 }
+}
+
+/// How many records the page has.
+pub fn count(image: &Image) -> usize
+    ensures count { result ≡ length (state_of (page_of image.now)).records }
+    ensures few { result ≤ MOST_RECORDS }
+    ensures tree { 0 < result → IsTreePage image.now }
+    ensures size { length image.now ≡ PAGE_WORDS }
+{
+    if is_formed(image) { image.len() } else { 0 }
+}
+
+/// A record of the page, by its place in the order of keys.
+pub fn record_at(image: &Image, place: usize) -> (Key, u64)
+    requires tree { IsTreePage image.now }
+    requires in_range { place < length (state_of (page_of image.now)).records }
+    ensures { slice_get (state_of (page_of image.now)).records place ≡ Some result }
+{
+    image.record_at(place)
+}
+
+// Whether the page is free.
+pub(crate) fn is_free(image: &Image) -> bool
+    ensures free { IsTrue result ↔ ((state_of (page_of image.now)).kind ≡ Free) }
+    ensures size { length image.now ≡ PAGE_WORDS }
+{
+    is_formed(image) && image.kind() == Kind::Free
+}
+
+// Whether the page is free, or one of a tree within its limits: what can be read is.
+pub(crate) fn is_sound(image: &Image) -> bool
+    ensures sound { IsTrue result ↔ IsSound MOST_RECORDS (state_of (page_of image.now)) }
+    ensures size { length image.now ≡ PAGE_WORDS }
+{
+    is_formed(image)
+}
