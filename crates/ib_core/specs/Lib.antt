@@ -7,6 +7,7 @@ pub mod Holders
 pub mod Sleepers
 pub mod Actor
 pub mod Member
+pub mod Rows
 pub mod Turns
 pub mod Debts
 pub mod Machine

@@ -5,7 +5,8 @@ ghost use Rattle.ib_levels.specs.Listed.{answer_to};
 ghost use Rattle.ib_levels.specs.Holding.{is_held, levels_of};
 ghost use Rattle.ib_core.specs.Actor.{session_of};
 ghost use Rattle.ib_core.specs.Place.{IsPlace};
-ghost use Rattle.ib_core.specs.Sessions.{claims, grants, holdings, reads, sx_grants, x_grants};
+ghost use Rattle.ib_core.specs.Rows.{AreGrants};
+ghost use Rattle.ib_core.specs.Sessions.{holdings};
 
 use crate::holdings::{Counts, Found, found_on, grants_on};
 use crate::phase::Phase;
@@ -29,11 +30,7 @@ impl Actor {
     // Its grants on the latch.
     pub(crate) fn grants(&self, latch: Latch) -> Counts
         requires { holdings latch.0 (session_of self.now) ≤ 1 }
-        ensures s { result.s ≡ reads latch.0 (session_of self.now) }
-        ensures sx { result.sx ≡ sx_grants latch.0 (session_of self.now) }
-        ensures x { result.x ≡ x_grants latch.0 (session_of self.now) }
-        ensures claims { result.sx + result.x ≡ claims latch.0 (session_of self.now) }
-        ensures all { result.s + (result.sx + result.x) ≡ grants latch.0 (session_of self.now) }
+        ensures { AreGrants latch.0 (session_of self.now) result }
     {
         grants_on(self.held.as_slice(), latch)
     }
@@ -42,11 +39,8 @@ impl Actor {
     #[inline(always)]
     pub(crate) fn found(&self, latch: Latch) -> Found
         requires { holdings latch.0 (session_of self.now) ≤ 1 }
-        ensures s { result.s ≡ reads latch.0 (session_of self.now) }
-        ensures sx { result.sx ≡ sx_grants latch.0 (session_of self.now) }
-        ensures x { result.x ≡ x_grants latch.0 (session_of self.now) }
-        ensures claims { result.sx + result.x ≡ claims latch.0 (session_of self.now) }
-        ensures all { result.s + (result.sx + result.x) ≡ grants latch.0 (session_of self.now) }
+        ensures counts { AreGrants latch.0 (session_of self.now)
+            (record { s = result.s; sx = result.sx; x = result.x }) }
         ensures place { 0 < result.s + result.sx + result.x
             → IsPlace latch.0 result.at self.now.held.items }
     {

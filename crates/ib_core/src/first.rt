@@ -3,7 +3,8 @@
 ghost use Rattle.std.specs.Prelude.{◌≡◌, ◌≤◌, ◌-ℤ◌, pos, IsTrue, SomeIff, vec_capacity};
 ghost use Rattle.ib_core.specs.declared.phase.Phase.TheVariants.{Free};
 ghost use Rattle.ib_core.specs.Actor.{HasRoom, session_of};
-ghost use Rattle.ib_core.specs.Member.{CanStep, SameSum};
+ghost use Rattle.ib_core.specs.Member.{CanStep};
+ghost use Rattle.ib_core.specs.Rows.{HasMoved};
 ghost use Rattle.ib_core.specs.Sessions.{holdings};
 ghost use Rattle.ib_core.specs.Takings.{first, first_holding, first_response, first_weight, holding_too, is_given_at, reserving};
 ghost use Rattle.ib_core.specs.Responses.{answered};
@@ -112,9 +113,7 @@ impl Actor {
         requires room { HasRoom latch.0 self.old }
         ensures responds { answered result (session_of self.new)
             ≡ first mode latch.0 level waiting word.old.0 self.old.held.items }
-        ensures weighs { SameSum latch.0 word.old.0 (session_of self.old)
-            word.new.0 (session_of self.new) }
-        ensures capacity { vec_capacity self.old.held ≤ vec_capacity self.new.held }
+        ensures moves { HasMoved latch.0 word.old.0 self.old word.new.0 self.new }
     {
         let Some(after) = word_after(*word, mode) else {
             self.phase = waiting;

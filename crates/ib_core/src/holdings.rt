@@ -167,8 +167,7 @@ pub(crate) fn take_one(held: &mut Vec<Holding>, latch: Latch, mode: Mode)
     each_one_fewer(held.as_mut_slice(), latch, mode);
 }
 
-// Nothing is held on the latch any more, whose one holding stands at this place. The contract alone
-// asks for the latch.
+// Nothing is held on the latch any more, whose one holding stands at this place.
 #[inline(always)]
 pub(crate) fn give_up(held: &mut Vec<Holding>, latch: Latch, at: usize)
     requires single { on latch.0 (λ h. 1) held.old.items ≤ 1 }
@@ -176,6 +175,7 @@ pub(crate) fn give_up(held: &mut Vec<Holding>, latch: Latch, at: usize)
     ensures items { held.new.items ≡ without_latch latch.0 held.old.items }
     ensures capacity { vec_capacity held.new ≡ vec_capacity held.old }
 {
+    // For the proof: the contract alone asks for the latch.
     let _ = latch;
     take_out(held, at);
 }

@@ -68,7 +68,7 @@ impl Member {
         ensures few { ((l : ℕ) → holdings l self.now.session ≤ 1)
             → length result.now < 2 ^ 32 }
     {
-        // The number of latches is one of 32 bits.
+        // For the proof: the number of latches is one of 32 bits.
         let _latches = self.latches;
         self.actor.held.as_slice()
     }

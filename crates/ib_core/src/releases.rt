@@ -4,7 +4,8 @@ ghost use Rattle.std.specs.Prelude.{◌≡◌, ◌^◌, ◌<◌, ◌≤◌, vec_
 ghost use Rattle.ib_levels.specs.Holding.{on};
 ghost use Rattle.ib_core.specs.declared.phase.Phase.TheVariants.{Free};
 ghost use Rattle.ib_core.specs.Actor.{session_of};
-ghost use Rattle.ib_core.specs.Member.{CanStep, SameSum};
+ghost use Rattle.ib_core.specs.Member.{CanStep};
+ghost use Rattle.ib_core.specs.Rows.{HasMoved};
 ghost use Rattle.ib_core.specs.Sessions.{claims, grants, holdings};
 ghost use Rattle.ib_core.specs.Takings.{count_of, given_back, giving_s, giving_sx, giving_x};
 ghost use Rattle.ib_core.specs.Place.{IsPlace};
@@ -46,9 +47,7 @@ impl Actor {
         requires free { self.old.phase ≡ Free }
         ensures responds { answered result (session_of self.new)
             ≡ giving_s latch.0 word.old.0 (session_of self.old) }
-        ensures weighs { SameSum latch.0 word.old.0 (session_of self.old)
-            word.new.0 (session_of self.new) }
-        ensures capacity { vec_capacity self.old.held ≤ vec_capacity self.new.held }
+        ensures moves { HasMoved latch.0 word.old.0 self.old word.new.0 self.new }
     {
         let mine = self.found(latch);
         if mine.s == 0 {
@@ -70,9 +69,7 @@ impl Actor {
         requires free { self.old.phase ≡ Free }
         ensures responds { answered result (session_of self.new)
             ≡ giving_sx latch.0 (session_of self.old) }
-        ensures weighs { SameSum latch.0 word.old.0 (session_of self.old)
-            word.new.0 (session_of self.new) }
-        ensures capacity { vec_capacity self.old.held ≤ vec_capacity self.new.held }
+        ensures moves { HasMoved latch.0 word.old.0 self.old word.new.0 self.new }
     {
         let mine = self.found(latch);
         if mine.sx == 0 {
@@ -96,9 +93,7 @@ impl Actor {
         requires free { self.old.phase ≡ Free }
         ensures responds { answered result (session_of self.new)
             ≡ giving_x latch.0 (session_of self.old) }
-        ensures weighs { SameSum latch.0 word.old.0 (session_of self.old)
-            word.new.0 (session_of self.new) }
-        ensures capacity { vec_capacity self.old.held ≤ vec_capacity self.new.held }
+        ensures moves { HasMoved latch.0 word.old.0 self.old word.new.0 self.new }
     {
         let mine = self.found(latch);
         if mine.x == 0 {

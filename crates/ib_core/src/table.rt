@@ -1,12 +1,12 @@
 //! The table of the latch machine: which event does what in which phase, one function a row.
 
-ghost use Rattle.std.specs.Prelude.{◌≡◌, ◌+◌, ◌<◌, ◌≤◌, ◌^◌, vec_capacity};
-ghost use Rattle.ib_core.specs.declared.phase.Phase.TheVariants.{Free};
+ghost use Rattle.std.specs.Prelude.{◌≡◌, ◌+◌, ◌<◌, ◌≤◌, ◌^◌};
 ghost use Rattle.ib_core.specs.Actor.{HasRoom, session_of};
-ghost use Rattle.ib_core.specs.Member.{CanStep, SameSum};
+ghost use Rattle.ib_core.specs.Member.{CanStep};
+ghost use Rattle.ib_core.specs.Rows.{HasMoved, HasResponded, HasTurned, MayBegin, MayTurn};
 ghost use Rattle.ib_core.specs.Sessions.{holdings};
 ghost use Rattle.ib_core.specs.Responses.{answered, latch_of};
-ghost use Rattle.ib_core.specs.Table.{armed_row, asleep_row, checked_row, clear_marks, flag_marks, flagged_row, free_row, marks_after, next_armed_row, next_row, next_waits_row, owes_clear_row, owes_look_row, owes_raise_row, raised_by, response_of};
+ghost use Rattle.ib_core.specs.Table.{armed_row, asleep_row, checked_row, clear_marks, flag_marks, flagged_row, free_row, next_armed_row, next_row, next_waits_row, owes_clear_row, owes_look_row, owes_raise_row, raised_by};
 
 use crate::actor::Actor;
 use crate::event::{Answer, Event, Refusal};
@@ -20,16 +20,9 @@ impl Actor {
     // that nobody waits for come first.
     #[inline(always)]
     pub(crate) fn step(&mut self, word: &mut LockWord, marks: &mut Marks, event: Event) -> Answer
-        requires can { CanStep (latch_of event) word.old.0 (session_of self.old) }
-        requires room { HasRoom (latch_of event) self.old }
-        requires generation { marks.old.generation + 1 < 2 ^ 64 }
-        requires ex_generation { marks.old.ex_generation + 1 < 2 ^ 64 }
-        ensures responds { answered result (session_of self.new)
-            ≡ response_of word.old.0 marks.old event (session_of self.old) }
-        ensures marks { marks.new ≡ marks_after self.old.phase event marks.old }
-        ensures weighs { SameSum (latch_of event) word.old.0 (session_of self.old)
-            word.new.0 (session_of self.new) }
-        ensures capacity { vec_capacity self.old.held ≤ vec_capacity self.new.held }
+        requires { MayTurn event word.old.0 marks.old self.old }
+        ensures { HasTurned event word.old.0 marks.old self.old result
+            word.new.0 marks.new self.new }
     {
         match self.phase {
             Phase::Free => self.when_free(word, marks.generation, event),
@@ -50,16 +43,9 @@ impl Actor {
     // The same in any phase, by its row.
     #[inline(never)]
     fn step_in_phase(&mut self, word: &mut LockWord, marks: &mut Marks, event: Event) -> Answer
-        requires can { CanStep (latch_of event) word.old.0 (session_of self.old) }
-        requires room { HasRoom (latch_of event) self.old }
-        requires generation { marks.old.generation + 1 < 2 ^ 64 }
-        requires ex_generation { marks.old.ex_generation + 1 < 2 ^ 64 }
-        ensures responds { answered result (session_of self.new)
-            ≡ response_of word.old.0 marks.old event (session_of self.old) }
-        ensures marks { marks.new ≡ marks_after self.old.phase event marks.old }
-        ensures weighs { SameSum (latch_of event) word.old.0 (session_of self.old)
-            word.new.0 (session_of self.new) }
-        ensures capacity { vec_capacity self.old.held ≤ vec_capacity self.new.held }
+        requires { MayTurn event word.old.0 marks.old self.old }
+        ensures { HasTurned event word.old.0 marks.old self.old result
+            word.new.0 marks.new self.new }
     {
         if self.phase.is_elsewhere(event.latch()) {
             return Answer::Refused(Refusal::OutOfTurn);
@@ -116,14 +102,10 @@ impl Actor {
     // The events of a session that is in the middle of nothing.
     #[inline(always)]
     fn when_free(&mut self, word: &mut LockWord, generation: u64, event: Event) -> Answer
-        requires can { CanStep (latch_of event) word.old.0 (session_of self.old) }
-        requires free { self.old.phase ≡ Free }
-        requires room { HasRoom (latch_of event) self.old }
+        requires { MayBegin (latch_of event) word.old.0 self.old }
         ensures responds { answered result (session_of self.new)
             ≡ free_row word.old.0 generation event (session_of self.old) }
-        ensures weighs { SameSum (latch_of event) word.old.0 (session_of self.old)
-            word.new.0 (session_of self.new) }
-        ensures capacity { vec_capacity self.old.held ≤ vec_capacity self.new.held }
+        ensures moves { HasMoved (latch_of event) word.old.0 self.old word.new.0 self.new }
     {
         match event {
             Event::S { latch, level } => self.take_s(word, Latch(latch), level),
@@ -146,10 +128,9 @@ impl Actor {
         level: Level,
         generation: u64,
     ) -> Answer
-        ensures responds { answered result (session_of self.new)
-            ≡ armed_row mode level generation event (session_of self.old) }
+        ensures responds { HasResponded self.old result self.new
+            (armed_row mode level generation event (session_of self.old)) }
         ensures marks { marks.new ≡ flag_marks event marks.old }
-        ensures held { self.new.held ≡ self.old.held }
     {
         match event {
             Event::Flag { latch } => {
@@ -181,9 +162,7 @@ impl Actor {
         requires room { HasRoom (latch_of event) self.old }
         ensures responds { answered result (session_of self.new)
             ≡ flagged_row mode level generation word.old.0 event (session_of self.old) }
-        ensures weighs { SameSum (latch_of event) word.old.0 (session_of self.old)
-            word.new.0 (session_of self.new) }
-        ensures capacity { vec_capacity self.old.held ≤ vec_capacity self.new.held }
+        ensures moves { HasMoved (latch_of event) word.old.0 self.old word.new.0 self.new }
     {
         match event {
             Event::Again { latch } => {
@@ -209,9 +188,8 @@ impl Actor {
         level: Level,
         generation: u64,
     ) -> Answer
-        ensures responds { answered result (session_of self.new)
-            ≡ checked_row mode level generation now event (session_of self.old) }
-        ensures held { self.new.held ≡ self.old.held }
+        ensures { HasResponded self.old result self.new
+            (checked_row mode level generation now event (session_of self.old)) }
     {
         match event {
             Event::Quit { .. } => self.quit(),
@@ -228,9 +206,8 @@ impl Actor {
         level: Level,
         generation: u64,
     ) -> Answer
-        ensures responds { answered result (session_of self.new)
-            ≡ asleep_row mode level generation now event (session_of self.old) }
-        ensures held { self.new.held ≡ self.old.held }
+        ensures { HasResponded self.old result self.new
+            (asleep_row mode level generation now event (session_of self.old)) }
     {
         match event {
             Event::Sleep { latch } => {
@@ -249,9 +226,8 @@ impl Actor {
     // The events of a next writer.
     fn when_next(&mut self, word: LockWord, now: u64, event: Event, level: Level) -> Answer
         requires { holdings (latch_of event) (session_of self.old) ≤ 1 }
-        ensures responds { answered result (session_of self.new)
-            ≡ next_row level word.0 now event (session_of self.old) }
-        ensures held { self.new.held ≡ self.old.held }
+        ensures { HasResponded self.old result self.new
+            (next_row level word.0 now event (session_of self.old)) }
     {
         match event {
             Event::Ready { latch } => self.ready(word, Latch(latch), Phase::Next { latch, level }),
@@ -276,9 +252,8 @@ impl Actor {
         generation: u64,
     ) -> Answer
         requires { holdings (latch_of event) (session_of self.old) ≤ 1 }
-        ensures responds { answered result (session_of self.new)
-            ≡ next_armed_row level generation word.0 event (session_of self.old) }
-        ensures held { self.new.held ≡ self.old.held }
+        ensures { HasResponded self.old result self.new
+            (next_armed_row level generation word.0 event (session_of self.old)) }
     {
         match event {
             Event::Ready { latch } => {
@@ -295,9 +270,8 @@ impl Actor {
 
     // The events of a next writer that found readers, or that sleeps.
     fn when_next_waits(&mut self, now: u64, event: Event, level: Level, generation: u64) -> Answer
-        ensures responds { answered result (session_of self.new)
-            ≡ next_waits_row level generation now event (session_of self.old) }
-        ensures held { self.new.held ≡ self.old.held }
+        ensures { HasResponded self.old result self.new
+            (next_waits_row level generation now event (session_of self.old)) }
     {
         match event {
             Event::Sleep { latch } => {
@@ -315,9 +289,8 @@ impl Actor {
     // The events of a session that owes a look at the waiters flag.
     #[inline(always)]
     fn when_owes_look(&mut self, waiters: bool, event: Event) -> Answer
-        ensures responds { answered result (session_of self.new)
-            ≡ owes_look_row waiters event (session_of self.old) }
-        ensures held { self.new.held ≡ self.old.held }
+        ensures { HasResponded self.old result self.new
+            (owes_look_row waiters event (session_of self.old)) }
     {
         match event {
             Event::Look { latch } => {
@@ -334,10 +307,9 @@ impl Actor {
 
     // The events of a session that owes the clearing of the waiters flag.
     fn when_owes_clear(&mut self, marks: &mut Marks, event: Event) -> Answer
-        ensures responds { answered result (session_of self.new)
-            ≡ owes_clear_row marks.old.waiters event (session_of self.old) }
+        ensures responds { HasResponded self.old result self.new
+            (owes_clear_row marks.old.waiters event (session_of self.old)) }
         ensures marks { marks.new ≡ clear_marks event marks.old }
-        ensures held { self.new.held ≡ self.old.held }
     {
         match event {
             Event::Clear { latch } => {
@@ -357,10 +329,9 @@ impl Actor {
     // The events of a session that owes a raise of this generation.
     fn when_owes_raise(&mut self, generation: &mut u64, event: Event) -> Answer
         requires { generation.old + 1 < 2 ^ 64 }
-        ensures responds { answered result (session_of self.new)
-            ≡ owes_raise_row generation.old event (session_of self.old) }
+        ensures responds { HasResponded self.old result self.new
+            (owes_raise_row generation.old event (session_of self.old)) }
         ensures generation { generation.new ≡ raised_by event generation.old }
-        ensures held { self.new.held ≡ self.old.held }
     {
         match event {
             Event::Raise { .. } => {

@@ -1,11 +1,12 @@
 //! The events that take a grant.
 
-ghost use Rattle.std.specs.Prelude.{◌≡◌, ◌<◌, ◌≤◌, vec_capacity};
+ghost use Rattle.std.specs.Prelude.{◌≡◌, ◌<◌};
 ghost use Rattle.ib_core.specs.declared.event.Answer.TheVariants.{Refused};
 ghost use Rattle.ib_core.specs.declared.event.Refusal.TheVariants.{Against as AgainstLevels};
 ghost use Rattle.ib_core.specs.declared.phase.Phase.TheVariants.{Free};
-ghost use Rattle.ib_core.specs.Actor.{HasRoom, session_of};
-ghost use Rattle.ib_core.specs.Member.{CanStep, SameSum};
+ghost use Rattle.ib_core.specs.Actor.{session_of};
+ghost use Rattle.ib_core.specs.Member.{CanStep};
+ghost use Rattle.ib_core.specs.Rows.{HasMoved, MayBegin};
 ghost use Rattle.ib_core.specs.Sessions.{sx_grants, x_grants};
 ghost use Rattle.ib_core.specs.Takings.{taking_s, taking_sx, taking_x, upgrade};
 ghost use Rattle.ib_core.specs.Responses.{answered};
@@ -32,14 +33,10 @@ impl Answer {
 impl Actor {
     // S, where the session holds nothing on the latch (sync0rw, `rw_lock_s_lock_low`).
     pub(crate) fn take_s(&mut self, word: &mut LockWord, latch: Latch, level: Level) -> Answer
-        requires can { CanStep latch.0 word.old.0 (session_of self.old) }
-        requires free { self.old.phase ≡ Free }
-        requires room { HasRoom latch.0 self.old }
+        requires { MayBegin latch.0 word.old.0 self.old }
         ensures responds { answered result (session_of self.new)
             ≡ taking_s latch.0 level word.old.0 (session_of self.old) }
-        ensures weighs { SameSum latch.0 word.old.0 (session_of self.old)
-            word.new.0 (session_of self.new) }
-        ensures capacity { vec_capacity self.old.held ≤ vec_capacity self.new.held }
+        ensures moves { HasMoved latch.0 word.old.0 self.old word.new.0 self.new }
     {
         if self.holds(latch) {
             return Answer::Refused(Refusal::HeldAlready);
@@ -53,14 +50,10 @@ impl Actor {
     // SX: the owner of SX or X always has it, and takes HALF off the word with its first
     // (WL#6363, `rw_lock_sx_lock_low`).
     pub(crate) fn take_sx(&mut self, word: &mut LockWord, latch: Latch, level: Level) -> Answer
-        requires can { CanStep latch.0 word.old.0 (session_of self.old) }
-        requires free { self.old.phase ≡ Free }
-        requires room { HasRoom latch.0 self.old }
+        requires { MayBegin latch.0 word.old.0 self.old }
         ensures responds { answered result (session_of self.new)
             ≡ taking_sx latch.0 level word.old.0 (session_of self.old) }
-        ensures weighs { SameSum latch.0 word.old.0 (session_of self.old)
-            word.new.0 (session_of self.new) }
-        ensures capacity { vec_capacity self.old.held ≤ vec_capacity self.new.held }
+        ensures moves { HasMoved latch.0 word.old.0 self.old word.new.0 self.new }
     {
         let mine = self.grants(latch);
         if mine.s > 0 {
@@ -82,14 +75,10 @@ impl Actor {
     // X: its owner always has it, the owner of SX takes it or becomes the next writer, and so
     // does a newcomer where nobody has SX or X (sync0rw, `rw_lock_x_lock_low`).
     pub(crate) fn take_x(&mut self, word: &mut LockWord, latch: Latch, level: Level) -> Answer
-        requires can { CanStep latch.0 word.old.0 (session_of self.old) }
-        requires free { self.old.phase ≡ Free }
-        requires room { HasRoom latch.0 self.old }
+        requires { MayBegin latch.0 word.old.0 self.old }
         ensures responds { answered result (session_of self.new)
             ≡ taking_x latch.0 level word.old.0 (session_of self.old) }
-        ensures weighs { SameSum latch.0 word.old.0 (session_of self.old)
-            word.new.0 (session_of self.new) }
-        ensures capacity { vec_capacity self.old.held ≤ vec_capacity self.new.held }
+        ensures moves { HasMoved latch.0 word.old.0 self.old word.new.0 self.new }
     {
         let mine = self.grants(latch);
         if mine.s > 0 {
@@ -117,9 +106,7 @@ impl Actor {
         requires first { x_grants latch.0 (session_of self.old) ≡ 0 }
         ensures responds { answered result (session_of self.new)
             ≡ upgrade latch.0 level word.old.0 self.old.held.items }
-        ensures weighs { SameSum latch.0 word.old.0 (session_of self.old)
-            word.new.0 (session_of self.new) }
-        ensures capacity { vec_capacity self.old.held ≤ vec_capacity self.new.held }
+        ensures moves { HasMoved latch.0 word.old.0 self.old word.new.0 self.new }
     {
         let Some(after) = upgrade_x(*word) else {
             return Answer::Busy { word: *word };

@@ -1,17 +1,16 @@
-//! The events of a session that waits, and those of the signals that it owes.
+//! The events of a session that waits, and the word at which a next writer owns X.
 
-ghost use Rattle.std.specs.Prelude.{◌≡◌, ◌+◌, ◌<◌, ◌≤◌, ◌^◌, vec_capacity};
+ghost use Rattle.std.specs.Prelude.{◌≡◌, ◌≤◌};
 ghost use Rattle.ib_core.specs.declared.event.Answer.TheVariants.{Quit as WaitsNoMore};
 ghost use Rattle.ib_core.specs.declared.phase.Phase.TheVariants.{Free};
 ghost use Rattle.ib_core.specs.Actor.{session_of};
 ghost use Rattle.ib_core.specs.Sessions.{holdings};
-ghost use Rattle.ib_core.specs.Responses.{answered};
-ghost use Rattle.ib_core.specs.Table.{arming, owes_clear_row, owes_look_row, owns_x_at, readying, sleeping};
+ghost use Rattle.ib_core.specs.Rows.{HasResponded};
+ghost use Rattle.ib_core.specs.Table.{arming, owns_x_at, readying, sleeping};
 
 use crate::actor::Actor;
-use crate::event::{Answer, Event, Refusal};
+use crate::event::{Answer, Refusal};
 use crate::phase::Phase;
-use crate::session::Marks;
 use ib_levels::{Latch, Level, Mode};
 use ib_word::{LockWord, X_LOCK_HALF_DECR};
 
@@ -30,9 +29,8 @@ impl Actor {
     // Records the generation, before it waits for a grant of the mode (sync0arr,
     // `sync_array_reserve_cell`).
     pub(crate) fn arm(&mut self, latch: Latch, mode: Mode, level: Level, generation: u64) -> Answer
-        ensures responds { answered result (session_of self.new)
-            ≡ arming latch.0 mode level generation (session_of self.old) }
-        ensures held { self.new.held ≡ self.old.held }
+        ensures { HasResponded self.old result self.new
+            (arming latch.0 mode level generation (session_of self.old)) }
     {
         if self.holds(latch) {
             return Answer::Refused(Refusal::HeldAlready);
@@ -52,9 +50,8 @@ impl Actor {
     // Goes to sleep, or sleeps on, where this generation is the recorded one, and else is awake
     // (sync0arr, `sync_array_wait_event`).
     pub(crate) fn sleep(&mut self, now: u64, recorded: u64, asleep: Phase, awake: Phase) -> Answer
-        ensures responds { answered result (session_of self.new)
-            ≡ sleeping now recorded asleep awake (session_of self.old) }
-        ensures held { self.new.held ≡ self.old.held }
+        ensures { HasResponded self.old result self.new
+            (sleeping now recorded asleep awake (session_of self.old)) }
     {
         if now == recorded {
             self.phase = asleep;
@@ -69,9 +66,8 @@ impl Actor {
     // `rw_lock_x_lock_wait`).
     pub(crate) fn ready(&mut self, word: LockWord, latch: Latch, waiting: Phase) -> Answer
         requires { holdings latch.0 (session_of self.old) ≤ 1 }
-        ensures responds { answered result (session_of self.new)
-            ≡ readying latch.0 waiting word.0 (session_of self.old) }
-        ensures held { self.new.held ≡ self.old.held }
+        ensures { HasResponded self.old result self.new
+            (readying latch.0 waiting word.0 (session_of self.old)) }
     {
         if owns_x_at(u64::from(self.grants(latch).sx), word) {
             self.phase = Phase::Free;

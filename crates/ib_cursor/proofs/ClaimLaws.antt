@@ -22,8 +22,8 @@ use Rattle.ib_mtr.specs.Loads.{HasLooked, HasLoadedPage}
 use Rattle.ib_cursor.specs.Claims.{claim_grant}
 use Rattle.ib_mtr.specs.Mtr.{released_at, IsReleasedAt}
 use Rattle.ib_cursor.specs.Grants.{Grant, memo_of, hold_of, HasGrants, IsAway}
-use Rattle.ib_cursor.specs.Shapes.{is_claimed, AreSingle, KeepsClaim, HasGlanced}
-use Rattle.ib_cursor.proofs.StandLaws.{seen_by, seen_loaded}
+use Rattle.ib_cursor.specs.Shapes.{is_claimed, AreSingle, KeepsClaim, HasLookedOn}
+use Rattle.ib_cursor.proofs.LatchingLaws.{seen_by, seen_loaded}
 use Rattle.ib_cursor.proofs.GrantLaws.{released_is}
 
 last-no : (a b st t : Bool) → t ≡ true → (a || (b || (st && t))) ≡ false → st ≡ false
@@ -70,8 +70,8 @@ started-by a n ss none is =
     ∙ (ap (λ b. is_claimed (cond b [] (record { latch = 1; claims = nat_lt 0 (claims 1 a); place = n } ∷ []))) none
     ∙ ap (λ c. (c && true) || false) (claims-of a is))
 
-pub glanced_by : (sizes : Sizes) (lawful : List Entry → Type 0) (opening : ℕ → ℕ) (p q : PassState) → p.view.role ≡ SessionRole p.number → HasLooked sizes lawful opening p q → HasGlanced sizes lawful p q
-glanced_by sizes lawful opening p q role look = record {
+pub looked_on_by : (sizes : Sizes) (lawful : List Entry → Type 0) (opening : ℕ → ℕ) (p q : PassState) → p.view.role ≡ SessionRole p.number → HasLooked sizes lawful opening p q → HasLookedOn sizes lawful p q
+looked_on_by sizes lawful opening p q role look = record {
   seen = seen_by sizes lawful opening p q role look;
   keeps = λ is. record {
     more = look.looked.others;
@@ -82,8 +82,8 @@ glanced_by sizes lawful opening p q role look = record {
   };
 }
 
-pub glanced_loaded : (sizes : Sizes) (lawful : List Entry → Type 0) (opening : ℕ → ℕ) (page : ℕ) (p q : PassState) → p.view.role ≡ SessionRole p.number → HasLoadedPage sizes lawful opening page p q → HasGlanced sizes lawful p q
-glanced_loaded sizes lawful opening page p q role load = record {
+pub looked_on_loaded : (sizes : Sizes) (lawful : List Entry → Type 0) (opening : ℕ → ℕ) (page : ℕ) (p q : PassState) → p.view.role ≡ SessionRole p.number → HasLoadedPage sizes lawful opening page p q → HasLookedOn sizes lawful p q
+looked_on_loaded sizes lawful opening page p q role load = record {
   seen = seen_loaded sizes lawful opening page p q role load;
   keeps = λ is. record {
     more = load.looked.others;

@@ -18,16 +18,16 @@ use Rattle.ib_walk.specs.Trees.{height_of}
 use Rattle.ib_walk.proofs.ChoiceLaws.{Some-same}
 use Rattle.ib_tree.specs.Logs.{pages_after}
 use Rattle.ib_mtr.specs.Mtr.{IsReleasedAt}
-use Rattle.ib_cursor.specs.Way.{IsOnWay}
+use Rattle.ib_cursor.specs.OnPath.{IsOnPath}
 use Rattle.ib_cursor.specs.Grants.{index_grant, page_grant, HasGrants, HasTaken}
 use Rattle.ib_cursor.specs.Going.{WentOn, HasSeen}
 use Rattle.ib_cursor.specs.Modes.{mode_by}
-use Rattle.ib_cursor.specs.Descent.{IsAt, IsDown, WasRaised, one_if, HasPage, HasCome, HasDescended}
-use Rattle.ib_cursor.proofs.WayLaws.{leaf_on-way}
-use Rattle.ib_cursor.proofs.StandLaws.{went_beside, went_both, known_beside, beside_taken, looked_first, looked_then}
+use Rattle.ib_cursor.specs.Descent.{IsAt, IsDown, WasRaised, one_if, HasPage, HasReached, HasDescended}
+use Rattle.ib_cursor.proofs.OnPathLaws.{leaf_on-path}
+use Rattle.ib_cursor.proofs.LatchingLaws.{went_beside, went_both, known_beside, beside_taken, looked_first, looked_then}
 use Rattle.ib_cursor.proofs.GrantLaws.{HasGiven, last_held, given, grants_left}
 use Rattle.ib_cursor.specs.Laws.{Laws}
-use Rattle.ib_cursor.proofs.LogLaws.{IsWayImage, way_image, way_stays}
+use Rattle.ib_cursor.proofs.LogLaws.{IsPathImage, path_image, path_stays}
 
 -- a grant of S, or of X where the flag is set
 grant-s : (b : Bool) (g : Grants) → (with_grant (Some (mode_by b)) g).s ≡ g.s + one_if (not b)
@@ -216,12 +216,12 @@ module _ (sizes : Sizes) (lawful : List Entry → Type 0) (opening : ℕ → ℕ
   left : HasGrants (page_grant leaf down.mode ∷ []) r
   left = grants_left [] index_grant (page_grant leaf down.mode ∷ []) q r down.here.grants tt ((λ e. absurd (omega arith)), tt) release
 
-  pub come_work : r.work ≡ []
-  come_work = gave.work down.here.work
+  pub reached_work : r.work ≡ []
+  reached_work = gave.work down.here.work
 
-  pub come : (front path : List ℕ) → above ≡ length front → path ≡ front ++ leaf ∷ [] → HasCome sizes lawful opening root key exclusive path p r
-  come front path many is =
-      let way = subst (λ l. IsOnWay (pages_after opening l) root key leaf 0) (sym gave.beside.seen) down.here.way in
+  pub reached : (front path : List ℕ) → above ≡ length front → path ≡ front ++ leaf ∷ [] → HasReached sizes lawful opening root key exclusive path p r
+  reached front path many is =
+      let on_path = subst (λ l. IsOnPath (pages_after opening l) root key leaf 0) (sym gave.beside.seen) down.here.on_path in
       let gs : r.view.grants.s ≡ q.view.grants.s = ap (λ (g : Grants). g.s) gave.grants in
       let gsx : r.view.grants.sx ≡ q.view.grants.sx = ap (λ (g : Grants). g.sx) gave.grants in
       let gx : r.view.grants.x ≡ q.view.grants.x = ap (λ (g : Grants). g.x) gave.grants in
@@ -230,7 +230,7 @@ module _ (sizes : Sizes) (lawful : List Entry → Type 0) (opening : ℕ → ℕ
         leaf = leaf;
         front = front;
         ends = is;
-        is_leaf = leaf_on-way (pages_after opening r.view.memory.seen) root key leaf way;
+        is_leaf = leaf_on-path (pages_after opening r.view.memory.seen) root key leaf on_path;
         grants = subst (λ m. HasGrants (page_grant leaf m ∷ []) r) mode-is left;
         watched = gave.watched (leaf + 2) (λ e. absurd (omega arith)) ∙ down.here.watched;
         went = went_both p q r down.went (went_beside q r gave.beside);
@@ -250,42 +250,42 @@ module _ (sizes : Sizes) (lawful : List Entry → Type 0) (opening : ℕ → ℕ
 
 -- what is known of the leaf, and what its load or a search in it leaves
 module _ (sizes : Sizes) (roots : ℕ) (lawful : List Entry → Type 0) (opening : ℕ → ℕ) (laws : Laws sizes.pages roots lawful opening) (root : ℕ) (some : 0 < root) (le : root ≤ roots) (key : MapKey) (lt : rank key < end_rank)
-    (exclusive : Bool) (path : List ℕ) (p q : PassState) (come : HasCome sizes lawful opening root key exclusive path p q) where
-  pub leaf_held : 0 < holdings (come.leaf + 2) q.view.session
-  leaf_held = last_held [] (page_grant come.leaf (mode_by exclusive)) q come.grants
+    (exclusive : Bool) (path : List ℕ) (p q : PassState) (reached : HasReached sizes lawful opening root key exclusive path p q) where
+  pub leaf_held : 0 < holdings (reached.leaf + 2) q.view.session
+  leaf_held = last_held [] (page_grant reached.leaf (mode_by exclusive)) q reached.grants
 
-  pub leaf_way : IsOnWay (pages_after opening q.view.memory.seen) root key come.leaf 0
-  leaf_way = record { depth = height_of (pages_after opening q.view.memory.seen) root; height = omega arith; below = sym come.is_leaf }
+  pub leaf_path : IsOnPath (pages_after opening q.view.memory.seen) root key reached.leaf 0
+  leaf_path = record { depth = height_of (pages_after opening q.view.memory.seen) root; height = omega arith; below = sym reached.is_leaf }
 
-  pub leaf_image : IsWayImage sizes.pages (memory_after opening q.view.memory.seen) key come.leaf 0
-  leaf_image = way_image sizes.pages roots lawful opening laws root some le key lt q.view.memory.seen come.leaf 0 come.known.legal leaf_way
+  pub leaf_image : IsPathImage sizes.pages (memory_after opening q.view.memory.seen) key reached.leaf 0
+  leaf_image = path_image sizes.pages roots lawful opening laws root some le key lt q.view.memory.seen reached.leaf 0 reached.known.legal leaf_path
 
-  pub descended : (s : PassState) → q.work ≡ [] → HasSeen sizes lawful q s → s.memo ≡ q.memo → s.view.session ≡ q.view.session → s.view.grants ≡ q.view.grants → HasPage opening come.leaf q s
+  pub descended : (s : PassState) → q.work ≡ [] → HasSeen sizes lawful q s → s.memo ≡ q.memo → s.view.session ≡ q.view.session → s.view.grants ≡ q.view.grants → HasPage opening reached.leaf q s
       → HasDescended sizes lawful opening root key exclusive path p s
   descended s none seen memo session grants loaded =
       let legal = subst lawful seen.went.seen seen.known.legal in
-      let on = way_stays sizes.pages roots lawful opening laws root some le key lt q.view.memory.seen seen.went.more come.leaf 0 legal (seen.steady come.leaf come.watched) leaf_way in
-      let end = subst (λ l. IsOnWay (pages_after opening l) root key come.leaf 0) (sym seen.went.seen) on in
-      let held : HasGrants (page_grant come.leaf (mode_by exclusive) ∷ []) s = record { memo = memo ∙ come.grants.memo; session = session ∙ come.grants.session } in
+      let on = path_stays sizes.pages roots lawful opening laws root some le key lt q.view.memory.seen seen.went.more reached.leaf 0 legal (seen.steady reached.leaf reached.watched) leaf_path in
+      let end = subst (λ l. IsOnPath (pages_after opening l) root key reached.leaf 0) (sym seen.went.seen) on in
+      let held : HasGrants (page_grant reached.leaf (mode_by exclusive) ∷ []) s = record { memo = memo ∙ reached.grants.memo; session = session ∙ reached.grants.session } in
       let gs : s.view.grants.s ≡ q.view.grants.s = ap (λ (g : Grants). g.s) grants in
       let gsx : s.view.grants.sx ≡ q.view.grants.sx = ap (λ (g : Grants). g.sx) grants in
       let gx : s.view.grants.x ≡ q.view.grants.x = ap (λ (g : Grants). g.x) grants in
       record {
-        come = record {
-          leaf = come.leaf;
-          front = come.front;
-          ends = come.ends;
-          is_leaf = leaf_on-way (pages_after opening s.view.memory.seen) root key come.leaf end;
+        reached = record {
+          leaf = reached.leaf;
+          front = reached.front;
+          ends = reached.ends;
+          is_leaf = leaf_on-path (pages_after opening s.view.memory.seen) root key reached.leaf end;
           grants = held;
-          watched = seen.watched (come.leaf + 2) (last_held [] (page_grant come.leaf (mode_by exclusive)) s held);
-          went = went_both p q s come.went seen.went;
-          looked = looked_first p q s come.went seen.went come.looked;
+          watched = seen.watched (reached.leaf + 2) (last_held [] (page_grant reached.leaf (mode_by exclusive)) s held);
+          went = went_both p q s reached.went seen.went;
+          looked = looked_first p q s reached.went seen.went reached.looked;
           known = seen.known;
-          sx = gsx ∙ come.sx;
-          finds = λ e. let f = come.finds e in let f0 = f.0 in let f1 = f.1 in (omega arith, omega arith);
-          s = let t = come.s in omega arith;
-          changes = λ e. let t = come.changes e in omega arith;
-          x = λ e. elim (come.x e) [
+          sx = gsx ∙ reached.sx;
+          finds = λ e. let f = reached.finds e in let f0 = f.0 in let f1 = f.1 in (omega arith, omega arith);
+          s = let t = reached.s in omega arith;
+          changes = λ e. let t = reached.changes e in omega arith;
+          x = λ e. elim (reached.x e) [
             | inl y ↦ inl (let y1 : q.view.grants.x ≡ p.view.grants.x + 1 = y in omega arith)
             | inr y ↦ inr (let y1 : q.view.grants.x ≡ p.view.grants.x + 2 = y.0 in omega arith, raised_more opening root p.view.memory.seen q.view.memory.seen seen.went.more s.view.memory.seen seen.went.seen y.1)
           ];
@@ -293,7 +293,7 @@ module _ (sizes : Sizes) (roots : ℕ) (lawful : List Entry → Type 0) (opening
         image = loaded.image;
         size = loaded.size;
         is_page = loaded.is_page;
-        work = loaded.work ∙ ap (with_read come.leaf loaded.image) none;
+        work = loaded.work ∙ ap (with_read reached.leaf loaded.image) none;
       }
 
 -- the last page of a path

@@ -19,26 +19,26 @@ use Rattle.ib_walk.specs.Search.{child_for}
 use Rattle.ib_walk.specs.Trees.{height_of, weight_of, IsTreeOf}
 use Rattle.ib_walk.specs.Words.{bits_of}
 use Rattle.ib_walk.proofs.TreeLaws.{weight_of-le}
-use Rattle.ib_plans.specs.Agreement.{way_down, way_of}
+use Rattle.ib_plans.specs.Agreement.{path_down, path_of}
 use Rattle.ib_tree.specs.Logs.{HasRange, pages_after}
 use Rattle.ib_tree.specs.PageLists.{is_listed, AreOnce}
-use Rattle.ib_cursor.specs.Way.{IsOnWay}
+use Rattle.ib_cursor.specs.OnPath.{IsOnPath}
 use Rattle.std.proofs.lemmas.List.Elements.{All-nil, All-cons, All-head, All-tail}
 use Rattle.ib_levels.specs.declared.level.Mode.TheVariants.{Sx}
 use Rattle.ib_rule.specs.declared.looks.Grants.{Grants}
 use Rattle.ib_cursor.specs.Grants.{HasGrants}
-use Rattle.ib_cursor.specs.Claims.{beside, claim_grant, IsAsRead, HasClaimed, IsWayWithLeaves}
-use Rattle.ib_cursor.specs.Going.{IsKnown, HasStood}
-use Rattle.ib_cursor.specs.Shapes.{ShapeLaws, KeepsClaim, is_claimed, HasIndex, HasReadWay}
+use Rattle.ib_cursor.specs.Claims.{beside, claim_grant, IsAsRead, HasClaimed, IsPathWithLeaves}
+use Rattle.ib_cursor.specs.Going.{IsKnown, HasLatched}
+use Rattle.ib_cursor.specs.Shapes.{ShapeLaws, KeepsClaim, is_claimed, HasIndex, HasReadPath}
 use Rattle.ib_cursor.specs.Takings.{is_loaded, IsHeldPage, HoldsClaimed, WillTake, HasTakenMore, MayTakeLeaves}
-use Rattle.ib_cursor.proofs.WayLaws.{met_on-way, page_on-way, child_on-way, root_on-way}
+use Rattle.ib_cursor.proofs.OnPathLaws.{met_on-path, page_on-path, child_on-path, root_on-path}
 use Rattle.ib_cursor.proofs.NextLaws.{leaf-met}
-use Rattle.ib_cursor.proofs.LogLaws.{tree_of-log, bit_inside, way_image}
+use Rattle.ib_cursor.proofs.LogLaws.{tree_of-log, bit_inside, path_image}
 use Rattle.ib_cursor.proofs.ShapeLaws.{HasLinks, single_links}
-use Rattle.ib_cursor.proofs.StandLaws.{went_both, looked_first}
+use Rattle.ib_cursor.proofs.LatchingLaws.{went_both, looked_first}
 use Rattle.ib_cursor.proofs.GrantLaws.{grants_more}
 use Rattle.ib_cursor.proofs.ClaimLaws.{keeps_both}
-use Rattle.ib_cursor.proofs.PeekLaws.{keeps_way}
+use Rattle.ib_cursor.proofs.LinkReadLaws.{keeps_on_path}
 use Rattle.ib_cursor.proofs.ReadLaws.{keeps_path}
 use Rattle.ib_cursor.proofs.TakeLaws.{more_both, will_rest, beside_few}
 use Rattle.ib_cursor.proofs.OnceLaws.{AreBeside, are_beside}
@@ -76,7 +76,7 @@ wider : (m : PageMemory) (a b : ℕ) (ps : List ℕ) → a ≤ b → AllByRecurs
 wider m a b [] le low = tt
 wider m a b (p ∷ ps) le low = (let l = low.0 in omega arith, wider m a b ps le low.1)
 
-one-or_more : (m : PageMemory) (key : MapKey) (level page : ℕ) → 1 ≤ length (way_down m key level page)
+one-or_more : (m : PageMemory) (key : MapKey) (level page : ℕ) → 1 ≤ length (path_down m key level page)
 one-or_more m key zero page = omega arith
 one-or_more m key (suc level) page = omega arith
 
@@ -98,12 +98,12 @@ holds_none sizes lawful opening p index = record {
 
 module _ (sizes : Sizes) (roots : ℕ) (lawful : List Entry → Type 0) (opening : ℕ → ℕ) (shape : ShapeLaws sizes.pages roots lawful opening) (root : ℕ) (some : 0 < root) (le : root ≤ roots) (key : MapKey) (lt : rank key < end_rank) where
   -- a leaf's links stay
-  pub keeps_links : (p q : PassState) → IsKnown sizes lawful q → KeepsClaim p q → (leaf : ℕ) → IsOnWay (pages_after opening p.view.memory.seen) root key leaf 0
+  pub keeps_links : (p q : PassState) → IsKnown sizes lawful q → KeepsClaim p q → (leaf : ℕ) → IsOnPath (pages_after opening p.view.memory.seen) root key leaf 0
       → HasLinks (pages_after opening p.view.memory.seen) (pages_after opening q.view.memory.seen) leaf
   keeps_links p q known k leaf o =
       let m : PageMemory = pages_after opening p.view.memory.seen in
       let legal = subst lawful k.seen known.legal in
-      let a = met_on-way m root (tree_of-log sizes.pages roots lawful opening shape.laws root some le p.view.memory.seen (shape.laws.begins p.view.memory.seen k.more legal)) key lt leaf 0 o in
+      let a = met_on-path m root (tree_of-log sizes.pages roots lawful opening shape.laws root some le p.view.memory.seen (shape.laws.begins p.view.memory.seen k.more legal)) key lt leaf 0 o in
       let r : PageRange = record { root = root; low = a.visit.low; end = a.visit.high; level = 0 } in
       let same : a.visit ≡ record { page = leaf; low = a.visit.low; high = a.visit.high } = ap (λ (n : ℕ). let w : Visit = record { page = n; low = a.visit.low; high = a.visit.high } in w) a.here in
       let met : HasRange roots m leaf r = (some, le, subst (λ u. 0 < weight_of (counts_visit 0 u) m root) same a.met) in
@@ -116,11 +116,11 @@ module _ (sizes : Sizes) (roots : ℕ) (lawful : List Entry → Type 0) (opening
     tree : IsTreeOf m (height_of m root) root
     tree = tree_of-log sizes.pages roots lawful opening shape.laws root some le log legal
 
-    level-is : (page level : ℕ) → IsOnWay m root key page level → (m page).level ≡ level
-    level-is page level o = (page_on-way m root key page level tree lt o).height
+    level-is : (page level : ℕ) → IsOnPath m root key page level → (m page).level ≡ level
+    level-is page level o = (page_on-path m root key page level tree lt o).height
 
-    inside : (page level : ℕ) → IsOnWay m root key page level → page < sizes.pages
-    inside page level o = (way_image sizes.pages roots lawful opening shape.laws root some le key lt log page level legal o).there
+    inside : (page level : ℕ) → IsOnPath m root key page level → page < sizes.pages
+    inside page level o = (path_image sizes.pages roots lawful opening shape.laws root some le key lt log page level legal o).there
 
     pub inside-met : (page : ℕ) → 1 ≤ weight_of (counts_page page) m root → page < sizes.pages
     inside-met page one =
@@ -128,13 +128,13 @@ module _ (sizes : Sizes) (roots : ℕ) (lawful : List Entry → Type 0) (opening
         let law = (shape.laws.memory log legal).law.met page in
         bit_inside sizes.pages (memory_after opening log) page (let e : weight_of (counts_page page) m root ≡ weight_of (counts_page page) (pages_after opening log) root = refl in omega (arith, one, all, law))
 
-    pub beside-leaf : (leaf : ℕ) → IsOnWay m root key leaf 0 → AreBeside m root leaf
+    pub beside-leaf : (leaf : ℕ) → IsOnPath m root key leaf 0 → AreBeside m root leaf
     beside-leaf leaf o =
-        let a = met_on-way m root tree key lt leaf 0 o in
+        let a = met_on-path m root tree key lt leaf 0 o in
         are_beside m (bits_of sizes.pages (memory_after opening log)) roots root (shape.laws.memory log legal).law some le leaf a.visit a.here (leaf-met m root a.visit a.met)
 
     -- the pages of the leaf level
-    leaves-once : (leaf : ℕ) → IsOnWay m root key leaf 0 → AreOnce (beside (m leaf).prev ++ leaf ∷ beside (m leaf).next) sizes.pages × AllByRecursion (λ n. (m n).level ≤ 0) (beside (m leaf).prev ++ leaf ∷ beside (m leaf).next)
+    leaves-once : (leaf : ℕ) → IsOnPath m root key leaf 0 → AreOnce (beside (m leaf).prev ++ leaf ∷ beside (m leaf).next) sizes.pages × AllByRecursion (λ n. (m n).level ≤ 0) (beside (m leaf).prev ++ leaf ∷ beside (m leaf).next)
     leaves-once leaf o = by_left (cases_eq (m leaf).prev 0)
       where
         right : AreOnce (leaf ∷ beside (m leaf).next) sizes.pages × AllByRecursion (λ n. (m n).level ≤ 0) (leaf ∷ beside (m leaf).next)
@@ -174,98 +174,98 @@ module _ (sizes : Sizes) (roots : ℕ) (lawful : List Entry → Type 0) (opening
             subst (λ ps. AreOnce (ps ++ leaf ∷ beside (m leaf).next) sizes.pages × AllByRecursion (λ n. (m n).level ≤ 0) (ps ++ leaf ∷ beside (m leaf).next)) (sym e)
             ((inside-met (m leaf).prev b.0, none-right (m leaf).prev b.1 ((beside-leaf leaf o).apart ne), right.0), (let l = b.2 in omega arith, right.1))
 
-    -- .. behind the nodes of the way
-    nodes-once : (level page : ℕ) → IsOnWay m root key page level → (tail : List ℕ) → AreOnce tail sizes.pages → AllByRecursion (λ n. (m n).level ≤ 0) tail → (front : List ℕ) (leaf : ℕ) → way_down m key level page ≡ front ++ leaf ∷ []
+    -- .. behind the nodes of the path
+    nodes-once : (level page : ℕ) → IsOnPath m root key page level → (tail : List ℕ) → AreOnce tail sizes.pages → AllByRecursion (λ n. (m n).level ≤ 0) tail → (front : List ℕ) (leaf : ℕ) → path_down m key level page ≡ front ++ leaf ∷ []
         → AreOnce (front ++ tail) sizes.pages × AllByRecursion (λ n. (m n).level ≤ level) (front ++ tail)
     nodes-once zero page o tail once low [] leaf is = (once, low)
     nodes-once zero page o tail once low (x ∷ xs) leaf is = absurd (let a = ap length is in let b = length-append xs (leaf ∷ []) in omega arith)
     nodes-once (suc level) page o tail once low [] leaf is = absurd (let a = ap length is in let b = one-or_more m key level (child_for key 0 (m page).records) in omega arith)
     nodes-once (suc level) page o tail once low (x ∷ xs) leaf is =
         let first : page ≡ x = ap first-of is in
-        let r = nodes-once level (child_for key 0 (m page).records) (child_on-way m root key page level o) tail once low xs leaf (ap others-of is) in
+        let r = nodes-once level (child_for key 0 (m page).records) (child_on-path m root key page level o) tail once low xs leaf (ap others-of is) in
         let at = level-is page (suc level) o in
         subst (λ n. AreOnce (n ∷ xs ++ tail) sizes.pages × AllByRecursion (λ n. (m n).level ≤ suc level) (n ∷ xs ++ tail)) first
         ((inside page (suc level) o, none-lower m level page (xs ++ tail) at r.1, r.0), (omega (arith, at), wider m level (suc level) (xs ++ tail) (omega arith) r.1))
 
     -- the whole list that is to be held
-    pub all_once : (path front : List ℕ) (leaf : ℕ) → path ≡ way_of m key root → path ≡ front ++ leaf ∷ [] → IsOnWay m root key leaf 0 → AreOnce (front ++ (beside (m leaf).prev ++ leaf ∷ beside (m leaf).next)) sizes.pages
-    all_once path front leaf way ends o =
+    pub all_once : (path front : List ℕ) (leaf : ℕ) → path ≡ path_of m key root → path ≡ front ++ leaf ∷ [] → IsOnPath m root key leaf 0 → AreOnce (front ++ (beside (m leaf).prev ++ leaf ∷ beside (m leaf).next)) sizes.pages
+    all_once path front leaf on_path ends o =
         let l = leaves-once leaf o in
-        (nodes-once (height_of m root) root (root_on-way m root key) (beside (m leaf).prev ++ leaf ∷ beside (m leaf).next) l.0 l.1 front leaf (sym way ∙ ends)).0
+        (nodes-once (height_of m root) root (root_on-path m root key) (beside (m leaf).prev ++ leaf ∷ beside (m leaf).next) l.0 l.1 front leaf (sym on_path ∙ ends)).0
 
-  -- how long a way is that was read
-  pub way_long : (path : List ℕ) (leaf left : ℕ) (p q : PassState) → HasReadWay sizes lawful opening root key path leaf left p q → (length path ≤ 8) × (length path - 1 + 1 ≡ length path)
-  way_long path leaf left p q way = let a = way.short in let b = ap length way.ends in let d = length-append way.front (leaf ∷ []) in (omega arith, omega arith)
+  -- how long a path is that was read
+  pub path_long : (path : List ℕ) (leaf left : ℕ) (p q : PassState) → HasReadPath sizes lawful opening root key path leaf left p q → (length path ≤ 8) × (length path - 1 + 1 ≡ length path)
+  path_long path leaf left p q on_path = let a = on_path.short in let b = ap length on_path.ends in let d = length-append on_path.front (leaf ∷ []) in (omega arith, omega arith)
 
   -- the whole search, step by step
-  module _ (path : List ℕ) (leaf left : ℕ) (p q r s t : PassState) (idle : HasGrants [] p) (none : p.work ≡ []) (stood : HasStood sizes lawful claim_grant p q) (claimed : is_claimed q.view.memory.since ≡ true) where
+  module _ (path : List ℕ) (leaf left : ℕ) (p q r s t : PassState) (idle : HasGrants [] p) (none : p.work ≡ []) (latched : HasLatched sizes lawful claim_grant p q) (claimed : is_claimed q.view.memory.since ≡ true) where
     pub start_index : HasIndex sizes lawful q
-    start_index = record { grants = grants_more [] claim_grant p q idle stood.memo stood.session; claimed = claimed; work = stood.work ∙ none; known = stood.seen.known }
+    start_index = record { grants = grants_more [] claim_grant p q idle latched.memo latched.session; claimed = claimed; work = latched.work ∙ none; known = latched.seen.known }
 
-    module _ (way : HasReadWay sizes lawful opening root key path leaf left q r) where
-      pub will_nodes : WillTake sizes lawful opening [] (way.front ++ (beside left ++ leaf ∷ beside (pages_after opening r.view.memory.seen leaf).next)) r
+    module _ (on_path : HasReadPath sizes lawful opening root key path leaf left q r) where
+      pub will_nodes : WillTake sizes lawful opening [] (on_path.front ++ (beside left ++ leaf ∷ beside (pages_after opening r.view.memory.seen leaf).next)) r
       will_nodes = record {
-        holds = holds_none sizes lawful opening r way.index;
-        once = subst (λ l. AreOnce (way.front ++ (beside l ++ leaf ∷ beside (pages_after opening r.view.memory.seen leaf).next)) sizes.pages) (sym way.left_of)
-            (all_once r.view.memory.seen way.index.known.legal path way.front leaf way.way way.ends way.lowest);
-        few = let a = way.short in let b = beside_few left in let c = beside_few (pages_after opening r.view.memory.seen leaf).next in
-            let d = length-append way.front (beside left ++ leaf ∷ beside (pages_after opening r.view.memory.seen leaf).next) in
+        holds = holds_none sizes lawful opening r on_path.index;
+        once = subst (λ l. AreOnce (on_path.front ++ (beside l ++ leaf ∷ beside (pages_after opening r.view.memory.seen leaf).next)) sizes.pages) (sym on_path.left_of)
+            (all_once r.view.memory.seen on_path.index.known.legal path on_path.front leaf on_path.on_path on_path.ends on_path.lowest);
+        few = let a = on_path.short in let b = beside_few left in let c = beside_few (pages_after opening r.view.memory.seen leaf).next in
+            let d = length-append on_path.front (beside left ++ leaf ∷ beside (pages_after opening r.view.memory.seen leaf).next) in
             let e = length-append (beside left) (leaf ∷ beside (pages_after opening r.view.memory.seen leaf).next) in omega arith;
       }
 
       -- these pages are held behind the claimed index
       pub claimed_with : (held : List ℕ) (u : PassState) → HasTakenMore sizes lawful opening [] held r u → HasClaimed sizes lawful opening root key path held p u
       claimed_with held u more =
-          let g1 : q.view.grants ≡ with_grant (Some Sx) p.view.grants = stood.grants in
+          let g1 : q.view.grants ≡ with_grant (Some Sx) p.view.grants = latched.grants in
           let s1 = ap (λ (g : Grants). g.s) g1 in let sx1 = ap (λ (g : Grants). g.sx) g1 in let x1 = ap (λ (g : Grants). g.x) g1 in
-          let s2 = way.s in let sx2 = way.sx in let x2 = way.x in let s3 = more.s in let sx3 = more.sx in let x3 = more.x in
-          let later = went_both q r u way.went more.went in
+          let s2 = on_path.s in let sx2 = on_path.sx in let x2 = on_path.x in let s3 = more.s in let sx3 = more.sx in let x3 = more.x in
+          let later = went_both q r u on_path.went more.went in
           record {
-            way = way.way ∙ sym (keeps_path sizes roots lawful opening shape root some le key lt r u more.holds.known more.keeps);
+            on_path = on_path.on_path ∙ sym (keeps_path sizes roots lawful opening shape root some le key lt r u more.holds.known more.keeps);
             grants = more.holds.grants;
             claimed = claimed_watched u.view.memory.since more.holds.claimed;
             watched = more.holds.watched;
             there = λ page. ((λ i. sym (more.holds.loaded page) ∙ (loaded_some page u.work).0 i), (λ e. (loaded_some page u.work).1 (more.holds.loaded page ∙ e)));
             count = more.holds.count;
             read = all-read (IsHeldPage opening u) (IsAsRead opening u.view.memory.seen) u.work (λ w h. h.read) more.holds.read;
-            went = went_both p q u stood.seen.went later;
-            looked = looked_first p q u stood.seen.went later stood.seen.looked;
+            went = went_both p q u latched.seen.went later;
+            looked = looked_first p q u latched.seen.went later latched.seen.looked;
             known = more.holds.known;
             s = omega arith;
             sx = omega arith;
             x = omega arith;
           }
 
-      module _ (nodes : HasTakenMore sizes lawful opening [] way.front r s) where
+      module _ (nodes : HasTakenMore sizes lawful opening [] on_path.front r s) where
         abbrev pub ready : MayTakeLeaves sizes lawful opening leaf left s
         ready = record {
-          held = way.front;
+          held = on_path.front;
           right = (pages_after opening r.view.memory.seen leaf).next;
-          will = will_rest sizes lawful opening [] way.front (beside left ++ leaf ∷ beside (pages_after opening r.view.memory.seen leaf).next) r s will_nodes nodes;
+          will = will_rest sizes lawful opening [] on_path.front (beside left ++ leaf ∷ beside (pages_after opening r.view.memory.seen leaf).next) r s will_nodes nodes;
           names = λ u known keeps.
               let k = keeps_both r s u nodes.keeps keeps in
-              let on = keeps_way sizes roots lawful opening shape root some le key lt r u known k leaf 0 way.lowest in (
-                (page_on-way (pages_after opening u.view.memory.seen) root key leaf 0 (tree_of-log sizes.pages roots lawful opening shape.laws root some le u.view.memory.seen known.legal) lt on).kind,
-                (keeps_links r u known k leaf way.lowest).next,
+              let on = keeps_on_path sizes roots lawful opening shape root some le key lt r u known k leaf 0 on_path.lowest in (
+                (page_on-path (pages_after opening u.view.memory.seen) root key leaf 0 (tree_of-log sizes.pages roots lawful opening shape.laws root some le u.view.memory.seen known.legal) lt on).kind,
+                (keeps_links r u known k leaf on_path.lowest).next,
               );
         }
 
-        module _ (last : HasTakenMore sizes lawful opening way.front (beside left ++ leaf ∷ beside (pages_after opening r.view.memory.seen leaf).next) s t) where
+        module _ (last : HasTakenMore sizes lawful opening on_path.front (beside left ++ leaf ∷ beside (pages_after opening r.view.memory.seen leaf).next) s t) where
           abbrev pub all_held : List ℕ
-          all_held = way.front ++ (beside left ++ leaf ∷ beside (pages_after opening r.view.memory.seen leaf).next)
+          all_held = on_path.front ++ (beside left ++ leaf ∷ beside (pages_after opening r.view.memory.seen leaf).next)
 
           all : KeepsClaim r t
           all = keeps_both r s t nodes.keeps last.keeps
 
           pub has_claimed : HasClaimed sizes lawful opening root key path all_held p t
-          has_claimed = claimed_with all_held t (more_both sizes lawful opening [] way.front (beside left ++ leaf ∷ beside (pages_after opening r.view.memory.seen leaf).next) r s t nodes last)
+          has_claimed = claimed_with all_held t (more_both sizes lawful opening [] on_path.front (beside left ++ leaf ∷ beside (pages_after opening r.view.memory.seen leaf).next) r s t nodes last)
 
-          pub with_leaves : IsWayWithLeaves (pages_after opening t.view.memory.seen) path all_held
+          pub with_leaves : IsPathWithLeaves (pages_after opening t.view.memory.seen) path all_held
           with_leaves =
-              let l = keeps_links r t last.holds.known all leaf way.lowest in
+              let l = keeps_links r t last.holds.known all leaf on_path.lowest in
               record {
-                front = way.front;
+                front = on_path.front;
                 leaf = leaf;
-                ends = way.ends;
-                are = ap (λ (x : ℕ × ℕ). way.front ++ (beside x.0 ++ leaf ∷ beside x.1)) (λ j. ((way.left_of ∙ sym l.prev) j, sym l.next j));
+                ends = on_path.ends;
+                are = ap (λ (x : ℕ × ℕ). on_path.front ++ (beside x.0 ++ leaf ∷ beside x.1)) (λ j. ((on_path.left_of ∙ sym l.prev) j, sym l.next j));
               }

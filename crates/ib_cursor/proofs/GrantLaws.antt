@@ -8,6 +8,7 @@ use Rattle.std.proofs.lemmas.List.Sums.{sum_by-cons}
 use Rattle.ib_levels.specs.declared.holding.Holding.{Holding}
 use Rattle.ib_levels.specs.declared.latch.Latch.{Latch}
 use Rattle.ib_levels.specs.declared.level.Level.{Level}
+use Rattle.ib_levels.specs.declared.level.Level.TheVariants.{IndexTree}
 use Rattle.ib_levels.specs.declared.level.Mode.{Mode}
 use Rattle.ib_levels.specs.declared.level.Mode.TheVariants.{S, Sx, X}
 use Rattle.ib_levels.specs.Holding.{on, hold, without_latch, levels_of, changed_on}
@@ -24,12 +25,13 @@ use Rattle.ib_page.specs.Work.{WorkPage}
 use Rattle.ib_rule.specs.declared.memory.Since.{Since}
 use Rattle.ib_rule.specs.Conditions.{MayGrow, held_now}
 use Rattle.ib_rule.specs.Pass.{PassState}
+use Rattle.ib_rule.specs.Takes.{MayTake}
 use Rattle.ib_rule.specs.Views.{is_watched, total}
 use Rattle.ib_rule.specs.Space.{SpaceState}
 use Rattle.ib_mtr.specs.Mtr.{IsMtr, held_after, released_at, IsReleasedAt}
 use Rattle.ib_mtr.proofs.Held.{idle_by}
 use Rattle.ib_cursor.specs.Grants.{Grant, memo_of, hold_of, HasGrants, IsAway}
-use Rattle.ib_cursor.proofs.StandLaws.{IsBeside}
+use Rattle.ib_cursor.proofs.LatchingLaws.{IsBeside}
 
 -- the holding of a grant
 pub hold-latch : (g : Grant) → (hold_of g).latch.0 ≡ g.latch
@@ -184,6 +186,15 @@ released-looks at p q is = go (slice_get p.memo at) is
 -- a mini-transaction with an empty memo has no grants
 pub none_granted : (space : SpaceState) (p : PassState) → IsMtr space p → p.memo ≡ [] → HasGrants [] p
 none_granted space p mtr none = record { memo = none; session = idle_by p.memo p.view.session mtr.exact mtr.proper none mtr.free }
+
+-- .. so it may take the index
+pub may_take_index : (space : SpaceState) (p : PassState) → IsMtr space p → p.memo ≡ [] → total p.view.grants < 2 ^ 52 → MayTake space 1 IndexTree p
+may_take_index space p mtr none room = let has = none_granted space p mtr none in record {
+  own = mtr.own;
+  latch = omega arith;
+  grows = may_grow [] p has room (omega arith);
+  may = can_wish [] p has 1 IndexTree tt tt;
+}
 
 -- where nothing is held on a latch no grant is on it
 pub none_away : (l : ℕ) (gs : List Grant) → on l (λ h. 1) (map hold_of gs) ≡ 0 → IsAway l gs

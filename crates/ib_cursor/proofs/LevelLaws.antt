@@ -1,4 +1,4 @@
--- The pages of a way and those beside them under the same parents, level by level: each is there once, and the leaf behind them too.
+-- The pages of a path and those beside them under the same parents, level by level: each is there once, and the leaf behind them too.
 use Rattle.std.specs.List.{AllByRecursion, flat_map}
 use Rattle.std.specs.Prelude.{◌==◌, ◌||◌}
 use Rattle.std.proofs.Common.{◌≡◌, ◌≢◌, ◌⊎◌, inl, inr, ℕ, zero, suc, ◌<◌, ◌≤◌, Bool, true, false, List, [], ◌∷◌, ◌++◌, length, refl, sym, ap, subst, ◌∙◌, arith, append_assoc, length-append, ne_eqb, eq-eqb}
@@ -10,14 +10,14 @@ use Rattle.ib_walk.specs.Search.{child_for}
 use Rattle.ib_walk.specs.Trees.{IsLawful, IsTreeOf, height_of, top_of, weight_of}
 use Rattle.ib_walk.specs.Walk.{AreLinked, below, counts_page}
 use Rattle.ib_walk.proofs.WalkLaws.{AllByRecursion-append}
-use Rattle.ib_plans.specs.Agreement.{last_of, way_down, way_of}
+use Rattle.ib_plans.specs.Agreement.{last_of, path_down, path_of}
 use Rattle.ib_plans.proofs.MetLaws.{root-met}
-use Rattle.ib_plans.proofs.PathListLaws.{length-way_down}
+use Rattle.ib_plans.proofs.PathListLaws.{length-path_down}
 use Rattle.ib_tree.specs.PageLists.{is_listed, AreOnce}
-use Rattle.ib_cursor.specs.Way.{IsOnWay}
+use Rattle.ib_cursor.specs.OnPath.{IsOnPath}
 use Rattle.ib_cursor.specs.Claims.{beside}
 use Rattle.ib_cursor.specs.Siblings.{with_siblings}
-use Rattle.ib_cursor.proofs.WayLaws.{root_on-way, child_on-way, page_on-way}
+use Rattle.ib_cursor.proofs.OnPathLaws.{root_on-path, child_on-path, page_on-path}
 use Rattle.ib_cursor.proofs.OnceLaws.{among_append}
 use Rattle.ib_cursor.proofs.RowLaws.{IsRowPage, siblings_once, siblings_row, child_among, behind_once, some_siblings}
 
@@ -114,35 +114,35 @@ module _ (pages : ℕ) (m : PageMemory) (bits : ℕ → ℕ) (roots : ℕ) (law 
   tree : IsTreeOf m (height_of m root) root
   tree = (law.trees root some le).0
 
-  level-is : (page level : ℕ) → IsOnWay m root key page level → (m page).level ≡ level
-  level-is page level o = (page_on-way m root key page level tree lt o).height
+  level-is : (page level : ℕ) → IsOnPath m root key page level → (m page).level ≡ level
+  level-is page level o = (page_on-path m root key page level tree lt o).height
 
-  -- a page of the way, by its place in it
-  pub way_at : (level page : ℕ) → IsOnWay m root key page level → (above : List ℕ) (node : ℕ) (rest : List ℕ) → way_down m key level page ≡ above ++ node ∷ rest → IsOnWay m root key node (length rest)
-  way_at zero page o [] node rest is =
+  -- a page of the path, by its place in it
+  pub path_at : (level page : ℕ) → IsOnPath m root key page level → (above : List ℕ) (node : ℕ) (rest : List ℕ) → path_down m key level page ≡ above ++ node ∷ rest → IsOnPath m root key node (length rest)
+  path_at zero page o [] node rest is =
       let e : page ≡ node = ap first-of is in
       let l = ap length is in
       let z : 0 ≡ length rest = omega arith in
-      subst (λ n. IsOnWay m root key node n) z (subst (λ n. IsOnWay m root key n 0) e o)
-  way_at (suc level) page o [] node rest is =
+      subst (λ n. IsOnPath m root key node n) z (subst (λ n. IsOnPath m root key n 0) e o)
+  path_at (suc level) page o [] node rest is =
       let e : page ≡ node = ap first-of is in
-      let l = ap length is in let w = length-way_down m key level (child_for key 0 (m page).records) in
+      let l = ap length is in let w = length-path_down m key level (child_for key 0 (m page).records) in
       let z : suc level ≡ length rest = omega arith in
-      subst (λ n. IsOnWay m root key node n) z (subst (λ n. IsOnWay m root key n (suc level)) e o)
-  way_at zero page o (x ∷ xs) node rest is = absurd (let a = ap length is in let b = length-append xs (node ∷ rest) in omega arith)
-  way_at (suc level) page o (x ∷ xs) node rest is = way_at level (child_for key 0 (m page).records) (child_on-way m root key page level o) xs node rest (ap others-of is)
+      subst (λ n. IsOnPath m root key node n) z (subst (λ n. IsOnPath m root key n (suc level)) e o)
+  path_at zero page o (x ∷ xs) node rest is = absurd (let a = ap length is in let b = length-append xs (node ∷ rest) in omega arith)
+  path_at (suc level) page o (x ∷ xs) node rest is = path_at level (child_for key 0 (m page).records) (child_on-path m root key page level o) xs node rest (ap others-of is)
 
   -- the pages of the levels below, with others that are lower still
-  below-once : (level page : ℕ) → IsOnWay m root key page level → (above : List ℕ) (node : ℕ) (rest : List ℕ) → way_down m key level page ≡ above ++ node ∷ rest
+  below-once : (level page : ℕ) → IsOnPath m root key page level → (above : List ℕ) (node : ℕ) (rest : List ℕ) → path_down m key level page ≡ above ++ node ∷ rest
       → (tail : List ℕ) → AreOnce tail pages → AllByRecursion (λ n. (m n).level < length rest) tail
       → AreOnce (flat_map (with_siblings m key) above ++ tail) pages × AllByRecursion (λ n. (m n).level < level) (flat_map (with_siblings m key) above ++ tail)
   below-once level page o [] node rest is tail once low =
-      let same : length rest ≡ level = let a = ap length is in let b = length-way_down m key level page in omega arith in
+      let same : length rest ≡ level = let a = ap length is in let b = length-path_down m key level page in omega arith in
       (once, subst (λ l. AllByRecursion (λ n. (m n).level < l) tail) same low)
   below-once zero page o (x ∷ xs) node rest is tail once low = absurd (let a = ap length is in let b = length-append xs (node ∷ rest) in omega arith)
   below-once (suc level) page o (x ∷ xs) node rest is tail once low =
       let e : page ≡ x = ap first-of is in
-      let r = below-once level (child_for key 0 (m page).records) (child_on-way m root key page level o) xs node rest (ap others-of is) tail once low in
+      let r = below-once level (child_for key 0 (m page).records) (child_on-path m root key page level o) xs node rest (ap others-of is) tail once low in
       let here = siblings_once pages m bits roots law root some le within key lt page level o in
       let row = siblings_row pages m bits roots law root some le within key lt page level o in
       let all = flat_map (with_siblings m key) xs ++ tail in
@@ -151,14 +151,14 @@ module _ (pages : ℕ) (m : PageMemory) (bits : ℕ → ℕ) (roots : ℕ) (law 
       subst (λ ps. AreOnce ps pages × AllByRecursion (λ n. (m n).level < suc level) ps) same
       (level-once m level pages (with_siblings m key page) all here row r.0 r.1, level-low m level (with_siblings m key page) all row r.1)
 
-  -- the nodes of a way are among them
-  nodes-among : (level page : ℕ) → IsOnWay m root key page level → (above : List ℕ) (node : ℕ) (rest : List ℕ) → way_down m key level page ≡ above ++ node ∷ rest
+  -- the nodes of a path are among them
+  nodes-among : (level page : ℕ) → IsOnPath m root key page level → (above : List ℕ) (node : ℕ) (rest : List ℕ) → path_down m key level page ≡ above ++ node ∷ rest
       → AllByRecursion (λ n. is_listed (page ∷ flat_map (with_siblings m key) above) n ≡ true) (above ++ node ∷ [])
   nodes-among level page o [] node rest is =
       let e : page ≡ node = first level is in
       (ap (λ t. t || false) (eq-eqb page node e), tt)
     where
-      first : (level : ℕ) → way_down m key level page ≡ node ∷ rest → page ≡ node
+      first : (level : ℕ) → path_down m key level page ≡ node ∷ rest → page ≡ node
       first zero is = ap first-of is
       first (suc level) is = ap first-of is
   nodes-among zero page o (x ∷ xs) node rest is = absurd (let a = ap length is in let b = length-append xs (node ∷ rest) in omega arith)
@@ -166,7 +166,7 @@ module _ (pages : ℕ) (m : PageMemory) (bits : ℕ → ℕ) (roots : ℕ) (law 
       let e : page ≡ x = ap first-of is in
       let child = child_for key 0 (m page).records in
       let here = child_among pages m bits roots law root some le within key lt page level o in
-      let r = nodes-among level child (child_on-way m root key page level o) xs node rest (ap others-of is) in
+      let r = nodes-among level child (child_on-path m root key page level o) xs node rest (ap others-of is) in
       let all = flat_map (with_siblings m key) xs in
       let more : AllByRecursion (λ n. is_listed (with_siblings m key page ++ all) n ≡ true) (xs ++ node ∷ []) =
       each (λ n. is_listed (child ∷ all) n ≡ true) (λ n. is_listed (with_siblings m key page ++ all) n ≡ true) (xs ++ node ∷ []) (λ n. among-child (with_siblings m key page) all child n here) r in
@@ -178,31 +178,31 @@ module _ (pages : ℕ) (m : PageMemory) (bits : ℕ → ℕ) (roots : ℕ) (law 
       each P Q (p ∷ ps) f h = (f p h.0, each P Q ps f h.1)
 
   -- the root above them all
-  module _ (path above : List ℕ) (node : ℕ) (rest : List ℕ) (way : path ≡ way_of m key root) (is : path ≡ above ++ node ∷ rest) where
-    down : way_down m key (height_of m root) root ≡ above ++ node ∷ rest
-    down = sym way ∙ is
+  module _ (path above : List ℕ) (node : ℕ) (rest : List ℕ) (on_path : path ≡ path_of m key root) (is : path ≡ above ++ node ∷ rest) where
+    down : path_down m key (height_of m root) root ≡ above ++ node ∷ rest
+    down = sym on_path ∙ is
 
-    pub on : IsOnWay m root key node (length rest)
-    on = way_at (height_of m root) root (root_on-way m root key) above node rest down
+    pub on : IsOnPath m root key node (length rest)
+    on = path_at (height_of m root) root (root_on-path m root key) above node rest down
 
     root-in : root < pages
     root-in = within root (root-met m root)
 
     under-root : (tail : List ℕ) → AreOnce tail pages → AllByRecursion (λ n. (m n).level < length rest) tail → AreOnce ((root ∷ flat_map (with_siblings m key) above) ++ tail) pages
     under-root tail once low =
-        let r = below-once (height_of m root) root (root_on-way m root key) above node rest down tail once low in
+        let r = below-once (height_of m root) root (root_on-path m root key) above node rest down tail once low in
         (root-in, not-among m (height_of m root) root (flat_map (with_siblings m key) above ++ tail) refl r.1, r.0)
 
-    pub way_among : AllByRecursion (λ n. is_listed (root ∷ flat_map (with_siblings m key) above) n ≡ true) (above ++ node ∷ [])
-    way_among = nodes-among (height_of m root) root (root_on-way m root key) above node rest down
+    pub path_among : AllByRecursion (λ n. is_listed (root ∷ flat_map (with_siblings m key) above) n ≡ true) (above ++ node ∷ [])
+    path_among = nodes-among (height_of m root) root (root_on-path m root key) above node rest down
 
     pub node_kind : (m node).kind ≡ Tree
-    node_kind = (page_on-way m root key node (length rest) tree lt on).kind
+    node_kind = (page_on-path m root key node (length rest) tree lt on).kind
 
     -- one row more
     pub row_once : (level : ℕ) → length rest ≡ suc level → AreOnce ((root ∷ flat_map (with_siblings m key) above) ++ with_siblings m key node) pages
     row_once level e =
-        let o = subst (IsOnWay m root key node) e on in
+        let o = subst (IsOnPath m root key node) e on in
         under-root (with_siblings m key node) (siblings_once pages m bits roots law root some le within key lt node level o)
         (subst (λ l. AllByRecursion (λ n. (m n).level < l) (with_siblings m key node)) (sym e) (row-low m level (with_siblings m key node) (siblings_row pages m bits roots law root some le within key lt node level o)))
 
@@ -211,23 +211,23 @@ module _ (pages : ℕ) (m : PageMemory) (bits : ℕ → ℕ) (roots : ℕ) (law 
   root-alone z = let linked : AreLinked m 0 (top_of root) 0 = subst (λ h. AreLinked m 0 (below m h (top_of root)) 0) z tree.linked in linked.1
 
   -- all levels, and the leaf behind the last page of them
-  module _ (path above : List ℕ) (leaf : ℕ) (way : path ≡ way_of m key root) (ends : path ≡ above ++ leaf ∷ []) where
+  module _ (path above : List ℕ) (leaf : ℕ) (on_path : path ≡ path_of m key root) (ends : path ≡ above ++ leaf ∷ []) where
     abbrev AreAll : List ℕ → Type 0
     AreAll ps = AreOnce (ps ++ beside (m (last_of ps)).next) pages × ((m (last_of ps)).kind ≡ Tree)
 
     pub all_once : AreAll (root ∷ flat_map (with_siblings m key) above)
     all_once = elim (ends_of above) [
       | inl none ↦
-          let low : height_of m root ≡ 0 = let a = ap length (sym way ∙ ends) in let b = length-way_down m key (height_of m root) root in let c = length-append above (leaf ∷ []) in let d = ap length none in omega arith in
+          let low : height_of m root ≡ 0 = let a = ap length (sym on_path ∙ ends) in let b = length-path_down m key (height_of m root) root in let c = length-append above (leaf ∷ []) in let d = ap length none in omega arith in
           let once : AreOnce (root ∷ beside (m root).next) pages = subst (λ n. AreOnce (root ∷ beside n) pages) (sym (root-alone low)) (within root (root-met m root), refl, tt) in
-          subst (λ ps. AreAll (root ∷ flat_map (with_siblings m key) ps)) (sym none) (once, node_kind path [] root [] way (alone low))
+          subst (λ ps. AreAll (root ∷ flat_map (with_siblings m key) ps)) (sym none) (once, node_kind path [] root [] on_path (alone low))
       | inr h ↦
           let is : path ≡ h.front ++ h.last ∷ leaf ∷ [] = ends ∙ (ap (λ ps. ps ++ leaf ∷ []) h.is ∙ append_assoc h.front (h.last ∷ []) (leaf ∷ [])) in
-          let o = on path h.front h.last (leaf ∷ []) way is in
+          let o = on path h.front h.last (leaf ∷ []) on_path is in
           let b = behind_once pages m bits roots law root some le within key lt h.last 0 o refl in
           let row = siblings_row pages m bits roots law root some le within key lt h.last 0 o in
           let next = (m (last_of (with_siblings m key h.last))).next in
-          let r = under-root path h.front h.last (leaf ∷ []) way is (with_siblings m key h.last ++ beside next) b.0 (row-low m 0 (with_siblings m key h.last ++ beside next) (AllByRecursion-append (IsRowPage m 0) (with_siblings m key h.last) (beside next) row b.1)) in
+          let r = under-root path h.front h.last (leaf ∷ []) on_path is (with_siblings m key h.last ++ beside next) b.0 (row-low m 0 (with_siblings m key h.last ++ beside next) (AllByRecursion-append (IsRowPage m 0) (with_siblings m key h.last) (beside next) row b.1)) in
           let same : (root ∷ flat_map (with_siblings m key) h.front) ++ with_siblings m key h.last ≡ root ∷ flat_map (with_siblings m key) above =
           flat_map_more (with_siblings m key) (root ∷ []) h.front h.last ∙ ap (λ ps. root ∷ flat_map (with_siblings m key) ps) (sym h.is) in
           let last : last_of (with_siblings m key h.last) ≡ last_of ((root ∷ flat_map (with_siblings m key) h.front) ++ with_siblings m key h.last) =
@@ -240,4 +240,4 @@ module _ (pages : ℕ) (m : PageMemory) (bits : ℕ → ℕ) (roots : ℕ) (law 
     ]
       where
         alone : height_of m root ≡ 0 → path ≡ [] ++ root ∷ []
-        alone low = way ∙ ap (λ h. way_down m key h root) low
+        alone low = on_path ∙ ap (λ h. path_down m key h root) low

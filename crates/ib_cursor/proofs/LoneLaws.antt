@@ -15,7 +15,7 @@ use Rattle.ib_validate.specs.Patch.{IsGoodAt}
 use Rattle.ib_plans.proofs.LevelLaws.{above-sum, level-le_weight}
 use Rattle.ib_tree.proofs.PatchLaws.{counts_visit-own, IsGoodAt-tree, end_rank-some}
 use Rattle.ib_tree.proofs.ContentLaws.{below-children}
-use Rattle.ib_cursor.proofs.WayLaws.{IsIn, stands}
+use Rattle.ib_cursor.proofs.OnPathLaws.{IsIn, latch_page}
 
 -- where a visit is in a list
 in-left : (v : Visit) (xs ys : List Visit) → IsIn v xs → IsIn v (xs ++ ys)
@@ -160,7 +160,7 @@ root-le m new root page (suc level) a e h =
     let met = in-met m root 1 level k.visit (omega (arith, h)) k.there in
     let at = good-level m level k.visit (IsGoodAt-tree m (height_of m root) (top_of root) a.was.tree level k.visit met) in
     let ne : k.visit.page ≢ page = λ q. let z = ap (λ n. (m n).level) (q ∙ e) in omega (arith, z, at, h) in
-    let s = stands new (height_of new root) level k.visit (top_of root) (a.stays level k.visit ne met) in
+    let s = latch_page new (height_of new root) level k.visit (top_of root) (a.stays level k.visit ne met) in
     go k.visit s.depth s.height s.there (λ q. ne (q ∙ sym e))
   where
     go : (v : Visit) (depth : ℕ) → depth + level ≡ height_of new root → IsIn v (below new depth (top_of root)) → (v.page ≢ root) → suc level ≤ height_of new root
@@ -196,7 +196,7 @@ lone_below m new root page a (suc depth) level h =
     there : below new depth (top_of root) ≡ below m depth (top_of root) → height_of new root ≡ height_of m root → (v : Visit) → IsIn v (below m (suc depth) (top_of root)) → IsIn v (below new (suc depth) (top_of root))
     there up high v i = elim (cases_eq v.page page) [
       | inr ne ↦
-          let s = stands new (height_of new root) level v (top_of root) (a.stays level v ne (in-met m root (suc depth) level v h i)) in
+          let s = latch_page new (height_of new root) level v (top_of root) (a.stays level v ne (in-met m root (suc depth) level v h i)) in
           let d : s.depth ≡ suc depth = let e = s.height in omega (arith, h, high) in
           subst (λ d. IsIn v (below new d (top_of root))) d s.there
       | inl e ↦
@@ -213,7 +213,7 @@ lone_below m new root page a (suc depth) level h =
 -- so what is met stays met
 pub lone_met : (m new : PageMemory) (root page : ℕ) → IsLone m new root page → (level : ℕ) (v : Visit) → 0 < weight_of (counts_visit level v) m root → 0 < weight_of (counts_visit level v) new root
 lone_met m new root page a level v met =
-    let s = stands m (height_of m root) level v (top_of root) met in
+    let s = latch_page m (height_of m root) level v (top_of root) met in
     in-met new root s.depth level v (s.height ∙ sym (lone_height m new root page a)) (subst (IsIn v) (sym (lone_below m new root page a s.depth level s.height)) s.there)
 
 -- .. and a leaf's links stay
@@ -226,7 +226,7 @@ links-same m new prev (x ∷ xs) next a b v (inr i) = links-same m new x.page xs
 pub lone_links : (m new : PageMemory) (root page : ℕ) → IsLone m new root page → (v : Visit) → 0 < weight_of (counts_visit 0 v) m root
     → ((new v.page).prev ≡ (m v.page).prev) × ((new v.page).next ≡ (m v.page).next)
 lone_links m new root page a v met =
-    let s = stands m (height_of m root) 0 v (top_of root) met in
+    let s = latch_page m (height_of m root) 0 v (top_of root) met in
     let all : s.depth ≡ height_of m root = let h = s.height in omega arith in
     let high = lone_height m new root page a in
     let same : leaves_of new root ≡ leaves_of m root = ap (λ d. below new d (top_of root)) high ∙ lone_below m new root page a (height_of m root) 0 (omega arith) in

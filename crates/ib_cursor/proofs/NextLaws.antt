@@ -45,12 +45,12 @@ use Rattle.ib_cursor.specs.Grants.{Grant, memo_of, page_grant, HasGrants, HasTak
 use Rattle.ib_cursor.specs.Going.{HasSeen}
 use Rattle.ib_cursor.specs.Descent.{HasPage, HasDescended}
 use Rattle.ib_cursor.specs.Nexts.{HoldsLeaf, HoldsNext}
-use Rattle.ib_cursor.proofs.StandLaws.{went_beside, went_both, known_beside, beside_taken}
+use Rattle.ib_cursor.proofs.LatchingLaws.{went_beside, went_both, known_beside, beside_taken}
 use Rattle.ib_cursor.proofs.GrantLaws.{HasGiven, away-none, away_left, away_append, none_away, last_held, grants_more, given, grants_left, released_is}
 use Rattle.ib_cursor.specs.Laws.{Laws}
 use Rattle.ib_cursor.proofs.LogLaws.{tree_of-log, range_stays, bit_inside}
-use Rattle.ib_cursor.proofs.WayLaws.{IsIn, stands, met_on-way}
-use Rattle.ib_cursor.proofs.DownLaws.{leaf_way}
+use Rattle.ib_cursor.proofs.OnPathLaws.{IsIn, latch_page, met_on-path}
+use Rattle.ib_cursor.proofs.DownLaws.{leaf_path}
 use Rattle.ib_cursor.proofs.PageLaws.{IsTreeImage, tree_image}
 
 -- a leaf among the leaves
@@ -71,7 +71,7 @@ split v (x ∷ xs) (inr later) = let r = split v xs later in record { before = x
 
 pub leaf-met : (m : PageMemory) (root : ℕ) (v : Visit) → 0 < weight_of (counts_visit 0 v) m root → IsLeaf m root v
 leaf-met m root v met =
-    let s = stands m (height_of m root) 0 v (top_of root) met in
+    let s = latch_page m (height_of m root) 0 v (top_of root) met in
     let deep : s.depth ≡ height_of m root = let h = s.height in omega arith in
     let r = split v (below m s.depth (top_of root)) s.there in
     record { before = r.before; behind = r.behind; is = ap (λ d. below m d (top_of root)) (sym deep) ∙ r.is }
@@ -222,22 +222,22 @@ there_in leaf image = let yes = eq-eqb leaf leaf refl in rw yes refl
 
 -- a reader who has descended holds the leaf with its range, alone: the step to the next may begin there
 pub holds_end : (sizes : Sizes) (roots : ℕ) (lawful : List Entry → Type 0) (opening : ℕ → ℕ) (laws : Laws sizes.pages roots lawful opening) (root : ℕ) (some : 0 < root) (le : root ≤ roots) (key : MapKey) (lt : rank key < end_rank)
-    (path : List ℕ) (p q : PassState) (end : HasDescended sizes lawful opening root key false path p q) → (r : PageRange) × HoldsLeaf sizes lawful opening roots [] end.come.leaf end.image r q
+    (path : List ℕ) (p q : PassState) (end : HasDescended sizes lawful opening root key false path p q) → (r : PageRange) × HoldsLeaf sizes lawful opening roots [] end.reached.leaf end.image r q
 holds_end sizes roots lawful opening laws root some le key lt path p q end =
     let m : PageMemory = pages_after opening q.view.memory.seen in
-    let leaf : ℕ = end.come.leaf in
-    let way = leaf_way sizes roots lawful opening laws root some le key lt false path p q end.come in
-    let a = met_on-way m root (tree_of-log sizes.pages roots lawful opening laws root some le q.view.memory.seen end.come.known.legal) key lt leaf 0 way in
+    let leaf : ℕ = end.reached.leaf in
+    let on_path = leaf_path sizes roots lawful opening laws root some le key lt false path p q end.reached in
+    let a = met_on-path m root (tree_of-log sizes.pages roots lawful opening laws root some le q.view.memory.seen end.reached.known.legal) key lt leaf 0 on_path in
     let same : a.visit ≡ record { page = leaf; low = a.visit.low; high = a.visit.high } = ap (λ (n : ℕ). let w : Visit = record { page = n; low = a.visit.low; high = a.visit.high } in w) a.here in (
       record { root = root; low = a.visit.low; end = a.visit.high; level = 0 },
       record {
-        grants = end.come.grants;
+        grants = end.reached.grants;
         once = tt;
-        watched = end.come.watched;
+        watched = end.reached.watched;
         work = end.work;
         size = end.size;
         is_page = end.is_page;
-        known = end.come.known;
+        known = end.reached.known;
         lowest = refl;
         met = (some, le, subst (λ u. 0 < weight_of (counts_visit 0 u) m root) same a.met);
       },

@@ -1,11 +1,12 @@
 -- A page of page memory by its image: its words, and what a search finds there.
-use Rattle.std.proofs.Common.{◌≡◌, inl, inr, ℕ, zero, suc, ◌+◌, ◌-◌, ◌*◌, ◌<◌, ◌≤◌, ◌^◌, true, [], ◌∷◌, Option, Some, slice_get, IsSomeAnd, refl, sym, ap, ◌∙◌, arith}
+use Rattle.std.proofs.Common.{◌≡◌, inl, inr, ℕ, zero, suc, ◌+◌, ◌-◌, ◌<◌, ◌≤◌, ◌^◌, true, [], ◌∷◌, Option, Some, slice_get, IsSomeAnd, refl, sym, ap, subst, ◌∙◌, arith}
 use Rattle.std.specs.Prelude.{unwrap_or, nat_le}
 use Rattle.std.proofs.lemmas.Bool.{cases_lt, lt-ltb, le-ltb, le-leb, lt-leb, leb-true, and_parts}
 use Rattle.ib_map.specs.Keys.{MapKey, rank}
 use Rattle.ib_map.specs.Space.{has_pages}
 use Rattle.ib_map.specs.declared.TheConstants.{LEAST_PAGES, MOST_PAGES}
 use Rattle.ib_map.specs.Pairs.{Pairs, place_after}
+use Rattle.ib_layout.specs.Geometry.{Sizes}
 use Rattle.ib_page.specs.Form.{page_of}
 use Rattle.ib_page.specs.Image.{IsTreePage, level_of, next_of, records_of}
 use Rattle.ib_heap.proofs.RouteLaws.{IsSomeAnd_get}
@@ -64,6 +65,10 @@ child_read key xs child first read =
     let some = some-there key xs first in
     let got = IsSomeAnd_get (slice_get xs (place_after key xs - 1)) (λ r. r.1 ≡ child) read in
     sym (child-at-place key 0 xs (place_after key xs - 1) got.0 (omega arith) got.1 ∙ got.2)
+
+-- a space has a number of pages that a space may have, where its sizes were asked for
+pub has_told : {n : ℕ} {a s : Sizes} → a ≡ s → n ≡ a.pages → has_pages n ≡ true → has_pages s.pages ≡ true
+has_told is told range = subst (λ (s : Sizes). has_pages s.pages ≡ true) is (subst (λ n. has_pages n ≡ true) told range)
 
 -- the pages of a space are few
 pub few : (pages n : ℕ) → has_pages pages ≡ true → n < pages → n < 2 ^ 32

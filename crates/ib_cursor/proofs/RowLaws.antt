@@ -21,7 +21,7 @@ use Rattle.ib_plans.proofs.LevelLaws.{AllByRecursion-both, above-sum, below-le_w
 use Rattle.ib_plans.proofs.MetLaws.{met-some}
 use Rattle.ib_plans.proofs.SiblingRecordLaws.{HasSiblings, HasSiblings-of, one_or_none}
 use Rattle.ib_tree.specs.PageLists.{is_listed, AreOnce}
-use Rattle.ib_cursor.specs.Way.{IsOnWay}
+use Rattle.ib_cursor.specs.OnPath.{IsOnPath}
 use Rattle.ib_cursor.specs.Claims.{beside}
 use Rattle.ib_cursor.specs.Siblings.{child_if, with_siblings}
 use Rattle.ib_cursor.proofs.OnceLaws.{among_parts}
@@ -62,7 +62,7 @@ middle-pages None here (Some r) = refl
 middle-pages (Some l) here None = refl
 middle-pages (Some l) here (Some r) = refl
 
--- the first record of a node of the way is not above the key
+-- the first record of a node of the path is not above the key
 first-low : (xs : Pairs) (high k : ℕ) → 0 < length xs → first_rank xs high ≤ k → first_rank xs end_rank ≤ k
 first-low [] high k some le = absurd (omega arith)
 first-low (x ∷ xs) high k some le = le
@@ -121,9 +121,9 @@ among-middle (x ∷ xs) page ys n e = by_first (x == n) (among-middle xs page ys
     by_first true r = refl
     by_first false r = r
 
--- the pages at and beside the key's child under a node of the way
+-- the pages at and beside the key's child under a node of the path
 module _ (pages : ℕ) (m : PageMemory) (bits : ℕ → ℕ) (roots : ℕ) (law : IsLawful m bits roots) (root : ℕ) (some : 0 < root) (le : root ≤ roots) (within : (n : ℕ) → 1 ≤ weight_of (counts_page n) m root → n < pages)
-    (key : MapKey) (lt : rank key < end_rank) (node level : ℕ) (o : IsOnWay m root key node (suc level)) where
+    (key : MapKey) (lt : rank key < end_rank) (node level : ℕ) (o : IsOnPath m root key node (suc level)) where
   tall : height_of m root ≡ above o.depth (suc level)
   tall = sym (above-sum o.depth (suc level) ∙ o.height)
 

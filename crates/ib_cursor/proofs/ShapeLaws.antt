@@ -1,4 +1,4 @@
--- Entries that are not structural leave the ranges of all pages, the way of a key, and the links of leaves.
+-- Entries that are not structural leave the ranges of all pages, the path of a key, and the links of leaves.
 use Rattle.std.specs.List.{AllByRecursion}
 use Rattle.std.specs.Prelude.{◌↔◌}
 use Rattle.std.proofs.Common.{◌≡◌, ◌≢◌, ℕ, ◌<◌, ◌≤◌, false, List, [], ◌∷◌, ◌++◌, refl, sym, subst, ◌∙◌, append_assoc, append-nil}
@@ -11,9 +11,9 @@ use Rattle.ib_walk.specs.Pages.{PageMemory}
 use Rattle.ib_walk.specs.Words.{IsLawfulMemory}
 use Rattle.ib_tree.specs.Logs.{visit_with, HasRange, pages_after}
 use Rattle.ib_tree.proofs.LogLaws.{pages_after-untouched}
-use Rattle.ib_cursor.specs.Way.{IsOnWay}
+use Rattle.ib_cursor.specs.OnPath.{IsOnPath}
 use Rattle.ib_cursor.specs.Shapes.{ShapeLaws, AreSingle}
-use Rattle.ib_cursor.proofs.WayLaws.{stays_on-way}
+use Rattle.ib_cursor.proofs.OnPathLaws.{stays_on-path}
 use Rattle.ib_cursor.proofs.LogLaws.{laws_of, tree_of-log}
 use Rattle.ib_cursor.proofs.LoneLaws.{IsLone, lone_met, lone_links, one_page}
 
@@ -88,10 +88,10 @@ module _ (pages roots : ℕ) (lawful : List Entry → Type 0) (opening : ℕ →
       let more = single_links (xs ++ e ∷ []) es page r now calm.1 low (lone_stays xs e page r front calm.0 met) in
       subst (λ l. HasLinks (pages_after opening xs) (pages_after opening l) page) same (record { prev = more.prev ∙ one.prev; next = more.next ∙ one.next })
 
-  -- a page stays on the way of a key
-  pub single_way : (root : ℕ) → 0 < root → root ≤ roots → (key : MapKey) → rank key < end_rank → (xs es : List Entry) (page level : ℕ) → lawful (xs ++ es) → AreSingle es
-      → IsOnWay (pages_after opening xs) root key page level → IsOnWay (pages_after opening (xs ++ es)) root key page level
-  single_way root some le key lt xs es page level legal calm o =
-      stays_on-way roots (pages_after opening xs) (pages_after opening (xs ++ es)) root key page level some le lt
+  -- a page stays on the path of a key
+  pub single_path : (root : ℕ) → 0 < root → root ≤ roots → (key : MapKey) → rank key < end_rank → (xs es : List Entry) (page level : ℕ) → lawful (xs ++ es) → AreSingle es
+      → IsOnPath (pages_after opening xs) root key page level → IsOnPath (pages_after opening (xs ++ es)) root key page level
+  single_path root some le key lt xs es page level legal calm o =
+      stays_on-path roots (pages_after opening xs) (pages_after opening (xs ++ es)) root key page level some le lt
       (tree_of-log pages roots lawful opening shape.laws root some le xs (shape.laws.begins xs es legal)) (tree_of-log pages roots lawful opening shape.laws root some le (xs ++ es) legal)
       (λ r. single_stays xs es page r legal calm) o

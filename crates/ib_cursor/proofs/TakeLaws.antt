@@ -40,10 +40,10 @@ use Rattle.ib_mtr.proofs.Images.{All-with_page}
 use Rattle.ib_cursor.specs.Claims.{claim_grant, IsAsRead, beside}
 use Rattle.ib_cursor.specs.Descent.{HasPage}
 use Rattle.ib_cursor.specs.Grants.{Grant, hold_of, page_grant, HasGrants, IsAway, HasTaken}
-use Rattle.ib_cursor.specs.Shapes.{KeepsClaim, HasGlanced}
+use Rattle.ib_cursor.specs.Shapes.{KeepsClaim, HasLookedOn}
 use Rattle.ib_cursor.specs.Takings.{is_loaded, page_grants, AreSteady, IsHeldPage, HoldsClaimed, CanTakePage, HasTakenPage, HasTakenMore, WillTake}
 use Rattle.ib_cursor.proofs.OnceLaws.{once_here}
-use Rattle.ib_cursor.proofs.StandLaws.{went_none, went_both, went_beside, beside_taken}
+use Rattle.ib_cursor.proofs.LatchingLaws.{went_none, went_both, went_beside, beside_taken}
 use Rattle.ib_cursor.proofs.GrantLaws.{hold-latch, can_wish, grants_more}
 use Rattle.ib_cursor.proofs.ClaimLaws.{keeps_after, keeps_both, keeps_beside}
 
@@ -120,7 +120,7 @@ module _ (sizes : Sizes) (lawful : List Entry → Type 0) (opening : ℕ → ℕ
   pub page_absent : changed_of page p.work ≡ None
   page_absent = absent_loaded page p.work (can.holds.loaded page ∙ can.other)
 
-  module _ (q r : PassState) (was : All (λ w. 0 < holdings (w.page + 2) p.view.session) p.work) (taken : HasTaken (page_grant page X) p q) (glanced : HasGlanced sizes lawful q r) (memo : r.memo ≡ q.memo) (session : r.view.session ≡ q.view.session)
+  module _ (q r : PassState) (was : All (λ w. 0 < holdings (w.page + 2) p.view.session) p.work) (taken : HasTaken (page_grant page X) p q) (looked_on : HasLookedOn sizes lawful q r) (memo : r.memo ≡ q.memo) (session : r.view.session ≡ q.view.session)
       (grants : r.view.grants ≡ q.view.grants) (load : HasPage opening page q r) (now : All (λ w. 0 < holdings (w.page + 2) r.view.session) r.work) where
     all-grants : HasGrants (claim_grant ∷ page_grants (held ++ page ∷ [])) r
     all-grants = subst (λ gs. HasGrants gs r) (ap (λ gs. claim_grant ∷ gs) (sym (map-append (λ page. page_grant page X) held (page ∷ []))))
@@ -131,12 +131,12 @@ module _ (sizes : Sizes) (lawful : List Entry → Type 0) (opening : ℕ → ℕ
 
     still : (w : WorkPage) → IsHeldPage opening p w → 0 < holdings (w.page + 2) p.view.session → IsAsRead opening r.view.memory.seen w
     still w h some =
-        let calm = glanced.seen.steady w.page (ap (λ (m : Knowledge). is_watched (w.page + 2) m.since) taken.taken.memory ∙ h.watched) in
-        let log : r.view.memory.seen ≡ p.view.memory.seen ++ glanced.seen.went.more = glanced.seen.went.seen ∙ ap (λ (m : Knowledge). m.seen ++ glanced.seen.went.more) taken.taken.memory in
+        let calm = looked_on.seen.steady w.page (ap (λ (m : Knowledge). is_watched (w.page + 2) m.since) taken.taken.memory ∙ h.watched) in
+        let log : r.view.memory.seen ≡ p.view.memory.seen ++ looked_on.seen.went.more = looked_on.seen.went.seen ∙ ap (λ (m : Knowledge). m.seen ++ looked_on.seen.went.more) taken.taken.memory in
         record {
           size = h.read.size;
-          is_page = subst (λ l. IsPageAfter opening l w.page w.before) (sym log) (λ index lt. h.read.is_page index lt ∙ sym (word_stays opening p.view.memory.seen glanced.seen.went.more (word_place w.page index)
-              (subst (λ (n : ℕ). AllByRecursion (λ (e : Entry). touches n e.writes ≡ false) glanced.seen.went.more) (sym (page_at-word w.page index lt)) calm)));
+          is_page = subst (λ l. IsPageAfter opening l w.page w.before) (sym log) (λ index lt. h.read.is_page index lt ∙ sym (word_stays opening p.view.memory.seen looked_on.seen.went.more (word_place w.page index)
+              (subst (λ (n : ℕ). AllByRecursion (λ (e : Entry). touches n e.writes ≡ false) looked_on.seen.went.more) (sym (page_at-word w.page index lt)) calm)));
           unchanged = h.read.unchanged;
         }
 
@@ -146,15 +146,15 @@ module _ (sizes : Sizes) (lawful : List Entry → Type 0) (opening : ℕ → ℕ
         (all-both (IsHeldPage opening p) (λ w. 0 < holdings (w.page + 2) p.view.session) (IsAsRead opening r.view.memory.seen) p.work still can.holds.read was))
 
     keeps : KeepsClaim p r
-    keeps = keeps_after p q r taken.taken.memory glanced.keeps can.holds.claimed
+    keeps = keeps_after p q r taken.taken.memory looked_on.keeps can.holds.claimed
 
     page-steady : (n : ℕ) → is_watched (n + 2) p.view.memory.since ≡ true → pages_after opening r.view.memory.seen n ≡ pages_after opening p.view.memory.seen n
     page-steady n watched =
-        let calm = glanced.seen.steady n (ap (λ (m : Knowledge). is_watched (n + 2) m.since) taken.taken.memory ∙ watched) in
-        let log : r.view.memory.seen ≡ p.view.memory.seen ++ glanced.seen.went.more = glanced.seen.went.seen ∙ ap (λ (m : Knowledge). m.seen ++ glanced.seen.went.more) taken.taken.memory in
+        let calm = looked_on.seen.steady n (ap (λ (m : Knowledge). is_watched (n + 2) m.since) taken.taken.memory ∙ watched) in
+        let log : r.view.memory.seen ≡ p.view.memory.seen ++ looked_on.seen.went.more = looked_on.seen.went.seen ∙ ap (λ (m : Knowledge). m.seen ++ looked_on.seen.went.more) taken.taken.memory in
         subst (λ l. pages_after opening l n ≡ pages_after opening p.view.memory.seen n) (sym log)
-        (pages_of-same (memory_after opening p.view.memory.seen) (memory_after opening (p.view.memory.seen ++ glanced.seen.went.more)) n (λ index lt. word_stays opening p.view.memory.seen glanced.seen.went.more (word_place n index)
-        (subst (λ (k : ℕ). AllByRecursion (λ (e : Entry). touches k e.writes ≡ false) glanced.seen.went.more) (sym (page_at-word n index lt)) calm)))
+        (pages_of-same (memory_after opening p.view.memory.seen) (memory_after opening (p.view.memory.seen ++ looked_on.seen.went.more)) n (λ index lt. word_stays opening p.view.memory.seen looked_on.seen.went.more (word_place n index)
+        (subst (λ (k : ℕ). AllByRecursion (λ (e : Entry). touches k e.writes ≡ false) looked_on.seen.went.more) (sym (page_at-word n index lt)) calm)))
 
     pages-steady : (ps : List ℕ) → AllByRecursion (λ n. is_watched (n + 2) p.view.memory.since ≡ true) ps → AreSteady opening ps p r
     pages-steady [] watched = tt
@@ -166,15 +166,15 @@ module _ (sizes : Sizes) (lawful : List Entry → Type 0) (opening : ℕ → ℕ
         grants = all-grants;
         claimed = keeps.claimed;
         watched = each-page (λ l. is_watched l r.view.memory.since ≡ true) (held ++ page ∷ []) (each-latch (λ l. is_watched l r.view.memory.since ≡ true) (claim_grant ∷ page_grants (held ++ page ∷ []))
-            (λ l some. glanced.seen.watched l (subst (λ (a : Session). 0 < holdings l a) (sym all-grants.session) some))).1;
+            (λ l some. looked_on.seen.watched l (subst (λ (a : Session). 0 < holdings l a) (sym all-grants.session) some))).1;
         loaded = λ n. ap (is_loaded n) work-is ∙ (loaded-more n (record { page = page; before = load.image; changed = load.image }) p.work ∙ (ap (λ t. (page == n) || t) (can.holds.loaded n) ∙ sym (among-more held page n)));
         count = let a = ap length work-is in let b = long-more (record { page = page; before = load.image; changed = load.image }) p.work in let c = can.holds.count in let d = length-append held (page ∷ []) in omega arith;
-        read = all-both (IsAsRead opening r.view.memory.seen) (λ w. 0 < holdings (w.page + 2) r.view.session) (IsHeldPage opening r) r.work (λ w a b. record { read = a; watched = glanced.seen.watched (w.page + 2) b }) images now;
-        known = glanced.seen.known;
+        read = all-both (IsAsRead opening r.view.memory.seen) (λ w. 0 < holdings (w.page + 2) r.view.session) (IsHeldPage opening r) r.work (λ w a b. record { read = a; watched = looked_on.seen.watched (w.page + 2) b }) images now;
+        known = looked_on.seen.known;
       };
       keeps = keeps;
       steady = pages-steady held can.holds.watched;
-      went = went_both p q r (went_beside p q (beside_taken (page_grant page X) p q taken)) glanced.seen.went;
+      went = went_both p q r (went_beside p q (beside_taken (page_grant page X) p q taken)) looked_on.seen.went;
       grants = grants ∙ taken.taken.grants;
     }
 
@@ -247,7 +247,7 @@ will_rest sizes lawful opening held one two p q w t = record {
   few = let f = w.few in let e = ap length (append_assoc held one two) in omega arith;
 }
 
--- the nodes of a way, by their places in it
+-- the nodes of a path, by their places in it
 module _ (sizes : Sizes) (lawful : List Entry → Type 0) (opening : ℕ → ℕ) (front more path items : List ℕ) (leaf at : ℕ) (p q : PassState) (is : path ≡ front ++ leaf ∷ []) (same : items ≡ path) (upper : at + 1 < length items)
     (will : WillTake sizes lawful opening [] (front ++ more) p) (taken : HasTakenMore sizes lawful opening [] (take at front) p q) where
   within : at < length front

@@ -15,28 +15,28 @@ use Rattle.ib_walk.specs.Trees.{height_of, weight_of, IsLawful}
 use Rattle.ib_walk.specs.Walk.{counts_page}
 use Rattle.ib_walk.specs.Words.{bits_of}
 use Rattle.ib_walk.proofs.WalkLaws.{AllByRecursion-left}
-use Rattle.ib_plans.specs.Agreement.{last_of, way_down, way_of}
+use Rattle.ib_plans.specs.Agreement.{last_of, path_down, path_of}
 use Rattle.ib_plans.proofs.MetLaws.{root-met}
 use Rattle.ib_tree.specs.Logs.{pages_after}
 use Rattle.ib_tree.specs.PageLists.{is_listed, AreOnce}
-use Rattle.ib_cursor.specs.Way.{IsOnWay}
+use Rattle.ib_cursor.specs.OnPath.{IsOnPath}
 use Rattle.ib_cursor.specs.Claims.{beside}
 use Rattle.ib_cursor.specs.Going.{IsKnown}
 use Rattle.ib_cursor.specs.Rows.{CanTakeRow, HasTakenRows}
 use Rattle.ib_cursor.specs.Shapes.{ShapeLaws, HasIndex}
-use Rattle.ib_cursor.specs.Siblings.{IsWayWithSiblings, with_siblings}
+use Rattle.ib_cursor.specs.Siblings.{IsPathWithSiblings, with_siblings}
 use Rattle.ib_cursor.specs.Takings.{AreSteady, CanTakePage, HasTakenMore, HasTakenPage, WillTake}
 use Rattle.ib_cursor.proofs.EndLaws.{holds_none, inside-met}
-use Rattle.ib_cursor.proofs.LevelLaws.{all_once, last_among, last_append, on, row_once, way_among}
+use Rattle.ib_cursor.proofs.LevelLaws.{all_once, last_among, last_append, on, row_once, path_among}
 use Rattle.ib_cursor.proofs.ReadLaws.{keeps_path}
 use Rattle.ib_cursor.proofs.RowLaws.{few_siblings, some_siblings}
 use Rattle.ib_cursor.proofs.TakeLaws.{IsRightLink, beside_few, more_both, more_one, right_link, steady_at}
-use Rattle.ib_cursor.proofs.WayLaws.{page_on-way}
+use Rattle.ib_cursor.proofs.OnPathLaws.{page_on-path}
 
--- a way begins with its root
-way-first : (m : PageMemory) (key : MapKey) (height page : ℕ) → (rest : List ℕ) × (way_down m key height page ≡ page ∷ rest)
-way-first m key zero page = ([], refl)
-way-first m key (suc height) page = (way_down m key height (child_for key 0 (m page).records), refl)
+-- a path begins with its root
+path-first : (m : PageMemory) (key : MapKey) (height page : ℕ) → (rest : List ℕ) × (path_down m key height page ≡ page ∷ rest)
+path-first m key zero page = ([], refl)
+path-first m key (suc height) page = (path_down m key height (child_for key 0 (m page).records), refl)
 
 -- where nodes are the same, so are their rows
 rows-same : (m new : PageMemory) (key : MapKey) (ps : List ℕ) → AllByRecursion (λ n. new n ≡ m n) ps → flat_map (with_siblings new key) ps ≡ flat_map (with_siblings m key) ps
@@ -61,17 +61,17 @@ module _ (sizes : Sizes) (roots : ℕ) (lawful : List Entry → Type 0) (opening
     inside-met sizes roots lawful opening shape root some le key lt p.view.memory.seen index.known.legal root (root-met (pages_after opening p.view.memory.seen) root),
   )
 
-  pub rows_first : (path : List ℕ) (p q : PassState) → path ≡ way_of (pages_after opening p.view.memory.seen) key root → HasTakenPage sizes lawful opening [] root p q → HasTakenRows sizes lawful opening root key path 0 root p q
-  rows_first path p q way t =
+  pub rows_first : (path : List ℕ) (p q : PassState) → path ≡ path_of (pages_after opening p.view.memory.seen) key root → HasTakenPage sizes lawful opening [] root p q → HasTakenRows sizes lawful opening root key path 0 root p q
+  rows_first path p q on_path t =
       let m : PageMemory = pages_after opening p.view.memory.seen in
-      let first = way-first m key (height_of m root) root in
+      let first = path-first m key (height_of m root) root in
       record {
         above = [];
         node = root;
         rest = first.0;
-        is = way ∙ first.1;
+        is = on_path ∙ first.1;
         many = refl;
-        way = way ∙ sym (keeps_path sizes roots lawful opening shape root some le key lt p q t.holds.known t.keeps);
+        on_path = on_path ∙ sym (keeps_path sizes roots lawful opening shape root some le key lt p q t.holds.known t.keeps);
         taken = more_one sizes lawful opening [] root p q t;
         last_is = refl;
       }
@@ -93,7 +93,7 @@ module _ (sizes : Sizes) (roots : ℕ) (lawful : List Entry → Type 0) (opening
     within n met = inside-met sizes roots lawful opening shape root some le key lt q.view.memory.seen known.legal n met
 
     among : AllByRecursion (λ n. is_listed rows_held n ≡ true) (rows.above ++ rows.node ∷ [])
-    among = way_among sizes.pages m (bits_of sizes.pages (memory_after opening q.view.memory.seen)) roots law root some le within key lt path rows.above rows.node rows.rest rows.way rows.is
+    among = path_among sizes.pages m (bits_of sizes.pages (memory_after opening q.view.memory.seen)) roots law root some le within key lt path rows.above rows.node rows.rest rows.on_path rows.is
 
     many : length path ≡ count + 1 + length rows.rest
     many = let a = ap length rows.is in let b = length-append rows.above (rows.node ∷ rows.rest) in let c = rows.many in omega arith
@@ -113,19 +113,19 @@ module _ (sizes : Sizes) (roots : ℕ) (lawful : List Entry → Type 0) (opening
       level : (l : ℕ) × (length rows.rest ≡ suc l)
       level = level-of (length rows.rest) refl
 
-      on-way : IsOnWay m root key rows.node (suc level.0)
-      on-way = subst (IsOnWay m root key rows.node) level.1 (on sizes.pages m (bits_of sizes.pages (memory_after opening q.view.memory.seen)) roots law root some le within key lt path rows.above rows.node rows.rest rows.way rows.is)
+      on-path : IsOnPath m root key rows.node (suc level.0)
+      on-path = subst (IsOnPath m root key rows.node) level.1 (on sizes.pages m (bits_of sizes.pages (memory_after opening q.view.memory.seen)) roots law root some le within key lt path rows.above rows.node rows.rest rows.on_path rows.is)
 
       pub row_node : get_or path count 0 ≡ rows.node
       row_node = ap (λ ps. get_or ps count 0) rows.is ∙ get_or_at rows.above rows.node rows.rest 0 count rows.many
 
       pub row_can : CanTakeRow sizes lawful opening key rows_held rows.node q
       row_can =
-          let is = page_on-way m root key rows.node (suc level.0) (law.trees root some le).0 lt on-way in
+          let is = page_on-path m root key rows.node (suc level.0) (law.trees root some le).0 lt on-path in
           record {
             will = record {
               holds = rows.taken.holds;
-              once = row_once sizes.pages m (bits_of sizes.pages (memory_after opening q.view.memory.seen)) roots law root some le within key lt path rows.above rows.node rows.rest rows.way rows.is level.0 level.1;
+              once = row_once sizes.pages m (bits_of sizes.pages (memory_after opening q.view.memory.seen)) roots law root some le within key lt path rows.above rows.node rows.rest rows.on_path rows.is level.0 level.1;
               few = let a = length-append rows_held (with_siblings m key rows.node) in let b = few_siblings m key rows.node in let c = few in omega arith;
             };
             there = last-in rows.above rows.node among;
@@ -151,7 +151,7 @@ module _ (sizes : Sizes) (roots : ℕ) (lawful : List Entry → Type 0) (opening
             rest = below.1;
             is = rows.is ∙ (ap (λ ps. rows.above ++ rows.node ∷ ps) below.2 ∙ sym (append_assoc rows.above (rows.node ∷ []) (below.0 ∷ below.1)));
             many = let a = length-append rows.above (rows.node ∷ []) in let b = rows.many in omega arith;
-            way = rows.way ∙ sym (keeps_path sizes roots lawful opening shape root some le key lt q t more.holds.known more.keeps);
+            on_path = rows.on_path ∙ sym (keeps_path sizes roots lawful opening shape root some le key lt q t more.holds.known more.keeps);
             taken = subst (λ ps. HasTakenMore sizes lawful opening [] ps p t) same (more_both sizes lawful opening [] rows_held (with_siblings m key rows.node) p q t rows.taken more);
             last_is = is ∙ (sym (last_append rows_held (with_siblings m key rows.node) (some_siblings m key rows.node)) ∙ ap last_of same);
           }
@@ -173,7 +173,7 @@ module _ (sizes : Sizes) (roots : ℕ) (lawful : List Entry → Type 0) (opening
       next = (m last).next
 
       once : AreOnce (rows_held ++ beside (m (last_of rows_held)).next) sizes.pages × ((m (last_of rows_held)).kind ≡ Tree)
-      once = all_once sizes.pages m (bits_of sizes.pages (memory_after opening q.view.memory.seen)) roots law root some le within key lt path rows.above rows.node rows.way ends
+      once = all_once sizes.pages m (bits_of sizes.pages (memory_after opening q.view.memory.seen)) roots law root some le within key lt path rows.above rows.node rows.on_path ends
 
       held-last : is_listed rows_held last ≡ true
       held-last = subst (λ n. is_listed rows_held n ≡ true) (sym rows.last_is) (last_among rows_held (omega arith))
@@ -192,7 +192,7 @@ module _ (sizes : Sizes) (roots : ℕ) (lawful : List Entry → Type 0) (opening
         pub all_taken : HasTakenMore sizes lawful opening [] (rows_held ++ beside next) p t
         all_taken = more_both sizes lawful opening [] rows_held (beside next) p q t rows.taken more
 
-        pub all_siblings : IsWayWithSiblings (pages_after opening t.view.memory.seen) root key path (rows_held ++ beside next)
+        pub all_siblings : IsPathWithSiblings (pages_after opening t.view.memory.seen) root key path (rows_held ++ beside next)
         all_siblings =
             let later : PageMemory = pages_after opening t.view.memory.seen in
             let nodes = AllByRecursion-left (λ n. later n ≡ m n) rows.above (rows.node ∷ []) (steady-all opening rows_held q t more.steady (rows.above ++ rows.node ∷ []) among) in

@@ -9,7 +9,7 @@ use Rattle.ib_page.specs.Work.{WorkPage, changed_of}
 use Rattle.ib_layout.specs.Geometry.{Sizes}
 use Rattle.ib_logrec.specs.declared.entry.Entry.{Entry}
 use Rattle.ib_walk.specs.Pages.{PageMemory}
-use Rattle.ib_plans.specs.Agreement.{way_of}
+use Rattle.ib_plans.specs.Agreement.{path_of}
 use Rattle.ib_tree.specs.Logs.{pages_after}
 use Rattle.ib_tree.specs.PageLists.{is_listed}
 use Rattle.ib_rule.specs.Pass.{PassState}
@@ -30,7 +30,7 @@ pub record IsAsRead (opening : ℕ → ℕ) (log : List Entry) (w : WorkPage) : 
 
 -- the index is claimed and these pages are held in X, in this order, each latch with a look at the log's end since; they alone are loaded, unchanged. The path is the key's in the tree after all seen
 pub record HasClaimed (sizes : Sizes) (lawful : List Entry → Type 0) (opening : ℕ → ℕ) (root : ℕ) (key : MapKey) (path held : List ℕ) (p q : PassState) : Type 0 where
-  pub way : path ≡ way_of (pages_after opening q.view.memory.seen) key root
+  pub on_path : path ≡ path_of (pages_after opening q.view.memory.seen) key root
   pub grants : HasGrants (claim_grant ∷ map (λ page. page_grant page X) held) q
   pub claimed : is_watched 1 q.view.memory.since ≡ true
   pub watched : AllByRecursion (λ page. is_watched (page + 2) q.view.memory.since ≡ true) held
@@ -48,8 +48,8 @@ pub record HasClaimed (sizes : Sizes) (lawful : List Entry → Type 0) (opening 
 abbrev pub beside : ℕ → List ℕ
 beside page = if page == 0 then [] else page ∷ []
 
--- what an insert holds: the way, and the leaves beside the key's leaf, from left to right
-pub record IsWayWithLeaves (memory : PageMemory) (path held : List ℕ) : Type 0 where
+-- what an insert holds: the path, and the leaves beside the key's leaf, from left to right
+pub record IsPathWithLeaves (memory : PageMemory) (path held : List ℕ) : Type 0 where
   pub front : List ℕ
   pub leaf : ℕ
   pub ends : path ≡ front ++ leaf ∷ []

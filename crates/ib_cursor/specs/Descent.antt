@@ -1,5 +1,5 @@
 -- What a descent keeps, and where it ends.
-use Rattle.std.specs.Prelude.{◌≡◌, ◌⊎◌, ℕ, ◌+◌, ◌<◌, ◌≤◌, Bool, true, false, ◌==◌, ◌&&◌, nat_lt, if◌then◌else◌, List, [], ◌∷◌, ◌++◌, length, Option}
+use Rattle.std.specs.Prelude.{◌≡◌, ◌⊎◌, ℕ, ◌+◌, ◌<◌, ◌≤◌, Bool, true, false, ◌==◌, ◌&&◌, nat_lt, if◌then◌else◌, List, [], ◌∷◌, ◌++◌, ◌^◌, length, Option}
 use Rattle.ib_map.specs.Keys.{MapKey}
 use Rattle.ib_map.specs.Pairs.{value_at}
 use Rattle.ib_map.specs.declared.TheConstants.{PAGE_WORDS}
@@ -13,23 +13,32 @@ use Rattle.ib_walk.specs.Trees.{height_of}
 use Rattle.ib_walk.specs.Search.{leaf_for}
 use Rattle.ib_tree.specs.Logs.{pages_after}
 use Rattle.ib_rule.specs.Pass.{PassState}
+use Rattle.ib_rule.specs.Space.{SpaceState}
 use Rattle.ib_rule.specs.Views.{is_watched, total}
 use Rattle.ib_mtr.specs.Loads.{IsPageAfter}
+use Rattle.ib_mtr.specs.Mtr.{IsMtr}
 use Rattle.ib_cursor.specs.Grants.{Grant, page_grant, HasGrants}
 use Rattle.ib_cursor.specs.Going.{IsKnown, WentOn}
 use Rattle.ib_cursor.specs.Modes.{mode_by}
-use Rattle.ib_cursor.specs.Way.{IsOnWay}
+use Rattle.ib_cursor.specs.OnPath.{IsOnPath}
 
--- a page is held behind these grants, with a look at the log's end since, and is on the key's way in the tree after all seen; no page is loaded
+-- a descent may begin: the mini-transaction holds nothing and has no page loaded, and so many grants may be taken still
+pub record MayDescend (space : SpaceState) (p : PassState) : Type 0 where
+  pub mtr : IsMtr space p
+  pub memo : p.memo ≡ []
+  pub none : p.work ≡ []
+  pub room : total p.view.grants + 64 ≤ 2 ^ 52
+
+-- a page is held behind these grants, with a look at the log's end since, and is on the key's path in the tree after all seen; no page is loaded
 pub record IsAt (sizes : Sizes) (lawful : List Entry → Type 0) (opening : ℕ → ℕ) (root : ℕ) (key : MapKey) (front : List Grant) (page level : ℕ) (mode : Mode) (p : PassState) : Type 0 where
   pub grants : HasGrants (front ++ page_grant page mode ∷ []) p
   pub watched : is_watched (page + 2) p.view.memory.since ≡ true
   pub work : p.work ≡ []
   pub known : IsKnown sizes lawful p
-  pub way : IsOnWay (pages_after opening p.view.memory.seen) root key page level
+  pub on_path : IsOnPath (pages_after opening p.view.memory.seen) root key page level
 
 -- .. in some mode
-pub record IsStanding (sizes : Sizes) (lawful : List Entry → Type 0) (opening : ℕ → ℕ) (root : ℕ) (key : MapKey) (front : List Grant) (page level : ℕ) (p : PassState) : Type 0 where
+pub record IsHeldAt (sizes : Sizes) (lawful : List Entry → Type 0) (opening : ℕ → ℕ) (root : ℕ) (key : MapKey) (front : List Grant) (page level : ℕ) (p : PassState) : Type 0 where
   pub mode : Mode
   pub here : IsAt sizes lawful opening root key front page level mode p
 
@@ -73,7 +82,7 @@ pub record HasPage (opening : ℕ → ℕ) (page : ℕ) (p q : PassState) : Type
   pub work : q.work ≡ with_read page image p.work
 
 -- a descent has come to the key's leaf: it is the last page of the path, in the tree after all seen. It alone is held, in S or X, with a look at the log's end since. S was taken once of the index and of each page of the path, but not of a leaf below another page that is taken in X
-pub record HasCome (sizes : Sizes) (lawful : List Entry → Type 0) (opening : ℕ → ℕ) (root : ℕ) (key : MapKey) (exclusive : Bool) (path : List ℕ) (p q : PassState) : Type 0 where
+pub record HasReached (sizes : Sizes) (lawful : List Entry → Type 0) (opening : ℕ → ℕ) (root : ℕ) (key : MapKey) (exclusive : Bool) (path : List ℕ) (p q : PassState) : Type 0 where
   pub leaf : ℕ
   pub front : List ℕ
   pub ends : path ≡ front ++ leaf ∷ []
@@ -91,15 +100,15 @@ pub record HasCome (sizes : Sizes) (lawful : List Entry → Type 0) (opening : �
 
 -- the descent is over: it has come to the leaf, and the leaf alone is loaded
 pub record HasDescended (sizes : Sizes) (lawful : List Entry → Type 0) (opening : ℕ → ℕ) (root : ℕ) (key : MapKey) (exclusive : Bool) (path : List ℕ) (p q : PassState) : Type 0 where
-  pub come : HasCome sizes lawful opening root key exclusive path p q
+  pub reached : HasReached sizes lawful opening root key exclusive path p q
   pub image : List ℕ
   pub size : length image ≡ PAGE_WORDS
-  pub is_page : IsPageAfter opening q.view.memory.seen come.leaf image
-  pub work : q.work ≡ record { page = come.leaf; before = image; changed = image } ∷ []
+  pub is_page : IsPageAfter opening q.view.memory.seen reached.leaf image
+  pub work : q.work ≡ record { page = reached.leaf; before = image; changed = image } ∷ []
 
 -- the key was looked up on its leaf, where it lies: the leaf alone is held, in S, and no page is loaded
 pub record HasFound (sizes : Sizes) (lawful : List Entry → Type 0) (opening : ℕ → ℕ) (root : ℕ) (key : MapKey) (value : Option ℕ) (p q : PassState) : Type 0 where
   pub path : List ℕ
-  pub come : HasCome sizes lawful opening root key false path p q
+  pub reached : HasReached sizes lawful opening root key false path p q
   pub work : q.work ≡ []
-  pub is_value : value ≡ value_at key (pages_after opening q.view.memory.seen come.leaf).records
+  pub is_value : value ≡ value_at key (pages_after opening q.view.memory.seen reached.leaf).records

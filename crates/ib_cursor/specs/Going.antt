@@ -39,7 +39,7 @@ pub record HasSeen (sizes : Sizes) (lawful : List Entry → Type 0) (p q : PassS
   pub watched : (l : ℕ) → 0 < holdings l q.view.session → is_watched l q.view.memory.since ≡ true
 
 -- a grant more, and then a look
-pub record HasStood (sizes : Sizes) (lawful : List Entry → Type 0) (g : Grant) (p q : PassState) : Type 0 where
+pub record HasLatched (sizes : Sizes) (lawful : List Entry → Type 0) (g : Grant) (p q : PassState) : Type 0 where
   pub seen : HasSeen sizes lawful p q
   pub memo : q.memo ≡ p.memo ++ memo_of g ∷ []
   pub session : q.view.session ≡ record { held = p.view.session.held ++ hold_of g ∷ []; phase = Free }

@@ -1,11 +1,11 @@
-pub mod Way
+pub mod OnPath
 pub mod Laws
 pub mod Reading
 pub mod Grants
 pub mod Going
 pub mod Modes
 pub mod Descent
-pub mod Hindrance
+pub mod Contention
 pub mod Nexts
 pub mod Spaces
 pub mod Claims

@@ -1,5 +1,6 @@
 -- A page that is read where it lies.
 use Rattle.std.specs.Prelude.{◌≡◌, ℕ, ◌+◌, ◌<◌, true, List, refl}
+use Rattle.std.specs.Borrow.{MutBor}
 use Rattle.std.proofs.Common.{◌∙◌, ap}
 use Rattle.ib_core.specs.Sessions.{holdings}
 use Rattle.ib_rule.specs.declared.memory.Loaded.{Loaded}
@@ -7,7 +8,8 @@ use Rattle.ib_rule.specs.declared.view.View.{View}
 use Rattle.ib_rule.specs.Pass.{PassState, with_view}
 use Rattle.ib_rule.specs.Space.{SpaceState}
 use Rattle.ib_rule.specs.Views.{is_watched, with_memory}
-use Rattle.ib_mtr.specs.Mtr.{IsMtr}
+use Rattle.ib_mtr.specs.declared.mtr.Mtr.{Mtr}
+use Rattle.ib_mtr.specs.Mtr.{IsMtr, IsStillMtr}
 
 -- the words of a page may be read one by one: the latch of the page is held, with a look at the log's end since
 pub record CanRead (space : SpaceState) (page : ℕ) (p : PassState) : Type 0 where
@@ -29,3 +31,9 @@ read_none p = record { same = refl }
 
 pub read_more : (p q r : PassState) → HasReadWords p q → HasReadWords q r → HasReadWords p r
 read_more p q r one two = record { same = two.same ∙ ap (λ (s : PassState). with_view s (with_loads r.view.memory.loaded s.view)) one.same }
+
+-- .. through a reference to its mini-transaction, which is one still
+pub record HasReadHeld {L S : Type 0} (old new : MutBor (Mtr L S)) : Type 0 where
+  pub same : new.ghost_name ≡ old.ghost_name
+  pub still : IsStillMtr old.now new.now
+  pub words : HasReadWords old.now.pass.now new.now.pass.now

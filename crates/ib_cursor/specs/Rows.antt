@@ -1,11 +1,11 @@
--- Rows of pages that are taken behind the claimed index: the key's child under a node of the way, and the pages beside it there.
+-- Rows of pages that are taken behind the claimed index: the key's child under a node of the path, and the pages beside it there.
 use Rattle.std.specs.Prelude.{◌≡◌, ℕ, ◌≤◌, true, List, [], ◌∷◌, ◌++◌, length, slice_get, IsSomeAnd}
 use Rattle.std.specs.List.{flat_map}
 use Rattle.ib_map.specs.Keys.{MapKey, rank}
 use Rattle.ib_layout.specs.Geometry.{Sizes}
 use Rattle.ib_logrec.specs.declared.entry.Entry.{Entry}
 use Rattle.ib_walk.specs.Pages.{Tree}
-use Rattle.ib_plans.specs.Agreement.{last_of, way_of}
+use Rattle.ib_plans.specs.Agreement.{last_of, path_of}
 use Rattle.ib_tree.specs.Logs.{pages_after}
 use Rattle.ib_tree.specs.PageLists.{is_listed}
 use Rattle.ib_rule.specs.Pass.{PassState}
@@ -19,13 +19,13 @@ pub record CanTakeRow (sizes : Sizes) (lawful : List Entry → Type 0) (opening 
   pub kind : (pages_after opening p.view.memory.seen node).kind ≡ Tree
   pub first : IsSomeAnd (slice_get (pages_after opening p.view.memory.seen node).records 0) (λ r. rank r.0 ≤ rank key)
 
--- the root is taken, and the rows below so many nodes of the way, in the tree after all seen; this is the last page of them
+-- the root is taken, and the rows below so many nodes of the path, in the tree after all seen; this is the last page of them
 pub record HasTakenRows (sizes : Sizes) (lawful : List Entry → Type 0) (opening : ℕ → ℕ) (root : ℕ) (key : MapKey) (path : List ℕ) (count last : ℕ) (p q : PassState) : Type 0 where
   pub above : List ℕ
   pub node : ℕ
   pub rest : List ℕ
   pub is : path ≡ above ++ node ∷ rest
   pub many : length above ≡ count
-  pub way : path ≡ way_of (pages_after opening q.view.memory.seen) key root
+  pub on_path : path ≡ path_of (pages_after opening q.view.memory.seen) key root
   pub taken : HasTakenMore sizes lawful opening [] (root ∷ flat_map (with_siblings (pages_after opening q.view.memory.seen) key) above) p q
   pub last_is : last ≡ last_of (root ∷ flat_map (with_siblings (pages_after opening q.view.memory.seen) key) above)

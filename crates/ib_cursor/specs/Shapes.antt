@@ -10,7 +10,7 @@ use Rattle.ib_logrec.specs.declared.entry.Entry.{Entry}
 use Rattle.ib_logrec.specs.Law.{PageRange}
 use Rattle.ib_walk.specs.Pages.{PageMemory}
 use Rattle.ib_walk.specs.Search.{child_for}
-use Rattle.ib_plans.specs.Agreement.{way_down, way_of}
+use Rattle.ib_plans.specs.Agreement.{path_down, path_of}
 use Rattle.ib_tree.specs.Logs.{HasRange, pages_after}
 use Rattle.ib_rule.specs.declared.memory.Since.{Since}
 use Rattle.ib_rule.specs.Pass.{PassState}
@@ -18,7 +18,7 @@ use Rattle.ib_rule.specs.Views.{with_grant}
 use Rattle.ib_cursor.specs.Laws.{Laws}
 use Rattle.ib_cursor.specs.Grants.{HasGrants}
 use Rattle.ib_cursor.specs.Going.{IsKnown, WentOn, HasSeen}
-use Rattle.ib_cursor.specs.Way.{IsOnWay}
+use Rattle.ib_cursor.specs.OnPath.{IsOnPath}
 use Rattle.ib_cursor.specs.Descent.{IsAt}
 use Rattle.ib_cursor.specs.Claims.{claim_grant}
 
@@ -46,7 +46,7 @@ pub record KeepsClaim (p q : PassState) : Type 0 where
   pub claimed : is_claimed q.view.memory.since ≡ true
 
 -- a look at the log's end, which keeps a claim
-pub record HasGlanced (sizes : Sizes) (lawful : List Entry → Type 0) (p q : PassState) : Type 0 where
+pub record HasLookedOn (sizes : Sizes) (lawful : List Entry → Type 0) (p q : PassState) : Type 0 where
   pub seen : HasSeen sizes lawful p q
   pub keeps : is_claimed p.view.memory.since ≡ true → KeepsClaim p q
 
@@ -57,7 +57,7 @@ pub record HasIndex (sizes : Sizes) (lawful : List Entry → Type 0) (p : PassSt
   pub work : p.work ≡ []
   pub known : IsKnown sizes lawful p
 
--- what a page of the key's way names: a node the child of the key, a leaf the leaf before it
+-- what a page of the key's path names: a node the child of the key, a leaf the leaf before it
 pub record IsLink (memory : PageMemory) (key : MapKey) (page level link : ℕ) : Type 0 where
   pub child : 0 < level → link ≡ child_for key 0 (memory page).records
   pub left : level ≡ 0 → link ≡ (memory page).prev
@@ -70,37 +70,37 @@ pub record NamesLink (sizes : Sizes) (lawful : List Entry → Type 0) (opening :
   pub grants : q.view.grants ≡ p.view.grants
   pub names : IsLink (pages_after opening q.view.memory.seen) key page level link
 
--- a page of the key's way was looked at in S behind the claimed index, and given up again
-pub record HasPeeked (sizes : Sizes) (lawful : List Entry → Type 0) (opening : ℕ → ℕ) (root : ℕ) (key : MapKey) (page level link : ℕ) (p q : PassState) : Type 0 where
+-- a page of the key's path was looked at in S behind the claimed index, and given up again
+pub record HasReadLink (sizes : Sizes) (lawful : List Entry → Type 0) (opening : ℕ → ℕ) (root : ℕ) (key : MapKey) (page level link : ℕ) (p q : PassState) : Type 0 where
   pub index : HasIndex sizes lawful q
   pub keeps : KeepsClaim p q
   pub went : WentOn p q
   pub grants : q.view.grants ≡ with_grant (Some S) p.view.grants
-  pub way : IsOnWay (pages_after opening q.view.memory.seen) root key page level
+  pub on_path : IsOnPath (pages_after opening q.view.memory.seen) root key page level
   pub names : IsLink (pages_after opening q.view.memory.seen) key page level link
 
--- the way was read down to a page, with these pages above it
+-- the path was read down to a page, with these pages above it
 pub record IsReading (sizes : Sizes) (lawful : List Entry → Type 0) (opening : ℕ → ℕ) (root : ℕ) (key : MapKey) (above : List ℕ) (page level link : ℕ) (p q : PassState) : Type 0 where
   pub index : HasIndex sizes lawful q
   pub keeps : KeepsClaim p q
   pub went : WentOn p q
-  pub way : IsOnWay (pages_after opening q.view.memory.seen) root key page level
+  pub on_path : IsOnPath (pages_after opening q.view.memory.seen) root key page level
   pub names : IsLink (pages_after opening q.view.memory.seen) key page level link
-  pub path : way_of (pages_after opening q.view.memory.seen) key root ≡ above ++ way_down (pages_after opening q.view.memory.seen) key level page
+  pub path : path_of (pages_after opening q.view.memory.seen) key root ≡ above ++ path_down (pages_after opening q.view.memory.seen) key level page
   pub short : length above + level ≤ MOST_LEVEL
   pub s : q.view.grants.s ≡ p.view.grants.s + length above + 1
   pub sx : q.view.grants.sx ≡ p.view.grants.sx
   pub x : q.view.grants.x ≡ p.view.grants.x
 
--- the whole way was read, and what the leaf named
-pub record HasReadWay (sizes : Sizes) (lawful : List Entry → Type 0) (opening : ℕ → ℕ) (root : ℕ) (key : MapKey) (path : List ℕ) (leaf left : ℕ) (p q : PassState) : Type 0 where
+-- the whole path was read, and what the leaf named
+pub record HasReadPath (sizes : Sizes) (lawful : List Entry → Type 0) (opening : ℕ → ℕ) (root : ℕ) (key : MapKey) (path : List ℕ) (leaf left : ℕ) (p q : PassState) : Type 0 where
   pub index : HasIndex sizes lawful q
   pub keeps : KeepsClaim p q
   pub went : WentOn p q
   pub front : List ℕ
   pub ends : path ≡ front ++ leaf ∷ []
-  pub way : path ≡ way_of (pages_after opening q.view.memory.seen) key root
-  pub lowest : IsOnWay (pages_after opening q.view.memory.seen) root key leaf 0
+  pub on_path : path ≡ path_of (pages_after opening q.view.memory.seen) key root
+  pub lowest : IsOnPath (pages_after opening q.view.memory.seen) root key leaf 0
   pub left_of : left ≡ (pages_after opening q.view.memory.seen leaf).prev
   pub short : length front ≤ MOST_LEVEL
   pub s : q.view.grants.s ≡ p.view.grants.s + length path

@@ -1,4 +1,4 @@
--- The pages that a delete may change: those of the way, and on each level those beside them under the same parent.
+-- The pages that a delete may change: those of the path, and on each level those beside them under the same parent.
 use Rattle.std.specs.Prelude.{◌≡◌, ℕ, List, [], ◌∷◌, ◌++◌, Option, Some, None}
 use Rattle.std.specs.List.{flat_map}
 use Rattle.ib_map.specs.Keys.{MapKey}
@@ -17,7 +17,7 @@ abbrev pub with_siblings : PageMemory → MapKey → ℕ → List ℕ
 with_siblings memory key parent = let t = siblings_of key (memory parent).records in child_if t.left ++ t.here.1 ∷ child_if t.right
 
 -- what a delete holds: the root, level by level below it the key's child with the pages beside it under the same parent, and the leaf behind the last of these
-pub record IsWayWithSiblings (memory : PageMemory) (root : ℕ) (key : MapKey) (path held : List ℕ) : Type 0 where
+pub record IsPathWithSiblings (memory : PageMemory) (root : ℕ) (key : MapKey) (path held : List ℕ) : Type 0 where
   pub front : List ℕ
   pub leaf : ℕ
   pub ends : path ≡ front ++ leaf ∷ []

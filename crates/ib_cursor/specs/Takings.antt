@@ -72,6 +72,14 @@ pub record WillTake (sizes : Sizes) (lawful : List Entry → Type 0) (opening : 
   pub once : AreOnce (held ++ more) sizes.pages
   pub few : length (held ++ more) ≤ 24
 
+-- .. and these are the first of them, where some pages are held and some may come behind
+abbrev pub MayTakeFirst : Sizes → (List Entry → Type 0) → (ℕ → ℕ) → List ℕ → PassState → Type 0
+MayTakeFirst sizes lawful opening first p = (held : List ℕ) × (more : List ℕ) × WillTake sizes lawful opening held (first ++ more) p
+
+-- whatever was held, and whatever comes behind, these are taken
+abbrev pub TakesFirst : Sizes → (List Entry → Type 0) → (ℕ → ℕ) → List ℕ → PassState → PassState → Type 0
+TakesFirst sizes lawful opening first p q = (held more : List ℕ) → WillTake sizes lawful opening held (first ++ more) p → HasTakenMore sizes lawful opening held first p q
+
 -- the leaf level may be taken: the leaf's link to the right stays as it is, as long as the index is claimed
 pub record MayTakeLeaves (sizes : Sizes) (lawful : List Entry → Type 0) (opening : ℕ → ℕ) (leaf left : ℕ) (p : PassState) : Type 0 where
   pub held : List ℕ

@@ -1,27 +1,26 @@
-//! The index claimed, and the way of a key read under it.
+//! The index claimed, and the path of a key read under it.
 
 ghost use Rattle.std.specs.Prelude.{◌≡◌, ℕ, ◌<◌, ◌≤◌, ◌+◌, ◌^◌, ◌∷◌, ◌++◌, [], true, false, List, Some};
-ghost use Rattle.ib_map.specs.Keys.{rank, end_rank};
 ghost use Rattle.ib_map.specs.Space.{has_pages};
-ghost use Rattle.ib_levels.specs.declared.level.Level.TheVariants.{TreeNode};
 ghost use Rattle.ib_levels.specs.declared.level.Mode.TheVariants.{S};
 ghost use Rattle.ib_page.specs.Image.{IsFormed, next_of, prev_of};
 ghost use Rattle.ib_page.specs.Work.{changed_of};
 ghost use Rattle.ib_heap.specs.declared.TheConstants.{MOST_LEVEL};
 ghost use Rattle.ib_logrec.specs.Log.{by_place};
+ghost use Rattle.ib_rule.specs.Under.{under, under_lawful};
 ghost use Rattle.ib_rule.specs.Views.{is_watched, total};
-ghost use Rattle.ib_tree.specs.Logs.{pages_after};
-ghost use Rattle.ib_mtr.specs.Mtr.{IsMtr};
-ghost use Rattle.ib_cursor.specs.Claims.{HasClaimed, IsWayWithLeaves, beside, claim_grant};
-ghost use Rattle.ib_cursor.specs.Descent.{IsAt};
-ghost use Rattle.ib_cursor.specs.Going.{HasStood};
-ghost use Rattle.ib_cursor.specs.Shapes.{HasIndex, HasPeeked, HasReadWay, NamesLink, ShapeLaws, is_claimed};
-ghost use Rattle.ib_cursor.specs.Takings.{CanTakePage, HasTakenMore, HasTakenPage, MayTakeLeaves, WillTake};
-ghost use Rattle.ib_cursor.specs.Way.{IsOnWay};
+ghost use Rattle.ib_mtr.specs.Mtr.{IsMtr, IsStillMtr};
+ghost use Rattle.ib_cursor.specs.Claims.{HasClaimed, IsPathWithLeaves, beside, claim_grant};
+ghost use Rattle.ib_cursor.specs.Descent.{IsAt, MayDescend};
+ghost use Rattle.ib_cursor.specs.Going.{HasLatched};
+ghost use Rattle.ib_cursor.specs.Shapes.{HasIndex, HasReadLink, HasReadPath, NamesLink, ShapeLaws, is_claimed};
+ghost use Rattle.ib_cursor.specs.Spaces.{pages_under};
+ghost use Rattle.ib_cursor.specs.Takings.{CanTakePage, HasTakenMore, HasTakenPage, MayTakeFirst, MayTakeLeaves, TakesFirst, WillTake};
+ghost use Rattle.ib_cursor.specs.OnPath.{IsOnPath, IsRoot, IsSought};
 
 use crate::held_page::{child_of, level_of};
+use crate::latch_page::{latch_page, look, read, take};
 use crate::search::Sought;
-use crate::stands::{look, read, stand, take};
 use ib_latch::{Parkers, Sleep};
 use ib_levels::{Latch, Level, Mode};
 use ib_logrec::Law;
@@ -50,12 +49,9 @@ pub(crate) fn claim_index<L: Law, R: Wait>(rt: &R, mtr: &mut Mtr<'_, L, Parkers>
     requires memo { mtr.old.pass.now.memo ≡ [] }
     requires room { total mtr.old.pass.now.view.grants < 2 ^ 52 }
     requires unwatched { is_watched 1 mtr.old.pass.now.view.memory.since ≡ false }
-    ensures mtr { IsMtr mtr.new.latches.now mtr.new.pass.now }
-    ensures latches { mtr.new.latches ≡ mtr.old.latches }
-    ensures pass { mtr.new.pass.ghost_name ≡ mtr.old.pass.ghost_name }
-    ensures stood { HasStood mtr.old.latches.now.sizes
-        (L.lawful mtr.old.latches.now.sizes.pages) claim_grant
-        mtr.old.pass.now mtr.new.pass.now }
+    ensures still { IsStillMtr mtr.old mtr.new }
+    ensures latched { under_lawful L.Law mtr.old.latches.now HasLatched claim_grant mtr.old.pass.now
+        mtr.new.pass.now }
     ensures claimed { is_claimed mtr.new.pass.now.view.memory.since ≡ true }
 {
     take(rt, mtr, Latch::INDEX, Mode::Sx, Level::IndexTree);
@@ -78,20 +74,13 @@ fn left_of<L: Law, S: Sleep>(mtr: &Mtr<'_, L, S>, leaf: u32) -> u32
 // and leaves the work set again.
 fn left_link<L: Trees>(mtr: &mut Mtr<'_, L, Parkers>, sought: Sought, leaf: u32) -> u32
     requires mtr { IsMtr mtr.old.latches.now mtr.old.pass.now }
-    requires at { IsAt mtr.old.latches.now.sizes (L.lawful mtr.old.latches.now.sizes.pages)
-        (by_place L.opening mtr.old.latches.now.sizes.pages) sought.root sought.key
-        (claim_grant ∷ []) leaf 0 S mtr.old.pass.now }
+    requires at { under L.Law mtr.old.latches.now IsAt sought.root sought.key (claim_grant ∷ [])
+        leaf 0 S mtr.old.pass.now }
     requires claimed { is_claimed mtr.old.pass.now.view.memory.since ≡ true }
-    requires some { 0 < sought.root }
-    requires root { sought.root ≤ L.ROOTS }
-    requires key { rank sought.key < end_rank }
-    ensures mtr { IsMtr mtr.new.latches.now mtr.new.pass.now }
-    ensures latches { mtr.new.latches ≡ mtr.old.latches }
-    ensures pass { mtr.new.pass.ghost_name ≡ mtr.old.pass.ghost_name }
-    ensures linked { NamesLink mtr.old.latches.now.sizes
-        (L.lawful mtr.old.latches.now.sizes.pages)
-        (by_place L.opening mtr.old.latches.now.sizes.pages) sought.root sought.key
-        leaf 0 result mtr.old.pass.now mtr.new.pass.now }
+    requires sought { IsSought L.ROOTS sought.root sought.key }
+    ensures still { IsStillMtr mtr.old mtr.new }
+    ensures linked { under L.Law mtr.old.latches.now NamesLink sought.root sought.key leaf 0
+        result mtr.old.pass.now mtr.new.pass.now }
 {
     shape_of(mtr);
     read(mtr, leaf);
@@ -104,20 +93,13 @@ fn left_link<L: Trees>(mtr: &mut Mtr<'_, L, Parkers>, sought: Sought, leaf: u32)
 // leaf before it.
 fn link_here<L: Trees>(mtr: &mut Mtr<'_, L, Parkers>, sought: Sought, page: u32, level: u32) -> u32
     requires mtr { IsMtr mtr.old.latches.now mtr.old.pass.now }
-    requires at { IsAt mtr.old.latches.now.sizes (L.lawful mtr.old.latches.now.sizes.pages)
-        (by_place L.opening mtr.old.latches.now.sizes.pages) sought.root sought.key
-        (claim_grant ∷ []) page level S mtr.old.pass.now }
+    requires at { under L.Law mtr.old.latches.now IsAt sought.root sought.key (claim_grant ∷ [])
+        page level S mtr.old.pass.now }
     requires claimed { is_claimed mtr.old.pass.now.view.memory.since ≡ true }
-    requires some { 0 < sought.root }
-    requires root { sought.root ≤ L.ROOTS }
-    requires key { rank sought.key < end_rank }
-    ensures mtr { IsMtr mtr.new.latches.now mtr.new.pass.now }
-    ensures latches { mtr.new.latches ≡ mtr.old.latches }
-    ensures pass { mtr.new.pass.ghost_name ≡ mtr.old.pass.ghost_name }
-    ensures linked { NamesLink mtr.old.latches.now.sizes
-        (L.lawful mtr.old.latches.now.sizes.pages)
-        (by_place L.opening mtr.old.latches.now.sizes.pages) sought.root sought.key
-        page level result mtr.old.pass.now mtr.new.pass.now }
+    requires sought { IsSought L.ROOTS sought.root sought.key }
+    ensures still { IsStillMtr mtr.old mtr.new }
+    ensures linked { under L.Law mtr.old.latches.now NamesLink sought.root sought.key page level
+        result mtr.old.pass.now mtr.new.pass.now }
 {
     shape_of(mtr);
     if level == 0 {
@@ -126,92 +108,77 @@ fn link_here<L: Trees>(mtr: &mut Mtr<'_, L, Parkers>, sought: Sought, page: u32,
     child_of(mtr, page, sought.key)
 }
 
-// What is read of a page of the way: its level, and the page that it names.
+// What is read of a page of the path: its level, and the page that it names.
 #[derive(Clone, Copy)]
 struct Named {
     level: u32,
     link: u32,
 }
 
-// Looks at a page of the key's way in S behind the claimed index, and gives it up again.
-fn peek<L: Trees, R: Wait>(
+// Looks at a page of the key's path in S behind the claimed index, and gives it up again.
+fn read_link<L: Trees, R: Wait>(
     rt: &R,
     mtr: &mut Mtr<'_, L, Parkers>,
     sought: Sought,
     page: u32,
 ) -> Named
     requires mtr { IsMtr mtr.old.latches.now mtr.old.pass.now }
-    requires index { HasIndex mtr.old.latches.now.sizes
-        (L.lawful mtr.old.latches.now.sizes.pages) mtr.old.pass.now }
-    requires way { (level : ℕ) × IsOnWay (pages_after
-        (by_place L.opening mtr.old.latches.now.sizes.pages)
-        mtr.old.pass.now.view.memory.seen) sought.root sought.key page level }
+    requires index { under_lawful L.Law mtr.old.latches.now HasIndex mtr.old.pass.now }
+    requires on_path { (level : ℕ) × IsOnPath (pages_under L.Law mtr.old.latches.now mtr.old.pass.now)
+        sought.root sought.key page level }
     requires room { total mtr.old.pass.now.view.grants < 2 ^ 52 }
-    requires some { 0 < sought.root }
-    requires root { sought.root ≤ L.ROOTS }
-    requires key { rank sought.key < end_rank }
-    ensures mtr { IsMtr mtr.new.latches.now mtr.new.pass.now }
-    ensures latches { mtr.new.latches ≡ mtr.old.latches }
-    ensures pass { mtr.new.pass.ghost_name ≡ mtr.old.pass.ghost_name }
-    ensures peeked { HasPeeked mtr.old.latches.now.sizes
-        (L.lawful mtr.old.latches.now.sizes.pages)
-        (by_place L.opening mtr.old.latches.now.sizes.pages) sought.root sought.key
-        page result.level result.link mtr.old.pass.now mtr.new.pass.now }
+    requires sought { IsSought L.ROOTS sought.root sought.key }
+    ensures still { IsStillMtr mtr.old mtr.new }
+    ensures link_read { under L.Law mtr.old.latches.now HasReadLink sought.root sought.key page
+        result.level result.link mtr.old.pass.now mtr.new.pass.now }
     ensures low { result.level ≤ MOST_LEVEL }
 {
     shape_of(mtr);
-    stand(rt, mtr, page, Mode::S);
+    latch_page(rt, mtr, page, Mode::S);
     let level = level_of(mtr, page);
     let link = link_here(mtr, sought, page, level);
     mtr.release_at(1);
     Named { level, link }
 }
 
-// The way of a key, from the root to the leaf, its leaf, and the leaf before that, 0 for none.
+// The path of a key, from the root to the leaf, its leaf, and the leaf before that, 0 for none.
 #[derive(Drop)]
-pub(crate) struct Way {
+pub(crate) struct FoundPath {
     pub(crate) path: Path,
     leaf: u32,
     left: u32,
 }
 
-// Reads the way page by page behind the claimed index, with no page held while the next is taken: the
-// claim keeps the way.
-pub(crate) fn read_way<L: Trees, R: Wait>(
+// Reads the path page by page behind the claimed index, with no page held while the next is taken: the
+// claim keeps the path.
+pub(crate) fn read_path<L: Trees, R: Wait>(
     rt: &R,
     mtr: &mut Mtr<'_, L, Parkers>,
     sought: Sought,
-) -> Way
+) -> FoundPath
     requires mtr { IsMtr mtr.old.latches.now mtr.old.pass.now }
-    requires index { HasIndex mtr.old.latches.now.sizes
-        (L.lawful mtr.old.latches.now.sizes.pages) mtr.old.pass.now }
+    requires index { under_lawful L.Law mtr.old.latches.now HasIndex mtr.old.pass.now }
     requires room { total mtr.old.pass.now.view.grants + 32 ≤ 2 ^ 52 }
-    requires some { 0 < sought.root }
-    requires root { sought.root ≤ L.ROOTS }
-    requires key { rank sought.key < end_rank }
-    ensures mtr { IsMtr mtr.new.latches.now mtr.new.pass.now }
-    ensures latches { mtr.new.latches ≡ mtr.old.latches }
-    ensures pass { mtr.new.pass.ghost_name ≡ mtr.old.pass.ghost_name }
-    ensures way { HasReadWay mtr.old.latches.now.sizes
-        (L.lawful mtr.old.latches.now.sizes.pages)
-        (by_place L.opening mtr.old.latches.now.sizes.pages) sought.root sought.key
-        result.path result.leaf result.left mtr.old.pass.now mtr.new.pass.now }
+    requires sought { IsSought L.ROOTS sought.root sought.key }
+    ensures still { IsStillMtr mtr.old mtr.new }
+    ensures on_path { under L.Law mtr.old.latches.now HasReadPath sought.root sought.key result.path
+        result.leaf result.left mtr.old.pass.now mtr.new.pass.now }
 {
     shape_of(mtr);
     let mut path = Path::new();
     let mut page = sought.root;
-    let first = peek(rt, mtr, sought, page);
+    let first = read_link(rt, mtr, sought, page);
     let mut level = first.level;
     let mut link = first.link;
     while level > 0 {
         path.push(page);
         page = link;
-        let below = peek(rt, mtr, sought, page);
+        let below = read_link(rt, mtr, sought, page);
         level = below.level;
         link = below.link;
     }
     path.push(page);
-    Way {
+    FoundPath {
         path,
         leaf: page,
         left: link,
@@ -223,18 +190,12 @@ pub(crate) fn take_page<L: Law, R: Wait>(rt: &R, mtr: &mut Mtr<'_, L, Parkers>, 
     requires mtr { IsMtr mtr.old.latches.now mtr.old.pass.now }
     requires page { page < mtr.old.latches.now.sizes.pages }
     requires room { total mtr.old.pass.now.view.grants < 2 ^ 52 }
-    requires holds { (held : List ℕ) × CanTakePage mtr.old.latches.now.sizes
-        (L.lawful mtr.old.latches.now.sizes.pages)
-        (by_place L.opening mtr.old.latches.now.sizes.pages) held page mtr.old.pass.now }
-    ensures mtr { IsMtr mtr.new.latches.now mtr.new.pass.now }
-    ensures latches { mtr.new.latches ≡ mtr.old.latches }
-    ensures pass { mtr.new.pass.ghost_name ≡ mtr.old.pass.ghost_name }
-    ensures taken { (held : List ℕ) → CanTakePage mtr.old.latches.now.sizes
-        (L.lawful mtr.old.latches.now.sizes.pages)
-        (by_place L.opening mtr.old.latches.now.sizes.pages) held page mtr.old.pass.now
-        → HasTakenPage mtr.old.latches.now.sizes (L.lawful mtr.old.latches.now.sizes.pages)
-        (by_place L.opening mtr.old.latches.now.sizes.pages) held page
-        mtr.old.pass.now mtr.new.pass.now }
+    requires holds { (held : List ℕ) × under L.Law mtr.old.latches.now CanTakePage held page
+        mtr.old.pass.now }
+    ensures still { IsStillMtr mtr.old mtr.new }
+    ensures taken { (held : List ℕ) → under L.Law mtr.old.latches.now CanTakePage held page
+        mtr.old.pass.now → under L.Law mtr.old.latches.now HasTakenPage held page mtr.old.pass.now
+        mtr.new.pass.now }
 {
     let _ = mtr.geometry().pages();
     take(rt, mtr, Latch::page(page), Mode::X, Level::TreeNode);
@@ -245,20 +206,10 @@ pub(crate) fn take_page<L: Law, R: Wait>(rt: &R, mtr: &mut Mtr<'_, L, Parkers>, 
 pub(crate) fn take_beside<L: Law, R: Wait>(rt: &R, mtr: &mut Mtr<'_, L, Parkers>, page: u32)
     requires mtr { IsMtr mtr.old.latches.now mtr.old.pass.now }
     requires room { total mtr.old.pass.now.view.grants < 2 ^ 52 }
-    requires ready { (held : List ℕ) × (more : List ℕ) × WillTake mtr.old.latches.now.sizes
-        (L.lawful mtr.old.latches.now.sizes.pages)
-        (by_place L.opening mtr.old.latches.now.sizes.pages) held (beside page ++ more)
-        mtr.old.pass.now }
-    ensures mtr { IsMtr mtr.new.latches.now mtr.new.pass.now }
-    ensures latches { mtr.new.latches ≡ mtr.old.latches }
-    ensures pass { mtr.new.pass.ghost_name ≡ mtr.old.pass.ghost_name }
-    ensures taken { (held more : List ℕ) → WillTake mtr.old.latches.now.sizes
-        (L.lawful mtr.old.latches.now.sizes.pages)
-        (by_place L.opening mtr.old.latches.now.sizes.pages) held (beside page ++ more)
-        mtr.old.pass.now
-        → HasTakenMore mtr.old.latches.now.sizes (L.lawful mtr.old.latches.now.sizes.pages)
-        (by_place L.opening mtr.old.latches.now.sizes.pages) held (beside page)
-        mtr.old.pass.now mtr.new.pass.now }
+    requires ready { under L.Law mtr.old.latches.now MayTakeFirst (beside page) mtr.old.pass.now }
+    ensures still { IsStillMtr mtr.old mtr.new }
+    ensures taken { under L.Law mtr.old.latches.now TakesFirst (beside page) mtr.old.pass.now
+        mtr.new.pass.now }
 {
     if page == 0 {
         return;
@@ -266,25 +217,18 @@ pub(crate) fn take_beside<L: Law, R: Wait>(rt: &R, mtr: &mut Mtr<'_, L, Parkers>
     take_page(rt, mtr, page);
 }
 
-// Takes the nodes of the way, from the root down.
+// Takes the nodes of the path, from the root down.
 fn take_nodes<L: Law, R: Wait>(rt: &R, mtr: &mut Mtr<'_, L, Parkers>, path: &Path)
     requires mtr { IsMtr mtr.old.latches.now mtr.old.pass.now }
     requires room { total mtr.old.pass.now.view.grants + 32 ≤ 2 ^ 52 }
     requires ready { (front : List ℕ) × (more : List ℕ) × (leaf : ℕ)
-        × (path.now ≡ front ++ leaf ∷ []) × WillTake mtr.old.latches.now.sizes
-        (L.lawful mtr.old.latches.now.sizes.pages)
-        (by_place L.opening mtr.old.latches.now.sizes.pages) [] (front ++ more)
-        mtr.old.pass.now }
-    ensures mtr { IsMtr mtr.new.latches.now mtr.new.pass.now }
-    ensures latches { mtr.new.latches ≡ mtr.old.latches }
-    ensures pass { mtr.new.pass.ghost_name ≡ mtr.old.pass.ghost_name }
+        × (path.now ≡ front ++ leaf ∷ []) × under L.Law mtr.old.latches.now WillTake []
+        (front ++ more) mtr.old.pass.now }
+    ensures still { IsStillMtr mtr.old mtr.new }
     ensures taken { (front more : List ℕ) (leaf : ℕ) → path.now ≡ front ++ leaf ∷ []
-        → WillTake mtr.old.latches.now.sizes (L.lawful mtr.old.latches.now.sizes.pages)
-        (by_place L.opening mtr.old.latches.now.sizes.pages) [] (front ++ more)
-        mtr.old.pass.now
-        → HasTakenMore mtr.old.latches.now.sizes (L.lawful mtr.old.latches.now.sizes.pages)
-        (by_place L.opening mtr.old.latches.now.sizes.pages) [] front
-        mtr.old.pass.now mtr.new.pass.now }
+        → under L.Law mtr.old.latches.now WillTake [] (front ++ more) mtr.old.pass.now
+        → under L.Law mtr.old.latches.now HasTakenMore [] front mtr.old.pass.now
+        mtr.new.pass.now }
 {
     let pages = path.pages();
     let mut at = 0;
@@ -311,17 +255,10 @@ pub(crate) fn right_of<L: Law, S: Sleep>(mtr: &Mtr<'_, L, S>, leaf: u32) -> u32
 fn take_leaves<L: Law, R: Wait>(rt: &R, mtr: &mut Mtr<'_, L, Parkers>, leaf: u32, left: u32)
     requires mtr { IsMtr mtr.old.latches.now mtr.old.pass.now }
     requires room { total mtr.old.pass.now.view.grants + 8 ≤ 2 ^ 52 }
-    requires ready { MayTakeLeaves mtr.old.latches.now.sizes
-        (L.lawful mtr.old.latches.now.sizes.pages)
-        (by_place L.opening mtr.old.latches.now.sizes.pages) leaf left mtr.old.pass.now }
-    ensures mtr { IsMtr mtr.new.latches.now mtr.new.pass.now }
-    ensures latches { mtr.new.latches ≡ mtr.old.latches }
-    ensures pass { mtr.new.pass.ghost_name ≡ mtr.old.pass.ghost_name }
-    ensures taken { (r : MayTakeLeaves mtr.old.latches.now.sizes
-        (L.lawful mtr.old.latches.now.sizes.pages)
-        (by_place L.opening mtr.old.latches.now.sizes.pages) leaf left mtr.old.pass.now)
-        → HasTakenMore mtr.old.latches.now.sizes (L.lawful mtr.old.latches.now.sizes.pages)
-        (by_place L.opening mtr.old.latches.now.sizes.pages) r.held
+    requires ready { under L.Law mtr.old.latches.now MayTakeLeaves leaf left mtr.old.pass.now }
+    ensures still { IsStillMtr mtr.old mtr.new }
+    ensures taken { (r : under L.Law mtr.old.latches.now MayTakeLeaves leaf left mtr.old.pass.now)
+        → under L.Law mtr.old.latches.now HasTakenMore r.held
         (beside left ++ leaf ∷ beside r.right) mtr.old.pass.now mtr.new.pass.now }
 {
     take_beside(rt, mtr, left);
@@ -332,38 +269,29 @@ fn take_leaves<L: Law, R: Wait>(rt: &R, mtr: &mut Mtr<'_, L, Parkers>, leaf: u32
 
 /// Descends to the leaf of a key for an insert that may change the tree's structure
 /// (`btr_cur_search_to_nth_level` with `BTR_MODIFY_TREE`; the order of latches is WL#6326's): the index
-/// is claimed in SX, and the way read page by page in S, each given up again at once. Then the pages of
-/// the way are taken in X by level downward and loaded, and on the leaf level from left to right the
+/// is claimed in SX, and the path read page by page in S, each given up again at once. Then the pages of
+/// the path are taken in X by level downward and loaded, and on the leaf level from left to right the
 /// leaf before the key's leaf, that leaf, and the leaf behind it. The session holds nothing before, and
-/// the index is not watched; the path is the key's way.
+/// the index is not watched; the key's path is answered.
 pub fn descend_to_insert<L: Trees, R: Wait>(
     rt: &R,
     mtr: &mut Mtr<'_, L, Parkers>,
     root: u32,
     key: Key,
 ) -> Path
-    requires mtr { IsMtr mtr.old.latches.now mtr.old.pass.now }
-    requires memo { mtr.old.pass.now.memo ≡ [] }
-    requires none { mtr.old.pass.now.work ≡ [] }
+    requires may { MayDescend mtr.old.latches.now mtr.old.pass.now }
     requires unwatched { is_watched 1 mtr.old.pass.now.view.memory.since ≡ false }
-    requires room { total mtr.old.pass.now.view.grants + 64 ≤ 2 ^ 52 }
-    requires some { 0 < root }
-    requires root { root ≤ L.ROOTS }
-    ensures mtr { IsMtr mtr.new.latches.now mtr.new.pass.now }
-    ensures latches { mtr.new.latches ≡ mtr.old.latches }
-    ensures pass { mtr.new.pass.ghost_name ≡ mtr.old.pass.ghost_name }
-    ensures claimed { (held : List ℕ) × HasClaimed mtr.old.latches.now.sizes
-        (L.lawful mtr.old.latches.now.sizes.pages)
-        (by_place L.opening mtr.old.latches.now.sizes.pages) root key result held
-        mtr.old.pass.now mtr.new.pass.now
-        × IsWayWithLeaves (pages_after (by_place L.opening mtr.old.latches.now.sizes.pages)
-        mtr.new.pass.now.view.memory.seen) result held }
+    requires root { IsRoot L.ROOTS root }
+    ensures still { IsStillMtr mtr.old mtr.new }
+    ensures claimed { (held : List ℕ) × under L.Law mtr.old.latches.now HasClaimed root key result
+        held mtr.old.pass.now mtr.new.pass.now × IsPathWithLeaves
+        (pages_under L.Law mtr.old.latches.now mtr.new.pass.now) result held }
     ensures alone { is_claimed mtr.new.pass.now.view.memory.since ≡ true }
 {
     shape_of(mtr);
     claim_index(rt, mtr);
-    let way = read_way(rt, mtr, Sought { root, key });
-    take_nodes(rt, mtr, &way.path);
-    take_leaves(rt, mtr, way.leaf, way.left);
-    way.path
+    let found = read_path(rt, mtr, Sought { root, key });
+    take_nodes(rt, mtr, &found.path);
+    take_leaves(rt, mtr, found.leaf, found.left);
+    found.path
 }

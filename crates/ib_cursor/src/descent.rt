@@ -1,25 +1,25 @@
 //! The descent, from the index to the leaf of a key.
 
 ghost use Rattle.std.specs.Prelude.{◌≡◌, ◌+◌, ◌-◌, ◌*◌, ◌<◌, ◌≤◌, ◌^◌, ◌∷◌, [], Bool, false, Some, IfErr, IfOk};
-ghost use Rattle.ib_map.specs.Keys.{rank, end_rank};
-ghost use Rattle.ib_logrec.specs.Log.{by_place};
 ghost use Rattle.ib_heap.specs.declared.TheConstants.{MOST_LEVEL};
 ghost use Rattle.ib_rule.specs.Pass.{PassState};
+ghost use Rattle.ib_rule.specs.Under.{under, under_lawful};
 ghost use Rattle.ib_rule.specs.Views.{total, with_grant};
 ghost use Rattle.ib_walk.specs.Trees.{height_of};
-ghost use Rattle.ib_tree.specs.Logs.{pages_after};
-ghost use Rattle.ib_mtr.specs.Mtr.{IsMtr};
-ghost use Rattle.ib_cursor.specs.Descent.{HasCome, HasDescended, IsAt, IsDown, IsStanding};
+ghost use Rattle.ib_mtr.specs.Mtr.{IsMtr, IsStillMtr};
+ghost use Rattle.ib_cursor.specs.Descent.{HasReached, HasDescended, IsAt, IsDown, IsHeldAt, MayDescend};
 ghost use Rattle.ib_cursor.specs.Going.{HasSeen, WentOn};
 ghost use Rattle.ib_cursor.specs.Grants.{HasGrants, index_grant};
-ghost use Rattle.ib_cursor.specs.Hindrance.{IsHindered};
+ghost use Rattle.ib_cursor.specs.Contention.{IsContended};
 ghost use Rattle.ib_cursor.specs.Modes.{is_exclusive};
+ghost use Rattle.ib_cursor.specs.Spaces.{pages_under};
+ghost use Rattle.ib_cursor.specs.OnPath.{IsSought, IsRoot};
 
 use crate::fault::NowaitFault;
 use crate::held_page::{child_of, level_of};
-use crate::nowait::come_to_leaf_nowait;
+use crate::latch_page::{latch_page, read, take};
+use crate::nowait::reach_leaf_nowait;
 use crate::search::{Search, Sought};
-use crate::stands::{read, stand, take};
 use ib_latch::{Parkers, Sleep};
 use ib_levels::{Latch, Level, Mode};
 use ib_map::Key;
@@ -29,7 +29,7 @@ use ib_tree::Trees;
 use std::sync::Wait;
 
 // Takes the root behind the index, looks, and reads its level.
-fn stand_on_root<L: Trees, R: Wait>(
+fn latch_root<L: Trees, R: Wait>(
     rt: &R,
     mtr: &mut Mtr<'_, L, Parkers>,
     sought: Sought,
@@ -39,27 +39,21 @@ fn stand_on_root<L: Trees, R: Wait>(
     requires index { HasGrants (index_grant ∷ []) mtr.old.pass.now }
     requires none { mtr.old.pass.now.work ≡ [] }
     requires room { total mtr.old.pass.now.view.grants < 2 ^ 52 }
-    requires some { 0 < sought.root }
-    requires root { sought.root ≤ L.ROOTS }
-    requires key { rank sought.key < end_rank }
-    ensures mtr { IsMtr mtr.new.latches.now mtr.new.pass.now }
-    ensures latches { mtr.new.latches ≡ mtr.old.latches }
-    ensures pass { mtr.new.pass.ghost_name ≡ mtr.old.pass.ghost_name }
-    ensures here { IsAt mtr.old.latches.now.sizes (L.lawful mtr.old.latches.now.sizes.pages)
-        (by_place L.opening mtr.old.latches.now.sizes.pages) sought.root sought.key
-        (index_grant ∷ []) sought.root result mode mtr.new.pass.now }
-    ensures height { result ≡ height_of (pages_after
-        (by_place L.opening mtr.old.latches.now.sizes.pages)
-        mtr.new.pass.now.view.memory.seen) sought.root }
+    requires sought { IsSought L.ROOTS sought.root sought.key }
+    ensures still { IsStillMtr mtr.old mtr.new }
+    ensures here { under L.Law mtr.old.latches.now IsAt sought.root sought.key (index_grant ∷ [])
+        sought.root result mode mtr.new.pass.now }
+    ensures height { result ≡ height_of (pages_under L.Law mtr.old.latches.now mtr.new.pass.now)
+        sought.root }
     ensures low { result ≤ MOST_LEVEL }
-    ensures seen { HasSeen mtr.old.latches.now.sizes
-        (L.lawful mtr.old.latches.now.sizes.pages) mtr.old.pass.now mtr.new.pass.now }
+    ensures seen { under_lawful L.Law mtr.old.latches.now HasSeen mtr.old.pass.now
+        mtr.new.pass.now }
     ensures grants { mtr.new.pass.now.view.grants
         ≡ with_grant (Some mode) mtr.old.pass.now.view.grants }
 {
     L::trees_law();
     let _ = mtr.geometry().pages();
-    stand(rt, mtr, sought.root, mode);
+    latch_page(rt, mtr, sought.root, mode);
     level_of(mtr, sought.root)
 }
 
@@ -74,20 +68,14 @@ fn step_down<L: Trees, R: Wait>(
     mode: Mode,
 ) -> u32
     requires mtr { IsMtr mtr.old.latches.now mtr.old.pass.now }
-    requires here { IsStanding mtr.old.latches.now.sizes (L.lawful mtr.old.latches.now.sizes.pages)
-        (by_place L.opening mtr.old.latches.now.sizes.pages) sought.root sought.key
+    requires here { under L.Law mtr.old.latches.now IsHeldAt sought.root sought.key
         (index_grant ∷ []) page level mtr.old.pass.now }
     requires node { 0 < level }
     requires room { total mtr.old.pass.now.view.grants < 2 ^ 52 }
-    requires some { 0 < sought.root }
-    requires root { sought.root ≤ L.ROOTS }
-    requires key { rank sought.key < end_rank }
-    ensures mtr { IsMtr mtr.new.latches.now mtr.new.pass.now }
-    ensures latches { mtr.new.latches ≡ mtr.old.latches }
-    ensures pass { mtr.new.pass.ghost_name ≡ mtr.old.pass.ghost_name }
-    ensures here { IsAt mtr.old.latches.now.sizes (L.lawful mtr.old.latches.now.sizes.pages)
-        (by_place L.opening mtr.old.latches.now.sizes.pages) sought.root sought.key
-        (index_grant ∷ []) result (level - 1) mode mtr.new.pass.now }
+    requires sought { IsSought L.ROOTS sought.root sought.key }
+    ensures still { IsStillMtr mtr.old mtr.new }
+    ensures here { under L.Law mtr.old.latches.now IsAt sought.root sought.key (index_grant ∷ [])
+        result (level - 1) mode mtr.new.pass.now }
     ensures went { WentOn mtr.old.pass.now mtr.new.pass.now }
     ensures grants { mtr.new.pass.now.view.grants
         ≡ with_grant (Some mode) mtr.old.pass.now.view.grants }
@@ -95,36 +83,28 @@ fn step_down<L: Trees, R: Wait>(
     L::trees_law();
     let _ = mtr.geometry().pages();
     let child = child_of(mtr, page, sought.key);
-    stand(rt, mtr, child, mode);
+    latch_page(rt, mtr, child, mode);
     mtr.release_at(1);
     child
 }
 
 // Takes the index in S and the root behind it: in S, and where that is a leaf which the search is to
 // change, in X after it gave the S up.
-fn come_in<L: Trees, R: Wait>(
+fn reach_root<L: Trees, R: Wait>(
     rt: &R,
     mtr: &mut Mtr<'_, L, Parkers>,
     sought: Sought,
     search: Search,
 ) -> u32
-    requires mtr { IsMtr mtr.old.latches.now mtr.old.pass.now }
-    requires memo { mtr.old.pass.now.memo ≡ [] }
-    requires none { mtr.old.pass.now.work ≡ [] }
-    requires room { total mtr.old.pass.now.view.grants + 64 ≤ 2 ^ 52 }
-    requires some { 0 < sought.root }
-    requires root { sought.root ≤ L.ROOTS }
-    requires key { rank sought.key < end_rank }
-    ensures mtr { IsMtr mtr.new.latches.now mtr.new.pass.now }
-    ensures latches { mtr.new.latches ≡ mtr.old.latches }
-    ensures pass { mtr.new.pass.ghost_name ≡ mtr.old.pass.ghost_name }
-    ensures down { IsDown mtr.old.latches.now.sizes (L.lawful mtr.old.latches.now.sizes.pages)
-        (by_place L.opening mtr.old.latches.now.sizes.pages) sought.root sought.key
-        (index_grant ∷ []) (is_exclusive search) 0 sought.root result
-        mtr.old.pass.now mtr.new.pass.now }
+    requires may { MayDescend mtr.old.latches.now mtr.old.pass.now }
+    requires sought { IsSought L.ROOTS sought.root sought.key }
+    ensures still { IsStillMtr mtr.old mtr.new }
+    ensures down { under L.Law mtr.old.latches.now IsDown sought.root sought.key
+        (index_grant ∷ []) (is_exclusive search) 0 sought.root result mtr.old.pass.now
+        mtr.new.pass.now }
 {
     take(rt, mtr, Latch::INDEX, Mode::S, Level::IndexTree);
-    let level = stand_on_root(rt, mtr, sought, Mode::S);
+    let level = latch_root(rt, mtr, sought, Mode::S);
     if level > 0 {
         return level;
     }
@@ -132,37 +112,29 @@ fn come_in<L: Trees, R: Wait>(
         Search::Find => level,
         Search::ModifyLeaf => {
             mtr.release_at(1);
-            stand_on_root(rt, mtr, sought, Mode::X)
+            latch_root(rt, mtr, sought, Mode::X)
         }
     }
 }
 
 // Descends from a root to the leaf of a key, which is held at the end, and not loaded: it is the last page
 // of the path.
-pub(crate) fn come_to_leaf<L: Trees, R: Wait>(
+pub(crate) fn reach_leaf<L: Trees, R: Wait>(
     rt: &R,
     mtr: &mut Mtr<'_, L, Parkers>,
     sought: Sought,
     search: Search,
 ) -> Path
-    requires mtr { IsMtr mtr.old.latches.now mtr.old.pass.now }
-    requires memo { mtr.old.pass.now.memo ≡ [] }
-    requires none { mtr.old.pass.now.work ≡ [] }
-    requires room { total mtr.old.pass.now.view.grants + 64 ≤ 2 ^ 52 }
-    requires some { 0 < sought.root }
-    requires root { sought.root ≤ L.ROOTS }
-    requires key { rank sought.key < end_rank }
-    ensures mtr { IsMtr mtr.new.latches.now mtr.new.pass.now }
-    ensures latches { mtr.new.latches ≡ mtr.old.latches }
-    ensures pass { mtr.new.pass.ghost_name ≡ mtr.old.pass.ghost_name }
-    ensures come { HasCome mtr.old.latches.now.sizes (L.lawful mtr.old.latches.now.sizes.pages)
-        (by_place L.opening mtr.old.latches.now.sizes.pages) sought.root sought.key
+    requires may { MayDescend mtr.old.latches.now mtr.old.pass.now }
+    requires sought { IsSought L.ROOTS sought.root sought.key }
+    ensures still { IsStillMtr mtr.old mtr.new }
+    ensures reached { under L.Law mtr.old.latches.now HasReached sought.root sought.key
         (is_exclusive search) result mtr.old.pass.now mtr.new.pass.now }
     ensures none { mtr.new.pass.now.work ≡ [] }
 {
     let mut path = Path::new();
     let mut page = sought.root;
-    let mut level = come_in(rt, mtr, sought, search);
+    let mut level = reach_root(rt, mtr, sought, search);
     while level > 0 {
         path.push(page);
         level -= 1;
@@ -177,23 +149,14 @@ pub(crate) fn come_to_leaf<L: Trees, R: Wait>(
 fn load_end<L: Trees, S: Sleep>(mtr: &mut Mtr<'_, L, S>, path: &Path, sought: Sought)
     requires mtr { IsMtr mtr.old.latches.now mtr.old.pass.now }
     requires none { mtr.old.pass.now.work ≡ [] }
-    requires some { 0 < sought.root }
-    requires root { sought.root ≤ L.ROOTS }
-    requires key { rank sought.key < end_rank }
-    requires come { (exclusive : Bool) × (p : PassState) × HasCome mtr.old.latches.now.sizes
-        (L.lawful mtr.old.latches.now.sizes.pages)
-        (by_place L.opening mtr.old.latches.now.sizes.pages) sought.root sought.key exclusive
-        path.now p mtr.old.pass.now }
-    ensures mtr { IsMtr mtr.new.latches.now mtr.new.pass.now }
-    ensures latches { mtr.new.latches ≡ mtr.old.latches }
-    ensures pass { mtr.new.pass.ghost_name ≡ mtr.old.pass.ghost_name }
-    ensures descended { (exclusive : Bool) (p : PassState) → HasCome mtr.old.latches.now.sizes
-        (L.lawful mtr.old.latches.now.sizes.pages)
-        (by_place L.opening mtr.old.latches.now.sizes.pages) sought.root sought.key exclusive
-        path.now p mtr.old.pass.now → HasDescended mtr.old.latches.now.sizes
-        (L.lawful mtr.old.latches.now.sizes.pages)
-        (by_place L.opening mtr.old.latches.now.sizes.pages) sought.root sought.key exclusive
-        path.now p mtr.new.pass.now }
+    requires sought { IsSought L.ROOTS sought.root sought.key }
+    requires reached { (exclusive : Bool) × (p : PassState) × under L.Law mtr.old.latches.now HasReached
+        sought.root sought.key exclusive path.now p mtr.old.pass.now }
+    ensures still { IsStillMtr mtr.old mtr.new }
+    ensures descended { (exclusive : Bool) (p : PassState)
+        → under L.Law mtr.old.latches.now HasReached sought.root sought.key exclusive path.now p
+        mtr.old.pass.now → under L.Law mtr.old.latches.now HasDescended sought.root sought.key
+        exclusive path.now p mtr.new.pass.now }
     ensures looks { mtr.new.pass.now.view.looks ≡ mtr.old.pass.now.view.looks }
 {
     L::trees_law();
@@ -214,22 +177,14 @@ pub fn descend_at<L: Trees, R: Wait>(
     mode: Search,
     key: Key,
 ) -> Path
-    requires mtr { IsMtr mtr.old.latches.now mtr.old.pass.now }
-    requires memo { mtr.old.pass.now.memo ≡ [] }
-    requires none { mtr.old.pass.now.work ≡ [] }
-    requires room { total mtr.old.pass.now.view.grants + 64 ≤ 2 ^ 52 }
-    requires some { 0 < root }
-    requires root { root ≤ L.ROOTS }
-    ensures mtr { IsMtr mtr.new.latches.now mtr.new.pass.now }
-    ensures latches { mtr.new.latches ≡ mtr.old.latches }
-    ensures pass { mtr.new.pass.ghost_name ≡ mtr.old.pass.ghost_name }
-    ensures descended { HasDescended mtr.old.latches.now.sizes
-        (L.lawful mtr.old.latches.now.sizes.pages)
-        (by_place L.opening mtr.old.latches.now.sizes.pages) root key (is_exclusive mode) result
-        mtr.old.pass.now mtr.new.pass.now }
+    requires may { MayDescend mtr.old.latches.now mtr.old.pass.now }
+    requires root { IsRoot L.ROOTS root }
+    ensures still { IsStillMtr mtr.old mtr.new }
+    ensures descended { under L.Law mtr.old.latches.now HasDescended root key (is_exclusive mode)
+        result mtr.old.pass.now mtr.new.pass.now }
 {
     let sought = Sought { root, key };
-    let path = come_to_leaf(rt, mtr, sought, mode);
+    let path = reach_leaf(rt, mtr, sought, mode);
     load_end(mtr, &path, sought);
     path
 }
@@ -241,51 +196,35 @@ pub fn descend<L: Trees, R: Wait>(
     mode: Search,
     key: Key,
 ) -> Path
-    requires mtr { IsMtr mtr.old.latches.now mtr.old.pass.now }
-    requires memo { mtr.old.pass.now.memo ≡ [] }
-    requires none { mtr.old.pass.now.work ≡ [] }
-    requires room { total mtr.old.pass.now.view.grants + 64 ≤ 2 ^ 52 }
+    requires may { MayDescend mtr.old.latches.now mtr.old.pass.now }
     requires root { 1 ≤ L.ROOTS }
-    ensures mtr { IsMtr mtr.new.latches.now mtr.new.pass.now }
-    ensures latches { mtr.new.latches ≡ mtr.old.latches }
-    ensures pass { mtr.new.pass.ghost_name ≡ mtr.old.pass.ghost_name }
-    ensures descended { HasDescended mtr.old.latches.now.sizes
-        (L.lawful mtr.old.latches.now.sizes.pages)
-        (by_place L.opening mtr.old.latches.now.sizes.pages) 1 key (is_exclusive mode) result
-        mtr.old.pass.now mtr.new.pass.now }
+    ensures still { IsStillMtr mtr.old mtr.new }
+    ensures descended { under L.Law mtr.old.latches.now HasDescended 1 key (is_exclusive mode)
+        result mtr.old.pass.now mtr.new.pass.now }
 {
     descend_at(rt, mtr, 1, mode, key)
 }
 
 /// The same as a reader without waiting: each latch is tried (`rw_lock_s_lock_nowait`). Where one is
 /// refused, the log's end is looked at, and then the latches are given up: memo and work set are empty
-/// again. `Busy` and `Raced` tell the latch that was not had, the index or a page of the key's way, and
-/// the words of the try. There are two looks at most for each latch of the longest way that a tree can have.
+/// again. `Busy` and `Raced` tell the latch that was not had, the index or a page of the key's path, and
+/// the words of the try. There are two looks at most for each latch of the longest path that a tree can have.
 pub fn descend_nowait<L: Trees, S: Sleep>(
     mtr: &mut Mtr<'_, L, S>,
     key: Key,
 ) -> Result<Path, NowaitFault>
-    requires mtr { IsMtr mtr.old.latches.now mtr.old.pass.now }
-    requires memo { mtr.old.pass.now.memo ≡ [] }
-    requires none { mtr.old.pass.now.work ≡ [] }
-    requires room { total mtr.old.pass.now.view.grants + 64 ≤ 2 ^ 52 }
+    requires may { MayDescend mtr.old.latches.now mtr.old.pass.now }
     requires root { 1 ≤ L.ROOTS }
-    ensures mtr { IsMtr mtr.new.latches.now mtr.new.pass.now }
-    ensures latches { mtr.new.latches ≡ mtr.old.latches }
-    ensures pass { mtr.new.pass.ghost_name ≡ mtr.old.pass.ghost_name }
-    ensures descended { IfOk result (λ path. HasDescended mtr.old.latches.now.sizes
-        (L.lawful mtr.old.latches.now.sizes.pages)
-        (by_place L.opening mtr.old.latches.now.sizes.pages) 1 key false path
-        mtr.old.pass.now mtr.new.pass.now) }
-    ensures hindered { IfErr result (λ fault. IsHindered mtr.old.latches.now.sizes
-        (L.lawful mtr.old.latches.now.sizes.pages)
-        (by_place L.opening mtr.old.latches.now.sizes.pages) 1 key fault
-        mtr.old.pass.now mtr.new.pass.now) }
+    ensures still { IsStillMtr mtr.old mtr.new }
+    ensures descended { IfOk result (λ path. under L.Law mtr.old.latches.now HasDescended 1 key
+        false path mtr.old.pass.now mtr.new.pass.now) }
+    ensures contended { IfErr result (λ fault. under L.Law mtr.old.latches.now IsContended 1 key
+        fault mtr.old.pass.now mtr.new.pass.now) }
     ensures few { mtr.new.pass.now.view.looks.count
         ≤ mtr.old.pass.now.view.looks.count + 2 * (MOST_LEVEL + 2) }
 {
     let sought = Sought { root: 1, key };
-    let path = come_to_leaf_nowait(mtr, sought)?;
+    let path = reach_leaf_nowait(mtr, sought)?;
     load_end(mtr, &path, sought);
     Ok(path)
 }

@@ -7,7 +7,7 @@ use ib_levels::Latch;
 use ib_word::LockWord;
 use thiserror::Error;
 
-/// The latch that was not had: the index, or a page on the way of the key.
+/// The latch that was not had: the index, or a page on the path of the key.
 #[derive(Clone, Copy, PartialEq, Eq, Debug, Error)]
 pub enum NowaitFault {
     /// The word found refuses S.
@@ -26,7 +26,7 @@ pub enum NowaitFault {
 }
 
 impl NowaitFault {
-    ghost use Rattle.ib_cursor.specs.Hindrance.{fault_on};
+    ghost use Rattle.ib_cursor.specs.Contention.{fault_on};
 
     // A try on a latch that was refused.
     pub(crate) fn of(latch: Latch, fault: TryFault) -> NowaitFault

@@ -1,6 +1,6 @@
 //! A page that is read where it lies, under its latch.
 
-ghost use Rattle.std.specs.Prelude.{◌≡◌, ◌<◌, ◌-◌, ◌≤◌, ◌^◌, refl, slice_get, IsSomeAnd};
+ghost use Rattle.std.specs.Prelude.{◌≡◌, ◌<◌, ◌≤◌, ◌^◌, refl, slice_get, IsSomeAnd};
 ghost use Rattle.std.proofs.Common.{◌∙◌};
 ghost use Rattle.ib_map.specs.Keys.{rank};
 ghost use Rattle.ib_map.specs.Pairs.{value_at};
@@ -9,8 +9,9 @@ ghost use Rattle.ib_page.specs.Image.{IsTreePage, level_of, records_of};
 ghost use Rattle.ib_heap.specs.declared.TheConstants.{MOST_LEVEL};
 ghost use Rattle.ib_walk.specs.Search.{child_for};
 ghost use Rattle.ib_walk.specs.Words.{image_of};
-ghost use Rattle.ib_mtr.specs.Mtr.{IsMtr};
-ghost use Rattle.ib_cursor.specs.Reading.{CanRead, HasReadWords, read_none, read_more};
+ghost use Rattle.ib_mtr.specs.Mtr.{IsStillMtr};
+ghost use Rattle.ib_cursor.specs.Reading.{CanRead, HasReadHeld, HasReadWords, read_more, read_none};
+ghost use Rattle.ib_cursor.specs.Spaces.{words_under};
 
 use ib_latch::Sleep;
 use ib_logrec::Law;
@@ -45,62 +46,46 @@ impl<'m, 'a, L: Law, S: Sleep> PageWords for HeldPage<'m, 'a, L, S> {
 impl<'m, 'a, L: Law, S: Sleep> HeldPage<'m, 'a, L, S> {
     // The level of the page, by one word of it.
     fn level(&mut self) -> u32
-        requires can { CanRead self.old.mtr.now.latches.now self.old.page self.old.mtr.now.pass.now }
-        requires tree { IsTreePage (image_of (memory_after (by_place L.opening
-            self.old.mtr.now.latches.now.sizes.pages)
-            self.old.mtr.now.pass.now.view.memory.seen) self.old.page) }
-        ensures level { result ≡ level_of (image_of (memory_after (by_place L.opening
-            self.old.mtr.now.latches.now.sizes.pages)
-            self.old.mtr.now.pass.now.view.memory.seen) self.old.page) }
+        requires can { CanRead self.old.mtr.now.latches.now self.old.page
+            self.old.mtr.now.pass.now }
+        requires tree { IsTreePage (words_under L.Law self.old.mtr.now.latches.now
+            self.old.mtr.now.pass.now self.old.page) }
+        ensures level { result ≡ level_of (words_under L.Law self.old.mtr.now.latches.now
+            self.old.mtr.now.pass.now self.old.page) }
         ensures low { result ≤ MOST_LEVEL }
-        ensures same { self.new.mtr.ghost_name ≡ self.old.mtr.ghost_name }
-        ensures latches { self.new.mtr.now.latches ≡ self.old.mtr.now.latches }
-        ensures pass { self.new.mtr.now.pass.ghost_name ≡ self.old.mtr.now.pass.ghost_name }
-        ensures mtr { IsMtr self.new.mtr.now.latches.now self.new.mtr.now.pass.now }
-        ensures read { HasReadWords self.old.mtr.now.pass.now self.new.mtr.now.pass.now }
+        ensures read { HasReadHeld self.old.mtr self.new.mtr }
     {
         level_in(self)
     }
 
     // The child of the key on the page, which is a node.
     fn child(&mut self, key: Key) -> u32
-        requires can { CanRead self.old.mtr.now.latches.now self.old.page self.old.mtr.now.pass.now }
-        requires tree { IsTreePage (image_of (memory_after (by_place L.opening
-            self.old.mtr.now.latches.now.sizes.pages)
-            self.old.mtr.now.pass.now.view.memory.seen) self.old.page) }
-        requires first { IsSomeAnd (slice_get (records_of (image_of (memory_after (by_place L.opening
-            self.old.mtr.now.latches.now.sizes.pages)
-            self.old.mtr.now.pass.now.view.memory.seen) self.old.page)) 0)
+        requires can { CanRead self.old.mtr.now.latches.now self.old.page
+            self.old.mtr.now.pass.now }
+        requires tree { IsTreePage (words_under L.Law self.old.mtr.now.latches.now
+            self.old.mtr.now.pass.now self.old.page) }
+        requires first { IsSomeAnd (slice_get (records_of (words_under L.Law
+            self.old.mtr.now.latches.now self.old.mtr.now.pass.now self.old.page)) 0)
             (λ r. rank r.0 ≤ rank key) }
-        requires small { child_for key 0 (records_of (image_of (memory_after (by_place L.opening
-            self.old.mtr.now.latches.now.sizes.pages)
-            self.old.mtr.now.pass.now.view.memory.seen) self.old.page)) < 2 ^ 32 }
-        ensures child { result ≡ child_for key 0 (records_of (image_of (memory_after (by_place L.opening
-            self.old.mtr.now.latches.now.sizes.pages)
-            self.old.mtr.now.pass.now.view.memory.seen) self.old.page)) }
-        ensures same { self.new.mtr.ghost_name ≡ self.old.mtr.ghost_name }
-        ensures latches { self.new.mtr.now.latches ≡ self.old.mtr.now.latches }
-        ensures pass { self.new.mtr.now.pass.ghost_name ≡ self.old.mtr.now.pass.ghost_name }
-        ensures mtr { IsMtr self.new.mtr.now.latches.now self.new.mtr.now.pass.now }
-        ensures read { HasReadWords self.old.mtr.now.pass.now self.new.mtr.now.pass.now }
+        requires small { child_for key 0 (records_of (words_under L.Law
+            self.old.mtr.now.latches.now self.old.mtr.now.pass.now self.old.page)) < 2 ^ 32 }
+        ensures child { result ≡ child_for key 0 (records_of
+            (words_under L.Law self.old.mtr.now.latches.now self.old.mtr.now.pass.now
+            self.old.page)) }
+        ensures read { HasReadHeld self.old.mtr self.new.mtr }
     {
         child_in(self, key) as u32
     }
 
     // The value of the key on the page, which is a leaf.
     fn value(&mut self, key: Key) -> Option<u64>
-        requires can { CanRead self.old.mtr.now.latches.now self.old.page self.old.mtr.now.pass.now }
-        requires tree { IsTreePage (image_of (memory_after (by_place L.opening
-            self.old.mtr.now.latches.now.sizes.pages)
-            self.old.mtr.now.pass.now.view.memory.seen) self.old.page) }
-        ensures value { result ≡ value_at key (records_of (image_of (memory_after (by_place L.opening
-            self.old.mtr.now.latches.now.sizes.pages)
-            self.old.mtr.now.pass.now.view.memory.seen) self.old.page)) }
-        ensures same { self.new.mtr.ghost_name ≡ self.old.mtr.ghost_name }
-        ensures latches { self.new.mtr.now.latches ≡ self.old.mtr.now.latches }
-        ensures pass { self.new.mtr.now.pass.ghost_name ≡ self.old.mtr.now.pass.ghost_name }
-        ensures mtr { IsMtr self.new.mtr.now.latches.now self.new.mtr.now.pass.now }
-        ensures read { HasReadWords self.old.mtr.now.pass.now self.new.mtr.now.pass.now }
+        requires can { CanRead self.old.mtr.now.latches.now self.old.page
+            self.old.mtr.now.pass.now }
+        requires tree { IsTreePage (words_under L.Law self.old.mtr.now.latches.now
+            self.old.mtr.now.pass.now self.old.page) }
+        ensures value { result ≡ value_at key (records_of (words_under L.Law
+            self.old.mtr.now.latches.now self.old.mtr.now.pass.now self.old.page)) }
+        ensures read { HasReadHeld self.old.mtr self.new.mtr }
     {
         get_in(self, key)
     }
@@ -109,14 +94,11 @@ impl<'m, 'a, L: Law, S: Sleep> HeldPage<'m, 'a, L, S> {
 // The level of a page that is held, and is one of the tree, by one word of it.
 pub(crate) fn level_of<L: Law, S: Sleep>(mtr: &mut Mtr<'_, L, S>, page: u32) -> u32
     requires can { CanRead mtr.old.latches.now page mtr.old.pass.now }
-    requires tree { IsTreePage (image_of (memory_after (by_place L.opening
-        mtr.old.latches.now.sizes.pages) mtr.old.pass.now.view.memory.seen) page) }
-    ensures level { result ≡ level_of (image_of (memory_after (by_place L.opening
-        mtr.old.latches.now.sizes.pages) mtr.old.pass.now.view.memory.seen) page) }
+    requires tree { IsTreePage (words_under L.Law mtr.old.latches.now mtr.old.pass.now page) }
+    ensures level { result ≡ level_of (words_under L.Law mtr.old.latches.now mtr.old.pass.now
+        page) }
     ensures low { result ≤ MOST_LEVEL }
-    ensures mtr { IsMtr mtr.new.latches.now mtr.new.pass.now }
-    ensures latches { mtr.new.latches ≡ mtr.old.latches }
-    ensures pass { mtr.new.pass.ghost_name ≡ mtr.old.pass.ghost_name }
+    ensures still { IsStillMtr mtr.old mtr.new }
     ensures read { HasReadWords mtr.old.pass.now mtr.new.pass.now }
 {
     let mut held = HeldPage { mtr, page };
@@ -126,18 +108,14 @@ pub(crate) fn level_of<L: Law, S: Sleep>(mtr: &mut Mtr<'_, L, S>, page: u32) -> 
 // The child of the key on a node that is held: the node is not loaded, but searched where it lies.
 pub(crate) fn child_of<L: Law, S: Sleep>(mtr: &mut Mtr<'_, L, S>, page: u32, key: Key) -> u32
     requires can { CanRead mtr.old.latches.now page mtr.old.pass.now }
-    requires tree { IsTreePage (image_of (memory_after (by_place L.opening
-        mtr.old.latches.now.sizes.pages) mtr.old.pass.now.view.memory.seen) page) }
-    requires first { IsSomeAnd (slice_get (records_of (image_of (memory_after (by_place L.opening
-        mtr.old.latches.now.sizes.pages) mtr.old.pass.now.view.memory.seen) page)) 0)
-        (λ r. rank r.0 ≤ rank key) }
-    requires small { child_for key 0 (records_of (image_of (memory_after (by_place L.opening
-        mtr.old.latches.now.sizes.pages) mtr.old.pass.now.view.memory.seen) page)) < 2 ^ 32 }
-    ensures child { result ≡ child_for key 0 (records_of (image_of (memory_after (by_place L.opening
-        mtr.old.latches.now.sizes.pages) mtr.old.pass.now.view.memory.seen) page)) }
-    ensures mtr { IsMtr mtr.new.latches.now mtr.new.pass.now }
-    ensures latches { mtr.new.latches ≡ mtr.old.latches }
-    ensures pass { mtr.new.pass.ghost_name ≡ mtr.old.pass.ghost_name }
+    requires tree { IsTreePage (words_under L.Law mtr.old.latches.now mtr.old.pass.now page) }
+    requires first { IsSomeAnd (slice_get (records_of (words_under L.Law mtr.old.latches.now
+        mtr.old.pass.now page)) 0) (λ r. rank r.0 ≤ rank key) }
+    requires small { child_for key 0 (records_of (words_under L.Law mtr.old.latches.now
+        mtr.old.pass.now page)) < 2 ^ 32 }
+    ensures child { result ≡ child_for key 0 (records_of (words_under L.Law mtr.old.latches.now
+        mtr.old.pass.now page)) }
+    ensures still { IsStillMtr mtr.old mtr.new }
     ensures read { HasReadWords mtr.old.pass.now mtr.new.pass.now }
 {
     let mut held = HeldPage { mtr, page };
@@ -152,13 +130,10 @@ pub(crate) fn value_of<L: Law, S: Sleep>(
     key: Key,
 ) -> Option<u64>
     requires can { CanRead mtr.old.latches.now page mtr.old.pass.now }
-    requires tree { IsTreePage (image_of (memory_after (by_place L.opening
-        mtr.old.latches.now.sizes.pages) mtr.old.pass.now.view.memory.seen) page) }
-    ensures value { result ≡ value_at key (records_of (image_of (memory_after (by_place L.opening
-        mtr.old.latches.now.sizes.pages) mtr.old.pass.now.view.memory.seen) page)) }
-    ensures mtr { IsMtr mtr.new.latches.now mtr.new.pass.now }
-    ensures latches { mtr.new.latches ≡ mtr.old.latches }
-    ensures pass { mtr.new.pass.ghost_name ≡ mtr.old.pass.ghost_name }
+    requires tree { IsTreePage (words_under L.Law mtr.old.latches.now mtr.old.pass.now page) }
+    ensures value { result ≡ value_at key (records_of (words_under L.Law mtr.old.latches.now
+        mtr.old.pass.now page)) }
+    ensures still { IsStillMtr mtr.old mtr.new }
     ensures read { HasReadWords mtr.old.pass.now mtr.new.pass.now }
 {
     let mut held = HeldPage { mtr, page };

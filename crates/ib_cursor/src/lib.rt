@@ -1,4 +1,4 @@
-//! The cursor of a tree: the way of a key from the root to its leaf, under latches that are coupled, and
+//! The cursor of a tree: the path of a key from the root to its leaf, under latches that are coupled, and
 //! from a leaf to the next (btr0cur, btr0pcur; the order of latches is that of WL#6326).
 #![tactic(auto)]
 
@@ -6,18 +6,18 @@ mod claim;
 mod descent;
 mod fault;
 mod held_page;
+mod latch_page;
 mod lookup;
 mod next;
 mod nowait;
 mod search;
 mod siblings;
-mod stands;
 
 pub use claim::descend_to_insert;
 pub use descent::{descend, descend_at, descend_nowait};
 pub use fault::NowaitFault;
+pub use latch_page::{read, take};
 pub use lookup::{find, find_nowait};
 pub use next::next_leaf;
 pub use search::Search;
 pub use siblings::descend_to_delete;
-pub use stands::{read, take};

@@ -1,18 +1,17 @@
 //! A key looked up on its leaf, where it lies.
 
-ghost use Rattle.std.specs.Prelude.{◌≡◌, ◌+◌, ◌*◌, ◌≤◌, ◌^◌, [], false, IfErr, IfOk};
+ghost use Rattle.std.specs.Prelude.{◌≡◌, ◌+◌, ◌*◌, ◌≤◌, [], false, IfErr, IfOk};
 ghost use Rattle.ib_heap.specs.declared.TheConstants.{MOST_LEVEL};
-ghost use Rattle.ib_logrec.specs.Log.{by_place};
 ghost use Rattle.ib_rule.specs.Pass.{PassState};
-ghost use Rattle.ib_rule.specs.Views.{total};
-ghost use Rattle.ib_mtr.specs.Mtr.{IsMtr};
-ghost use Rattle.ib_cursor.specs.Descent.{HasCome, HasFound};
-ghost use Rattle.ib_cursor.specs.Hindrance.{IsHindered};
+ghost use Rattle.ib_rule.specs.Under.{under};
+ghost use Rattle.ib_mtr.specs.Mtr.{IsMtr, IsStillMtr};
+ghost use Rattle.ib_cursor.specs.Descent.{HasReached, HasFound, MayDescend};
+ghost use Rattle.ib_cursor.specs.Contention.{IsContended};
 
-use crate::descent::come_to_leaf;
+use crate::descent::reach_leaf;
 use crate::fault::NowaitFault;
 use crate::held_page::value_of;
-use crate::nowait::come_to_leaf_nowait;
+use crate::nowait::reach_leaf_nowait;
 use crate::search::{Search, Sought};
 use ib_latch::{Parkers, Sleep};
 use ib_map::Key;
@@ -26,19 +25,12 @@ fn value_at_end<L: Trees, S: Sleep>(mtr: &mut Mtr<'_, L, S>, path: &Path, key: K
     requires mtr { IsMtr mtr.old.latches.now mtr.old.pass.now }
     requires none { mtr.old.pass.now.work ≡ [] }
     requires root { 1 ≤ L.ROOTS }
-    requires come { (p : PassState) × HasCome mtr.old.latches.now.sizes
-        (L.lawful mtr.old.latches.now.sizes.pages)
-        (by_place L.opening mtr.old.latches.now.sizes.pages) 1 key false path.now p
-        mtr.old.pass.now }
-    ensures mtr { IsMtr mtr.new.latches.now mtr.new.pass.now }
-    ensures latches { mtr.new.latches ≡ mtr.old.latches }
-    ensures pass { mtr.new.pass.ghost_name ≡ mtr.old.pass.ghost_name }
-    ensures found { (p : PassState) → HasCome mtr.old.latches.now.sizes
-        (L.lawful mtr.old.latches.now.sizes.pages)
-        (by_place L.opening mtr.old.latches.now.sizes.pages) 1 key false path.now p
-        mtr.old.pass.now → HasFound mtr.old.latches.now.sizes
-        (L.lawful mtr.old.latches.now.sizes.pages)
-        (by_place L.opening mtr.old.latches.now.sizes.pages) 1 key result p mtr.new.pass.now }
+    requires reached { (p : PassState) × under L.Law mtr.old.latches.now HasReached 1 key false path.now
+        p mtr.old.pass.now }
+    ensures still { IsStillMtr mtr.old mtr.new }
+    ensures found { (p : PassState) → under L.Law mtr.old.latches.now HasReached 1 key false path.now
+        p mtr.old.pass.now → under L.Law mtr.old.latches.now HasFound 1 key result p
+        mtr.new.pass.now }
     ensures looks { mtr.new.pass.now.view.looks.count ≡ mtr.old.pass.now.view.looks.count }
 {
     L::trees_law();
@@ -52,50 +44,34 @@ fn value_at_end<L: Trees, S: Sleep>(mtr: &mut Mtr<'_, L, S>, path: &Path, key: K
 /// (`page_cur_search_with_match`). None where the key is not there. The memo has the leaf's grant alone at
 /// the end, and no page is loaded. The session holds nothing before.
 pub fn find<L: Trees, R: Wait>(rt: &R, mtr: &mut Mtr<'_, L, Parkers>, key: Key) -> Option<u64>
-    requires mtr { IsMtr mtr.old.latches.now mtr.old.pass.now }
-    requires memo { mtr.old.pass.now.memo ≡ [] }
-    requires none { mtr.old.pass.now.work ≡ [] }
-    requires room { total mtr.old.pass.now.view.grants + 64 ≤ 2 ^ 52 }
+    requires may { MayDescend mtr.old.latches.now mtr.old.pass.now }
     requires root { 1 ≤ L.ROOTS }
-    ensures mtr { IsMtr mtr.new.latches.now mtr.new.pass.now }
-    ensures latches { mtr.new.latches ≡ mtr.old.latches }
-    ensures pass { mtr.new.pass.ghost_name ≡ mtr.old.pass.ghost_name }
-    ensures found { HasFound mtr.old.latches.now.sizes
-        (L.lawful mtr.old.latches.now.sizes.pages)
-        (by_place L.opening mtr.old.latches.now.sizes.pages) 1 key result
-        mtr.old.pass.now mtr.new.pass.now }
+    ensures still { IsStillMtr mtr.old mtr.new }
+    ensures found { under L.Law mtr.old.latches.now HasFound 1 key result mtr.old.pass.now
+        mtr.new.pass.now }
 {
-    let path = come_to_leaf(rt, mtr, Sought { root: 1, key }, Search::Find);
+    let path = reach_leaf(rt, mtr, Sought { root: 1, key }, Search::Find);
     value_at_end(mtr, &path, key)
 }
 
 /// The same without waiting: each latch is tried (`rw_lock_s_lock_nowait`). Where one is refused, the log's
 /// end is looked at, and then the latches are given up: memo and work set are empty again. `Busy` and
-/// `Raced` tell the latch that was not had, the index or a page of the key's way, and the words of the
-/// try. There are two looks at most for each latch of the longest way that a tree can have.
+/// `Raced` tell the latch that was not had, the index or a page of the key's path, and the words of the
+/// try. There are two looks at most for each latch of the longest path that a tree can have.
 pub fn find_nowait<L: Trees, S: Sleep>(
     mtr: &mut Mtr<'_, L, S>,
     key: Key,
 ) -> Result<Option<u64>, NowaitFault>
-    requires mtr { IsMtr mtr.old.latches.now mtr.old.pass.now }
-    requires memo { mtr.old.pass.now.memo ≡ [] }
-    requires none { mtr.old.pass.now.work ≡ [] }
-    requires room { total mtr.old.pass.now.view.grants + 64 ≤ 2 ^ 52 }
+    requires may { MayDescend mtr.old.latches.now mtr.old.pass.now }
     requires root { 1 ≤ L.ROOTS }
-    ensures mtr { IsMtr mtr.new.latches.now mtr.new.pass.now }
-    ensures latches { mtr.new.latches ≡ mtr.old.latches }
-    ensures pass { mtr.new.pass.ghost_name ≡ mtr.old.pass.ghost_name }
-    ensures found { IfOk result (λ value. HasFound mtr.old.latches.now.sizes
-        (L.lawful mtr.old.latches.now.sizes.pages)
-        (by_place L.opening mtr.old.latches.now.sizes.pages) 1 key value
+    ensures still { IsStillMtr mtr.old mtr.new }
+    ensures found { IfOk result (λ value. under L.Law mtr.old.latches.now HasFound 1 key value
         mtr.old.pass.now mtr.new.pass.now) }
-    ensures hindered { IfErr result (λ fault. IsHindered mtr.old.latches.now.sizes
-        (L.lawful mtr.old.latches.now.sizes.pages)
-        (by_place L.opening mtr.old.latches.now.sizes.pages) 1 key fault
-        mtr.old.pass.now mtr.new.pass.now) }
+    ensures contended { IfErr result (λ fault. under L.Law mtr.old.latches.now IsContended 1 key
+        fault mtr.old.pass.now mtr.new.pass.now) }
     ensures looks { mtr.new.pass.now.view.looks.count
         ≤ mtr.old.pass.now.view.looks.count + 2 * (MOST_LEVEL + 2) }
 {
-    let path = come_to_leaf_nowait(mtr, Sought { root: 1, key })?;
+    let path = reach_leaf_nowait(mtr, Sought { root: 1, key })?;
     Ok(value_at_end(mtr, &path, key))
 }

@@ -1,13 +1,13 @@
 //! From a leaf to the next.
 
 ghost use Rattle.std.specs.Prelude.{◌≡◌, MatchOption};
-ghost use Rattle.ib_logrec.specs.Log.{by_place};
 ghost use Rattle.ib_page.specs.Image.{next_of};
-ghost use Rattle.ib_mtr.specs.Mtr.{IsMtr};
+ghost use Rattle.ib_rule.specs.Under.{under};
+ghost use Rattle.ib_mtr.specs.Mtr.{IsMtr, IsStillMtr};
 ghost use Rattle.ib_cursor.specs.Nexts.{HoldsNext, HeldLeaf};
 
 use crate::claim::right_of;
-use crate::stands::{read, take};
+use crate::latch_page::{read, take};
 use ib_latch::Parkers;
 use ib_levels::{Latch, Level, Mode};
 use ib_mtr::Mtr;
@@ -20,18 +20,12 @@ use std::sync::Wait;
 /// then nothing is changed.
 pub fn next_leaf<L: Trees, R: Wait>(rt: &R, mtr: &mut Mtr<'_, L, Parkers>, leaf: u32) -> Option<u32>
     requires mtr { IsMtr mtr.old.latches.now mtr.old.pass.now }
-    requires held { HeldLeaf mtr.old.latches.now.sizes (L.lawful mtr.old.latches.now.sizes.pages)
-        (by_place L.opening mtr.old.latches.now.sizes.pages) L.ROOTS leaf mtr.old.pass.now }
-    ensures mtr { IsMtr mtr.new.latches.now mtr.new.pass.now }
-    ensures latches { mtr.new.latches ≡ mtr.old.latches }
-    ensures pass { mtr.new.pass.ghost_name ≡ mtr.old.pass.ghost_name }
-    ensures next { (h : HeldLeaf mtr.old.latches.now.sizes
-        (L.lawful mtr.old.latches.now.sizes.pages)
-        (by_place L.opening mtr.old.latches.now.sizes.pages) L.ROOTS leaf mtr.old.pass.now)
+    requires held { under L.Law mtr.old.latches.now HeldLeaf L.ROOTS leaf mtr.old.pass.now }
+    ensures still { IsStillMtr mtr.old mtr.new }
+    ensures next { (h : under L.Law mtr.old.latches.now HeldLeaf L.ROOTS leaf mtr.old.pass.now)
         → MatchOption result ((next_of h.image ≡ 0) × (mtr.new.pass.now ≡ mtr.old.pass.now))
-        (λ next. HoldsNext mtr.old.latches.now.sizes (L.lawful mtr.old.latches.now.sizes.pages)
-        (by_place L.opening mtr.old.latches.now.sizes.pages) L.ROOTS h.front leaf h.image
-        h.range next mtr.old.pass.now mtr.new.pass.now) }
+        (λ next. under L.Law mtr.old.latches.now HoldsNext L.ROOTS h.front leaf h.image h.range
+        next mtr.old.pass.now mtr.new.pass.now) }
 {
     L::trees_law();
     let _ = mtr.geometry().pages();

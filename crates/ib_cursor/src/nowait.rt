@@ -1,25 +1,25 @@
 //! The descent that does not wait.
 
 ghost use Rattle.std.specs.Prelude.{◌≡◌, ◌+◌, ◌-◌, ◌*◌, ◌<◌, ◌≤◌, ◌^◌, ◌∷◌, [], false, Some, IfErr, IfOk, OnOk};
-ghost use Rattle.ib_map.specs.Keys.{rank, end_rank};
 ghost use Rattle.ib_levels.specs.declared.level.Mode.TheVariants.{S as ModeS};
 ghost use Rattle.ib_levels.specs.declared.level.Level.TheVariants.{TreeNode};
-ghost use Rattle.ib_layout.specs.Places.{latches_of};
 ghost use Rattle.ib_heap.specs.declared.TheConstants.{MOST_LEVEL};
 ghost use Rattle.ib_core.specs.Holders.{CanWish};
-ghost use Rattle.ib_logrec.specs.Log.{by_place};
 ghost use Rattle.ib_rule.specs.Conditions.{MayGrow};
+ghost use Rattle.ib_rule.specs.Takes.{MayTake};
+ghost use Rattle.ib_rule.specs.Under.{under, under_lawful};
 ghost use Rattle.ib_rule.specs.Views.{total, with_grant};
-ghost use Rattle.ib_mtr.specs.Mtr.{IsMtr};
-ghost use Rattle.ib_cursor.specs.Descent.{HasCome, IsAt, IsDown, IsStanding};
-ghost use Rattle.ib_cursor.specs.Going.{HasSeen, HasStood, WentOn};
+ghost use Rattle.ib_mtr.specs.Mtr.{IsMtr, IsStillMtr};
+ghost use Rattle.ib_cursor.specs.Descent.{HasReached, IsAt, IsHeldAt, MayDescend};
+ghost use Rattle.ib_cursor.specs.Going.{HasSeen, HasLatched, WentOn};
 ghost use Rattle.ib_cursor.specs.Grants.{HasGrants, HasTaken, index_grant, page_grant};
-ghost use Rattle.ib_cursor.specs.Hindrance.{IsInVain, IsStopped, IsHindered};
+ghost use Rattle.ib_cursor.specs.Contention.{IsRefusedTry, IsStopped, IsContended};
+ghost use Rattle.ib_cursor.specs.OnPath.{IsSought};
 
 use crate::fault::NowaitFault;
 use crate::held_page::{child_of, level_of};
+use crate::latch_page::look;
 use crate::search::Sought;
-use crate::stands::look;
 use ib_latch::Sleep;
 use ib_levels::{Latch, Level};
 use ib_logrec::Law;
@@ -34,17 +34,12 @@ fn try_latch<L: Law, S: Sleep>(
     level: Level,
 ) -> Result<(), NowaitFault>
     requires mtr { IsMtr mtr.old.latches.now mtr.old.pass.now }
-    requires latch { latch.0 < latches_of mtr.old.latches.now.sizes }
-    requires grows { MayGrow mtr.old.pass.now.view }
-    requires may { CanWish latch.0 level mtr.old.pass.now.view.session }
-    ensures mtr { IsMtr mtr.new.latches.now mtr.new.pass.now }
-    ensures latches { mtr.new.latches ≡ mtr.old.latches }
-    ensures pass { mtr.new.pass.ghost_name ≡ mtr.old.pass.ghost_name }
+    requires may { MayTake mtr.old.latches.now latch.0 level mtr.old.pass.now }
+    ensures still { IsStillMtr mtr.old mtr.new }
     ensures taken { OnOk result (HasTaken (record { latch = latch.0; mode = ModeS; level = level })
         mtr.old.pass.now mtr.new.pass.now) }
-    ensures vain { IfErr result (λ fault. IsInVain mtr.old.latches.now.sizes
-        (L.lawful mtr.old.latches.now.sizes.pages) latch.0 fault
-        mtr.old.pass.now mtr.new.pass.now) }
+    ensures refused_try { IfErr result (λ fault. under_lawful L.Law mtr.old.latches.now IsRefusedTry latch.0
+        fault mtr.old.pass.now mtr.new.pass.now) }
     ensures looks { mtr.old.pass.now.view.looks.count ≤ mtr.new.pass.now.view.looks.count }
     ensures few { mtr.new.pass.now.view.looks.count
         ≤ mtr.old.pass.now.view.looks.count + 2 }
@@ -59,20 +54,16 @@ fn try_latch<L: Law, S: Sleep>(
 }
 
 // Tries S on the latch of a page, and looks at the log's end either way.
-fn try_stand<L: Law, S: Sleep>(mtr: &mut Mtr<'_, L, S>, page: u32) -> Result<(), NowaitFault>
+fn try_latch_page<L: Law, S: Sleep>(mtr: &mut Mtr<'_, L, S>, page: u32) -> Result<(), NowaitFault>
     requires mtr { IsMtr mtr.old.latches.now mtr.old.pass.now }
     requires page { page < mtr.old.latches.now.sizes.pages }
     requires grows { MayGrow mtr.old.pass.now.view }
     requires may { CanWish (page + 2) TreeNode mtr.old.pass.now.view.session }
-    ensures mtr { IsMtr mtr.new.latches.now mtr.new.pass.now }
-    ensures latches { mtr.new.latches ≡ mtr.old.latches }
-    ensures pass { mtr.new.pass.ghost_name ≡ mtr.old.pass.ghost_name }
-    ensures stood { OnOk result (HasStood mtr.old.latches.now.sizes
-        (L.lawful mtr.old.latches.now.sizes.pages) (page_grant page ModeS)
-        mtr.old.pass.now mtr.new.pass.now) }
-    ensures vain { IfErr result (λ fault. IsInVain mtr.old.latches.now.sizes
-        (L.lawful mtr.old.latches.now.sizes.pages) (page + 2) fault
-        mtr.old.pass.now mtr.new.pass.now) }
+    ensures still { IsStillMtr mtr.old mtr.new }
+    ensures latched { OnOk result (under_lawful L.Law mtr.old.latches.now HasLatched
+        (page_grant page ModeS) mtr.old.pass.now mtr.new.pass.now) }
+    ensures refused_try { IfErr result (λ fault. under_lawful L.Law mtr.old.latches.now IsRefusedTry
+        (page + 2) fault mtr.old.pass.now mtr.new.pass.now) }
     ensures looks { mtr.old.pass.now.view.looks.count ≤ mtr.new.pass.now.view.looks.count }
     ensures few { mtr.new.pass.now.view.looks.count
         ≤ mtr.old.pass.now.view.looks.count + 2 }
@@ -89,32 +80,24 @@ fn try_root<L: Trees, S: Sleep>(mtr: &mut Mtr<'_, L, S>, sought: Sought) -> Resu
     requires index { HasGrants (index_grant ∷ []) mtr.old.pass.now }
     requires none { mtr.old.pass.now.work ≡ [] }
     requires room { total mtr.old.pass.now.view.grants < 2 ^ 52 }
-    requires some { 0 < sought.root }
-    requires root { sought.root ≤ L.ROOTS }
-    requires key { rank sought.key < end_rank }
-    ensures mtr { IsMtr mtr.new.latches.now mtr.new.pass.now }
-    ensures latches { mtr.new.latches ≡ mtr.old.latches }
-    ensures pass { mtr.new.pass.ghost_name ≡ mtr.old.pass.ghost_name }
-    ensures here { IfOk result (λ level. IsAt mtr.old.latches.now.sizes
-        (L.lawful mtr.old.latches.now.sizes.pages)
-        (by_place L.opening mtr.old.latches.now.sizes.pages) sought.root sought.key
-        (index_grant ∷ []) sought.root level ModeS mtr.new.pass.now) }
+    requires sought { IsSought L.ROOTS sought.root sought.key }
+    ensures still { IsStillMtr mtr.old mtr.new }
+    ensures here { IfOk result (λ level. under L.Law mtr.old.latches.now IsAt sought.root
+        sought.key (index_grant ∷ []) sought.root level ModeS mtr.new.pass.now) }
     ensures low { IfOk result (λ level. level ≤ MOST_LEVEL) }
-    ensures seen { OnOk result (HasSeen mtr.old.latches.now.sizes
-        (L.lawful mtr.old.latches.now.sizes.pages) mtr.old.pass.now mtr.new.pass.now) }
+    ensures seen { OnOk result (under_lawful L.Law mtr.old.latches.now HasSeen mtr.old.pass.now
+        mtr.new.pass.now) }
     ensures grants { OnOk result (mtr.new.pass.now.view.grants
         ≡ with_grant (Some ModeS) mtr.old.pass.now.view.grants) }
-    ensures stopped { IfErr result (λ fault. IsStopped mtr.old.latches.now.sizes
-        (L.lawful mtr.old.latches.now.sizes.pages)
-        (by_place L.opening mtr.old.latches.now.sizes.pages) sought.root sought.key fault
-        mtr.old.pass.now mtr.new.pass.now) }
+    ensures stopped { IfErr result (λ fault. under L.Law mtr.old.latches.now IsStopped sought.root
+        sought.key fault mtr.old.pass.now mtr.new.pass.now) }
     ensures looks { mtr.old.pass.now.view.looks.count ≤ mtr.new.pass.now.view.looks.count }
     ensures few { mtr.new.pass.now.view.looks.count
         ≤ mtr.old.pass.now.view.looks.count + 2 }
 {
     L::trees_law();
     let _ = mtr.geometry().pages();
-    match try_stand(mtr, sought.root) {
+    match try_latch_page(mtr, sought.root) {
         Ok(()) => Ok(level_of(mtr, sought.root)),
         Err(fault) => Err(fault),
     }
@@ -129,28 +112,19 @@ fn try_down<L: Trees, S: Sleep>(
     level: u32,
 ) -> Result<u32, NowaitFault>
     requires mtr { IsMtr mtr.old.latches.now mtr.old.pass.now }
-    requires here { IsStanding mtr.old.latches.now.sizes (L.lawful mtr.old.latches.now.sizes.pages)
-        (by_place L.opening mtr.old.latches.now.sizes.pages) sought.root sought.key
+    requires here { under L.Law mtr.old.latches.now IsHeldAt sought.root sought.key
         (index_grant ∷ []) page level mtr.old.pass.now }
     requires node { 0 < level }
     requires room { total mtr.old.pass.now.view.grants < 2 ^ 52 }
-    requires some { 0 < sought.root }
-    requires root { sought.root ≤ L.ROOTS }
-    requires key { rank sought.key < end_rank }
-    ensures mtr { IsMtr mtr.new.latches.now mtr.new.pass.now }
-    ensures latches { mtr.new.latches ≡ mtr.old.latches }
-    ensures pass { mtr.new.pass.ghost_name ≡ mtr.old.pass.ghost_name }
-    ensures here { IfOk result (λ child. IsAt mtr.old.latches.now.sizes
-        (L.lawful mtr.old.latches.now.sizes.pages)
-        (by_place L.opening mtr.old.latches.now.sizes.pages) sought.root sought.key
-        (index_grant ∷ []) child (level - 1) ModeS mtr.new.pass.now) }
+    requires sought { IsSought L.ROOTS sought.root sought.key }
+    ensures still { IsStillMtr mtr.old mtr.new }
+    ensures here { IfOk result (λ child. under L.Law mtr.old.latches.now IsAt sought.root
+        sought.key (index_grant ∷ []) child (level - 1) ModeS mtr.new.pass.now) }
     ensures went { OnOk result (WentOn mtr.old.pass.now mtr.new.pass.now) }
     ensures grants { OnOk result (mtr.new.pass.now.view.grants
         ≡ with_grant (Some ModeS) mtr.old.pass.now.view.grants) }
-    ensures stopped { IfErr result (λ fault. IsStopped mtr.old.latches.now.sizes
-        (L.lawful mtr.old.latches.now.sizes.pages)
-        (by_place L.opening mtr.old.latches.now.sizes.pages) sought.root sought.key fault
-        mtr.old.pass.now mtr.new.pass.now) }
+    ensures stopped { IfErr result (λ fault. under L.Law mtr.old.latches.now IsStopped sought.root
+        sought.key fault mtr.old.pass.now mtr.new.pass.now) }
     ensures looks { mtr.old.pass.now.view.looks.count ≤ mtr.new.pass.now.view.looks.count }
     ensures few { mtr.new.pass.now.view.looks.count
         ≤ mtr.old.pass.now.view.looks.count + 2 }
@@ -158,7 +132,7 @@ fn try_down<L: Trees, S: Sleep>(
     L::trees_law();
     let _ = mtr.geometry().pages();
     let child = child_of(mtr, page, sought.key);
-    match try_stand(mtr, child) {
+    match try_latch_page(mtr, child) {
         Ok(()) => {
             mtr.release_at(1);
             Ok(child)
@@ -170,29 +144,18 @@ fn try_down<L: Trees, S: Sleep>(
 // Descends from a root to the leaf of a key as a reader, by tries. The leaf is held at the end, and not
 // loaded: it is the last page of the path. Where a latch is refused, the log's end is looked at, and then
 // the latches are given up.
-pub(crate) fn come_to_leaf_nowait<L: Trees, S: Sleep>(
+pub(crate) fn reach_leaf_nowait<L: Trees, S: Sleep>(
     mtr: &mut Mtr<'_, L, S>,
     sought: Sought,
 ) -> Result<Path, NowaitFault>
-    requires mtr { IsMtr mtr.old.latches.now mtr.old.pass.now }
-    requires memo { mtr.old.pass.now.memo ≡ [] }
-    requires none { mtr.old.pass.now.work ≡ [] }
-    requires room { total mtr.old.pass.now.view.grants + 64 ≤ 2 ^ 52 }
-    requires some { 0 < sought.root }
-    requires root { sought.root ≤ L.ROOTS }
-    requires key { rank sought.key < end_rank }
-    ensures mtr { IsMtr mtr.new.latches.now mtr.new.pass.now }
-    ensures latches { mtr.new.latches ≡ mtr.old.latches }
-    ensures pass { mtr.new.pass.ghost_name ≡ mtr.old.pass.ghost_name }
-    ensures come { IfOk result (λ path. HasCome mtr.old.latches.now.sizes
-        (L.lawful mtr.old.latches.now.sizes.pages)
-        (by_place L.opening mtr.old.latches.now.sizes.pages) sought.root sought.key false path
-        mtr.old.pass.now mtr.new.pass.now) }
+    requires may { MayDescend mtr.old.latches.now mtr.old.pass.now }
+    requires sought { IsSought L.ROOTS sought.root sought.key }
+    ensures still { IsStillMtr mtr.old mtr.new }
+    ensures reached { IfOk result (λ path. under L.Law mtr.old.latches.now HasReached sought.root
+        sought.key false path mtr.old.pass.now mtr.new.pass.now) }
     ensures none { OnOk result (mtr.new.pass.now.work ≡ []) }
-    ensures hindered { IfErr result (λ fault. IsHindered mtr.old.latches.now.sizes
-        (L.lawful mtr.old.latches.now.sizes.pages)
-        (by_place L.opening mtr.old.latches.now.sizes.pages) sought.root sought.key fault
-        mtr.old.pass.now mtr.new.pass.now) }
+    ensures contended { IfErr result (λ fault. under L.Law mtr.old.latches.now IsContended
+        sought.root sought.key fault mtr.old.pass.now mtr.new.pass.now) }
     ensures few { mtr.new.pass.now.view.looks.count
         ≤ mtr.old.pass.now.view.looks.count + 2 * (MOST_LEVEL + 2) }
 {

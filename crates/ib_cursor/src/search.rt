@@ -5,7 +5,7 @@ ghost use Rattle.std.specs.Prelude.{◌≡◌};
 use ib_levels::Mode;
 use ib_map::Key;
 
-/// What the way of a key is searched for (`BTR_SEARCH_LEAF`, `BTR_MODIFY_LEAF`).
+/// What the path of a key is searched for (`BTR_SEARCH_LEAF`, `BTR_MODIFY_LEAF`).
 #[derive(Clone, Copy, Debug, PartialEq, Eq)]
 pub enum Search {
     /// To read the leaf: it is held in S.

@@ -1,22 +1,24 @@
-//! The pages beside the way of a key, taken for a delete.
+//! The pages beside the path of a key, taken for a delete.
 
-ghost use Rattle.std.specs.Prelude.{◌≡◌, ℕ, ◌<◌, ◌≤◌, ◌+◌, ◌-◌, ◌^◌, ◌∷◌, ◌++◌, [], true, false, List, Some, length, slice_get, IsSomeAnd};
-ghost use Rattle.ib_map.specs.Keys.{rank, end_rank};
-ghost use Rattle.ib_logrec.specs.Log.{by_place};
+ghost use Rattle.std.specs.Prelude.{◌≡◌, ℕ, ◌<◌, ◌≤◌, ◌+◌, ◌-◌, ◌^◌, ◌∷◌, true, false, List, Some, length, slice_get, IsSomeAnd};
+ghost use Rattle.ib_map.specs.Keys.{rank};
 ghost use Rattle.ib_page.specs.Image.{IsTreePage, records_of};
 ghost use Rattle.ib_page.specs.Work.{changed_of};
-ghost use Rattle.ib_plans.specs.Agreement.{last_of, way_of};
+ghost use Rattle.ib_plans.specs.Agreement.{last_of, path_of};
 ghost use Rattle.ib_plans.specs.Merge.{siblings_of};
+ghost use Rattle.ib_rule.specs.Under.{under, under_lawful};
 ghost use Rattle.ib_rule.specs.Views.{is_watched, total};
-ghost use Rattle.ib_tree.specs.Logs.{pages_after};
-ghost use Rattle.ib_mtr.specs.Mtr.{IsMtr};
+ghost use Rattle.ib_mtr.specs.Mtr.{IsMtr, IsStillMtr};
 ghost use Rattle.ib_cursor.specs.Claims.{HasClaimed};
+ghost use Rattle.ib_cursor.specs.Descent.{MayDescend};
 ghost use Rattle.ib_cursor.specs.Rows.{CanTakeRow, HasTakenRows};
 ghost use Rattle.ib_cursor.specs.Shapes.{HasIndex, is_claimed};
-ghost use Rattle.ib_cursor.specs.Siblings.{IsWayWithSiblings, child_if, with_siblings};
-ghost use Rattle.ib_cursor.specs.Takings.{HasTakenMore, WillTake};
+ghost use Rattle.ib_cursor.specs.Siblings.{IsPathWithSiblings, child_if, with_siblings};
+ghost use Rattle.ib_cursor.specs.Spaces.{pages_under};
+ghost use Rattle.ib_cursor.specs.Takings.{HasTakenMore, MayTakeFirst, TakesFirst};
+ghost use Rattle.ib_cursor.specs.OnPath.{IsSought, IsRoot};
 
-use crate::claim::{claim_index, read_way, right_of, shape_of, take_beside, take_page};
+use crate::claim::{claim_index, read_path, right_of, shape_of, take_beside, take_page};
 use crate::search::Sought;
 use ib_latch::{Parkers, Sleep};
 use ib_logrec::Law;
@@ -44,20 +46,11 @@ fn children_of<L: Law, S: Sleep>(mtr: &Mtr<'_, L, S>, node: u32, key: Key) -> Be
 fn take_child<L: Law, R: Wait>(rt: &R, mtr: &mut Mtr<'_, L, Parkers>, child: Option<(Key, u64)>)
     requires mtr { IsMtr mtr.old.latches.now mtr.old.pass.now }
     requires room { total mtr.old.pass.now.view.grants < 2 ^ 52 }
-    requires ready { (held : List ℕ) × (more : List ℕ) × WillTake mtr.old.latches.now.sizes
-        (L.lawful mtr.old.latches.now.sizes.pages)
-        (by_place L.opening mtr.old.latches.now.sizes.pages) held (child_if child ++ more)
+    requires ready { under L.Law mtr.old.latches.now MayTakeFirst (child_if child)
         mtr.old.pass.now }
-    ensures mtr { IsMtr mtr.new.latches.now mtr.new.pass.now }
-    ensures latches { mtr.new.latches ≡ mtr.old.latches }
-    ensures pass { mtr.new.pass.ghost_name ≡ mtr.old.pass.ghost_name }
-    ensures taken { (held more : List ℕ) → WillTake mtr.old.latches.now.sizes
-        (L.lawful mtr.old.latches.now.sizes.pages)
-        (by_place L.opening mtr.old.latches.now.sizes.pages) held (child_if child ++ more)
-        mtr.old.pass.now
-        → HasTakenMore mtr.old.latches.now.sizes (L.lawful mtr.old.latches.now.sizes.pages)
-        (by_place L.opening mtr.old.latches.now.sizes.pages) held (child_if child)
-        mtr.old.pass.now mtr.new.pass.now }
+    ensures still { IsStillMtr mtr.old mtr.new }
+    ensures taken { under L.Law mtr.old.latches.now TakesFirst (child_if child) mtr.old.pass.now
+        mtr.new.pass.now }
 {
     // A page of the space has a number that fits 32 bits.
     let _ = mtr.geometry().pages();
@@ -80,22 +73,15 @@ fn last_page(here: (Key, u64), right: Option<(Key, u64)>) -> u32
 fn take_row<L: Law, R: Wait>(rt: &R, mtr: &mut Mtr<'_, L, Parkers>, node: u32, key: Key) -> u32
     requires mtr { IsMtr mtr.old.latches.now mtr.old.pass.now }
     requires room { total mtr.old.pass.now.view.grants + 8 ≤ 2 ^ 52 }
-    requires ready { (held : List ℕ) × CanTakeRow mtr.old.latches.now.sizes
-        (L.lawful mtr.old.latches.now.sizes.pages)
-        (by_place L.opening mtr.old.latches.now.sizes.pages) key held node mtr.old.pass.now }
-    ensures mtr { IsMtr mtr.new.latches.now mtr.new.pass.now }
-    ensures latches { mtr.new.latches ≡ mtr.old.latches }
-    ensures pass { mtr.new.pass.ghost_name ≡ mtr.old.pass.ghost_name }
-    ensures taken { (held : List ℕ) → CanTakeRow mtr.old.latches.now.sizes
-        (L.lawful mtr.old.latches.now.sizes.pages)
-        (by_place L.opening mtr.old.latches.now.sizes.pages) key held node mtr.old.pass.now
-        → HasTakenMore mtr.old.latches.now.sizes (L.lawful mtr.old.latches.now.sizes.pages)
-        (by_place L.opening mtr.old.latches.now.sizes.pages) held
-        (with_siblings (pages_after (by_place L.opening mtr.old.latches.now.sizes.pages)
-        mtr.old.pass.now.view.memory.seen) key node) mtr.old.pass.now mtr.new.pass.now }
-    ensures last { result ≡ last_of (with_siblings (pages_after
-        (by_place L.opening mtr.old.latches.now.sizes.pages)
-        mtr.old.pass.now.view.memory.seen) key node) }
+    requires ready { (held : List ℕ) × under L.Law mtr.old.latches.now CanTakeRow key held node
+        mtr.old.pass.now }
+    ensures still { IsStillMtr mtr.old mtr.new }
+    ensures taken { (held : List ℕ) → under L.Law mtr.old.latches.now CanTakeRow key held node
+        mtr.old.pass.now → under L.Law mtr.old.latches.now HasTakenMore held
+        (with_siblings (pages_under L.Law mtr.old.latches.now mtr.old.pass.now) key node)
+        mtr.old.pass.now mtr.new.pass.now }
+    ensures last { result ≡ last_of (with_siblings (pages_under L.Law mtr.old.latches.now
+        mtr.old.pass.now) key node) }
 {
     // A page of the space has a number that fits 32 bits.
     let _ = mtr.geometry().pages();
@@ -106,7 +92,7 @@ fn take_row<L: Law, R: Wait>(rt: &R, mtr: &mut Mtr<'_, L, Parkers>, node: u32, k
     last_page(here, right)
 }
 
-// Takes the root and then, from the root down, the row below each node of the way. It answers the last
+// Takes the root and then, from the root down, the row below each node of the path. It answers the last
 // page that it took.
 fn take_rows<L: Trees, R: Wait>(
     rt: &R,
@@ -115,21 +101,13 @@ fn take_rows<L: Trees, R: Wait>(
     sought: Sought,
 ) -> u32
     requires mtr { IsMtr mtr.old.latches.now mtr.old.pass.now }
-    requires index { HasIndex mtr.old.latches.now.sizes
-        (L.lawful mtr.old.latches.now.sizes.pages) mtr.old.pass.now }
-    requires way { path.now ≡ way_of (pages_after
-        (by_place L.opening mtr.old.latches.now.sizes.pages)
-        mtr.old.pass.now.view.memory.seen) sought.key sought.root }
+    requires index { under_lawful L.Law mtr.old.latches.now HasIndex mtr.old.pass.now }
+    requires on_path { path.now ≡ path_of (pages_under L.Law mtr.old.latches.now mtr.old.pass.now)
+        sought.key sought.root }
     requires room { total mtr.old.pass.now.view.grants + 32 ≤ 2 ^ 52 }
-    requires some { 0 < sought.root }
-    requires root { sought.root ≤ L.ROOTS }
-    requires key { rank sought.key < end_rank }
-    ensures mtr { IsMtr mtr.new.latches.now mtr.new.pass.now }
-    ensures latches { mtr.new.latches ≡ mtr.old.latches }
-    ensures pass { mtr.new.pass.ghost_name ≡ mtr.old.pass.ghost_name }
-    ensures taken { HasTakenRows mtr.old.latches.now.sizes
-        (L.lawful mtr.old.latches.now.sizes.pages)
-        (by_place L.opening mtr.old.latches.now.sizes.pages) sought.root sought.key path.now
+    requires sought { IsSought L.ROOTS sought.root sought.key }
+    ensures still { IsStillMtr mtr.old mtr.new }
+    ensures taken { under L.Law mtr.old.latches.now HasTakenRows sought.root sought.key path.now
         (length path.now - 1) result mtr.old.pass.now mtr.new.pass.now }
 {
     shape_of(mtr);
@@ -146,40 +124,31 @@ fn take_rows<L: Trees, R: Wait>(
 
 /// Descends to the leaf of a key for a delete that may change the tree's structure
 /// (`btr_cur_search_to_nth_level` with `BTR_MODIFY_TREE` and the intention to delete; the order of latches is
-/// WL#6326's): the index is claimed in SX, and the way read page by page in S, each given up again at
+/// WL#6326's): the index is claimed in SX, and the path read page by page in S, each given up again at
 /// once. Then the root is taken in X and loaded, and level by level below it, from left to right, the page of
-/// the way with the pages beside it under the same parent; and last the leaf behind those of the leaf
-/// level. The session holds nothing before, and the index is not watched; the path is the key's way.
+/// the path with the pages beside it under the same parent; and last the leaf behind those of the leaf
+/// level. The session holds nothing before, and the index is not watched; the key's path is answered.
 pub fn descend_to_delete<L: Trees, R: Wait>(
     rt: &R,
     mtr: &mut Mtr<'_, L, Parkers>,
     root: u32,
     key: Key,
 ) -> Path
-    requires mtr { IsMtr mtr.old.latches.now mtr.old.pass.now }
-    requires memo { mtr.old.pass.now.memo ≡ [] }
-    requires none { mtr.old.pass.now.work ≡ [] }
+    requires may { MayDescend mtr.old.latches.now mtr.old.pass.now }
     requires unwatched { is_watched 1 mtr.old.pass.now.view.memory.since ≡ false }
-    requires room { total mtr.old.pass.now.view.grants + 64 ≤ 2 ^ 52 }
-    requires some { 0 < root }
-    requires root { root ≤ L.ROOTS }
-    ensures mtr { IsMtr mtr.new.latches.now mtr.new.pass.now }
-    ensures latches { mtr.new.latches ≡ mtr.old.latches }
-    ensures pass { mtr.new.pass.ghost_name ≡ mtr.old.pass.ghost_name }
-    ensures claimed { (held : List ℕ) × HasClaimed mtr.old.latches.now.sizes
-        (L.lawful mtr.old.latches.now.sizes.pages)
-        (by_place L.opening mtr.old.latches.now.sizes.pages) root key result held
-        mtr.old.pass.now mtr.new.pass.now
-        × IsWayWithSiblings (pages_after (by_place L.opening mtr.old.latches.now.sizes.pages)
-        mtr.new.pass.now.view.memory.seen) root key result held }
+    requires root { IsRoot L.ROOTS root }
+    ensures still { IsStillMtr mtr.old mtr.new }
+    ensures claimed { (held : List ℕ) × under L.Law mtr.old.latches.now HasClaimed root key result
+        held mtr.old.pass.now mtr.new.pass.now × IsPathWithSiblings
+        (pages_under L.Law mtr.old.latches.now mtr.new.pass.now) root key result held }
     ensures alone { is_claimed mtr.new.pass.now.view.memory.since ≡ true }
 {
     shape_of(mtr);
     claim_index(rt, mtr);
     let sought = Sought { root, key };
-    let way = read_way(rt, mtr, sought);
-    let last = take_rows(rt, mtr, &way.path, sought);
+    let found = read_path(rt, mtr, sought);
+    let last = take_rows(rt, mtr, &found.path, sought);
     let behind = right_of(mtr, last);
     take_beside(rt, mtr, behind);
-    way.path
+    found.path
 }

@@ -9,7 +9,9 @@ use Rattle.ib_heap.specs.Heap.{read_heap}
 use Rattle.ib_heap.specs.Form.{page_of, empty_leaf_words}
 use Rattle.ib_heap.specs.Filled.{empty_heap}
 use Rattle.ib_heap.proofs.HeapLaws.{IsHeap, heap-read, page-from}
+use Rattle.ib_heap.specs.Laws.{FormLaw}
 use Rattle.ib_heap.proofs.FreeLaws.{zeros-at}
+use Rattle.ib_heap.proofs.FormLaws.{tree_fits, length-formed, formed-tree, page_of-free_page_words}
 
 -- the words that are written
 abbrev pub empty_words : ℕ → ℕ → List ℕ
@@ -98,3 +100,15 @@ empty-rest level clock i le =
     let top = skip (set vs 5 clock) 7 i 532 (λ e. omega arith) (skip vs 5 i clock (λ e. omega arith) high) in
     let slots = skip (set us 8 18) 9 i 19 (λ e. omega arith) (skip us 8 i 18 (λ e. omega arith) top) in
     skip (set (set (set us 8 18) 9 19) 18 275) 19 i 256 (λ e. omega arith) (skip (set (set us 8 18) 9 19) 18 i 275 (λ e. omega arith) slots)
+
+-- the law of the form, part by part
+pub form_law : FormLaw
+form_law = record {
+  levels = refl;
+  most = refl;
+  tree = tree_fits;
+  whole = length-formed;
+  formed = formed-tree;
+  leaf = page_of-leaf;
+  free = page_of-free_page_words;
+}

@@ -1,7 +1,8 @@
 -- The form of a page: which page a list of words holds.
-use Rattle.std.specs.Prelude.{ℕ, ◌-◌, List, ◌∷◌, if◌then◌else◌}
+use Rattle.std.specs.Prelude.{ℕ, ◌+◌, ◌-◌, ◌*◌, List, ◌∷◌, if◌then◌else◌}
 use Rattle.std.specs.Str.{bytes_eq}
 use Rattle.ib_map.specs.declared.TheConstants.{PAGE_WORDS}
+use Rattle.ib_heap.specs.declared.form.TheConstants.{TREE, INFIMUM, SUPREMUM, FIRST_PLACE, OWNED_UNIT}
 use Rattle.ib_heap.specs.Words.{zeros, free_page_words, clock_in}
 use Rattle.ib_heap.specs.Page.{PageValue}
 use Rattle.ib_heap.specs.Page.PageValue.{Malformed, Free, Tree}
@@ -14,4 +15,4 @@ page_of ws = if is_heap ws (read_heap ws) then Tree (page_with ws (records_in ws
 
 -- the words of an empty leaf: its kind and its clock, 2 slots and the first place at word 20, these 2 slots, and infimum and supremum
 unfoldable pub empty_leaf_words : ℕ → List ℕ
-empty_leaf_words clock = 1 ∷ 0 ∷ 0 ∷ 0 ∷ 0 ∷ clock ∷ 0 ∷ 532 ∷ 18 ∷ 19 ∷ 0 ∷ 0 ∷ 0 ∷ 0 ∷ 0 ∷ 0 ∷ 0 ∷ 0 ∷ 275 ∷ 256 ∷ zeros (PAGE_WORDS - 20)
+empty_leaf_words clock = TREE ∷ 0 ∷ 0 ∷ 0 ∷ 0 ∷ clock ∷ 0 ∷ (2 * OWNED_UNIT + FIRST_PLACE) ∷ INFIMUM ∷ SUPREMUM ∷ 0 ∷ 0 ∷ 0 ∷ 0 ∷ 0 ∷ 0 ∷ 0 ∷ 0 ∷ (OWNED_UNIT + SUPREMUM) ∷ OWNED_UNIT ∷ zeros (PAGE_WORDS - FIRST_PLACE)

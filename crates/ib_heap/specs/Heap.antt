@@ -7,7 +7,8 @@ use Rattle.ib_map.specs.KeyWords.{is_key_words}
 use Rattle.ib_map.specs.Keys.{MapKey, key_in}
 use Rattle.ib_map.specs.Pairs.{Pairs}
 use Rattle.ib_map.specs.declared.TheConstants.{PAGE_WORDS}
-use Rattle.ib_heap.specs.declared.form.TheConstants.{FIRST_PLACE, PLACE_WORDS, FIRST_KEY_WORD, SECOND_KEY_WORD, VALUE_WORD}
+use Rattle.ib_heap.specs.declared.form.TheConstants.{KIND, LEVEL, COUNT, PREV, NEXT, TREE, FREE, TOP, DIRECTORY, MOST_SLOTS, INFIMUM, SUPREMUM, FIRST_PLACE, PLACE_WORDS, FIRST_KEY_WORD, SECOND_KEY_WORD, VALUE_WORD, OWNED_UNIT, MOST_OWNED, FEWEST_OWNED}
+use Rattle.ib_heap.specs.declared.page.TheConstants.{CLOCK}
 use Rattle.ib_heap.specs.declared.TheConstants.{MOST_RECORDS}
 use Rattle.ib_heap.specs.Page.{Page, is_page}
 
@@ -24,7 +25,7 @@ pub record Heap : Type 0 where
 
 -- where the chain goes on: the first of these records, or the supremum
 abbrev pub first_of : List Node → ℕ
-first_of [] = 19
+first_of [] = SUPREMUM
 first_of (x ∷ xs) = x.place
 
 -- the first free place, 0 for none
@@ -34,8 +35,8 @@ first_free (p ∷ ps) = p
 
 -- the heads of these records and of the supremum
 abbrev pub is_chained : List ℕ → List Node → ℕ → Bool
-is_chained ws [] last = slice_index ws 19 == last * 256
-is_chained ws (x ∷ xs) last = (slice_index ws x.place == x.owned * 256 + first_of xs) && is_chained ws xs last
+is_chained ws [] last = slice_index ws SUPREMUM == last * OWNED_UNIT
+is_chained ws (x ∷ xs) last = (slice_index ws x.place == x.owned * OWNED_UNIT + first_of xs) && is_chained ws xs last
 
 -- the heads of free places
 abbrev pub is_freed : List ℕ → List ℕ → Bool
@@ -44,12 +45,12 @@ is_freed ws (p ∷ ps) = (slice_index ws p == first_free ps) && is_freed ws ps
 
 -- n records stand behind the last one that has a slot: each slot owns its own record and those before it
 abbrev pub is_owned : ℕ → List Node → ℕ → Bool
-is_owned n [] last = (last == n + 1) && nat_le last 8
-is_owned n (x ∷ xs) last = if x.owned == 0 then is_owned (n + 1) xs last else ((x.owned == n + 1) && (nat_le 4 x.owned && nat_le x.owned 8)) && is_owned 0 xs last
+is_owned n [] last = (last == n + 1) && nat_le last MOST_OWNED
+is_owned n (x ∷ xs) last = if x.owned == 0 then is_owned (n + 1) xs last else ((x.owned == n + 1) && (nat_le FEWEST_OWNED x.owned && nat_le x.owned MOST_OWNED)) && is_owned 0 xs last
 
 -- the records that have slots, and the supremum
 abbrev pub owners : List Node → List ℕ
-owners [] = 19 ∷ []
+owners [] = SUPREMUM ∷ []
 owners (x ∷ xs) = if x.owned == 0 then owners xs else x.place ∷ owners xs
 
 -- the first n words from word i on are these slots, and behind them 0
@@ -104,23 +105,23 @@ used_places h = length h.nodes + length h.free
 
 -- the page that these records make
 abbrev pub page_with : List ℕ → Pairs → Page
-page_with ws records = record { level = slice_index ws 1; prev = slice_index ws 3; next = slice_index ws 4; clock = slice_index ws 5; records = records }
+page_with ws records = record { level = slice_index ws LEVEL; prev = slice_index ws PREV; next = slice_index ws NEXT; clock = slice_index ws CLOCK; records = records }
 
 -- the words are a page with this heap
 abbrev pub is_heap : List ℕ → Heap → Bool
 is_heap ws h =
     (length ws == PAGE_WORDS)
-    && ((slice_index ws 0 == 1)
-    && ((slice_index ws 2 == length h.nodes)
+    && ((slice_index ws KIND == TREE)
+    && ((slice_index ws COUNT == length h.nodes)
     && (is_page (page_with ws (records_in ws h.nodes))
-    && ((slice_index ws 6 == first_free h.free)
-    && ((slice_index ws 7 == (1 + length (owners h.nodes)) * 256 + (FIRST_PLACE + PLACE_WORDS * used_places h))
+    && ((slice_index ws FREE == first_free h.free)
+    && ((slice_index ws TOP == (1 + length (owners h.nodes)) * OWNED_UNIT + (FIRST_PLACE + PLACE_WORDS * used_places h))
     && (nat_le (used_places h) MOST_RECORDS
-    && ((slice_index ws 18 == 256 + first_of h.nodes)
+    && ((slice_index ws INFIMUM == OWNED_UNIT + first_of h.nodes)
     && (is_chained ws h.nodes h.last
     && (is_freed ws h.free
     && (is_owned 0 h.nodes h.last
-    && (is_directory ws 10 8 (18 ∷ owners h.nodes)
+    && (is_directory ws MOST_SLOTS DIRECTORY (INFIMUM ∷ owners h.nodes)
     && (are_places (used_places h) (places_of h.nodes ++ h.free)
     && (each_once (used_places h) (places_of h.nodes ++ h.free)
     && are_keys ws h.nodes)))))))))))))
@@ -128,7 +129,7 @@ is_heap ws h =
 -- the n records of the chain from a place on
 abbrev pub chain_from : List ℕ → ℕ → ℕ → List Node
 chain_from ws zero p = []
-chain_from ws (suc n) p = (let x : Node = record { place = p; owned = slice_index ws p / 256 } in x) ∷ chain_from ws n (slice_index ws p % 256)
+chain_from ws (suc n) p = (let x : Node = record { place = p; owned = slice_index ws p / OWNED_UNIT } in x) ∷ chain_from ws n (slice_index ws p % OWNED_UNIT)
 
 -- the n places of the free list from a place on
 abbrev pub free_from : List ℕ → ℕ → ℕ → List ℕ
@@ -138,9 +139,9 @@ free_from ws (suc n) p = p ∷ free_from ws n (slice_index ws p)
 -- the heap that stands in these words, if one does
 abbrev pub read_heap : List ℕ → Heap
 read_heap ws = record {
-  nodes = chain_from ws (slice_index ws 2) (slice_index ws 18 % 256);
-  last = slice_index ws 19 / 256;
-  free = free_from ws ((slice_index ws 7 % 256 - FIRST_PLACE) / PLACE_WORDS - slice_index ws 2) (slice_index ws 6);
+  nodes = chain_from ws (slice_index ws COUNT) (slice_index ws INFIMUM % OWNED_UNIT);
+  last = slice_index ws SUPREMUM / OWNED_UNIT;
+  free = free_from ws ((slice_index ws TOP % OWNED_UNIT - FIRST_PLACE) / PLACE_WORDS - slice_index ws COUNT) (slice_index ws FREE);
 }
 
 -- the records of the chain

@@ -11,3 +11,7 @@ pub mod Steps
 pub mod Filled
 pub mod Shape
 pub mod Walks
+pub mod Source
+pub mod Found
+pub mod Changes
+pub mod Laws

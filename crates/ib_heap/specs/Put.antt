@@ -1,6 +1,6 @@
 -- What an insert makes of a heap.
 use Rattle.std.specs.Prelude.{ℕ, zero, suc, ◌+◌, ◌-◌, ◌*◌, List, [], ◌∷◌, ◌==◌, length, take, drop, nat_le, if◌then◌else◌}
-use Rattle.ib_heap.specs.declared.form.TheConstants.{FIRST_PLACE, PLACE_WORDS}
+use Rattle.ib_heap.specs.declared.form.TheConstants.{SUPREMUM, FIRST_PLACE, PLACE_WORDS, MOST_OWNED, FEWEST_OWNED}
 use Rattle.ib_heap.specs.Heap.{Node, Heap, owners, up_to}
 
 -- how many records the first slot of these owns, or the supremum's where they have none
@@ -10,7 +10,7 @@ owned_by (x ∷ xs) last = if x.owned == 0 then owned_by xs last else x.owned
 
 -- the record that owns the first slot of these, or the supremum
 abbrev pub owner_from : List Node → ℕ
-owner_from [] = 19
+owner_from [] = SUPREMUM
 owner_from (x ∷ xs) = if x.owned == 0 then owner_from xs else x.place
 
 -- the first slot of these records owns one more
@@ -37,16 +37,16 @@ put_last (suc k) (x ∷ xs) last = put_last k xs last
 -- the first slot of these records owns four fewer
 abbrev pub own_four_fewer : List Node → List Node
 own_four_fewer [] = []
-own_four_fewer (x ∷ xs) = if x.owned == 0 then x ∷ own_four_fewer xs else (let y : Node = record { place = x.place; owned = x.owned - 4 } in y) ∷ xs
+own_four_fewer (x ∷ xs) = if x.owned == 0 then x ∷ own_four_fewer xs else (let y : Node = record { place = x.place; owned = x.owned - FEWEST_OWNED } in y) ∷ xs
 
 abbrev pub last_four_fewer : List Node → ℕ → ℕ
-last_four_fewer [] last = last - 4
+last_four_fewer [] last = last - FEWEST_OWNED
 last_four_fewer (x ∷ xs) last = if x.owned == 0 then last_four_fewer xs last else last
 
 -- the record behind the first t has a slot of four, which the slot behind it gives up
 abbrev pub give_slot : ℕ → List Node → List Node
 give_slot t [] = []
-give_slot zero (x ∷ xs) = (let y : Node = record { place = x.place; owned = 4 } in y) ∷ own_four_fewer xs
+give_slot zero (x ∷ xs) = (let y : Node = record { place = x.place; owned = FEWEST_OWNED } in y) ∷ own_four_fewer xs
 give_slot (suc t) (x ∷ xs) = x ∷ give_slot t xs
 
 abbrev pub give_slot_last : ℕ → List Node → ℕ → ℕ
@@ -69,5 +69,5 @@ put_in k h =
     let p = place_for h in
     let ns = put_node k p h.nodes in
     let l = put_last k h.nodes h.last in
-    if nat_le (owned_by (drop k ns) l) 8 then record { nodes = ns; last = l; free = rest_of h.free }
-    else record { nodes = give_slot (up_to (length (owners (take k h.nodes)) - 1) ns + 3) ns; last = give_slot_last (up_to (length (owners (take k h.nodes)) - 1) ns + 3) ns l; free = rest_of h.free }
+    if nat_le (owned_by (drop k ns) l) MOST_OWNED then record { nodes = ns; last = l; free = rest_of h.free }
+    else record { nodes = give_slot (up_to (length (owners (take k h.nodes)) - 1) ns + (FEWEST_OWNED - 1)) ns; last = give_slot_last (up_to (length (owners (take k h.nodes)) - 1) ns + (FEWEST_OWNED - 1)) ns l; free = rest_of h.free }

@@ -1,7 +1,7 @@
 -- Words that have a heap but for how many records each slot owns: what a removal leaves before it balances.
 use Rattle.std.specs.Prelude.{ℕ, ◌+◌, ◌*◌, List, ◌∷◌, ◌++◌, ◌==◌, ◌&&◌, Bool, nat_le, length, slice_index}
 use Rattle.ib_map.specs.declared.TheConstants.{PAGE_WORDS}
-use Rattle.ib_heap.specs.declared.form.TheConstants.{FIRST_PLACE, PLACE_WORDS}
+use Rattle.ib_heap.specs.declared.form.TheConstants.{KIND, COUNT, TREE, FREE, TOP, DIRECTORY, MOST_SLOTS, INFIMUM, FIRST_PLACE, PLACE_WORDS, OWNED_UNIT}
 use Rattle.ib_heap.specs.declared.TheConstants.{MOST_RECORDS}
 use Rattle.ib_heap.specs.Page.{is_page}
 use Rattle.ib_heap.specs.Heap.{Heap, first_of, first_free, owners, places_of, records_in, used_places, page_with, is_chained, is_freed, is_directory, are_places, each_once, are_keys}
@@ -10,16 +10,16 @@ use Rattle.ib_heap.specs.Heap.{Heap, first_of, first_free, owners, places_of, re
 abbrev pub is_shaped : List ℕ → Heap → Bool
 is_shaped ws h =
     (length ws == PAGE_WORDS)
-    && ((slice_index ws 0 == 1)
-    && ((slice_index ws 2 == length h.nodes)
+    && ((slice_index ws KIND == TREE)
+    && ((slice_index ws COUNT == length h.nodes)
     && (is_page (page_with ws (records_in ws h.nodes))
-    && ((slice_index ws 6 == first_free h.free)
-    && ((slice_index ws 7 == (1 + length (owners h.nodes)) * 256 + (FIRST_PLACE + PLACE_WORDS * used_places h))
+    && ((slice_index ws FREE == first_free h.free)
+    && ((slice_index ws TOP == (1 + length (owners h.nodes)) * OWNED_UNIT + (FIRST_PLACE + PLACE_WORDS * used_places h))
     && (nat_le (used_places h) MOST_RECORDS
-    && ((slice_index ws 18 == 256 + first_of h.nodes)
+    && ((slice_index ws INFIMUM == OWNED_UNIT + first_of h.nodes)
     && (is_chained ws h.nodes h.last
     && (is_freed ws h.free
-    && (is_directory ws 10 8 (18 ∷ owners h.nodes)
+    && (is_directory ws MOST_SLOTS DIRECTORY (INFIMUM ∷ owners h.nodes)
     && (are_places (used_places h) (places_of h.nodes ++ h.free)
     && (each_once (used_places h) (places_of h.nodes ++ h.free)
     && are_keys ws h.nodes))))))))))))

@@ -1,5 +1,6 @@
 -- What a removal makes of a heap.
 use Rattle.std.specs.Prelude.{ℕ, zero, suc, ◌+◌, ◌-◌, List, [], ◌∷◌, ◌==◌, nat_le, drop, if◌then◌else◌}
+use Rattle.ib_heap.specs.declared.form.TheConstants.{FEWEST_OWNED, ONE_TOO_FEW}
 use Rattle.ib_heap.specs.Heap.{Node, Heap, first_of}
 use Rattle.ib_heap.specs.Put.{owned_by}
 
@@ -37,16 +38,16 @@ unlink_last (suc (suc k)) (x ∷ xs) last = unlink_last (suc k) xs last
 -- the first slot of these records owns three more
 abbrev pub own_three_more : List Node → List Node
 own_three_more [] = []
-own_three_more (x ∷ xs) = if x.owned == 0 then x ∷ own_three_more xs else (let y : Node = record { place = x.place; owned = x.owned + 3 } in y) ∷ xs
+own_three_more (x ∷ xs) = if x.owned == 0 then x ∷ own_three_more xs else (let y : Node = record { place = x.place; owned = x.owned + ONE_TOO_FEW } in y) ∷ xs
 
 abbrev pub last_three_more : List Node → ℕ → ℕ
-last_three_more [] last = last + 3
+last_three_more [] last = last + ONE_TOO_FEW
 last_three_more (x ∷ xs) last = if x.owned == 0 then last_three_more xs last else last
 
 -- the first of these records owns the short slot before it, and its own slot one fewer
 abbrev pub lend : List Node → List Node
 lend [] = []
-lend (x ∷ xs) = (let y : Node = record { place = x.place; owned = 4 } in y) ∷ own_one_fewer xs
+lend (x ∷ xs) = (let y : Node = record { place = x.place; owned = FEWEST_OWNED } in y) ∷ own_one_fewer xs
 
 abbrev pub lend_last : List Node → ℕ → ℕ
 lend_last [] last = last
@@ -55,11 +56,11 @@ lend_last (x ∷ xs) last = last_one_fewer xs last
 -- a slot of three is filled by the slot behind it where that owns five, or joins it
 abbrev pub balance : List Node → ℕ → List Node
 balance [] last = []
-balance (x ∷ xs) last = if x.owned == 3 then (let y : Node = record { place = x.place; owned = 0 } in y) ∷ (if nat_le 5 (owned_by xs last) then lend xs else own_three_more xs) else x ∷ balance xs last
+balance (x ∷ xs) last = if x.owned == ONE_TOO_FEW then (let y : Node = record { place = x.place; owned = 0 } in y) ∷ (if nat_le (FEWEST_OWNED + 1) (owned_by xs last) then lend xs else own_three_more xs) else x ∷ balance xs last
 
 abbrev pub balance_last : List Node → ℕ → ℕ
 balance_last [] last = last
-balance_last (x ∷ xs) last = if x.owned == 3 then (if nat_le 5 (owned_by xs last) then lend_last xs last else last_three_more xs last) else balance_last xs last
+balance_last (x ∷ xs) last = if x.owned == ONE_TOO_FEW then (if nat_le (FEWEST_OWNED + 1) (owned_by xs last) then lend_last xs last else last_three_more xs last) else balance_last xs last
 
 -- the heap without the record behind the first k, whose place goes to the front of the free ones; its slot may own three
 abbrev pub unlink_in : ℕ → Heap → Heap

@@ -2,7 +2,7 @@
 use Rattle.std.specs.Prelude.{◌≡◌, ℕ, zero, suc, ◌+◌, ◌-◌, ◌/◌, ◌*◌, ◌%◌, ◌<◌, ◌≤◌, Bool, true, ◌==◌, ◌&&◌, List, [], ◌∷◌, Option, None, Some, length, slice_index, slice_set}
 use Rattle.ib_map.specs.declared.TheConstants.{PAGE_WORDS}
 use Rattle.ib_map.specs.Keys.{MapKey, rank, end_rank}
-use Rattle.ib_heap.specs.declared.form.TheConstants.{FIRST_PLACE, PLACE_WORDS}
+use Rattle.ib_heap.specs.declared.form.TheConstants.{KIND, COUNT, TREE, TOP, DIRECTORY, MOST_SLOTS, INFIMUM, SUPREMUM, FIRST_PLACE, PLACE_WORDS, OWNED_UNIT}
 use Rattle.ib_heap.specs.declared.TheConstants.{MOST_RECORDS}
 use Rattle.ib_heap.specs.declared.formed.ChainStep.{ChainStep}
 use Rattle.ib_heap.specs.Page.{rises}
@@ -11,7 +11,7 @@ use Rattle.ib_heap.specs.Heap.{is_place, chain_from, owners, is_owned, is_direct
 -- where the chain stands after n records from a place on
 abbrev pub end_from : List ℕ → ℕ → ℕ → ℕ
 end_from ws zero p = p
-end_from ws (suc n) p = end_from ws n (slice_index ws p % 256)
+end_from ws (suc n) p = end_from ws n (slice_index ws p % OWNED_UNIT)
 
 -- the same of the free list
 abbrev pub free_end : List ℕ → ℕ → ℕ → ℕ
@@ -20,12 +20,12 @@ free_end ws (suc n) p = free_end ws n (slice_index ws p)
 
 -- the words of the head that stand by themselves: kind, count, top, the start and the end of the chain
 abbrev pub HasHead : List ℕ → Type 0
-HasHead ws = (slice_index ws 0 ≡ 1) × ((slice_index ws 2 ≤ MOST_RECORDS) × ((FIRST_PLACE ≤ slice_index ws 7 % 256) × (((slice_index ws 7 % 256 - FIRST_PLACE) % PLACE_WORDS ≡ 0) × ((slice_index ws 7 % 256 ≤ PAGE_WORDS)
-    × ((slice_index ws 2 ≤ (slice_index ws 7 % 256 - FIRST_PLACE) / PLACE_WORDS) × ((slice_index ws 18 / 256 ≡ 1) × ((slice_index ws 19 % 256 ≡ 0) × (slice_index ws 8 ≡ 18))))))))
+HasHead ws = (slice_index ws KIND ≡ TREE) × ((slice_index ws COUNT ≤ MOST_RECORDS) × ((FIRST_PLACE ≤ slice_index ws TOP % OWNED_UNIT) × (((slice_index ws TOP % OWNED_UNIT - FIRST_PLACE) % PLACE_WORDS ≡ 0) × ((slice_index ws TOP % OWNED_UNIT ≤ PAGE_WORDS)
+    × ((slice_index ws COUNT ≤ (slice_index ws TOP % OWNED_UNIT - FIRST_PLACE) / PLACE_WORDS) × ((slice_index ws INFIMUM / OWNED_UNIT ≡ 1) × ((slice_index ws SUPREMUM % OWNED_UNIT ≡ 0) × (slice_index ws DIRECTORY ≡ INFIMUM))))))))
 
 -- whether the top word's number of slots ends at the supremum's
 abbrev pub HasSlots : List ℕ → Type 0
-HasSlots ws = (2 ≤ slice_index ws 7 / 256) × ((slice_index ws 7 / 256 ≤ 10) × (slice_index ws (7 + slice_index ws 7 / 256) ≡ 19))
+HasSlots ws = (2 ≤ slice_index ws TOP / OWNED_UNIT) × ((slice_index ws TOP / OWNED_UNIT ≤ MOST_SLOTS) × (slice_index ws (DIRECTORY - 1 + slice_index ws TOP / OWNED_UNIT) ≡ SUPREMUM))
 
 -- no word but the heads of record places is 0: only those may still be met
 abbrev pub HasOnlyPlaces : List ℕ → Type 0
@@ -58,16 +58,16 @@ low_of (Some last) = rank last + 1
 
 -- the step in front of the first record
 abbrev pub first_step : List ℕ → ChainStep
-first_step ws = record { at = slice_index ws 18 % 256; owned = 0; slot = 1; last = None }
+first_step ws = record { at = slice_index ws INFIMUM % OWNED_UNIT; owned = 0; slot = 1; last = None }
 
 -- the next n records are the rest of a page's chain: it ends at the supremum, their slots are those of the directory, and they have keys, which ascend
 abbrev pub chain_holds : List ℕ → ℕ → ChainStep → Bool
-chain_holds ws n s = (end_from ws n s.at == 19) && (is_owned s.owned (chain_from ws n s.at) (slice_index ws 19 / 256)
-    && (is_directory ws (10 - s.slot) (8 + s.slot) (owners (chain_from ws n s.at)) && (are_keys ws (chain_from ws n s.at) && rises (low_of s.last) (records_in ws (chain_from ws n s.at)) end_rank)))
+chain_holds ws n s = (end_from ws n s.at == SUPREMUM) && (is_owned s.owned (chain_from ws n s.at) (slice_index ws SUPREMUM / OWNED_UNIT)
+    && (is_directory ws (MOST_SLOTS - s.slot) (DIRECTORY + s.slot) (owners (chain_from ws n s.at)) && (are_keys ws (chain_from ws n s.at) && rises (low_of s.last) (records_in ws (chain_from ws n s.at)) end_rank)))
 
 -- what the step behind a record leaves to be tested
 pub record LeavesStep (ws : List ℕ) (s next : ChainStep) : Type 0 where
-  pub at : next.at ≡ slice_index ws s.at % 256
+  pub at : next.at ≡ slice_index ws s.at % OWNED_UNIT
   pub holds : (m : ℕ) → chain_holds ws (suc m) s ≡ chain_holds ws m next
   pub owned : next.owned ≤ s.owned + 1
   pub last : low_of next.last ≤ end_rank

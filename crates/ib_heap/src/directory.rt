@@ -3,12 +3,14 @@
 ghost use Rattle.std.specs.Prelude.{◌≡◌, ℕ, ◌+◌, ◌-◌, ◌/◌, ◌<◌, ◌≤◌, ◌⊎◌, ◌↔◌, length, take, drop, slice_index, IsTrue};
 ghost use Rattle.ib_map.specs.Keys.{rank};
 ghost use Rattle.ib_map.specs.Pairs.{place_of};
-ghost use Rattle.ib_heap.specs.Image.{IsTreePage, records_of};
+ghost use Rattle.ib_heap.specs.Image.{records_of};
 ghost use Rattle.ib_heap.specs.Heap.{key_at, is_key_at, nodes_of, owners, up_to, last_from, first_of};
 ghost use Rattle.ib_heap.specs.Order.{IsOrder};
+ghost use Rattle.ib_heap.specs.Source.{IsStillSource, IsTreeSource};
 
 use crate::form::{
-    DIRECTORY, FIRST_KEY_WORD, LAST_PLACE, OWNED_UNIT, SECOND_KEY_WORD, TOP, VALUE_WORD,
+    DIRECTORY, FIRST_KEY_WORD, FIRST_PLACE, INFIMUM, LAST_PLACE, MOST_SLOTS, OWNED_UNIT,
+    SECOND_KEY_WORD, TOP, VALUE_WORD,
 };
 use crate::words::PageWords;
 use ib_map::Key;
@@ -16,58 +18,46 @@ use std::cmp::Ordering;
 
 /// The number of the last slot, the supremum's.
 pub(crate) fn last_slot<W: PageWords>(page: &mut W) -> usize
-    requires can { W.can_read page.old }
-    requires tree { IsTreePage (W.words page.old) }
+    requires { IsTreeSource W.PageWords page.old }
     ensures last { result ≡ length (owners (nodes_of (W.words page.old))) }
-    ensures few { result ≤ 9 }
+    ensures few { result ≤ MOST_SLOTS - 1 }
     ensures some { 0 < result }
-    ensures same { W.words page.new ≡ W.words page.old }
-    ensures can { W.can_read page.new }
-    ensures read { W.has_read page.old page.new }
+    ensures still { IsStillSource W.PageWords page.old page.new }
 {
     (page.word(TOP) / OWNED_UNIT) as usize - 1
 }
 
 /// The place of the record that owns a slot.
 pub(crate) fn owner<W: PageWords>(page: &mut W, slot: usize) -> usize
-    requires can { W.can_read page.old }
-    requires tree { IsTreePage (W.words page.old) }
+    requires page { IsTreeSource W.PageWords page.old }
     requires in_range { slot ≤ length (owners (nodes_of (W.words page.old))) }
-    ensures place { slot < length (owners (nodes_of (W.words page.old))) → result ≡ last_from 18 (take (up_to slot (nodes_of (W.words page.old))) (nodes_of (W.words page.old))) }
-    ensures word { result ≡ slice_index (W.words page.old) (8 + slot) }
-    ensures low { 18 ≤ result }
+    ensures place { slot < length (owners (nodes_of (W.words page.old))) → result ≡ last_from INFIMUM (take (up_to slot (nodes_of (W.words page.old))) (nodes_of (W.words page.old))) }
+    ensures word { result ≡ slice_index (W.words page.old) (DIRECTORY + slot) }
+    ensures low { INFIMUM ≤ result }
     ensures high { result ≤ LAST_PLACE }
-    ensures is_record { 0 < slot → slot < length (owners (nodes_of (W.words page.old))) → 20 ≤ result }
+    ensures is_record { 0 < slot → slot < length (owners (nodes_of (W.words page.old))) → FIRST_PLACE ≤ result }
     ensures keyed { 0 < slot → slot < length (owners (nodes_of (W.words page.old))) → IsTrue (is_key_at (W.words page.old) result) }
-    ensures same { W.words page.new ≡ W.words page.old }
-    ensures can { W.can_read page.new }
-    ensures read { W.has_read page.old page.new }
+    ensures still { IsStillSource W.PageWords page.old page.new }
 {
     page.word(DIRECTORY + slot) as usize
 }
 
 /// How many records the slot of a place owns, 0 where it has none.
 pub(crate) fn owned_at<W: PageWords>(page: &mut W, place: usize) -> usize
-    requires can { W.can_read page.old }
-    requires tree { IsTreePage (W.words page.old) }
+    requires page { IsTreeSource W.PageWords page.old }
     requires in_page { place ≤ LAST_PLACE }
-    ensures owned { result ≡ slice_index (W.words page.old) place / 256 }
-    ensures same { W.words page.new ≡ W.words page.old }
-    ensures can { W.can_read page.new }
-    ensures read { W.has_read page.old page.new }
+    ensures owned { result ≡ slice_index (W.words page.old) place / OWNED_UNIT }
+    ensures still { IsStillSource W.PageWords page.old page.new }
 {
     (page.word(place) / OWNED_UNIT) as usize
 }
 
 /// The place behind another in the chain.
 pub(crate) fn next_place<W: PageWords>(page: &mut W, place: usize) -> usize
-    requires can { W.can_read page.old }
-    requires tree { IsTreePage (W.words page.old) }
+    requires page { IsTreeSource W.PageWords page.old }
     requires in_page { place ≤ LAST_PLACE }
-    ensures next { (k : ℕ) → k ≤ length (nodes_of (W.words page.old)) → place ≡ last_from 18 (take k (nodes_of (W.words page.old))) → result ≡ first_of (drop k (nodes_of (W.words page.old))) }
-    ensures same { W.words page.new ≡ W.words page.old }
-    ensures can { W.can_read page.new }
-    ensures read { W.has_read page.old page.new }
+    ensures next { (k : ℕ) → k ≤ length (nodes_of (W.words page.old)) → place ≡ last_from INFIMUM (take k (nodes_of (W.words page.old))) → result ≡ first_of (drop k (nodes_of (W.words page.old))) }
+    ensures still { IsStillSource W.PageWords page.old page.new }
 {
     (page.word(place) % OWNED_UNIT) as usize
 }
@@ -75,14 +65,11 @@ pub(crate) fn next_place<W: PageWords>(page: &mut W, place: usize) -> usize
 /// Whether the key of the record at a place is below another. Its second word is read only where the first ones are
 /// the same.
 pub(crate) fn is_below_at<W: PageWords>(page: &mut W, place: usize, key: Key) -> bool
-    requires can { W.can_read page.old }
-    requires tree { IsTreePage (W.words page.old) }
+    requires page { IsTreeSource W.PageWords page.old }
     requires in_page { place ≤ LAST_PLACE }
     requires keyed { IsTrue (is_key_at (W.words page.old) place) }
     ensures below { IsTrue result ↔ (rank (key_at (W.words page.old) place) < rank key) }
-    ensures same { W.words page.new ≡ W.words page.old }
-    ensures can { W.can_read page.new }
-    ensures read { W.has_read page.old page.new }
+    ensures still { IsStillSource W.PageWords page.old page.new }
 {
     let (first, second) = key.words();
     let word = page.word(place + FIRST_KEY_WORD);
@@ -98,14 +85,11 @@ pub(crate) fn is_below_at<W: PageWords>(page: &mut W, place: usize, key: Key) ->
 /// How the key of the record at a place stands to another. Its second word is read only where the first ones are
 /// the same.
 pub(crate) fn order_at<W: PageWords>(page: &mut W, place: usize, key: Key) -> Ordering
-    requires can { W.can_read page.old }
-    requires tree { IsTreePage (W.words page.old) }
+    requires page { IsTreeSource W.PageWords page.old }
     requires in_page { place ≤ LAST_PLACE }
     requires keyed { IsTrue (is_key_at (W.words page.old) place) }
     ensures order { IsOrder (key_at (W.words page.old) place) key result }
-    ensures same { W.words page.new ≡ W.words page.old }
-    ensures can { W.can_read page.new }
-    ensures read { W.has_read page.old page.new }
+    ensures still { IsStillSource W.PageWords page.old page.new }
 {
     let (first, second) = key.words();
     let word = page.word(place + FIRST_KEY_WORD);
@@ -128,28 +112,22 @@ pub(crate) fn order_at<W: PageWords>(page: &mut W, place: usize, key: Key) -> Or
 
 /// The value of the record at a place.
 pub(crate) fn value_word<W: PageWords>(page: &mut W, place: usize) -> u64
-    requires can { W.can_read page.old }
-    requires tree { IsTreePage (W.words page.old) }
+    requires page { IsTreeSource W.PageWords page.old }
     requires in_page { place ≤ LAST_PLACE }
     ensures value { result ≡ slice_index (W.words page.old) (place + VALUE_WORD) }
-    ensures same { W.words page.new ≡ W.words page.old }
-    ensures can { W.can_read page.new }
-    ensures read { W.has_read page.old page.new }
+    ensures still { IsStillSource W.PageWords page.old page.new }
 {
     page.word(place + VALUE_WORD)
 }
 
 /// The slot among whose records a key stands or would stand. By halving, over the keys of the slots' owners.
 pub(crate) fn slot_of<W: PageWords>(page: &mut W, key: Key) -> usize
-    requires can { W.can_read page.old }
-    requires tree { IsTreePage (W.words page.old) }
+    requires { IsTreeSource W.PageWords page.old }
     ensures some { 0 < result }
     ensures in_range { result ≤ length (owners (nodes_of (W.words page.old))) }
     ensures low { up_to (result - 1) (nodes_of (W.words page.old)) ≤ place_of key (records_of (W.words page.old)) }
     ensures high { (place_of key (records_of (W.words page.old)) < up_to result (nodes_of (W.words page.old))) ⊎ (result ≡ length (owners (nodes_of (W.words page.old)))) }
-    ensures same { W.words page.new ≡ W.words page.old }
-    ensures can { W.can_read page.new }
-    ensures read { W.has_read page.old page.new }
+    ensures still { IsStillSource W.PageWords page.old page.new }
 {
     let mut low = 0;
     let mut high = last_slot(page);
@@ -167,13 +145,10 @@ pub(crate) fn slot_of<W: PageWords>(page: &mut W, key: Key) -> usize
 
 /// How many records stand up to the owner of a slot, that one with them.
 pub(crate) fn index_behind<W: PageWords>(page: &mut W, slot: usize) -> usize
-    requires can { W.can_read page.old }
-    requires tree { IsTreePage (W.words page.old) }
+    requires page { IsTreeSource W.PageWords page.old }
     requires in_range { slot < length (owners (nodes_of (W.words page.old))) }
     ensures index { result ≡ up_to slot (nodes_of (W.words page.old)) }
-    ensures same { W.words page.new ≡ W.words page.old }
-    ensures can { W.can_read page.new }
-    ensures read { W.has_read page.old page.new }
+    ensures still { IsStillSource W.PageWords page.old page.new }
 {
     let mut index = 0;
     for j in 0..slot {

@@ -189,7 +189,7 @@ pub fn set_links(words: &mut [u64], prev: u32, next: u32)
     requires next { 0 < level_of words.old → next ≡ 0 }
     ensures page { page_of words.new ≡ with_links prev next (page_of words.old) }
     ensures heap { read_heap words.new ≡ read_heap words.old }
-    ensures kept { (i : ℕ) → i ≢ 3 → i ≢ 4 → slice_index words.new i ≡ slice_index words.old i }
+    ensures kept { (i : ℕ) → i ≢ PREV → i ≢ NEXT → slice_index words.new i ≡ slice_index words.old i }
 {
     words[PREV] = prev as u64;
     words[NEXT] = next as u64;
@@ -204,7 +204,7 @@ pub fn set_level(words: &mut [u64], level: u32)
     requires next { 0 < level → next_of words.old ≡ 0 }
     ensures page { page_of words.new ≡ with_level level (page_of words.old) }
     ensures heap { read_heap words.new ≡ read_heap words.old }
-    ensures kept { (i : ℕ) → i ≢ 1 → slice_index words.new i ≡ slice_index words.old i }
+    ensures kept { (i : ℕ) → i ≢ LEVEL → slice_index words.new i ≡ slice_index words.old i }
 {
     words[LEVEL] = level as u64;
 }
@@ -214,7 +214,7 @@ pub fn set_clock(words: &mut [u64], clock: u64)
     requires { IsFormed words.old }
     ensures page { page_of words.new ≡ value_with_clock clock (page_of words.old) }
     ensures heap { read_heap words.new ≡ read_heap words.old }
-    ensures kept { (i : ℕ) → i ≢ 5 → slice_index words.new i ≡ slice_index words.old i }
+    ensures kept { (i : ℕ) → i ≢ CLOCK → slice_index words.new i ≡ slice_index words.old i }
 {
     words[CLOCK] = clock;
 }

@@ -203,7 +203,7 @@ fn is_above(key: Key, last: Option<Key>) -> bool
 // Whether a slot of the directory is that of the record at a place.
 fn has_owner(words: &[u64], slot: usize, at: usize) -> bool
     requires { length words.now ≡ PAGE_WORDS }
-    ensures { IsTrue result ↔ ((slot < 10) × (slice_index words.now (8 + slot) ≡ at)) }
+    ensures { IsTrue result ↔ ((slot < MOST_SLOTS) × (slice_index words.now (DIRECTORY + slot) ≡ at)) }
 {
     slot < MOST_SLOTS && words[DIRECTORY + slot] == at as u64
 }
@@ -211,7 +211,7 @@ fn has_owner(words: &[u64], slot: usize, at: usize) -> bool
 // Whether a slot with so many records before its owner owns them.
 fn is_slot(head: u64, owned: u64) -> bool
     requires { owned ≤ MOST_RECORDS }
-    ensures { IsTrue result ↔ ((head ≡ owned + 1) × ((4 ≤ head) × (head ≤ 8))) }
+    ensures { IsTrue result ↔ ((head ≡ owned + 1) × ((FEWEST_OWNED ≤ head) × (head ≤ MOST_OWNED))) }
 {
     head == owned + 1 && FEWEST_OWNED <= head && head <= MOST_OWNED
 }
@@ -219,7 +219,7 @@ fn is_slot(head: u64, owned: u64) -> bool
 // Whether the supremum's slot with so many records before it owns them.
 fn is_last_slot(head: u64, owned: u64) -> bool
     requires { owned ≤ MOST_RECORDS }
-    ensures { IsTrue result ↔ ((head ≡ owned + 1) × (head ≤ 8)) }
+    ensures { IsTrue result ↔ ((head ≡ owned + 1) × (head ≤ MOST_OWNED)) }
 {
     head == owned + 1 && head <= MOST_OWNED
 }
@@ -227,8 +227,8 @@ fn is_last_slot(head: u64, owned: u64) -> bool
 // Whether the directory's words from a slot on are 0.
 fn no_more(words: &[u64], from: usize) -> bool
     requires size { length words.now ≡ PAGE_WORDS }
-    requires from { from ≤ 10 }
-    ensures { result ≡ is_directory words.now (10 - from) (8 + from) [] }
+    requires from { from ≤ MOST_SLOTS }
+    ensures { result ≡ is_directory words.now (MOST_SLOTS - from) (DIRECTORY + from) [] }
 {
     for j in from..MOST_SLOTS {
         if words[DIRECTORY + j] != 0 {
@@ -245,9 +245,9 @@ fn has_chain(words: &[u64], met: &mut [u8], count: usize, n: usize) -> bool
     requires met_places { HasOnlyPlaces met.old }
     requires few { n ≤ MOST_RECORDS }
     requires count { count ≤ MOST_RECORDS }
-    ensures holds { result ≡ (are_new n met.old (places_of (chain_from words.now count (slice_index words.now 18 % 256))) && chain_holds words.now count (first_step words.now)) }
+    ensures holds { result ≡ (are_new n met.old (places_of (chain_from words.now count (slice_index words.now INFIMUM % OWNED_UNIT))) && chain_holds words.now count (first_step words.now)) }
     ensures met_places { HasOnlyPlaces met.new }
-    ensures meets { result ≡ true → met.new ≡ met_with met.old (places_of (chain_from words.now count (slice_index words.now 18 % 256))) }
+    ensures meets { result ≡ true → met.new ≡ met_with met.old (places_of (chain_from words.now count (slice_index words.now INFIMUM % OWNED_UNIT))) }
 {
     let mut step = ChainStep {
         at: (words[INFIMUM] % OWNED_UNIT) as usize,
@@ -273,7 +273,7 @@ fn has_free(words: &[u64], met: &mut [u8], count: usize, n: usize) -> bool
     requires met_size { length met.old ≡ PAGE_WORDS }
     requires met_places { HasOnlyPlaces met.old }
     requires few { n ≤ MOST_RECORDS }
-    ensures { result ≡ (are_new n met.old (free_from words.now count (slice_index words.now 6)) && free_end words.now count (slice_index words.now 6) == 0) }
+    ensures { result ≡ (are_new n met.old (free_from words.now count (slice_index words.now FREE)) && free_end words.now count (slice_index words.now FREE) == 0) }
 {
     let mut at = words[FREE] as usize;
     for i in 0..count {

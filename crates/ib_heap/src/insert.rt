@@ -1,11 +1,12 @@
 //! A record put into a page: its place, its links in the chain, and its slot (`page_cur_insert_rec_low`).
 
-ghost use Rattle.std.specs.Prelude.{◌≡◌, ◌≢◌, ◌+◌, ◌<◌, ◌≤◌, ◌⊎◌, ℕ, length, slice_index, IsSome, IsNone, OnOk, OnErr, ◌↔◌, None};
+ghost use Rattle.std.specs.Prelude.{◌≡◌, ◌≢◌, ◌+◌, ◌-◌, ◌<◌, ◌≤◌, ◌⊎◌, ℕ, length, slice_index, OnOk, None};
 ghost use Rattle.ib_map.specs.Pairs.{put, value_at, place_of};
 ghost use Rattle.ib_heap.specs.Form.{page_of};
 ghost use Rattle.ib_heap.specs.Image.{IsTreePage, records_of, value_with_records};
 ghost use Rattle.ib_heap.specs.Heap.{nodes_of, read_heap, used_places};
 ghost use Rattle.ib_heap.specs.Put.{place_for, put_in};
+ghost use Rattle.ib_heap.specs.Changes.{HasPut};
 ghost use Rattle.ib_heap.specs.Kept.{IsKept, IsOutside};
 ghost use Rattle.ib_heap.specs.Steps.{IsPlaceOfKey, IsPlaceTaken, CanLink, IsLinkedIn, CanSplitSlot, IsSlotSplit};
 ghost use Rattle.ib_heap.specs.Walks.{end_from};
@@ -13,8 +14,8 @@ ghost use Rattle.ib_heap.specs.Walks.{end_from};
 use crate::MOST_RECORDS;
 use crate::fault::PageFault;
 use crate::form::{
-    COUNT, DIRECTORY, FEWEST_OWNED, FIRST_KEY_WORD, FREE, MOST_OWNED, OWNED_UNIT, PLACE_WORDS,
-    SECOND_KEY_WORD, TOP, VALUE_WORD, count,
+    COUNT, DIRECTORY, FEWEST_OWNED, FIRST_KEY_WORD, FREE, MOST_OWNED, MOST_SLOTS, OWNED_UNIT,
+    PLACE_WORDS, SECOND_KEY_WORD, TOP, VALUE_WORD, count,
 };
 use crate::search::{Cursor, find, seek};
 use crate::walk::{next_word, owned_word, slot_word};
@@ -26,13 +27,7 @@ use ib_map::{Key, PAGE_WORDS};
 /// `MOST_RECORDS` records. A page that refuses is unchanged.
 pub fn put(words: &mut [u64], key: Key, value: u64) -> Result<(), PageFault>
     requires { IsTreePage words.old }
-    ensures inserted { OnOk result (page_of words.new ≡ value_with_records (put key value (records_of words.old)) (page_of words.old)) }
-    ensures tree { IsTreePage words.new }
-    ensures duplicate { (result ≡ Err PageFault.Duplicate) ↔ IsSome (value_at key (records_of words.old)) }
-    ensures full { (result ≡ Err PageFault.PageFull) ↔ (IsNone (value_at key (records_of words.old)) × (length (records_of words.old) ≡ MOST_RECORDS)) }
-    ensures never_missing { result ≢ Err PageFault.Missing }
-    ensures unchanged { OnErr result (words.new ≡ words.old) }
-    ensures heap { OnOk result (read_heap words.new ≡ put_in (place_of key (records_of words.old)) (read_heap words.old)) }
+    ensures put { HasPut words.old words.new key value result }
     ensures kept { OnOk result ((i : ℕ) → IsKept (used_places (read_heap words.new)) i → IsOutside (place_for (read_heap words.old)) i → slice_index words.new i ≡ slice_index words.old i) }
 {
     match find(words, key) {
@@ -70,8 +65,8 @@ pub(crate) fn put_new(words: &mut [u64], key: Key, value: u64)
 
 // The fourth place behind another in the chain.
 fn fourth_behind(words: &[u64], place: usize) -> usize
-    requires { (n : ℕ) → n < 4 → end_from words.now n place < length words.now }
-    ensures { result ≡ end_from words.now 4 place }
+    requires { (n : ℕ) → n < FEWEST_OWNED → end_from words.now n place < length words.now }
+    ensures { result ≡ end_from words.now FEWEST_OWNED place }
 {
     let mut at = place;
     for _step in 0..4usize {
@@ -138,10 +133,10 @@ fn link(words: &mut [u64], cursor: Cursor, owner: usize, place: usize, key: Key,
 fn open_slot(words: &mut [u64], slot: usize, last: usize)
     requires size { length words.old ≡ PAGE_WORDS }
     requires slot { slot ≤ last }
-    requires last { last ≤ 8 }
-    ensures before { (m : ℕ) → m ≤ slot → slice_index words.new (8 + m) ≡ slice_index words.old (8 + m) }
-    ensures behind { (m : ℕ) → slot ≤ m → m ≤ last → slice_index words.new (8 + (m + 1)) ≡ slice_index words.old (8 + m) }
-    ensures other { (i : ℕ) → (i < 8) ⊎ (9 + last < i) → slice_index words.new i ≡ slice_index words.old i }
+    requires last { last ≤ MOST_SLOTS - 2 }
+    ensures before { (m : ℕ) → m ≤ slot → slice_index words.new (DIRECTORY + m) ≡ slice_index words.old (DIRECTORY + m) }
+    ensures behind { (m : ℕ) → slot ≤ m → m ≤ last → slice_index words.new (DIRECTORY + (m + 1)) ≡ slice_index words.old (DIRECTORY + m) }
+    ensures other { (i : ℕ) → (i < DIRECTORY) ⊎ (DIRECTORY + 1 + last < i) → slice_index words.new i ≡ slice_index words.old i }
     ensures size { length words.new ≡ length words.old }
 {
     for step in 0..last + 1 - slot {

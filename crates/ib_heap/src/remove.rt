@@ -1,17 +1,20 @@
 //! A record taken out of a page: its place becomes free, and its slot is balanced (`page_cur_delete_rec`).
 
-ghost use Rattle.std.specs.Prelude.{◌≡◌, ◌≢◌, true, ◌+◌, ◌<◌, ◌≤◌, ◌⊎◌, ℕ, length, slice_index, IsNone, IfOk, IfErr, OnOk, OnErr, ◌↔◌, Some, None};
+ghost use Rattle.std.specs.Prelude.{◌≡◌, ◌≢◌, true, ◌+◌, ◌-◌, ◌<◌, ◌≤◌, ◌⊎◌, ℕ, length, slice_index, OnOk, Some, None};
 ghost use Rattle.ib_map.specs.Pairs.{without, value_at, place_of};
 ghost use Rattle.ib_heap.specs.Form.{page_of};
 ghost use Rattle.ib_heap.specs.Image.{IsTreePage, records_of, value_with_records};
 ghost use Rattle.ib_heap.specs.Heap.{nodes_of, read_heap, used_places, records_in, page_with};
 ghost use Rattle.ib_heap.specs.Take.{unlink_node, unlink_in, remove_in};
 ghost use Rattle.ib_heap.specs.Shape.{is_shaped};
+ghost use Rattle.ib_heap.specs.Changes.{HasTaken};
 ghost use Rattle.ib_heap.specs.Kept.{IsKept};
 ghost use Rattle.ib_heap.specs.Steps.{IsPlaceOfKey, CanUnlink, IsLinkedPast, CanHandOver, IsHandedOver, CanGiveBack, IsGivenBack, CanLend, IsLent, CanJoin, IsSlotJoined};
 
 use crate::fault::PageFault;
-use crate::form::{COUNT, DIRECTORY, FEWEST_OWNED, FREE, ONE_TOO_FEW, OWNED_UNIT, SUPREMUM, TOP};
+use crate::form::{
+    COUNT, DIRECTORY, FEWEST_OWNED, FREE, MOST_SLOTS, ONE_TOO_FEW, OWNED_UNIT, SUPREMUM, TOP,
+};
 use crate::insert::{locate, write};
 use crate::search::{Cursor, get};
 use crate::walk::{next_word, owned_word, record_of, slot_word};
@@ -23,13 +26,7 @@ use ib_map::{Key, PAGE_WORDS};
 /// the key is not there; the page is then unchanged.
 pub fn take(words: &mut [u64], key: Key) -> Result<u64, PageFault>
     requires { IsTreePage words.old }
-    ensures value { IfOk result (λ value. value_at key (records_of words.old) ≡ Some value) }
-    ensures removed { OnOk result (page_of words.new ≡ value_with_records (without key (records_of words.old)) (page_of words.old)) }
-    ensures tree { IsTreePage words.new }
-    ensures missing { (result ≡ Err PageFault.Missing) ↔ IsNone (value_at key (records_of words.old)) }
-    ensures only_missing { IfErr result (λ fault. fault ≡ PageFault.Missing) }
-    ensures unchanged { OnErr result (words.new ≡ words.old) }
-    ensures heap { OnOk result (read_heap words.new ≡ remove_in (place_of key (records_of words.old)) (read_heap words.old)) }
+    ensures taken { HasTaken words.old words.new key result }
     ensures kept { OnOk result ((i : ℕ) → IsKept (used_places (read_heap words.old)) i → slice_index words.new i ≡ slice_index words.old i) }
 {
     match get(words, key) {
@@ -140,10 +137,10 @@ fn lend(words: &mut [u64], slot: usize, short: usize, first: usize, after: usize
 fn close_slot(words: &mut [u64], slot: usize, last: usize)
     requires size { length words.old ≡ PAGE_WORDS }
     requires slot { slot ≤ last }
-    requires last { last ≤ 9 }
-    ensures before { (m : ℕ) → m < slot → slice_index words.new (8 + m) ≡ slice_index words.old (8 + m) }
-    ensures behind { (m : ℕ) → slot ≤ m → m < last → slice_index words.new (8 + m) ≡ slice_index words.old (8 + (m + 1)) }
-    ensures other { (i : ℕ) → (i < 8) ⊎ (8 + last ≤ i) → slice_index words.new i ≡ slice_index words.old i }
+    requires last { last ≤ MOST_SLOTS - 1 }
+    ensures before { (m : ℕ) → m < slot → slice_index words.new (DIRECTORY + m) ≡ slice_index words.old (DIRECTORY + m) }
+    ensures behind { (m : ℕ) → slot ≤ m → m < last → slice_index words.new (DIRECTORY + m) ≡ slice_index words.old (DIRECTORY + (m + 1)) }
+    ensures other { (i : ℕ) → (i < DIRECTORY) ⊎ (DIRECTORY + last ≤ i) → slice_index words.new i ≡ slice_index words.old i }
     ensures size { length words.new ≡ length words.old }
 {
     for m in slot..last {

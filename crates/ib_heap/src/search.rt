@@ -1,17 +1,18 @@
 //! The search for a key: by the directory to a slot, and along the chain from there (`page_cur_search_with_match`).
 
-ghost use Rattle.std.specs.Prelude.{◌≡◌, ◌≢◌, ◌+◌, ◌-◌, ◌<◌, ◌≤◌, ◌⊎◌, length, take, drop, slice_get, slice_index, IsTrue, false, IsSomeAnd, IfSome, IfOk, IfErr, MatchResult, Some, None};
-ghost use Rattle.std.specs.List.Sorted.{IsSearchInRange};
+ghost use Rattle.std.specs.Prelude.{◌≡◌, ◌≢◌, ◌+◌, ◌-◌, ◌<◌, ◌≤◌, ◌⊎◌, length, take, drop, slice_get, slice_index, IsTrue, false, IsSomeAnd, Some};
 ghost use Rattle.ib_map.specs.Keys.{rank};
 ghost use Rattle.ib_map.specs.Pairs.{value_at, place_of, place_after};
 ghost use Rattle.ib_heap.specs.Image.{IsTreePage, records_of};
 ghost use Rattle.std.specs.declared.cmp.Ordering.TheVariants.{Greater};
 ghost use Rattle.ib_heap.specs.Order.{IsOrder};
+ghost use Rattle.ib_heap.specs.Found.{IsFound, IsRouted};
+ghost use Rattle.ib_heap.specs.Source.{IsStillSource, IsTreeSource};
 ghost use Rattle.ib_heap.specs.Heap.{key_at, is_key_at, nodes_of, owners, up_to, last_from, first_of};
 
 use crate::MOST_RECORDS;
 use crate::directory::{index_behind, next_place, order_at, owner, slot_of, value_word};
-use crate::form::{LAST_PLACE, SUPREMUM, VALUE_WORD};
+use crate::form::{INFIMUM, LAST_PLACE, SUPREMUM, VALUE_WORD};
 use crate::walk::record_of;
 use crate::words::PageWords;
 use ib_map::Key;
@@ -30,20 +31,17 @@ pub(crate) struct Cursor {
 
 /// Finds a key.
 pub(crate) fn seek<W: PageWords>(page: &mut W, key: Key) -> Cursor
-    requires can { W.can_read page.old }
-    requires tree { IsTreePage (W.words page.old) }
-    ensures before { let nodes = nodes_of (W.words page.old) in result.before ≡ last_from 18 (take (place_of key (records_of (W.words page.old))) nodes) }
+    requires { IsTreeSource W.PageWords page.old }
+    ensures before { let nodes = nodes_of (W.words page.old) in result.before ≡ last_from INFIMUM (take (place_of key (records_of (W.words page.old))) nodes) }
     ensures at { let nodes = nodes_of (W.words page.old) in result.at ≡ first_of (drop (place_of key (records_of (W.words page.old))) nodes) }
-    ensures found { IsTrue result.found → (result.at ≢ 19) × (key_at (W.words page.old) result.at ≡ key) }
-    ensures other { result.found ≡ false → (result.at ≡ 19) ⊎ ((result.at ≢ 19) × (rank (key_at (W.words page.old) result.at) ≢ rank key)) }
+    ensures found { IsTrue result.found → (result.at ≢ SUPREMUM) × (key_at (W.words page.old) result.at ≡ key) }
+    ensures other { result.found ≡ false → (result.at ≡ SUPREMUM) ⊎ ((result.at ≢ SUPREMUM) × (rank (key_at (W.words page.old) result.at) ≢ rank key)) }
     ensures some { 0 < result.slot }
     ensures in_range { result.slot ≤ length (owners (nodes_of (W.words page.old))) }
     ensures steps { up_to (result.slot - 1) (nodes_of (W.words page.old)) + result.steps ≡ place_of key (records_of (W.words page.old)) }
     ensures low { up_to (result.slot - 1) (nodes_of (W.words page.old)) ≤ place_of key (records_of (W.words page.old)) }
     ensures high { (place_of key (records_of (W.words page.old)) < up_to result.slot (nodes_of (W.words page.old))) ⊎ (result.slot ≡ length (owners (nodes_of (W.words page.old)))) }
-    ensures same { W.words page.new ≡ W.words page.old }
-    ensures can { W.can_read page.new }
-    ensures read { W.has_read page.old page.new }
+    ensures still { IsStillSource W.PageWords page.old page.new }
 {
     let slot = slot_of(page, key);
     let mut before = owner(page, slot - 1);
@@ -73,15 +71,12 @@ pub(crate) fn seek<W: PageWords>(page: &mut W, key: Key) -> Cursor
 
 // How the record at a place stands to a key; the supremum stands above each.
 fn standing<W: PageWords>(page: &mut W, place: usize, key: Key) -> Ordering
-    requires can { W.can_read page.old }
-    requires tree { IsTreePage (W.words page.old) }
+    requires page { IsTreeSource W.PageWords page.old }
     requires in_page { place ≤ LAST_PLACE }
-    requires keyed { place ≢ 19 → IsTrue (is_key_at (W.words page.old) place) }
-    ensures supremum { place ≡ 19 → result ≡ Greater }
-    ensures order { place ≢ 19 → IsOrder (key_at (W.words page.old) place) key result }
-    ensures same { W.words page.new ≡ W.words page.old }
-    ensures can { W.can_read page.new }
-    ensures read { W.has_read page.old page.new }
+    requires keyed { place ≢ SUPREMUM → IsTrue (is_key_at (W.words page.old) place) }
+    ensures supremum { place ≡ SUPREMUM → result ≡ Greater }
+    ensures order { place ≢ SUPREMUM → IsOrder (key_at (W.words page.old) place) key result }
+    ensures still { IsStillSource W.PageWords page.old page.new }
 {
     if place == SUPREMUM {
         return Ordering::Greater;
@@ -94,11 +89,7 @@ fn standing<W: PageWords>(page: &mut W, place: usize, key: Key) -> Ordering
 /// from there; the place is what the slots before own, and the steps along the chain.
 pub fn find(words: &[u64], key: Key) -> Result<usize, usize>
     requires { IsTreePage words.now }
-    ensures place { let place = place_of key (records_of words.now) in MatchResult result (λ i. i ≡ place) (λ i. i ≡ place) }
-    ensures in_range { IsSearchInRange result (length (records_of words.now)) }
-    ensures found { IfOk result (λ i. IsSomeAnd (slice_get (records_of words.now) i) (λ r. r.0 ≡ key)) }
-    ensures value { IfOk result (λ i. IsSomeAnd (slice_get (records_of words.now) i) (λ r. value_at key (records_of words.now) ≡ Some r.1)) }
-    ensures absent { IfErr result (λ i. value_at key (records_of words.now) ≡ None) }
+    ensures { IsFound (records_of words.now) key result }
 {
     let mut page = words;
     find_in(&mut page, key)
@@ -106,16 +97,9 @@ pub fn find(words: &[u64], key: Key) -> Result<usize, usize>
 
 // The same over a source of the page's words.
 fn find_in<W: PageWords>(page: &mut W, key: Key) -> Result<usize, usize>
-    requires can { W.can_read page.old }
-    requires tree { IsTreePage (W.words page.old) }
-    ensures place { let place = place_of key (records_of (W.words page.old)) in MatchResult result (λ i. i ≡ place) (λ i. i ≡ place) }
-    ensures in_range { IsSearchInRange result (length (records_of (W.words page.old))) }
-    ensures found { IfOk result (λ i. IsSomeAnd (slice_get (records_of (W.words page.old)) i) (λ r. r.0 ≡ key)) }
-    ensures value { IfOk result (λ i. IsSomeAnd (slice_get (records_of (W.words page.old)) i) (λ r. value_at key (records_of (W.words page.old)) ≡ Some r.1)) }
-    ensures absent { IfErr result (λ i. value_at key (records_of (W.words page.old)) ≡ None) }
-    ensures same { W.words page.new ≡ W.words page.old }
-    ensures can { W.can_read page.new }
-    ensures read { W.has_read page.old page.new }
+    requires { IsTreeSource W.PageWords page.old }
+    ensures found { IsFound (records_of (W.words page.old)) key result }
+    ensures still { IsStillSource W.PageWords page.old page.new }
 {
     let cursor = seek(page, key);
     let index = index_behind(page, cursor.slot - 1) + cursor.steps;
@@ -154,10 +138,7 @@ pub fn get_in<W: PageWords>(page: &mut W, key: Key) -> Option<u64>
 pub fn route(words: &[u64], key: Key) -> usize
     requires tree { IsTreePage words.now }
     requires first { IsSomeAnd (slice_get (records_of words.now) 0) (λ r. rank r.0 ≤ rank key) }
-    ensures place { result + 1 ≡ place_after key (records_of words.now) }
-    ensures in_range { result < length (records_of words.now) }
-    ensures not_above { IsSomeAnd (slice_get (records_of words.now) result) (λ r. rank r.0 ≤ rank key) }
-    ensures next_above { IfSome (slice_get (records_of words.now) (result + 1)) (λ r. rank key < rank r.0) }
+    ensures { IsRouted (records_of words.now) key result }
 {
     match find(words, key) {
         Ok(place) => place,
@@ -196,16 +177,13 @@ pub fn child_in<W: PageWords>(page: &mut W, key: Key) -> u64
 
 // The place of the last record whose key is not above this one.
 fn route_word<W: PageWords>(page: &mut W, key: Key) -> usize
-    requires can { W.can_read page.old }
-    requires tree { IsTreePage (W.words page.old) }
+    requires page { IsTreeSource W.PageWords page.old }
     requires first { IsSomeAnd (slice_get (records_of (W.words page.old)) 0) (λ r. rank r.0 ≤ rank key) }
     ensures record { slice_get (records_of (W.words page.old)) (place_after key (records_of (W.words page.old)) - 1)
         ≡ Some (key_at (W.words page.old) result, slice_index (W.words page.old) (result + VALUE_WORD)) }
     ensures not_above { rank (key_at (W.words page.old) result) ≤ rank key }
     ensures in_page { result ≤ LAST_PLACE }
-    ensures same { W.words page.new ≡ W.words page.old }
-    ensures can { W.can_read page.new }
-    ensures read { W.has_read page.old page.new }
+    ensures still { IsStillSource W.PageWords page.old page.new }
 {
     let cursor = seek(page, key);
     if cursor.found {

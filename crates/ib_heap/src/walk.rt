@@ -14,8 +14,8 @@ use ib_map::{Key, is_below};
 // The place behind another in the chain.
 pub(crate) fn next_word(words: &[u64], place: usize) -> usize
     requires { place < length words.now }
-    ensures next { result ≡ slice_index words.now place % 256 }
-    ensures low { result < 256 }
+    ensures next { result ≡ slice_index words.now place % OWNED_UNIT }
+    ensures low { result < OWNED_UNIT }
 {
     (words[place] % OWNED_UNIT) as usize
 }
@@ -23,15 +23,15 @@ pub(crate) fn next_word(words: &[u64], place: usize) -> usize
 // How many records the slot of a place owns, 0 where it has none.
 pub(crate) fn owned_word(words: &[u64], place: usize) -> u64
     requires { place < length words.now }
-    ensures { result ≡ slice_index words.now place / 256 }
+    ensures { result ≡ slice_index words.now place / OWNED_UNIT }
 {
     words[place] / OWNED_UNIT
 }
 
 // The place of the record that owns a slot.
 pub(crate) fn slot_word(words: &[u64], slot: usize) -> usize
-    requires { 8 + slot < length words.now }
-    ensures { result ≡ slice_index words.now (8 + slot) }
+    requires { DIRECTORY + slot < length words.now }
+    ensures { result ≡ slice_index words.now (DIRECTORY + slot) }
 {
     words[DIRECTORY + slot] as usize
 }

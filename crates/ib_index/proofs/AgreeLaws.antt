@@ -19,7 +19,7 @@ use Rattle.ib_walk.specs.Pages.{PageMemory}
 use Rattle.ib_walk.specs.Words.{image_of, bits_of, pages_of, state_of}
 use Rattle.ib_walk.proofs.ImageLaws.{image_of-list, pages_of-image}
 use Rattle.ib_walk.proofs.WalkLaws.{AllByRecursion-right}
-use Rattle.ib_plans.specs.Agreement.{Agrees, HasBits, bits_in, state_or_free, way_of}
+use Rattle.ib_plans.specs.Agreement.{Agrees, HasBits, bits_in, state_or_free, path_of}
 use Rattle.ib_tree.specs.TreeLog.{opening}
 use Rattle.ib_planned_log.specs.Kept.{IsKeptLog}
 use Rattle.ib_planned_log.specs.KeptLog.{IsKeptLog-stays}
@@ -32,11 +32,11 @@ use Rattle.ib_cursor.specs.Shapes.{ShapeLaws, AreSingle}
 use Rattle.ib_cursor.specs.Takings.{IsHeldPage}
 use Rattle.ib_cursor.proofs.ClaimLaws.{singles}
 use Rattle.ib_cursor.proofs.LogLaws.{tree_of-log}
-use Rattle.ib_cursor.proofs.ReadLaws.{way_same}
-use Rattle.ib_cursor.proofs.ShapeLaws.{single_way}
+use Rattle.ib_cursor.proofs.ReadLaws.{path_same}
+use Rattle.ib_cursor.proofs.ShapeLaws.{single_path}
 use Rattle.ib_cursor.proofs.StepLaws.{image_stays}
 use Rattle.ib_cursor.proofs.EndLaws.{all-read}
-use Rattle.ib_index.specs.Grows.{StandsOnWay}
+use Rattle.ib_index.specs.Grows.{HoldsPath}
 use Rattle.ib_index.proofs.LeafStays.{kept-laws}
 
 -- kept logs keep the laws of the shapes of trees
@@ -69,7 +69,7 @@ space-in : (pages : ℕ) (words : ℕ → ℕ) → IsSpacePage pages (image_of w
 space-in pages words space None is = tt
 space-in pages words space (Some image) is = subst (HasBits pages (bits_of pages words)) is (space, bits-in pages words)
 
-module _ (sizes : Sizes) (fits : has_pages sizes.pages ≡ true) (key : MapKey) (path : List ℕ) (p : PassState) (at : StandsOnWay sizes key path p) where
+module _ (sizes : Sizes) (fits : has_pages sizes.pages ≡ true) (key : MapKey) (path : List ℕ) (p : PassState) (at : HoldsPath sizes key path p) where
   abbrev start : ℕ → ℕ
   start = by_place opening sizes.pages
 
@@ -84,13 +84,13 @@ module _ (sizes : Sizes) (fits : has_pages sizes.pages ≡ true) (key : MapKey) 
     calm : AreSingle others
     calm = singles n p.view.memory.since others at.claimed harmless
 
-    -- the way of the key is what it was
-    pub way-now : path ≡ way_of m key 1
-    way-now =
+    -- the path of the key is what it was
+    pub path-now : path ≡ path_of m key 1
+    path-now =
         let shape = kept-shapes sizes.pages fits in
         let lt = rank-lt_end key in
-        at.way ∙ sym (way_same (kept_pages sizes.pages seen) m 1 key
-        (λ page level o. single_way sizes.pages 1 (IsKeptLog sizes.pages) start shape 1 (omega arith) (omega arith) key lt seen others page level legal calm o)
+        at.on_path ∙ sym (path_same (kept_pages sizes.pages seen) m 1 key
+        (λ page level o. single_path sizes.pages 1 (IsKeptLog sizes.pages) start shape 1 (omega arith) (omega arith) key lt seen others page level legal calm o)
         (tree_of-log sizes.pages 1 (IsKeptLog sizes.pages) start shape.laws 1 (omega arith) (omega arith) (seen ++ others) legal) lt)
 
     -- .. and so is each image
@@ -114,7 +114,7 @@ module _ (sizes : Sizes) (fits : has_pages sizes.pages ≡ true) (key : MapKey) 
           few = grind (arith, nat_tests, fits);
           some = omega arith;
           within = omega arith;
-          way = way-now;
+          way = path-now;
           same = λ page ne there. state-in (memory_after start (seen ++ others)) page (changed_of page p.work) (still-in (memory_after start (seen ++ others)) page p.work images-now) there;
           space = space-in sizes.pages (memory_after start (seen ++ others)) memory.space (changed_of 0 p.work) (still-in (memory_after start (seen ++ others)) 0 p.work images-now);
         }

@@ -21,7 +21,7 @@ use Rattle.ib_rule.specs.Stores.{IsLook}
 use Rattle.ib_mtr.specs.Commits.{HasEnded}
 use Rattle.ib_cursor.specs.Going.{IsKnown, WentOn}
 use Rattle.ib_cursor.specs.Spaces.{space_of}
-use Rattle.ib_cursor.proofs.StandLaws.{seen_longer}
+use Rattle.ib_cursor.proofs.LatchingLaws.{seen_longer}
 use Rattle.ib_index.specs.Calls.{HasCalled, MakesOwn}
 
 -- a mini-transaction ended: entries more are seen, and one end more of the log was found

@@ -18,7 +18,7 @@ use Rattle.ib_rule.specs.Views.{total}
 use Rattle.ib_cursor.specs.Descent.{one_if}
 use Rattle.ib_cursor.specs.Going.{WentOn}
 use Rattle.ib_cursor.specs.Spaces.{space_of}
-use Rattle.ib_cursor.proofs.StandLaws.{seen_longer}
+use Rattle.ib_cursor.proofs.LatchingLaws.{seen_longer}
 use Rattle.ib_index.specs.Calls.{HasCalled, MakesOwn}
 use Rattle.ib_index.specs.Changes.{TakesFewUnless}
 use Rattle.ib_index.specs.Grows.{TakesAtMost}

@@ -1,4 +1,4 @@
--- What a change of the tree's structure holds when it has come to the key's way, whichever pages it took beside it.
+-- What a change of the tree's structure holds when it has come to the key's path, whichever pages it took beside it.
 use Rattle.std.specs.List.{All, AllByRecursion}
 use Rattle.std.specs.Prelude.{IsSome, IsSomeAnd, ◌==◌, ◌||◌, ◌↔◌}
 use Rattle.std.proofs.Common.{◌≡◌, ◌≢◌, inl, inr, ℕ, zero, suc, ◌+◌, ◌-◌, ◌<◌, ◌≤◌, Bool, true, false, cond, List, [], ◌∷◌, ◌++◌, Option, Some, None, length, map, refl, sym, ap, subst, ◌∙◌, arith, eq-eqb, ne_eqb, slice_get}
@@ -20,8 +20,8 @@ use Rattle.ib_walk.specs.Pages.{Free, PageMemory, Tree}
 use Rattle.ib_walk.specs.Search.{child_for}
 use Rattle.ib_walk.specs.Trees.{IsTreeOf, height_of}
 use Rattle.ib_walk.specs.Words.{bits_of}
-use Rattle.ib_plans.specs.Agreement.{Agrees, HasTreePages, IsThere, last_of, memory_in, state_or_free, way_down}
-use Rattle.ib_split.proofs.WayLaws.{path-length}
+use Rattle.ib_plans.specs.Agreement.{Agrees, HasTreePages, IsThere, last_of, memory_in, state_or_free, path_down}
+use Rattle.ib_split.proofs.OnPathLaws.{path-length}
 use Rattle.ib_tree.specs.PageLists.{is_listed}
 use Rattle.ib_tree.specs.TreeLog.{opening}
 use Rattle.ib_planned_log.specs.Kept.{IsKeptLog}
@@ -32,13 +32,13 @@ use Rattle.ib_cursor.specs.Claims.{HasClaimed, IsAsRead, beside, claim_grant}
 use Rattle.ib_cursor.specs.Grants.{HasGrants, page_grant}
 use Rattle.ib_cursor.specs.Shapes.{is_claimed}
 use Rattle.ib_cursor.specs.Takings.{IsHeldPage, is_loaded}
-use Rattle.ib_cursor.specs.Way.{IsOnWay}
+use Rattle.ib_cursor.specs.OnPath.{IsOnPath}
 use Rattle.ib_cursor.proofs.EndLaws.{loaded_some}
 use Rattle.ib_cursor.proofs.LogLaws.{bit_inside}
 use Rattle.ib_plans.proofs.EditLaws.{state-tree}
 use Rattle.ib_cursor.proofs.TakeLaws.{all-both}
-use Rattle.ib_cursor.proofs.WayLaws.{bit_on-way, child_on-way, page_on-way, root_on-way}
-use Rattle.ib_index.specs.Grows.{IsGrowing, StandsOnWay, held_grant, pages_held, tree_pages}
+use Rattle.ib_cursor.proofs.OnPathLaws.{bit_on-path, child_on-path, page_on-path, root_on-path}
+use Rattle.ib_index.specs.Grows.{IsGrowing, HoldsPath, held_grant, pages_held, tree_pages}
 use Rattle.ib_index.proofs.AgreeLaws.{agrees-now}
 use Rattle.ib_mtr.proofs.Lists.{or_true}
 
@@ -114,8 +114,8 @@ module _ (sizes : Sizes) (fits : has_pages sizes.pages ≡ true) (key : MapKey) 
   abbrev m : PageMemory
   m = kept_pages sizes.pages q.view.memory.seen
 
-  abbrev pub way_bits : ℕ → ℕ
-  way_bits = bits_of sizes.pages (memory_after start q.view.memory.seen)
+  abbrev pub path_bits : ℕ → ℕ
+  path_bits = bits_of sizes.pages (memory_after start q.view.memory.seen)
 
   lt : rank key < end_rank
   lt = rank-lt_end key
@@ -123,46 +123,46 @@ module _ (sizes : Sizes) (fits : has_pages sizes.pages ≡ true) (key : MapKey) 
   loaded-is : (n : ℕ) → is_loaded n q.work ≡ is_listed held n
   loaded-is n = bools-same (is_loaded n q.work) (is_listed held n) ((λ l. (c.there n).0 ((loaded_some n q.work).1 l)), (λ a. (loaded_some n q.work).0 ((c.there n).1 a)))
 
-  pub standing : StandsOnWay sizes key path q
+  pub standing : HoldsPath sizes key path q
   standing = record {
     claimed = claims;
     read = all-both (IsAsRead start q.view.memory.seen) (λ w. is_watched (w.page + 2) q.view.memory.since ≡ true) (IsHeldPage start q) q.work (λ w a b. record { read = a; watched = b }) c.read
         (loaded-each (λ n. is_watched (n + 2) q.view.memory.since ≡ true) q.work (λ n there. each-among (λ n. is_watched (n + 2) q.view.memory.since ≡ true) held n c.watched (sym (loaded-is n) ∙ there)));
-    way = c.way;
+    on_path = c.on_path;
     known = c.known;
   }
 
-  pub agreed : Agrees sizes.pages 1 1 key path q.work m way_bits
+  pub agreed : Agrees sizes.pages 1 1 key path q.work m path_bits
   agreed = agrees-now sizes fits key path q standing
 
   tree : IsTreeOf m (height_of m 1) 1
   tree = (agreed.lawful.trees 1 (omega arith) (omega arith)).0
 
-  pub way-low : height_of m 1 ≤ 7
-  way-low = (agreed.lawful.trees 1 (omega arith) (omega arith)).1
+  pub path-low : height_of m 1 ≤ 7
+  path-low = (agreed.lawful.trees 1 (omega arith) (omega arith)).1
 
-  pub way-long : length path ≡ suc (height_of m 1)
-  way-long = path-length sizes.pages 1 1 key path q.work m way_bits agreed
+  pub path-long : length path ≡ suc (height_of m 1)
+  path-long = path-length sizes.pages 1 1 key path q.work m path_bits agreed
 
   -- a page of the trees is one of the space
   inside : (n : ℕ) → (m n).kind ≡ Tree → n < sizes.pages
-  inside n kind = elim (cases_lt 0 (way_bits n)) [
+  inside n kind = elim (cases_lt 0 (path_bits n)) [
     | inl some ↦ bit_inside sizes.pages (memory_after start q.view.memory.seen) n some
     | inr none ↦ absurd (let bad : Tree ≡ Free = sym kind ∙ agreed.lawful.unmet n (omega (arith, none)) in cc)
   ]
 
-  tree-at : (n level : ℕ) → IsOnWay m 1 key n level → IsThere q.work n → IsSomeAnd (changed_of n q.work) IsTreePage
+  tree-at : (n level : ℕ) → IsOnPath m 1 key n level → IsThere q.work n → IsSomeAnd (changed_of n q.work) IsTreePage
   tree-at n level o there =
-      let ne = (bit_on-way m way_bits 1 1 key n level agreed.lawful (omega arith) (omega arith) lt o).0 in
-      tree-some (changed_of n q.work) there (ap (λ s. s.kind) (agreed.same n ne there) ∙ (page_on-way m 1 key n level tree lt o).kind)
+      let ne = (bit_on-path m path_bits 1 1 key n level agreed.lawful (omega arith) (omega arith) lt o).0 in
+      tree-some (changed_of n q.work) there (ap (λ s. s.kind) (agreed.same n ne there) ∙ (page_on-path m 1 key n level tree lt o).kind)
 
-  trees-down : (level n : ℕ) → IsOnWay m 1 key n level → ((k : ℕ) → is_listed (way_down m key level n) k ≡ true → IsThere q.work k) → HasTreePages (way_down m key level n) q.work
+  trees-down : (level n : ℕ) → IsOnPath m 1 key n level → ((k : ℕ) → is_listed (path_down m key level n) k ≡ true → IsThere q.work k) → HasTreePages (path_down m key level n) q.work
   trees-down zero n o there = All-cons (λ k. IsSomeAnd (changed_of k q.work) IsTreePage) n [] (tree-at n 0 o (there n (ap (λ b. b || false) (eq-eqb n n refl)))) (All-nil (λ k. IsSomeAnd (changed_of k q.work) IsTreePage))
   trees-down (suc level) n o there =
       let child = child_for key 0 (m n).records in
-      All-cons (λ k. IsSomeAnd (changed_of k q.work) IsTreePage) n (way_down m key level child)
-      (tree-at n (suc level) o (there n (ap (λ b. b || is_listed (way_down m key level child) n) (eq-eqb n n refl))))
-      (trees-down level child (child_on-way m 1 key n level o) (λ k among. there k (or_true (n == k) (is_listed (way_down m key level child) k) among)))
+      All-cons (λ k. IsSomeAnd (changed_of k q.work) IsTreePage) n (path_down m key level child)
+      (tree-at n (suc level) o (there n (ap (λ b. b || is_listed (path_down m key level child) n) (eq-eqb n n refl))))
+      (trees-down level child (child_on-path m 1 key n level o) (λ k among. there k (or_true (n == k) (is_listed (path_down m key level child) k) among)))
 
   module _ (ways : (n : ℕ) → is_listed path n ≡ true → is_listed held n ≡ true) (each : (n : ℕ) → is_listed held n ≡ true → IsPageOfTree m n) where
     -- what is held is there, as it is in the tree
@@ -183,7 +183,7 @@ module _ (sizes : Sizes) (fits : has_pages sizes.pages ≡ true) (key : MapKey) 
         go false none = none
 
     trees : HasTreePages path q.work
-    trees = subst (λ ns. HasTreePages ns q.work) (sym c.way) (trees-down (height_of m 1) 1 (root_on-way m 1 key) (λ k among. held-there k (ways k (ap (λ ns. is_listed ns k) c.way ∙ among))))
+    trees = subst (λ ns. HasTreePages ns q.work) (sym c.on_path) (trees-down (height_of m 1) 1 (root_on-path m 1 key) (λ k among. held-there k (ways k (ap (λ ns. is_listed ns k) c.on_path ∙ among))))
 
     last-among : (ns : List ℕ) → 0 < length ns → is_listed ns (last_of ns) ≡ true
     last-among [] some = absurd (omega arith)
@@ -191,7 +191,7 @@ module _ (sizes : Sizes) (fits : has_pages sizes.pages ≡ true) (key : MapKey) 
     last-among (x ∷ y ∷ ys) some = or_true (x == last_of (y ∷ ys)) (is_listed (y ∷ ys) (last_of (y ∷ ys))) (last-among (y ∷ ys) (omega arith))
 
     pub last-held : is_listed held (last_of path) ≡ true
-    last-held = ways (last_of path) (last-among path (let l = way-long in omega arith))
+    last-held = ways (last_of path) (last-among path (let l = path-long in omega arith))
 
     pub growing : IsGrowing sizes key path (tree_pages held) q
     growing = record {

@@ -22,7 +22,7 @@ use Rattle.ib_rule.specs.declared.looks.Grants.{Grants}
 use Rattle.ib_rule.specs.Pass.{PassState}
 use Rattle.ib_cursor.specs.Grants.{Grant}
 use Rattle.ib_cursor.proofs.OnceLaws.{among_append, once_here}
-use Rattle.ib_cursor.proofs.StandLaws.{went_both, went_none}
+use Rattle.ib_cursor.proofs.LatchingLaws.{went_both, went_none}
 use Rattle.ib_index.specs.Grows.{HasGrown, HasTakenNew, IsGrowing, held_grant, new_pages, pages_held, space_pages, tree_pages}
 
 -- all pages that are held

@@ -1,5 +1,5 @@
--- An insert that came to the key's way and ended there was answered.
-use Rattle.std.specs.Prelude.{is_some, Result, Ok, Err, IfOk, IfErr}
+-- An insert that came to the key's path and ended there was answered.
+use Rattle.std.specs.Prelude.{is_some, Result, Ok, Err}
 use Rattle.std.proofs.Common.{◌≡◌, ℕ, ◌<◌, ◌≤◌, true, false, cond, List, length, Option, Some, None, take, refl, sym, ap, subst, ◌∙◌}
 use Rattle.ib_map.specs.Keys.{MapKey}
 use Rattle.ib_map.specs.Map.{answer_of, is_made}
@@ -32,7 +32,9 @@ use Rattle.ib_cursor.specs.Spaces.{space_of}
 use Rattle.ib_index.specs.Calls.{HasCalled}
 use Rattle.ib_index.specs.Leaf.{IsSeated}
 use Rattle.ib_index.specs.Grows.{IsGrowing}
-use Rattle.ib_index.proofs.WayCalls.{agrees-l, called-committed, called-full, called-read, entry-c, log-full, looked-f, value-c, value-f, value-r, value_there, whole-f, whole-r, within-c, within-f, within-r}
+use Rattle.ib_index.proofs.EndLaws.{CommitAnswered}
+use Rattle.ib_index.proofs.CallEnds.{called-committed, called-full, called-read, entry-c, log-full, looked-f, whole-f, whole-r, within-c, within-f, within-r}
+use Rattle.ib_index.proofs.PathCalls.{agrees-l, value-c, value-f, value-r, value_there}
 
 module _ (sizes : Sizes) (key : MapKey) (path : List ℕ) (held : List (ℕ × Level)) (p q : PassState) (went : WentOn p q) (looked : 0 < length went.added) (can : IsGrowing sizes key path held q) (seated : IsSeated sizes q) where
   abbrev start : ℕ → ℕ
@@ -53,12 +55,12 @@ module _ (sizes : Sizes) (key : MapKey) (path : List ℕ) (held : List (ℕ × L
     refused : (reply : Reply) → is_made reply ≡ false → FitsChange (history_of r.view.memory.seen) r.number (Insert key value) reply place → FitsInsert (space_of sizes start) r.view.memory.seen key reply place
         → HasCalled sizes (IsKeptLog sizes.pages) start (InsertCall key value) (record { call = InsertCall key value; reply = reply; place = place }) p r
     refused reply not_made change tree =
-        called-read sizes key path held p q went looked can seated place r read (InsertCall key value) reply not_made
-        (record { map = (within-r sizes key path held p q went looked can seated place r read, (change, refl)); tree = tree })
+        called-read sizes p q went looked seated.role place r read (InsertCall key value) reply not_made
+        (record { map = (within-r sizes p q went looked seated.role place r read, (change, refl)); tree = tree })
 
     -- a memory that agrees is that after all seen
     seen-all : (P : List Entry → Type 0) → P read.log → P (take place r.view.memory.seen)
-    seen-all P has = subst P (sym (whole-r sizes key path held p q went looked can seated place r read)) has
+    seen-all P has = subst P (sym (whole-r sizes p q went looked seated.role place r read)) has
 
     agreed : Agrees sizes.pages 1 1 key path q.work (kept_pages sizes.pages read.log) (bits_of sizes.pages (memory_after start read.log))
     agreed = agrees-l sizes key path held p q went looked can seated read.log read.looked
@@ -91,22 +93,22 @@ module _ (sizes : Sizes) (key : MapKey) (path : List ℕ) (held : List (ℕ × L
         let made : is_made (answer_of (map_of r.view.memory.seen) (Insert key value)) ≡ true =
         ap (λ (o : Option ℕ). is_made (cond (is_some o) Duplicate Inserted)) (value-f sizes key path held p q went looked can seated work full r f ∙ missing) in
         let both = subst (λ (log : List Entry). (is_too_high (kept_pages sizes.pages log) key 1 ≡ false) × (need_of (kept_pages sizes.pages log) key 1 ≤ free_of (bits_of sizes.pages (memory_after start log)) sizes.pages))
-        (sym (whole-f sizes key path held p q went looked can seated work full r f))
-        (free (kept_pages sizes.pages f.log) (bits_of sizes.pages (memory_after start f.log)) (agrees-l sizes key path held p q went looked can seated f.log (looked-f sizes key path held p q went looked can seated work full r f))) in
-        called-full sizes key path held p q went looked can seated work full r f (InsertCall key value) (record {
-          map = (within-f sizes key path held p q went looked can seated work full r f, (made, refl));
-          tree = (both.0, both.1, log-full sizes key path held p q went looked can seated work full r f);
+        (sym (whole-f sizes p q went looked seated.role work full r f))
+        (free (kept_pages sizes.pages f.log) (bits_of sizes.pages (memory_after start f.log)) (agrees-l sizes key path held p q went looked can seated f.log (looked-f sizes p q went looked seated.role work full r f))) in
+        called-full sizes p q went looked seated.role work full r f (InsertCall key value) (record {
+          map = (within-f sizes p q went looked seated.role work full r f, (made, refl));
+          tree = (both.0, both.1, log-full sizes p q went looked seated.role work full r f);
         })
 
     -- the change was committed
     pub called-inserted : (place : ℕ) (r : PassState) → HasCommitted sizes (IsKeptLog sizes.pages) start (Insert key value) (with_work work q) place r
         → HasCalled sizes (IsKeptLog sizes.pages) start (InsertCall key value) (record { call = InsertCall key value; reply = Inserted; place = place }) p r
     called-inserted place r c =
-        let none = value-c sizes key path held p q went looked can seated (Insert key value) work place r c ∙ missing in
-        called-committed sizes key path held p q went looked can seated (Insert key value) work place r c (InsertCall key value) Inserted refl (record {
+        let none = value-c sizes key path held p q went looked can seated work (Insert key value) place r c ∙ missing in
+        called-committed sizes p q went looked seated.role work (Insert key value) place r c (InsertCall key value) Inserted refl (record {
           map = (
-            within-c sizes key path held p q went looked can seated (Insert key value) work place r c,
-            ((ap (λ (o : Option ℕ). cond (is_some o) Duplicate Inserted) none, entry-c sizes key path held p q went looked can seated (Insert key value) work place r c), refl),
+            within-c sizes p q went looked seated.role work (Insert key value) place r c,
+            ((ap (λ (o : Option ℕ). cond (is_some o) Duplicate Inserted) none, entry-c sizes p q went looked seated.role work (Insert key value) place r c), refl),
           );
           tree = tt;
         })
@@ -114,12 +116,9 @@ module _ (sizes : Sizes) (key : MapKey) (path : List ℕ) (held : List (ℕ × L
   -- what a commit of the insert was answered
   pub called-ended : (o : Result ℕ LogFull) (work : List WorkPage) (value : ℕ) (answer : Record) (r : PassState) → there ≡ None
       → ForAll (λ memory bits. (is_too_high memory key 1 ≡ false) × (need_of memory key 1 ≤ free_of bits sizes.pages))
-      → IfOk o (λ place. answer ≡ record { call = InsertCall key value; reply = Inserted; place = place })
-      → IfErr o (λ full. answer ≡ record { call = InsertCall key value; reply = LogFullReply full.used full.cap; place = length r.view.memory.seen })
-      → IfOk o (λ place. HasCommitted sizes (IsKeptLog sizes.pages) start (Insert key value) (with_work work q) place r)
-      → IfErr o (λ full. IsFull sizes (IsKeptLog sizes.pages) (with_work work q) full r)
+      → CommitAnswered sizes (InsertCall key value) (Insert key value) Inserted o answer (with_work work q) r
       → HasCalled sizes (IsKeptLog sizes.pages) start (InsertCall key value) answer p r
-  called-ended (Ok place) work value answer r missing free made full committed refused =
-      subst (λ a. HasCalled sizes (IsKeptLog sizes.pages) start (InsertCall key value) a p r) (sym made) (called-inserted value missing work place r committed)
-  called-ended (Err fault) work value answer r missing free made full committed refused =
-      subst (λ a. HasCalled sizes (IsKeptLog sizes.pages) start (InsertCall key value) a p r) (sym full) (called-full-insert value missing work fault r refused free)
+  called-ended (Ok place) work value answer r missing free ends =
+      subst (λ a. HasCalled sizes (IsKeptLog sizes.pages) start (InsertCall key value) a p r) (sym ends.as_made) (called-inserted value missing work place r ends.committed)
+  called-ended (Err fault) work value answer r missing free ends =
+      subst (λ a. HasCalled sizes (IsKeptLog sizes.pages) start (InsertCall key value) a p r) (sym ends.as_full) (called-full-insert value missing work fault r ends.refused free)

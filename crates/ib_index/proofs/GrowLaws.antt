@@ -37,12 +37,12 @@ use Rattle.ib_mtr.proofs.Images.{All-with_page}
 use Rattle.ib_cursor.specs.Claims.{claim_grant, IsAsRead}
 use Rattle.ib_cursor.specs.Descent.{HasPage}
 use Rattle.ib_cursor.specs.Grants.{Grant, HasGrants, HasTaken, IsAway}
-use Rattle.ib_cursor.specs.Shapes.{HasGlanced, KeepsClaim}
+use Rattle.ib_cursor.specs.Shapes.{HasLookedOn, KeepsClaim}
 use Rattle.ib_cursor.specs.Takings.{IsHeldPage, is_loaded}
 use Rattle.ib_cursor.proofs.ClaimLaws.{keeps_after}
 use Rattle.ib_cursor.proofs.GrantLaws.{can_wish, grants_more}
 use Rattle.ib_cursor.proofs.ReadLaws.{keeps_path}
-use Rattle.ib_cursor.proofs.StandLaws.{beside_taken, went_beside, went_both}
+use Rattle.ib_cursor.proofs.LatchingLaws.{beside_taken, went_beside, went_both}
 use Rattle.ib_cursor.proofs.TakeLaws.{absent_loaded, all-both, among-more, loaded-more, long-more}
 use Rattle.ib_index.specs.Grows.{HasGrown, IsGrowing, held_grant, pages_held, tree_pages}
 use Rattle.ib_index.proofs.AgreeLaws.{kept-shapes}
@@ -109,7 +109,7 @@ module _ (sizes : Sizes) (key : MapKey) (path : List ℕ) (held : List (ℕ × L
   pub grow-absent : changed_of page p.work ≡ None
   grow-absent = absent_loaded page p.work (can.loaded page ∙ other)
 
-  module _ (fits : has_pages sizes.pages ≡ true) (q r : PassState) (inside : page < sizes.pages) (was : All (λ w. 0 < holdings (w.page + 2) p.view.session) p.work) (taken : HasTaken (held_grant (page, level)) p q) (glanced : HasGlanced sizes (IsKeptLog sizes.pages) q r)
+  module _ (fits : has_pages sizes.pages ≡ true) (q r : PassState) (inside : page < sizes.pages) (was : All (λ w. 0 < holdings (w.page + 2) p.view.session) p.work) (taken : HasTaken (held_grant (page, level)) p q) (looked_on : HasLookedOn sizes (IsKeptLog sizes.pages) q r)
       (memo : r.memo ≡ q.memo) (session : r.view.session ≡ q.view.session) (grants : r.view.grants ≡ q.view.grants) (load : HasPage start page q r) (now : All (λ w. 0 < holdings (w.page + 2) r.view.session) r.work) where
     all-grants : HasGrants (claim_grant ∷ map held_grant (held ++ (page, level) ∷ [])) r
     all-grants = subst (λ gs. HasGrants gs r) (ap (λ gs. claim_grant ∷ gs) (sym (map-append held_grant held ((page, level) ∷ []))))
@@ -120,12 +120,12 @@ module _ (sizes : Sizes) (key : MapKey) (path : List ℕ) (held : List (ℕ × L
 
     still : (w : WorkPage) → IsHeldPage start p w → 0 < holdings (w.page + 2) p.view.session → IsAsRead start r.view.memory.seen w
     still w h some =
-        let calm = glanced.seen.steady w.page (ap (λ (m : Knowledge). is_watched (w.page + 2) m.since) taken.taken.memory ∙ h.watched) in
-        let log : r.view.memory.seen ≡ p.view.memory.seen ++ glanced.seen.went.more = glanced.seen.went.seen ∙ ap (λ (m : Knowledge). m.seen ++ glanced.seen.went.more) taken.taken.memory in
+        let calm = looked_on.seen.steady w.page (ap (λ (m : Knowledge). is_watched (w.page + 2) m.since) taken.taken.memory ∙ h.watched) in
+        let log : r.view.memory.seen ≡ p.view.memory.seen ++ looked_on.seen.went.more = looked_on.seen.went.seen ∙ ap (λ (m : Knowledge). m.seen ++ looked_on.seen.went.more) taken.taken.memory in
         record {
           size = h.read.size;
-          is_page = subst (λ l. IsPageAfter start l w.page w.before) (sym log) (λ index lt. h.read.is_page index lt ∙ sym (word_stays start p.view.memory.seen glanced.seen.went.more (word_place w.page index)
-              (subst (λ (n : ℕ). AllByRecursion (λ (e : Entry). touches n e.writes ≡ false) glanced.seen.went.more) (sym (page_at-word w.page index lt)) calm)));
+          is_page = subst (λ l. IsPageAfter start l w.page w.before) (sym log) (λ index lt. h.read.is_page index lt ∙ sym (word_stays start p.view.memory.seen looked_on.seen.went.more (word_place w.page index)
+              (subst (λ (n : ℕ). AllByRecursion (λ (e : Entry). touches n e.writes ≡ false) looked_on.seen.went.more) (sym (page_at-word w.page index lt)) calm)));
           unchanged = h.read.unchanged;
         }
 
@@ -135,7 +135,7 @@ module _ (sizes : Sizes) (key : MapKey) (path : List ℕ) (held : List (ℕ × L
         (all-both (IsHeldPage start p) (λ w. 0 < holdings (w.page + 2) p.view.session) (IsAsRead start r.view.memory.seen) p.work still can.at.read was))
 
     keeps : KeepsClaim p r
-    keeps = keeps_after p q r taken.taken.memory glanced.keeps can.at.claimed
+    keeps = keeps_after p q r taken.taken.memory looked_on.keeps can.at.claimed
 
     kept-image : (n : ℕ) → IsThere p.work n → changed_of n r.work ≡ changed_of n p.work
     kept-image n there = ap (changed_of n) work-is ∙ changed-kept n page load.image p.work grow-absent there
@@ -151,9 +151,9 @@ module _ (sizes : Sizes) (key : MapKey) (path : List ℕ) (held : List (ℕ × L
       growing = record {
         at = record {
           claimed = keeps.claimed;
-          read = all-both (IsAsRead start r.view.memory.seen) (λ w. 0 < holdings (w.page + 2) r.view.session) (IsHeldPage start r) r.work (λ w a b. record { read = a; watched = glanced.seen.watched (w.page + 2) b }) images now;
-          way = can.at.way ∙ sym (keeps_path sizes 1 (IsKeptLog sizes.pages) start (kept-shapes sizes.pages fits) 1 (omega arith) (omega arith) key (rank-lt_end key) p r glanced.seen.known keeps);
-          known = glanced.seen.known;
+          read = all-both (IsAsRead start r.view.memory.seen) (λ w. 0 < holdings (w.page + 2) r.view.session) (IsHeldPage start r) r.work (λ w a b. record { read = a; watched = looked_on.seen.watched (w.page + 2) b }) images now;
+          on_path = can.at.on_path ∙ sym (keeps_path sizes 1 (IsKeptLog sizes.pages) start (kept-shapes sizes.pages fits) 1 (omega arith) (omega arith) key (rank-lt_end key) p r looked_on.seen.known keeps);
+          known = looked_on.seen.known;
         };
         grants = all-grants;
         loaded = λ n. ap (is_loaded n) work-is ∙ (loaded-more n (record { page = page; before = load.image; changed = load.image }) p.work
@@ -164,7 +164,7 @@ module _ (sizes : Sizes) (key : MapKey) (path : List ℕ) (held : List (ℕ × L
             (λ n h. subst (λ (o : Option (List ℕ)). IsSomeAnd o IsTreePage) (sym (kept-image n (IsSome-and IsTreePage (changed_of n p.work) h))) h) can.trees;
         leaf = kept-there (last_of path) can.leaf;
       };
-      went = went_both p q r (went_beside p q (beside_taken (held_grant (page, level)) p q taken)) glanced.seen.went;
+      went = went_both p q r (went_beside p q (beside_taken (held_grant (page, level)) p q taken)) looked_on.seen.went;
       grants = grants ∙ taken.taken.grants;
       there = subst IsSome (sym (ap (changed_of page) work-is ∙ (changed-more page page load.image p.work grow-absent ∙ ap (λ b. cond b (Some load.image) (changed_of page p.work)) (eq-eqb page page refl)))) refl;
       same = kept-image;

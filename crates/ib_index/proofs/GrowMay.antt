@@ -29,7 +29,7 @@ use Rattle.ib_index.specs.Leaf.{IsSeated}
 use Rattle.ib_plans.proofs.StayLaws.{planned_insert-stays}
 use Rattle.ib_index.proofs.PlanCommits.{IsPlannedChange}
 use Rattle.ib_index.proofs.PlanLaws.{plan-bits, plan-on}
-use Rattle.ib_index.proofs.WayMay.{may-commit}
+use Rattle.ib_index.proofs.PathMay.{may-commit}
 
 -- the insert as a change that is planned
 insert-planned : (pages : ℕ) (key : MapKey) (value : ℕ) (fresh : List ℕ) (m : PageMemory) (bits : ℕ → ℕ) (old new : List WorkPage) → is_too_high m key 1 ≡ false → HasFresh pages 1 1 key fresh m bits

@@ -31,13 +31,13 @@ use Rattle.ib_planned_log.proofs.PushLaws.{lawful-before}
 use Rattle.ib_rule.specs.Pass.{PassState}
 use Rattle.ib_rule.specs.Stores.{IsHarmless}
 use Rattle.ib_rule.proofs.Watching.{untouched}
-use Rattle.ib_cursor.specs.Way.{IsOnWay}
+use Rattle.ib_cursor.specs.OnPath.{IsOnPath}
 use Rattle.ib_cursor.specs.Laws.{Laws}
-use Rattle.ib_cursor.proofs.LogLaws.{way_stays}
+use Rattle.ib_cursor.proofs.LogLaws.{path_stays}
 use Rattle.ib_cursor.proofs.NextLaws.{there_in}
 use Rattle.ib_cursor.proofs.PageLaws.{IsTreeImage, tree_image}
 use Rattle.ib_cursor.proofs.StepLaws.{image_stays}
-use Rattle.ib_cursor.proofs.WayLaws.{leaf_on-way}
+use Rattle.ib_cursor.proofs.OnPathLaws.{leaf_on-path}
 use Rattle.ib_index.specs.Leaf.{IsAtLeaf, leaf_page, the_leaf}
 
 -- kept logs keep the laws of trees
@@ -70,13 +70,13 @@ module _ (sizes : Sizes) (fits : has_pages sizes.pages ≡ true) (key : MapKey) 
       ap (kept_pages sizes.pages seen) (sym at.is_leaf)
       ∙ (pages_of-image (memory_after start seen) leaf ∙ ap (λ (ws : List ℕ). state_of (page_of ws)) image-is)
 
-  way-page : PathPage (kept_pages sizes.pages seen) 0 1 (the_leaf sizes key p)
-  way-page =
+  on_path-page : PathPage (kept_pages sizes.pages seen) 0 1 (the_leaf sizes key p)
+  on_path-page =
       let memory = lawful-before sizes.pages fits seen at.known.legal in
       leaf-page (kept_pages sizes.pages seen) (bits_of sizes.pages (memory_after start seen)) 1 memory.law key (rank-lt_end key) 1 (omega arith) (omega arith)
 
   in-tree : IsTreeImage (memory_after start seen) leaf
-  in-tree = tree_image (memory_after start seen) leaf (subst (λ n. (kept_pages sizes.pages seen n).kind ≡ Tree) (sym at.is_leaf) way-page.kind)
+  in-tree = tree_image (memory_after start seen) leaf (subst (λ n. (kept_pages sizes.pages seen n).kind ≡ Tree) (sym at.is_leaf) on_path-page.kind)
 
   pub leaf-tree : IsTreePage at.image
   leaf-tree = subst IsTreePage image-is in-tree.tree
@@ -87,7 +87,7 @@ module _ (sizes : Sizes) (fits : has_pages sizes.pages ≡ true) (key : MapKey) 
   -- its clock may rise
   pub clock-low : length seen < 2 ^ 31 → clock_of at.image < 2 ^ 63
   clock-low few =
-      let le = clock-le sizes.pages fits seen (the_leaf sizes key p) way-page.some at.known.legal in
+      let le = clock-le sizes.pages fits seen (the_leaf sizes key p) on_path-page.some at.known.legal in
       let same : (leaf_page sizes key p).clock ≡ clock_of at.image = ap (λ (q : PageState). q.clock) page-is ∙ state-clock (page_of at.image) in
       omega arith
 
@@ -98,9 +98,9 @@ module _ (sizes : Sizes) (fits : has_pages sizes.pages ≡ true) (key : MapKey) 
 
     pub leaf-stays : leaf ≡ leaf_after sizes.pages (seen ++ others) key
     leaf-stays =
-        let on : IsOnWay (pages_after start seen) 1 key leaf 0 = record { depth = height_of (pages_after start seen) 1; height = omega arith; below = sym at.is_leaf } in
-        leaf_on-way (pages_after start (seen ++ others)) 1 key leaf
-        (way_stays sizes.pages 1 (IsKeptLog sizes.pages) start (kept-laws sizes.pages fits) 1 (omega arith) (omega arith) key (rank-lt_end key) seen others leaf 0 legal calm on)
+        let on : IsOnPath (pages_after start seen) 1 key leaf 0 = record { depth = height_of (pages_after start seen) 1; height = omega arith; below = sym at.is_leaf } in
+        leaf_on-path (pages_after start (seen ++ others)) 1 key leaf
+        (path_stays sizes.pages 1 (IsKeptLog sizes.pages) start (kept-laws sizes.pages fits) 1 (omega arith) (omega arith) key (rank-lt_end key) seen others leaf 0 legal calm on)
 
     pub image-stays : image_of (memory_after start (seen ++ others)) leaf ≡ at.image
     image-stays = image_stays start seen others leaf calm ∙ image-is

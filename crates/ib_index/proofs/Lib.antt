@@ -3,6 +3,8 @@ mod ChangeLaws
 pub mod LookupLaws
 mod LeafStays
 mod LeafCommits
+mod CallEnds
+mod EndLaws
 mod LeafCalls
 mod AgreeLaws
 mod WorkLaws
@@ -11,9 +13,9 @@ mod PlanCommits
 mod GrowLaws
 mod ClaimedLaws
 mod BeginLaws
-mod WayMay
+mod PathMay
 mod GrowMay
-mod WayCalls
+mod PathCalls
 mod GrowCalls
 mod FreshLaws
 mod ReadyLaws

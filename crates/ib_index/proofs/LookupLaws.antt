@@ -28,15 +28,15 @@ use Rattle.ib_walk.proofs.TreeLaws.{value_at-content_of}
 use Rattle.ib_tree.specs.Logs.{pages_after}
 use Rattle.ib_mtr.specs.Commits.{HasRead}
 use Rattle.ib_mtr.specs.Mtr.{started, finished}
-use Rattle.ib_cursor.specs.Way.{IsOnWay}
+use Rattle.ib_cursor.specs.OnPath.{IsOnPath}
 use Rattle.ib_cursor.specs.Descent.{HasFound}
-use Rattle.ib_cursor.specs.Hindrance.{IsHindered}
+use Rattle.ib_cursor.specs.Contention.{IsContended}
 use Rattle.ib_cursor.specs.declared.fault.NowaitFault.{NowaitFault}
 use Rattle.ib_cursor.specs.Laws.{Laws}
-use Rattle.ib_cursor.proofs.LogLaws.{tree_of-log, way_stays, way_image}
+use Rattle.ib_cursor.proofs.LogLaws.{tree_of-log, path_stays, path_image}
 use Rattle.ib_cursor.proofs.StepLaws.{image_stays}
-use Rattle.ib_cursor.proofs.DownLaws.{leaf_way, leaf_image}
-use Rattle.ib_cursor.proofs.WayLaws.{leaf_on-way}
+use Rattle.ib_cursor.proofs.DownLaws.{leaf_path, leaf_image}
+use Rattle.ib_cursor.proofs.OnPathLaws.{leaf_on-path}
 use Rattle.ib_index.specs.Calls.{HasCalled}
 use Rattle.ib_index.proofs.CallLaws.{called-from, read-end, read-known}
 use Rattle.ib_index.specs.Lookups.{HasLookedUp}
@@ -48,28 +48,28 @@ lookup-made None = refl
 module _ (sizes : Sizes) (roots : ℕ) (lawful : List Entry → Type 0) (opening : ℕ → ℕ) (laws : Laws sizes.pages roots lawful opening) (one : 1 ≤ roots)
     (content : (log : List Entry) → lawful log → content_of (pages_after opening log) 1 ≡ map_of log) (key : MapKey) (lt : rank key < end_rank) where
   -- the key's leaf after a lawful log: what it has of the key, the map has
-  pub leaf_has : (log : List Entry) (leaf : ℕ) → lawful log → IsOnWay (pages_after opening log) 1 key leaf 0
+  pub leaf_has : (log : List Entry) (leaf : ℕ) → lawful log → IsOnPath (pages_after opening log) 1 key leaf 0
       → value_at key (records_of (image_of (memory_after opening log) leaf)) ≡ value_at key (map_of log)
   leaf_has log leaf legal on =
-      let w = way_image sizes.pages roots lawful opening laws 1 (omega arith) one key lt log leaf 0 legal on in
+      let w = path_image sizes.pages roots lawful opening laws 1 (omega arith) one key lt log leaf 0 legal on in
       let v = value_at-content_of (pages_after opening log) key 1 lt (tree_of-log sizes.pages roots lawful opening laws 1 (omega arith) one log legal) in
-      let at : leaf ≡ leaf_for (pages_after opening log) key 1 = leaf_on-way (pages_after opening log) 1 key leaf on in
+      let at : leaf ≡ leaf_for (pages_after opening log) key 1 = leaf_on-path (pages_after opening log) 1 key leaf on in
       sym (ap (value_at key) w.image.records) ∙ (ap (λ n. value_at key (pages_after opening log n).records) at ∙ (sym v ∙ ap (value_at key) (content log legal)))
 
   module _ (value : Option ℕ) (p q : PassState) (found : HasFound sizes lawful opening 1 key value p q) where
-    on_leaf : IsOnWay (pages_after opening q.view.memory.seen) 1 key found.come.leaf 0
-    on_leaf = leaf_way sizes roots lawful opening laws 1 (omega arith) one key lt false found.path p q found.come
+    on_leaf : IsOnPath (pages_after opening q.view.memory.seen) 1 key found.reached.leaf 0
+    on_leaf = leaf_path sizes roots lawful opening laws 1 (omega arith) one key lt false found.path p q found.reached
 
     -- what was found is what the words of the leaf say
-    off-leaf : value ≡ value_at key (records_of (image_of (memory_after opening q.view.memory.seen) found.come.leaf))
-    off-leaf = found.is_value ∙ ap (value_at key) (leaf_image sizes roots lawful opening laws 1 (omega arith) one key lt false found.path p q found.come).image.records
+    off-leaf : value ≡ value_at key (records_of (image_of (memory_after opening q.view.memory.seen) found.reached.leaf))
+    off-leaf = found.is_value ∙ ap (value_at key) (leaf_image sizes roots lawful opening laws 1 (omega arith) one key lt false found.path p q found.reached).image.records
 
     module _ (place : ℕ) (r : PassState) (role : q.view.role ≡ SessionRole q.number) (read : HasRead sizes lawful q place r) where
       log-is : r.view.memory.seen ≡ q.view.memory.seen ++ read.looked.others
       log-is = ap (λ (m : Knowledge). m.seen) read.ended.memory ∙ sym read.looked.longer
 
-      calm : AllByRecursion (λ e. touches found.come.leaf e.writes ≡ false) read.looked.others
-      calm = untouched (session_number_of q.view.role) found.come.leaf q.view.memory.since read.looked.others found.come.watched read.looked.harmless
+      calm : AllByRecursion (λ e. touches found.reached.leaf e.writes ≡ false) read.looked.others
+      calm = untouched (session_number_of q.view.role) found.reached.leaf q.view.memory.since read.looked.others found.reached.watched read.looked.harmless
 
       legal : lawful (q.view.memory.seen ++ read.looked.others)
       legal = subst lawful (sym read.looked.longer) read.looked.legal
@@ -77,9 +77,9 @@ module _ (sizes : Sizes) (roots : ℕ) (lawful : List Entry → Type 0) (opening
       -- no entry first seen at the end writes the leaf: what was found there is what the map of all that is seen has
       value-is : value ≡ value_at key (map_of r.view.memory.seen)
       value-is =
-          let on = way_stays sizes.pages roots lawful opening laws 1 (omega arith) one key lt q.view.memory.seen read.looked.others found.come.leaf 0 legal calm on_leaf in
-          let has = leaf_has (q.view.memory.seen ++ read.looked.others) found.come.leaf legal on in
-          let same = image_stays opening q.view.memory.seen read.looked.others found.come.leaf calm in
+          let on = path_stays sizes.pages roots lawful opening laws 1 (omega arith) one key lt q.view.memory.seen read.looked.others found.reached.leaf 0 legal calm on_leaf in
+          let has = leaf_has (q.view.memory.seen ++ read.looked.others) found.reached.leaf legal on in
+          let same = image_stays opening q.view.memory.seen read.looked.others found.reached.leaf calm in
           off-leaf ∙ (ap (λ ws. value_at key (records_of ws)) (sym same) ∙ (has ∙ ap (λ log. value_at key (map_of log)) (sym log-is)))
 
       module _ (reply : Reply) (is : reply ≡ lookup_answer value) where
@@ -98,17 +98,17 @@ module _ (sizes : Sizes) (roots : ℕ) (lawful : List Entry → Type 0) (opening
 
         pub called : HasCalled sizes lawful opening (Get key) (record { call = Get key; reply = reply; place = place }) p r
         called =
-            called-from sizes lawful opening (Get key) reply place p q r found.come.went found.come.looked
+            called-from sizes lawful opening (Get key) reply place p q r found.reached.went found.reached.looked
             (read-end sizes lawful q r read.log place q.view.grants read.looked read.place read.ended)
             (read-known sizes lawful q r read.log place q.view.grants read.looked read.place role read.ended)
             (sym at-end ∙ rw not-made refl) (record { map = fits; tree = tt }) (rw not-made (ap (λ (m : Knowledge). m.own) read.ended.memory))
 
         pub looked_up : HasLookedUp sizes lawful opening key (record { call = Get key; reply = reply; place = place }) p r
         looked_up =
-            let f = found.come.finds refl in let f0 = f.0 in let f1 = f.1 in
+            let f = found.reached.finds refl in let f0 = f.0 in let f1 = f.1 in
             let s = ap (λ (g : Grants). g.s) read.ended.grants in let x = ap (λ (g : Grants). g.x) read.ended.grants in let sx = ap (λ (g : Grants). g.sx) read.ended.grants in
-            let l = ap length found.come.ends in let m = length-append found.come.front (found.come.leaf ∷ []) in let most = found.come.s in
-            record { called = called; least = omega arith; most = omega arith; sx = sx ∙ found.come.sx; x = x ∙ f1 }
+            let l = ap length found.reached.ends in let m = length-append found.reached.front (found.reached.leaf ∷ []) in let most = found.reached.s in
+            record { called = called; least = omega arith; most = omega arith; sx = sx ∙ found.reached.sx; x = x ∙ f1 }
 
 -- a mini-transaction starts with what the session had seen and taken
 pub from_start : (sizes : Sizes) (lawful : List Entry → Type 0) (opening : ℕ → ℕ) (key : MapKey) (answer : Record) (p q : PassState) → HasLookedUp sizes lawful opening key answer (started p) q → HasLookedUp sizes lawful opening key answer p q
@@ -137,15 +137,15 @@ from_start sizes lawful opening key answer p q h = record {
   x = h.x;
 }
 
-pub hindered_start : (sizes : Sizes) (lawful : List Entry → Type 0) (opening : ℕ → ℕ) (key : MapKey) (fault : NowaitFault) (p q : PassState)
-    → IsHindered sizes lawful opening 1 key fault (started p) q → IsHindered sizes lawful opening 1 key fault p (finished q)
-hindered_start sizes lawful opening key fault p q h = record {
+pub contended_start : (sizes : Sizes) (lawful : List Entry → Type 0) (opening : ℕ → ℕ) (key : MapKey) (fault : NowaitFault) (p q : PassState)
+    → IsContended sizes lawful opening 1 key fault (started p) q → IsContended sizes lawful opening 1 key fault p (finished q)
+contended_start sizes lawful opening key fault p q h = record {
   went = record { table = h.went.table; sizes = h.went.sizes; number = h.went.number; own = h.went.own; more = h.went.more; seen = h.went.seen; added = h.went.added; ends = h.went.ends; bounds = h.went.bounds };
   looked = h.looked;
   known = record { legal = h.known.legal; room = h.known.room; mine = h.known.mine };
   grants = record { memo = h.grants.memo; session = h.grants.session };
   work = refl;
-  way = h.way;
+  on_path = h.on_path;
   refused = h.refused;
   s = h.s;
   sx = h.sx;

@@ -141,23 +141,23 @@ module _ (pages : ℕ) (fits : has_pages pages ≡ true) (log : List Entry) (kep
   -- where the records of a page stand that is there
   moved-there : (n : ℕ) → n ≢ 0 → (was image : List ℕ) → changed_of n old ≡ Some was → changed_of n new ≡ Some image
       → IsMovedHeap (g.moves n) (records_of (image_of (memory_after start log) n)) (read_heap (image_of (memory_after start log) n)) (read_heap (image_of after n))
-  moved-there n ne was image stood there =
+  moved-there n ne was image latched there =
       let state : state_of (page_of image) ≡ then n =
       sym (ap (λ (o : Option (List ℕ)). state_or_free o) there) ∙ has.plan.same n ne (subst IsSome (sym there) refl) in
       let sound = leads.lawful.sound n ne in
       let size = length-formed image (formed (page_of image) (λ k. sound.formed (sym (ap (λ s. s.kind) state) ∙ k))) in
       let now = image-after start log e new next.writes_are ascends from.read n image there size in
-      let before = if-some (λ i. image_of (memory_after start log) n ≡ i) (changed_of n old) was (from.was n) stood in
+      let before = if-some (λ i. image_of (memory_after start log) n ≡ i) (changed_of n old) was (from.was n) latched in
       let moved = if-some (λ i. IsMovedHeap (g.moves n) (records_of was) (read_heap was) (read_heap i)) (changed_of n new) image
-      (if-some (λ w. IfSome (changed_of n new) (λ i. IsMovedHeap (g.moves n) (records_of w) (read_heap w) (read_heap i))) (changed_of n old) was (has.plan.moved n ne) stood) there in
+      (if-some (λ w. IfSome (changed_of n new) (λ i. IsMovedHeap (g.moves n) (records_of w) (read_heap w) (read_heap i))) (changed_of n old) was (has.plan.moved n ne) latched) there in
       subst (λ (ws : List ℕ). IsMovedHeap (g.moves n) (records_of ws) (read_heap ws) (read_heap (image_of after n))) (sym before)
       (subst (λ (ws : List ℕ). IsMovedHeap (g.moves n) (records_of was) (read_heap was) (read_heap ws)) (sym now) moved)
 
   -- a page that is not touched, word for word
   kept-there : (n : ℕ) → g.touched n ≡ false → (image : List ℕ) → changed_of n new ≡ Some image → image_of after n ≡ image_of (memory_after start log) n
   kept-there n off image there =
-      let stood : changed_of n old ≡ Some image = sym (has.plan.kept n off) ∙ there in
-      let was = if-some (λ i. image_of (memory_after start log) n ≡ i) (changed_of n old) image (from.was n) stood in
+      let latched : changed_of n old ≡ Some image = sym (has.plan.kept n off) ∙ there in
+      let was = if-some (λ i. image_of (memory_after start log) n ≡ i) (changed_of n old) image (from.was n) latched in
       image-after start log e new next.writes_are ascends from.read n image there (ap length (sym was) ∙ length-image_of (memory_after start log) n) ∙ sym was
 
   kept-is : (n : ℕ) → g.touched n ≡ false → image_of after n ≡ image_of (memory_after start log) n
@@ -183,9 +183,9 @@ module _ (pages : ℕ) (fits : has_pages pages ≡ true) (log : List Entry) (kep
     where
       go : (a b : Option (List ℕ)) → changed_of n old ≡ a → changed_of n new ≡ b
           → IsMovedHeap (g.moves n) (records_of (image_of (memory_after start log) n)) (read_heap (image_of (memory_after start log) n)) (read_heap (image_of after n))
-      go (Some was) (Some image) stood there = moved-there n ne was image stood there
-      go None b stood there = moved-away n (none-same n new old from.reads stood)
-      go (Some was) None stood there = moved-away n there
+      go (Some was) (Some image) latched there = moved-there n ne was image latched there
+      go None b latched there = moved-away n (none-same n new old from.reads latched)
+      go (Some was) None latched there = moved-away n there
 
   -- page 0
   record HasSpace : Type 0 where
@@ -198,12 +198,12 @@ module _ (pages : ℕ) (fits : has_pages pages ≡ true) (log : List Entry) (kep
   bits-in words n = refl
 
   space-there : (was image : List ℕ) → changed_of 0 old ≡ Some was → changed_of 0 new ≡ Some image → HasSpace
-  space-there was image stood there =
+  space-there was image latched there =
       let bits = if-some (HasBits pages g.bits) (changed_of 0 new) image has.plan.space there in
       let clock = if-some (λ i. space_clock_of i ≡ space_clock_of was + space_ticks g.touched) (changed_of 0 new) image
-      (if-some (λ w. IfSome (changed_of 0 new) (λ i. space_clock_of i ≡ space_clock_of w + space_ticks g.touched)) (changed_of 0 old) was has.plan.clock stood) there in
+      (if-some (λ w. IfSome (changed_of 0 new) (λ i. space_clock_of i ≡ space_clock_of w + space_ticks g.touched)) (changed_of 0 old) was has.plan.clock latched) there in
       let now = image-after start log e new next.writes_are ascends from.read 0 image there bits.0.size in
-      let then = if-some (λ i. image_of (memory_after start log) 0 ≡ i) (changed_of 0 old) was (from.was 0) stood in
+      let then = if-some (λ i. image_of (memory_after start log) 0 ≡ i) (changed_of 0 old) was (from.was 0) latched in
       record {
         bits_are = λ n. bits-in after n ∙ (ap (λ (ws : List ℕ). bits_in pages ws n) now ∙ sym (bits.1 n));
         clock = ap space_clock_of now ∙ (clock ∙ ap (λ (ws : List ℕ). space_clock_of ws + space_ticks g.touched) (sym then));
@@ -227,9 +227,9 @@ module _ (pages : ℕ) (fits : has_pages pages ≡ true) (log : List Entry) (kep
   has-space = go (changed_of 0 old) (changed_of 0 new) refl refl
     where
       go : (a b : Option (List ℕ)) → changed_of 0 old ≡ a → changed_of 0 new ≡ b → HasSpace
-      go (Some was) (Some image) stood there = space-there was image stood there
-      go None b stood there = space-away (none-same 0 new old from.reads stood)
-      go (Some was) None stood there = space-away there
+      go (Some was) (Some image) latched there = space-there was image latched there
+      go None b latched there = space-away (none-same 0 new old from.reads latched)
+      go (Some was) None latched there = space-away there
 
   leaf-written : touches (leaf_for m (key_of change) 1) e.writes ≡ false → ⊥
   leaf-written none =

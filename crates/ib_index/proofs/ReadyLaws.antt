@@ -18,8 +18,8 @@ use Rattle.ib_planned_log.proofs.LeadLaws.{low-enough}
 use Rattle.ib_rule.specs.declared.looks.Grants.{Grants}
 use Rattle.ib_rule.specs.Pass.{PassState}
 use Rattle.ib_cursor.proofs.EndLaws.{loaded_some}
-use Rattle.ib_cursor.proofs.StandLaws.{went_both, went_none}
-use Rattle.ib_index.specs.Grows.{HasComeToWay, HasGrown, HasTakenNew, HoldsAllPages, IsShort, NeedsPages, new_pages, space_pages, tree_pages}
+use Rattle.ib_cursor.proofs.LatchingLaws.{went_both, went_none}
+use Rattle.ib_index.specs.Grows.{HasClaimedPath, HasGrown, HasTakenNew, HoldsAllPages, IsShort, NeedsPages, new_pages, space_pages, tree_pages}
 use Rattle.ib_index.proofs.AgreeLaws.{agrees-now}
 use Rattle.ib_index.proofs.FreshLaws.{agrees-less, bits-same, follow-log, follow-tree, fresh-once, length-all}
 use Rattle.ib_index.proofs.GrowLaws.{among-tree, length-tree}
@@ -40,14 +40,14 @@ has-fresh pages key path fresh work memory bits a low are enough = record {
 pub some-pages : (n : ℕ) → has_pages n ≡ true → 0 < n
 some-pages n has = grind (arith, nat_tests, has)
 
-module _ (sizes : Sizes) (key : MapKey) (path : List ℕ) (need : ℕ) (p q : PassState) (come : HasComeToWay sizes key path p q) (needs : NeedsPages sizes.pages key path need q.work) where
+module _ (sizes : Sizes) (key : MapKey) (path : List ℕ) (need : ℕ) (p q : PassState) (reached : HasClaimedPath sizes key path p q) (needs : NeedsPages sizes.pages key path need q.work) where
   -- no fresh page is needed
   pub ready-none : need ≡ 0 → HoldsAllPages sizes key path [] q q
   ready-none none = record {
-    held = tree_pages come.held;
-    growing = come.growing;
-    short = let f = come.few in let l = length-tree come.held in omega arith;
-    follow = (refl, follow-tree come.held);
+    held = tree_pages reached.held;
+    growing = reached.growing;
+    short = let f = reached.few in let l = length-tree reached.held in omega arith;
+    follow = (refl, follow-tree reached.held);
     went = went_none q;
     claims = refl;
     grants = omega arith;
@@ -60,7 +60,7 @@ module _ (sizes : Sizes) (key : MapKey) (path : List ℕ) (need : ℕ) (p q : Pa
     same = λ n there. refl;
   }
 
-module _ (sizes : Sizes) (fits : has_pages sizes.pages ≡ true) (key : MapKey) (path : List ℕ) (need : ℕ) (p q s : PassState) (come : HasComeToWay sizes key path p q) (g : HasGrown sizes key path (tree_pages come.held) 0 Space q s) where
+module _ (sizes : Sizes) (fits : has_pages sizes.pages ≡ true) (key : MapKey) (path : List ℕ) (need : ℕ) (p q s : PassState) (reached : HasClaimedPath sizes key path p q) (g : HasGrown sizes key path (tree_pages reached.held) 0 Space q s) where
   pub image : List ℕ
   image = (some-image (changed_of 0 s.work) g.there).0
 
@@ -68,29 +68,29 @@ module _ (sizes : Sizes) (fits : has_pages sizes.pages ≡ true) (key : MapKey) 
   unfolding image
   image-there = (some-image (changed_of 0 s.work) g.there).1
 
-  tree-there : (n : ℕ) → is_listed come.held n ≡ true → IsThere q.work n
-  tree-there n among = (loaded_some n q.work).1 (come.growing.loaded n ∙ (among-tree come.held n ∙ among))
+  tree-there : (n : ℕ) → is_listed reached.held n ≡ true → IsThere q.work n
+  tree-there n among = (loaded_some n q.work).1 (reached.growing.loaded n ∙ (among-tree reached.held n ∙ among))
 
-  pub space-once : (fresh : List ℕ) → fresh ≡ chosen (bits_in sizes.pages image) sizes.pages need → AreOnce (come.held ++ 0 ∷ fresh) sizes.pages
+  pub space-once : (fresh : List ℕ) → fresh ≡ chosen (bits_in sizes.pages image) sizes.pages need → AreOnce (reached.held ++ 0 ∷ fresh) sizes.pages
   space-once fresh are =
       let a = agrees-now sizes fits key path s g.growing.at in
       let bits = bits-same sizes.pages key path s.work _ _ image a image-there in
-      subst (λ xs. AreOnce (come.held ++ 0 ∷ xs) sizes.pages) (sym (are ∙ ap (λ b. chosen b sizes.pages need) bits))
-      (fresh-once sizes.pages key path come.held s.work _ _ a need (some-pages sizes.pages fits) come.once come.zero (λ n among.
+      subst (λ xs. AreOnce (reached.held ++ 0 ∷ xs) sizes.pages) (sym (are ∙ ap (λ b. chosen b sizes.pages need) bits))
+      (fresh-once sizes.pages key path reached.held s.work _ _ a need (some-pages sizes.pages fits) reached.once reached.zero (λ n among.
       let there = tree-there n among in
-      (subst IsSome (sym (g.same n there)) there, ap (λ o. (state_or_free o).kind) (g.same n there) ∙ come.kinds n there, (λ z. let bad : true ≡ false = sym among ∙ (ap (is_listed come.held) z ∙ come.zero) in cc))))
+      (subst IsSome (sym (g.same n there)) there, ap (λ o. (state_or_free o).kind) (g.same n there) ∙ reached.kinds n there, (λ z. let bad : true ≡ false = sym among ∙ (ap (is_listed reached.held) z ∙ reached.zero) in cc))))
 
   module _ (needs : NeedsPages sizes.pages key path need q.work) where
     -- they were taken
     pub ready-some : (fresh : List ℕ) (t : PassState) → fresh ≡ chosen (bits_in sizes.pages image) sizes.pages need → need ≤ free_of (bits_in sizes.pages image) sizes.pages → length fresh ≤ 9
-        → HasTakenNew sizes key path (space_pages come.held) fresh s t → HoldsAllPages sizes key path fresh q t
+        → HasTakenNew sizes key path (space_pages reached.held) fresh s t → HoldsAllPages sizes key path fresh q t
     ready-some fresh t are enough few taken =
         let later : (n : ℕ) → IsThere q.work n → changed_of n t.work ≡ changed_of n q.work = λ n there. taken.same n (subst IsSome (sym (g.same n there)) there) ∙ g.same n there in
         record {
-          held = space_pages come.held ++ new_pages fresh;
+          held = space_pages reached.held ++ new_pages fresh;
           growing = taken.growing;
-          short = let l = length-all come.held fresh in let f = come.few in omega arith;
-          follow = (refl, follow-log come.held fresh);
+          short = let l = length-all reached.held fresh in let f = reached.few in omega arith;
+          follow = (refl, follow-log reached.held fresh);
           went = went_both q s t g.went taken.went;
           claims = taken.claims ∙ ap (λ (v : Grants). v.sx) g.grants;
           grants = let a = taken.grants in let x = ap (λ (v : Grants). v.x) g.grants in let y = ap (λ (v : Grants). v.s) g.grants in let z = ap (λ (v : Grants). v.sx) g.grants in omega arith;
@@ -111,7 +111,7 @@ module _ (sizes : Sizes) (fits : has_pages sizes.pages ≡ true) (key : MapKey) 
     -- too few are free
     pub short-some : (free : ℕ) → free ≡ free_of (bits_in sizes.pages image) sizes.pages → free_of (bits_in sizes.pages image) sizes.pages < need → IsShort sizes key path free need q s
     short-some free is-free less = record {
-      held = space_pages come.held;
+      held = space_pages reached.held;
       growing = g.growing;
       went = g.went;
       claims = ap (λ (v : Grants). v.sx) g.grants;

@@ -1,5 +1,5 @@
--- A delete that came to the key's way and ended there was answered.
-use Rattle.std.specs.Prelude.{Result, Ok, Err, IfOk, IfErr}
+-- A delete that came to the key's path and ended there was answered.
+use Rattle.std.specs.Prelude.{Result, Ok, Err}
 use Rattle.std.proofs.Common.{◌≡◌, ℕ, ◌<◌, List, Option, Some, None, length, refl, sym, ap, subst, ◌∙◌}
 use Rattle.ib_map.specs.Keys.{MapKey}
 use Rattle.ib_map.specs.Map.{delete_answer, is_made}
@@ -21,7 +21,9 @@ use Rattle.ib_cursor.specs.Going.{WentOn}
 use Rattle.ib_index.specs.Calls.{HasCalled}
 use Rattle.ib_index.specs.Leaf.{IsSeated}
 use Rattle.ib_index.specs.Grows.{IsGrowing}
-use Rattle.ib_index.proofs.WayCalls.{called-committed, called-full, called-read, entry-c, log-full, value-c, value-f, value-r, value_there, within-c, within-f, within-r}
+use Rattle.ib_index.proofs.EndLaws.{CommitAnswered}
+use Rattle.ib_index.proofs.CallEnds.{called-committed, called-full, called-read, entry-c, log-full, within-c, within-f, within-r}
+use Rattle.ib_index.proofs.PathCalls.{value-c, value-f, value-r, value_there}
 
 module _ (sizes : Sizes) (key : MapKey) (path : List ℕ) (held : List (ℕ × Level)) (p q : PassState) (went : WentOn p q) (looked : 0 < length went.added) (can : IsGrowing sizes key path held q) (seated : IsSeated sizes q) where
   abbrev start : ℕ → ℕ
@@ -34,8 +36,8 @@ module _ (sizes : Sizes) (key : MapKey) (path : List ℕ) (held : List (ℕ × L
   pub called-missing : (place : ℕ) (r : PassState) → HasRead sizes (IsKeptLog sizes.pages) q place r → there ≡ None
       → HasCalled sizes (IsKeptLog sizes.pages) start (DeleteCall key) (record { call = DeleteCall key; reply = Missing; place = place }) p r
   called-missing place r read none =
-      called-read sizes key path held p q went looked can seated place r read (DeleteCall key) Missing refl (record {
-        map = (within-r sizes key path held p q went looked can seated place r read, (ap delete_answer (value-r sizes key path held p q went looked can seated place r read ∙ none), refl));
+      called-read sizes p q went looked seated.role place r read (DeleteCall key) Missing refl (record {
+        map = (within-r sizes p q went looked seated.role place r read, (ap delete_answer (value-r sizes key path held p q went looked can seated place r read ∙ none), refl));
         tree = tt;
       })
 
@@ -44,25 +46,25 @@ module _ (sizes : Sizes) (key : MapKey) (path : List ℕ) (held : List (ℕ × L
     called-full-delete : (full : LogFull) (r : PassState) → IsFull sizes (IsKeptLog sizes.pages) (with_work work q) full r
         → HasCalled sizes (IsKeptLog sizes.pages) start (DeleteCall key) (record { call = DeleteCall key; reply = LogFullReply full.used full.cap; place = length r.view.memory.seen }) p r
     called-full-delete full r f =
-        called-full sizes key path held p q went looked can seated work full r f (DeleteCall key) (record {
+        called-full sizes p q went looked seated.role work full r f (DeleteCall key) (record {
           map = (
-            within-f sizes key path held p q went looked can seated work full r f,
+            within-f sizes p q went looked seated.role work full r f,
             (ap (λ (o : Option ℕ). is_made (delete_answer o)) (value-f sizes key path held p q went looked can seated work full r f ∙ some), refl),
           );
-          tree = log-full sizes key path held p q went looked can seated work full r f;
+          tree = log-full sizes p q went looked seated.role work full r f;
         })
 
     -- the change was committed
     called-deleted : (place : ℕ) (r : PassState) → HasCommitted sizes (IsKeptLog sizes.pages) start (Delete key) (with_work work q) place r
         → HasCalled sizes (IsKeptLog sizes.pages) start (DeleteCall key) (record { call = DeleteCall key; reply = Deleted value; place = place }) p r
     called-deleted place r c =
-        called-committed sizes key path held p q went looked can seated (Delete key) work place r c (DeleteCall key) (Deleted value) refl (record {
+        called-committed sizes p q went looked seated.role work (Delete key) place r c (DeleteCall key) (Deleted value) refl (record {
           map = (
-            within-c sizes key path held p q went looked can seated (Delete key) work place r c,
+            within-c sizes p q went looked seated.role work (Delete key) place r c,
             (
               (
-                ap delete_answer (value-c sizes key path held p q went looked can seated (Delete key) work place r c ∙ some),
-                entry-c sizes key path held p q went looked can seated (Delete key) work place r c,
+                ap delete_answer (value-c sizes key path held p q went looked can seated work (Delete key) place r c ∙ some),
+                entry-c sizes p q went looked seated.role work (Delete key) place r c,
               ),
               refl,
             ),
@@ -72,12 +74,9 @@ module _ (sizes : Sizes) (key : MapKey) (path : List ℕ) (held : List (ℕ × L
 
     -- what a commit of the delete was answered
     pub called-shrunk : (o : Result ℕ LogFull) (answer : Record) (r : PassState)
-        → IfOk o (λ place. answer ≡ record { call = DeleteCall key; reply = Deleted value; place = place })
-        → IfErr o (λ full. answer ≡ record { call = DeleteCall key; reply = LogFullReply full.used full.cap; place = length r.view.memory.seen })
-        → IfOk o (λ place. HasCommitted sizes (IsKeptLog sizes.pages) start (Delete key) (with_work work q) place r)
-        → IfErr o (λ full. IsFull sizes (IsKeptLog sizes.pages) (with_work work q) full r)
+        → CommitAnswered sizes (DeleteCall key) (Delete key) (Deleted value) o answer (with_work work q) r
         → HasCalled sizes (IsKeptLog sizes.pages) start (DeleteCall key) answer p r
-    called-shrunk (Ok place) answer r made full committed refused =
-        subst (λ a. HasCalled sizes (IsKeptLog sizes.pages) start (DeleteCall key) a p r) (sym made) (called-deleted place r committed)
-    called-shrunk (Err fault) answer r made full committed refused =
-        subst (λ a. HasCalled sizes (IsKeptLog sizes.pages) start (DeleteCall key) a p r) (sym full) (called-full-delete fault r refused)
+    called-shrunk (Ok place) answer r ends =
+        subst (λ a. HasCalled sizes (IsKeptLog sizes.pages) start (DeleteCall key) a p r) (sym ends.as_made) (called-deleted place r ends.committed)
+    called-shrunk (Err fault) answer r ends =
+        subst (λ a. HasCalled sizes (IsKeptLog sizes.pages) start (DeleteCall key) a p r) (sym ends.as_full) (called-full-delete fault r ends.refused)

@@ -24,7 +24,7 @@ use Rattle.ib_index.specs.Grows.{IsGrowing, held_grant, most_held}
 use Rattle.ib_index.specs.Leaf.{IsSeated}
 use Rattle.ib_plans.proofs.StayLaws.{planned_delete-stays}
 use Rattle.ib_index.proofs.ShrinkPlanLaws.{delete-bits, delete-on}
-use Rattle.ib_index.proofs.WayMay.{may-commit}
+use Rattle.ib_index.proofs.PathMay.{may-commit}
 
 module _ (sizes : Sizes) (key : MapKey) (path : List ℕ) (held : List (ℕ × Level)) (p : PassState) (can : IsGrowing sizes key path held p) (seated : IsSeated sizes p)
     (few : total p.view.grants < 2 ^ 52) (short : length held ≤ most_held) (follow : AllByRecursion (λ (g : Grant). may_follow g.level Log ≡ true) (claim_grant ∷ map held_grant held))

@@ -25,17 +25,17 @@ use Rattle.ib_mtr.specs.Mtr.{started}
 use Rattle.ib_cursor.specs.Claims.{claim_grant}
 use Rattle.ib_cursor.specs.Going.{WentOn}
 use Rattle.ib_cursor.specs.Grants.{Grant}
-use Rattle.ib_cursor.proofs.StandLaws.{looked_first, went_both}
+use Rattle.ib_cursor.proofs.LatchingLaws.{looked_first, went_both}
 use Rattle.ib_index.specs.Grows.{HasGrown, IsGrowing, held_grant, most_held, space_pages, tree_pages}
 use Rattle.ib_index.specs.Leaf.{IsSeated}
-use Rattle.ib_index.specs.Shrinks.{HasChildren, HasComeToSiblings, HasWithNext}
+use Rattle.ib_index.specs.Shrinks.{HasChildren, HasClaimedSiblings, HasWithNext}
 use Rattle.ib_index.proofs.AgreeLaws.{agrees-now}
 use Rattle.ib_index.proofs.FreshLaws.{follow-log, length-all}
 use Rattle.ib_index.proofs.GrowWhole.{value-kept}
 use Rattle.ib_index.proofs.SpaceTicks.{may-tick}
 
 -- where the mini-transaction started is where the call began
-pub siblings-started : (sizes : Sizes) (key : MapKey) (path : List ℕ) (p q : PassState) → HasComeToSiblings sizes key path (started p) q → HasComeToSiblings sizes key path p q
+pub siblings-started : (sizes : Sizes) (key : MapKey) (path : List ℕ) (p q : PassState) → HasClaimedSiblings sizes key path (started p) q → HasClaimedSiblings sizes key path p q
 siblings-started sizes key path p q h = record {
   held = h.held;
   growing = h.growing;
@@ -82,7 +82,7 @@ module _ (key : MapKey) (old new : List WorkPage) (same : (n : ℕ) → IsThere 
       subst (λ (s : PageState). let t = siblings_of key s.records in MatchOption t.right (HasNext new t.here.1) (λ x. HasNext new x.1)) (sym (page-still parent h.node))
       (last-still t.right t.here h.last)
 
--- all that the delete reads and writes is held: the way with the pages beside it, and page 0 behind them; and the key has this value
+-- all that the delete reads and writes is held: the path with the pages beside it, and page 0 behind them; and the key has this value
 pub record IsReadyToShrink (sizes : Sizes) (key : MapKey) (path : List ℕ) (value : ℕ) (p t : PassState) : Type 0 where
   pub held : List (ℕ × Level)
   pub growing : IsGrowing sizes key path held t
@@ -96,21 +96,21 @@ pub record IsReadyToShrink (sizes : Sizes) (key : MapKey) (path : List ℕ) (val
   pub can : CanDelete path key t.work
   pub value_is : value_at key (memory_in t.work (last_of path)).records ≡ Some value
 
-module _ (sizes : Sizes) (key : MapKey) (path : List ℕ) (value : ℕ) (p q t : PassState) (come : HasComeToSiblings sizes key path p q)
-    (old : Sizes) (same : old ≡ sizes)
-    (taken : IsGrowing old key path (tree_pages come.held) q → is_listed come.held 0 ≡ false → HasGrown old key path (tree_pages come.held) 0 Space q t)
-    (seats : IsSeated old t) (there : value_at key (memory_in q.work (last_of path)).records ≡ Some value) where
-  grown : HasGrown sizes key path (tree_pages come.held) 0 Space q t
-  grown = subst (λ (k : Sizes). IsGrowing k key path (tree_pages come.held) q → is_listed come.held 0 ≡ false → HasGrown k key path (tree_pages come.held) 0 Space q t) same taken come.growing come.zero
+module _ (sizes : Sizes) (key : MapKey) (path : List ℕ) (value : ℕ) (p q t : PassState) (reached : HasClaimedSiblings sizes key path p q)
+    (old new : Sizes) (same : old ≡ sizes) (then : new ≡ old)
+    (taken : IsGrowing old key path (tree_pages reached.held) q → is_listed reached.held 0 ≡ false → HasGrown old key path (tree_pages reached.held) 0 Space q t)
+    (seats : IsSeated new t) (there : value_at key (memory_in q.work (last_of path)).records ≡ Some value) where
+  grown : HasGrown sizes key path (tree_pages reached.held) 0 Space q t
+  grown = subst (λ (k : Sizes). IsGrowing k key path (tree_pages reached.held) q → is_listed reached.held 0 ≡ false → HasGrown k key path (tree_pages reached.held) 0 Space q t) same taken reached.growing reached.zero
 
   seated-t : IsSeated sizes t
-  seated-t = subst (λ (k : Sizes). IsSeated k t) same seats
+  seated-t = subst (λ (k : Sizes). IsSeated k t) (then ∙ same) seats
 
   images : HasDeleteImages path key t.work
   images = record {
     path_there = grown.growing.trees;
-    siblings_there = λ i d lt. siblings-still key q.work t.work grown.same (get_or (nodes_on_path path) i d) (come.children i d lt);
-    behind_there = λ i d lt. behind-still key q.work t.work grown.same (get_or (nodes_on_path path) i d) (come.children i d lt);
+    siblings_there = λ i d lt. siblings-still key q.work t.work grown.same (get_or (nodes_on_path path) i d) (reached.children i d lt);
+    behind_there = λ i d lt. behind-still key q.work t.work grown.same (get_or (nodes_on_path path) i d) (reached.children i d lt);
     space_there = λ some. grown.there;
   }
 
@@ -128,17 +128,17 @@ module _ (sizes : Sizes) (key : MapKey) (path : List ℕ) (value : ℕ) (p q t :
 
   pub ready-to-shrink : IsReadyToShrink sizes key path value p t
   ready-to-shrink =
-      let none = append-nil (space_pages come.held) in
+      let none = append-nil (space_pages reached.held) in
       record {
-        held = space_pages come.held;
+        held = space_pages reached.held;
         growing = grown.growing;
-        short = let f = come.few in let l = ap length none in let n = length-all come.held [] in omega arith;
-        follow = (refl, subst (λ hs. AllByRecursion (λ (g : Grant). may_follow g.level Log ≡ true) (map held_grant hs)) none (follow-log come.held []));
+        short = let f = reached.few in let l = ap length none in let n = length-all reached.held [] in omega arith;
+        follow = (refl, subst (λ hs. AllByRecursion (λ (g : Grant). may_follow g.level Log ≡ true) (map held_grant hs)) none (follow-log reached.held []));
         seated = seated-t;
-        went = went_both p q t come.went grown.went;
-        looked = looked_first p q t come.went grown.went come.looked;
-        claims = ap (λ (v : Grants). v.sx) grown.grants ∙ come.claims;
-        grants = let a = come.grants in let x = ap (λ (v : Grants). v.x) grown.grants in let y = ap (λ (v : Grants). v.s) grown.grants in let z = ap (λ (v : Grants). v.sx) grown.grants in omega arith;
+        went = went_both p q t reached.went grown.went;
+        looked = looked_first p q t reached.went grown.went reached.looked;
+        claims = ap (λ (v : Grants). v.sx) grown.grants ∙ reached.claims;
+        grants = let a = reached.grants in let x = ap (λ (v : Grants). v.x) grown.grants in let y = ap (λ (v : Grants). v.s) grown.grants in let z = ap (λ (v : Grants). v.sx) grown.grants in omega arith;
         can = can-delete;
-        value_is = value-kept key (last_of path) q.work t.work (grown.same (last_of path) come.growing.leaf) ∙ there;
+        value_is = value-kept key (last_of path) q.work t.work (grown.same (last_of path) reached.growing.leaf) ∙ there;
       }

@@ -1,4 +1,4 @@
--- What a delete that changes the tree's structure holds when it has come to the key's way.
+-- What a delete that changes the tree's structure holds when it has come to the key's path.
 use Rattle.std.specs.List.{All, AllByRecursion, flat_map}
 use Rattle.std.specs.Prelude.{IfSome, MatchOption, ◌==◌, ◌||◌}
 use Rattle.std.proofs.Common.{◌≡◌, ◌≢◌, ◌⊎◌, inl, inr, ℕ, zero, suc, ◌<◌, ◌≤◌, Bool, true, false, List, [], ◌∷◌, ◌++◌, Option, Some, None, length, refl, sym, ap, subst, ◌∙◌, arith, eq-eqb, ne_eqb, length-append}
@@ -13,7 +13,7 @@ use Rattle.ib_heap.specs.declared.TheConstants.{MOST_RECORDS}
 use Rattle.ib_walk.specs.Pages.{PageMemory, PageState}
 use Rattle.ib_walk.specs.Search.{page_below}
 use Rattle.ib_walk.specs.Trees.{height_of}
-use Rattle.ib_plans.specs.Agreement.{Agrees, IsThere, last_of, memory_in, way_down, way_of}
+use Rattle.ib_plans.specs.Agreement.{Agrees, IsThere, last_of, memory_in, path_down, path_of}
 use Rattle.ib_plans.specs.Merge.{Siblings, siblings_of}
 use Rattle.ib_plans.proofs.LinkLaws.{NextLeaf-leaf_for}
 use Rattle.ib_merge.specs.Deletes.{HasNext, nodes_on_path}
@@ -24,14 +24,14 @@ use Rattle.ib_planned_log.specs.LeafChange.{kept_pages}
 use Rattle.ib_rule.specs.Pass.{PassState}
 use Rattle.ib_cursor.specs.Claims.{HasClaimed, beside}
 use Rattle.ib_cursor.specs.Shapes.{is_claimed}
-use Rattle.ib_cursor.specs.Siblings.{IsWayWithSiblings, child_if, with_siblings}
-use Rattle.ib_cursor.specs.Way.{IsOnWay}
+use Rattle.ib_cursor.specs.Siblings.{IsPathWithSiblings, child_if, with_siblings}
+use Rattle.ib_cursor.specs.OnPath.{IsOnPath}
 use Rattle.ib_cursor.proofs.TakeLaws.{beside_few}
-use Rattle.ib_cursor.proofs.WayLaws.{leaf_on-way, root_on-way}
-use Rattle.ib_index.specs.Shrinks.{HasChildren, HasComeToSiblings, HasWithNext}
-use Rattle.ib_index.proofs.ClaimedLaws.{IsPageOfTree, agreed, among-beside, among-both, beside-own, each-among, growing, held-same, held-there, held-zero, way-long, way-low, way_bits}
+use Rattle.ib_cursor.proofs.OnPathLaws.{leaf_on-path, root_on-path}
+use Rattle.ib_index.specs.Shrinks.{HasChildren, HasClaimedSiblings, HasWithNext}
+use Rattle.ib_index.proofs.ClaimedLaws.{IsPageOfTree, agreed, among-beside, among-both, beside-own, each-among, growing, held-same, held-there, held-zero, path-long, path-low, path_bits}
 use Rattle.ib_index.proofs.FreshLaws.{each-of}
-use Rattle.ib_index.proofs.SiblingWays.{among-flat, behind-page, last-levels, last_beside, last_child, length-levels, levels-down, node-on, nodes-front, way-among, way-page}
+use Rattle.ib_index.proofs.SiblingWays.{among-flat, behind-page, last-levels, last_beside, last_child, length-levels, levels-down, node-on, nodes-front, path-among, on_path-page}
 use Rattle.ib_mtr.proofs.Lists.{or_true}
 
 -- lists of pages
@@ -49,18 +49,18 @@ nodes-among (x ∷ y ∷ ys) n h = elim (cases_eq x n) [
       ap (λ b. b || is_listed (y ∷ ys) n) no ∙ nodes-among (y ∷ ys) n (sym (ap (λ b. b || is_listed (nodes_on_path (y ∷ ys)) n) no) ∙ h)
 ]
 
--- the way has nodes exactly where its root is one
+-- the path has nodes exactly where its root is one
 some-node : (h : ℕ) → (h ≡ 0) ⊎ ((d : ℕ) × (h ≡ suc d))
 some-node zero = inl refl
 some-node (suc d) = inr (d, refl)
 
 module _ (sizes : Sizes) (fits : has_pages sizes.pages ≡ true) (key : MapKey) (path held : List ℕ) (p q : PassState)
-    (c : HasClaimed sizes (IsKeptLog sizes.pages) (by_place opening sizes.pages) 1 key path held p q) (w : IsWayWithSiblings (kept_pages sizes.pages q.view.memory.seen) 1 key path held) (claims : is_claimed q.view.memory.since ≡ true) where
+    (c : HasClaimed sizes (IsKeptLog sizes.pages) (by_place opening sizes.pages) 1 key path held p q) (w : IsPathWithSiblings (kept_pages sizes.pages q.view.memory.seen) 1 key path held) (claims : is_claimed q.view.memory.since ≡ true) where
   abbrev m : PageMemory
   m = kept_pages sizes.pages q.view.memory.seen
 
   abbrev bits : ℕ → ℕ
-  bits = way_bits sizes fits key path held p q c claims
+  bits = path_bits sizes fits key path held p q c claims
 
   lt : rank key < end_rank
   lt = rank-lt_end key
@@ -68,18 +68,18 @@ module _ (sizes : Sizes) (fits : has_pages sizes.pages ≡ true) (key : MapKey) 
   agreement : Agrees sizes.pages 1 1 key path q.work m bits
   agreement = agreed sizes fits key path held p q c claims
 
-  abbrev top : IsOnWay m 1 key 1 (height_of m 1)
-  top = root_on-way m 1 key
+  abbrev top : IsOnPath m 1 key 1 (height_of m 1)
+  top = root_on-path m 1 key
 
-  -- the nodes of the way, and the pages of its levels
+  -- the nodes of the path, and the pages of its levels
   abbrev nodes : List ℕ
-  nodes = nodes_on_path (way_of m key 1)
+  nodes = nodes_on_path (path_of m key 1)
 
   abbrev levels : List ℕ
   levels = 1 ∷ flat_map (with_siblings m key) nodes
 
   nodes-are : nodes_on_path path ≡ nodes
-  nodes-are = ap nodes_on_path c.way
+  nodes-are = ap nodes_on_path c.on_path
 
   levels-are : w.levels ≡ levels
   levels-are = w.are ∙ ap (λ ns. 1 ∷ flat_map (with_siblings m key) ns) (sym (nodes-front w.front w.leaf) ∙ (ap nodes_on_path (sym w.ends) ∙ nodes-are))
@@ -95,21 +95,21 @@ module _ (sizes : Sizes) (fits : has_pages sizes.pages ≡ true) (key : MapKey) 
       let n = (m (last_of levels)).next in
       ap (λ ns. is_listed ns n) held-are ∙ (among-both levels (beside n) n ∙ or_true (is_listed levels n) (is_listed (beside n) n) (beside-own n ne))
 
-  way-held : (n : ℕ) → is_listed path n ≡ true → is_listed held n ≡ true
-  way-held n among = level-held n (way-among m bits agreement.lawful key lt (height_of m 1) 1 n top (sym (ap (λ ns. is_listed ns n) c.way) ∙ among))
+  path-held : (n : ℕ) → is_listed path n ≡ true → is_listed held n ≡ true
+  path-held n among = level-held n (path-among m bits agreement.lawful key lt (height_of m 1) 1 n top (sym (ap (λ ns. is_listed ns n) c.on_path) ∙ among))
 
   -- the last page of the levels: the root, or the last of the children of the lowest node
-  lowest : (d : ℕ) → height_of m 1 ≡ suc d → IsOnWay m 1 key (page_below m key d 1) 1
+  lowest : (d : ℕ) → height_of m 1 ≡ suc d → IsOnPath m 1 key (page_below m key d 1) 1
   lowest d tall = record { depth = d; height = omega arith; below = refl }
 
   last-is : (d : ℕ) → height_of m 1 ≡ suc d → last_of levels ≡ last_beside m key (page_below m key d 1)
-  last-is d tall = ap (λ h. last_of (1 ∷ flat_map (with_siblings m key) (nodes_on_path (way_down m key h 1)))) tall ∙ last-levels m key d 1 1
+  last-is d tall = ap (λ h. last_of (1 ∷ flat_map (with_siblings m key) (nodes_on_path (path_down m key h 1)))) tall ∙ last-levels m key d 1 1
 
   behind-kind : (m (last_of levels)).next ≢ 0 → IsPageOfTree m (m (last_of levels)).next
   behind-kind ne = elim (some-node (height_of m 1)) [
     | inl low ↦
-        let only : last_of levels ≡ 1 = ap (λ h. last_of (1 ∷ flat_map (with_siblings m key) (nodes_on_path (way_down m key h 1)))) low in
-        let leaf = only ∙ leaf_on-way m 1 key 1 (subst (IsOnWay m 1 key 1) low top) in
+        let only : last_of levels ≡ 1 = ap (λ h. last_of (1 ∷ flat_map (with_siblings m key) (nodes_on_path (path_down m key h 1)))) low in
+        let leaf = only ∙ leaf_on-path m 1 key 1 (subst (IsOnPath m 1 key 1) low top) in
         let b = NextLeaf-leaf_for (λ n. MOST_RECORDS) m bits 1 key 1 agreement.lawful (omega arith) (omega arith) lt (λ z. ne (ap (λ n. (m n).next) leaf ∙ z)) in
         (ap (λ n. (m (m n).next).kind) leaf ∙ b.kind, ne)
     | inr (d, tall) ↦
@@ -123,7 +123,7 @@ module _ (sizes : Sizes) (fits : has_pages sizes.pages ≡ true) (key : MapKey) 
   held-kind n among = go (is_listed levels n) refl (sym (ap (λ ns. is_listed ns n) held-are ∙ among-both levels (beside (m (last_of levels)).next) n) ∙ among)
     where
       all : AllByRecursion (IsPageOfTree m) levels
-      all = (way-page m bits agreement.lawful key lt (height_of m 1) 1 top, levels-down m bits agreement.lawful key lt (height_of m 1) 1 top)
+      all = (on_path-page m bits agreement.lawful key lt (height_of m 1) 1 top, levels-down m bits agreement.lawful key lt (height_of m 1) 1 top)
 
       go : (b : Bool) → is_listed levels n ≡ b → (is_listed levels n || is_listed (beside (m (last_of levels)).next) n) ≡ true → IsPageOfTree m n
       go true here either = each-among (IsPageOfTree m) levels n all here
@@ -132,17 +132,17 @@ module _ (sizes : Sizes) (fits : has_pages sizes.pages ≡ true) (key : MapKey) 
           subst (IsPageOfTree m) b.0 (behind-kind b.1)
 
   there : (n : ℕ) → is_listed held n ≡ true → IsThere q.work n
-  there = held-there sizes fits key path held p q c claims way-held held-kind
+  there = held-there sizes fits key path held p q c claims path-held held-kind
 
   same-page : (n : ℕ) → is_listed held n ≡ true → memory_in q.work n ≡ m n
-  same-page = held-same sizes fits key path held p q c claims way-held held-kind
+  same-page = held-same sizes fits key path held p q c claims path-held held-kind
 
-  -- of a node of the way
+  -- of a node of the path
   module _ (parent : ℕ) (among : is_listed nodes parent ≡ true) where
     abbrev t : Siblings
     t = siblings_of key (m parent).records
 
-    parent-on : (k : ℕ) × IsOnWay m 1 key parent (suc k)
+    parent-on : (k : ℕ) × IsOnPath m 1 key parent (suc k)
     parent-on = node-on m bits agreement.lawful key lt (height_of m 1) 1 parent top among
 
     side-held : (n : ℕ) → is_listed (with_siblings m key parent) n ≡ true → is_listed held n ≡ true
@@ -170,7 +170,7 @@ module _ (sizes : Sizes) (fits : has_pages sizes.pages ≡ true) (key : MapKey) 
     last-next ne =
         let same = ap (λ s. s.next) (same-page (last_beside m key parent) last-held) in
         let b = behind-page m bits agreement.lawful key lt parent-on.0 parent parent-on.1 (λ z. ne (same ∙ z)) in
-        let o : IsOnWay m 1 key parent 1 = subst (λ k. IsOnWay m 1 key parent (suc k)) b.1 parent-on.1 in
+        let o : IsOnPath m 1 key parent 1 = subst (λ k. IsOnPath m 1 key parent (suc k)) b.1 parent-on.1 in
         let tall : height_of m 1 ≡ suc o.depth = (let h = o.height in omega arith) in
         let last : last_of levels ≡ last_beside m key parent = last-is o.depth tall ∙ ap (last_beside m key) o.below in
         let next = ap (λ n. (m n).next) last in
@@ -191,7 +191,7 @@ module _ (sizes : Sizes) (fits : has_pages sizes.pages ≡ true) (key : MapKey) 
         by_right (Some x) both = both
 
     node-held : is_listed held parent ≡ true
-    node-held = way-held parent (ap (λ ns. is_listed ns parent) c.way ∙ nodes-among (way_of m key 1) parent among)
+    node-held = path-held parent (ap (λ ns. is_listed ns parent) c.on_path ∙ nodes-among (path_of m key 1) parent among)
 
     has-children : HasChildren key q.work parent
     has-children =
@@ -206,19 +206,19 @@ module _ (sizes : Sizes) (fits : has_pages sizes.pages ≡ true) (key : MapKey) 
   held-few : length held ≤ 23
   held-few =
       let a = ap length held-are in let b = length-append levels (beside (m (last_of levels)).next) in let d = beside_few (m (last_of levels)).next in
-      let e = length-levels m key (height_of m 1) 1 in let f = way-low sizes fits key path held p q c claims in omega arith
+      let e = length-levels m key (height_of m 1) 1 in let f = path-low sizes fits key path held p q c claims in omega arith
 
-  pub has-come-to-siblings : HasComeToSiblings sizes key path p q
-  has-come-to-siblings = record {
+  pub has-claimed-siblings : HasClaimedSiblings sizes key path p q
+  has-claimed-siblings = record {
     held = held;
-    growing = growing sizes fits key path held p q c claims way-held held-kind;
+    growing = growing sizes fits key path held p q c claims path-held held-kind;
     children = subst (All (HasChildren key q.work)) (sym nodes-are) (All-from_recursion (HasChildren key q.work) nodes (each-of (HasChildren key q.work) nodes has-children));
-    zero = held-zero sizes fits key path held p q c claims way-held held-kind;
+    zero = held-zero sizes fits key path held p q c claims path-held held-kind;
     few = held-few;
     went = c.went;
     looked = c.looked;
     claims = c.sx;
     grants =
-        let a = c.s in let b = c.sx in let d = c.x in let g = way-long sizes fits key path held p q c claims in
-        let j = way-low sizes fits key path held p q c claims in let f = held-few in omega arith;
+        let a = c.s in let b = c.sx in let d = c.x in let g = path-long sizes fits key path held p q c claims in
+        let j = path-low sizes fits key path held p q c claims in let f = held-few in omega arith;
   }

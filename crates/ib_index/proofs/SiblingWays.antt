@@ -1,4 +1,4 @@
--- The pages of a key's way with those beside them under the same parents, in lawful trees.
+-- The pages of a key's path with those beside them under the same parents, in lawful trees.
 use Rattle.std.specs.List.{AllByRecursion, flat_map}
 use Rattle.std.specs.Prelude.{IsSomeAnd, slice_get, ◌||◌}
 use Rattle.std.proofs.Common.{◌≡◌, ◌≢◌, ◌⊎◌, inl, inr, ℕ, zero, suc, ◌*◌, ◌<◌, ◌≤◌, true, List, [], ◌∷◌, ◌++◌, Option, Some, None, length, refl, sym, ap, subst, ◌∙◌, arith, eq-eqb, ne_eqb, length-append, append_assoc}
@@ -11,7 +11,7 @@ use Rattle.ib_walk.specs.Search.{child_for, leaf_for, page_below}
 use Rattle.ib_walk.specs.Trees.{IsLawful, height_of}
 use Rattle.ib_walk.proofs.SearchLaws.{above}
 use Rattle.ib_walk.proofs.WalkLaws.{AllByRecursion-append}
-use Rattle.ib_plans.specs.Agreement.{last_of, way_down}
+use Rattle.ib_plans.specs.Agreement.{last_of, path_down}
 use Rattle.ib_plans.specs.Merge.{Siblings, siblings_of}
 use Rattle.ib_plans.proofs.LinkLaws.{NextLeaf-leaf_for}
 use Rattle.ib_plans.proofs.SiblingLaws.{SiblingPages, SiblingPages-path}
@@ -20,10 +20,10 @@ use Rattle.ib_merge.specs.Deletes.{nodes_on_path}
 use Rattle.ib_tree.specs.PageLists.{is_listed}
 use Rattle.ib_plans.proofs.LevelLaws.{above-sum}
 use Rattle.ib_cursor.specs.Siblings.{child_if, with_siblings}
-use Rattle.ib_cursor.specs.Way.{IsOnWay}
+use Rattle.ib_cursor.specs.OnPath.{IsOnPath}
 use Rattle.ib_cursor.proofs.LevelLaws.{among-left, among_right}
 use Rattle.ib_cursor.proofs.RowLaws.{one-at_most}
-use Rattle.ib_cursor.proofs.WayLaws.{bit_on-way, child_on-way, leaf_on-way, page_on-way}
+use Rattle.ib_cursor.proofs.OnPathLaws.{bit_on-path, child_on-path, leaf_on-path, page_on-path}
 use Rattle.ib_index.proofs.ClaimedLaws.{IsPageOfTree}
 
 -- the rightmost of a node's children that a delete may merge: the one to the right of the key's child, where there is one
@@ -51,8 +51,8 @@ last-here : (right : Option (MapKey × ℕ)) (here : MapKey × ℕ) → last_of 
 last-here None here = refl
 last-here (Some right) here = refl
 
--- the nodes of a way, from the first down
-pub nodes-down : (m : PageMemory) (key : MapKey) (level page : ℕ) → nodes_on_path (way_down m key (suc level) page) ≡ page ∷ nodes_on_path (way_down m key level (child_for key 0 (m page).records))
+-- the nodes of a path, from the first down
+pub nodes-down : (m : PageMemory) (key : MapKey) (level page : ℕ) → nodes_on_path (path_down m key (suc level) page) ≡ page ∷ nodes_on_path (path_down m key level (child_for key 0 (m page).records))
 nodes-down m key zero page = refl
 nodes-down m key (suc level) page = refl
 
@@ -69,32 +69,32 @@ module _ (m : PageMemory) (key : MapKey) where
       last-behind x (with_siblings m key page) []
       ∙ (last-behind x (child_if t.left) (t.here.1 ∷ child_if t.right) ∙ last-here t.right t.here)
 
-  pub last-levels : (depth x page : ℕ) → last_of (x ∷ flat_map (with_siblings m key) (nodes_on_path (way_down m key (suc depth) page))) ≡ last_beside m key (page_below m key depth page)
+  pub last-levels : (depth x page : ℕ) → last_of (x ∷ flat_map (with_siblings m key) (nodes_on_path (path_down m key (suc depth) page))) ≡ last_beside m key (page_below m key depth page)
   last-levels zero x page = last-level x page
   last-levels (suc depth) x page =
       let child = child_for key 0 (m page).records in
       ap (λ ns. last_of (x ∷ flat_map (with_siblings m key) ns)) (nodes-down m key (suc depth) page)
-      ∙ (last-behind x (with_siblings m key page) (flat_map (with_siblings m key) (nodes_on_path (way_down m key (suc depth) child)))
+      ∙ (last-behind x (with_siblings m key page) (flat_map (with_siblings m key) (nodes_on_path (path_down m key (suc depth) child)))
       ∙ last-levels depth (last_of (x ∷ with_siblings m key page)) child)
 
   -- three pages a level at most
-  pub length-levels : (level page : ℕ) → length (flat_map (with_siblings m key) (nodes_on_path (way_down m key level page))) ≤ 3 * level
+  pub length-levels : (level page : ℕ) → length (flat_map (with_siblings m key) (nodes_on_path (path_down m key level page))) ≤ 3 * level
   length-levels zero page = omega arith
   length-levels (suc level) page =
       let t = siblings_of key (m page).records in
       let child = child_for key 0 (m page).records in
       let e = ap (λ ns. length (flat_map (with_siblings m key) ns)) (nodes-down m key level page) in
-      let a = length-append (with_siblings m key page) (flat_map (with_siblings m key) (nodes_on_path (way_down m key level child))) in
+      let a = length-append (with_siblings m key page) (flat_map (with_siblings m key) (nodes_on_path (path_down m key level child))) in
       let b = length-append (child_if t.left) (t.here.1 ∷ child_if t.right) in
       let c = one-at_most t.left in let d = one-at_most t.right in
       let r = length-levels level child in omega arith
 
 module _ (m : PageMemory) (bits : ℕ → ℕ) (law : IsLawful m bits 1) (key : MapKey) (lt : rank key < end_rank) where
-  pub way-page : (level page : ℕ) → IsOnWay m 1 key page level → IsPageOfTree m page
-  way-page level page o = ((page_on-way m 1 key page level (law.trees 1 (omega arith) (omega arith)).0 lt o).kind, (bit_on-way m bits 1 1 key page level law (omega arith) (omega arith) lt o).0)
+  pub on_path-page : (level page : ℕ) → IsOnPath m 1 key page level → IsPageOfTree m page
+  on_path-page level page o = ((page_on-path m 1 key page level (law.trees 1 (omega arith) (omega arith)).0 lt o).kind, (bit_on-path m bits 1 1 key page level law (omega arith) (omega arith) lt o).0)
 
-  -- a node of the way
-  module _ (level parent : ℕ) (o : IsOnWay m 1 key parent (suc level)) where
+  -- a node of the path
+  module _ (level parent : ℕ) (o : IsOnPath m 1 key parent (suc level)) where
     abbrev t : Siblings
     t = siblings_of key (m parent).records
 
@@ -103,10 +103,10 @@ module _ (m : PageMemory) (bits : ℕ → ℕ) (law : IsLawful m bits 1) (key : 
     records-of (x ∷ xs) first = HasSiblings-of key (x ∷ xs) (omega arith) first
 
     records : HasSiblings (m parent).records (child_for key 0 (m parent).records) t
-    records = records-of (m parent).records ((page_on-way m 1 key parent (suc level) (law.trees 1 (omega arith) (omega arith)).0 lt o).first (omega arith))
+    records = records-of (m parent).records ((page_on-path m 1 key parent (suc level) (law.trees 1 (omega arith) (omega arith)).0 lt o).first (omega arith))
 
-    pub here-on : IsOnWay m 1 key t.here.1 level
-    here-on = subst (λ n. IsOnWay m 1 key n level) (sym records.here) (child_on-way m 1 key parent level o)
+    pub here-on : IsOnPath m 1 key t.here.1 level
+    here-on = subst (λ n. IsOnPath m 1 key n level) (sym records.here) (child_on-path m 1 key parent level o)
 
     tall : height_of m 1 ≡ above o.depth (suc level)
     tall = sym o.height ∙ sym (above-sum o.depth (suc level))
@@ -128,14 +128,14 @@ module _ (m : PageMemory) (bits : ℕ → ℕ) (law : IsLawful m bits 1) (key : 
     pub sides : AllByRecursion (IsPageOfTree m) (with_siblings m key parent)
     sides = AllByRecursion-append (IsPageOfTree m) (child_if t.left) (t.here.1 ∷ child_if t.right)
         (each-if t.left (λ x is. let s = left-pages x is in (s.left_kind, s.left_some)))
-        (way-page level t.here.1 here-on, each-if t.right (λ x is. let s = right-pages x is in (s.gone_kind, s.gone_some)))
+        (on_path-page level t.here.1 here-on, each-if t.right (λ x is. let s = right-pages x is in (s.gone_kind, s.gone_some)))
 
     -- the last of them
     pub last-page : IsPageOfTree m (last_beside m key parent) × ((m (last_beside m key parent)).level ≡ level)
     last-page = go t.right refl
       where
         go : (o : Option (MapKey × ℕ)) → t.right ≡ o → IsPageOfTree m (last_child o t.here) × ((m (last_child o t.here)).level ≡ level)
-        go None is = (way-page level t.here.1 here-on, (page_on-way m 1 key t.here.1 level (law.trees 1 (omega arith) (omega arith)).0 lt here-on).height)
+        go None is = (on_path-page level t.here.1 here-on, (page_on-path m 1 key t.here.1 level (law.trees 1 (omega arith) (omega arith)).0 lt here-on).height)
         go (Some x) is = let s = right-pages x is in ((s.gone_kind, s.gone_some), s.gone_level)
 
     -- behind it there is a leaf of the tree, or none; a node has none
@@ -146,57 +146,57 @@ module _ (m : PageMemory) (bits : ℕ → ℕ) (law : IsLawful m bits 1) (key : 
         go (Some x) is ne = let b = (right-pages x is).behind ne in ((b.kind, ne), b.low)
         go None is ne = elim (cases_eq level 0) [
           | inl z ↦
-              let leaf : t.here.1 ≡ leaf_for m key 1 = leaf_on-way m 1 key t.here.1 (subst (IsOnWay m 1 key t.here.1) z here-on) in
+              let leaf : t.here.1 ≡ leaf_for m key 1 = leaf_on-path m 1 key t.here.1 (subst (IsOnPath m 1 key t.here.1) z here-on) in
               let b = NextLeaf-leaf_for (λ n. MOST_RECORDS) m bits 1 key 1 law (omega arith) (omega arith) lt (λ q. ne (ap (λ n. (m n).next) leaf ∙ q)) in
               ((ap (λ n. (m (m n).next).kind) leaf ∙ b.kind, ne), z)
           | inr up ↦
-              let h = (page_on-way m 1 key t.here.1 level (law.trees 1 (omega arith) (omega arith)).0 lt here-on).height in
-              absurd (ne ((law.sound t.here.1 (way-page level t.here.1 here-on).1).node (omega (arith, up, h))).1)
+              let h = (page_on-path m 1 key t.here.1 level (law.trees 1 (omega arith) (omega arith)).0 lt here-on).height in
+              absurd (ne ((law.sound t.here.1 (on_path-page level t.here.1 here-on).1).node (omega (arith, up, h))).1)
         ]
 
   -- every page of the levels is one of the tree
-  pub levels-down : (level page : ℕ) → IsOnWay m 1 key page level → AllByRecursion (IsPageOfTree m) (flat_map (with_siblings m key) (nodes_on_path (way_down m key level page)))
+  pub levels-down : (level page : ℕ) → IsOnPath m 1 key page level → AllByRecursion (IsPageOfTree m) (flat_map (with_siblings m key) (nodes_on_path (path_down m key level page)))
   levels-down zero page o = tt
   levels-down (suc level) page o =
       let child = child_for key 0 (m page).records in
       subst (λ ns. AllByRecursion (IsPageOfTree m) (flat_map (with_siblings m key) ns)) (sym (nodes-down m key level page))
-      (AllByRecursion-append (IsPageOfTree m) (with_siblings m key page) (flat_map (with_siblings m key) (nodes_on_path (way_down m key level child)))
-      (sides level page o) (levels-down level child (child_on-way m 1 key page level o)))
+      (AllByRecursion-append (IsPageOfTree m) (with_siblings m key page) (flat_map (with_siblings m key) (nodes_on_path (path_down m key level child)))
+      (sides level page o) (levels-down level child (child_on-path m 1 key page level o)))
 
-  -- .. and the way is among them
-  pub way-among : (level page n : ℕ) → IsOnWay m 1 key page level → is_listed (way_down m key level page) n ≡ true
-      → is_listed (page ∷ flat_map (with_siblings m key) (nodes_on_path (way_down m key level page))) n ≡ true
-  way-among zero page n o h = h
-  way-among (suc level) page n o h =
+  -- .. and the path is among them
+  pub path-among : (level page n : ℕ) → IsOnPath m 1 key page level → is_listed (path_down m key level page) n ≡ true
+      → is_listed (page ∷ flat_map (with_siblings m key) (nodes_on_path (path_down m key level page))) n ≡ true
+  path-among zero page n o h = h
+  path-among (suc level) page n o h =
       let child = child_for key 0 (m page).records in
-      let rest = flat_map (with_siblings m key) (nodes_on_path (way_down m key level child)) in
+      let rest = flat_map (with_siblings m key) (nodes_on_path (path_down m key level child)) in
       subst (λ ns. is_listed (page ∷ flat_map (with_siblings m key) ns) n ≡ true) (sym (nodes-down m key level page)) (elim (cases_eq page n) [
         | inl e ↦ ap (λ b. b || is_listed (with_siblings m key page ++ rest) n) (eq-eqb page n e)
         | inr ne ↦
             let no = ne_eqb page n ne in
-            let r = way-among level child n (child_on-way m 1 key page level o) (sym (ap (λ b. b || is_listed (way_down m key level child) n) no) ∙ h) in
+            let r = path-among level child n (child_on-path m 1 key page level o) (sym (ap (λ b. b || is_listed (path_down m key level child) n) no) ∙ h) in
             ap (λ b. b || is_listed (with_siblings m key page ++ rest) n) no ∙ below n (cases_eq child n) r
       ])
     where
       below : (n : ℕ) → (child_for key 0 (m page).records ≡ n) ⊎ (child_for key 0 (m page).records ≢ n)
-          → is_listed (child_for key 0 (m page).records ∷ flat_map (with_siblings m key) (nodes_on_path (way_down m key level (child_for key 0 (m page).records)))) n ≡ true
-          → is_listed (with_siblings m key page ++ flat_map (with_siblings m key) (nodes_on_path (way_down m key level (child_for key 0 (m page).records)))) n ≡ true
+          → is_listed (child_for key 0 (m page).records ∷ flat_map (with_siblings m key) (nodes_on_path (path_down m key level (child_for key 0 (m page).records)))) n ≡ true
+          → is_listed (with_siblings m key page ++ flat_map (with_siblings m key) (nodes_on_path (path_down m key level (child_for key 0 (m page).records)))) n ≡ true
       below n (inl e) r =
           let t = siblings_of key (m page).records in
           let here : t.here.1 ≡ n = (records level page o).here ∙ e in
-          among-left (with_siblings m key page) (flat_map (with_siblings m key) (nodes_on_path (way_down m key level (child_for key 0 (m page).records)))) n
+          among-left (with_siblings m key page) (flat_map (with_siblings m key) (nodes_on_path (path_down m key level (child_for key 0 (m page).records)))) n
           (among_right (child_if t.left) (t.here.1 ∷ child_if t.right) n (ap (λ b. b || is_listed (child_if t.right) n) (eq-eqb t.here.1 n here)))
       below n (inr ne) r =
-          among_right (with_siblings m key page) (flat_map (with_siblings m key) (nodes_on_path (way_down m key level (child_for key 0 (m page).records)))) n
-          (sym (ap (λ b. b || is_listed (flat_map (with_siblings m key) (nodes_on_path (way_down m key level (child_for key 0 (m page).records)))) n) (ne_eqb (child_for key 0 (m page).records) n ne)) ∙ r)
+          among_right (with_siblings m key page) (flat_map (with_siblings m key) (nodes_on_path (path_down m key level (child_for key 0 (m page).records)))) n
+          (sym (ap (λ b. b || is_listed (flat_map (with_siblings m key) (nodes_on_path (path_down m key level (child_for key 0 (m page).records)))) n) (ne_eqb (child_for key 0 (m page).records) n ne)) ∙ r)
 
-  -- each node of the way stands on it above the leaf
-  pub node-on : (level page n : ℕ) → IsOnWay m 1 key page level → is_listed (nodes_on_path (way_down m key level page)) n ≡ true → (k : ℕ) × IsOnWay m 1 key n (suc k)
+  -- each node of the path stands on it above the leaf
+  pub node-on : (level page n : ℕ) → IsOnPath m 1 key page level → is_listed (nodes_on_path (path_down m key level page)) n ≡ true → (k : ℕ) × IsOnPath m 1 key n (suc k)
   node-on zero page n o h = cc
   node-on (suc level) page n o h =
       let child = child_for key 0 (m page).records in
-      let has : is_listed (page ∷ nodes_on_path (way_down m key level child)) n ≡ true = sym (ap (λ ns. is_listed ns n) (nodes-down m key level page)) ∙ h in
+      let has : is_listed (page ∷ nodes_on_path (path_down m key level child)) n ≡ true = sym (ap (λ ns. is_listed ns n) (nodes-down m key level page)) ∙ h in
       elim (cases_eq page n) [
-        | inl e ↦ (level, subst (λ p. IsOnWay m 1 key p (suc level)) e o)
-        | inr ne ↦ node-on level child n (child_on-way m 1 key page level o) (sym (ap (λ b. b || is_listed (nodes_on_path (way_down m key level child)) n) (ne_eqb page n ne)) ∙ has)
+        | inl e ↦ (level, subst (λ p. IsOnPath m 1 key p (suc level)) e o)
+        | inr ne ↦ node-on level child n (child_on-path m 1 key page level o) (sym (ap (λ b. b || is_listed (nodes_on_path (path_down m key level child)) n) (ne_eqb page n ne)) ∙ has)
       ]

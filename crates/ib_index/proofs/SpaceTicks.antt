@@ -20,7 +20,7 @@ use Rattle.ib_planned_log.specs.Kept.{IsKeptLog}
 use Rattle.ib_planned_log.specs.LeafChange.{kept_pages}
 use Rattle.ib_planned_log.proofs.ClockLaws.{clock-le, space_clock-le}
 use Rattle.ib_rule.specs.Pass.{PassState}
-use Rattle.ib_index.specs.Grows.{StandsOnWay}
+use Rattle.ib_index.specs.Grows.{HoldsPath}
 use Rattle.ib_index.specs.Leaf.{IsSeated}
 use Rattle.ib_index.proofs.AgreeLaws.{agrees-now, still-in, images-now}
 use Rattle.ib_index.proofs.FreshLaws.{bits-same}
@@ -49,7 +49,7 @@ bit-taken pages image some = elim (cases_Bool (is_taken image 1)) [
   ]))
 ]
 
-module _ (sizes : Sizes) (key : MapKey) (path : List ℕ) (t : PassState) (seated : IsSeated sizes t) (at : StandsOnWay sizes key path t) where
+module _ (sizes : Sizes) (key : MapKey) (path : List ℕ) (t : PassState) (seated : IsSeated sizes t) (at : HoldsPath sizes key path t) where
   -- of another page than page 0
   page-ticks : (n : ℕ) → n ≢ 0 → (memory_in t.work n).clock < 2 ^ 63
   page-ticks n ne = go (changed_of n t.work) refl

@@ -1,8 +1,10 @@
 -- An insert that changes the tree's structure.
-use Rattle.std.specs.Prelude.{◌≡◌, ℕ, ◌+◌, ◌/◌, ◌<◌, ◌≤◌, true, false, List, [], ◌∷◌, ◌++◌, length, map, Some}
+use Rattle.std.specs.Prelude.{◌≡◌, ℕ, ◌+◌, ◌/◌, ◌^◌, ◌<◌, ◌≤◌, true, false, List, [], ◌∷◌, ◌++◌, length, map, Some}
 use Rattle.std.specs.List.{All, AllByRecursion}
 use Rattle.ib_map.specs.Keys.{MapKey}
 use Rattle.ib_map.specs.declared.TheConstants.{PAGE_WORDS}
+use Rattle.ib_map.specs.declared.call.Call.{Call}
+use Rattle.ib_map.specs.declared.call.Record.{Record}
 use Rattle.ib_levels.specs.declared.level.Level.{Level}
 use Rattle.ib_levels.specs.declared.level.Level.TheVariants.{Log, PageNew, Space, TreeNode}
 use Rattle.ib_levels.specs.declared.level.Mode.TheVariants.{X}
@@ -10,9 +12,11 @@ use Rattle.ib_layout.specs.Geometry.{Sizes}
 use Rattle.ib_logrec.specs.Log.{by_place}
 use Rattle.ib_logrec.specs.declared.entry.TheConstants.{MOST_WRITES}
 use Rattle.ib_page.specs.Work.{WorkPage, changed_of}
-use Rattle.ib_plans.specs.Agreement.{Agrees, HasTreePages, IsThere, last_of, memory_in, way_of}
+use Rattle.ib_plans.specs.declared.fault.TreeFault.{TreeFault}
+use Rattle.ib_plans.specs.declared.fault.TreeFault.TheVariants.{NeedPages}
+use Rattle.ib_plans.specs.Agreement.{Agrees, HasTreePages, IsThere, bits_in, last_of, memory_in, path_of}
 use Rattle.ib_levels.specs.Level.{may_follow}
-use Rattle.ib_walk.specs.Full.{free_of, is_too_high, need_of}
+use Rattle.ib_walk.specs.Full.{chosen, free_of, is_too_high, need_of}
 use Rattle.ib_walk.specs.Pages.{PageMemory, Tree}
 use Rattle.ib_split.specs.Inserts.{HasFresh}
 use Rattle.ib_merge.specs.Deletes.{HasNext}
@@ -20,19 +24,21 @@ use Rattle.ib_tree.specs.PageLists.{AreOnce, is_listed}
 use Rattle.ib_tree.specs.TreeLog.{opening}
 use Rattle.ib_planned_log.specs.Kept.{IsKeptLog}
 use Rattle.ib_planned_log.specs.LeafChange.{kept_pages}
-use Rattle.ib_rule.specs.Pass.{PassState}
+use Rattle.ib_rule.specs.Pass.{PassState, IsAtRest}
+use Rattle.ib_rule.specs.Space.{SpaceState}
 use Rattle.ib_rule.specs.Views.{total, with_grant}
 use Rattle.ib_cursor.specs.Claims.{claim_grant}
 use Rattle.ib_cursor.specs.Going.{IsKnown, WentOn}
 use Rattle.ib_cursor.specs.Grants.{Grant, HasGrants}
 use Rattle.ib_cursor.specs.Shapes.{is_claimed}
 use Rattle.ib_cursor.specs.Takings.{IsHeldPage, is_loaded}
+use Rattle.ib_index.specs.Calls.{HasCalled}
 
--- the session stands on the key's way: the index is claimed, each page of the work set is watched and as it was read, and the path is the key's in the tree after all seen
-pub record StandsOnWay (sizes : Sizes) (key : MapKey) (path : List ℕ) (p : PassState) : Type 0 where
+-- the session stands on the key's path: the index is claimed, each page of the work set is watched and as it was read, and the path is the key's in the tree after all seen
+pub record HoldsPath (sizes : Sizes) (key : MapKey) (path : List ℕ) (p : PassState) : Type 0 where
   pub claimed : is_claimed p.view.memory.since ≡ true
   pub read : All (IsHeldPage (by_place opening sizes.pages) p) p.work
-  pub way : path ≡ way_of (kept_pages sizes.pages p.view.memory.seen) key 1
+  pub on_path : path ≡ path_of (kept_pages sizes.pages p.view.memory.seen) key 1
   pub known : IsKnown sizes (IsKeptLog sizes.pages) p
 
 -- a page that is held in X, taken at this level
@@ -44,7 +50,7 @@ pages_held held = map (λ h. h.0) held
 
 -- .. and these pages are held in X, in this order: they alone are loaded, among them the pages of the path
 pub record IsGrowing (sizes : Sizes) (key : MapKey) (path : List ℕ) (held : List (ℕ × Level)) (p : PassState) : Type 0 where
-  pub at : StandsOnWay sizes key path p
+  pub at : HoldsPath sizes key path p
   pub grants : HasGrants (claim_grant ∷ map held_grant held) p
   pub loaded : (page : ℕ) → is_loaded page p.work ≡ is_listed (pages_held held) page
   pub count : length p.work ≡ length held
@@ -64,8 +70,8 @@ pub record HasGrown (sizes : Sizes) (key : MapKey) (path : List ℕ) (held : Lis
 abbrev pub tree_pages : List ℕ → List (ℕ × Level)
 tree_pages held = map (λ page. (page, TreeNode)) held
 
--- the way, and the leaves beside its last page, are held
-pub record HasComeToWay (sizes : Sizes) (key : MapKey) (path : List ℕ) (p q : PassState) : Type 0 where
+-- the path, and the leaves beside its last page, are held
+pub record HasClaimedPath (sizes : Sizes) (key : MapKey) (path : List ℕ) (p q : PassState) : Type 0 where
   pub held : List ℕ
   pub growing : IsGrowing sizes key path (tree_pages held) q
   pub next : HasNext q.work (last_of path)
@@ -84,6 +90,14 @@ space_pages held = tree_pages held ++ (0, Space) ∷ []
 
 abbrev pub new_pages : List ℕ → List (ℕ × Level)
 new_pages fresh = map (λ page. (page, PageNew)) fresh
+
+-- by the image of page 0, which has the bits of so many pages, these are the fresh pages of those that are needed
+abbrev pub IsChosen : ℕ → List ℕ → ℕ → List ℕ → Type 0
+IsChosen pages image need fresh = (fresh ≡ chosen (bits_in pages image) pages need) × (need ≤ free_of (bits_in pages image) pages)
+
+-- .. or too few are free, and the fault says how many
+abbrev pub IsLacking : ℕ → List ℕ → ℕ → TreeFault → Type 0
+IsLacking pages image need fault = (fault ≡ NeedPages (free_of (bits_in pages image) pages) need) × (free_of (bits_in pages image) pages < need)
 
 -- these fresh pages were taken
 pub record HasTakenNew (sizes : Sizes) (key : MapKey) (path : List ℕ) (held : List (ℕ × Level)) (fresh : List ℕ) (p q : PassState) : Type 0 where
@@ -141,3 +155,14 @@ pub record IsShort (sizes : Sizes) (key : MapKey) (path : List ℕ) (free need :
 pub record TakesAtMost (most : ℕ) (p q : PassState) : Type 0 where
   pub claims : q.view.grants.sx ≤ p.view.grants.sx + 1
   pub all : total q.view.grants ≤ total p.view.grants + most
+
+-- a change of the tree may be made: the pass is at rest, knows of no look, and may take so many grants more
+pub record MayChangeTree (space : SpaceState) (p : PassState) : Type 0 where
+  pub rest : IsAtRest space p
+  pub unwatched : p.view.memory.since ≡ []
+  pub room : total p.view.grants + 8192 ≤ 2 ^ 52
+
+-- .. and was answered, with few grants
+pub record HasChangedTree (sizes : Sizes) (call : Call) (answer : Record) (p q : PassState) : Type 0 where
+  pub called : HasCalled sizes (IsKeptLog sizes.pages) (by_place opening sizes.pages) call answer p q
+  pub grants : TakesAtMost 64 p q

@@ -1,10 +1,12 @@
 -- A change of the index that needs the key's leaf alone.
-use Rattle.std.specs.Prelude.{◌≡◌, ◌≢◌, ◌⊎◌, ℕ, ◌+◌, ◌^◌, ◌<◌, ◌≤◌, Bool, true, List, [], ◌∷◌, length, take, None, IsSome}
+use Rattle.std.specs.Prelude.{◌≡◌, ◌≢◌, ◌⊎◌, ℕ, ◌+◌, ◌^◌, ◌<◌, ◌≤◌, Bool, true, List, [], ◌∷◌, length, take, Option, None, IsSome, IfSome, MatchOption}
 use Rattle.ib_map.specs.Keys.{MapKey}
 use Rattle.ib_map.specs.Map.{is_made}
 use Rattle.ib_map.specs.Pairs.{value_at}
 use Rattle.ib_map.specs.Space.{has_pages}
 use Rattle.ib_map.specs.declared.TheConstants.{PAGE_WORDS}
+use Rattle.ib_map.specs.declared.call.Call.{Call}
+use Rattle.ib_map.specs.declared.call.Record.{Record}
 use Rattle.ib_map.specs.declared.call.Reply.{Reply}
 use Rattle.ib_map.specs.declared.call.Reply.TheVariants.{LogFull}
 use Rattle.ib_levels.specs.declared.level.Mode.TheVariants.{X}
@@ -20,11 +22,14 @@ use Rattle.ib_planned_log.specs.Kept.{IsKeptLog}
 use Rattle.ib_planned_log.specs.LeafChange.{kept_pages, leaf_after}
 use Rattle.ib_rule.specs.declared.view.Role.TheVariants.{Session}
 use Rattle.ib_rule.specs.Pass.{PassState}
+use Rattle.ib_rule.specs.Space.{SpaceState}
 use Rattle.ib_rule.specs.Views.{is_watched}
 use Rattle.ib_mtr.specs.Loads.{IsPageAfter}
+use Rattle.ib_mtr.specs.Mtr.{IsMtr}
 use Rattle.ib_cursor.specs.Descent.{WasRaised, one_if}
 use Rattle.ib_cursor.specs.Going.{IsKnown, WentOn}
 use Rattle.ib_cursor.specs.Grants.{page_grant, HasGrants}
+use Rattle.ib_index.specs.Calls.{HasCalled}
 
 -- the key's leaf in the tree after all seen, as a page
 abbrev pub the_leaf : Sizes → MapKey → PassState → ℕ
@@ -52,11 +57,17 @@ pub record IsSeated (sizes : Sizes) (p : PassState) : Type 0 where
   pub made : length p.view.memory.own ≤ length p.view.memory.seen
   pub few : length p.view.memory.seen < 2 ^ 31
 
--- the X grants of a way to the leaf: one more where the root was looked at as a leaf and became a node
+-- a mini-transaction of such a session stands on the key's leaf
+pub record WorksOnLeaf (space : SpaceState) (key : MapKey) (leaf : ℕ) (p : PassState) : Type 0 where
+  pub mtr : IsMtr space p
+  pub at : IsAtLeaf space.sizes key leaf p
+  pub seated : IsSeated space.sizes p
+
+-- the X grants of a path to the leaf: one more where the root was looked at as a leaf and became a node
 abbrev pub AddsFewX : Sizes → ℕ → PassState → PassState → Type 0
 AddsFewX sizes few p q = (q.view.grants.x ≤ p.view.grants.x + few) ⊎ ((q.view.grants.x ≤ p.view.grants.x + few + 1) × WasRaised (by_place opening sizes.pages) 1 p.view.memory.seen q.view.memory.seen)
 
--- the grants that a call took on its way to the leaf, and so many of X on it
+-- the grants that a call took on its path to the leaf, and so many of X on it
 pub record TakesFew (sizes : Sizes) (few : ℕ) (p q : PassState) : Type 0 where
   pub sx : q.view.grants.sx ≡ p.view.grants.sx
   pub s : q.view.grants.s ≤ p.view.grants.s + 9
@@ -71,8 +82,8 @@ reaches_log reply = is_made reply
 abbrev pub TakesFor : Sizes → Reply → PassState → PassState → Type 0
 TakesFor sizes reply p q = TakesFew sizes (1 + one_if (reaches_log reply)) p q
 
--- the way to the leaf is over
-pub record HasComeToLeaf (sizes : Sizes) (key : MapKey) (leaf : ℕ) (p q : PassState) : Type 0 where
+-- the path to the leaf is over
+pub record HasDescendedToLeaf (sizes : Sizes) (key : MapKey) (leaf : ℕ) (p q : PassState) : Type 0 where
   pub went : WentOn p q
   pub looked : 0 < length went.added
   pub at : IsAtLeaf sizes key leaf q
@@ -101,3 +112,10 @@ pub record NeedsTree (sizes : Sizes) (why : ℕ → PageState → Type 0) (key :
   pub looked : 0 < length went.added
   pub known : IsKnown sizes (IsKeptLog sizes.pages) q
   pub needs : HasLeaf sizes why key q.view.memory.seen
+
+-- a change of the leaf alone was tried: it was answered, or needs more than the leaf. Few grants were taken for it, and no look is known of afterwards
+pub record HasTriedLeaf (sizes : Sizes) (why : ℕ → PageState → Type 0) (key : MapKey) (call : Call) (result : Option Record) (p q : PassState) : Type 0 where
+  pub called : MatchOption result (NeedsTree sizes why key p q) (λ answer. HasCalled sizes (IsKeptLog sizes.pages) (by_place opening sizes.pages) call answer p q)
+  pub alone : IfSome result (λ answer. NeededLeaf sizes why key answer.place q)
+  pub grants : MatchOption result (TakesFew sizes 1 p q) (λ answer. TakesFor sizes answer.reply p q)
+  pub forgotten : q.view.memory.since ≡ []

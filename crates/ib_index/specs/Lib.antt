@@ -1,3 +1,4 @@
+pub mod Under
 pub mod Calls
 pub mod Lookups
 pub mod Leaf

@@ -23,8 +23,8 @@ pub record HasChildren (key : MapKey) (work : List WorkPage) (parent : ℕ) : Ty
   pub siblings : HasSiblings key work parent
   pub last : let t = siblings_of key (memory_in work parent).records in MatchOption t.right (HasWithNext work t.here.1) (λ right. HasWithNext work right.1)
 
--- the way is held, the pages beside each page of it under the same parent, and the leaf behind the last of these: of the tree, all that a delete reads and writes
-pub record HasComeToSiblings (sizes : Sizes) (key : MapKey) (path : List ℕ) (p q : PassState) : Type 0 where
+-- the path is held, the pages beside each page of it under the same parent, and the leaf behind the last of these: of the tree, all that a delete reads and writes
+pub record HasClaimedSiblings (sizes : Sizes) (key : MapKey) (path : List ℕ) (p q : PassState) : Type 0 where
   pub held : List ℕ
   pub growing : IsGrowing sizes key path (tree_pages held) q
   pub children : All (HasChildren key q.work) (nodes_on_path path)

@@ -1,22 +1,20 @@
 //! One tree that sessions share: how it is opened and closed, and how sessions come, look keys up and go.
 
-ghost use Rattle.std.specs.Prelude.{◌≡◌, ◌↔◌, ℕ, ◌+◌, ◌-◌, ◌*◌, ◌≤◌, ◌^◌, true, [], ◌∷◌, length, Err, IfOk, IfErr};
-ghost use mathlib.Core.List.{IsPrefix};
+ghost use Rattle.std.specs.Prelude.{◌≡◌, ◌+◌, ◌-◌, ◌*◌, ◌≤◌, true, [], ◌∷◌, length, Err, IfOk, IfErr};
 ghost use Rattle.ib_heap.specs.declared.TheConstants.{MOST_LEVEL};
-ghost use Rattle.ib_logrec.specs.Log.{by_place};
-ghost use Rattle.ib_rule.specs.declared.view.Role.TheVariants.{Session};
+ghost use Rattle.ib_rule.specs.Connects.{HasConnected, HasMet};
 ghost use Rattle.ib_rule.specs.Closed.{IsClosed};
-ghost use Rattle.ib_rule.specs.Pass.{IsAtRest, IsFrom, IsOf, with_view};
-ghost use Rattle.ib_rule.specs.Stores.{IsLook};
-ghost use Rattle.ib_rule.specs.Views.{ended_as, longer, seated, seeing, total};
+ghost use Rattle.ib_rule.specs.Pass.{IsAtRest, IsFrom};
+ghost use Rattle.ib_rule.specs.Views.{ended_as, longer};
 ghost use Rattle.ib_planned_log.specs.Kept.{IsKeptLog};
 ghost use Rattle.ib_tree.specs.TreeLog.{opening};
-ghost use Rattle.ib_cursor.specs.Hindrance.{IsHindered};
+ghost use Rattle.ib_cursor.specs.Contention.{IsContended};
 ghost use Rattle.ib_map.specs.declared.call.Call.TheVariants.{Delete, Insert};
-ghost use Rattle.ib_index.specs.Calls.{HasCalled};
+ghost use Rattle.ib_index.specs.Calls.{HasCalled, MayCall};
 ghost use Rattle.ib_index.specs.Changes.{TakesFewUnless};
 ghost use Rattle.ib_index.specs.Leaf.{IsFullFor, IsShortFor};
 ghost use Rattle.ib_index.specs.Lookups.{HasLookedUp};
+ghost use Rattle.ib_index.specs.Under.{under_plans};
 
 use crate::{change, lookup, nowait};
 use ib_cursor::NowaitFault;
@@ -78,15 +76,7 @@ impl<S: Sleep> Index<S> {
     /// in it. Refused as `TooManySessions`, with 1,024, exactly where so many were drawn. Where memory lacks, no
     /// number is drawn.
     pub fn connect(&mut self, alloc: Global) -> Result<Pass, ConnectFault>
-        ensures pass { IfOk result (λ p. IsOf self.old p × (p.number ≡ self.old.drawn + 1)
-            × (p.view ≡ seated (Session (self.old.drawn + 1))) × (p.has_scratch ≡ true)) }
-        ensures drawn { IfOk result (λ p. self.new
-            ≡ record self.old { drawn = self.old.drawn + 1 }) }
-        ensures err { IfErr result (λ e. self.new ≡ self.old) }
-        ensures full { (result ≡ Err (ConnectFault.TooManySessions 1024))
-            ↔ (self.old.drawn ≡ 1024) }
-        ensures told { (n : ℕ) → result ≡ Err (ConnectFault.TooManySessions n) → n ≡ 1024 }
-        ensures few { self.old.drawn ≤ 1024 }
+        ensures { HasConnected self.old self.new result }
     {
         self.latches.connect(alloc)
     }
@@ -106,12 +96,7 @@ impl<S: Sleep> Index<S> {
     pub fn meet(&self, to: &mut Pass, from: &mut Pass)
         requires to { IsFrom self.now to.old }
         requires from { IsFrom self.now from.old }
-        ensures from { from.new ≡ from.old }
-        ensures to { to.new ≡ with_view to.old
-            (seeing (longer to.old.view.memory.seen from.old.view.memory.seen) to.old.view) }
-        ensures looked { IsLook self.now.sizes (IsKeptLog self.now.sizes.pages) to.old.view
-            to.new.view.memory.seen }
-        ensures theirs { IsPrefix from.old.view.memory.seen to.new.view.memory.seen }
+        ensures { HasMet self.now.sizes (IsKeptLog self.now.sizes.pages) to.old from.old to.new from.new }
     {
         self.latches.meet(to, from);
     }
@@ -147,18 +132,15 @@ impl<S: Sleep> Index<S> {
 
     /// Looks a key up without waiting: each latch is tried (`rw_lock_s_lock_nowait`). Where one is refused,
     /// the log's end is looked at and then all latches are given up; `Busy` and `Raced` tell the latch that
-    /// was not had, the index or a page of the key's way, and the words of the last looks, both of this
-    /// call. There are two looks at most for each latch of the longest way that a tree can have. The session
+    /// was not had, the index or a page of the key's path, and the words of the last looks, both of this
+    /// call. There are two looks at most for each latch of the longest path that a tree can have. The session
     /// holds nothing before and after.
     pub fn get_nowait(&self, pass: &mut Pass, key: Key) -> Result<Record, NowaitFault>
-        requires rest { IsAtRest self.now pass.old }
-        requires room { total pass.old.view.grants + 16384 ≤ 2 ^ 52 }
+        requires may { MayCall self.now pass.old }
         ensures rest { IsAtRest self.now pass.new }
-        ensures looked_up { IfOk result (λ answer. HasLookedUp self.now.sizes
-            (IsKeptLog self.now.sizes.pages) (by_place opening self.now.sizes.pages) key answer
+        ensures looked_up { IfOk result (λ answer. under_plans self.now HasLookedUp key answer
             pass.old pass.new) }
-        ensures hindered { IfErr result (λ fault. IsHindered self.now.sizes
-            (IsKeptLog self.now.sizes.pages) (by_place opening self.now.sizes.pages) 1 key fault
+        ensures contended { IfErr result (λ fault. under_plans self.now IsContended 1 key fault
             pass.old pass.new) }
         ensures looks { pass.new.view.looks.count
             ≤ pass.old.view.looks.count + 2 * (MOST_LEVEL + 2) }
@@ -170,14 +152,12 @@ impl<S: Sleep> Index<S> {
 impl Index<Parkers> {
     /// Looks a key up (`row_search_mvcc` by a key of the clustered index, without versions): `Found` with
     /// its value or `NotFound`, at the place of the log after all that is seen then. Latches are taken in S
-    /// alone and waited for: the index, and each page of the key's way, from two to nine. The session holds
+    /// alone and waited for: the index, and each page of the key's path, from two to nine. The session holds
     /// nothing before and after.
     pub fn get<R: Wait>(&self, rt: &R, pass: &mut Pass, key: Key) -> Record
-        requires rest { IsAtRest self.now pass.old }
-        requires room { total pass.old.view.grants + 16384 ≤ 2 ^ 52 }
+        requires may { MayCall self.now pass.old }
         ensures rest { IsAtRest self.now pass.new }
-        ensures looked_up { HasLookedUp self.now.sizes (IsKeptLog self.now.sizes.pages)
-            (by_place opening self.now.sizes.pages) key result pass.old pass.new }
+        ensures looked_up { under_plans self.now HasLookedUp key result pass.old pass.new }
     {
         lookup::get(rt, &self.latches, pass, key)
     }
@@ -190,11 +170,9 @@ impl Index<Parkers> {
     /// SX and the pages that may change in X (`btr_cur_pessimistic_insert`). The session holds nothing
     /// before and after.
     pub fn insert<R: Wait>(&self, rt: &R, pass: &mut Pass, key: Key, value: u64) -> Record
-        requires rest { IsAtRest self.now pass.old }
-        requires room { total pass.old.view.grants + 16384 ≤ 2 ^ 52 }
+        requires may { MayCall self.now pass.old }
         ensures rest { IsAtRest self.now pass.new }
-        ensures called { HasCalled self.now.sizes (IsKeptLog self.now.sizes.pages)
-            (by_place opening self.now.sizes.pages) (Insert key value) result pass.old pass.new }
+        ensures called { under_plans self.now HasCalled (Insert key value) result pass.old pass.new }
         ensures grants { TakesFewUnless self.now.sizes (IsFullFor key) key result.reply pass.old pass.new }
     {
         change::insert(rt, &self.latches, pass, key, value)
@@ -207,11 +185,9 @@ impl Index<Parkers> {
     /// the root and has 17 records or fewer, all is given up and done again with the index in SX and the
     /// pages that may change in X (`btr_cur_pessimistic_delete`). The session holds nothing before and after.
     pub fn delete<R: Wait>(&self, rt: &R, pass: &mut Pass, key: Key) -> Record
-        requires rest { IsAtRest self.now pass.old }
-        requires room { total pass.old.view.grants + 16384 ≤ 2 ^ 52 }
+        requires may { MayCall self.now pass.old }
         ensures rest { IsAtRest self.now pass.new }
-        ensures called { HasCalled self.now.sizes (IsKeptLog self.now.sizes.pages)
-            (by_place opening self.now.sizes.pages) (Delete key) result pass.old pass.new }
+        ensures called { under_plans self.now HasCalled (Delete key) result pass.old pass.new }
         ensures grants { TakesFewUnless self.now.sizes (IsShortFor key) key result.reply pass.old pass.new }
     {
         change::delete(rt, &self.latches, pass, key)

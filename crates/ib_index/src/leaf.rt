@@ -1,6 +1,6 @@
 //! The change that needs the key's leaf alone.
 
-ghost use Rattle.std.specs.Prelude.{◌≡◌, ◌⊎◌, ◌+◌, ◌<◌, ◌≤◌, ◌^◌, List, [], Some, None, length, IsSome, IfOk, IfErr, IfSome, MatchOption};
+ghost use Rattle.std.specs.Prelude.{◌≡◌, ◌⊎◌, ◌<◌, ◌≤◌, ◌^◌, List, None, length, IsSome, IfOk, IfErr};
 ghost use Rattle.ib_map.specs.Pairs.{value_at};
 ghost use Rattle.ib_map.specs.declared.call.Call.TheVariants.{Insert as InsertCall, Delete as DeleteCall};
 ghost use Rattle.ib_map.specs.declared.call.Change.TheVariants.{Insert, Delete};
@@ -10,19 +10,18 @@ ghost use Rattle.ib_heap.specs.Heap.{read_heap};
 ghost use Rattle.ib_page.specs.Form.{page_of};
 ghost use Rattle.ib_page.specs.Image.{IsTreePage, clock_of, records_of};
 ghost use Rattle.ib_page.specs.Work.{WorkPage};
-ghost use Rattle.ib_logrec.specs.Log.{by_place};
 ghost use Rattle.ib_walk.specs.Words.{state_of};
 ghost use Rattle.ib_plans.specs.declared.TheConstants.{FEWEST_RECORDS};
 ghost use Rattle.ib_plans.specs.Moves.{IsMovedHeap, Puts, Takes};
-ghost use Rattle.ib_tree.specs.TreeLog.{opening};
 ghost use Rattle.ib_planned_log.specs.Kept.{IsKeptLog};
 ghost use Rattle.ib_planned_log.specs.LeafChange.{with_pair, without_pair};
 ghost use Rattle.ib_rule.specs.Pass.{IsAtRest};
 ghost use Rattle.ib_rule.specs.Views.{total};
 ghost use Rattle.ib_mtr.specs.Commits.{MayCommit};
-ghost use Rattle.ib_mtr.specs.Mtr.{IsMtr, with_work};
-ghost use Rattle.ib_index.specs.Calls.{HasCalled};
-ghost use Rattle.ib_index.specs.Leaf.{HasComeToLeaf, IsAtLeaf, IsFullFor, IsSeated, IsShortFor, NeededLeaf, NeedsTree, TakesFew, TakesFor, leaf_page};
+ghost use Rattle.ib_mtr.specs.Mtr.{IsStillMtr, with_work};
+ghost use Rattle.ib_cursor.specs.Descent.{MayDescend};
+ghost use Rattle.ib_index.specs.Calls.{MayCall};
+ghost use Rattle.ib_index.specs.Leaf.{HasDescendedToLeaf, HasTriedLeaf, IsFullFor, IsShortFor, WorksOnLeaf, leaf_page};
 
 use ib_cursor::{Search, descend};
 use ib_frames::LogFull;
@@ -48,16 +47,11 @@ struct Looked {
     count: usize,
 }
 
-// Comes to the key's leaf: it is held in X, and loaded.
-fn come_to_leaf<R: Wait>(rt: &R, mtr: &mut Work<'_>, key: Key) -> u32
-    requires mtr { IsMtr mtr.old.latches.now mtr.old.pass.now }
-    requires memo { mtr.old.pass.now.memo ≡ [] }
-    requires none { mtr.old.pass.now.work ≡ [] }
-    requires room { total mtr.old.pass.now.view.grants + 16384 ≤ 2 ^ 52 }
-    ensures mtr { IsMtr mtr.new.latches.now mtr.new.pass.now }
-    ensures latches { mtr.new.latches ≡ mtr.old.latches }
-    ensures pass { mtr.new.pass.ghost_name ≡ mtr.old.pass.ghost_name }
-    ensures come { HasComeToLeaf mtr.old.latches.now.sizes key result mtr.old.pass.now mtr.new.pass.now }
+// Claims the key's leaf: it is held in X, and loaded.
+fn descend_to_leaf<R: Wait>(rt: &R, mtr: &mut Work<'_>, key: Key) -> u32
+    requires may { MayDescend mtr.old.latches.now mtr.old.pass.now }
+    ensures still { IsStillMtr mtr.old mtr.new }
+    ensures reached { HasDescendedToLeaf mtr.old.latches.now.sizes key result mtr.old.pass.now mtr.new.pass.now }
 {
     let path = descend(rt, mtr, Search::ModifyLeaf, key);
     // The session's number, and that what it has seen and made fits the log.
@@ -70,9 +64,7 @@ fn come_to_leaf<R: Wait>(rt: &R, mtr: &mut Work<'_>, key: Key) -> u32
 
 // What the leaf that is loaded has.
 fn look_in(mtr: &Work<'_>, leaf: u32, key: Key) -> Looked
-    requires mtr { IsMtr mtr.now.latches.now mtr.now.pass.now }
-    requires at { IsAtLeaf mtr.now.latches.now.sizes key leaf mtr.now.pass.now }
-    requires seated { IsSeated mtr.now.latches.now.sizes mtr.now.pass.now }
+    requires on { WorksOnLeaf mtr.now.latches.now key leaf mtr.now.pass.now }
     ensures value { result.value
         ≡ value_at key (leaf_page mtr.now.latches.now.sizes key mtr.now.pass.now).records }
     ensures count { result.count
@@ -113,15 +105,11 @@ fn take_pair(image: &mut Image, key: Key)
 
 // Puts the pair into the leaf that is held, which has room. The change may be committed then.
 fn put_in(mtr: &mut Work<'_>, leaf: u32, key: Key, value: u64)
-    requires mtr { IsMtr mtr.old.latches.now mtr.old.pass.now }
-    requires at { IsAtLeaf mtr.old.latches.now.sizes key leaf mtr.old.pass.now }
-    requires seated { IsSeated mtr.old.latches.now.sizes mtr.old.pass.now }
+    requires on { WorksOnLeaf mtr.old.latches.now key leaf mtr.old.pass.now }
     requires grows { total mtr.old.pass.now.view.grants < 2 ^ 52 }
     requires missing { value_at key (leaf_page mtr.old.latches.now.sizes key mtr.old.pass.now).records ≡ None }
     requires room { length (leaf_page mtr.old.latches.now.sizes key mtr.old.pass.now).records < MOST_RECORDS }
-    ensures mtr { IsMtr mtr.new.latches.now mtr.new.pass.now }
-    ensures latches { mtr.new.latches ≡ mtr.old.latches }
-    ensures pass { mtr.new.pass.ghost_name ≡ mtr.old.pass.ghost_name }
+    ensures still { IsStillMtr mtr.old mtr.new }
     ensures put { (work : List WorkPage) × (mtr.new.pass.now ≡ with_work work mtr.old.pass.now)
         × MayCommit (IsKeptLog mtr.old.latches.now.sizes.pages) mtr.new.pass.now (Insert key value) }
 {
@@ -131,15 +119,11 @@ fn put_in(mtr: &mut Work<'_>, leaf: u32, key: Key, value: u64)
 // Takes the pair of the key out of the leaf that is held, which is the root or keeps enough. The change may be
 // committed then.
 fn take_out(mtr: &mut Work<'_>, leaf: u32, key: Key)
-    requires mtr { IsMtr mtr.old.latches.now mtr.old.pass.now }
-    requires at { IsAtLeaf mtr.old.latches.now.sizes key leaf mtr.old.pass.now }
-    requires seated { IsSeated mtr.old.latches.now.sizes mtr.old.pass.now }
+    requires on { WorksOnLeaf mtr.old.latches.now key leaf mtr.old.pass.now }
     requires grows { total mtr.old.pass.now.view.grants < 2 ^ 52 }
     requires there { IsSome (value_at key (leaf_page mtr.old.latches.now.sizes key mtr.old.pass.now).records) }
     requires enough { (leaf ≡ 1) ⊎ (FEWEST_RECORDS < length (leaf_page mtr.old.latches.now.sizes key mtr.old.pass.now).records) }
-    ensures mtr { IsMtr mtr.new.latches.now mtr.new.pass.now }
-    ensures latches { mtr.new.latches ≡ mtr.old.latches }
-    ensures pass { mtr.new.pass.ghost_name ≡ mtr.old.pass.ghost_name }
+    ensures still { IsStillMtr mtr.old mtr.new }
     ensures taken { (work : List WorkPage) × (mtr.new.pass.now ≡ with_work work mtr.old.pass.now)
         × MayCommit (IsKeptLog mtr.old.latches.now.sizes.pages) mtr.new.pass.now (Delete key) }
 {
@@ -178,20 +162,13 @@ pub(crate) fn optimistic_insert<R: Wait>(
     key: Key,
     value: u64,
 ) -> Option<Record>
-    requires rest { IsAtRest latches.now pass.old }
-    requires room { total pass.old.view.grants + 16384 ≤ 2 ^ 52 }
+    requires may { MayCall latches.now pass.old }
     ensures rest { IsAtRest latches.now pass.new }
-    ensures called { MatchOption result (NeedsTree latches.now.sizes (IsFullFor key) key pass.old pass.new)
-        (λ answer. HasCalled latches.now.sizes (IsKeptLog latches.now.sizes.pages)
-        (by_place opening latches.now.sizes.pages) (InsertCall key value) answer pass.old pass.new) }
-    ensures alone { IfSome result (λ answer. NeededLeaf latches.now.sizes (IsFullFor key) key answer.place pass.new) }
-    ensures grants { MatchOption result (TakesFew latches.now.sizes 1 pass.old pass.new)
-        (λ answer. TakesFor latches.now.sizes answer.reply pass.old pass.new) }
-    ensures forgotten { pass.new.view.memory.since ≡ [] }
+    ensures tried { HasTriedLeaf latches.now.sizes (IsFullFor key) key (InsertCall key value) result pass.old pass.new }
 {
     let call = Call::Insert { key, value };
     let mut mtr = Mtr::start(latches, pass);
-    let leaf = come_to_leaf(rt, &mut mtr, key);
+    let leaf = descend_to_leaf(rt, &mut mtr, key);
     let looked = look_in(&mtr, leaf, key);
     if looked.value.is_some() {
         let place = mtr.commit_read();
@@ -217,20 +194,13 @@ pub(crate) fn optimistic_delete<R: Wait>(
     pass: &mut Pass,
     key: Key,
 ) -> Option<Record>
-    requires rest { IsAtRest latches.now pass.old }
-    requires room { total pass.old.view.grants + 16384 ≤ 2 ^ 52 }
+    requires may { MayCall latches.now pass.old }
     ensures rest { IsAtRest latches.now pass.new }
-    ensures called { MatchOption result (NeedsTree latches.now.sizes (IsShortFor key) key pass.old pass.new)
-        (λ answer. HasCalled latches.now.sizes (IsKeptLog latches.now.sizes.pages)
-        (by_place opening latches.now.sizes.pages) (DeleteCall key) answer pass.old pass.new) }
-    ensures alone { IfSome result (λ answer. NeededLeaf latches.now.sizes (IsShortFor key) key answer.place pass.new) }
-    ensures grants { MatchOption result (TakesFew latches.now.sizes 1 pass.old pass.new)
-        (λ answer. TakesFor latches.now.sizes answer.reply pass.old pass.new) }
-    ensures forgotten { pass.new.view.memory.since ≡ [] }
+    ensures tried { HasTriedLeaf latches.now.sizes (IsShortFor key) key (DeleteCall key) result pass.old pass.new }
 {
     let call = Call::Delete { key };
     let mut mtr = Mtr::start(latches, pass);
-    let leaf = come_to_leaf(rt, &mut mtr, key);
+    let leaf = descend_to_leaf(rt, &mut mtr, key);
     let looked = look_in(&mtr, leaf, key);
     let Some(value) = looked.value else {
         let place = mtr.commit_read();

@@ -2,11 +2,11 @@
 #![tactic(auto)]
 
 mod change;
-mod grow;
 mod index;
 mod leaf;
 mod lookup;
 mod nowait;
-mod shrink;
+mod pessimistic_delete;
+mod pessimistic_insert;
 
 pub use index::{Index, IndexRefused};

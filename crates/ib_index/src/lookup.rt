@@ -1,12 +1,12 @@
 //! Lookups that wait for latches.
 
-ghost use Rattle.std.specs.Prelude.{◌≡◌, ◌+◌, ◌≤◌, ◌^◌};
-ghost use Rattle.ib_logrec.specs.Log.{by_place};
+ghost use Rattle.std.specs.Prelude.{◌≡◌, ◌≤◌};
 ghost use Rattle.ib_map.specs.Map.{lookup_answer};
 ghost use Rattle.ib_rule.specs.Pass.{IsAtRest, PassState};
-ghost use Rattle.ib_rule.specs.Views.{total};
+ghost use Rattle.ib_rule.specs.Under.{under};
 ghost use Rattle.ib_mtr.specs.Mtr.{IsMtr};
 ghost use Rattle.ib_cursor.specs.Descent.{HasFound};
+ghost use Rattle.ib_index.specs.Calls.{MayCall};
 ghost use Rattle.ib_index.specs.Lookups.{HasLookedUp};
 
 use ib_cursor::find;
@@ -36,15 +36,11 @@ pub(crate) fn look_up<L: Trees, S: Sleep>(
 ) -> Record
     requires mtr { IsMtr mtr.latches.now mtr.pass.now }
     requires root { 1 ≤ L.ROOTS }
-    requires found { (p : PassState) × HasFound mtr.latches.now.sizes
-        (L.lawful mtr.latches.now.sizes.pages) (by_place L.opening mtr.latches.now.sizes.pages) 1
-        key value p mtr.pass.now }
-    ensures looked_up { (p : PassState) → HasFound mtr.entry.latches.now.sizes
-        (L.lawful mtr.entry.latches.now.sizes.pages)
-        (by_place L.opening mtr.entry.latches.now.sizes.pages) 1 key value p
-        mtr.entry.pass.now → HasLookedUp mtr.entry.latches.now.sizes
-        (L.lawful mtr.entry.latches.now.sizes.pages)
-        (by_place L.opening mtr.entry.latches.now.sizes.pages) key result p mtr.exit.1.0.now }
+    requires found { (p : PassState)
+        × under L.Law mtr.latches.now HasFound 1 key value p mtr.pass.now }
+    ensures looked_up { (p : PassState)
+        → under L.Law mtr.entry.latches.now HasFound 1 key value p mtr.entry.pass.now
+        → under L.Law mtr.entry.latches.now HasLookedUp key result p mtr.exit.1.0.now }
     ensures rest { IsAtRest mtr.entry.latches.now mtr.exit.1.0.now }
     ensures looks { mtr.exit.1.0.now.view.looks.count
         ≡ mtr.entry.pass.now.view.looks.count }
@@ -69,12 +65,10 @@ pub(crate) fn get<L: Trees, R: Wait>(
     pass: &mut Pass,
     key: Key,
 ) -> Record
-    requires rest { IsAtRest latches.now pass.old }
-    requires room { total pass.old.view.grants + 16384 ≤ 2 ^ 52 }
+    requires may { MayCall latches.now pass.old }
     requires root { 1 ≤ L.ROOTS }
     ensures rest { IsAtRest latches.now pass.new }
-    ensures looked_up { HasLookedUp latches.now.sizes (L.lawful latches.now.sizes.pages)
-        (by_place L.opening latches.now.sizes.pages) key result pass.old pass.new }
+    ensures looked_up { under L.Law latches.now HasLookedUp key result pass.old pass.new }
 {
     let mut mtr = Mtr::start(latches, pass);
     let value = find(rt, &mut mtr, key);

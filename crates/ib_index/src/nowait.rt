@@ -1,11 +1,11 @@
 //! Lookups that do not wait.
 
-ghost use Rattle.std.specs.Prelude.{◌+◌, ◌*◌, ◌≤◌, ◌^◌, IfOk, IfErr};
+ghost use Rattle.std.specs.Prelude.{◌+◌, ◌*◌, ◌≤◌, IfOk, IfErr};
 ghost use Rattle.ib_heap.specs.declared.TheConstants.{MOST_LEVEL};
-ghost use Rattle.ib_logrec.specs.Log.{by_place};
 ghost use Rattle.ib_rule.specs.Pass.{IsAtRest};
-ghost use Rattle.ib_rule.specs.Views.{total};
-ghost use Rattle.ib_cursor.specs.Hindrance.{IsHindered};
+ghost use Rattle.ib_rule.specs.Under.{under};
+ghost use Rattle.ib_cursor.specs.Contention.{IsContended};
+ghost use Rattle.ib_index.specs.Calls.{MayCall};
 ghost use Rattle.ib_index.specs.Lookups.{HasLookedUp};
 
 use crate::lookup::look_up;
@@ -22,15 +22,12 @@ pub(crate) fn get_nowait<L: Trees, S: Sleep>(
     pass: &mut Pass,
     key: Key,
 ) -> Result<Record, NowaitFault>
-    requires rest { IsAtRest latches.now pass.old }
-    requires room { total pass.old.view.grants + 16384 ≤ 2 ^ 52 }
+    requires may { MayCall latches.now pass.old }
     requires root { 1 ≤ L.ROOTS }
     ensures rest { IsAtRest latches.now pass.new }
-    ensures looked_up { IfOk result (λ answer. HasLookedUp latches.now.sizes
-        (L.lawful latches.now.sizes.pages) (by_place L.opening latches.now.sizes.pages) key answer
+    ensures looked_up { IfOk result (λ answer. under L.Law latches.now HasLookedUp key answer
         pass.old pass.new) }
-    ensures hindered { IfErr result (λ fault. IsHindered latches.now.sizes
-        (L.lawful latches.now.sizes.pages) (by_place L.opening latches.now.sizes.pages) 1 key fault
+    ensures contended { IfErr result (λ fault. under L.Law latches.now IsContended 1 key fault
         pass.old pass.new) }
     ensures looks { pass.new.view.looks.count
         ≤ pass.old.view.looks.count + 2 * (MOST_LEVEL + 2) }

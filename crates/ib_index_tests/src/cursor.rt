@@ -1,8 +1,7 @@
 //! The descent in a new tree, whose root is its one leaf.
 
-ghost use Rattle.std.specs.Prelude.{◌≡◌, true, []};
-ghost use Rattle.ib_core.specs.Sessions.{idle};
-ghost use Rattle.ib_rule.specs.Pass.{IsOf};
+ghost use Rattle.std.specs.Prelude.{◌≡◌, []};
+ghost use Rattle.ib_rule.specs.Pass.{IsAtRest};
 ghost use Rattle.ib_rule.specs.Views.{no_grants};
 
 use ib_cursor::{Search, descend, descend_to_delete, descend_to_insert, find, find_nowait};
@@ -22,10 +21,8 @@ fn smallest<S: Sleep>(rt: &impl Abort, alloc: Global) -> Latches<TreeLaw, S> {
 }
 
 fn come<S: Sleep>(rt: &impl Abort, alloc: Global, table: &mut Latches<TreeLaw, S>) -> Pass
-    ensures own { IsOf table.new result }
-    ensures idle { result.view.session ≡ idle }
+    ensures rest { IsAtRest table.new result }
     ensures grants { result.view.grants ≡ no_grants }
-    ensures scratch { result.has_scratch ≡ true }
     ensures since { result.view.memory.since ≡ [] }
     ensures table { table.new.table ≡ table.old.table }
     ensures sizes { table.new.sizes ≡ table.old.sizes }

@@ -7,7 +7,7 @@ ghost use Rattle.ib_page.specs.Image.{next_of};
 ghost use Rattle.ib_page.specs.Work.{changed_of};
 ghost use Rattle.ib_rule.specs.Conditions.{MayGrow};
 ghost use Rattle.ib_rule.specs.Views.{total};
-ghost use Rattle.ib_mtr.specs.Mtr.{IsMtr};
+ghost use Rattle.ib_mtr.specs.Mtr.{IsMtr, IsStillMtr};
 
 use crate::rows::insert_up_to;
 use crate::space::{come, open};
@@ -56,9 +56,7 @@ fn leaf_and_next<L: Trees, R: Abort + Wait>(
     requires memo { mtr.old.pass.now.memo ≡ [] }
     requires none { mtr.old.pass.now.work ≡ [] }
     requires root { 1 ≤ L.ROOTS }
-    ensures mtr { IsMtr mtr.new.latches.now mtr.new.pass.now }
-    ensures latches { mtr.new.latches ≡ mtr.old.latches }
-    ensures pass { mtr.new.pass.ghost_name ≡ mtr.old.pass.ghost_name }
+    ensures still { IsStillMtr mtr.old mtr.new }
 {
     L::trees_law();
     let _ = mtr.geometry().pages();

@@ -43,7 +43,7 @@ pub(crate) fn leaf(
 
 // A node of level 1 with these records.
 pub(crate) fn node(rt: &impl Abort, clock: u64, records: &[(Key, u64)]) -> Image {
-    let mut page = Image::node(1, clock);
+    let mut page = Image::empty(1, clock);
     for (key, child) in records {
         page.insert(*key, *child).expect(rt, "there is room");
     }

@@ -1,8 +1,6 @@
 //! One session: what it is answered at which place.
 
-ghost use Rattle.std.specs.Prelude.{◌≡◌, true};
-ghost use Rattle.ib_core.specs.Sessions.{idle};
-ghost use Rattle.ib_rule.specs.Pass.{IsOf};
+ghost use Rattle.ib_rule.specs.Pass.{IsAtRest};
 
 use crate::space::{come, delete, get, insert, open, scan_keys};
 use ib_index::Index;
@@ -14,12 +12,8 @@ use std::sync::Wait;
 
 // Inserts the keys 1 to `count`, each with a value equal to it.
 pub(crate) fn insert_up_to<R: Abort + Wait>(rt: &R, index: &Index, pass: &mut Pass, count: u32)
-    requires own { IsOf index.now pass.old }
-    requires idle { pass.old.view.session ≡ idle }
-    requires scratch { pass.old.has_scratch ≡ true }
-    ensures own { IsOf index.now pass.new }
-    ensures idle { pass.new.view.session ≡ idle }
-    ensures scratch { pass.new.has_scratch ≡ true }
+    requires rest { IsAtRest index.now pass.old }
+    ensures rest { IsAtRest index.now pass.new }
 {
     for place in 0..count {
         let key = place as u64 + 1;

@@ -1,8 +1,7 @@
 //! A session on a new index, and the sessions of a script.
 
-ghost use Rattle.std.specs.Prelude.{◌≡◌, ◌<◌, ◌-◌, ◌^◌, true, length};
-ghost use Rattle.ib_core.specs.Sessions.{idle};
-ghost use Rattle.ib_rule.specs.Pass.{IsOf};
+ghost use Rattle.std.specs.Prelude.{◌≡◌, ◌<◌, ◌-◌, ◌^◌, length};
+ghost use Rattle.ib_rule.specs.Pass.{IsAtRest};
 ghost use Rattle.ib_rule.specs.Views.{nothing_seen, no_grants};
 ghost use Rattle.ib_script.specs.Script.{IsSmall};
 
@@ -17,9 +16,7 @@ use std::alloc::Global;
 use std::process::Abort;
 
 fn come(rt: &impl Abort, alloc: Global, index: &mut Index) -> Pass
-    ensures own { IsOf index.new result }
-    ensures idle { result.view.session ≡ idle }
-    ensures scratch { result.has_scratch ≡ true }
+    ensures rest { IsAtRest index.new result }
     ensures memory { result.view.memory ≡ nothing_seen }
     ensures grants { result.view.grants ≡ no_grants }
     ensures table { index.new.table ≡ index.old.table }

@@ -1,8 +1,7 @@
 //! Scans of a new tree, whose root is its one leaf.
 
-ghost use Rattle.std.specs.Prelude.{◌≡◌, true};
-ghost use Rattle.ib_core.specs.Sessions.{idle};
-ghost use Rattle.ib_rule.specs.Pass.{IsOf};
+ghost use Rattle.std.specs.Prelude.{◌≡◌};
+ghost use Rattle.ib_rule.specs.Pass.{IsAtRest};
 ghost use Rattle.ib_rule.specs.Views.{no_grants};
 
 use ib_latch::Latches;
@@ -21,10 +20,8 @@ fn smallest(rt: &impl Abort, alloc: Global) -> Latches<TreeLaw> {
 }
 
 fn come(rt: &impl Abort, alloc: Global, table: &mut Latches<TreeLaw>) -> Pass
-    ensures own { IsOf table.new result }
-    ensures idle { result.view.session ≡ idle }
+    ensures rest { IsAtRest table.new result }
     ensures grants { result.view.grants ≡ no_grants }
-    ensures scratch { result.has_scratch ≡ true }
     ensures table { table.new.table ≡ table.old.table }
     ensures sizes { table.new.sizes ≡ table.old.sizes }
 {

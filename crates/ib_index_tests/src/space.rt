@@ -1,8 +1,7 @@
 //! An index to test, and what its sessions may ask for.
 
-ghost use Rattle.std.specs.Prelude.{◌≡◌, ◌+◌, ◌*◌, ◌≤◌, ◌^◌, true};
-ghost use Rattle.ib_core.specs.Sessions.{idle};
-ghost use Rattle.ib_rule.specs.Pass.{IsOf};
+ghost use Rattle.std.specs.Prelude.{◌≡◌, ◌+◌, ◌*◌, ◌≤◌, ◌^◌};
+ghost use Rattle.ib_rule.specs.Pass.{IsAtRest};
 ghost use Rattle.ib_rule.specs.Views.{total};
 
 use ib_index::Index;
@@ -29,9 +28,7 @@ pub(crate) fn open(rt: &impl Abort, alloc: Global, log_words: u32) -> Index
 }
 
 pub(crate) fn come<S: Sleep>(rt: &impl Abort, alloc: Global, index: &mut Index<S>) -> Pass
-    ensures own { IsOf index.new result }
-    ensures idle { result.view.session ≡ idle }
-    ensures scratch { result.has_scratch ≡ true }
+    ensures rest { IsAtRest index.new result }
     ensures table { index.new.table ≡ index.old.table }
     ensures sizes { index.new.sizes ≡ index.old.sizes }
 {
@@ -67,36 +64,24 @@ pub(crate) fn insert<R: Abort + Wait>(
     key: u64,
     value: u64,
 ) -> Record
-    requires own { IsOf index.now pass.old }
-    requires idle { pass.old.view.session ≡ idle }
-    requires scratch { pass.old.has_scratch ≡ true }
-    ensures own { IsOf index.now pass.new }
-    ensures idle { pass.new.view.session ≡ idle }
-    ensures scratch { pass.new.has_scratch ≡ true }
+    requires rest { IsAtRest index.now pass.old }
+    ensures rest { IsAtRest index.now pass.new }
 {
     may_call(rt, pass);
     index.insert(rt, pass, Key::of_number(key), value)
 }
 
 pub(crate) fn delete<R: Abort + Wait>(rt: &R, index: &Index, pass: &mut Pass, key: u64) -> Record
-    requires own { IsOf index.now pass.old }
-    requires idle { pass.old.view.session ≡ idle }
-    requires scratch { pass.old.has_scratch ≡ true }
-    ensures own { IsOf index.now pass.new }
-    ensures idle { pass.new.view.session ≡ idle }
-    ensures scratch { pass.new.has_scratch ≡ true }
+    requires rest { IsAtRest index.now pass.old }
+    ensures rest { IsAtRest index.now pass.new }
 {
     may_call(rt, pass);
     index.delete(rt, pass, Key::of_number(key))
 }
 
 pub(crate) fn get<R: Abort + Wait>(rt: &R, index: &Index, pass: &mut Pass, key: u64) -> Record
-    requires own { IsOf index.now pass.old }
-    requires idle { pass.old.view.session ≡ idle }
-    requires scratch { pass.old.has_scratch ≡ true }
-    ensures own { IsOf index.now pass.new }
-    ensures idle { pass.new.view.session ≡ idle }
-    ensures scratch { pass.new.has_scratch ≡ true }
+    requires rest { IsAtRest index.now pass.old }
+    ensures rest { IsAtRest index.now pass.new }
 {
     may_call(rt, pass);
     index.get(rt, pass, Key::of_number(key))
@@ -110,12 +95,8 @@ pub(crate) fn scan_keys<R: Abort + Wait>(
     high: Key,
     out: &mut Chunks,
 ) -> Result<Record, More>
-    requires own { IsOf index.now pass.old }
-    requires idle { pass.old.view.session ≡ idle }
-    requires scratch { pass.old.has_scratch ≡ true }
-    ensures own { IsOf index.now pass.new }
-    ensures idle { pass.new.view.session ≡ idle }
-    ensures scratch { pass.new.has_scratch ≡ true }
+    requires rest { IsAtRest index.now pass.old }
+    ensures rest { IsAtRest index.now pass.new }
 {
     may_scan(rt, pass, out);
     scan(rt, index.latches(), pass, low, high, out)

@@ -3,7 +3,7 @@
 
 ghost use Rattle.std.specs.Prelude.{◌≡◌, true};
 ghost use Rattle.ib_core.specs.Sessions.{idle};
-ghost use Rattle.ib_rule.specs.Pass.{IsOf};
+ghost use Rattle.ib_rule.specs.Pass.{IsAtRest, IsOf};
 
 use crate::space::{come, get, insert, open, scan_keys};
 use ib_index::Index;
@@ -20,12 +20,8 @@ const ROUNDS: u64 = 200;
 
 // One session puts its pairs in, and finds each of them again and again.
 fn work<R: Abort + Wait>(rt: &R, index: &Index, pass: &mut Pass)
-    requires own { IsOf index.now pass.old }
-    requires idle { pass.old.view.session ≡ idle }
-    requires scratch { pass.old.has_scratch ≡ true }
-    ensures own { IsOf index.now pass.new }
-    ensures idle { pass.new.view.session ≡ idle }
-    ensures scratch { pass.new.has_scratch ≡ true }
+    requires rest { IsAtRest index.now pass.old }
+    ensures rest { IsAtRest index.now pass.new }
 {
     let number = pass.number() as u64;
     for pair in 0..PAIRS {

@@ -1,9 +1,9 @@
 -- What is owed, and what was written at a status.
-use Rattle.std.specs.Prelude.{◌≡◌, ◌⊎◌, ℕ, List, [], Some, None}
+use Rattle.std.specs.Prelude.{◌≡◌, ◌≢◌, ◌⊎◌, ℕ, List, [], Some, None}
 use Rattle.std.specs.declared.option.Option.{Option}
 use Rattle.std.specs.Io.KnownBytes.{Appends}
 use Rattle.ib_io.specs.BadLines.{fault_text}
-use Rattle.ib_io.specs.Faults.{AppendsFront}
+use Rattle.ib_io.specs.Faults.{AppendsFront, Rose}
 use Rattle.ib_io.specs.declared.bad_line.ScriptFault.{ScriptFault}
 use Rattle.ib_io.specs.declared.bad_line.ScriptFault.TheVariants.{BadLine, OutOfMemory as NoMemory}
 use Rattle.ib_io.specs.declared.line_kind.LineKind.{LineKind}
@@ -50,3 +50,8 @@ OwesFault NoMemory e = ⊥
 abbrev pub OwesLines : Option (ℕ × LineKind) → (List ℕ → Type 0) → Ending → Type 0
 OwesLines (Some bad) output e = e ≡ ends Script (fault_text bad.0 bad.1)
 OwesLines None output e = (e.status ≡ Done) × output e.text
+
+-- a status tells a fault of a side only where its count of faults rose, and where it tells none the count stands
+pub record TellsFault (fault status : Status) (before now : ℕ) : Type 0 where
+  pub calm : status ≢ fault → now ≡ before
+  pub rose : status ≡ fault → Rose before now

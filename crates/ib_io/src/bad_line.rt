@@ -1,9 +1,8 @@
 //! A bad line, and the one text that tells it.
 
-ghost use Rattle.std.specs.Prelude.{◌≡◌, ◌≢◌};
+ghost use Rattle.std.specs.Prelude.{◌≡◌};
 ghost use Rattle.ib_io.specs.BadLines.{kind_text};
-ghost use Rattle.ib_io.specs.Faults.{Rose};
-ghost use Rattle.ib_io.specs.Told.{IsOutOfMemoryWhere, OwesFault, Told};
+ghost use Rattle.ib_io.specs.Told.{IsOutOfMemoryWhere, OwesFault, TellsFault, Told};
 ghost use Rattle.ib_io.specs.Writer.{Puts};
 
 use crate::line_kind::LineKind;
@@ -95,8 +94,7 @@ impl Printed for BadLine {
 /// Ends for an input that is not read: writes its bad line, or nothing where memory ran out.
 pub fn refuse<K: Sink>(sink: &mut K, fault: ScriptFault) -> Status
     ensures told { Told (OwesFault fault) (IsOutOfMemoryWhere (fault ≡ ScriptFault.OutOfMemory)) (K.written sink.old) (K.written sink.new) result }
-    ensures calm { result ≢ Status.WriteFault → K.faults sink.new ≡ K.faults sink.old }
-    ensures write { result ≡ Status.WriteFault → Rose (K.faults sink.old) (K.faults sink.new) }
+    ensures write { TellsFault Status.WriteFault result (K.faults sink.old) (K.faults sink.new) }
 {
     match fault {
         ScriptFault::BadLine { line, kind } => {

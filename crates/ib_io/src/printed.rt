@@ -1,8 +1,8 @@
 //! What is printed as a whole, through one writer.
 
 ghost use Rattle.std.specs.Prelude.{◌≡◌, ◌≢◌, List, ℕ};
-ghost use Rattle.ib_io.specs.Faults.{AppendsAll, HasCause, Rose};
-ghost use Rattle.ib_io.specs.Told.{IsWritten, ends};
+ghost use Rattle.ib_io.specs.Faults.{AppendsAll, HasCause};
+ghost use Rattle.ib_io.specs.Told.{IsWritten, TellsFault, ends};
 ghost use Rattle.ib_io.specs.Writer.{IsFresh, Puts, sink_name, sink_of};
 
 use crate::sink::{Failed, Sink};
@@ -43,8 +43,7 @@ fn write_whole<K: Sink, P: Printed>(sink: &mut K, printed: P) -> Result<(), Fail
 pub fn tell<K: Sink, P: Printed>(sink: &mut K, printed: P, status: Status) -> Status
     requires { status ≢ Status.WriteFault }
     ensures told { IsWritten (ends status (P.text printed)) (K.written sink.old) (K.written sink.new) result }
-    ensures calm { result ≢ Status.WriteFault → K.faults sink.new ≡ K.faults sink.old }
-    ensures write { result ≡ Status.WriteFault → Rose (K.faults sink.old) (K.faults sink.new) }
+    ensures write { TellsFault Status.WriteFault result (K.faults sink.old) (K.faults sink.new) }
 {
     match write_whole(sink, printed) {
         Ok(()) => status,

@@ -1,15 +1,15 @@
 -- What a session has in SX and X on a latch.
-use Rattle.std.proofs.Common.{◌≡◌, ℕ, ◌+◌, ◌<◌, ◌≤◌, List, [], ◌∷◌, refl, arith}
+use Rattle.std.proofs.Common.{◌≡◌, ◌≢◌, ℕ, ◌+◌, ◌<◌, ◌≤◌, List, [], ◌∷◌, refl, arith}
 use Rattle.std.specs.Prelude.{nat_lt, cond}
 use Rattle.ib_levels.specs.declared.holding.Holding.{Holding}
 use Rattle.ib_levels.specs.declared.level.Level.{Level}
 use Rattle.ib_levels.specs.declared.level.Mode.{Mode}
 use Rattle.ib_levels.specs.declared.level.Mode.TheVariants.{S, Sx, X}
 use Rattle.ib_levels.specs.Holding.{on, changed_on}
-use Rattle.ib_levels.proofs.Counts.{by_equal, on-cons, on-changed, part, on_le}
+use Rattle.ib_levels.proofs.Counts.{by_equal, on-cons, on-changed, on-push_here, part, on_le}
 use Rattle.ib_core.specs.declared.session.Session.{Session}
 use Rattle.ib_core.specs.Sessions.{claims, sx_grants, x_grants}
-use Rattle.ib_core.specs.Takings.{one_more, holding_too}
+use Rattle.ib_core.specs.Takings.{first_holding, one_more, holding_too}
 use Rattle.ib_core.proofs.NumberTests.{if_true, if_false, lt_none, lt_some}
 use Rattle.ib_latch.specs.Tries.{held_with}
 
@@ -37,3 +37,9 @@ held_more mode l v a some = if_true (nat_lt 0 (claims l a)) _ _ (lt_some _ some)
 
 pub held_first : (mode : Mode) (l : ℕ) (v : Level) (a : Session) → claims l a ≡ 0 → held_with mode l v a ≡ holding_too mode l v a.held
 held_first mode l v a none = if_false (nat_lt 0 (claims l a)) _ _ (lt_none _ none)
+
+-- a first grant of SX or X is one
+pub claims_first : (mode : Mode) (l : ℕ) (v : Level) (held : List Holding) → mode ≢ S → 0 < on l (λ h. h.sx + h.x) (holding_too mode l v held)
+claims_first S l v held other = absurd (other refl)
+claims_first Sx l v held other = let e = on-push_here l (λ h. h.sx + h.x) held (first_holding Sx l v) refl in omega arith
+claims_first X l v held other = let e = on-push_here l (λ h. h.sx + h.x) held (first_holding X l v) refl in omega arith

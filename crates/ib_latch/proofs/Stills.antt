@@ -21,12 +21,14 @@ use Rattle.ib_rule.specs.declared.looks.Looks.{Looks}
 use Rattle.ib_rule.specs.declared.view.View.{View}
 use Rattle.ib_rule.specs.Afterwards.{looked_on, phased, tried_on, with_wait, word_loaded}
 use Rattle.ib_rule.specs.Laws.{Stores}
-use Rattle.ib_rule.specs.Pass.{PassState, with_view}
+use Rattle.ib_rule.specs.Pass.{PassState, IsOf, with_view}
+use Rattle.ib_rule.specs.Space.{SpaceState}
+use Rattle.ib_rule.specs.Takes.{IsStillOf}
 use Rattle.ib_rule.specs.Views.{with_grant, with_looks}
 use Rattle.ib_latch.specs.declared.tries.Reserve.{Reserve}
 use Rattle.ib_latch.specs.declared.tries.Reserve.TheVariants.{Owned, Next as NextWriter}
 use Rattle.ib_latch.specs.Tries.{HasTakenGrant, first_session, looked_at, lost_at, phase_by, phase_of, reserve_at, upgraded, won_with}
-use Rattle.ib_latch.specs.Waits.{EndsAsReserved, EndsOwned, IsStill, IsUpgraded, IsWon, reserved_by}
+use Rattle.ib_latch.specs.Waits.{EndsAsReserved, EndsOwned, EndsOwning, HasLockedX, HasLookedAsNext, HasTried, IsStill, IsUpgraded, IsWon, reserved_by}
 use Rattle.ib_latch.proofs.Takes.{won_taken}
 
 -- a pass in another phase, with other looks
@@ -198,3 +200,75 @@ module _ (l : ℕ) (v : Level) (w : LockWord) (p q : PassState) where
         signed = λ other. subst (λ (q : PassState). Stores l q.view.written) (sym is) (won_signed mode (first_session mode l v p.view.session.held w) other);
         looks = let more = ap (λ (k : Looks). k.count) looks in omega arith;
       }
+
+-- of one space still
+pub own_still : (space : SpaceState) (f : Phase) (p q : PassState) → IsOf space p → IsStill f p q → IsOf space q
+own_still space f p q own still = record {
+  table = ap (λ (q : PassState). q.table) still.same ∙ own.table;
+  sizes = ap (λ (q : PassState). q.sizes) still.same ∙ own.sizes;
+  closed = ap (λ (q : PassState). q.view.memory.append) still.same ∙ own.closed;
+}
+
+of_after : (space : SpaceState) (f : Phase) (p q s : PassState) → IsStill f p q → IsStillOf space q s → IsStillOf space p s
+of_after space f p q s still of = record { own = of.own; same = of.same ∙ ap (λ (q : PassState). with_view q s.view) still.same }
+
+none_after : (f g : Phase) (o : Option Reserve) (p q s : PassState) → IsStill f p q → IfNone o (IsStill g q s) → IfNone o (IsStill g p s)
+none_after f g (Some r) p q s still none = tt
+none_after f g None p q s still none = still_then f g p q s still none
+
+-- what tries came to after a session stood still
+pub tried_after : (space : SpaceState) (f : Phase) (mode : Mode) (l : ℕ) (v : Level) (o : Option Reserve) (p q s : PassState) → IsStill f p q → HasTried space mode l v o q s → HasTried space mode l v o p s
+tried_after space f mode l v o p q s still tried = record {
+  still = of_after space f p q s still tried.still;
+  some = some_after f mode l v o p q s still tried.some;
+  none = none_after f Free o p q s still tried.none;
+}
+
+-- .. and none was won
+pub none_tried : (space : SpaceState) (mode : Mode) (l : ℕ) (v : Level) (p q : PassState) → IsOf space p → IsStill Free p q → HasTried space mode l v None p q
+none_tried space mode l v p q own still = record {
+  still = record { own = own_still space Free p q own still; same = still.same ∙ ap (λ (v : View). with_view p v) (sym (ap (λ (q : PassState). q.view) still.same)) };
+  some = tt;
+  none = still;
+}
+
+-- looks of a next writer after it stood still
+pub looked_after : (space : SpaceState) (f : Phase) (l : ℕ) (v : Level) (is_owner : Bool) (p q s : PassState) → IsStill f p q → HasLookedAsNext space l v is_owner q s → HasLookedAsNext space l v is_owner p s
+looked_after space f l v is_owner p q s still looked = record {
+  own = looked.own;
+  owns = λ is. still_then f Free p q s still (looked.owns is);
+  owned = λ is. still_owned f l s.view.looks p q still (looked.owned is);
+  waits = λ is. still_then f (Next l v) p q s still (looked.waits is);
+}
+
+-- .. that is the next writer still
+pub waits_still : (space : SpaceState) (l : ℕ) (v : Level) (p q : PassState) → IsOf space p → IsStill (Next l v) p q → HasLookedAsNext space l v false p q
+waits_still space l v p q own still = record { own = own_still space (Next l v) p q own still; owns = λ is. absurd (cc); owned = λ is. absurd (cc); waits = λ _. still }
+
+-- X that was reserved, and is owned by now
+pub locked_still : (held : List Holding) (l : ℕ) (phase : Phase) (p q s : PassState) → HasTakenGrant X held phase p.view q.view → Stores l q.view.written → p.view.looks.count ≤ q.view.looks.count
+    → IsStill Free q s → EndsOwning (sx_grants l q.view.session) l s.view.looks → HasLockedX held l p s
+locked_still held l phase p q s taken signed more still ends = record {
+  taken = taken_still Free X held phase p q s taken still;
+  ends = λ _. subst (λ (sx : ℕ). EndsOwning sx l s.view.looks) (sym (ap (λ (s : PassState). sx_grants l s.view.session) still.same)) ends;
+  signed = subst (Stores l) (sym (ap (λ (s : PassState). s.view.written) still.same)) signed;
+  looks = let a = still.looks in omega arith;
+}
+
+-- a look of the next writer, after which it is free, or is not
+pub looked_free : (space : SpaceState) (l : ℕ) (v : Level) (w : LockWord) (p q : PassState) → IsOf space p → p.view.session.phase ≡ Next l v
+    → q ≡ with_view p (looked_on l w (phased (word_loaded l (cell_of w.0) p.view.session p.view.session.phase) p.view)) → q.view.session.phase ≡ Free → HasLookedAsNext space l v true p q
+looked_free space l v w p q own next is free =
+    let still : IsStill Free p q = subst (λ (f : Phase). IsStill f p q) (sym (ap (λ (q : PassState). q.view.session.phase) is) ∙ free) (looked_still (word_loaded l (cell_of w.0) p.view.session p.view.session.phase) l w p q is) in
+    record { own = own_still space Free p q own still; owns = λ _. still; owned = λ _. next_owned l w p q is free v next; waits = λ e. absurd (cc) }
+
+pub looked_next : (space : SpaceState) (l : ℕ) (v : Level) (w : LockWord) (p q : PassState) → IsOf space p → p.view.session.phase ≡ Next l v
+    → q ≡ with_view p (looked_on l w (phased (word_loaded l (cell_of w.0) p.view.session p.view.session.phase) p.view)) → q.view.session.phase ≢ Free → HasLookedAsNext space l v false p q
+looked_next space l v w p q own next is busy = waits_still space l v p q own (by_test (owns_x_at (sx_grants l p.view.session) (word_in (cell_of w.0))) after)
+  where
+    after : word_loaded l (cell_of w.0) p.view.session p.view.session.phase ≡ (if owns_x_at (sx_grants l p.view.session) (word_in (cell_of w.0)) then Free else Next l v)
+    after = ap (word_loaded l (cell_of w.0) p.view.session) next ∙ ap (λ b. if b then (if owns_x_at (sx_grants l p.view.session) (word_in (cell_of w.0)) then Free else Next l v) else Next l v) (eq-eqb l l refl)
+
+    by_test : (b : Bool) → word_loaded l (cell_of w.0) p.view.session p.view.session.phase ≡ (if b then Free else Next l v) → IsStill (Next l v) p q
+    by_test true e = absurd (busy (ap (λ (q : PassState). q.view.session.phase) is ∙ e))
+    by_test false e = subst (λ (f : Phase). IsStill f p q) e (looked_still (word_loaded l (cell_of w.0) p.view.session p.view.session.phase) l w p q is)

@@ -1,7 +1,8 @@
 -- What a step that took a grant leaves.
-use Rattle.std.proofs.Common.{◌≡◌, inr, subst, ℕ, List, Some, refl, sym, true, false, Bool, ap, ◌∙◌, ℤ}
+use Rattle.std.proofs.Common.{◌≡◌, inr, subst, ℕ, List, Some, refl, sym, true, false, Bool, ap, ◌∙◌, ℤ, pos, ◌-ℤ◌}
 use Rattle.std.specs.Prelude.{if◌then◌else◌}
 use Rattle.ib_word.specs.declared.word.LockWord.{LockWord}
+use Rattle.ib_word.specs.declared.word.TheConstants.{X_LOCK_DECR}
 use Rattle.ib_levels.specs.declared.holding.Holding.{Holding}
 use Rattle.ib_levels.specs.declared.level.Level.{Level}
 use Rattle.ib_levels.specs.declared.level.Mode.{Mode}
@@ -12,14 +13,14 @@ use Rattle.ib_core.specs.declared.event.Answer.TheVariants.{Granted, Reserved}
 use Rattle.ib_core.specs.declared.session.Session.{Session}
 use Rattle.ib_word.specs.Word.{is_drained}
 use Rattle.ib_core.specs.Responses.{response}
-use Rattle.ib_core.specs.Takings.{reserving}
+use Rattle.ib_core.specs.Takings.{first_response, first_weight, reserving}
 use Rattle.ib_rule.specs.declared.view.View.{View}
 use Rattle.ib_rule.specs.Afterwards.{granted, looked_on, phased, tried_on, word_loaded}
 use Rattle.ib_rule.specs.Laws.{Stores}
 use Rattle.ib_rule.specs.Views.{with_grant}
 use Rattle.ib_rule.specs.Pass.{PassState, with_view}
 use Rattle.ib_latch.specs.declared.tries.Reserve.TheVariants.{Owned, Next as NextWriter}
-use Rattle.ib_latch.specs.Tries.{HasTakenGrant, looked_at, phase_of, reserve_at, signed_on, won_with}
+use Rattle.ib_latch.specs.Tries.{HasTakenGrant, looked_at, phase_by, phase_of, reserve_at, signed_on, won_with}
 
 -- a session that is free is as before after a look
 pub free_look : (l n : ℕ) (v : View) → v.session.phase ≡ Free → phased (word_loaded l n v.session v.session.phase) v ≡ v
@@ -56,3 +57,9 @@ pub won_taken : (mode : Mode) (l : ℕ) (w : LockWord) (a : Session) (p q : Pass
 won_taken S l w a p q is = granted_taken S a p q (tried_on l w w (looked_on l w p.view)) is refl refl refl
 won_taken Sx l w a p q is = signed_taken Sx a.held a.phase p.view l _ q is (granted_taken Sx a p _ (tried_on l w w (looked_on l w p.view)) refl refl refl refl)
 won_taken X l w a p q is = signed_taken X a.held a.phase p.view l _ q is (granted_taken X a p _ (tried_on l w w (looked_on l w p.view)) refl refl refl refl)
+
+-- the session after a first grant, as the response to it tells
+pub first_is : (mode : Mode) (l : ℕ) (v : Level) (w : ℤ) (held : List Holding) → (first_response mode l v (w -ℤ pos (first_weight mode)) held).session ≡ record { held = held; phase = phase_by mode l v w }
+first_is S l v w held = refl
+first_is Sx l v w held = refl
+first_is X l v w held = reserving_is l v (w -ℤ pos X_LOCK_DECR) held

@@ -1,5 +1,5 @@
 -- What a try is: a look at the lock word, and at most one exchange of it.
-use Rattle.std.specs.Prelude.{◌≡◌, ◌≢◌, ℕ, ◌<◌, ◌+◌, ◌-◌, Bool, true, false, if◌then◌else◌, nat_lt, List, Some, ℤ, pos, ◌-ℤ◌, Result, Ok, Err}
+use Rattle.std.specs.Prelude.{◌≡◌, ◌≢◌, ℕ, ◌<◌, ◌+◌, ◌-◌, Bool, true, false, if◌then◌else◌, nat_lt, List, Some, ℤ, pos, ◌-ℤ◌, Result, Ok, Err, IfErr}
 use Rattle.std.specs.Ordering.{int_eq}
 use Rattle.ib_word.specs.Word.{cell_of, is_drained}
 use Rattle.ib_word.specs.Weight.{x_weight}
@@ -113,6 +113,10 @@ pub record IsUnchanged (more : ℕ) (before after : View) : Type 0 where
   pub memory : after.memory ≡ before.memory
   pub looks : after.looks.count ≡ before.looks.count + more
   pub waits : after.looks.waits ≡ before.looks.waits
+
+-- .. where a try was not won
+abbrev pub IsUnchangedAtFault : {A : Type 0} → Result A TryFault → PassState → PassState → Type 0
+IsUnchangedAtFault result p q = IfErr result (λ fault. IsUnchanged (looks_of fault) p.view q.view)
 
 -- one more grant of the mode: this is held then, in this phase, of the log and the pages as much is known as before, and the session is the writer still of each latch of which it was
 pub record HasTakenGrant (mode : Mode) (held : List Holding) (phase : Phase) (before after : View) : Type 0 where

@@ -1,13 +1,15 @@
 -- What a session that waits for a latch is, and what a lock call comes to.
-use Rattle.std.specs.Prelude.{◌≡◌, ◌≢◌, ◌⊎◌, ℕ, ◌+◌, ◌<◌, ◌≤◌, Bool, true, false, List, ◌∷◌, Some, None, ℤ, pos, ◌-ℤ◌, Result, Ok, Err}
+use Rattle.std.specs.Prelude.{◌≡◌, ◌≢◌, ◌⊎◌, ℕ, ◌+◌, ◌<◌, ◌≤◌, Bool, true, false, List, ◌∷◌, Option, Some, None, IfSome, IfNone, ℤ, pos, ◌-ℤ◌, Result, Ok, Err}
 use Rattle.ib_word.specs.Word.{cell_of, word_in, is_drained}
 use Rattle.ib_word.specs.declared.word.LockWord.{LockWord}
 use Rattle.ib_word.specs.declared.word.TheConstants.{X_LOCK_DECR}
 use Rattle.ib_levels.specs.declared.level.Level.{Level}
+use Rattle.ib_levels.specs.declared.holding.Holding.{Holding}
 use Rattle.ib_levels.specs.declared.level.Mode.{Mode}
 use Rattle.ib_levels.specs.declared.level.Mode.TheVariants.{S as ModeS, Sx as ModeSx, X as ModeX}
 use Rattle.ib_core.specs.declared.phase.Phase.{Phase}
 use Rattle.ib_core.specs.declared.phase.Phase.TheVariants.{Asleep, Checked, Flagged, Free, Next, NextArmed, NextAsleep, NextChecked}
+use Rattle.ib_core.specs.Sessions.{sx_grants, x_grants}
 use Rattle.ib_core.specs.Table.{owns_x_at}
 use Rattle.ib_levels.specs.Holding.{changed_on}
 use Rattle.ib_levels.specs.declared.level.Level.TheVariants.{Log}
@@ -19,7 +21,9 @@ use Rattle.ib_rule.specs.declared.looks.Look.{Look}
 use Rattle.ib_rule.specs.declared.looks.Looks.{Looks}
 use Rattle.ib_rule.specs.Afterwards.{looked_on, phased}
 use Rattle.ib_rule.specs.Laws.{Stores}
-use Rattle.ib_rule.specs.Pass.{PassState, with_view}
+use Rattle.ib_rule.specs.Pass.{PassState, IsOf, with_view}
+use Rattle.ib_rule.specs.Space.{SpaceState}
+use Rattle.ib_rule.specs.Takes.{IsStillOf}
 use Rattle.ib_rule.specs.Views.{with_looks}
 use Rattle.ib_latch.specs.declared.tries.Reserve.{Reserve}
 use Rattle.ib_latch.specs.declared.tries.Reserve.TheVariants.{Owned}
@@ -92,6 +96,26 @@ pub record IsWon (mode : Mode) (l : ℕ) (v : Level) (r : Reserve) (p q : PassSt
   pub owns_x : mode ≡ ModeX → EndsAsReserved l q.view.session.phase q.view.looks
   pub signed : mode ≢ ModeS → Stores l q.view.written
   pub looks : p.view.looks.count ≤ q.view.looks.count
+
+-- tries for a first grant of the mode: one was won, or none, and the session is in the middle of nothing still
+pub record HasTried (space : SpaceState) (mode : Mode) (l : ℕ) (v : Level) (result : Option Reserve) (p q : PassState) : Type 0 where
+  pub still : IsStillOf space p q
+  pub some : IfSome result (λ r. IsWon mode l v r p q)
+  pub none : IfNone result (IsStill Free p q)
+
+-- X was taken, and is owned: this is held then, where no X was had before the last look tells that it is owned, and the session is the writer
+pub record HasLockedX (held : List Holding) (l : ℕ) (p q : PassState) : Type 0 where
+  pub taken : HasTakenGrant ModeX held Free p.view q.view
+  pub ends : x_grants l p.view.session ≡ 0 → EndsOwning (sx_grants l q.view.session) l q.view.looks
+  pub signed : Stores l q.view.written
+  pub looks : p.view.looks.count ≤ q.view.looks.count
+
+-- looks of the next writer: where it is the owner then, the last one tells that, and the session is in the middle of nothing, and else it is the next writer still
+pub record HasLookedAsNext (space : SpaceState) (l : ℕ) (v : Level) (is_owner : Bool) (p q : PassState) : Type 0 where
+  pub own : IsOf space q
+  pub owns : is_owner ≡ true → IsStill Free p q
+  pub owned : is_owner ≡ true → EndsOwned (sx_grants l p.view.session) l q.view.looks
+  pub waits : is_owner ≡ false → IsStill (Next l v) p q
 
 -- X taken beside one's own SX alone, by a won exchange, which came to this
 pub record IsUpgraded (l : ℕ) (r : Reserve) (p q : PassState) : Type 0 where

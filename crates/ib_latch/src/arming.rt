@@ -12,6 +12,7 @@ ghost use Rattle.ib_core.specs.Holders.{CanWish};
 ghost use Rattle.ib_rule.specs.Afterwards.{phased, with_wait};
 ghost use Rattle.ib_rule.specs.Conditions.{MayGrow};
 ghost use Rattle.ib_rule.specs.Pass.{IsOf, with_view};
+ghost use Rattle.ib_rule.specs.Takes.{IsStillOf};
 ghost use Rattle.ib_latch.specs.Waits.{IsRecheck, MayStandDown, latch_waited, reserved_by};
 
 use crate::latches::Latches;
@@ -48,8 +49,7 @@ impl<L: Law, S: Sleep> Latches<L, S> {
         requires flagged { (mode : Mode) × (level : Level) × (generation : ℕ)
             × (pass.old.view.session.phase ≡ Flagged latch.0 mode level generation) }
         requires grows { MayGrow pass.old.view }
-        ensures own { IsOf self.now pass.new }
-        ensures same { pass.new ≡ with_view pass.old pass.new.view }
+        ensures still { IsStillOf self.now pass.old pass.new }
         ensures tried { (mode : Mode) (level : Level) (generation : ℕ)
             → pass.old.view.session.phase ≡ Flagged latch.0 mode level generation
             → IsRecheck mode latch.0 level generation pass.old result pass.new }

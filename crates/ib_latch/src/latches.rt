@@ -1,13 +1,11 @@
 //! A space whose sessions take its latches, from its opening on.
 
-ghost use Rattle.std.specs.Prelude.{◌≡◌, ◌↔◌, ℕ, ◌+◌, ◌-◌, ◌≤◌, true, [], ◌∷◌, length, Err, IfOk, IfErr};
-ghost use mathlib.Core.List.{IsPrefix};
-ghost use Rattle.ib_core.specs.Sessions.{idle};
-ghost use Rattle.ib_rule.specs.declared.view.Role.TheVariants.{Session};
+ghost use Rattle.std.specs.Prelude.{◌≡◌, ℕ, ◌+◌, ◌-◌, ◌≤◌, true, [], ◌∷◌, length, Err, IfOk, IfErr};
+ghost use Rattle.ib_rule.specs.Connects.{HasConnected, HasMet};
+ghost use Rattle.ib_rule.specs.Under.{under_lawful};
 ghost use Rattle.ib_rule.specs.Closed.{IsClosed};
-ghost use Rattle.ib_rule.specs.Views.{ended_as, longer, seated, seeing};
-ghost use Rattle.ib_rule.specs.Pass.{IsFrom, IsOf, with_view};
-ghost use Rattle.ib_rule.specs.Stores.{IsLook};
+ghost use Rattle.ib_rule.specs.Views.{ended_as, longer};
+ghost use Rattle.ib_rule.specs.Pass.{IsAtRest, IsFrom};
 
 use crate::parkers::Parkers;
 use crate::sleep::Sleep;
@@ -74,15 +72,7 @@ impl<L: Law, S: Sleep> Latches<L, S> {
     /// free, and the scratch in it. Refused as `TooManySessions`, with 1,024, exactly where so many were drawn.
     /// Where memory lacks, no number is drawn.
     pub fn connect(&mut self, alloc: Global) -> Result<Pass, ConnectFault>
-        ensures pass { IfOk result (λ p. IsOf self.old p × (p.number ≡ self.old.drawn + 1)
-            × (p.view ≡ seated (Session (self.old.drawn + 1))) × (p.has_scratch ≡ true)) }
-        ensures drawn { IfOk result (λ p. self.new
-            ≡ record self.old { drawn = self.old.drawn + 1 }) }
-        ensures err { IfErr result (λ e. self.new ≡ self.old) }
-        ensures full { (result ≡ Err (ConnectFault.TooManySessions 1024))
-            ↔ (self.old.drawn ≡ 1024) }
-        ensures told { (n : ℕ) → result ≡ Err (ConnectFault.TooManySessions n) → n ≡ 1024 }
-        ensures few { self.old.drawn ≤ 1024 }
+        ensures { HasConnected self.old self.new result }
     {
         let drawn = self.space.drawn();
         if drawn < MOST_SESSIONS && self.sleep.admit(drawn + 1).is_err() {
@@ -94,9 +84,7 @@ impl<L: Law, S: Sleep> Latches<L, S> {
     /// The session ends, and its lists are kept. It holds nothing, its phase is free, and its
     /// scratch is in the pass.
     pub fn disconnect(&mut self, pass: Pass)
-        requires own { IsOf self.old pass }
-        requires idle { pass.view.session ≡ idle }
-        requires scratch { pass.has_scratch ≡ true }
+        requires { IsAtRest self.old pass }
         ensures { self.new ≡ record self.old { ended = ended_as pass.view ∷ self.old.ended } }
     {
         self.space.disconnect(pass);
@@ -108,12 +96,7 @@ impl<L: Law, S: Sleep> Latches<L, S> {
     pub fn meet(&self, to: &mut Pass, from: &mut Pass)
         requires to { IsFrom self.now to.old }
         requires from { IsFrom self.now from.old }
-        ensures from { from.new ≡ from.old }
-        ensures to { to.new ≡ with_view to.old
-            (seeing (longer to.old.view.memory.seen from.old.view.memory.seen) to.old.view) }
-        ensures looked { IsLook self.now.sizes (L.lawful self.now.sizes.pages) to.old.view
-            to.new.view.memory.seen }
-        ensures theirs { IsPrefix from.old.view.memory.seen to.new.view.memory.seen }
+        ensures { under_lawful L.Law self.now HasMet to.old from.old to.new from.new }
     {
         self.space.meet(to, from);
     }

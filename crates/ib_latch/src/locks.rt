@@ -1,19 +1,19 @@
 //! The calls that block until a latch is theirs: rounds of tries, and then sleep (sync0rw,
 //! `rw_lock_s_lock_spin`, `rw_lock_sx_lock_func`, `rw_lock_x_lock_func`).
 
-ghost use Rattle.std.specs.Prelude.{◌≡◌, ◌<◌, ◌≤◌, IfNone, IfSome, IsTrue, false};
+ghost use Rattle.std.specs.Prelude.{◌≡◌, ◌<◌, ◌≤◌, IfNone, IfSome};
 ghost use Rattle.ib_levels.specs.declared.level.Mode.TheVariants.{S as ModeS, Sx as ModeSx, X as ModeX};
 ghost use Rattle.ib_layout.specs.Places.{latches_of};
 ghost use Rattle.ib_core.specs.declared.phase.Phase.TheVariants.{Free, Next};
-ghost use Rattle.ib_core.specs.Holders.{CanWish};
-ghost use Rattle.ib_core.specs.Sessions.{claims, sx_grants, x_grants};
+ghost use Rattle.ib_core.specs.Sessions.{claims, sx_grants};
 ghost use Rattle.ib_levels.specs.Holding.{changed_on};
 ghost use Rattle.ib_core.specs.Takings.{holding_too, is_given_at, one_more};
-ghost use Rattle.ib_rule.specs.Conditions.{MayClaim, MayGrow};
 ghost use Rattle.ib_rule.specs.Laws.{Stores};
-ghost use Rattle.ib_rule.specs.Pass.{IsOf, with_view};
+ghost use Rattle.ib_rule.specs.Pass.{IsOf};
+ghost use Rattle.ib_rule.specs.Takes.{IsStillOf, MayTake, MayTakeMore, MayUpgrade};
+ghost use Rattle.ib_rule.specs.Turns.{IsInPhase};
 ghost use Rattle.ib_latch.specs.Tries.{HasTakenGrant, held_with};
-ghost use Rattle.ib_latch.specs.Waits.{EndsAsReserved, EndsOwned, EndsOwning, EndsWon, HasReserved, IsStill, IsUpgraded, IsWon};
+ghost use Rattle.ib_latch.specs.Waits.{EndsAsReserved, EndsOwned, EndsOwning, EndsWon, HasLockedX, HasLookedAsNext, HasReserved, HasTried, IsStill, IsUpgraded, IsWon};
 
 use crate::arming::reserved;
 use crate::latches::Latches;
@@ -36,15 +36,9 @@ impl<L: Law, S: Sleep> Latches<L, S> {
     // A first try for the mode. None where it was not won.
     #[tactic(auto, using(crate::proofs::Stills::won_is))]
     #[inline(always)]
-    fn attempt(&self, pass: &mut Pass, mode: Mode, latch: Latch, level: Level) -> Option<Reserve>
-        requires own { IsOf self.now pass.old }
-        requires latch { latch.0 < latches_of self.now.sizes }
-        requires grows { MayGrow pass.old.view }
-        requires may { CanWish latch.0 level pass.old.view.session }
-        ensures own { IsOf self.now pass.new }
-        ensures same { pass.new ≡ with_view pass.old pass.new.view }
-        ensures some { IfSome result (λ r. IsWon mode latch.0 level r pass.old pass.new) }
-        ensures none { IfNone result (IsStill Free pass.old pass.new) }
+    fn try_once(&self, pass: &mut Pass, mode: Mode, latch: Latch, level: Level) -> Option<Reserve>
+        requires may { MayTake self.now latch.0 level pass.old }
+        ensures { HasTried self.now mode latch.0 level result pass.old pass.new }
     {
         match self.first_try(pass, mode, latch, level) {
             Ok(word) => Some(reserved(mode, word)),
@@ -55,18 +49,12 @@ impl<L: Law, S: Sleep> Latches<L, S> {
 
     // Rounds of first tries, with a pause between them. None where none was won.
     fn spin(&self, pass: &mut Pass, mode: Mode, latch: Latch, level: Level) -> Option<Reserve>
-        requires own { IsOf self.now pass.old }
-        requires latch { latch.0 < latches_of self.now.sizes }
-        requires grows { MayGrow pass.old.view }
-        requires may { CanWish latch.0 level pass.old.view.session }
-        ensures own { IsOf self.now pass.new }
-        ensures same { pass.new ≡ with_view pass.old pass.new.view }
-        ensures some { IfSome result (λ r. IsWon mode latch.0 level r pass.old pass.new) }
-        ensures none { IfNone result (IsStill Free pass.old pass.new) }
+        requires may { MayTake self.now latch.0 level pass.old }
+        ensures { HasTried self.now mode latch.0 level result pass.old pass.new }
     {
         let backoff = Backoff::new();
         for _ in 0..SPIN_ROUNDS {
-            let reserve = self.attempt(pass, mode, latch, level);
+            let reserve = self.try_once(pass, mode, latch, level);
             if reserve.is_some() {
                 return reserve;
             }
@@ -77,15 +65,9 @@ impl<L: Law, S: Sleep> Latches<L, S> {
 
     // A try for X beside one's own SX alone. None where it was not won.
     #[tactic(auto, using(crate::proofs::Stills::upgraded_is))]
-    fn attempt_upgrade(&self, pass: &mut Pass, latch: Latch) -> Option<Reserve>
-        requires own { IsOf self.now pass.old }
-        requires latch { latch.0 < latches_of self.now.sizes }
-        requires free { pass.old.view.session.phase ≡ Free }
-        requires grows { MayGrow pass.old.view }
-        requires owns_sx { 0 < sx_grants latch.0 pass.old.view.session }
-        requires no_x { x_grants latch.0 pass.old.view.session ≡ 0 }
-        ensures own { IsOf self.now pass.new }
-        ensures same { pass.new ≡ with_view pass.old pass.new.view }
+    fn upgrade_once(&self, pass: &mut Pass, latch: Latch) -> Option<Reserve>
+        requires may { MayUpgrade self.now latch.0 pass.old }
+        ensures still { IsStillOf self.now pass.old pass.new }
         ensures some { IfSome result (λ r. IsUpgraded latch.0 r pass.old pass.new) }
         ensures none { IfNone result (IsStill Free pass.old pass.new) }
     {
@@ -99,15 +81,8 @@ impl<L: Law, S: Sleep> Latches<L, S> {
     // Rounds of looks whether the next writer owns X, with a pause between them.
     #[tactic(auto, using(crate::proofs::Stills::still_owned))]
     fn spin_ready(&self, pass: &mut Pass, latch: Latch, level: Level) -> bool
-        requires own { IsOf self.now pass.old }
-        requires latch { latch.0 < latches_of self.now.sizes }
-        requires next { pass.old.view.session.phase ≡ Next latch.0 level }
-        ensures own { IsOf self.now pass.new }
-        ensures same { pass.new ≡ with_view pass.old pass.new.view }
-        ensures owns { IsTrue result → IsStill Free pass.old pass.new }
-        ensures owned { IsTrue result → EndsOwned (sx_grants latch.0 pass.old.view.session)
-            latch.0 pass.new.view.looks }
-        ensures waits { result ≡ false → IsStill (Next latch.0 level) pass.old pass.new }
+        requires next { IsInPhase self.now latch.0 (Next latch.0 level) pass.old }
+        ensures { HasLookedAsNext self.now latch.0 level result pass.old pass.new }
     {
         let backoff = Backoff::new();
         for _ in 0..SPIN_ROUNDS {
@@ -121,15 +96,8 @@ impl<L: Law, S: Sleep> Latches<L, S> {
 
     // A look whether the next writer owns X.
     fn looks_ready(&self, pass: &mut Pass, latch: Latch, level: Level) -> bool
-        requires own { IsOf self.now pass.old }
-        requires latch { latch.0 < latches_of self.now.sizes }
-        requires next { pass.old.view.session.phase ≡ Next latch.0 level }
-        ensures own { IsOf self.now pass.new }
-        ensures same { pass.new ≡ with_view pass.old pass.new.view }
-        ensures owns { IsTrue result → IsStill Free pass.old pass.new }
-        ensures owned { IsTrue result → EndsOwned (sx_grants latch.0 pass.old.view.session)
-            latch.0 pass.new.view.looks }
-        ensures waits { result ≡ false → IsStill (Next latch.0 level) pass.old pass.new }
+        requires next { IsInPhase self.now latch.0 (Next latch.0 level) pass.old }
+        ensures { HasLookedAsNext self.now latch.0 level result pass.old pass.new }
     {
         let _ = level;
         self.space.load_word(pass, latch);
@@ -141,17 +109,9 @@ impl<L: Law> Latches<L, Parkers> {
     /// Takes S, and waits until it is granted (sync0rw, `rw_lock_s_lock_func`).
     #[inline(always)]
     pub fn lock_s<R: Wait>(&self, rt: &R, pass: &mut Pass, latch: Latch, level: Level)
-        requires own { IsOf self.now pass.old }
-        requires latch { latch.0 < latches_of self.now.sizes }
-        requires grows { MayGrow pass.old.view }
-        requires may { CanWish latch.0 level pass.old.view.session }
-        ensures own { IsOf self.now pass.new }
-        ensures same { pass.new ≡ with_view pass.old pass.new.view }
-        ensures taken { HasTakenGrant ModeS
-            (holding_too ModeS latch.0 level pass.old.view.session.held) Free pass.old.view
-            pass.new.view }
-        ensures won { EndsWon (is_given_at ModeS) latch.0 pass.new.view.looks }
-        ensures looks { pass.old.view.looks.count ≤ pass.new.view.looks.count }
+        requires may { MayTake self.now latch.0 level pass.old }
+        ensures still { IsStillOf self.now pass.old pass.new }
+        ensures won { IsWon ModeS latch.0 level Reserve.Owned pass.old pass.new }
     {
         self.lock_first(rt, pass, Mode::S, latch, level);
     }
@@ -159,13 +119,8 @@ impl<L: Law> Latches<L, Parkers> {
     /// Takes SX on a latch that the session does not read, and waits until it is granted (WL#6363,
     /// `rw_lock_sx_lock_func`). Beside one's own SX or X it is granted at once.
     pub fn lock_sx<R: Wait>(&self, rt: &R, pass: &mut Pass, latch: Latch, level: Level)
-        requires own { IsOf self.now pass.old }
-        requires latch { latch.0 < latches_of self.now.sizes }
-        requires free { pass.old.view.session.phase ≡ Free }
-        requires grows { MayGrow pass.old.view }
-        requires may { MayClaim latch.0 level pass.old.view.session }
-        ensures own { IsOf self.now pass.new }
-        ensures same { pass.new ≡ with_view pass.old pass.new.view }
+        requires may { MayTakeMore self.now latch.0 level pass.old }
+        ensures still { IsStillOf self.now pass.old pass.new }
         ensures taken { HasTakenGrant ModeSx
             (held_with ModeSx latch.0 level pass.old.view.session) Free pass.old.view
             pass.new.view }
@@ -187,20 +142,10 @@ impl<L: Law> Latches<L, Parkers> {
     /// writer while readers remain (sync0rw, `rw_lock_x_lock_func`, `rw_lock_x_lock_wait_func`).
     /// Beside one's own X it is granted at once.
     pub fn lock_x<R: Wait>(&self, rt: &R, pass: &mut Pass, latch: Latch, level: Level)
-        requires own { IsOf self.now pass.old }
-        requires latch { latch.0 < latches_of self.now.sizes }
-        requires free { pass.old.view.session.phase ≡ Free }
-        requires grows { MayGrow pass.old.view }
-        requires may { MayClaim latch.0 level pass.old.view.session }
-        ensures own { IsOf self.now pass.new }
-        ensures same { pass.new ≡ with_view pass.old pass.new.view }
-        ensures taken { HasTakenGrant ModeX (held_with ModeX latch.0 level pass.old.view.session)
-            Free pass.old.view pass.new.view }
-        ensures ends { x_grants latch.0 pass.old.view.session ≡ 0
-            → EndsOwning (sx_grants latch.0 pass.new.view.session) latch.0
-            pass.new.view.looks }
-        ensures signed { Stores latch.0 pass.new.view.written }
-        ensures looks { pass.old.view.looks.count ≤ pass.new.view.looks.count }
+        requires may { MayTakeMore self.now latch.0 level pass.old }
+        ensures still { IsStillOf self.now pass.old pass.new }
+        ensures locked { HasLockedX (held_with ModeX latch.0 level pass.old.view.session) latch.0
+            pass.old pass.new }
     {
         match claim_on(pass, latch) {
             Claim::Nothing => self.lock_new_x(rt, pass, latch, level),
@@ -219,15 +164,11 @@ impl<L: Law> Latches<L, Parkers> {
         latch: Latch,
         level: Level,
     ) -> Reserve
-        requires own { IsOf self.now pass.old }
-        requires latch { latch.0 < latches_of self.now.sizes }
-        requires grows { MayGrow pass.old.view }
-        requires may { CanWish latch.0 level pass.old.view.session }
-        ensures own { IsOf self.now pass.new }
-        ensures same { pass.new ≡ with_view pass.old pass.new.view }
+        requires may { MayTake self.now latch.0 level pass.old }
+        ensures still { IsStillOf self.now pass.old pass.new }
         ensures won { IsWon mode latch.0 level result pass.old pass.new }
     {
-        if let Some(reserve) = self.attempt(pass, mode, latch, level) {
+        if let Some(reserve) = self.try_once(pass, mode, latch, level) {
             return reserve;
         }
         self.lock_later(rt, pass, mode, latch, level)
@@ -244,12 +185,8 @@ impl<L: Law> Latches<L, Parkers> {
         latch: Latch,
         level: Level,
     ) -> Reserve
-        requires own { IsOf self.now pass.old }
-        requires latch { latch.0 < latches_of self.now.sizes }
-        requires grows { MayGrow pass.old.view }
-        requires may { CanWish latch.0 level pass.old.view.session }
-        ensures own { IsOf self.now pass.new }
-        ensures same { pass.new ≡ with_view pass.old pass.new.view }
+        requires may { MayTake self.now latch.0 level pass.old }
+        ensures still { IsStillOf self.now pass.old pass.new }
         ensures won { IsWon mode latch.0 level result pass.old pass.new }
     {
         for _ in rt.forever() {
@@ -269,14 +206,8 @@ impl<L: Law> Latches<L, Parkers> {
         latch: Latch,
         level: Level,
     ) -> Option<Reserve>
-        requires own { IsOf self.now pass.old }
-        requires latch { latch.0 < latches_of self.now.sizes }
-        requires grows { MayGrow pass.old.view }
-        requires may { CanWish latch.0 level pass.old.view.session }
-        ensures own { IsOf self.now pass.new }
-        ensures same { pass.new ≡ with_view pass.old pass.new.view }
-        ensures some { IfSome result (λ r. IsWon mode latch.0 level r pass.old pass.new) }
-        ensures none { IfNone result (IsStill Free pass.old pass.new) }
+        requires may { MayTake self.now latch.0 level pass.old }
+        ensures { HasTried self.now mode latch.0 level result pass.old pass.new }
     {
         let reserve = self.spin(pass, mode, latch, level);
         if reserve.is_some() {
@@ -287,19 +218,10 @@ impl<L: Law> Latches<L, Parkers> {
 
     // X where the session has nothing there.
     fn lock_new_x<R: Wait>(&self, rt: &R, pass: &mut Pass, latch: Latch, level: Level)
-        requires own { IsOf self.now pass.old }
-        requires latch { latch.0 < latches_of self.now.sizes }
-        requires grows { MayGrow pass.old.view }
-        requires may { CanWish latch.0 level pass.old.view.session }
-        ensures own { IsOf self.now pass.new }
-        ensures same { pass.new ≡ with_view pass.old pass.new.view }
-        ensures taken { HasTakenGrant ModeX
-            (holding_too ModeX latch.0 level pass.old.view.session.held) Free pass.old.view
-            pass.new.view }
-        ensures ends { EndsOwning (sx_grants latch.0 pass.new.view.session) latch.0
-            pass.new.view.looks }
-        ensures signed { Stores latch.0 pass.new.view.written }
-        ensures looks { pass.old.view.looks.count ≤ pass.new.view.looks.count }
+        requires may { MayTake self.now latch.0 level pass.old }
+        ensures still { IsStillOf self.now pass.old pass.new }
+        ensures locked { HasLockedX (holding_too ModeX latch.0 level pass.old.view.session.held)
+            latch.0 pass.old pass.new }
     {
         self.lock_first(rt, pass, Mode::X, latch, level);
         self.own_x(rt, pass, latch);
@@ -307,21 +229,11 @@ impl<L: Law> Latches<L, Parkers> {
 
     // X beside one's own SX alone, of which the exchange fails only while others come and go.
     fn lock_upgrade<R: Wait>(&self, rt: &R, pass: &mut Pass, latch: Latch)
-        requires own { IsOf self.now pass.old }
-        requires latch { latch.0 < latches_of self.now.sizes }
-        requires free { pass.old.view.session.phase ≡ Free }
-        requires grows { MayGrow pass.old.view }
-        requires owns_sx { 0 < sx_grants latch.0 pass.old.view.session }
-        requires no_x { x_grants latch.0 pass.old.view.session ≡ 0 }
-        ensures own { IsOf self.now pass.new }
-        ensures same { pass.new ≡ with_view pass.old pass.new.view }
-        ensures taken { HasTakenGrant ModeX
-            (changed_on latch.0 (one_more ModeX) pass.old.view.session.held) Free pass.old.view
-            pass.new.view }
-        ensures ends { EndsOwning (sx_grants latch.0 pass.new.view.session) latch.0
-            pass.new.view.looks }
-        ensures signed { Stores latch.0 pass.new.view.written }
-        ensures looks { pass.old.view.looks.count ≤ pass.new.view.looks.count }
+        requires may { MayUpgrade self.now latch.0 pass.old }
+        ensures still { IsStillOf self.now pass.old pass.new }
+        ensures locked { HasLockedX
+            (changed_on latch.0 (one_more ModeX) pass.old.view.session.held) latch.0 pass.old
+            pass.new }
     {
         self.spin_upgrade(rt, pass, latch);
         self.own_x(rt, pass, latch);
@@ -329,19 +241,13 @@ impl<L: Law> Latches<L, Parkers> {
 
     // Tries for X beside one's own SX alone, until one is won.
     fn spin_upgrade<R: Wait>(&self, rt: &R, pass: &mut Pass, latch: Latch) -> Reserve
-        requires own { IsOf self.now pass.old }
-        requires latch { latch.0 < latches_of self.now.sizes }
-        requires free { pass.old.view.session.phase ≡ Free }
-        requires grows { MayGrow pass.old.view }
-        requires owns_sx { 0 < sx_grants latch.0 pass.old.view.session }
-        requires no_x { x_grants latch.0 pass.old.view.session ≡ 0 }
-        ensures own { IsOf self.now pass.new }
-        ensures same { pass.new ≡ with_view pass.old pass.new.view }
+        requires may { MayUpgrade self.now latch.0 pass.old }
+        ensures still { IsStillOf self.now pass.old pass.new }
         ensures upgraded { IsUpgraded latch.0 result pass.old pass.new }
     {
         let backoff = Backoff::new();
         for _ in rt.forever() {
-            if let Some(reserve) = self.attempt_upgrade(pass, latch) {
+            if let Some(reserve) = self.upgrade_once(pass, latch) {
                 return reserve;
             }
             backoff.snooze();
@@ -370,9 +276,7 @@ impl<L: Law> Latches<L, Parkers> {
     // The next writer looks in rounds and sleeps between them, until it owns X.
     #[tactic(auto, using(crate::proofs::Stills::still_owned))]
     fn wait_as_next<R: Wait>(&self, rt: &R, pass: &mut Pass, latch: Latch, level: Level)
-        requires own { IsOf self.now pass.old }
-        requires latch { latch.0 < latches_of self.now.sizes }
-        requires next { pass.old.view.session.phase ≡ Next latch.0 level }
+        requires next { IsInPhase self.now latch.0 (Next latch.0 level) pass.old }
         ensures own { IsOf self.now pass.new }
         ensures owned { EndsOwned (sx_grants latch.0 pass.old.view.session) latch.0
             pass.new.view.looks }
@@ -389,14 +293,8 @@ impl<L: Law> Latches<L, Parkers> {
     // Rounds of looks whether X is owned, and then a sleep.
     #[tactic(auto, using(crate::proofs::Stills::still_owned))]
     fn next_round<R: Wait>(&self, rt: &R, pass: &mut Pass, latch: Latch, level: Level) -> bool
-        requires own { IsOf self.now pass.old }
-        requires latch { latch.0 < latches_of self.now.sizes }
-        requires next { pass.old.view.session.phase ≡ Next latch.0 level }
-        ensures own { IsOf self.now pass.new }
-        ensures owns { IsTrue result → IsStill Free pass.old pass.new }
-        ensures owned { IsTrue result → EndsOwned (sx_grants latch.0 pass.old.view.session)
-            latch.0 pass.new.view.looks }
-        ensures waits { result ≡ false → IsStill (Next latch.0 level) pass.old pass.new }
+        requires next { IsInPhase self.now latch.0 (Next latch.0 level) pass.old }
+        ensures { HasLookedAsNext self.now latch.0 level result pass.old pass.new }
     {
         if self.spin_ready(pass, latch, level) {
             return true;

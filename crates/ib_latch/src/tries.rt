@@ -1,6 +1,6 @@
 //! The tries: a look at the lock word, and at most one exchange of it.
 
-ghost use Rattle.std.specs.Prelude.{◌≡◌, ◌≢◌, ◌<◌, ◌+◌, true, false, pos, ◌-ℤ◌, Ok, IsOk, IfOk, IfErr};
+ghost use Rattle.std.specs.Prelude.{◌≡◌, ◌≢◌, ◌<◌, true, pos, ◌-ℤ◌, ◌+◌, Ok, IsOk, IfOk, IfErr};
 ghost use Rattle.ib_word.specs.Word.{IsCounted};
 ghost use Rattle.ib_word.specs.declared.word.TheConstants.{X_LOCK_DECR};
 ghost use Rattle.ib_levels.specs.declared.level.Level.TheVariants.{Log};
@@ -9,14 +9,14 @@ ghost use Rattle.ib_levels.specs.declared.level.Mode.TheVariants.{S as ModeS, Sx
 ghost use Rattle.ib_levels.specs.Holding.{changed_on};
 ghost use Rattle.ib_layout.specs.Places.{latches_of};
 ghost use Rattle.ib_core.specs.declared.phase.Phase.TheVariants.{Free, Next};
-ghost use Rattle.ib_core.specs.Holders.{CanWish};
 ghost use Rattle.ib_core.specs.Responses.{is_above_0, is_above_half};
 ghost use Rattle.ib_core.specs.Sessions.{claims, sx_grants, x_grants};
 ghost use Rattle.ib_core.specs.Takings.{holding_too, is_given_at, level_on, one_more};
-ghost use Rattle.ib_rule.specs.Conditions.{MayClaim, MayGrow, MayTry};
 ghost use Rattle.ib_rule.specs.Laws.{Stores};
-ghost use Rattle.ib_rule.specs.Pass.{IsOf, with_view};
-ghost use Rattle.ib_latch.specs.Tries.{IsClaim, IsFirstTry, IsReadyTry, IsReserveOf, IsSxMore, HasTakenGrant, IsTryAt, IsTryOf, IsUnchanged, IsXMore, first_session, held_with, is_free_word, level_with, looked_at, looks_of, lost_at, phase_by, phase_of, reserve_at, upgraded, won_with};
+ghost use Rattle.ib_rule.specs.Pass.{IsOf};
+ghost use Rattle.ib_rule.specs.Takes.{IsStillOf, MayTake, MayTakeFurther, MayTakeMore, MayUpgrade};
+ghost use Rattle.ib_rule.specs.Turns.{IsInPhase, MayTryAt};
+ghost use Rattle.ib_latch.specs.Tries.{IsClaim, IsFirstTry, IsReadyTry, IsReserveOf, IsSxMore, HasTakenGrant, IsTryAt, IsTryOf, IsUnchangedAtFault, IsXMore, first_session, held_with, is_free_word, level_with, looked_at, lost_at, phase_by, phase_of, reserve_at, signed_for, upgraded, won_with};
 
 use crate::latches::Latches;
 use crate::sleep::Sleep;
@@ -68,9 +68,7 @@ impl<L: Law, S: Sleep> Latches<L, S> {
     /// The lock word, by one look.
     #[inline(always)]
     pub fn word_of(&self, pass: &mut Pass, latch: Latch) -> LockWord
-        requires own { IsOf self.now pass.old }
-        requires latch { latch.0 < latches_of self.now.sizes }
-        requires free { pass.old.view.session.phase ≡ Free }
+        requires free { IsInPhase self.now latch.0 Free pass.old }
         ensures counted { IsCounted result.0 }
         ensures view { pass.new ≡ looked_at latch.0 result pass.old }
     {
@@ -81,18 +79,13 @@ impl<L: Law, S: Sleep> Latches<L, S> {
     /// look, and one exchange that takes 1 off. Refused as `Busy` where the word found is not above
     /// 0: somebody owns X there or is its next writer. `Raced` where the exchange found another word.
     pub fn try_s(&self, pass: &mut Pass, latch: Latch, level: Level) -> Result<(), TryFault>
-        requires own { IsOf self.now pass.old }
-        requires latch { latch.0 < latches_of self.now.sizes }
-        requires grows { MayGrow pass.old.view }
-        requires may { CanWish latch.0 level pass.old.view.session }
-        ensures own { IsOf self.now pass.new }
-        ensures same { pass.new ≡ with_view pass.old pass.new.view }
+        requires may { MayTake self.now latch.0 level pass.old }
+        ensures still { IsStillOf self.now pass.old pass.new }
         ensures tried { IsFirstTry ModeS latch.0 level pass.old result pass.new }
         ensures taken { IsOk result → HasTakenGrant ModeS
             (holding_too ModeS latch.0 level pass.old.view.session.held) Free pass.old.view
             pass.new.view }
-        ensures refused { IfErr result (λ fault. IsUnchanged (looks_of fault) pass.old.view
-            pass.new.view) }
+        ensures refused { IsUnchangedAtFault result pass.old pass.new }
     {
         match self.first_try(pass, Mode::S, latch, level) {
             Ok(_) => Ok(()),
@@ -106,13 +99,8 @@ impl<L: Law, S: Sleep> Latches<L, S> {
     /// `Busy` where the word found is not above HALF, as somebody has SX or X there or is its next
     /// writer, and as `Raced` where the exchange found another word.
     pub fn try_sx(&self, pass: &mut Pass, latch: Latch, level: Level) -> Result<(), TryFault>
-        requires own { IsOf self.now pass.old }
-        requires latch { latch.0 < latches_of self.now.sizes }
-        requires free { pass.old.view.session.phase ≡ Free }
-        requires grows { MayGrow pass.old.view }
-        requires may { MayClaim latch.0 level pass.old.view.session }
-        ensures own { IsOf self.now pass.new }
-        ensures same { pass.new ≡ with_view pass.old pass.new.view }
+        requires may { MayTakeMore self.now latch.0 level pass.old }
+        ensures still { IsStillOf self.now pass.old pass.new }
         ensures first { claims latch.0 pass.old.view.session ≡ 0
             → IsFirstTry ModeSx latch.0 level pass.old result pass.new }
         ensures more { 0 < claims latch.0 pass.old.view.session
@@ -122,8 +110,7 @@ impl<L: Law, S: Sleep> Latches<L, S> {
             pass.new.view }
         ensures signed { IsOk result → sx_grants latch.0 pass.old.view.session ≡ 0
             → Stores latch.0 pass.new.view.written }
-        ensures refused { IfErr result (λ fault. IsUnchanged (looks_of fault) pass.old.view
-            pass.new.view) }
+        ensures refused { IsUnchangedAtFault result pass.old pass.new }
     {
         let Claim::Nothing = claim_on(pass, latch) else {
             self.sx_more(pass, latch);
@@ -140,15 +127,10 @@ impl<L: Law, S: Sleep> Latches<L, S> {
     /// look, and one exchange that takes `X_LOCK_DECR` off. Refused as `Busy` where the word found
     /// is not that of a free latch, and as `Raced` where the exchange found another word.
     pub fn try_x(&self, pass: &mut Pass, latch: Latch, level: Level) -> Result<(), TryFault>
-        requires own { IsOf self.now pass.old }
-        requires latch { latch.0 < latches_of self.now.sizes }
-        requires free { pass.old.view.session.phase ≡ Free }
-        requires grows { MayGrow pass.old.view }
-        requires may { MayClaim latch.0 level pass.old.view.session }
+        requires may { MayTakeMore self.now latch.0 level pass.old }
         requires no_upgrade { 0 < sx_grants latch.0 pass.old.view.session
             → 0 < x_grants latch.0 pass.old.view.session }
-        ensures own { IsOf self.now pass.new }
-        ensures same { pass.new ≡ with_view pass.old pass.new.view }
+        ensures still { IsStillOf self.now pass.old pass.new }
         ensures first { claims latch.0 pass.old.view.session ≡ 0
             → IsTryOf is_free_word ModeX latch.0
             (first_session ModeX latch.0 level pass.old.view.session.held) pass.old result pass.new }
@@ -158,8 +140,7 @@ impl<L: Law, S: Sleep> Latches<L, S> {
             (held_with ModeX latch.0 level pass.old.view.session) Free pass.old.view
             pass.new.view }
         ensures signed { IsOk result → Stores latch.0 pass.new.view.written }
-        ensures refused { IfErr result (λ fault. IsUnchanged (looks_of fault) pass.old.view
-            pass.new.view) }
+        ensures refused { IsUnchangedAtFault result pass.old pass.new }
     {
         let Claim::Nothing = claim_on(pass, latch) else {
             self.x_more(pass, latch);
@@ -183,13 +164,8 @@ impl<L: Law, S: Sleep> Latches<L, S> {
         latch: Latch,
         level: Level,
     ) -> Result<Reserve, TryFault>
-        requires own { IsOf self.now pass.old }
-        requires latch { latch.0 < latches_of self.now.sizes }
-        requires free { pass.old.view.session.phase ≡ Free }
-        requires grows { MayGrow pass.old.view }
-        requires may { MayClaim latch.0 level pass.old.view.session }
-        ensures own { IsOf self.now pass.new }
-        ensures same { pass.new ≡ with_view pass.old pass.new.view }
+        requires may { MayTakeMore self.now latch.0 level pass.old }
+        ensures still { IsStillOf self.now pass.old pass.new }
         ensures first { claims latch.0 pass.old.view.session ≡ 0
             → IsReserveOf is_above_half latch.0
             (first_session ModeX latch.0 level pass.old.view.session.held) pass.old result pass.new }
@@ -204,8 +180,7 @@ impl<L: Law, S: Sleep> Latches<L, S> {
             (phase_of latch.0 (level_with latch.0 level pass.old.view.session) reserve)
             pass.old.view pass.new.view) }
         ensures signed { IsOk result → Stores latch.0 pass.new.view.written }
-        ensures refused { IfErr result (λ fault. IsUnchanged (looks_of fault) pass.old.view
-            pass.new.view) }
+        ensures refused { IsUnchangedAtFault result pass.old pass.new }
     {
         if pass.counts(latch).x > 0 {
             self.x_more(pass, latch);
@@ -223,8 +198,7 @@ impl<L: Law, S: Sleep> Latches<L, S> {
         requires own { IsOf self.now pass.old }
         requires latch { latch.0 < latches_of self.now.sizes }
         requires next { (level : Level) × (pass.old.view.session.phase ≡ Next latch.0 level) }
-        ensures own { IsOf self.now pass.new }
-        ensures same { pass.new ≡ with_view pass.old pass.new.view }
+        ensures still { IsStillOf self.now pass.old pass.new }
         ensures tried { IsReadyTry latch.0 pass.old result pass.new }
         ensures ready { IsOk result → pass.new.view.session
             ≡ record { held = pass.old.view.session.held; phase = Free } }
@@ -251,10 +225,7 @@ impl<L: Law, S: Sleep> Latches<L, S> {
         latch: Latch,
         level: Level,
     ) -> Result<LockWord, TryFault>
-        requires own { IsOf self.now pass.old }
-        requires latch { latch.0 < latches_of self.now.sizes }
-        requires grows { MayGrow pass.old.view }
-        requires may { CanWish latch.0 level pass.old.view.session }
+        requires may { MayTake self.now latch.0 level pass.old }
         ensures tried { IsTryAt (is_given_at mode) mode latch.0
             (first_session mode latch.0 level pass.old.view.session.held) pass.old result
             pass.new }
@@ -278,10 +249,7 @@ impl<L: Law, S: Sleep> Latches<L, S> {
     // A first try for X alone on a free latch. It answers the word that it found twice where it is
     // won.
     fn free_try(&self, pass: &mut Pass, latch: Latch, level: Level) -> Result<LockWord, TryFault>
-        requires own { IsOf self.now pass.old }
-        requires latch { latch.0 < latches_of self.now.sizes }
-        requires grows { MayGrow pass.old.view }
-        requires may { CanWish latch.0 level pass.old.view.session }
+        requires may { MayTake self.now latch.0 level pass.old }
         ensures tried { IsTryAt is_free_word ModeX latch.0
             (first_session ModeX latch.0 level pass.old.view.session.held) pass.old result pass.new }
         ensures taken { IsOk result → HasTakenGrant ModeX
@@ -308,14 +276,9 @@ impl<L: Law, S: Sleep> Latches<L, S> {
         latch: Latch,
         level: Level,
     ) -> Result<LockWord, TryFault>
-        requires own { IsOf self.now pass.old }
-        requires latch { latch.0 < latches_of self.now.sizes }
-        requires free { pass.old.view.session.phase ≡ Free }
-        requires grows { MayGrow pass.old.view }
-        requires may { MayClaim latch.0 level pass.old.view.session }
+        requires may { MayTakeMore self.now latch.0 level pass.old }
         requires no_x { x_grants latch.0 pass.old.view.session ≡ 0 }
-        ensures own { IsOf self.now pass.new }
-        ensures same { pass.new ≡ with_view pass.old pass.new.view }
+        ensures still { IsStillOf self.now pass.old pass.new }
         ensures first { claims latch.0 pass.old.view.session ≡ 0
             → IsTryAt is_above_half ModeX latch.0
             (first_session ModeX latch.0 level pass.old.view.session.held) pass.old result pass.new }
@@ -328,8 +291,7 @@ impl<L: Law, S: Sleep> Latches<L, S> {
             (phase_of latch.0 (level_with latch.0 level pass.old.view.session)
             (reserve_at (w.0 -ℤ pos X_LOCK_DECR))) pass.old.view pass.new.view) }
         ensures signed { IsOk result → Stores latch.0 pass.new.view.written }
-        ensures refused { IfErr result (λ fault. IsUnchanged (looks_of fault) pass.old.view
-            pass.new.view) }
+        ensures refused { IsUnchangedAtFault result pass.old pass.new }
     {
         match claim_on(pass, latch) {
             Claim::Nothing => self.first_try(pass, Mode::X, latch, level),
@@ -340,12 +302,7 @@ impl<L: Law, S: Sleep> Latches<L, S> {
     // A try for X beside one's own SX alone. It answers the word that it found twice where it is
     // won.
     pub(crate) fn upgrade(&self, pass: &mut Pass, latch: Latch) -> Result<LockWord, TryFault>
-        requires own { IsOf self.now pass.old }
-        requires latch { latch.0 < latches_of self.now.sizes }
-        requires free { pass.old.view.session.phase ≡ Free }
-        requires grows { MayGrow pass.old.view }
-        requires owns_sx { 0 < sx_grants latch.0 pass.old.view.session }
-        requires no_x { x_grants latch.0 pass.old.view.session ≡ 0 }
+        requires may { MayUpgrade self.now latch.0 pass.old }
         ensures tried { IsTryAt is_above_0 ModeX latch.0
             (upgraded latch.0 pass.old.view.session.held) pass.old result pass.new }
         ensures taken { IfOk result (λ w. HasTakenGrant ModeX
@@ -368,12 +325,7 @@ impl<L: Law, S: Sleep> Latches<L, S> {
 
     // One exchange of the lock word, for X beside one's own SX alone.
     fn exchange_more(&self, pass: &mut Pass, latch: Latch, word: LockWord) -> Result<(), LockWord>
-        requires own { IsOf self.now pass.old }
-        requires latch { latch.0 < latches_of self.now.sizes }
-        requires free { pass.old.view.session.phase ≡ Free }
-        requires grows { MayGrow pass.old.view }
-        requires owns_sx { 0 < sx_grants latch.0 pass.old.view.session }
-        requires no_x { x_grants latch.0 pass.old.view.session ≡ 0 }
+        requires may { MayUpgrade self.now latch.0 pass.old }
         requires given { is_above_0 word.0 ≡ true }
         ensures won { IsOk result → pass.new ≡ won_with ModeX latch.0 word
             (upgraded latch.0 pass.old.view.session.held word) pass.old }
@@ -387,10 +339,7 @@ impl<L: Law, S: Sleep> Latches<L, S> {
 
     // SX more, beside one's own SX or X.
     pub(crate) fn sx_more(&self, pass: &mut Pass, latch: Latch)
-        requires own { IsOf self.now pass.old }
-        requires latch { latch.0 < latches_of self.now.sizes }
-        requires free { pass.old.view.session.phase ≡ Free }
-        requires grows { MayGrow pass.old.view }
+        requires may { MayTakeFurther self.now latch.0 pass.old }
         requires claims { 0 < claims latch.0 pass.old.view.session }
         ensures more { IsSxMore latch.0 pass.old pass.new }
         ensures taken { HasTakenGrant ModeSx
@@ -398,7 +347,7 @@ impl<L: Law, S: Sleep> Latches<L, S> {
             pass.new.view }
     {
         if pass.counts(latch).sx > 0 {
-            self.space.load_writer(pass, latch, false);
+            self.space.take_sx_again(pass, latch);
         } else {
             self.space.take_sx_under_x(pass, latch);
             self.space.store_writer(pass, latch);
@@ -407,10 +356,7 @@ impl<L: Law, S: Sleep> Latches<L, S> {
 
     // X more, beside one's own X.
     pub(crate) fn x_more(&self, pass: &mut Pass, latch: Latch)
-        requires own { IsOf self.now pass.old }
-        requires latch { latch.0 < latches_of self.now.sizes }
-        requires free { pass.old.view.session.phase ≡ Free }
-        requires grows { MayGrow pass.old.view }
+        requires may { MayTakeFurther self.now latch.0 pass.old }
         requires owns { 0 < x_grants latch.0 pass.old.view.session }
         ensures more { IsXMore latch.0 pass.old pass.new }
         ensures taken { HasTakenGrant ModeX
@@ -432,29 +378,28 @@ impl<L: Law, S: Sleep> Latches<L, S> {
         level: Level,
         word: LockWord,
     ) -> Result<(), LockWord>
-        requires own { IsOf self.now pass.old }
-        requires latch { latch.0 < latches_of self.now.sizes }
-        requires grows { MayGrow pass.old.view }
-        requires may { MayTry mode latch.0 level pass.old.view.session
-            pass.old.view.session.phase }
-        requires given { is_given_at mode word.0 ≡ true }
+        requires may { MayTryAt self.now mode latch.0 level word pass.old }
         ensures won { IsOk result → pass.new ≡ won_with mode latch.0 word
             (first_session mode latch.0 level pass.old.view.session.held word) pass.old }
         ensures lost { IfErr result (λ found. (found.0 ≢ word.0)
             × (pass.new ≡ lost_at latch.0 word found pass.old)) }
     {
+        self.space.take_first(pass, mode, latch, level, word)?;
+        self.sign(pass, mode, latch);
+        Ok(())
+    }
+
+    // Where SX or X was granted or reserved, the session is stored as the writer.
+    #[inline(always)]
+    fn sign(&self, pass: &mut Pass, mode: Mode, latch: Latch)
+        requires own { IsOf self.now pass.old }
+        requires latch { latch.0 < latches_of self.now.sizes }
+        requires claims { mode ≢ ModeS → 0 < claims latch.0 pass.old.view.session }
+        ensures { pass.new ≡ signed_for mode latch.0 pass.old }
+    {
         match mode {
-            Mode::S => self.space.take_s(pass, latch, level, word),
-            Mode::Sx => {
-                self.space.take_sx(pass, latch, level, word)?;
-                self.space.store_writer(pass, latch);
-                Ok(())
-            }
-            Mode::X => {
-                self.space.take_x(pass, latch, level, word)?;
-                self.space.store_writer(pass, latch);
-                Ok(())
-            }
+            Mode::S => {}
+            Mode::Sx | Mode::X => self.space.store_writer(pass, latch),
         }
     }
 }

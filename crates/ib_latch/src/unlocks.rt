@@ -3,12 +3,12 @@
 ghost use Rattle.std.specs.Prelude.{◌≡◌, ◌<◌, if◌then◌else◌};
 ghost use Rattle.ib_levels.specs.declared.level.Mode.TheVariants.{Sx as ModeSx, X as ModeX};
 ghost use Rattle.ib_levels.specs.Holding.{without_latch};
-ghost use Rattle.ib_layout.specs.Places.{latches_of};
 ghost use Rattle.ib_core.specs.declared.phase.Phase.TheVariants.{Free, OwesClear, OwesLook, OwesRaise, OwesRaiseEx};
 ghost use Rattle.ib_core.specs.Sessions.{reads, sx_grants, x_grants};
 ghost use Rattle.ib_core.specs.Takings.{given_back};
 ghost use Rattle.ib_rule.specs.Afterwards.{phased};
-ghost use Rattle.ib_rule.specs.Pass.{IsOf, with_view};
+ghost use Rattle.ib_rule.specs.Pass.{with_view};
+ghost use Rattle.ib_rule.specs.Turns.{IsInPhase};
 ghost use Rattle.ib_latch.specs.Unlocks.{IsReleased, sx_steps};
 
 use crate::latches::Latches;
@@ -23,9 +23,7 @@ impl<L: Law, S: Sleep> Latches<L, S> {
     /// the ex generation, and wakes it.
     #[inline(always)]
     pub fn unlock_s(&self, pass: &mut Pass, latch: Latch)
-        requires own { IsOf self.now pass.old }
-        requires latch { latch.0 < latches_of self.now.sizes }
-        requires free { pass.old.view.session.phase ≡ Free }
+        requires free { IsInPhase self.now latch.0 Free pass.old }
         requires holds { 0 < reads latch.0 pass.old.view.session }
         ensures { IsReleased 1 latch.0 (without_latch latch.0 pass.old.view.session.held) pass.old
             pass.new }
@@ -40,16 +38,14 @@ impl<L: Law, S: Sleep> Latches<L, S> {
     /// Gives one SX back (WL#6363, `rw_lock_sx_unlock_func`). The last one, where no X is held
     /// beside it, wakes who waits.
     pub fn unlock_sx(&self, pass: &mut Pass, latch: Latch)
-        requires own { IsOf self.now pass.old }
-        requires latch { latch.0 < latches_of self.now.sizes }
-        requires free { pass.old.view.session.phase ≡ Free }
+        requires free { IsInPhase self.now latch.0 Free pass.old }
         requires holds { 0 < sx_grants latch.0 pass.old.view.session }
         ensures { IsReleased (sx_steps latch.0 pass.old.view.session) latch.0
             (given_back ModeSx latch.0 pass.old.view.session) pass.old pass.new }
     {
         let counts = pass.counts(latch);
         if counts.sx > 1 {
-            self.space.load_writer(pass, latch, true);
+            self.space.give_sx_again(pass, latch);
         } else if counts.x > 0 {
             self.space.give_sx_under_x(pass, latch);
         } else {
@@ -60,9 +56,7 @@ impl<L: Law, S: Sleep> Latches<L, S> {
 
     /// Gives one X back (sync0rw, `rw_lock_x_unlock_func`). The last one wakes who waits.
     pub fn unlock_x(&self, pass: &mut Pass, latch: Latch)
-        requires own { IsOf self.now pass.old }
-        requires latch { latch.0 < latches_of self.now.sizes }
-        requires free { pass.old.view.session.phase ≡ Free }
+        requires free { IsInPhase self.now latch.0 Free pass.old }
         requires holds { 0 < x_grants latch.0 pass.old.view.session }
         ensures { IsReleased 1 latch.0 (given_back ModeX latch.0 pass.old.view.session) pass.old
             pass.new }
@@ -79,9 +73,7 @@ impl<L: Law, S: Sleep> Latches<L, S> {
     // clearing and the raise of the generation, which wakes who waits. With nobody waiting that is
     // one load.
     fn pay(&self, pass: &mut Pass, latch: Latch)
-        requires own { IsOf self.now pass.old }
-        requires latch { latch.0 < latches_of self.now.sizes }
-        requires owes { pass.old.view.session.phase ≡ OwesLook latch.0 }
+        requires owes { IsInPhase self.now latch.0 (OwesLook latch.0) pass.old }
         ensures { pass.new ≡ with_view pass.old (phased Free pass.old.view) }
     {
         if self.look(pass, latch) {
@@ -94,9 +86,7 @@ impl<L: Law, S: Sleep> Latches<L, S> {
 
     // The look at the waiters flag: whether it is set.
     fn look(&self, pass: &mut Pass, latch: Latch) -> bool
-        requires own { IsOf self.now pass.old }
-        requires latch { latch.0 < latches_of self.now.sizes }
-        requires owes { pass.old.view.session.phase ≡ OwesLook latch.0 }
+        requires owes { IsInPhase self.now latch.0 (OwesLook latch.0) pass.old }
         ensures { pass.new ≡ with_view pass.old
             (phased (if result then OwesClear latch.0 else Free) pass.old.view) }
     {
@@ -105,9 +95,7 @@ impl<L: Law, S: Sleep> Latches<L, S> {
 
     // The clearing of the waiters flag: whether it was set.
     fn clear(&self, pass: &mut Pass, latch: Latch) -> bool
-        requires own { IsOf self.now pass.old }
-        requires latch { latch.0 < latches_of self.now.sizes }
-        requires owes { pass.old.view.session.phase ≡ OwesClear latch.0 }
+        requires owes { IsInPhase self.now latch.0 (OwesClear latch.0) pass.old }
         ensures { pass.new ≡ with_view pass.old
             (phased (if result then OwesRaise latch.0 else Free) pass.old.view) }
     {
@@ -116,9 +104,7 @@ impl<L: Law, S: Sleep> Latches<L, S> {
 
     // The raise of the generation.
     fn raise(&self, pass: &mut Pass, latch: Latch) -> Raised
-        requires own { IsOf self.now pass.old }
-        requires latch { latch.0 < latches_of self.now.sizes }
-        requires owes { pass.old.view.session.phase ≡ OwesRaise latch.0 }
+        requires owes { IsInPhase self.now latch.0 (OwesRaise latch.0) pass.old }
         ensures raised { pass.new ≡ with_view pass.old (phased Free pass.old.view) }
         ensures on { result.latch ≡ latch.0 }
     {
@@ -128,9 +114,7 @@ impl<L: Law, S: Sleep> Latches<L, S> {
 
     // The raise of the ex generation.
     fn raise_ex(&self, pass: &mut Pass, latch: Latch) -> Raised
-        requires own { IsOf self.now pass.old }
-        requires latch { latch.0 < latches_of self.now.sizes }
-        requires owes { pass.old.view.session.phase ≡ OwesRaiseEx latch.0 }
+        requires owes { IsInPhase self.now latch.0 (OwesRaiseEx latch.0) pass.old }
         ensures raised { pass.new ≡ with_view pass.old (phased Free pass.old.view) }
         ensures on { result.latch ≡ latch.0 }
     {

@@ -1,14 +1,15 @@
 //! How a session waits: it writes down in a cell what it waits for, and sleeps while the generation
 //! that it recorded stands (sync0arr, `sync_array_wait_event`).
 
-ghost use Rattle.std.specs.Prelude.{◌≡◌, ℕ, ◌<◌, IfNone, IfSome, IsTrue, None, false};
+ghost use Rattle.std.specs.Prelude.{◌≡◌, ℕ, ◌<◌, IsTrue, None, false};
 ghost use Rattle.ib_layout.specs.Places.{latches_of};
 ghost use Rattle.ib_core.specs.declared.phase.Phase.TheVariants.{Flagged, Free, Next, NextArmed};
-ghost use Rattle.ib_core.specs.Holders.{CanWish};
 ghost use Rattle.ib_core.specs.Sessions.{sx_grants};
 ghost use Rattle.ib_rule.specs.Conditions.{MayGrow, MayLoadGen};
-ghost use Rattle.ib_rule.specs.Pass.{IsOf, with_view};
-ghost use Rattle.ib_latch.specs.Waits.{EndsOwned, IsAsleepOn, IsStill, IsWon, NextWaits, wish_for};
+ghost use Rattle.ib_rule.specs.Pass.{IsOf};
+ghost use Rattle.ib_rule.specs.Takes.{MayTake};
+ghost use Rattle.ib_rule.specs.Turns.{IsInPhase};
+ghost use Rattle.ib_latch.specs.Waits.{EndsOwned, HasLookedAsNext, HasTried, IsAsleepOn, IsStill, NextWaits, wish_for};
 
 use crate::latches::Latches;
 use crate::parkers::Parkers;
@@ -33,14 +34,8 @@ impl<L: Law> Latches<L, Parkers> {
         latch: Latch,
         level: Level,
     ) -> Option<Reserve>
-        requires own { IsOf self.now pass.old }
-        requires latch { latch.0 < latches_of self.now.sizes }
-        requires grows { MayGrow pass.old.view }
-        requires may { CanWish latch.0 level pass.old.view.session }
-        ensures own { IsOf self.now pass.new }
-        ensures same { pass.new ≡ with_view pass.old pass.new.view }
-        ensures some { IfSome result (λ r. IsWon mode latch.0 level r pass.old pass.new) }
-        ensures none { IfNone result (IsStill Free pass.old pass.new) }
+        requires may { MayTake self.now latch.0 level pass.old }
+        ensures { HasTried self.now mode latch.0 level result pass.old pass.new }
     {
         let generation = self.arm(pass, latch, mode, level);
         let cell = Cell {
@@ -72,10 +67,7 @@ impl<L: Law> Latches<L, Parkers> {
         requires grows { MayGrow pass.old.view }
         requires flagged { (generation : ℕ)
             × (pass.old.view.session.phase ≡ Flagged latch.0 mode level generation) }
-        ensures own { IsOf self.now pass.new }
-        ensures same { pass.new ≡ with_view pass.old pass.new.view }
-        ensures some { IfSome result (λ r. IsWon mode latch.0 level r pass.old pass.new) }
-        ensures none { IfNone result (IsStill Free pass.old pass.new) }
+        ensures { HasTried self.now mode latch.0 level result pass.old pass.new }
     {
         let _ = (mode, level);
         match self.recheck(pass, latch) {
@@ -145,14 +137,8 @@ impl<L: Law> Latches<L, Parkers> {
         latch: Latch,
         level: Level,
     ) -> bool
-        requires own { IsOf self.now pass.old }
-        requires latch { latch.0 < latches_of self.now.sizes }
-        requires next { pass.old.view.session.phase ≡ Next latch.0 level }
-        ensures own { IsOf self.now pass.new }
-        ensures owns { IsTrue result → IsStill Free pass.old pass.new }
-        ensures owned { IsTrue result → EndsOwned (sx_grants latch.0 pass.old.view.session)
-            latch.0 pass.new.view.looks }
-        ensures waits { result ≡ false → IsStill (Next latch.0 level) pass.old pass.new }
+        requires next { IsInPhase self.now latch.0 (Next latch.0 level) pass.old }
+        ensures { HasLookedAsNext self.now latch.0 level result pass.old pass.new }
     {
         let generation = self.space.load_ex_gen(pass, latch);
         let cell = Cell {
@@ -182,11 +168,7 @@ impl<L: Law> Latches<L, Parkers> {
         requires latch { latch.0 < latches_of self.now.sizes }
         requires armed { (generation : ℕ)
             × (pass.old.view.session.phase ≡ NextArmed latch.0 level generation) }
-        ensures own { IsOf self.now pass.new }
-        ensures owns { IsTrue result → IsStill Free pass.old pass.new }
-        ensures owned { IsTrue result → EndsOwned (sx_grants latch.0 pass.old.view.session)
-            latch.0 pass.new.view.looks }
-        ensures waits { result ≡ false → IsStill (Next latch.0 level) pass.old pass.new }
+        ensures { HasLookedAsNext self.now latch.0 level result pass.old pass.new }
     {
         if self.verify(pass, latch, level) {
             return true;

@@ -1,8 +1,7 @@
 //! What is answered to events that were read.
 
-ghost use Rattle.std.specs.Prelude.{◌≡◌, ◌≢◌, ◌≤◌, None, length};
-ghost use Rattle.ib_io.specs.Faults.{Rose};
-ghost use Rattle.ib_io.specs.Told.{IsOutOfMemoryWhere, Told};
+ghost use Rattle.std.specs.Prelude.{◌≡◌, ◌≤◌, None, length};
+ghost use Rattle.ib_io.specs.Told.{IsOutOfMemoryWhere, TellsFault, Told};
 ghost use Rattle.ib_latch_form.specs.Answers.{AnswersEvents};
 ghost use Rattle.ib_latch_form.specs.Events.{event_fault};
 
@@ -16,8 +15,7 @@ use std::alloc::Global;
 pub fn answer_events<K: Sink>(alloc: Global, input: &[u8], sink: &mut K) -> Status
     requires { length input.now ≤ INPUT_BYTES }
     ensures told { Told (AnswersEvents input.now) (IsOutOfMemoryWhere (event_fault input.now ≡ None)) (K.written sink.old) (K.written sink.new) result }
-    ensures calm { result ≢ Status.WriteFault → K.faults sink.new ≡ K.faults sink.old }
-    ensures write { result ≡ Status.WriteFault → Rose (K.faults sink.old) (K.faults sink.new) }
+    ensures write { TellsFault Status.WriteFault result (K.faults sink.old) (K.faults sink.new) }
 {
     match read_events(alloc, input) {
         Ok(events) => make_events(alloc, events, sink),

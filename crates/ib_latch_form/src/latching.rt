@@ -1,9 +1,8 @@
 //! Events made on the latch machine, and what is printed of them.
 
-ghost use Rattle.std.specs.Prelude.{◌≡◌, ◌≢◌, ◌≤◌, ◌+◌, length};
+ghost use Rattle.std.specs.Prelude.{◌≡◌, ◌≤◌, ◌+◌, length};
 ghost use Rattle.std.specs.List.{AllByRecursion};
-ghost use Rattle.ib_io.specs.Faults.{Rose};
-ghost use Rattle.ib_io.specs.Told.{IsOutOfMemory, Told, ends};
+ghost use Rattle.ib_io.specs.Told.{IsOutOfMemory, TellsFault, Told, ends};
 ghost use Rattle.ib_io.specs.Writer.{Puts};
 ghost use Rattle.ib_io.specs.declared.line_kind.TheConstants.{MOST_SCRIPT_SESSIONS as SESSIONS};
 ghost use Rattle.ib_latch_form.specs.Events.{IsEventInRange};
@@ -55,8 +54,7 @@ impl Printed for Making {
 /// Makes events on the latch machine with all latches free, and writes what came of each.
 pub fn make_events<K: Sink>(alloc: Global, events: Events, sink: &mut K) -> Status
     ensures told { Told (λ e. e ≡ ends Status.Done (latch_output events)) IsOutOfMemory (K.written sink.old) (K.written sink.new) result }
-    ensures calm { result ≢ Status.WriteFault → K.faults sink.new ≡ K.faults sink.old }
-    ensures write { result ≡ Status.WriteFault → Rose (K.faults sink.old) (K.faults sink.new) }
+    ensures write { TellsFault Status.WriteFault result (K.faults sink.old) (K.faults sink.new) }
 {
     match Core::new(alloc, MOST_SCRIPT_SESSIONS, MOST_LATCH + 1) {
         Ok(core) => tell(sink, Making { core, events }, Status::Done),

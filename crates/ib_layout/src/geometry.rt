@@ -32,7 +32,7 @@ pub const END_PLACE: usize = 1;
 // Where the words of the latches begin, and how many each has.
 const LATCHES: usize = 2;
 
-const LATCH_WORDS: usize = 5;
+pub(crate) const LATCH_WORDS: usize = 5;
 
 /// Why there is no space of these sizes.
 #[derive(Clone, Copy, Debug, PartialEq, Eq, Error)]

@@ -8,7 +8,7 @@ use Rattle.std.proofs.lemmas.List.Quantifiers.{all_pairs_push, all_pairs_remove}
 use Rattle.ib_levels.specs.declared.level.Level.{Level}
 use Rattle.ib_levels.specs.declared.listed.Against.{Against}
 use Rattle.ib_levels.specs.Level.{may_follow, MayFollow, IsOrderly, MayTake, first_against}
-use Rattle.ib_levels.specs.Listed.{answer_to, refused_by}
+use Rattle.ib_levels.specs.Listed.{Allows, answer_to, refused_by}
 
 -- the empty list is orderly
 pub orderly_nil : IsOrderly []
@@ -75,14 +75,13 @@ answer_unheld is_held wanted levels first answer unheld found is =
     is ∙ (ap (refused_by wanted) found ∙ sym (ap (λ held. answer_to held wanted levels) unheld))
 
 -- what is said of the answer holds of a result that is the answer
-pub ok_of_answer : (is_held : Bool) (wanted : Level) (levels : List Level) (answer : Result (Unit {0}) Against) → answer ≡ answer_to is_held wanted levels
-    → IsOk answer ↔ (IsTrue is_held ⊎ MayTake wanted levels)
-ok_of_answer is_held wanted levels answer is = subst (λ a. IsOk a ↔ (IsTrue is_held ⊎ MayTake wanted levels)) (sym is) (answer_ok is_held wanted levels)
-
-pub orderly_of_answer : (is_held : Bool) (wanted : Level) (levels : List Level) (answer : Result (Unit {0}) Against) → answer ≡ answer_to is_held wanted levels
-    → IsOrderly levels → IsOk answer ↔ (IsTrue is_held ⊎ IsOrderly (levels ++ wanted ∷ []))
-orderly_of_answer is_held wanted levels answer is orderly =
-    subst (λ a. IsOk a ↔ (IsTrue is_held ⊎ IsOrderly (levels ++ wanted ∷ []))) (sym is) (answer_orderly is_held wanted levels orderly)
+pub allowed : (is_held : Bool) (wanted : Level) (levels : List Level) (answer : Result (Unit {0}) Against) → answer ≡ answer_to is_held wanted levels
+    → Allows is_held wanted levels answer
+allowed is_held wanted levels answer is = record {
+  answer = is;
+  ok = subst (λ a. IsOk a ↔ (IsTrue is_held ⊎ MayTake wanted levels)) (sym is) (answer_ok is_held wanted levels);
+  orderly = λ orderly. subst (λ a. IsOk a ↔ (IsTrue is_held ⊎ IsOrderly (levels ++ wanted ∷ []))) (sym is) (answer_orderly is_held wanted levels orderly);
+}
 
 -- the parts of an orderly list: its first level allows the others, which are orderly
 pub orderly_head : (level : Level) (levels : List Level) → IsOrderly (level ∷ levels) → All (MayFollow level) levels

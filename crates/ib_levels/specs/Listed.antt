@@ -1,10 +1,10 @@
 -- Lists of what a session holds, of things on a latch at a level, and the answer to a request
 -- beside them.
-use Rattle.std.specs.Prelude.{ℕ, Bool, true, false, List, map, ◌==◌, Option, Some, None, Result, Ok, Err}
+use Rattle.std.specs.Prelude.{◌≡◌, ◌↔◌, ◌⊎◌, ◌++◌, ◌∷◌, [], ℕ, Bool, true, false, IsTrue, List, map, ◌==◌, Option, Some, None, Result, Ok, Err, IsOk}
 use Rattle.std.specs.List.{list_any}
 use Rattle.ib_levels.specs.declared.level.Level.{Level}
 use Rattle.ib_levels.specs.declared.listed.Against.{Against}
-use Rattle.ib_levels.specs.Level.{first_against}
+use Rattle.ib_levels.specs.Level.{IsOrderly, MayTake, first_against}
 
 -- the levels along a list, in order of taking
 abbrev pub levels_along : {A : Type 0} → (A → Level) → List A → List Level
@@ -23,3 +23,10 @@ refused_by wanted (Some held) = Err (record { held = held; wanted = wanted })
 abbrev pub answer_to : Bool → Level → List Level → Result (Unit {0}) Against
 answer_to true wanted levels = Ok tt
 answer_to false wanted levels = refused_by wanted (first_against wanted levels)
+
+-- what a request at this level is answered beside these levels, where the latch is held already or
+-- not. Of an orderly list: it is allowed where the latch is held, or the list stays orderly with it.
+pub record Allows (is_held : Bool) (wanted : Level) (levels : List Level) (result : Result (Unit {0}) Against) : Type 0 where
+  pub answer : result ≡ answer_to is_held wanted levels
+  pub ok : IsOk result ↔ (IsTrue is_held ⊎ MayTake wanted levels)
+  pub orderly : IsOrderly levels → (IsOk result ↔ (IsTrue is_held ⊎ IsOrderly (levels ++ wanted ∷ [])))

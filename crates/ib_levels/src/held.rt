@@ -1,8 +1,6 @@
 //! What a session holds, and which latch it may take beside it.
 
-ghost use Rattle.std.specs.Prelude.{◌≡◌, ◌↔◌, ◌⊎◌, ◌++◌, ◌∷◌, [], IsTrue, IsOk};
-ghost use Rattle.ib_levels.specs.Level.{IsOrderly, MayTake};
-ghost use Rattle.ib_levels.specs.Listed.{answer_to};
+ghost use Rattle.ib_levels.specs.Listed.{Allows};
 ghost use Rattle.ib_levels.specs.Held.{has_latch, levels_of_held};
 
 use crate::latch::Latch;
@@ -35,14 +33,7 @@ impl Listed for Held {
 /// may where it holds the latch already, or no level held forbids it. Else the answer names the
 /// first level that does (sync0debug).
 pub fn may_take(held: &[Held], latch: Latch, level: Level) -> Result<(), Against>
-    ensures answer { result
-        ≡ answer_to (has_latch latch.0 held.now) level (levels_of_held held.now) }
-    ensures ok { IsOk result
-        ↔ (IsTrue (has_latch latch.0 held.now) ⊎ MayTake level (levels_of_held held.now)) }
-    // Of an orderly list: where the latch is held already, or the list stays orderly with it.
-    ensures orderly { IsOrderly (levels_of_held held.now)
-        → (IsOk result ↔ (IsTrue (has_latch latch.0 held.now)
-        ⊎ IsOrderly (levels_of_held held.now ++ level ∷ []))) }
+    ensures { Allows (has_latch latch.0 held.now) level (levels_of_held held.now) result }
 {
     allows(held, latch, level)
 }

@@ -1,8 +1,7 @@
 //! What a session has on each of its latches, and which latch it may take beside them.
 
-ghost use Rattle.std.specs.Prelude.{◌≡◌, ◌↔◌, ◌⊎◌, ◌++◌, ◌∷◌, [], IsTrue, IsOk};
-ghost use Rattle.ib_levels.specs.Level.{IsOrderly, MayTake};
-ghost use Rattle.ib_levels.specs.Listed.{answer_to};
+ghost use Rattle.std.specs.Prelude.{◌≡◌};
+ghost use Rattle.ib_levels.specs.Listed.{Allows};
 ghost use Rattle.ib_levels.specs.Holding.{held_of, is_held, levels_of};
 
 use crate::held::Held;
@@ -64,12 +63,7 @@ pub fn holds(held: &[Holding], latch: Latch) -> bool
 
 /// The same as `may_take`, for a session's holdings.
 pub fn may_add(held: &[Holding], latch: Latch, level: Level) -> Result<(), Against>
-    ensures answer { result ≡ answer_to (is_held latch.0 held.now) level (levels_of held.now) }
-    ensures ok { IsOk result
-        ↔ (IsTrue (is_held latch.0 held.now) ⊎ MayTake level (levels_of held.now)) }
-    ensures orderly { IsOrderly (levels_of held.now)
-        → (IsOk result ↔ (IsTrue (is_held latch.0 held.now)
-        ⊎ IsOrderly (levels_of held.now ++ level ∷ []))) }
+    ensures { Allows (is_held latch.0 held.now) level (levels_of held.now) result }
 {
     allows(held, latch, level)
 }

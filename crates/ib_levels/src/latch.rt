@@ -29,7 +29,7 @@ impl Latch {
 }
 
 /// The numbers of the latches that are no page's, as a contract. Both are below that of page 0.
-pub fn latch_law()
+pub fn latch_number_law()
     ensures log { Latch.LOG ≡ record { 0 = 0 } }
     ensures index { Latch.INDEX ≡ record { 0 = 1 } }
 {}

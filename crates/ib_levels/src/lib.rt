@@ -10,6 +10,6 @@ mod listed;
 
 pub use held::{Held, may_take};
 pub use holding::{Holding, holds, may_add};
-pub use latch::{Latch, MOST_PAGES, latch_law};
+pub use latch::{Latch, MOST_PAGES, latch_number_law};
 pub use level::{Level, Mode};
 pub use listed::Against;

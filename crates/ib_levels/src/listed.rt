@@ -1,9 +1,9 @@
 //! The rule of levels, along a list of what a session holds.
 
-ghost use Rattle.std.specs.Prelude.{◌≡◌, ◌↔◌, ◌⊎◌, ◌++◌, ◌∷◌, [], ℕ, IsTrue, IsOk};
+ghost use Rattle.std.specs.Prelude.{◌≡◌, ℕ};
 ghost use Rattle.ib_levels.specs.declared.level.Level.{Level};
-ghost use Rattle.ib_levels.specs.Level.{IsOrderly, MayTake, first_against};
-ghost use Rattle.ib_levels.specs.Listed.{answer_to, is_among, levels_along, refused_by};
+ghost use Rattle.ib_levels.specs.Level.{first_against};
+ghost use Rattle.ib_levels.specs.Listed.{Allows, is_among, levels_along, refused_by};
 
 use crate::latch::Latch;
 use crate::level::Level;
@@ -61,13 +61,8 @@ fn first_forbidding<H: Listed>(held: &[H], wanted: Level) -> Option<Level>
 // Whether a session that holds these, in order of taking, may take the latch at the level: it may
 // where it holds the latch already, or no level held forbids it.
 pub(crate) fn allows<H: Listed>(held: &[H], latch: Latch, level: Level) -> Result<(), Against>
-    ensures answer { result ≡ answer_to (is_among H.latch_of latch.0 held.now) level
-        (levels_along H.level_of held.now) }
-    ensures ok { IsOk result ↔ (IsTrue (is_among H.latch_of latch.0 held.now)
-        ⊎ MayTake level (levels_along H.level_of held.now)) }
-    ensures orderly { IsOrderly (levels_along H.level_of held.now)
-        → (IsOk result ↔ (IsTrue (is_among H.latch_of latch.0 held.now)
-        ⊎ IsOrderly (levels_along H.level_of held.now ++ level ∷ []))) }
+    ensures { Allows (is_among H.latch_of latch.0 held.now) level
+        (levels_along H.level_of held.now) result }
 {
     if is_among(held, latch) {
         return Ok(());

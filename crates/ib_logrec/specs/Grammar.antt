@@ -6,6 +6,7 @@ use Rattle.ib_map.specs.declared.write.Write.{Write}
 use Rattle.ib_map.specs.Writes.{spans_pages, PlacesRise}
 use Rattle.ib_logrec.specs.declared.entry.TheConstants.{HEAD_WORDS, MOST_WRITES, MOST_SESSIONS}
 use Rattle.ib_logrec.specs.declared.entry.Entry.{Entry}
+use Rattle.ib_logrec.specs.declared.first_word.TheConstants.{INSERT, DELETE, STRUCTURAL_INSERT, STRUCTURAL_DELETE}
 use Rattle.ib_logrec.specs.declared.head.Head.{Head}
 use Rattle.ib_logrec.specs.declared.fault.LogFault.{LogFault}
 use Rattle.ib_logrec.specs.declared.fault.LogFault.TheVariants.{Short, BadHead, BadWrite, Outside, OutOfMemory}
@@ -47,8 +48,9 @@ abbrev pub ◌or◌ : Option LogFault → Option LogFault → Option LogFault
 (Some fault) or next = Some fault
 None or next = next
 
+-- the flags of a change
 abbrev pub is_flags : ℕ → Bool
-is_flags flags = (flags == 1) || (flags == 2) || (flags == 5) || (flags == 6)
+is_flags flags = (flags == INSERT) || (flags == DELETE) || (flags == STRUCTURAL_INSERT) || (flags == STRUCTURAL_DELETE)
 
 -- a number from 1 on
 abbrev pub is_counted : ℕ → ℕ → Bool

@@ -6,6 +6,7 @@ use Rattle.ib_map.specs.declared.call.Change.TheVariants.{Insert, Delete}
 use Rattle.ib_map.specs.declared.call.LoggedChange.{LoggedChange}
 use Rattle.ib_logrec.specs.declared.entry.TheConstants.{HEAD_WORDS}
 use Rattle.ib_logrec.specs.declared.entry.Entry.{Entry}
+use Rattle.ib_logrec.specs.declared.first_word.TheConstants.{INSERT, DELETE, STRUCTURAL_INSERT, STRUCTURAL_DELETE}
 use Rattle.ib_logrec.specs.declared.head.Head.{Head}
 use Rattle.ib_logrec.specs.KeyWords.{key_words, key_in}
 
@@ -17,10 +18,10 @@ head_of e = record { session = e.session; number = e.number; change = e.change; 
 abbrev pub logged_head : Head → LoggedChange
 logged_head h = record { session = h.session; number = h.number; change = h.change }
 
--- 1 for an insert, 2 for a delete, and 4 more for a structural one
+-- the flags that tell a change, and whether it is structural
 abbrev pub flags_of : Change → Bool → ℕ
-flags_of (Insert key value) structural = if structural then 5 else 1
-flags_of (Delete key) structural = if structural then 6 else 2
+flags_of (Insert key value) structural = if structural then STRUCTURAL_INSERT else INSERT
+flags_of (Delete key) structural = if structural then STRUCTURAL_DELETE else DELETE
 
 -- the value of an insert, 0 for a delete
 abbrev pub value_of : Change → ℕ
@@ -45,10 +46,10 @@ abbrev pub count_in : ℕ → ℕ
 count_in first = first % 2 ^ 16
 
 abbrev pub is_delete : ℕ → Bool
-is_delete first = (flags_in first == 2) || (flags_in first == 6)
+is_delete first = (flags_in first == DELETE) || (flags_in first == STRUCTURAL_DELETE)
 
 abbrev pub is_structural : ℕ → Bool
-is_structural first = (flags_in first == 5) || (flags_in first == 6)
+is_structural first = (flags_in first == STRUCTURAL_INSERT) || (flags_in first == STRUCTURAL_DELETE)
 
 -- the parts of a head by their places among its words
 abbrev pub first_at : List ℕ → ℕ

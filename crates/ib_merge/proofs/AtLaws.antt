@@ -32,7 +32,7 @@ use Rattle.ib_merge.specs.Deletes.{without_record, CanMerge, IsMerged, AreTaken}
 use Rattle.ib_merge.proofs.GiveLaws.{with_bits-last, AreTaken-last}
 use Rattle.ib_merge.proofs.MovedLaws.{moves-gone, moves-left, moves-parent, moves-other}
 use Rattle.ib_merge.proofs.MergedLaws.{merged-reads, merged-parent, merged-next, merged-others, beside-left, beside-gone}
-use Rattle.ib_merge.proofs.WayLaws.{there-reads}
+use Rattle.ib_merge.proofs.OnPathLaws.{there-reads}
 
 -- The work set's pages are those that the plan has come to, with the clocks of all pages that were touched ticked. Touched are the page itself and lower ones alone, and, where the page has one child left, that child
 pub record IsAt (m : PageMemory) (bits : ℕ → ℕ) (height page : ℕ) (s : Shrinkage) (freed : List ℕ) (old new : List WorkPage) : Type 0 where

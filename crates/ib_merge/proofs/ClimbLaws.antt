@@ -20,7 +20,7 @@ use Rattle.ib_plans.proofs.DeleteLaws.{IsDeletedBelow, IsDeletedBelow-path}
 use Rattle.ib_plans.proofs.EditLaws.{IsSome-and}
 use Rattle.ib_plans.proofs.LevelLaws.{above-suc, above-sum}
 use Rattle.ib_plans.proofs.PathLaws.{PathPage-below, page_below-child}
-use Rattle.ib_plans.proofs.PathListLaws.{length-way_down}
+use Rattle.ib_plans.proofs.PathListLaws.{length-path_down}
 use Rattle.ib_plans.proofs.SettledLaws.{planned_delete-settled}
 use Rattle.ib_merge.specs.declared.edits.Merger.{Merger}
 use Rattle.ib_merge.specs.Deletes.{HasSiblings, HasNext, CanDelete, CanChoose, CanMerge, CanLift, IsMerged, IsLifted, IsDeleteClimbed, IsDeleteClimbedForAll, merger_of, without_record}
@@ -29,7 +29,7 @@ use Rattle.ib_merge.proofs.ImageLaws.{there-tree}
 use Rattle.ib_merge.proofs.LiftEdits.{IsDeleteClimbed-at, root-tree, root-stays, can-lift, IsDeleteClimbed-lift}
 use Rattle.ib_merge.proofs.MergerLaws.{short-none, long-settled}
 use Rattle.ib_merge.proofs.NodeLaws.{mid-alike, here-is, can-choose, same-choice, can-merge, IsAt-step}
-use Rattle.ib_merge.proofs.WayLaws.{way_down-at, nodes-at}
+use Rattle.ib_merge.proofs.OnPathLaws.{path_down-at, nodes-at}
 
 -- the pages of the path up to this height were seen to
 abbrev pub IsAtForAll : List ℕ → MapKey → ℕ → List ℕ → List WorkPage → List WorkPage → Type 0
@@ -42,13 +42,13 @@ module _ (pages roots root : ℕ) (key : MapKey) (path : List ℕ) (old : List W
   in-range = rank-lt_end key
 
   pub length-path : length path ≡ suc (height_of m root)
-  length-path = ap length a.way ∙ length-way_down m key (height_of m root) root
+  length-path = ap length a.way ∙ length-path_down m key (height_of m root) root
 
   pub tall-at : (depth height : ℕ) → depth + height + 1 ≡ length path → height_of m root ≡ above depth height
   tall-at depth height e = let s = above-sum depth height in let l = length-path in omega arith
 
   pub page-at : (depth height : ℕ) → depth + height + 1 ≡ length path → page_below m key depth root ≡ get_or path depth 0
-  page-at depth height e = sym (ap (λ (ps : List ℕ). get_or ps depth 0) a.way ∙ way_down-at m key (height_of m root) root depth (let l = length-path in omega arith))
+  page-at depth height e = sym (ap (λ (ps : List ℕ). get_or ps depth 0) a.way ∙ path_down-at m key (height_of m root) root depth (let l = length-path in omega arith))
 
   pub some-at : (depth height : ℕ) → depth + height + 1 ≡ length path → get_or path depth 0 ≢ 0
   some-at depth height e z = (PathPage-below (λ n. MOST_RECORDS) m bits roots a.lawful key in-range root a.some a.within depth height (tall-at depth height e)).some (page-at depth height e ∙ z)

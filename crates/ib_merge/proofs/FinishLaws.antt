@@ -15,13 +15,13 @@ use Rattle.ib_plans.specs.Marks.{untouched}
 use Rattle.ib_plans.specs.Moves.{HasMoved}
 use Rattle.ib_plans.specs.Merge.{first_child}
 use Rattle.ib_plans.specs.Split.{with_records}
-use Rattle.ib_plans.specs.Agreement.{IsThere, state_or_free, memory_in, reads_of, Agrees, IsPlanned, HasBits, bits_in, taken_bits, with_bits, space_ticks}
+use Rattle.ib_plans.specs.Agreement.{SetsBits, IsThere, state_or_free, memory_in, reads_of, Agrees, IsPlanned, HasBits, bits_in, taken_bits, with_bits, space_ticks}
 use Rattle.ib_plans.proofs.EditLaws.{changed_of-same, changed_of-other, reads_of-changed}
-use Rattle.ib_merge.specs.Deletes.{CanDelete, IsDeleteClimbed, IsDeleteClimbedForAll, MayGivePages, GivesPages, AreTaken}
+use Rattle.ib_merge.specs.Deletes.{CanDelete, IsDeleteClimbed, IsDeleteClimbedForAll, MayGivePages, AreTaken}
 use Rattle.ib_merge.proofs.AtLaws.{mark-skip}
 use Rattle.ib_merge.proofs.ClimbLaws.{length-path}
 use Rattle.ib_merge.proofs.GiveLaws.{AreTaken-more, with_bits-clear}
-use Rattle.ib_merge.proofs.WayLaws.{there-reads}
+use Rattle.ib_merge.proofs.OnPathLaws.{there-reads}
 
 -- an image that is there
 pub if-some : (o : Option (List ℕ)) (P : List ℕ → Type 0) (image : List ℕ) → o ≡ Some image → IfSome o P → P image
@@ -116,7 +116,7 @@ module _ (path : List ℕ) (key : MapKey) (old : List WorkPage) (can : CanDelete
     clock = subst (λ (o : Option (List ℕ)). IfSome o (λ image. space_clock_of image < 2 ^ 63)) (sym c.space) can.clocks.1;
   }
 
-  module _ (new : List WorkPage) (none : freed ≡ [] → new ≡ mid) (given : freed ≢ [] → GivesPages freed mid new) where
+  module _ (new : List WorkPage) (none : freed ≡ [] → new ≡ mid) (given : freed ≢ [] → SetsBits 0 freed mid new) where
     empty-or : (freed ≡ []) ⊎ (freed ≢ [])
     empty-or = by freed
       where

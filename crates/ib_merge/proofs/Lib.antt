@@ -3,7 +3,7 @@ pub mod MovedLaws
 pub mod BesideLaws
 pub mod GiveLaws
 pub mod MergeEdits
-pub mod WayLaws
+pub mod OnPathLaws
 pub mod MergerLaws
 pub mod MergedLaws
 pub mod AtLaws

@@ -29,7 +29,7 @@ use Rattle.ib_merge.proofs.AtLaws.{IsAt, mark-skip, mark-split}
 use Rattle.ib_merge.proofs.GiveLaws.{with_bits-last, AreTaken-last}
 use Rattle.ib_merge.proofs.ImageLaws.{there-tree}
 use Rattle.ib_merge.proofs.MergedLaws.{lifted-reads, lifted-root, lifted-child, lifted-others}
-use Rattle.ib_merge.proofs.WayLaws.{there-reads}
+use Rattle.ib_merge.proofs.OnPathLaws.{there-reads}
 
 -- what was come to, as the pages of the plan
 pub IsDeleteClimbed-at : (m : PageMemory) (bits : ℕ → ℕ) (height page : ℕ) (s : Shrinkage) (freed : List ℕ) (old new : List WorkPage) → IsAt m bits height page s freed old new

@@ -10,7 +10,7 @@ use Rattle.ib_plans.specs.Split.{with_prev}
 use Rattle.ib_plans.specs.Agreement.{IsThere, state_or_free, memory_in, reads_of, tick}
 use Rattle.ib_plans.proofs.EditLaws.{set-reads, set-same, set-other, set-others, IsSome-and}
 use Rattle.ib_merge.specs.Deletes.{without_record, CanMerge, IsMerged, IsLifted}
-use Rattle.ib_merge.proofs.WayLaws.{there-reads}
+use Rattle.ib_merge.proofs.OnPathLaws.{there-reads}
 use Rattle.ib_merge.proofs.MergeEdits.{join-left, join-gone, join-reads, two-others}
 
 module _ (parent left : ℕ) (gone : MapKey × ℕ) (beside : ℕ) (old new : List WorkPage) (can : CanMerge parent left gone.1 beside old) (m : IsMerged parent left gone beside old new) where

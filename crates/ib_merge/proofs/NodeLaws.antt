@@ -32,7 +32,7 @@ use Rattle.ib_merge.proofs.AtLaws.{IsAt, IsAt-merged, above-is, child-some, chil
 use Rattle.ib_merge.proofs.ImageLaws.{there-tree}
 use Rattle.ib_merge.proofs.MergerLaws.{chosen-with, merger_of-same, short-merged}
 use Rattle.ib_merge.proofs.NextLaws.{first-not_above, next-beside}
-use Rattle.ib_merge.proofs.WayLaws.{there-reads}
+use Rattle.ib_merge.proofs.OnPathLaws.{there-reads}
 
 pub on-some : (o : Option (MapKey × ℕ)) (P : MapKey × ℕ → Type 0) (y : MapKey × ℕ) → o ≡ Some y → IfSome o P → P y
 on-some o P y is holds = let Q : Option (MapKey × ℕ) → Type 0 = λ q. IfSome q P in subst Q is holds

@@ -1,5 +1,5 @@
 -- What a planned delete asks of its work set, and what its steps do to it.
-use Rattle.std.specs.Prelude.{◌≡◌, ◌≢◌, ℕ, ◌+◌, ◌<◌, ◌≤◌, ◌^◌, ◌++◌, Bool, true, false, List, [], ◌∷◌, length, nat_lt, Option, Some, None, ◌⊎◌, IfSome, IsSomeAnd, MatchOption, slice_get, slice_index, if◌then◌else◌}
+use Rattle.std.specs.Prelude.{◌≡◌, ◌≢◌, ℕ, ◌+◌, ◌<◌, ◌≤◌, ◌^◌, ◌++◌, Bool, true, false, List, [], ◌∷◌, length, nat_lt, Option, Some, None, ◌⊎◌, IfSome, IsSomeAnd, MatchOption, slice_get, if◌then◌else◌}
 use Rattle.std.specs.List.{All}
 use Rattle.ib_map.specs.Keys.{MapKey, rank, end_rank}
 use Rattle.ib_map.specs.Pairs.{Rises, without}
@@ -8,7 +8,7 @@ use Rattle.ib_heap.specs.declared.TheConstants.{MOST_RECORDS}
 use Rattle.ib_page.specs.declared.space.TheConstants.{MAPPED_PAGES}
 use Rattle.ib_page.specs.Image.{IsTreePage}
 use Rattle.ib_page.specs.Space.{space_clock_of}
-use Rattle.ib_page.specs.Work.{WorkPage, changed_of, with_changed}
+use Rattle.ib_page.specs.Work.{WorkPage, changed_of}
 use Rattle.ib_walk.specs.Pages.{PageState, PageMemory}
 use Rattle.ib_plans.specs.Marks.{ticked, with_bit}
 use Rattle.ib_plans.specs.Moves.{Move, Takes, Fills, Frees, unmoved, with_move, HasMoved}
@@ -150,17 +150,6 @@ pub record MayGivePages (pages : List ℕ) (work : List WorkPage) : Type 0 where
   pub there : IsThere work 0
   pub taken : IfSome (changed_of 0 work) (λ image. AreTaken (taken_bits image) pages)
   pub clock : IfSome (changed_of 0 work) (λ image. space_clock_of image < 2 ^ 63)
-
--- page 0 has these pages given back, and its clock is one higher
-pub record GivesPages (given : List ℕ) (old new : List WorkPage) : Type 0 where
-  pub was : List ℕ
-  pub image : List ℕ
-  pub before : changed_of 0 old ≡ Some was
-  pub work : new ≡ with_changed 0 image old
-  pub size : length image ≡ length was
-  pub bits : (page : ℕ) → page < MAPPED_PAGES → taken_bits image page ≡ with_bits given 0 (taken_bits was) page
-  pub clock : space_clock_of image ≡ space_clock_of was + 1
-  pub behind : (i : ℕ) → 64 < i → slice_index image i ≡ slice_index was i
 
 -- the tree's pages are those of the plan, and their records stand as it moves them; page 0 and each page that is not touched is as it was; these pages were freed
 pub record IsDeleteClimbed (freed : List ℕ) (memory planned : PageMemory) (bits before : ℕ → ℕ) (touched : ℕ → Bool) (moves : ℕ → Move) (old new : List WorkPage) : Type 0 where

@@ -10,8 +10,8 @@ ghost use Rattle.ib_page.specs.Work.{changed_of};
 ghost use Rattle.ib_plans.specs.Merge.{first_child};
 ghost use Rattle.ib_plans.specs.Moves.{HasMoved, Takes, Stays};
 ghost use Rattle.ib_plans.specs.Split.{with_prev};
-ghost use Rattle.ib_plans.specs.Agreement.{memory_in, Sets, tick, taken_bits, with_bits};
-ghost use Rattle.ib_merge.specs.Deletes.{without_record, CanMerge, IsJoined, IsMerged, CanLift, IsLifted, AreTaken, MayGivePages, GivesPages};
+ghost use Rattle.ib_plans.specs.Agreement.{SetsBits, memory_in, Sets, tick, taken_bits, with_bits};
+ghost use Rattle.ib_merge.specs.Deletes.{without_record, CanMerge, IsJoined, IsMerged, CanLift, IsLifted, AreTaken, MayGivePages};
 
 use crate::images::{join_images, lower_image};
 use ib_map::Key;
@@ -97,7 +97,7 @@ pub(crate) fn lift(work: &mut WorkSet, root: u32) -> u32
 pub(crate) fn give_pages(work: &mut WorkSet, pages: &[u32])
     requires { pages.now ≢ [] → MayGivePages pages.now work.old }
     ensures none { pages.now ≡ [] → work.new ≡ work.old }
-    ensures given { pages.now ≢ [] → GivesPages pages.now work.old work.new }
+    ensures given { pages.now ≢ [] → SetsBits 0 pages.now work.old work.new }
 {
     if pages.is_empty() {
         return;

@@ -6,6 +6,7 @@ use Rattle.ib_levels.specs.declared.latch.Latch.{Latch}
 use Rattle.ib_levels.specs.declared.level.Level.{Level}
 use Rattle.ib_levels.specs.declared.level.Mode.{Mode}
 use Rattle.ib_levels.specs.Holding.{on}
+use Rattle.ib_levels.proofs.Counts.{on-none}
 use Rattle.ib_layout.specs.Places.{latches_of}
 use Rattle.ib_core.specs.declared.phase.Phase.TheVariants.{Free}
 use Rattle.ib_core.specs.declared.session.Session.{Session}
@@ -18,10 +19,12 @@ use Rattle.ib_rule.specs.declared.pass.TheConstants.{MOST_HELD}
 use Rattle.ib_rule.specs.Conditions.{MayGrow}
 use Rattle.ib_rule.specs.Pass.{PassState, IsOf, with_view}
 use Rattle.ib_rule.specs.Space.{SpaceState}
+use Rattle.ib_rule.specs.Takes.{MayTake, MayTakeMore}
 use Rattle.ib_latch.specs.Tries.{HasTakenGrant, IsUnchanged, held_with}
 use Rattle.ib_frames.specs.Reads.{IsLoadedImage}
+use Rattle.ib_mtr.specs.declared.mtr.Mtr.{Mtr}
 use Rattle.ib_mtr.specs.Memo.{HasExactly}
-use Rattle.ib_mtr.specs.Mtr.{IsMtr, IsUnchangedOn, pages_left, released, released_at, with_memo, with_work, without_grant}
+use Rattle.ib_mtr.specs.Mtr.{IsMtr, IsStillMtr, IsUnchangedOn, pages_left, released, released_at, with_memo, with_work, without_grant}
 use Rattle.ib_mtr.proofs.Grants.{exact_fewer, exact_more, still_held}
 use Rattle.ib_mtr.proofs.Held.{length_held}
 use Rattle.ib_mtr.proofs.Images.{pages_read}
@@ -64,6 +67,20 @@ pub memo_room : (space : SpaceState) (p q : PassState) → IsMtr space p → May
 memo_room space p q mtr grows same =
     let few = length_held p.memo p.view.session mtr.exact mtr.proper in
     let memo = ap (λ (q : PassState). length q.memo) same in let more = grows.1 in omega arith
+
+-- one change after another
+pub still_then : {L S : Type 0} {a b c : Mtr L S} → IsStillMtr a b → IsStillMtr b c → IsStillMtr a c
+still_then one two = record { mtr = two.mtr; latches = two.latches ∙ one.latches; pass = two.pass ∙ one.pass }
+
+-- where a first grant may be taken, so may one in SX or X
+pub may_take_more : (space : SpaceState) (l : ℕ) (v : Level) (p : PassState) → MayTake space l v p → MayTakeMore space l v p
+may_take_more space l v p may = record {
+  own = may.own;
+  latch = may.latch;
+  free = may.may.free;
+  grows = may.grows;
+  may = record { unread = on-none l (λ h. h.s) p.view.session.held may.may.none; new = λ _. may.may };
+}
 
 -- a grant, on top of the memo
 pub granted : (space : SpaceState) (p q r : PassState) (mode : Mode) (latch : Latch) (v : Level) → IsMtr space p → latch.0 < latches_of space.sizes

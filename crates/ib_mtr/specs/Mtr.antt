@@ -1,5 +1,5 @@
 -- A mini-transaction, and what each of its calls leaves.
-use Rattle.std.specs.Prelude.{◌≡◌, ℕ, ◌+◌, ◌<◌, ◌==◌, ◌||◌, not, nat_lt, true, false, List, [], ◌∷◌, filter, remove, take, drop, slice_get, IfSome, IsSomeAnd, IsTrue}
+use Rattle.std.specs.Prelude.{◌≡◌, ℕ, ◌+◌, ◌<◌, ◌≤◌, ◌==◌, ◌||◌, not, nat_lt, true, false, List, [], ◌∷◌, ◌++◌, filter, remove, take, drop, slice_get, IfSome, IsSomeAnd, IsTrue}
 use Rattle.std.specs.List.{All}
 use Rattle.ib_levels.specs.declared.latch.Latch.{Latch}
 use Rattle.ib_levels.specs.declared.level.Mode.{Mode}
@@ -17,8 +17,10 @@ use Rattle.ib_rule.specs.declared.view.View.{View}
 use Rattle.ib_rule.specs.Pass.{PassState, IsOf}
 use Rattle.ib_rule.specs.Space.{SpaceState}
 use Rattle.ib_rule.specs.Views.{left_as, with_looks}
+use Rattle.ib_latch.specs.Tries.{HasTakenGrant}
 use Rattle.ib_latch.specs.Unlocks.{sx_steps}
 use Rattle.ib_frames.specs.Reads.{IsLoadedImage}
+use Rattle.ib_mtr.specs.declared.mtr.Mtr.{Mtr}
 use Rattle.ib_mtr.specs.Memo.{HasExactly}
 
 -- a mini-transaction works in the pass, which is one of the space: the session is in the middle of nothing, has exactly the grants of the memo, and holds the latch of each page of the work set, whose image as read is what was loaded under the grant that is held now
@@ -32,12 +34,28 @@ pub record IsMtr (space : SpaceState) (p : PassState) : Type 0 where
   pub held : All (λ w. 0 < holdings (w.page + 2) p.view.session) p.work
   pub read : All (λ w. IsLoadedImage p.view.memory.loaded w.page w.before) p.work
 
+-- it is a mini-transaction still, of the same pass on the same latches
+pub record IsStillMtr {L S : Type 0} (old new : Mtr L S) : Type 0 where
+  pub mtr : IsMtr new.latches.now new.pass.now
+  pub latches : new.latches ≡ old.latches
+  pub pass : new.pass.ghost_name ≡ old.pass.ghost_name
+
 -- the pass with other pages, or with another memo
 abbrev pub with_work : List WorkPage → PassState → PassState
 with_work pages p = record p { work = pages }
 
 abbrev pub with_memo : List (Latch × Mode) → PassState → PassState
 with_memo memo p = record p { memo = memo }
+
+-- the pass with this view, and the grant of the mode on the latch on top of its memo
+abbrev pub with_granted : Latch → Mode → View → PassState → PassState
+with_granted latch mode v p = with_memo (p.memo ++ (latch, mode) ∷ []) (record p { view = v })
+
+-- the grant of the mode on the latch is on top of the memo, these are its holdings then, and nothing else is changed but looks
+pub record IsGranted (latch : Latch) (mode : Mode) (held : List Holding) (p q : PassState) : Type 0 where
+  pub pass : q ≡ with_granted latch mode q.view p
+  pub taken : HasTakenGrant mode held Free p.view q.view
+  pub looks : p.view.looks.count ≤ q.view.looks.count
 
 -- the pass in which a mini-transaction starts, and the one in which it has ended
 abbrev pub started : PassState → PassState

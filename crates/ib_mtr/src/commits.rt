@@ -1,16 +1,16 @@
 //! The end of a mini-transaction: its commit, which is one append, or its end without a change.
 
-ghost use Rattle.std.specs.Prelude.{◌≡◌, ◌<◌, ◌+◌, ◌≤◌, ◌↔◌, [], true, length, IfOk, IfErr};
+ghost use Rattle.std.specs.Prelude.{◌≡◌, ◌<◌, ◌+◌, ◌≤◌, [], length, IfOk, IfErr};
 ghost use Rattle.ib_core.specs.Sessions.{idle};
-ghost use Rattle.ib_logrec.specs.Log.{by_place, used};
+ghost use Rattle.ib_logrec.specs.Log.{used};
 ghost use Rattle.ib_page.specs.Work.{IsWork};
 ghost use Rattle.ib_frames.specs.Appends.{MayAppend, entry_for};
 ghost use Rattle.ib_rule.specs.declared.pass.TheConstants.{ENTRY_WORDS};
-ghost use Rattle.ib_rule.specs.declared.view.Role.TheVariants.{Session};
 ghost use Rattle.ib_rule.specs.Pass.{with_view};
 ghost use Rattle.ib_rule.specs.Stores.{appending};
+ghost use Rattle.ib_rule.specs.Under.{under, under_lawful};
 ghost use Rattle.ib_mtr.specs.Commits.{HasCommitted, HasRead, IsFull, MayCommit};
-ghost use Rattle.ib_mtr.specs.Mtr.{IsMtr, released_to, with_work};
+ghost use Rattle.ib_mtr.specs.Mtr.{IsMtr, IsStillMtr, released_to, with_work};
 
 use crate::mtr::Mtr;
 use ib_frames::{LogFull, append};
@@ -34,12 +34,9 @@ impl<'a, L: Law> Mtr<'a, L, Parkers> {
     pub fn commit<R: Wait>(self, rt: &R, change: Change) -> Result<u32, LogFull>
         requires mtr { IsMtr self.latches.now self.pass.now }
         requires may { MayCommit (L.lawful self.latches.now.sizes.pages) self.pass.now change }
-        ensures committed { IfOk result (λ place. HasCommitted self.entry.latches.now.sizes
-            (L.lawful self.entry.latches.now.sizes.pages)
-            (by_place L.opening self.entry.latches.now.sizes.pages)
+        ensures committed { IfOk result (λ place. under L.Law self.entry.latches.now HasCommitted
             change self.entry.pass.now place self.exit.1.0.now) }
-        ensures full { IfErr result (λ full. IsFull self.entry.latches.now.sizes
-            (L.lawful self.entry.latches.now.sizes.pages)
+        ensures full { IfErr result (λ full. under_lawful L.Law self.entry.latches.now IsFull
             self.entry.pass.now full self.exit.1.0.now) }
     {
         let Mtr { latches, pass } = self;
@@ -53,9 +50,8 @@ impl<'a, L: Law, S: Sleep> Mtr<'a, L, S> {
     /// from the newest to the oldest, and nothing is written.
     pub fn commit_read(self) -> u32
         requires { IsMtr self.latches.now self.pass.now }
-        ensures { HasRead self.entry.latches.now.sizes
-            (L.lawful self.entry.latches.now.sizes.pages)
-            self.entry.pass.now result self.exit.1.0.now }
+        ensures { under_lawful L.Law self.entry.latches.now HasRead self.entry.pass.now result
+            self.exit.1.0.now }
     {
         let Mtr { latches, pass } = self;
         read_and_end(latches, pass)
@@ -96,8 +92,7 @@ impl<'a, L: Law, S: Sleep> Mtr<'a, L, S> {
     // All pages leave the work set, and all grants are given back.
     fn give_back(&mut self)
         requires { IsMtr self.old.latches.now (with_work [] self.old.pass.now) }
-        ensures pass { self.new.pass.ghost_name ≡ self.old.pass.ghost_name }
-        ensures mtr { IsMtr self.new.latches.now self.new.pass.now }
+        ensures still { IsStillMtr self.old self.new }
         ensures given { self.new.pass.now ≡ released_to 0 (with_work [] self.old.pass.now) }
         ensures idle { self.new.pass.now.view.session ≡ idle }
     {
@@ -115,11 +110,10 @@ fn commit_in<L: Law, R: Wait>(
 ) -> Result<u32, LogFull>
     requires mtr { IsMtr latches.now pass.old }
     requires may { MayCommit (L.lawful latches.now.sizes.pages) pass.old change }
-    ensures committed { IfOk result (λ place. HasCommitted latches.now.sizes
-        (L.lawful latches.now.sizes.pages) (by_place L.opening latches.now.sizes.pages)
-        change pass.old place pass.new) }
-    ensures full { IfErr result (λ full. IsFull latches.now.sizes
-        (L.lawful latches.now.sizes.pages) pass.old full pass.new) }
+    ensures committed { IfOk result (λ place. under L.Law latches.now HasCommitted change pass.old
+        place pass.new) }
+    ensures full { IfErr result (λ full. under_lawful L.Law latches.now IsFull pass.old full
+        pass.new) }
 {
     // The session's number, which no step changes.
     let _ = pass.number();
@@ -138,7 +132,7 @@ fn commit_in<L: Law, R: Wait>(
 // A look at the log's end, and the end of the mini-transaction that works in the pass.
 fn read_and_end<L: Law, S: Sleep>(latches: &Latches<L, S>, pass: &mut Pass) -> u32
     requires { IsMtr latches.now pass.old }
-    ensures { HasRead latches.now.sizes (L.lawful latches.now.sizes.pages) pass.old result pass.new }
+    ensures { under_lawful L.Law latches.now HasRead pass.old result pass.new }
 {
     let mut reader = Mtr { latches, pass };
     let place = reader.log_end().entries;

@@ -9,10 +9,11 @@ ghost use Rattle.ib_logrec.specs.Log.{by_place, memory_after, used};
 ghost use Rattle.ib_page.specs.declared.work.TheConstants.{MOST_WORK_PAGES};
 ghost use Rattle.ib_page.specs.Work.{changed_of};
 ghost use Rattle.ib_rule.specs.Pass.{with_view};
+ghost use Rattle.ib_rule.specs.Under.{under};
 ghost use Rattle.ib_rule.specs.Views.{is_watched, loading};
 ghost use Rattle.ib_mtr.specs.Lending.{LendsImage};
 ghost use Rattle.ib_mtr.specs.Loads.{HasLoadedPage, HasLooked};
-ghost use Rattle.ib_mtr.specs.Mtr.{IsMtr};
+ghost use Rattle.ib_mtr.specs.Mtr.{IsMtr, IsStillMtr};
 
 use crate::mtr::Mtr;
 use ib_frames::{LogEnd, read_page};
@@ -32,13 +33,9 @@ impl<'a, L: Law, S: Sleep> Mtr<'a, L, S> {
         requires held { 0 < holdings (page + 2) self.old.pass.now.view.session }
         requires absent { changed_of page self.old.pass.now.work ≡ None }
         requires few { length self.old.pass.now.work < MOST_WORK_PAGES }
-        ensures mtr { IsMtr self.new.latches.now self.new.pass.now }
-        ensures latches { self.new.latches ≡ self.old.latches }
-        ensures pass { self.new.pass.ghost_name ≡ self.old.pass.ghost_name }
-        ensures loaded { HasLoadedPage self.old.latches.now.sizes
-            (L.lawful self.old.latches.now.sizes.pages)
-            (by_place L.opening self.old.latches.now.sizes.pages)
-            page self.old.pass.now self.new.pass.now }
+        ensures still { IsStillMtr self.old self.new }
+        ensures loaded { under L.Law self.old.latches.now HasLoadedPage page self.old.pass.now
+            self.new.pass.now }
     {
         let mut room = self.pass.leave_work();
         let image = room.work.read_in(page);
@@ -57,9 +54,7 @@ impl<'a, L: Law, S: Sleep> Mtr<'a, L, S> {
         requires index { index < PAGE_WORDS }
         requires held { 0 < holdings (page + 2) self.old.pass.now.view.session }
         requires watched { is_watched (page + 2) self.old.pass.now.view.memory.since ≡ true }
-        ensures mtr { IsMtr self.new.latches.now self.new.pass.now }
-        ensures latches { self.new.latches ≡ self.old.latches }
-        ensures pass { self.new.pass.ghost_name ≡ self.old.pass.ghost_name }
+        ensures still { IsStillMtr self.old self.new }
         ensures word { result
             ≡ memory_after (by_place L.opening self.old.latches.now.sizes.pages)
             self.old.pass.now.view.memory.seen (word_place page index) }
@@ -86,15 +81,11 @@ impl<'a, L: Law, S: Sleep> Mtr<'a, L, S> {
     /// Looks at the log's end: all of the log is seen then. Memo and work set stay as they are.
     pub fn log_end(&mut self) -> LogEnd
         requires mtr { IsMtr self.old.latches.now self.old.pass.now }
-        ensures mtr { IsMtr self.new.latches.now self.new.pass.now }
-        ensures latches { self.new.latches ≡ self.old.latches }
-        ensures pass { self.new.pass.ghost_name ≡ self.old.pass.ghost_name }
+        ensures still { IsStillMtr self.old self.new }
         ensures entries { result.entries ≡ length self.new.pass.now.view.memory.seen }
         ensures words { result.words ≡ used self.new.pass.now.view.memory.seen }
-        ensures looked { HasLooked self.old.latches.now.sizes
-            (L.lawful self.old.latches.now.sizes.pages)
-            (by_place L.opening self.old.latches.now.sizes.pages)
-            self.old.pass.now self.new.pass.now }
+        ensures looked { under L.Law self.old.latches.now HasLooked self.old.pass.now
+            self.new.pass.now }
     {
         ib_frames::log_end(self.latches.space(), self.pass)
     }

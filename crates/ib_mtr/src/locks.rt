@@ -1,18 +1,14 @@
 //! Latches that are waited for, onto the memo (mtr0mtr, `mtr_s_lock`, `mtr_sx_lock`, `mtr_x_lock`).
 
-ghost use Rattle.std.specs.Prelude.{◌≡◌, ◌<◌, ◌≤◌, ◌++◌, ◌∷◌, []};
+ghost use Rattle.std.specs.Prelude.{◌≡◌};
 ghost use Rattle.ib_levels.specs.declared.level.Mode.TheVariants.{S as ModeS, Sx as ModeSx, X as ModeX};
-ghost use Rattle.ib_layout.specs.Places.{latches_of};
-ghost use Rattle.ib_core.specs.declared.phase.Phase.TheVariants.{Free};
-ghost use Rattle.ib_core.specs.Holders.{CanWish};
 ghost use Rattle.ib_core.specs.Sessions.{claims, sx_grants, x_grants};
 ghost use Rattle.ib_core.specs.Takings.{holding_too, is_given_at};
-ghost use Rattle.ib_rule.specs.Conditions.{MayClaim, MayGrow};
 ghost use Rattle.ib_rule.specs.Laws.{Stores};
-ghost use Rattle.ib_rule.specs.Pass.{with_view};
-ghost use Rattle.ib_latch.specs.Tries.{HasTakenGrant, held_with};
+ghost use Rattle.ib_rule.specs.Takes.{MayTake, MayTakeMore};
+ghost use Rattle.ib_latch.specs.Tries.{held_with};
 ghost use Rattle.ib_latch.specs.Waits.{EndsOwning, EndsWon};
-ghost use Rattle.ib_mtr.specs.Mtr.{IsMtr, with_memo};
+ghost use Rattle.ib_mtr.specs.Mtr.{IsGranted, IsMtr, IsStillMtr};
 
 use crate::mtr::Mtr;
 use ib_latch::Parkers;
@@ -26,20 +22,11 @@ impl<'a, L: Law> Mtr<'a, L, Parkers> {
     #[inline(always)]
     pub fn s_latch<R: Wait>(&mut self, rt: &R, latch: Latch, level: Level)
         requires mtr { IsMtr self.old.latches.now self.old.pass.now }
-        requires latch { latch.0 < latches_of self.old.latches.now.sizes }
-        requires grows { MayGrow self.old.pass.now.view }
-        requires may { CanWish latch.0 level self.old.pass.now.view.session }
-        ensures mtr { IsMtr self.new.latches.now self.new.pass.now }
-        ensures latches { self.new.latches ≡ self.old.latches }
-        ensures pass { self.new.pass.ghost_name ≡ self.old.pass.ghost_name }
-        ensures granted { self.new.pass.now
-            ≡ with_memo (self.old.pass.now.memo ++ (latch, Mode.S) ∷ [])
-            (with_view self.old.pass.now self.new.pass.now.view) }
-        ensures taken { HasTakenGrant ModeS
-            (holding_too ModeS latch.0 level self.old.pass.now.view.session.held) Free
-            self.old.pass.now.view self.new.pass.now.view }
+        requires may { MayTake self.old.latches.now latch.0 level self.old.pass.now }
+        ensures still { IsStillMtr self.old self.new }
+        ensures granted { IsGranted latch ModeS (holding_too ModeS latch.0 level
+            self.old.pass.now.view.session.held) self.old.pass.now self.new.pass.now }
         ensures won { EndsWon (is_given_at ModeS) latch.0 self.new.pass.now.view.looks }
-        ensures looks { self.old.pass.now.view.looks.count ≤ self.new.pass.now.view.looks.count }
     {
         self.latches.lock_s(rt, self.pass, latch, level);
         self.pass.remember(latch, Mode::S);
@@ -49,23 +36,14 @@ impl<'a, L: Law> Mtr<'a, L, Parkers> {
     /// on top of the memo (WL#6363, `mtr_sx_lock`). Beside one's own SX or X it is granted at once.
     pub fn sx_latch<R: Wait>(&mut self, rt: &R, latch: Latch, level: Level)
         requires mtr { IsMtr self.old.latches.now self.old.pass.now }
-        requires latch { latch.0 < latches_of self.old.latches.now.sizes }
-        requires grows { MayGrow self.old.pass.now.view }
-        requires may { MayClaim latch.0 level self.old.pass.now.view.session }
-        ensures mtr { IsMtr self.new.latches.now self.new.pass.now }
-        ensures latches { self.new.latches ≡ self.old.latches }
-        ensures pass { self.new.pass.ghost_name ≡ self.old.pass.ghost_name }
-        ensures granted { self.new.pass.now
-            ≡ with_memo (self.old.pass.now.memo ++ (latch, Mode.Sx) ∷ [])
-            (with_view self.old.pass.now self.new.pass.now.view) }
-        ensures taken { HasTakenGrant ModeSx
-            (held_with ModeSx latch.0 level self.old.pass.now.view.session) Free
-            self.old.pass.now.view self.new.pass.now.view }
+        requires may { MayTakeMore self.old.latches.now latch.0 level self.old.pass.now }
+        ensures still { IsStillMtr self.old self.new }
+        ensures granted { IsGranted latch ModeSx (held_with ModeSx latch.0 level
+            self.old.pass.now.view.session) self.old.pass.now self.new.pass.now }
         ensures won { claims latch.0 self.old.pass.now.view.session ≡ 0
             → EndsWon (is_given_at ModeSx) latch.0 self.new.pass.now.view.looks }
         ensures signed { sx_grants latch.0 self.old.pass.now.view.session ≡ 0
             → Stores latch.0 self.new.pass.now.view.written }
-        ensures looks { self.old.pass.now.view.looks.count ≤ self.new.pass.now.view.looks.count }
     {
         self.latches.lock_sx(rt, self.pass, latch, level);
         self.pass.remember(latch, Mode::Sx);
@@ -75,23 +53,14 @@ impl<'a, L: Law> Mtr<'a, L, Parkers> {
     /// top of the memo (`mtr_x_lock`). Beside one's own X it is granted at once.
     pub fn x_latch<R: Wait>(&mut self, rt: &R, latch: Latch, level: Level)
         requires mtr { IsMtr self.old.latches.now self.old.pass.now }
-        requires latch { latch.0 < latches_of self.old.latches.now.sizes }
-        requires grows { MayGrow self.old.pass.now.view }
-        requires may { MayClaim latch.0 level self.old.pass.now.view.session }
-        ensures mtr { IsMtr self.new.latches.now self.new.pass.now }
-        ensures latches { self.new.latches ≡ self.old.latches }
-        ensures pass { self.new.pass.ghost_name ≡ self.old.pass.ghost_name }
-        ensures granted { self.new.pass.now
-            ≡ with_memo (self.old.pass.now.memo ++ (latch, Mode.X) ∷ [])
-            (with_view self.old.pass.now self.new.pass.now.view) }
-        ensures taken { HasTakenGrant ModeX
-            (held_with ModeX latch.0 level self.old.pass.now.view.session) Free
-            self.old.pass.now.view self.new.pass.now.view }
+        requires may { MayTakeMore self.old.latches.now latch.0 level self.old.pass.now }
+        ensures still { IsStillMtr self.old self.new }
+        ensures granted { IsGranted latch ModeX (held_with ModeX latch.0 level
+            self.old.pass.now.view.session) self.old.pass.now self.new.pass.now }
         ensures ends { x_grants latch.0 self.old.pass.now.view.session ≡ 0
             → EndsOwning (sx_grants latch.0 self.new.pass.now.view.session) latch.0
             self.new.pass.now.view.looks }
         ensures signed { Stores latch.0 self.new.pass.now.view.written }
-        ensures looks { self.old.pass.now.view.looks.count ≤ self.new.pass.now.view.looks.count }
     {
         self.latches.lock_x(rt, self.pass, latch, level);
         self.pass.remember(latch, Mode::X);

@@ -1,20 +1,18 @@
 //! The memo: latches are taken onto it, and given back from any place of it.
 
-ghost use Rattle.std.specs.Prelude.{◌≡◌, ◌≢◌, ◌<◌, ◌≤◌, ◌+◌, ◌++◌, ◌∷◌, [], ◌==◌, not, filter, length, IsTrue, IsOk, IfErr, MatchOption, OnErr, OnOk};
+ghost use Rattle.std.specs.Prelude.{◌≡◌, ◌≢◌, ◌<◌, [], ◌==◌, not, filter, length, IsTrue, IsOk, IfErr, MatchOption, OnErr, OnOk};
 ghost use Rattle.std.specs.List.{All};
 ghost use Rattle.ib_levels.specs.declared.level.Mode.TheVariants.{S as ModeS};
 ghost use Rattle.ib_layout.specs.Places.{latches_of};
 ghost use Rattle.ib_core.specs.declared.phase.Phase.TheVariants.{Free};
 ghost use Rattle.ib_core.specs.Good.{IsProper};
-ghost use Rattle.ib_core.specs.Holders.{CanWish};
-ghost use Rattle.ib_core.specs.Sessions.{idle};
 ghost use Rattle.ib_core.specs.Takings.{holding_too};
 ghost use Rattle.ib_page.specs.Work.{before_of, changed_of};
-ghost use Rattle.ib_rule.specs.Conditions.{MayGrow};
 ghost use Rattle.ib_rule.specs.Pass.{IsOf, with_view};
+ghost use Rattle.ib_rule.specs.Takes.{MayTake};
 ghost use Rattle.ib_latch.specs.Tries.{IsFirstTry, HasTakenGrant, IsUnchanged, looks_of};
 ghost use Rattle.ib_mtr.specs.Memo.{IsNewest, grants_of};
-ghost use Rattle.ib_mtr.specs.Mtr.{IsMtr, IsReleasedAt, IsUnchangedOn, MayRelease, pages_left, released, released_to, with_memo, with_work};
+ghost use Rattle.ib_mtr.specs.Mtr.{IsMtr, IsReleasedAt, IsStillMtr, IsUnchangedOn, MayRelease, pages_left, released, released_to, with_granted, with_memo, with_work};
 
 use crate::mtr::Mtr;
 use ib_latch::{Latches, Sleep, TryFault};
@@ -30,15 +28,10 @@ impl<'a, L: Law, S: Sleep> Mtr<'a, L, S> {
     /// exchange found another word; then nothing is changed but the looks.
     pub fn try_s_latch(&mut self, latch: Latch, level: Level) -> Result<(), TryFault>
         requires mtr { IsMtr self.old.latches.now self.old.pass.now }
-        requires latch { latch.0 < latches_of self.old.latches.now.sizes }
-        requires grows { MayGrow self.old.pass.now.view }
-        requires may { CanWish latch.0 level self.old.pass.now.view.session }
-        ensures mtr { IsMtr self.new.latches.now self.new.pass.now }
-        ensures latches { self.new.latches ≡ self.old.latches }
-        ensures pass { self.new.pass.ghost_name ≡ self.old.pass.ghost_name }
+        requires may { MayTake self.old.latches.now latch.0 level self.old.pass.now }
+        ensures still { IsStillMtr self.old self.new }
         ensures granted { OnOk result (self.new.pass.now
-            ≡ with_memo (self.old.pass.now.memo ++ (latch, Mode.S) ∷ [])
-            (with_view self.old.pass.now self.new.pass.now.view)) }
+            ≡ with_granted latch ModeS self.new.pass.now.view self.old.pass.now) }
         ensures not_granted { OnErr result (self.new.pass.now
             ≡ with_view self.old.pass.now self.new.pass.now.view) }
         ensures tried { IsFirstTry ModeS latch.0 level self.old.pass.now result
@@ -83,9 +76,7 @@ impl<'a, L: Law, S: Sleep> Mtr<'a, L, S> {
         requires mtr { IsMtr self.old.latches.now self.old.pass.now }
         requires at { at < length self.old.pass.now.memo }
         requires unchanged { MayRelease at self.old.pass.now }
-        ensures mtr { IsMtr self.new.latches.now self.new.pass.now }
-        ensures latches { self.new.latches ≡ self.old.latches }
-        ensures pass { self.new.pass.ghost_name ≡ self.old.pass.ghost_name }
+        ensures still { IsStillMtr self.old self.new }
         ensures released { IsReleasedAt at self.old.pass.now self.new.pass.now }
     {
         let (latch, mode) = self.pass.memo()[at];
@@ -99,9 +90,7 @@ impl<'a, L: Law, S: Sleep> Mtr<'a, L, S> {
     pub(crate) fn release_all(&mut self)
         requires mtr { IsMtr self.old.latches.now self.old.pass.now }
         requires pages { self.old.pass.now.work ≡ [] }
-        ensures mtr { IsMtr self.new.latches.now self.new.pass.now }
-        ensures latches { self.new.latches ≡ self.old.latches }
-        ensures pass { self.new.pass.ghost_name ≡ self.old.pass.ghost_name }
+        ensures still { IsStillMtr self.old self.new }
         ensures released { self.new.pass.now ≡ released_to 0 self.old.pass.now }
     {
         for at in (0..self.savepoint()).rev() {
@@ -145,7 +134,8 @@ fn leave(pass: &mut Pass, latch: Latch)
     requires works { IsTrue pass.old.is_working }
     requires session { IsProper pass.old.view.session }
     requires unchanged { IsUnchangedOn latch.0 pass.old.work }
-    ensures { pass.new ≡ with_work (pages_left latch.0 pass.old.view.session pass.old.work) pass.old }
+    ensures { pass.new ≡ with_work (pages_left latch.0 pass.old.view.session pass.old.work)
+        pass.old }
 {
     if pass.work().is_empty() {
         return;
@@ -158,7 +148,8 @@ fn leave_loaded(pass: &mut Pass, latch: Latch)
     requires works { IsTrue pass.old.is_working }
     requires session { IsProper pass.old.view.session }
     requires unchanged { IsUnchangedOn latch.0 pass.old.work }
-    ensures { pass.new ≡ with_work (pages_left latch.0 pass.old.view.session pass.old.work) pass.old }
+    ensures { pass.new ≡ with_work (pages_left latch.0 pass.old.view.session pass.old.work)
+        pass.old }
 {
     if latch.0 >= 2 && pass.mode_held(latch).is_none() {
         let page = latch.0 - 2;

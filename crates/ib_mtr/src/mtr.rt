@@ -1,12 +1,12 @@
 //! The mini-transaction, from its start to its end.
 
-ghost use Rattle.std.specs.Prelude.{◌≡◌, IsTrue, IsSome, MatchOption, length, []};
+ghost use Rattle.std.specs.Prelude.{◌≡◌, IsSome, MatchOption, length, []};
 ghost use Rattle.std.specs.Borrow.{sem};
 ghost use Rattle.ib_core.specs.Sessions.{idle};
 ghost use Rattle.ib_page.specs.Work.{before_of, changed_of, without_page};
-ghost use Rattle.ib_rule.specs.Pass.{IsOf};
+ghost use Rattle.ib_rule.specs.Pass.{IsAtRest};
 ghost use Rattle.ib_rule.specs.Views.{KnowsHeld};
-ghost use Rattle.ib_mtr.specs.Mtr.{IsMtr, finished, started, with_work};
+ghost use Rattle.ib_mtr.specs.Mtr.{IsMtr, IsStillMtr, finished, started, with_work};
 ghost use Rattle.ib_mtr.specs.Lending.{LendsPages};
 
 use ib_latch::{Latches, Parkers, Sleep};
@@ -27,9 +27,7 @@ impl<'a, L: Law, S: Sleep> Mtr<'a, L, S> {
     /// Starts with an empty memo and no pages (`mtr_t::start`). The session holds nothing and is in
     /// the middle of nothing, and its scratch is free.
     pub fn start(latches: &'a Latches<L, S>, pass: &'a mut Pass) -> Mtr<'a, L, S>
-        requires own { IsOf latches.now pass.old }
-        requires idle { pass.old.view.session ≡ idle }
-        requires scratch { IsTrue pass.old.has_scratch }
+        requires rest { IsAtRest latches.now pass.old }
         ensures mtr { IsMtr result.latches.now result.pass.now }
         ensures latches { result.latches ≡ latches.entry }
         ensures pass { result.pass.ghost_name ≡ pass.entry.ghost_name }
@@ -88,9 +86,7 @@ impl<'a, L: Law, S: Sleep> Mtr<'a, L, S> {
         requires loaded { IsSome (changed_of page self.old.pass.now.work) }
         requires unchanged { changed_of page self.old.pass.now.work
             ≡ before_of page self.old.pass.now.work }
-        ensures mtr { IsMtr self.new.latches.now self.new.pass.now }
-        ensures latches { self.new.latches ≡ self.old.latches }
-        ensures pass { self.new.pass.ghost_name ≡ self.old.pass.ghost_name }
+        ensures still { IsStillMtr self.old self.new }
         ensures forgotten { self.new.pass.now
             ≡ with_work (without_page page self.old.pass.now.work) self.old.pass.now }
     {

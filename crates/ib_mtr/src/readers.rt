@@ -1,9 +1,8 @@
 //! What a caller asks of a mini-transaction before its commit, who does not prove that the commit's conditions hold.
 
-ghost use Rattle.std.specs.Prelude.{◌≡◌, ◌↔◌, ◌+◌, ◌<◌, ℕ, true, length, IsTrue};
+ghost use Rattle.std.specs.Prelude.{◌≡◌, ◌↔◌, ◌+◌, ◌<◌, ℕ, true, IsTrue};
 ghost use Rattle.std.specs.List.{All};
 ghost use Rattle.ib_map.specs.declared.call.Change.{Change};
-ghost use Rattle.ib_map.specs.Map.{key_of};
 ghost use Rattle.ib_map.specs.Writes.{spans_pages, touches};
 ghost use Rattle.ib_levels.specs.declared.latch.TheConstants.{MOST_PAGES};
 ghost use Rattle.ib_core.specs.Sessions.{sx_grants, x_grants};

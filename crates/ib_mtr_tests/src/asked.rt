@@ -1,9 +1,8 @@
 //! Mini-transactions that commit where they answer that they may.
 
-ghost use Rattle.std.specs.Prelude.{◌≡◌, ◌<◌, true};
-ghost use Rattle.ib_core.specs.Sessions.{idle};
-ghost use Rattle.ib_rule.specs.Pass.{IsOf};
-ghost use Rattle.ib_mtr.specs.Mtr.{IsMtr};
+ghost use Rattle.std.specs.Prelude.{◌<◌};
+ghost use Rattle.ib_rule.specs.Pass.{IsAtRest};
+ghost use Rattle.ib_mtr.specs.Mtr.{IsMtr, IsStillMtr};
 
 use crate::commits::{Table, Work, load, load_owned, small, take_x, touch};
 use crate::locks::may_claim;
@@ -19,9 +18,7 @@ use std::sync::Wait;
 // Commits an insert where it may, and ends without a change where it may not.
 fn commit_where_it_may<R: Wait>(rt: &R, mtr: Work<'_>, key: Key, value: u64) -> Option<u32>
     requires { IsMtr mtr.latches.now mtr.pass.now }
-    ensures own { IsOf mtr.entry.latches.now mtr.exit.1.0.now }
-    ensures idle { mtr.exit.1.0.now.view.session ≡ idle }
-    ensures scratch { mtr.exit.1.0.now.has_scratch ≡ true }
+    ensures rest { IsAtRest mtr.entry.latches.now mtr.exit.1.0.now }
 {
     if mtr.may_commit_any() {
         mtr.commit(rt, Change::Insert { key, value }).ok()
@@ -38,13 +35,9 @@ fn one_page<R: Abort + Wait>(
     pass: &mut Pass,
     page: u32,
 ) -> (bool, bool, Option<u32>)
-    requires own { IsOf table.now pass.old }
-    requires idle { pass.old.view.session ≡ idle }
-    requires scratch { pass.old.has_scratch ≡ true }
+    requires rest { IsAtRest table.now pass.old }
     requires page { page < 4096 }
-    ensures own { IsOf table.now pass.new }
-    ensures idle { pass.new.view.session ≡ idle }
-    ensures scratch { pass.new.has_scratch ≡ true }
+    ensures rest { IsAtRest table.now pass.new }
 {
     let mut mtr = Mtr::start(table, pass);
     let at_first = mtr.may_commit_any();
@@ -63,9 +56,7 @@ fn one_page<R: Abort + Wait>(
 fn change_what_is_read<R: Abort + Wait>(rt: &R, mtr: &mut Work<'_>, page: u32)
     requires mtr { IsMtr mtr.old.latches.now mtr.old.pass.now }
     requires page { page < 4096 }
-    ensures mtr { IsMtr mtr.new.latches.now mtr.new.pass.now }
-    ensures latches { mtr.new.latches ≡ mtr.old.latches }
-    ensures pass { mtr.new.pass.ghost_name ≡ mtr.old.pass.ghost_name }
+    ensures still { IsStillMtr mtr.old mtr.new }
 {
     let latch = Latch::page(page);
     assert!(rt; page < mtr.geometry().pages());
@@ -80,9 +71,7 @@ fn change_what_is_read<R: Abort + Wait>(rt: &R, mtr: &mut Work<'_>, page: u32)
 fn load_read(rt: &impl Abort, mtr: &mut Work<'_>, page: u32)
     requires mtr { IsMtr mtr.old.latches.now mtr.old.pass.now }
     requires page { page < 4096 }
-    ensures mtr { IsMtr mtr.new.latches.now mtr.new.pass.now }
-    ensures latches { mtr.new.latches ≡ mtr.old.latches }
-    ensures pass { mtr.new.pass.ghost_name ≡ mtr.old.pass.ghost_name }
+    ensures still { IsStillMtr mtr.old mtr.new }
 {
     assert!(rt; page < mtr.geometry().pages());
     assert!(rt; mtr.pass().counts(Latch::page(page)).s > 0);
@@ -94,9 +83,7 @@ fn load_read(rt: &impl Abort, mtr: &mut Work<'_>, page: u32)
 // A word of the page is changed, whatever is held there.
 fn set_read(rt: &impl Abort, mtr: &mut Work<'_>, page: u32)
     requires mtr { IsMtr mtr.old.latches.now mtr.old.pass.now }
-    ensures mtr { IsMtr mtr.new.latches.now mtr.new.pass.now }
-    ensures latches { mtr.new.latches ≡ mtr.old.latches }
-    ensures pass { mtr.new.pass.ghost_name ≡ mtr.old.pass.ghost_name }
+    ensures still { IsStillMtr mtr.old mtr.new }
 {
     assert!(rt; mtr.image(page).is_some());
     mtr.work().edit(page).set_word(5, 7);
@@ -104,13 +91,9 @@ fn set_read(rt: &impl Abort, mtr: &mut Work<'_>, page: u32)
 
 // A page that is read, and changed.
 fn page_in_s<R: Abort + Wait>(rt: &R, table: &Table, pass: &mut Pass, page: u32) -> Option<u32>
-    requires own { IsOf table.now pass.old }
-    requires idle { pass.old.view.session ≡ idle }
-    requires scratch { pass.old.has_scratch ≡ true }
+    requires rest { IsAtRest table.now pass.old }
     requires page { page < 4096 }
-    ensures own { IsOf table.now pass.new }
-    ensures idle { pass.new.view.session ≡ idle }
-    ensures scratch { pass.new.has_scratch ≡ true }
+    ensures rest { IsAtRest table.now pass.new }
 {
     let mut mtr = Mtr::start(table, pass);
     change_what_is_read(rt, &mut mtr, page);
@@ -120,9 +103,7 @@ fn page_in_s<R: Abort + Wait>(rt: &R, table: &Table, pass: &mut Pass, page: u32)
 // SX on the index.
 fn take_index<R: Abort + Wait>(rt: &R, mtr: &mut Work<'_>)
     requires mtr { IsMtr mtr.old.latches.now mtr.old.pass.now }
-    ensures mtr { IsMtr mtr.new.latches.now mtr.new.pass.now }
-    ensures latches { mtr.new.latches ≡ mtr.old.latches }
-    ensures pass { mtr.new.pass.ghost_name ≡ mtr.old.pass.ghost_name }
+    ensures still { IsStillMtr mtr.old mtr.new }
 {
     may_claim(rt, mtr, Latch::INDEX, Level::IndexTree);
     mtr.sx_latch(rt, Latch::INDEX, Level::IndexTree);
@@ -130,12 +111,8 @@ fn take_index<R: Abort + Wait>(rt: &R, mtr: &mut Work<'_>)
 
 // Two pages are changed, with SX on the index or without it.
 fn two_pages<R: Abort + Wait>(rt: &R, table: &Table, pass: &mut Pass, index: bool) -> Option<u32>
-    requires own { IsOf table.now pass.old }
-    requires idle { pass.old.view.session ≡ idle }
-    requires scratch { pass.old.has_scratch ≡ true }
-    ensures own { IsOf table.now pass.new }
-    ensures idle { pass.new.view.session ≡ idle }
-    ensures scratch { pass.new.has_scratch ≡ true }
+    requires rest { IsAtRest table.now pass.old }
+    ensures rest { IsAtRest table.now pass.new }
 {
     let mut mtr = Mtr::start(table, pass);
     if index {

@@ -1,14 +1,14 @@
 //! Mini-transactions that commit: a log that takes two entries, and four threads whose closed pages are
 //! those that their log gives.
 
-ghost use Rattle.std.specs.Prelude.{◌≡◌, ◌+◌, ◌<◌, true, [], None, length};
+ghost use Rattle.std.specs.Prelude.{◌≡◌, ◌+◌, ◌<◌, [], None, length};
 ghost use Rattle.ib_core.specs.Sessions.{holdings, idle};
 ghost use Rattle.ib_page.specs.Work.{changed_of};
 ghost use Rattle.ib_logrec.specs.Law.{AreInGrammar};
 ghost use Rattle.ib_map.specs.declared.call.Change.TheVariants.{Insert};
-ghost use Rattle.ib_rule.specs.Pass.{IsOf};
+ghost use Rattle.ib_rule.specs.Pass.{IsAtRest, IsOf};
 ghost use Rattle.ib_mtr.specs.Commits.{MayCommit};
-ghost use Rattle.ib_mtr.specs.Mtr.{IsMtr};
+ghost use Rattle.ib_mtr.specs.Mtr.{IsMtr, IsStillMtr};
 
 use crate::locks::may_claim;
 use crate::memos::come;
@@ -46,9 +46,7 @@ pub(crate) fn small(rt: &impl Abort, alloc: Global, log_words: u32) -> Table
 pub(crate) fn take_x<R: Abort + Wait>(rt: &R, mtr: &mut Work<'_>, page: u32)
     requires mtr { IsMtr mtr.old.latches.now mtr.old.pass.now }
     requires page { page < 4096 }
-    ensures mtr { IsMtr mtr.new.latches.now mtr.new.pass.now }
-    ensures latches { mtr.new.latches ≡ mtr.old.latches }
-    ensures pass { mtr.new.pass.ghost_name ≡ mtr.old.pass.ghost_name }
+    ensures still { IsStillMtr mtr.old mtr.new }
 {
     let latch = Latch::page(page);
     may_claim(rt, mtr, latch, Level::TreeNode);
@@ -59,9 +57,7 @@ pub(crate) fn take_x<R: Abort + Wait>(rt: &R, mtr: &mut Work<'_>, page: u32)
 pub(crate) fn load_owned(rt: &impl Abort, mtr: &mut Work<'_>, page: u32)
     requires mtr { IsMtr mtr.old.latches.now mtr.old.pass.now }
     requires page { page < 4096 }
-    ensures mtr { IsMtr mtr.new.latches.now mtr.new.pass.now }
-    ensures latches { mtr.new.latches ≡ mtr.old.latches }
-    ensures pass { mtr.new.pass.ghost_name ≡ mtr.old.pass.ghost_name }
+    ensures still { IsStillMtr mtr.old mtr.new }
 {
     assert!(rt; page < mtr.geometry().pages());
     assert!(rt; mtr.pass().counts(Latch::page(page)).x > 0);
@@ -76,9 +72,7 @@ pub(crate) fn load(mtr: &mut Work<'_>, page: u32)
     requires held { 0 < holdings (page + 2) mtr.old.pass.now.view.session }
     requires absent { changed_of page mtr.old.pass.now.work ≡ None }
     requires few { length mtr.old.pass.now.work < MOST_WORK_PAGES }
-    ensures mtr { IsMtr mtr.new.latches.now mtr.new.pass.now }
-    ensures latches { mtr.new.latches ≡ mtr.old.latches }
-    ensures pass { mtr.new.pass.ghost_name ≡ mtr.old.pass.ghost_name }
+    ensures still { IsStillMtr mtr.old mtr.new }
 {
     mtr.load(page);
 }
@@ -88,9 +82,7 @@ fn set_word(rt: &impl Abort, mtr: &mut Work<'_>, page: u32, index: usize, word: 
     requires mtr { IsMtr mtr.old.latches.now mtr.old.pass.now }
     requires page { page < 4096 }
     requires index { index < 160 }
-    ensures mtr { IsMtr mtr.new.latches.now mtr.new.pass.now }
-    ensures latches { mtr.new.latches ≡ mtr.old.latches }
-    ensures pass { mtr.new.pass.ghost_name ≡ mtr.old.pass.ghost_name }
+    ensures still { IsStillMtr mtr.old mtr.new }
 {
     assert!(rt; mtr.pass().counts(Latch::page(page)).x > 0);
     assert!(rt; mtr.image(page).is_some());
@@ -101,9 +93,7 @@ fn set_word(rt: &impl Abort, mtr: &mut Work<'_>, page: u32, index: usize, word: 
 pub(crate) fn touch(rt: &impl Abort, mtr: &mut Work<'_>, page: u32)
     requires mtr { IsMtr mtr.old.latches.now mtr.old.pass.now }
     requires page { page < 4096 }
-    ensures mtr { IsMtr mtr.new.latches.now mtr.new.pass.now }
-    ensures latches { mtr.new.latches ≡ mtr.old.latches }
-    ensures pass { mtr.new.pass.ghost_name ≡ mtr.old.pass.ghost_name }
+    ensures still { IsStillMtr mtr.old mtr.new }
 {
     assert!(rt; mtr.pass().counts(Latch::page(page)).x > 0);
     assert!(rt; mtr.image(page).is_some());
@@ -133,13 +123,9 @@ fn commit_touch<R: Abort + Wait>(
     key: Key,
     value: u64,
 ) -> Result<u32, LogFull>
-    requires own { IsOf table.now pass.old }
-    requires idle { pass.old.view.session ≡ idle }
-    requires scratch { pass.old.has_scratch ≡ true }
+    requires rest { IsAtRest table.now pass.old }
     requires page { page < 4096 }
-    ensures own { IsOf table.now pass.new }
-    ensures idle { pass.new.view.session ≡ idle }
-    ensures scratch { pass.new.has_scratch ≡ true }
+    ensures rest { IsAtRest table.now pass.new }
 {
     let mut mtr = Mtr::start(table, pass);
     take_x(rt, &mut mtr, page);
@@ -163,9 +149,7 @@ pub(crate) fn word(rt: &impl Abort, table: &Table, pass: &mut Pass, latch: Latch
 
 // A session that holds nothing ends.
 fn leave(table: &mut Table, pass: Pass)
-    requires own { IsOf table.old pass }
-    requires idle { pass.view.session ≡ idle }
-    requires scratch { pass.has_scratch ≡ true }
+    requires rest { IsAtRest table.old pass }
     ensures table { table.new.table ≡ table.old.table }
     ensures sizes { table.new.sizes ≡ table.old.sizes }
 {
@@ -221,13 +205,9 @@ fn commit_two_words<R: Abort + Wait>(
     page: u32,
     round: u64,
 ) -> Result<u32, LogFull>
-    requires own { IsOf table.now pass.old }
-    requires idle { pass.old.view.session ≡ idle }
-    requires scratch { pass.old.has_scratch ≡ true }
+    requires rest { IsAtRest table.now pass.old }
     requires page { page < 4096 }
-    ensures own { IsOf table.now pass.new }
-    ensures idle { pass.new.view.session ≡ idle }
-    ensures scratch { pass.new.has_scratch ≡ true }
+    ensures rest { IsAtRest table.now pass.new }
 {
     let number = pass.number() as usize;
     let mut mtr = Mtr::start(table, pass);
@@ -249,12 +229,8 @@ const SHARED: u32 = 4;
 
 // What one thread does.
 fn work<R: Abort + Wait>(rt: &R, table: &Table, pass: &mut Pass)
-    requires own { IsOf table.now pass.old }
-    requires idle { pass.old.view.session ≡ idle }
-    requires scratch { pass.old.has_scratch ≡ true }
-    ensures own { IsOf table.now pass.new }
-    ensures idle { pass.new.view.session ≡ idle }
-    ensures scratch { pass.new.has_scratch ≡ true }
+    requires rest { IsAtRest table.now pass.old }
+    ensures rest { IsAtRest table.now pass.new }
 {
     let number = pass.number();
     for round in 0..ROUNDS {
@@ -266,10 +242,10 @@ fn work<R: Abort + Wait>(rt: &R, table: &Table, pass: &mut Pass)
 
 // Two threads.
 fn pair<R: Abort + Wait + Threads + Sync>(rt: &R, table: &Table, one: &mut Pass, two: &mut Pass)
-    requires one { IsOf table.now one.old × (one.old.view.session ≡ idle) × (one.old.has_scratch ≡ true) }
-    requires two { IsOf table.now two.old × (two.old.view.session ≡ idle) × (two.old.has_scratch ≡ true) }
-    ensures one { IsOf table.now one.new × (one.new.view.session ≡ idle) × (one.new.has_scratch ≡ true) }
-    ensures two { IsOf table.now two.new × (two.new.view.session ≡ idle) × (two.new.has_scratch ≡ true) }
+    requires one { IsAtRest table.now one.old }
+    requires two { IsAtRest table.now two.old }
+    ensures one { IsAtRest table.now one.new }
+    ensures two { IsAtRest table.now two.new }
 {
     join_mut(
         rt,

@@ -10,7 +10,7 @@ ghost use Rattle.ib_rule.specs.Pass.{IsOf};
 use ib_core::Phase;
 use ib_frames::{LogFull, append, log_end, read_page};
 use ib_layout::Geometry;
-use ib_levels::{Latch, Level};
+use ib_levels::{Latch, Level, Mode};
 use ib_logrec::AnyLaw;
 use ib_map::{Change, Key, PAGE_WORDS};
 use ib_page::{Image, WorkSet};
@@ -44,7 +44,9 @@ fn take(rt: &impl Abort, space: &Space<AnyLaw>, pass: &mut Pass, latch: Latch, l
     assert!(rt; latch.0 < space.geometry().pages() + 2);
     assert!(rt; pass.can_wish(latch, level));
     assert!(rt; pass.may_grow());
-    let taken = space.take_x(pass, latch, level, LockWord::FREE).is_ok();
+    let taken = space
+        .take_first(pass, Mode::X, latch, level, LockWord::FREE)
+        .is_ok();
     assert!(rt; taken);
 }
 

@@ -1,9 +1,7 @@
 //! Latches that are waited for, onto the memo.
 
-ghost use Rattle.std.specs.Prelude.{◌<◌};
-ghost use Rattle.ib_layout.specs.Places.{latches_of};
-ghost use Rattle.ib_rule.specs.Conditions.{MayClaim};
-ghost use Rattle.ib_rule.specs.Conditions.{MayGrow};
+ghost use Rattle.ib_rule.specs.Takes.{MayTakeMore};
+ghost use Rattle.ib_mtr.specs.Mtr.{IsMtr};
 
 use crate::memos::{come, give, smallest};
 use ib_latch::Latches;
@@ -16,9 +14,8 @@ type Work<'a> = Mtr<'a, AnyLaw>;
 
 // The latch is one of the table's, which may be wished for or is claimed, and a grant may be taken.
 pub(crate) fn may_claim(rt: &impl Abort, mtr: &Work<'_>, latch: Latch, level: Level)
-    ensures latch { latch.0 < latches_of mtr.now.latches.now.sizes }
-    ensures grows { MayGrow mtr.now.pass.now.view }
-    ensures may { MayClaim latch.0 level mtr.now.pass.now.view.session }
+    requires { IsMtr mtr.now.latches.now mtr.now.pass.now }
+    ensures { MayTakeMore mtr.now.latches.now latch.0 level mtr.now.pass.now }
 {
     assert!(rt; latch.0 < mtr.geometry().pages() + 2);
     assert!(rt; mtr.pass().may_grow());

@@ -1,9 +1,9 @@
 //! A memo of three latches, and a page that leaves with its latch.
 
-ghost use Rattle.std.specs.Prelude.{◌≡◌, ◌+◌, ◌<◌, ℕ, true, []};
-ghost use Rattle.ib_core.specs.Sessions.{holdings, idle};
-ghost use Rattle.ib_rule.specs.Pass.{IsOf};
-ghost use Rattle.ib_mtr.specs.Mtr.{IsMtr, IsUnchangedOn};
+ghost use Rattle.std.specs.Prelude.{◌≡◌, ◌+◌, ◌<◌, ℕ, []};
+ghost use Rattle.ib_core.specs.Sessions.{holdings};
+ghost use Rattle.ib_rule.specs.Pass.{IsAtRest};
+ghost use Rattle.ib_mtr.specs.Mtr.{IsMtr, IsStillMtr, IsUnchangedOn};
 
 use ib_latch::{Latches, NoSleep, Sleep, TryFault};
 use ib_layout::Geometry;
@@ -23,9 +23,7 @@ pub(crate) fn smallest<S: Sleep>(rt: &impl Abort, alloc: Global) -> Latches<AnyL
 }
 
 pub(crate) fn come<S: Sleep>(rt: &impl Abort, alloc: Global, table: &mut Latches<AnyLaw, S>) -> Pass
-    ensures own { IsOf table.new result }
-    ensures idle { result.view.session ≡ idle }
-    ensures scratch { result.has_scratch ≡ true }
+    ensures rest { IsAtRest table.new result }
     ensures table { table.new.table ≡ table.old.table }
     ensures sizes { table.new.sizes ≡ table.old.sizes }
 {
@@ -35,9 +33,7 @@ pub(crate) fn come<S: Sleep>(rt: &impl Abort, alloc: Global, table: &mut Latches
 // S on a latch.
 fn s(rt: &impl Abort, mtr: &mut Work<'_>, latch: Latch, level: Level) -> Result<(), TryFault>
     requires mtr { IsMtr mtr.old.latches.now mtr.old.pass.now }
-    ensures mtr { IsMtr mtr.new.latches.now mtr.new.pass.now }
-    ensures latches { mtr.new.latches ≡ mtr.old.latches }
-    ensures pass { mtr.new.pass.ghost_name ≡ mtr.old.pass.ghost_name }
+    ensures still { IsStillMtr mtr.old mtr.new }
     ensures work { mtr.new.pass.now.work ≡ mtr.old.pass.now.work }
 {
     assert!(rt; latch.0 < mtr.geometry().pages() + 2);
@@ -50,9 +46,7 @@ fn s(rt: &impl Abort, mtr: &mut Work<'_>, latch: Latch, level: Level) -> Result<
 pub(crate) fn give<S: Sleep>(rt: &impl Abort, mtr: &mut Mtr<'_, AnyLaw, S>, at: usize)
     requires mtr { IsMtr mtr.old.latches.now mtr.old.pass.now }
     requires unchanged { (l : ℕ) → IsUnchangedOn l mtr.old.pass.now.work }
-    ensures mtr { IsMtr mtr.new.latches.now mtr.new.pass.now }
-    ensures latches { mtr.new.latches ≡ mtr.old.latches }
-    ensures pass { mtr.new.pass.ghost_name ≡ mtr.old.pass.ghost_name }
+    ensures still { IsStillMtr mtr.old mtr.new }
     ensures none { mtr.old.pass.now.work ≡ [] → mtr.new.pass.now.work ≡ [] }
 {
     assert!(rt; at < mtr.savepoint());
@@ -72,9 +66,7 @@ fn load(mtr: &mut Work<'_>, page: u32)
     requires none { mtr.old.pass.now.work ≡ [] }
     requires held { 0 < holdings (page + 2) mtr.old.pass.now.view.session }
     requires page { page < mtr.old.latches.now.sizes.pages }
-    ensures mtr { IsMtr mtr.new.latches.now mtr.new.pass.now }
-    ensures latches { mtr.new.latches ≡ mtr.old.latches }
-    ensures pass { mtr.new.pass.ghost_name ≡ mtr.old.pass.ghost_name }
+    ensures still { IsStillMtr mtr.old mtr.new }
     ensures unchanged { (l : ℕ) → IsUnchangedOn l mtr.new.pass.now.work }
 {
     mtr.load(page);

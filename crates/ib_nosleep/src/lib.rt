@@ -3,13 +3,10 @@
 //! `Parkers`.
 #![tactic(auto)]
 
-ghost use Rattle.std.specs.Prelude.{◌≡◌, ◌<◌, ◌≤◌, IfSome, IsTrue};
+ghost use Rattle.std.specs.Prelude.{◌≤◌, IfSome, IsTrue};
 ghost use Rattle.ib_levels.specs.declared.level.Level.TheVariants.{TreeNode};
-ghost use Rattle.ib_layout.specs.Places.{latches_of};
-ghost use Rattle.ib_core.specs.Holders.{CanWish};
-ghost use Rattle.ib_core.specs.Sessions.{idle};
-ghost use Rattle.ib_rule.specs.Conditions.{MayGrow};
-ghost use Rattle.ib_rule.specs.Pass.{IsOf};
+ghost use Rattle.ib_rule.specs.Pass.{IsAtRest, IsOf};
+ghost use Rattle.ib_rule.specs.Takes.{MayTake};
 
 use ib_latch::{Latches, NoSleep};
 use ib_layout::Geometry;
@@ -52,9 +49,8 @@ fn grants(alloc: Global) -> Option<u32>
 
 // Whether the session may take the page at the level of pages.
 fn may_take(table: &Table, pass: &Pass) -> bool
-    ensures latch { IsTrue result → PAGE.0 < latches_of table.now.sizes }
-    ensures grows { IsTrue result → MayGrow pass.now.view }
-    ensures may { IsTrue result → CanWish PAGE.0 TreeNode pass.now.view.session }
+    requires own { IsOf table.now pass.now }
+    ensures { IsTrue result → MayTake table.now PAGE.0 TreeNode pass.now }
 {
     PAGE.0 < table.space().geometry().pages() + 2
         && pass.may_grow()
@@ -63,11 +59,8 @@ fn may_take(table: &Table, pass: &Pass) -> bool
 
 // S, and back again: 1 where it was granted.
 fn read(table: &Table, pass: &mut Pass) -> u32
-    requires own { IsOf table.now pass.old }
-    requires idle { pass.old.view.session ≡ idle }
-    ensures own { IsOf table.now pass.new }
-    ensures idle { pass.new.view.session ≡ idle }
-    ensures scratch { pass.new.has_scratch ≡ pass.old.has_scratch }
+    requires rest { IsAtRest table.now pass.old }
+    ensures rest { IsAtRest table.now pass.new }
     ensures one { result ≤ 1 }
 {
     if !may_take(table, pass) {
@@ -84,11 +77,8 @@ fn read(table: &Table, pass: &mut Pass) -> u32
 
 // SX, and back again: 1 where it was granted.
 fn claim(table: &Table, pass: &mut Pass) -> u32
-    requires own { IsOf table.now pass.old }
-    requires idle { pass.old.view.session ≡ idle }
-    ensures own { IsOf table.now pass.new }
-    ensures idle { pass.new.view.session ≡ idle }
-    ensures scratch { pass.new.has_scratch ≡ pass.old.has_scratch }
+    requires rest { IsAtRest table.now pass.old }
+    ensures rest { IsAtRest table.now pass.new }
     ensures one { result ≤ 1 }
 {
     if !may_take(table, pass) {
@@ -105,11 +95,8 @@ fn claim(table: &Table, pass: &mut Pass) -> u32
 
 // X, and back again: 1 where it was granted.
 fn write(table: &Table, pass: &mut Pass) -> u32
-    requires own { IsOf table.now pass.old }
-    requires idle { pass.old.view.session ≡ idle }
-    ensures own { IsOf table.now pass.new }
-    ensures idle { pass.new.view.session ≡ idle }
-    ensures scratch { pass.new.has_scratch ≡ pass.old.has_scratch }
+    requires rest { IsAtRest table.now pass.old }
+    ensures rest { IsAtRest table.now pass.new }
     ensures one { result ≤ 1 }
 {
     if !may_take(table, pass) {

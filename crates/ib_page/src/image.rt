@@ -1,16 +1,15 @@
 //! A page: how its records are found, put in and taken out, and how it is cut and joined (page0page,
 //! page0cur).
 
-ghost use Rattle.std.specs.Prelude.{List, ℕ, ◌≡◌, ◌≢◌, ◌+◌, ◌-◌, ◌*◌, ◌<◌, ◌≤◌, ◌^◌, ◌++◌, [], ◌∷◌, length, take, drop, slice_get, slice_index, slice_set, IsTrue, IsSome, IsNone, IsSomeAnd, OnOk, OnErr, IfOk, IfErr, IfSome, MatchResult, ◌↔◌, Some, None};
-ghost use Rattle.std.specs.List.Sorted.{IsSearchInRange};
+ghost use Rattle.std.specs.Prelude.{List, ℕ, ◌≡◌, ◌+◌, ◌-◌, ◌*◌, ◌<◌, ◌≤◌, ◌^◌, ◌++◌, [], ◌∷◌, length, take, drop, slice_get, slice_index, slice_set, IsTrue, IsSomeAnd, ◌↔◌, Some};
 ghost use Rattle.ib_map.specs.Keys.{rank, end_rank};
-ghost use Rattle.ib_map.specs.Pairs.{Rises, put, without, cut, value_at, place_of, place_after};
+ghost use Rattle.ib_map.specs.Pairs.{Rises, cut, value_at, place_after};
 ghost use Rattle.ib_map.specs.Writes.{write_words};
 ghost use Rattle.ib_heap.specs.Page.PageValue.{Tree, Free};
 ghost use Rattle.ib_heap.specs.Words.{free_page_words};
 ghost use Rattle.ib_heap.specs.Heap.{read_heap};
-ghost use Rattle.ib_heap.specs.Put.{put_in};
-ghost use Rattle.ib_heap.specs.Take.{remove_in};
+ghost use Rattle.ib_heap.specs.Changes.{HasPut, HasTaken};
+ghost use Rattle.ib_heap.specs.Found.{IsFound, IsRouted};
 ghost use Rattle.ib_heap.specs.Filled.{filled, empty_heap};
 ghost use Rattle.ib_heap.specs.Form.{page_of, empty_leaf_words};
 ghost use Rattle.ib_heap.specs.Image.{IsTreePage, IsFormed, level_of, prev_of, next_of, clock_of, records_of, value_with_records, with_links, with_level, value_with_clock};
@@ -76,16 +75,6 @@ impl Image {
         ensures heap { read_heap result ≡ empty_heap }
     {
         Image::empty(0, clock)
-    }
-
-    /// An empty node, at a level of 1 to `MOST_LEVEL`.
-    pub fn node(level: u32, clock: u64) -> Image
-        requires above { 1 ≤ level }
-        requires low { level ≤ MOST_LEVEL }
-        ensures page { page_of result ≡ Tree (record { level = level; prev = 0; next = 0; clock = clock; records = [] }) }
-        ensures heap { read_heap result ≡ empty_heap }
-    {
-        Image::empty(level, clock)
     }
 
     /// A free page.
@@ -296,11 +285,7 @@ impl Image {
     /// (`page_cur_search_with_match`).
     pub fn find(&self, key: Key) -> Result<usize, usize>
         requires { IsTreePage self.now }
-        ensures place { let place = place_of key (records_of self.now) in MatchResult result (λ i. i ≡ place) (λ i. i ≡ place) }
-        ensures in_range { IsSearchInRange result (length (records_of self.now)) }
-        ensures found { IfOk result (λ i. IsSomeAnd (slice_get (records_of self.now) i) (λ r. r.0 ≡ key)) }
-        ensures value { IfOk result (λ i. IsSomeAnd (slice_get (records_of self.now) i) (λ r. value_at key (records_of self.now) ≡ Some r.1)) }
-        ensures absent { IfErr result (λ i. value_at key (records_of self.now) ≡ None) }
+        ensures { IsFound (records_of self.now) key result }
     {
         ib_heap::find(&self.words, key)
     }
@@ -318,10 +303,7 @@ impl Image {
     pub fn route(&self, key: Key) -> usize
         requires tree { IsTreePage self.now }
         requires first { IsSomeAnd (slice_get (records_of self.now) 0) (λ r. rank r.0 ≤ rank key) }
-        ensures place { result + 1 ≡ place_after key (records_of self.now) }
-        ensures in_range { result < length (records_of self.now) }
-        ensures not_above { IsSomeAnd (slice_get (records_of self.now) result) (λ r. rank r.0 ≤ rank key) }
-        ensures next_above { IfSome (slice_get (records_of self.now) (result + 1)) (λ r. rank key < rank r.0) }
+        ensures { IsRouted (records_of self.now) key result }
     {
         ib_heap::route(&self.words, key)
     }
@@ -352,13 +334,7 @@ impl Image {
     /// exactly where there are `MOST_RECORDS` records (`page_cur_insert_rec_low`).
     pub fn insert(&mut self, key: Key, value: u64) -> Result<(), PageFault>
         requires { IsTreePage self.old }
-        ensures inserted { OnOk result (page_of self.new ≡ value_with_records (put key value (records_of self.old)) (page_of self.old)) }
-        ensures tree { IsTreePage self.new }
-        ensures duplicate { (result ≡ Err PageFault.Duplicate) ↔ IsSome (value_at key (records_of self.old)) }
-        ensures full { (result ≡ Err PageFault.PageFull) ↔ (IsNone (value_at key (records_of self.old)) × (length (records_of self.old) ≡ MOST_RECORDS)) }
-        ensures never_missing { result ≢ Err PageFault.Missing }
-        ensures unchanged { OnErr result (self.new ≡ self.old) }
-        ensures heap { OnOk result (read_heap self.new ≡ put_in (place_of key (records_of self.old)) (read_heap self.old)) }
+        ensures { HasPut self.old self.new key value result }
     {
         ib_heap::put(&mut self.words, key, value)
     }
@@ -367,13 +343,7 @@ impl Image {
     /// and for no other reason (`page_cur_delete_rec`).
     pub fn remove(&mut self, key: Key) -> Result<u64, PageFault>
         requires { IsTreePage self.old }
-        ensures value { IfOk result (λ value. value_at key (records_of self.old) ≡ Some value) }
-        ensures removed { OnOk result (page_of self.new ≡ value_with_records (without key (records_of self.old)) (page_of self.old)) }
-        ensures tree { IsTreePage self.new }
-        ensures missing { (result ≡ Err PageFault.Missing) ↔ IsNone (value_at key (records_of self.old)) }
-        ensures only_missing { IfErr result (λ fault. fault ≡ PageFault.Missing) }
-        ensures unchanged { OnErr result (self.new ≡ self.old) }
-        ensures heap { OnOk result (read_heap self.new ≡ remove_in (place_of key (records_of self.old)) (read_heap self.old)) }
+        ensures { HasTaken self.old self.new key result }
     {
         ib_heap::take(&mut self.words, key)
     }

@@ -1,13 +1,11 @@
 //! The laws of pages and of work sets, as contracts.
 
-ghost use Rattle.std.specs.Prelude.{◌≡◌, ◌≢◌, ◌↔◌, ℕ, ◌+◌, ◌*◌, ◌<◌, ◌≤◌, List, [], length, All, false, nat_lt, Some, None, slice_index};
+ghost use Rattle.std.specs.Prelude.{◌≡◌, ◌≢◌, ◌↔◌, ℕ, ◌*◌, ◌<◌, ◌≤◌, List, All, false, nat_lt, Some, None, slice_index};
 ghost use Rattle.std.specs.List.{Any, Contains};
 ghost use Rattle.ib_map.specs.Writes.{PlacesRise, stored, touches, word_place};
-ghost use Rattle.ib_heap.specs.Page.{Page, IsPage};
-ghost use Rattle.ib_heap.specs.Page.PageValue.{Tree, Free};
+ghost use Rattle.ib_heap.specs.Laws.{FormLaw};
 ghost use Rattle.ib_heap.specs.Words.{free_page_words};
-ghost use Rattle.ib_heap.specs.Form.{page_of, empty_leaf_words};
-ghost use Rattle.ib_heap.specs.Image.{IsTreePage, IsFormed};
+ghost use Rattle.ib_heap.specs.Form.{empty_leaf_words};
 ghost use Rattle.ib_page.specs.Space.{IsSpacePage, is_taken};
 ghost use Rattle.ib_page.specs.Opening.{opening_words};
 ghost use Rattle.ib_page.specs.Work.{WorkPage, PagesAscend, changed_of, before_of};
@@ -15,20 +13,12 @@ ghost use Rattle.ib_page.specs.Writes.{word_in, writes_of};
 
 use crate::space::MAPPED_PAGES;
 use crate::work::MOST_WORK_PAGES;
-use crate::{MOST_LEVEL, MOST_RECORDS};
 use ib_map::PAGE_WORDS;
 
 /// The law of pages, as a contract: what an image holds as a page of the tree is within the limits and its
 /// records ascend, an image of a page is whole, and the pages of a new space are formed.
 pub fn page_law()
-    ensures levels { MOST_LEVEL ≡ 7 }
-    ensures records { MOST_RECORDS ≡ 35 }
-    ensures tree { (words : List ℕ) (p : Page) → page_of words ≡ Tree p → IsPage p }
-    ensures whole { (words : List ℕ) → IsFormed words → length words ≡ PAGE_WORDS }
-    ensures formed { (words : List ℕ) → IsTreePage words → IsFormed words }
-    ensures leaf { (clock : ℕ) → page_of (empty_leaf_words clock)
-        ≡ Tree (record { level = 0; prev = 0; next = 0; clock = clock; records = [] }) }
-    ensures free { (clock : ℕ) → page_of (free_page_words clock) ≡ Free clock }
+    ensures form { FormLaw }
     // Page 0 of a new space is its space page, page 1 an empty leaf, and every other page is free.
     ensures opening_space { (pages : ℕ) → 2 ≤ pages → IsSpacePage pages (opening_words 0) }
     ensures opening_taken { (page : ℕ) → page < MAPPED_PAGES → is_taken (opening_words 0) page ≡ nat_lt page 2 }

@@ -12,18 +12,18 @@ use Rattle.ib_walk.specs.Trees.{height_of}
 use Rattle.ib_walk.specs.Search.{child_for}
 use Rattle.ib_walk.specs.Full.{free_of, chosen}
 use Rattle.ib_walk.specs.Words.{state_of, image_of, pages_of, memory_of, bits_of, IsLawfulMemory}
-use Rattle.ib_plans.specs.Agreement.{state_or_free, IsThere, Agrees, HasBits, MayTick, bits_in, way_down, way_of}
+use Rattle.ib_plans.specs.Agreement.{state_or_free, IsThere, Agrees, HasBits, MayTick, bits_in, path_down, path_of}
 use Rattle.ib_plan_tests.specs.Reads.{IsImageAt, IsRead}
 
 -- one page more of the way
-pub way-step : (m : PageMemory) (key : MapKey) (root i page : ℕ) (path : List ℕ) → i < height_of m root → way_of m key root ≡ path ++ way_down m key (height_of m root - i) page
-    → way_of m key root ≡ (path ++ page ∷ []) ++ way_down m key (height_of m root - (i + 1)) (child_for key 0 (m page).records)
-way-step m key root i page path lt is =
+pub path-step : (m : PageMemory) (key : MapKey) (root i page : ℕ) (path : List ℕ) → i < height_of m root → path_of m key root ≡ path ++ path_down m key (height_of m root - i) page
+    → path_of m key root ≡ (path ++ page ∷ []) ++ path_down m key (height_of m root - (i + 1)) (child_for key 0 (m page).records)
+path-step m key root i page path lt is =
     let e : height_of m root - i ≡ suc (height_of m root - (i + 1)) = omega arith in
-    is ∙ (ap (λ h. path ++ way_down m key h page) e ∙ sym (append_assoc path (page ∷ []) (way_down m key (height_of m root - (i + 1)) (child_for key 0 (m page).records))))
+    is ∙ (ap (λ h. path ++ path_down m key h page) e ∙ sym (append_assoc path (page ∷ []) (path_down m key (height_of m root - (i + 1)) (child_for key 0 (m page).records))))
 
-pub way-end : (m : PageMemory) (key : MapKey) (root i page : ℕ) (path : List ℕ) → i ≡ height_of m root → way_of m key root ≡ path ++ way_down m key (height_of m root - i) page → path ++ page ∷ [] ≡ way_of m key root
-way-end m key root i page path e is = let zero_left : height_of m root - i ≡ 0 = omega arith in sym (is ∙ ap (λ h. path ++ way_down m key h page) zero_left)
+pub path-end : (m : PageMemory) (key : MapKey) (root i page : ℕ) (path : List ℕ) → i ≡ height_of m root → path_of m key root ≡ path ++ path_down m key (height_of m root - i) page → path ++ page ∷ [] ≡ path_of m key root
+path-end m key root i page path e is = let zero_left : height_of m root - i ≡ 0 = omega arith in sym (is ∙ ap (λ h. path ++ path_down m key h page) zero_left)
 
 -- the height of a tree, read from its root's image
 pub height-read : (memory : List (List ℕ)) (root : ℕ) (image : List ℕ) → image_of (word_at memory) root ≡ image → (state_of (page_of image)).level ≡ height_of (memory_of memory) root

@@ -9,7 +9,7 @@ use Rattle.ib_map.specs.Pairs.{Pairs}
 use Rattle.ib_map.specs.Pairs.{first_rank}
 use Rattle.ib_page.specs.Work.{WorkPage, changed_of, with_page}
 use Rattle.ib_merge.specs.Deletes.{nodes_on_path}
-use Rattle.ib_merge.proofs.WayLaws.{nodes-few, nodes-same}
+use Rattle.ib_merge.proofs.OnPathLaws.{nodes-few, nodes-same}
 
 -- what holds of the image of a page holds where another page is put in
 pub put-at : (P : List ℕ → Type 0) (q : WorkPage) (work : List WorkPage) (n : ℕ) → (q.page ≡ n → P q.changed) → IfSome (changed_of n work) P → IfSome (changed_of n (with_page q work)) P

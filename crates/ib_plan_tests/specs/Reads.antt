@@ -7,7 +7,7 @@ use Rattle.ib_page.specs.Space.{space_clock_of}
 use Rattle.ib_page.specs.Work.{WorkPage, changed_of}
 use Rattle.ib_walk.specs.Words.{state_of, image_of, memory_of, IsLawfulMemory}
 use Rattle.ib_plans.specs.Merge.{siblings_of}
-use Rattle.ib_plans.specs.Agreement.{memory_in, way_of}
+use Rattle.ib_plans.specs.Agreement.{memory_in, path_of}
 use Rattle.ib_merge.specs.Deletes.{HasNext}
 
 -- this is a page's image in the memory, and its clock may tick
@@ -23,7 +23,7 @@ IsReadFrom memory work = (page : ℕ) → IfSome (changed_of page work) (IsImage
 -- a lawful memory of one tree, the path of a key in it, and a work set with images of it
 pub record IsRead (memory : List (List ℕ)) (key : MapKey) (path : List ℕ) (work : List WorkPage) : Type 0 where
   pub lawful : IsLawfulMemory (length memory) 1 (word_at memory)
-  pub way : path ≡ way_of (memory_of memory) key 1
+  pub way : path ≡ path_of (memory_of memory) key 1
   pub read : IsReadFrom memory work
 
 -- the leaf behind the right one of the pages beside the key's child under a node is there

@@ -11,7 +11,7 @@ ghost use Rattle.ib_split.specs.Inserts.{HasFresh};
 ghost use Rattle.ib_plan_tests.specs.Reads.{IsRead, HasBehind};
 
 use crate::beside::{has_next, has_siblings, load_next, load_siblings};
-use crate::pages::{has_page, has_pages, has_tree_pages, load, load_all, store, way_to};
+use crate::pages::{has_page, has_pages, has_tree_pages, load, load_all, path_to, store};
 use ib_map::Key;
 use ib_merge::plan_delete;
 use ib_page::{Image, Path, WorkSet};
@@ -70,7 +70,7 @@ fn read_path(rt: &impl Abort, work: &mut WorkSet, memory: &[Image], key: Key) ->
 {
     check_lawful(rt, memory);
     work.clear();
-    let path = way_to(rt, memory, 1, key);
+    let path = path_to(rt, memory, 1, key);
     load_all(rt, work, memory, path.pages());
     load(rt, work, memory, 0);
     path

@@ -170,7 +170,7 @@ fn child(rt: &impl Abort, image: &mut Image, key: Key) -> u64
 
 #[test]
 fn a_key_is_led_to_its_child(rt: HostRuntime) -> Result<(), Fail> {
-    let mut image = Image::node(1, 0);
+    let mut image = Image::empty(1, 0);
     image.insert(key(0), 7)?;
     image.insert(key(10), 8)?;
     image.insert(key(20), 9)?;

@@ -49,7 +49,7 @@ fn leaf(prev: u32, next: u32, number: u64, value: u64) -> Image {
 
 // A node over leaf 2, and over leaf 3 from the key of a number on.
 fn node(number: u64) -> Image {
-    let mut image = Image::node(1, 0);
+    let mut image = Image::empty(1, 0);
     let _ = image.insert(Key::least(), 2);
     let _ = image.insert(key(number), 3);
     image

@@ -12,7 +12,7 @@ ghost use Rattle.ib_page.specs.Work.{changed_of};
 ghost use Rattle.ib_walk.specs.Search.{child_for};
 ghost use Rattle.ib_walk.specs.Words.{state_of, image_of, memory_of};
 ghost use Rattle.ib_plans.specs.Merge.{siblings_of};
-ghost use Rattle.ib_plans.specs.Agreement.{memory_in, way_of, HasTreePages, IsThere};
+ghost use Rattle.ib_plans.specs.Agreement.{memory_in, path_of, HasTreePages, IsThere};
 ghost use Rattle.ib_plan_tests.specs.Reads.{IsReadFrom};
 
 use ib_map::{Key, PAGE_WORDS, is_below};
@@ -47,8 +47,8 @@ fn place_of(rt: &impl Abort, memory: &[Image], page: u32) -> usize
 }
 
 // The pages of a key, from the root down to its leaf.
-pub(crate) fn way_to(rt: &impl Abort, memory: &[Image], root: u32, key: Key) -> Path
-    ensures way { result ≡ way_of (memory_of memory.now) key root }
+pub(crate) fn path_to(rt: &impl Abort, memory: &[Image], root: u32, key: Key) -> Path
+    ensures way { result ≡ path_of (memory_of memory.now) key root }
     ensures some { 0 < length result }
 {
     let mut path = Path::new();

@@ -13,7 +13,7 @@ use Rattle.ib_walk.specs.Walk.{IsLeafAt, IsNodeAt, IsTiled, IsTree, Visit, child
 use Rattle.ib_walk.proofs.SearchLaws.{IsPageFor-children, IsTiled-children, IsTiled-left, IsTiled-right}
 use Rattle.ib_walk.proofs.TreeLaws.{IsPageFor-top}
 use Rattle.ib_walk.proofs.WalkLaws.{AllByRecursion-left, AllByRecursion-right}
-use Rattle.ib_plans.specs.Agreement.{way_down, last_of}
+use Rattle.ib_plans.specs.Agreement.{path_down, last_of}
 use Rattle.ib_plans.proofs.LevelLaws.{IsTree-children}
 
 -- the path from the leaf up to a page of this height
@@ -28,9 +28,9 @@ length-pages_up m key (suc height) page =
     let a = length-append (pages_up m key height (child_for key 0 (m page).records)) (page ∷ []) in omega arith
 
 -- the path from the root down has as many pages
-pub length-way_down : (m : PageMemory) (key : MapKey) (height page : ℕ) → length (way_down m key height page) ≡ suc height
-length-way_down m key zero page = refl
-length-way_down m key (suc height) page = ap suc (length-way_down m key height (child_for key 0 (m page).records))
+pub length-path_down : (m : PageMemory) (key : MapKey) (height page : ℕ) → length (path_down m key height page) ≡ suc height
+length-path_down m key zero page = refl
+length-path_down m key (suc height) page = ap suc (length-path_down m key height (child_for key 0 (m page).records))
 
 -- the last page is the one with the last number
 pub last_of-at : (path : List ℕ) (i : ℕ) → i + 1 ≡ length path → get_or path i 0 ≡ last_of path

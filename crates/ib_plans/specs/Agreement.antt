@@ -1,5 +1,5 @@
 -- A work set beside memories: of which its pages are those, and when its changed images are those of a plan.
-use Rattle.std.specs.Prelude.{◌≡◌, ◌≢◌, ℕ, zero, suc, ◌+◌, ◌<◌, ◌≤◌, Bool, true, false, List, [], ◌∷◌, map, nat_lt, Option, Some, None, IsSome, IsSomeAnd, IfSome, ◌^◌, if◌then◌else◌}
+use Rattle.std.specs.Prelude.{◌≡◌, ◌≢◌, ℕ, zero, suc, ◌+◌, ◌<◌, ◌≤◌, Bool, true, false, List, [], ◌∷◌, map, nat_lt, Option, Some, None, IsSome, IsSomeAnd, IfSome, ◌^◌, if◌then◌else◌, length, slice_index}
 use Rattle.ib_map.specs.Keys.{MapKey}
 use Rattle.ib_page.specs.declared.space.TheConstants.{MAPPED_PAGES}
 use Rattle.ib_page.specs.Form.{page_of}
@@ -35,13 +35,13 @@ abbrev pub HasBits : ℕ → (ℕ → ℕ) → List ℕ → Type 0
 HasBits pages bits image = IsSpacePage pages image × ((page : ℕ) → bits page ≡ bits_in pages image page)
 
 -- the pages of the key, from this one, which has this height, down to the leaf
-abbrev pub way_down : PageMemory → MapKey → ℕ → ℕ → List ℕ
-way_down memory key zero page = page ∷ []
-way_down memory key (suc height) page = page ∷ way_down memory key height (child_for key 0 (memory page).records)
+abbrev pub path_down : PageMemory → MapKey → ℕ → ℕ → List ℕ
+path_down memory key zero page = page ∷ []
+path_down memory key (suc height) page = page ∷ path_down memory key height (child_for key 0 (memory page).records)
 
 -- .. from the root down
-abbrev pub way_of : PageMemory → MapKey → ℕ → List ℕ
-way_of memory key root = way_down memory key (height_of memory root) root
+abbrev pub path_of : PageMemory → MapKey → ℕ → List ℕ
+path_of memory key root = path_down memory key (height_of memory root) root
 
 -- the pages of the work set are those of this lawful memory, and the path is the key's in the tree of the root
 pub record Agrees (pages roots root : ℕ) (key : MapKey) (path : List ℕ) (work : List WorkPage) (memory : PageMemory) (bits : ℕ → ℕ) : Type 0 where
@@ -49,7 +49,7 @@ pub record Agrees (pages roots root : ℕ) (key : MapKey) (path : List ℕ) (wor
   pub few : pages ≤ MAPPED_PAGES
   pub some : 0 < root
   pub within : root ≤ roots
-  pub way : path ≡ way_of memory key root
+  pub way : path ≡ path_of memory key root
   pub same : (page : ℕ) → page ≢ 0 → IsThere work page → memory_in work page ≡ memory page
   pub space : IfSome (changed_of 0 work) (HasBits pages bits)
 
@@ -104,3 +104,14 @@ taken_bits image page = if is_taken image page then 1 else 0
 abbrev pub with_bits : List ℕ → ℕ → (ℕ → ℕ) → ℕ → ℕ
 with_bits [] bit bits = bits
 with_bits (x ∷ xs) bit bits = with_bits xs bit (with_bit x bit bits)
+
+-- page 0 has the bits of these pages set to this, 1 where they are taken and 0 where they are given back, and its clock is one higher
+pub record SetsBits (bit : ℕ) (pages : List ℕ) (old new : List WorkPage) : Type 0 where
+  pub was : List ℕ
+  pub image : List ℕ
+  pub before : changed_of 0 old ≡ Some was
+  pub work : new ≡ with_changed 0 image old
+  pub size : length image ≡ length was
+  pub bits : (page : ℕ) → page < MAPPED_PAGES → taken_bits image page ≡ with_bits pages bit (taken_bits was) page
+  pub clock : space_clock_of image ≡ space_clock_of was + 1
+  pub behind : (i : ℕ) → 64 < i → slice_index image i ≡ slice_index was i

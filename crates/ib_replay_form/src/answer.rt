@@ -1,8 +1,7 @@
 //! What is answered to a raw log that was read.
 
-ghost use Rattle.std.specs.Prelude.{◌≡◌, ◌≢◌, ◌≤◌, length, None};
-ghost use Rattle.ib_io.specs.Faults.{Rose};
-ghost use Rattle.ib_io.specs.Told.{IsOutOfMemoryWhere, Told};
+ghost use Rattle.std.specs.Prelude.{◌≡◌, ◌≤◌, length, None};
+ghost use Rattle.ib_io.specs.Told.{IsOutOfMemoryWhere, TellsFault, Told};
 ghost use Rattle.ib_replay.specs.Files.{file_fault};
 ghost use Rattle.ib_replay_form.specs.Answers.{AnswersLog};
 
@@ -17,8 +16,7 @@ use std::alloc::Global;
 pub fn answer_log<K: Sink>(alloc: Global, input: &[u8], sink: &mut K) -> Status
     requires { length input.now ≤ INPUT_BYTES }
     ensures told { Told (AnswersLog input.now) (IsOutOfMemoryWhere (file_fault input.now ≡ None)) (K.written sink.old) (K.written sink.new) result }
-    ensures calm { result ≢ Status.WriteFault → K.faults sink.new ≡ K.faults sink.old }
-    ensures write { result ≡ Status.WriteFault → Rose (K.faults sink.old) (K.faults sink.new) }
+    ensures write { TellsFault Status.WriteFault result (K.faults sink.old) (K.faults sink.new) }
 {
     match replay_file(alloc, input) {
         Ok(replayed) => show(sink, replayed),

@@ -1,9 +1,8 @@
 //! The line that tells why a raw log is refused.
 
-ghost use Rattle.std.specs.Prelude.{◌≡◌, ◌≢◌, ◌++◌, [], codes, decimal};
+ghost use Rattle.std.specs.Prelude.{◌≡◌, ◌++◌, [], codes, decimal};
 ghost use Rattle.std.specs.Io.KnownBytes.{Appends};
-ghost use Rattle.ib_io.specs.Faults.{Rose};
-ghost use Rattle.ib_io.specs.Told.{IsWritten, ends};
+ghost use Rattle.ib_io.specs.Told.{IsWritten, TellsFault, ends};
 ghost use Rattle.ib_io.specs.Writer.{Puts};
 ghost use Rattle.ib_replay_form.specs.Replaying.{bad_log_line, log_fault_text, unlawful_text, word_text};
 
@@ -71,8 +70,7 @@ impl Printed for BadLog {
 pub fn refuse<K: Sink>(sink: &mut K, fault: LogFault) -> Status
     ensures told { (fault ≡ LogFault.OutOfMemory → ⊥) → IsWritten (ends Status.BadLog (bad_log_line fault)) (K.written sink.old) (K.written sink.new) result }
     ensures memory { fault ≡ LogFault.OutOfMemory → (result ≡ Status.Memory) × Appends (K.written sink.old) (K.written sink.new) [] }
-    ensures calm { result ≢ Status.WriteFault → K.faults sink.new ≡ K.faults sink.old }
-    ensures write { result ≡ Status.WriteFault → Rose (K.faults sink.old) (K.faults sink.new) }
+    ensures write { TellsFault Status.WriteFault result (K.faults sink.old) (K.faults sink.new) }
 {
     match fault {
         LogFault::OutOfMemory => Status::Memory,

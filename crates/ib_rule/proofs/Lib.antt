@@ -17,6 +17,7 @@ mod LockSteps
 mod MarkSteps
 mod Results
 mod Outcomes
+mod Firsts
 mod Opening
 mod HeldNow
 mod Closing

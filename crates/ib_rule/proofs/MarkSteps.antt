@@ -16,7 +16,7 @@ use Rattle.ib_core.specs.declared.event.Event.TheVariants.{Sx, Usx, Flag, Clear,
 use Rattle.ib_core.specs.Turns.{Leaves, word_for, writes_mark}
 use Rattle.ib_core.proofs.Left.{reads_leave, flag_leaves, clear_leaves, raise_leaves, ex_raise_leaves}
 use Rattle.ib_rule.specs.declared.view.View.{View}
-use Rattle.ib_rule.specs.Conditions.{CanTake, IsArmed, MayGrow, MayLoadExGen, MayLoadGen, ex_gen_event, flag_event, gen_event, writer_event}
+use Rattle.ib_rule.specs.Conditions.{CanTake, IsArmed, MayGrow, MayLoadExGen, MayLoadGen, ex_gen_event, flag_event, gen_event}
 use Rattle.ib_rule.proofs.Grows.{is_taking, may_grow, none_grows}
 
 -- a load of a word other than the lock word, for an event that writes none and takes no grant
@@ -74,10 +74,15 @@ module _ (v : View) (l n : ℕ) where
   pub ex_raise_step : v.session.phase ≡ OwesRaiseEx l → n ≤ 2 ^ 62 → CanTake (Raise l) v n × Leaves ExGeneration (Raise l) v.session n ((n + 1) % 2 ^ 64)
   ex_raise_step is small = (none_grows (Raise l) v n refl, mod-eq_of_lt (omega arith) ∙ ex_raise_leaves l n v.session is)
 
-  pub writer_step : (back : Bool) → (back ≡ false → MayGrow v) → CanTake (writer_event l back) v n × Leaves Writer (writer_event l back) v.session n n
-  writer_step true grow = (none_grows (Usx l) v n refl, refl)
-  writer_step false grow = (may_grow (Sx l Log) v n (grow refl), refl)
+  -- a load of the writer counts a further SX, and one given back that is not the last
+  pub counted_sx_step : MayGrow v → CanTake (Sx l Log) v n × Leaves Writer (Sx l Log) v.session n n
+  counted_sx_step grow = (may_grow (Sx l Log) v n grow, refl)
 
-  pub writer_word : (back : Bool) → 0 < sx_grants l v.session → (back ≡ true → 1 < sx_grants l v.session) → word_for (writer_event l back) v.session ≡ Writer
-  writer_word true some more = let m = more refl in let is : nat_lt 1 (sx_grants l v.session) ≡ true = grind (arith, nat_tests) in ap (λ b. if b then Writer else Lock) is
-  writer_word false some more = let is : nat_lt 0 (sx_grants l v.session) ≡ true = grind (arith, nat_tests) in ap (λ b. if b then Writer else Lock) is
+  pub counted_sx_word : 0 < sx_grants l v.session → word_for (Sx l Log) v.session ≡ Writer
+  counted_sx_word some = let is : nat_lt 0 (sx_grants l v.session) ≡ true = grind (arith, nat_tests) in ap (λ b. if b then Writer else Lock) is
+
+  pub counted_back_step : CanTake (Usx l) v n × Leaves Writer (Usx l) v.session n n
+  counted_back_step = (none_grows (Usx l) v n refl, refl)
+
+  pub counted_back_word : 1 < sx_grants l v.session → word_for (Usx l) v.session ≡ Writer
+  counted_back_word more = let is : nat_lt 1 (sx_grants l v.session) ≡ true = grind (arith, nat_tests) in ap (λ b. if b then Writer else Lock) is

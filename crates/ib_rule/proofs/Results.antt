@@ -33,7 +33,7 @@ use Rattle.ib_levels.proofs.Counts.{unheld_from_none}
 use Rattle.ib_rule.specs.declared.kind.StepKind.TheVariants.{Turn as Turns}
 use Rattle.ib_rule.specs.declared.view.View.{View}
 use Rattle.ib_rule.specs.Steps.{view_after}
-use Rattle.ib_rule.specs.Conditions.{IsArmed, MayLoadExGen, MayLoadFlag, MayLoadGen, ex_gen_event, flag_event, gen_event, writer_event}
+use Rattle.ib_rule.specs.Conditions.{IsArmed, MayLoadExGen, MayLoadFlag, MayLoadGen, ex_gen_event, flag_event, gen_event}
 use Rattle.ib_rule.specs.Afterwards.{cleared, ex_loaded, flag_loaded, flagged, gen_loaded, in_phase}
 
 -- a step that was an event leaves the session of the event's response
@@ -145,9 +145,3 @@ module _ (v w : View) (l n : ℕ) (free : v.session.phase ≡ Free) (proper : Is
       let c = counted l v.session (proper.single l) in
       response_session v w (Ux l) n _ is (after_last_x_beside_sx (word_in n) (marks_found n) l v.session proper free x (omega arith))
       ∙ sym (ap (λ b. with_phase (OwesLook l) (if b then without_latch l v.session.held else changed_on l (one_fewer ModeX) v.session.held)) (ne_eqb (claims l v.session) 1 (λ e. omega arith))))
-
-  -- what a load of the writer counts
-  pub writer_session : (back : Bool) → 0 < sx_grants l v.session → (back ≡ true → 1 < sx_grants l v.session) → w ≡ view_after (Turns (writer_event l back)) n v
-      → w.session ≡ with_phase Free (changed_on l (if back then one_fewer ModeSx else one_more ModeSx) v.session.held)
-  writer_session true sx more is = let c = counted l v.session (proper.single l) in let m = more refl in sx_back_session sx (omega arith) is
-  writer_session false sx more is = let c = counted l v.session (proper.single l) in further_sx_session (omega arith) is

@@ -1,14 +1,13 @@
 -- What a session may do: the conditions of the steps on latches, and the event that each is.
-use Rattle.std.specs.Prelude.{◌≡◌, ◌⊎◌, ℕ, ◌+◌, ◌^◌, ◌<◌, ◌==◌, Bool, true, false, if◌then◌else◌, sum_by, Option, Some, None, Result, Ok, Err}
+use Rattle.std.specs.Prelude.{◌≡◌, ◌⊎◌, ℕ, ◌+◌, ◌^◌, ◌<◌, ◌==◌, if◌then◌else◌, sum_by, Option, Some, None, Result, Ok, Err}
 use Rattle.ib_word.specs.Word.{cell_of}
 use Rattle.ib_word.specs.declared.word.LockWord.{LockWord}
 use Rattle.ib_levels.specs.declared.level.Level.{Level}
-use Rattle.ib_levels.specs.declared.level.Level.TheVariants.{Log}
 use Rattle.ib_levels.specs.declared.level.Mode.{Mode}
 use Rattle.ib_core.specs.declared.phase.Phase.{Phase}
 use Rattle.ib_core.specs.declared.phase.Phase.TheVariants.{Free, Flagged, Checked, Armed, Asleep, Next, NextArmed, NextChecked, NextAsleep, OwesLook}
 use Rattle.ib_core.specs.declared.event.Event.{Event}
-use Rattle.ib_core.specs.declared.event.Event.TheVariants.{Ready, Again, Usx, Sx, Arm, Sleep, Exarm, Look as LookEvent, Quit}
+use Rattle.ib_core.specs.declared.event.Event.TheVariants.{Ready, Again, Arm, Sleep, Exarm, Look as LookEvent, Quit}
 use Rattle.ib_core.specs.declared.session.Session.{Session}
 use Rattle.ib_core.specs.Sessions.{claims, grants, reads}
 use Rattle.ib_core.specs.Responses.{latch_of}
@@ -99,8 +98,3 @@ MayLoadFlag l (Armed k m v g) = k ≡ l
 MayLoadFlag l (Flagged k m v g) = k ≡ l
 MayLoadFlag l (Checked k m v g) = k ≡ l
 MayLoadFlag l p = ⊥
-
--- a load of the writer counts a further SX, or one given back that is not the last
-abbrev pub writer_event : ℕ → Bool → Event
-writer_event l true = Usx l
-writer_event l false = Sx l Log

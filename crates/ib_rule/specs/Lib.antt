@@ -20,3 +20,6 @@ pub mod Lending
 pub mod Writing
 pub mod Loads
 pub mod Wished
+pub mod Under
+pub mod Takes
+pub mod Connects

@@ -9,7 +9,7 @@ ghost use Rattle.ib_core.specs.declared.event.Event.TheVariants.{Clear, Flag, Ra
 ghost use Rattle.ib_core.specs.declared.phase.Phase.TheVariants.{Free, OwesClear, OwesRaise, OwesRaiseEx};
 ghost use Rattle.ib_rule.specs.Pass.{IsOf, with_view};
 ghost use Rattle.ib_rule.specs.Conditions.{IsArmed, MayLoadExGen, MayLoadFlag, MayLoadGen, ex_gen_event, flag_event, gen_event};
-ghost use Rattle.ib_rule.specs.Turns.{IsTurn};
+ghost use Rattle.ib_rule.specs.Turns.{IsInPhase, IsTurn};
 ghost use Rattle.ib_rule.specs.Afterwards.{cleared, ex_loaded, flag_loaded, flag_looks, flagged, gen_loaded, phased, with_wait};
 ghost use Rattle.ib_rule.specs.Views.{with_looks};
 
@@ -91,9 +91,7 @@ impl<L: Law> Space<L> {
     /// Clears the waiters flag, where a look found it set. Who found it set still owes the raise. It
     /// answers the word before the step.
     pub fn swap_waiters(&self, pass: &mut Pass, latch: Latch) -> u64
-        requires own { IsOf self.now pass.old }
-        requires latch { latch.0 < latches_of self.now.sizes }
-        requires owes { pass.old.view.session.phase ≡ OwesClear latch.0 }
+        requires owes { IsInPhase self.now latch.0 (OwesClear latch.0) pass.old }
         ensures turn { IsTurn (Clear latch.0) result pass.old pass.new }
         ensures same { pass.new ≡ with_view pass.old (phased (cleared latch.0 result) pass.old.view) }
         ensures flag { result ≤ 1 }
@@ -106,9 +104,7 @@ impl<L: Law> Space<L> {
     /// Raises the generation: who sleeps on the one before finds another, once it is woken, which is
     /// not done here (`os_event_set`). It answers the word after the step.
     pub fn raise_gen(&self, pass: &mut Pass, latch: Latch) -> u64
-        requires own { IsOf self.now pass.old }
-        requires latch { latch.0 < latches_of self.now.sizes }
-        requires owes { pass.old.view.session.phase ≡ OwesRaise latch.0 }
+        requires owes { IsInPhase self.now latch.0 (OwesRaise latch.0) pass.old }
         ensures turn { IsTurn (Raise latch.0) (result - 1) pass.old pass.new }
         ensures same { pass.new ≡ with_view pass.old (phased Free pass.old.view) }
         ensures raised { 0 < result }
@@ -122,9 +118,7 @@ impl<L: Law> Space<L> {
     /// Raises the ex generation: the next writer that sleeps on the one before finds another, once it is
     /// woken, which is not done here. It answers the word after the step.
     pub fn raise_ex_gen(&self, pass: &mut Pass, latch: Latch) -> u64
-        requires own { IsOf self.now pass.old }
-        requires latch { latch.0 < latches_of self.now.sizes }
-        requires owes { pass.old.view.session.phase ≡ OwesRaiseEx latch.0 }
+        requires owes { IsInPhase self.now latch.0 (OwesRaiseEx latch.0) pass.old }
         ensures turn { IsTurn (Raise latch.0) (result - 1) pass.old pass.new }
         ensures same { pass.new ≡ with_view pass.old (phased Free pass.old.view) }
         ensures raised { 0 < result }

@@ -1,25 +1,25 @@
 //! The steps that look at a lock word and take grants.
 
-ghost use Rattle.std.specs.Prelude.{◌≡◌, ◌≢◌, ℕ, ◌+◌, ◌-◌, ◌<◌, true, false, IsTrue, IsOk, IfErr, pos, ◌-ℤ◌, if◌then◌else◌};
+ghost use Rattle.std.specs.Prelude.{◌≡◌, ℕ, ◌+◌, ◌-◌, ◌<◌, IsTrue, IsOk, IfErr, pos, ◌-ℤ◌};
 ghost use Rattle.ib_word.specs.Word.{IsCounted, cell_of};
 ghost use Rattle.ib_word.specs.Weight.{x_weight};
 ghost use Rattle.ib_word.specs.declared.word.TheConstants.{X_LOCK_DECR, X_LOCK_HALF_DECR};
 ghost use Rattle.ib_levels.specs.declared.level.Level.TheVariants.{Log};
-ghost use Rattle.ib_levels.specs.declared.level.Mode.TheVariants.{S as ModeS, Sx as ModeSx, X as ModeX};
+ghost use Rattle.ib_levels.specs.declared.level.Mode.TheVariants.{Sx as ModeSx, X as ModeX};
 ghost use Rattle.ib_levels.specs.Holding.{changed_on};
 ghost use Rattle.ib_layout.specs.Places.{latches_of};
 ghost use Rattle.ib_core.specs.declared.event.Event.TheVariants.{Sx as SxEvent, X as XEvent};
 ghost use Rattle.ib_core.specs.declared.phase.Phase.TheVariants.{Free};
-ghost use Rattle.ib_core.specs.Takings.{holding_too, is_given_at, level_on, one_fewer, one_more, reserving};
+ghost use Rattle.ib_core.specs.Takings.{first_weight, level_on, one_more, reserving};
 ghost use Rattle.ib_core.specs.Responses.{is_above_0};
 ghost use Rattle.ib_core.specs.Sessions.{claims, sx_grants, x_grants};
-ghost use Rattle.ib_core.specs.Holders.{OwnsSx};
 ghost use Rattle.ib_rule.specs.Pass.{IsOf, with_view};
-ghost use Rattle.ib_rule.specs.Views.{KnowsHeld, left_as, signed};
+ghost use Rattle.ib_rule.specs.Views.{signed};
 ghost use Rattle.ib_rule.specs.Steps.{event_at, view_after};
-ghost use Rattle.ib_rule.specs.Conditions.{MayGrow, MayTry, try_event, word_kind, writer_event};
+ghost use Rattle.ib_rule.specs.Conditions.{try_event, word_kind};
+ghost use Rattle.ib_rule.specs.Takes.{MayTakeFurther, MayUpgrade};
 ghost use Rattle.ib_rule.specs.Told.{Happens};
-ghost use Rattle.ib_rule.specs.Turns.{IsTry, IsTurn};
+ghost use Rattle.ib_rule.specs.Turns.{IsTry, IsTryFor, IsTurn, MayTryAt};
 ghost use Rattle.ib_rule.specs.Afterwards.{granted, looked_on, phased, tried_on, with_step, word_loaded};
 
 use crate::kind::WordOp;
@@ -51,106 +51,46 @@ impl<L: Law> Space<L> {
             (word_loaded latch.0 (cell_of result.0) pass.old.view.session
             pass.old.view.session.phase) pass.old.view)) }
     {
-        self.loaded_word(pass, latch)
+        let found = match pass.member.phase() {
+            Phase::Next { latch: at, .. } | Phase::NextArmed { latch: at, .. } if at == latch.0 => {
+                let event = Event::Ready { latch: latch.0 };
+                self.turn(pass, event, LatchWord::Lock, WordOp::Load).0
+            }
+            Phase::Flagged { latch: at, .. } if at == latch.0 => self.recheck(pass, latch),
+            _ => self.look(pass, latch),
+        };
+        from_cell(found)
     }
 
-    /// Takes S: one exchange that takes 1 off the lock word, where it is the expected one. Else it
-    /// answers the word found, and nothing is changed but the looks (sync0rw, `rw_lock_s_lock_low`).
-    #[inline(always)]
-    pub fn take_s(
-        &self,
-        pass: &mut Pass,
-        latch: Latch,
-        level: Level,
-        expected: LockWord,
-    ) -> Result<(), LockWord>
-        requires own { IsOf self.now pass.old }
-        requires latch { latch.0 < latches_of self.now.sizes }
-        requires may { MayTry ModeS latch.0 level pass.old.view.session
-            pass.old.view.session.phase }
-        requires grows { MayGrow pass.old.view }
-        requires given { IsTrue (is_given_at ModeS expected.0) }
-        ensures tried { IsTry (try_event ModeS latch.0 level pass.old.view.session.phase) expected
-            result pass.old pass.new }
-        ensures taken { IsOk result → pass.new ≡ with_view pass.old (granted ModeS (record {
-          held = holding_too ModeS latch.0 level pass.old.view.session.held;
-          phase = Free;
-        }) (tried_on latch.0 expected expected pass.old.view)) }
-        ensures lost { IfErr result (λ found. pass.new
-            ≡ with_view pass.old (tried_on latch.0 expected found pass.old.view)) }
-    {
-        self.first_off(pass, Mode::S, latch, level, expected)
-    }
-
-    /// Takes SX, with nothing held on the latch: one exchange that takes `X_LOCK_HALF_DECR` off the
-    /// lock word, where it is the expected one. Else it answers the word found, and nothing is
-    /// changed but the looks (WL#6363, `rw_lock_sx_lock_low`).
-    #[inline(always)]
-    pub fn take_sx(
-        &self,
-        pass: &mut Pass,
-        latch: Latch,
-        level: Level,
-        expected: LockWord,
-    ) -> Result<(), LockWord>
-        requires own { IsOf self.now pass.old }
-        requires latch { latch.0 < latches_of self.now.sizes }
-        requires may { MayTry ModeSx latch.0 level pass.old.view.session
-            pass.old.view.session.phase }
-        requires grows { MayGrow pass.old.view }
-        requires given { IsTrue (is_given_at ModeSx expected.0) }
-        ensures tried { IsTry (try_event ModeSx latch.0 level pass.old.view.session.phase) expected
-            result pass.old pass.new }
-        ensures taken { IsOk result → pass.new ≡ with_view pass.old (granted ModeSx (record {
-          held = holding_too ModeSx latch.0 level pass.old.view.session.held;
-          phase = Free;
-        }) (tried_on latch.0 expected expected pass.old.view)) }
-        ensures lost { IfErr result (λ found. pass.new
-            ≡ with_view pass.old (tried_on latch.0 expected found pass.old.view)) }
-    {
-        self.first_off(pass, Mode::Sx, latch, level, expected)
-    }
-
-    /// Takes or reserves X, with nothing held on the latch: one exchange that takes `X_LOCK_DECR`
-    /// off the lock word, where it is the expected one. X is owned where 0 is left, and else the
+    /// Takes a first grant of the mode, or for X reserves one, with nothing held on the latch: one
+    /// exchange, where the word is the expected one. It takes 1 off for S (sync0rw,
+    /// `rw_lock_s_lock_low`), `X_LOCK_HALF_DECR` for SX (WL#6363, `rw_lock_sx_lock_low`), and
+    /// `X_LOCK_DECR` for X (sync0rw, `rw_lock_x_lock_low`), which is owned where 0 is left: else the
     /// session is the next writer. Where the word is another, it answers that, and nothing is
-    /// changed but the looks (sync0rw, `rw_lock_x_lock_low`).
+    /// changed but the looks.
     #[inline(always)]
-    pub fn take_x(
+    pub fn take_first(
         &self,
         pass: &mut Pass,
+        mode: Mode,
         latch: Latch,
         level: Level,
         expected: LockWord,
     ) -> Result<(), LockWord>
-        requires own { IsOf self.now pass.old }
-        requires latch { latch.0 < latches_of self.now.sizes }
-        requires may { MayTry ModeX latch.0 level pass.old.view.session
-            pass.old.view.session.phase }
-        requires grows { MayGrow pass.old.view }
-        requires given { IsTrue (is_given_at ModeX expected.0) }
-        ensures tried { IsTry (try_event ModeX latch.0 level pass.old.view.session.phase) expected
-            result pass.old pass.new }
-        ensures taken { IsOk result → pass.new ≡ with_view pass.old (granted ModeX
-            (reserving latch.0 level (expected.0 -ℤ pos X_LOCK_DECR)
-            (holding_too ModeX latch.0 level pass.old.view.session.held)).session
-            (tried_on latch.0 expected expected pass.old.view)) }
-        ensures lost { IfErr result (λ found. pass.new
-            ≡ with_view pass.old (tried_on latch.0 expected found pass.old.view)) }
+        requires may { MayTryAt self.now mode latch.0 level expected pass.old }
+        ensures { IsTryFor mode latch.0 level expected result pass.old pass.new }
     {
-        self.first_off(pass, Mode::X, latch, level, expected)
+        if let Phase::Free = pass.member.phase() {
+            return self.take_by_wish(pass, mode, latch, level, expected);
+        }
+        self.take_in_phase(pass, mode, latch, level, expected)
     }
 
     /// Takes or reserves X beside one's own SX: one exchange that takes `X_LOCK_DECR` off the lock
     /// word, where it is the expected one. X is owned where minus `X_LOCK_HALF_DECR` is left, and else
     /// the session is the next writer. The latch keeps the level of its first grant.
     pub fn upgrade(&self, pass: &mut Pass, latch: Latch, expected: LockWord) -> Result<(), LockWord>
-        requires own { IsOf self.now pass.old }
-        requires latch { latch.0 < latches_of self.now.sizes }
-        requires free { pass.old.view.session.phase ≡ Free }
-        requires owns_sx { 0 < sx_grants latch.0 pass.old.view.session }
-        requires no_x { x_grants latch.0 pass.old.view.session ≡ 0 }
-        requires grows { MayGrow pass.old.view }
+        requires may { MayUpgrade self.now latch.0 pass.old }
         requires given { IsTrue (is_above_0 expected.0) }
         ensures tried { IsTry (XEvent latch.0 Log) expected result pass.old pass.new }
         ensures taken { IsOk result → pass.new ≡ with_view pass.old (granted ModeX
@@ -165,7 +105,7 @@ impl<L: Law> Space<L> {
             latch: latch.0,
             level: Level::Log,
         };
-        match self.attempt(pass, event, expected, WHOLE, None) {
+        match self.exchange_turn(pass, event, expected, WHOLE, None) {
             Ok(_) => Ok(()),
             Err(found) => Err(found),
         }
@@ -174,11 +114,8 @@ impl<L: Law> Space<L> {
     /// Takes X once more: `X_LOCK_DECR` off the lock word where it was owned once, and else 1
     /// (`rw_lock_x_lock_low`). It answers the word after the step.
     pub fn take_x_again(&self, pass: &mut Pass, latch: Latch) -> LockWord
-        requires own { IsOf self.now pass.old }
-        requires latch { latch.0 < latches_of self.now.sizes }
-        requires free { pass.old.view.session.phase ≡ Free }
+        requires may { MayTakeFurther self.now latch.0 pass.old }
         requires owns { 0 < x_grants latch.0 pass.old.view.session }
-        requires grows { MayGrow pass.old.view }
         ensures turn { let x = x_grants latch.0 pass.old.view.session in
             IsTurn (XEvent latch.0 Log) (cell_of result.0 + (x_weight (x + 1) - x_weight x))
             pass.old pass.new }
@@ -199,12 +136,9 @@ impl<L: Law> Space<L> {
     /// Takes a first SX beside one's own X: `X_LOCK_HALF_DECR` off the lock word
     /// (`rw_lock_sx_lock_low`). It answers the word after the step.
     pub fn take_sx_under_x(&self, pass: &mut Pass, latch: Latch) -> LockWord
-        requires own { IsOf self.now pass.old }
-        requires latch { latch.0 < latches_of self.now.sizes }
-        requires free { pass.old.view.session.phase ≡ Free }
+        requires may { MayTakeFurther self.now latch.0 pass.old }
         requires owns_x { 0 < x_grants latch.0 pass.old.view.session }
         requires no_sx { sx_grants latch.0 pass.old.view.session ≡ 0 }
-        requires grows { MayGrow pass.old.view }
         ensures turn { IsTurn (SxEvent latch.0 Log) (cell_of result.0 + X_LOCK_HALF_DECR)
             pass.old pass.new }
         ensures taken { pass.new ≡ with_view pass.old (granted ModeSx (record {
@@ -220,26 +154,21 @@ impl<L: Law> Space<L> {
         from_cell(found - HALF)
     }
 
-    /// Loads the writer, which counts a further SX, or, with `back`, one SX given back that is not
-    /// the last. The word is the session's own number once it was stored, and nobody asks for it.
-    pub fn load_writer(&self, pass: &mut Pass, latch: Latch, back: bool)
-        requires own { IsOf self.now pass.old }
-        requires latch { latch.0 < latches_of self.now.sizes }
-        requires free { pass.old.view.session.phase ≡ Free }
+    /// Takes SX once more: a load of the writer counts it, and nothing is taken off. The word is the
+    /// session's own number once it was stored, and nobody asks for it.
+    pub fn take_sx_again(&self, pass: &mut Pass, latch: Latch)
+        requires may { MayTakeFurther self.now latch.0 pass.old }
         requires owns { 0 < sx_grants latch.0 pass.old.view.session }
-        requires more { IsTrue back → 1 < sx_grants latch.0 pass.old.view.session }
-        requires grows { back ≡ false → MayGrow pass.old.view }
-        ensures turn { (found : ℕ) × IsTurn (writer_event latch.0 back) found pass.old pass.new }
-        ensures taken { back ≡ false → pass.new ≡ with_view pass.old (granted ModeSx (record {
+        ensures turn { (found : ℕ) × IsTurn (SxEvent latch.0 Log) found pass.old pass.new }
+        ensures taken { pass.new ≡ with_view pass.old (granted ModeSx (record {
           held = changed_on latch.0 (one_more ModeSx) pass.old.view.session.held;
           phase = Free;
         }) pass.old.view) }
-        ensures given { IsTrue back → pass.new ≡ with_view pass.old (left_as latch.0 (record {
-          held = changed_on latch.0 (one_fewer ModeSx) pass.old.view.session.held;
-          phase = Free;
-        }) pass.old.view) }
     {
-        let event = writer_event(latch.0, back);
+        let event = Event::Sx {
+            latch: latch.0,
+            level: Level::Log,
+        };
         self.turn(pass, event, LatchWord::Writer, WordOp::Load);
     }
 
@@ -254,43 +183,82 @@ impl<L: Law> Space<L> {
         self.sign(pass, latch);
     }
 
-    // The load of the lock word, as the kind of step that it is in each phase.
+    // .. by a session in the middle of nothing.
     #[inline(always)]
-    fn loaded_word(&self, pass: &mut Pass, latch: Latch) -> LockWord
-        requires own { IsOf self.now pass.old }
-        requires latch { latch.0 < latches_of self.now.sizes }
-        ensures counted { IsCounted result.0 }
-        ensures view { pass.new ≡ with_view pass.old
-            (view_after (word_kind latch.0 pass.old.view.session.phase) (cell_of result.0)
-            pass.old.view) }
-        ensures event { Happens
-            (event_at (word_kind latch.0 pass.old.view.session.phase) pass.old.view.session
-            (cell_of result.0)) pass.old.view.session (cell_of result.0)
-            pass.new.view.session }
-        ensures known { KnowsHeld pass.old.view }
+    fn take_by_wish(
+        &self,
+        pass: &mut Pass,
+        mode: Mode,
+        latch: Latch,
+        level: Level,
+        expected: LockWord,
+    ) -> Result<(), LockWord>
+        requires may { MayTryAt self.now mode latch.0 level expected pass.old }
+        requires free { pass.old.view.session.phase ≡ Free }
+        ensures { IsTryFor mode latch.0 level expected result pass.old pass.new }
     {
-        let found = match pass.member.phase() {
-            Phase::Next { latch: at, .. } | Phase::NextArmed { latch: at, .. } if at == latch.0 => {
-                let event = Event::Ready { latch: latch.0 };
-                self.turn(pass, event, LatchWord::Lock, WordOp::Load).0
-            }
-            Phase::Flagged { latch: at, .. } if at == latch.0 => self.recheck(pass, latch),
-            _ => self.look(pass, latch),
-        };
-        from_cell(found)
+        let event = wish_event(mode, latch.0, level);
+        let wish = Some((mode, level));
+        match self.exchange_turn(pass, event, expected, first_weight(mode), wish) {
+            Ok(_) => Ok(()),
+            Err(found) => Err(found),
+        }
+    }
+
+    // .. in any phase.
+    #[inline(never)]
+    fn take_in_phase(
+        &self,
+        pass: &mut Pass,
+        mode: Mode,
+        latch: Latch,
+        level: Level,
+        expected: LockWord,
+    ) -> Result<(), LockWord>
+        requires may { MayTryAt self.now mode latch.0 level expected pass.old }
+        ensures { IsTryFor mode latch.0 level expected result pass.old pass.new }
+    {
+        let event = try_event(mode, latch.0, level, pass.member.phase());
+        match self.exchange_turn(pass, event, expected, first_weight(mode), None) {
+            Ok(_) => Ok(()),
+            Err(found) => Err(found),
+        }
     }
 }
 
-// The event of a load of the writer.
-fn writer_event(latch: u32, back: bool) -> Event
-    ensures { result ≡ writer_event latch back }
+// What a first grant of the mode takes off.
+#[inline(always)]
+fn first_weight(mode: Mode) -> u64
+    ensures { result ≡ first_weight mode }
 {
-    if back {
-        Event::Usx { latch }
-    } else {
-        Event::Sx {
-            latch,
-            level: Level::Log,
-        }
+    match mode {
+        Mode::S => 1,
+        Mode::Sx => HALF,
+        Mode::X => WHOLE,
+    }
+}
+
+// The event of a first wish for the mode.
+#[inline(always)]
+fn wish_event(mode: Mode, latch: u32, level: Level) -> Event
+    ensures { result ≡ try_event mode latch level Free }
+{
+    match mode {
+        Mode::S => Event::S { latch, level },
+        Mode::Sx => Event::Sx { latch, level },
+        Mode::X => Event::X { latch, level },
+    }
+}
+
+// The event of a first try for the mode.
+#[inline(always)]
+fn try_event(mode: Mode, latch: u32, level: Level, phase: Phase) -> Event
+    ensures { result ≡ try_event mode latch level phase }
+{
+    match (phase, mode) {
+        (Phase::Flagged { .. }, _) => Event::Again { latch },
+        (_, Mode::S) => Event::S { latch, level },
+        (_, Mode::Sx) => Event::Sx { latch, level },
+        (_, Mode::X) => Event::X { latch, level },
     }
 }

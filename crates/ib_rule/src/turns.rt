@@ -1,22 +1,20 @@
 //! A step on a word of a latch that is the turn of an event, and the looks that are none.
 
-ghost use Rattle.std.specs.Prelude.{◌≡◌, ◌≢◌, ℕ, ◌-◌, ◌<◌, ◌≤◌, IsTrue, IfOk, IfErr, IsOk, pos, ◌-ℤ◌};
+ghost use Rattle.std.specs.Prelude.{◌≡◌, ◌≢◌, ℕ, ◌-◌, ◌<◌, ◌≤◌, IfOk, IfErr};
 ghost use Rattle.ib_word.specs.Word.{cell_of};
 ghost use Rattle.ib_layout.specs.Places.{latches_of, words_of};
 ghost use Rattle.ib_core.specs.declared.latch_word.LatchWord.TheVariants.{Lock};
-ghost use Rattle.ib_core.specs.declared.phase.Phase.TheVariants.{Free};
 ghost use Rattle.ib_core.specs.Good.{IsProper};
-ghost use Rattle.ib_core.specs.Takings.{first_response, first_weight, holding_too, is_given_at};
 ghost use Rattle.ib_core.specs.Responses.{latch_of};
 ghost use Rattle.ib_core.specs.Sessions.{claims};
 ghost use Rattle.ib_core.specs.Turns.{Leaves, turn_at, word_for};
 ghost use Rattle.ib_rule.specs.declared.kind.StepKind.TheVariants.{Look, Recheck, Try, Turn};
 ghost use Rattle.ib_rule.specs.Pass.{IsOf, with_view};
-ghost use Rattle.ib_rule.specs.Afterwards.{granted, tried_on};
+ghost use Rattle.ib_rule.specs.Afterwards.{tried_on};
 ghost use Rattle.ib_rule.specs.Views.{KnowsHeld, signed};
 ghost use Rattle.ib_rule.specs.Steps.{event_at, latch_word_place, run, view_after};
 ghost use Rattle.ib_rule.specs.Told.{CanBe, Happens, IsEvent};
-ghost use Rattle.ib_rule.specs.Conditions.{CanTake, MayGrow, MayTry, found_by, try_event};
+ghost use Rattle.ib_rule.specs.Conditions.{CanTake, found_by};
 ghost use Rattle.ib_rule.specs.Wished.{IsWished};
 
 use crate::kind::{StepKind, WordOp};
@@ -24,7 +22,7 @@ use crate::mirror::{counted, is_refused, try_on, turn_on};
 use crate::pass::Pass;
 use crate::space::Space;
 use crate::step::act;
-use ib_core::{Answer, Event, LatchWord, Phase};
+use ib_core::{Answer, Event, LatchWord};
 use ib_layout::Geometry;
 use ib_levels::{Latch, Level, Mode};
 use ib_logrec::Law;
@@ -96,7 +94,7 @@ impl<L: Law> Space<L> {
     // one. Else it answers the word found. Of a first wish, its mode and level may be given: then
     // the turn goes over nothing that is held.
     #[inline(always)]
-    pub(crate) fn attempt(
+    pub(crate) fn exchange_turn(
         &self,
         pass: &mut Pass,
         event: Event,
@@ -208,160 +206,5 @@ impl<L: Law> Space<L> {
             WordOp::Swap(u64::from(pass.number)),
             StepKind::StoreWriter(latch.0),
         );
-    }
-
-    // A first try for a mode: an exchange that takes off what it weighs.
-    #[inline(always)]
-    pub(crate) fn first_off(
-        &self,
-        pass: &mut Pass,
-        mode: Mode,
-        latch: Latch,
-        level: Level,
-        expected: LockWord,
-    ) -> Result<(), LockWord>
-        requires own { IsOf self.now pass.old }
-        requires latch { latch.0 < latches_of self.now.sizes }
-        requires may { MayTry mode latch.0 level pass.old.view.session
-            pass.old.view.session.phase }
-        requires grows { MayGrow pass.old.view }
-        requires given { IsTrue (is_given_at mode expected.0) }
-        ensures view { pass.new ≡ with_view pass.old (view_after
-            (Try (try_event mode latch.0 level pass.old.view.session.phase) (cell_of expected.0))
-            (found_by result expected) pass.old.view) }
-        ensures event { IsOk result
-            → IsEvent (try_event mode latch.0 level pass.old.view.session.phase)
-            pass.old.view.session
-            (turn_at (try_event mode latch.0 level pass.old.view.session.phase)
-            (cell_of expected.0) pass.old.view.session).answer pass.new.view.session }
-        ensures taken { IsOk result → pass.new ≡ with_view pass.old (granted mode
-            (first_response mode latch.0 level (expected.0 -ℤ pos (first_weight mode))
-            (holding_too mode latch.0 level pass.old.view.session.held)).session
-            (tried_on latch.0 expected expected pass.old.view)) }
-        ensures refused { IfErr result (λ found. pass.new
-            ≡ with_view pass.old (tried_on latch.0 expected found pass.old.view)) }
-        ensures lost { IfErr result (λ found. found.0 ≢ expected.0) }
-    {
-        if let Phase::Free = pass.member.phase() {
-            return self.wish_off(pass, mode, latch, level, expected);
-        }
-        self.later_off(pass, mode, latch, level, expected)
-    }
-
-    // .. by a session in the middle of nothing.
-    #[inline(always)]
-    fn wish_off(
-        &self,
-        pass: &mut Pass,
-        mode: Mode,
-        latch: Latch,
-        level: Level,
-        expected: LockWord,
-    ) -> Result<(), LockWord>
-        requires own { IsOf self.now pass.old }
-        requires latch { latch.0 < latches_of self.now.sizes }
-        requires free { pass.old.view.session.phase ≡ Free }
-        requires may { MayTry mode latch.0 level pass.old.view.session
-            pass.old.view.session.phase }
-        requires grows { MayGrow pass.old.view }
-        requires given { IsTrue (is_given_at mode expected.0) }
-        ensures view { pass.new ≡ with_view pass.old (view_after
-            (Try (try_event mode latch.0 level pass.old.view.session.phase) (cell_of expected.0))
-            (found_by result expected) pass.old.view) }
-        ensures event { IsOk result
-            → IsEvent (try_event mode latch.0 level pass.old.view.session.phase)
-            pass.old.view.session
-            (turn_at (try_event mode latch.0 level pass.old.view.session.phase)
-            (cell_of expected.0) pass.old.view.session).answer pass.new.view.session }
-        ensures taken { IsOk result → pass.new ≡ with_view pass.old (granted mode
-            (first_response mode latch.0 level (expected.0 -ℤ pos (first_weight mode))
-            (holding_too mode latch.0 level pass.old.view.session.held)).session
-            (tried_on latch.0 expected expected pass.old.view)) }
-        ensures refused { IfErr result (λ found. pass.new
-            ≡ with_view pass.old (tried_on latch.0 expected found pass.old.view)) }
-        ensures lost { IfErr result (λ found. found.0 ≢ expected.0) }
-    {
-        let event = wish_event(mode, latch.0, level);
-        let wish = Some((mode, level));
-        match self.attempt(pass, event, expected, first_weight(mode), wish) {
-            Ok(_) => Ok(()),
-            Err(found) => Err(found),
-        }
-    }
-
-    // .. in any phase.
-    #[inline(never)]
-    fn later_off(
-        &self,
-        pass: &mut Pass,
-        mode: Mode,
-        latch: Latch,
-        level: Level,
-        expected: LockWord,
-    ) -> Result<(), LockWord>
-        requires own { IsOf self.now pass.old }
-        requires latch { latch.0 < latches_of self.now.sizes }
-        requires may { MayTry mode latch.0 level pass.old.view.session
-            pass.old.view.session.phase }
-        requires grows { MayGrow pass.old.view }
-        requires given { IsTrue (is_given_at mode expected.0) }
-        ensures view { pass.new ≡ with_view pass.old (view_after
-            (Try (try_event mode latch.0 level pass.old.view.session.phase) (cell_of expected.0))
-            (found_by result expected) pass.old.view) }
-        ensures event { IsOk result
-            → IsEvent (try_event mode latch.0 level pass.old.view.session.phase)
-            pass.old.view.session
-            (turn_at (try_event mode latch.0 level pass.old.view.session.phase)
-            (cell_of expected.0) pass.old.view.session).answer pass.new.view.session }
-        ensures taken { IsOk result → pass.new ≡ with_view pass.old (granted mode
-            (first_response mode latch.0 level (expected.0 -ℤ pos (first_weight mode))
-            (holding_too mode latch.0 level pass.old.view.session.held)).session
-            (tried_on latch.0 expected expected pass.old.view)) }
-        ensures refused { IfErr result (λ found. pass.new
-            ≡ with_view pass.old (tried_on latch.0 expected found pass.old.view)) }
-        ensures lost { IfErr result (λ found. found.0 ≢ expected.0) }
-    {
-        let event = try_event(mode, latch.0, level, pass.member.phase());
-        match self.attempt(pass, event, expected, first_weight(mode), None) {
-            Ok(_) => Ok(()),
-            Err(found) => Err(found),
-        }
-    }
-}
-
-// What a first grant of the mode takes off.
-#[inline(always)]
-fn first_weight(mode: Mode) -> u64
-    ensures { result ≡ first_weight mode }
-{
-    match mode {
-        Mode::S => 1,
-        Mode::Sx => HALF,
-        Mode::X => WHOLE,
-    }
-}
-
-// The event of a first wish for the mode.
-#[inline(always)]
-fn wish_event(mode: Mode, latch: u32, level: Level) -> Event
-    ensures { result ≡ try_event mode latch level Free }
-{
-    match mode {
-        Mode::S => Event::S { latch, level },
-        Mode::Sx => Event::Sx { latch, level },
-        Mode::X => Event::X { latch, level },
-    }
-}
-
-// The event of a first try for the mode.
-#[inline(always)]
-fn try_event(mode: Mode, latch: u32, level: Level, phase: Phase) -> Event
-    ensures { result ≡ try_event mode latch level phase }
-{
-    match (phase, mode) {
-        (Phase::Flagged { .. }, _) => Event::Again { latch },
-        (_, Mode::S) => Event::S { latch, level },
-        (_, Mode::Sx) => Event::Sx { latch, level },
-        (_, Mode::X) => Event::X { latch, level },
     }
 }

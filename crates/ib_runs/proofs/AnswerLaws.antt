@@ -45,7 +45,7 @@ use Rattle.ib_script.specs.Script.{asks_scan, scan_count}
 use Rattle.ib_rule.specs.Pass.{PassState}
 use Rattle.ib_rule.specs.Views.{total}
 use Rattle.ib_cursor.specs.Going.{IsKnown}
-use Rattle.ib_cursor.proofs.StandLaws.{bounds-append}
+use Rattle.ib_cursor.proofs.LatchingLaws.{bounds-append}
 use Rattle.ib_index.specs.Calls.{HasCalled, MakesOwn}
 use Rattle.ib_index.proofs.LookupLaws.{lookup-made}
 use Rattle.ib_runs.specs.Answers.{KeptAnswers, answers_of}

@@ -23,7 +23,7 @@ use Rattle.ib_planned_log.specs.KeptLog.{IsKeptLog-front}
 use Rattle.ib_rule.specs.Pass.{PassState}
 use Rattle.ib_rule.specs.Views.{total}
 use Rattle.ib_cursor.specs.Going.{IsKnown, WentOn}
-use Rattle.ib_cursor.proofs.StandLaws.{went_both, added_both}
+use Rattle.ib_cursor.proofs.LatchingLaws.{went_both, added_both}
 use Rattle.ib_scan.specs.Scanning.{HasGone, HasScanned, HasStopped}
 use Rattle.ib_scan.proofs.FrontLaws.{front_longer, front_lower, whole_lower}
 use Rattle.ib_runs.specs.Sessions.{most_scan_grants}

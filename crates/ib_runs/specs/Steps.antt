@@ -1,5 +1,5 @@
 -- The steps of a session's run.
-use Rattle.std.specs.Prelude.{◌≡◌, ◌⊎◌, ℕ, ◌+◌, ◌*◌, ◌<◌, ◌≤◌, List, [], ◌∷◌, ◌++◌, length}
+use Rattle.std.specs.Prelude.{◌≡◌, ◌⊎◌, ℕ, ◌+◌, ◌*◌, ◌^◌, ◌<◌, ◌≤◌, List, [], ◌∷◌, ◌++◌, length}
 use Rattle.std.specs.List.{AllByRecursion, filter_map}
 use Rattle.ib_map.specs.Keys.{MapKey, rank}
 use Rattle.ib_map.specs.Chunks.{HeldChunks, spans_of}
@@ -17,9 +17,11 @@ use Rattle.ib_tree.specs.Logs.{pages_after}
 use Rattle.ib_tree.specs.Scans.{AreFront, AreWhole}
 use Rattle.ib_tree.specs.TreeLog.{opening}
 use Rattle.ib_planned_log.specs.Kept.{IsKeptLog}
-use Rattle.ib_rule.specs.Pass.{PassState}
+use Rattle.ib_rule.specs.Pass.{PassState, IsAtRest}
+use Rattle.ib_rule.specs.Space.{SpaceState}
 use Rattle.ib_rule.specs.Views.{total}
 use Rattle.ib_cursor.specs.Going.{IsKnown, WentOn}
+use Rattle.ib_runs.specs.declared.session.TheConstants.{SCAN_CHUNKS}
 use Rattle.ib_runs.specs.Answers.{KeptAnswers, IsWhole, answers_of}
 use Rattle.ib_runs.specs.Sessions.{index_space, changes_in, places_in, IsEmptyScan, IsRead, least_grants, most_grants, most_scan_grants}
 
@@ -28,6 +30,19 @@ pub record KeptLaws (sizes : Sizes) : Type 0 where
   pub memory : (log : List Entry) → IsKeptLog sizes.pages log → IsLawfulMemory sizes.pages 1 (memory_after (by_place opening sizes.pages) log)
   pub content : (log : List Entry) → IsKeptLog sizes.pages log → content_of (pages_after (by_place opening sizes.pages) log) 1 ≡ map_of log
   pub few : sizes.log_words ≤ MOST_LOG_WORDS
+
+-- a command may be answered: the session is at rest, it knows what it has seen, may take as many grants more as a scan takes at most, and has no more chunk places spare than one call of a scan is given
+pub record MayAnswer (space : SpaceState) (chunks : HeldChunks) (p : PassState) : Type 0 where
+  pub rest : IsAtRest space p
+  pub known : IsKnown space.sizes (IsKeptLog space.sizes.pages) p
+  pub few : total p.view.grants + most_scan_grants ≤ 2 ^ 52
+  pub room : chunks.chunk_room ≤ SCAN_CHUNKS
+
+-- .. and afterwards it is the same session, at rest again, with no more chunk places spare
+pub record IsStillSession (space : SpaceState) (chunks : HeldChunks) (p q : PassState) : Type 0 where
+  pub rest : IsAtRest space q
+  pub number : q.number ≡ p.number
+  pub room : chunks.chunk_room ≤ SCAN_CHUNKS
 
 -- these chunks stand behind those that were there
 abbrev pub HasMore : HeldChunks → HeldChunks → List Span → Type 0

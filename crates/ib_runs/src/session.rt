@@ -1,13 +1,11 @@
 //! A session's commands, one after another.
 
-ghost use Rattle.std.specs.Prelude.{◌≡◌, ◌≤◌, ◌+◌, ◌^◌, [], OnOk};
-ghost use Rattle.ib_planned_log.specs.Kept.{IsKeptLog};
+ghost use Rattle.std.specs.Prelude.{◌≡◌, [], OnOk};
 ghost use Rattle.ib_rule.specs.Pass.{IsAtRest};
-ghost use Rattle.ib_rule.specs.Views.{no_grants, total};
-ghost use Rattle.ib_cursor.specs.Going.{IsKnown};
+ghost use Rattle.ib_rule.specs.Views.{no_grants};
 ghost use Rattle.ib_runs.specs.Answers.{IsWhole, answers_of, no_answers};
-ghost use Rattle.ib_runs.specs.Sessions.{AreFew, HasAnswered, most_scan_grants};
-ghost use Rattle.ib_runs.specs.Steps.{HasOneMore, HasReadKeys, KeptLaws};
+ghost use Rattle.ib_runs.specs.Sessions.{AreFew, HasAnswered};
+ghost use Rattle.ib_runs.specs.Steps.{HasOneMore, HasReadKeys, IsStillSession, KeptLaws, MayAnswer};
 
 use crate::gate::Gate;
 use crate::session_out::SessionOut;
@@ -47,13 +45,8 @@ fn read_all<R: Wait>(
     high: Key,
     chunks: &mut Chunks,
 ) -> Result<(), OutOfMemory>
-    requires rest { IsAtRest index.now pass.old }
-    requires known { IsKnown index.now.sizes (IsKeptLog index.now.sizes.pages) pass.old }
-    requires few { total pass.old.view.grants + most_scan_grants ≤ 2 ^ 52 }
-    requires room { chunks.old.chunk_room ≤ SCAN_CHUNKS }
-    ensures rest { IsAtRest index.now pass.new }
-    ensures number { pass.new.number ≡ pass.old.number }
-    ensures room { chunks.new.chunk_room ≤ SCAN_CHUNKS }
+    requires may { MayAnswer index.now chunks.old pass.old }
+    ensures still { IsStillSession index.now chunks.new pass.old pass.new }
     ensures read { OnOk result (HasReadKeys index.now.sizes low high chunks.old chunks.new pass.old pass.new) }
 {
     if is_below(high, low) {
@@ -79,14 +72,9 @@ fn answer_scan<R: Wait>(
     high: Key,
     out: &mut SessionOut,
 ) -> Result<(), OutOfMemory>
-    requires rest { IsAtRest index.now pass.old }
-    requires known { IsKnown index.now.sizes (IsKeptLog index.now.sizes.pages) pass.old }
-    requires few { total pass.old.view.grants + most_scan_grants ≤ 2 ^ 52 }
-    requires room { out.old.chunks.chunk_room ≤ SCAN_CHUNKS }
+    requires may { MayAnswer index.now out.old.chunks pass.old }
     requires whole { IsWhole out.old }
-    ensures rest { IsAtRest index.now pass.new }
-    ensures number { pass.new.number ≡ pass.old.number }
-    ensures room { out.new.chunks.chunk_room ≤ SCAN_CHUNKS }
+    ensures still { IsStillSession index.now out.new.chunks pass.old pass.new }
     ensures more { OnOk result (HasOneMore index.now.sizes (Call.Scan low high) out.old out.new pass.old pass.new) }
 {
     laws_of(index);
@@ -114,14 +102,9 @@ fn answer<R: Wait>(
     call: Call,
     out: &mut SessionOut,
 ) -> Result<(), OutOfMemory>
-    requires rest { IsAtRest index.now pass.old }
-    requires known { IsKnown index.now.sizes (IsKeptLog index.now.sizes.pages) pass.old }
-    requires few { total pass.old.view.grants + most_scan_grants ≤ 2 ^ 52 }
-    requires room { out.old.chunks.chunk_room ≤ SCAN_CHUNKS }
+    requires may { MayAnswer index.now out.old.chunks pass.old }
     requires whole { IsWhole out.old }
-    ensures rest { IsAtRest index.now pass.new }
-    ensures number { pass.new.number ≡ pass.old.number }
-    ensures room { out.new.chunks.chunk_room ≤ SCAN_CHUNKS }
+    ensures still { IsStillSession index.now out.new.chunks pass.old pass.new }
     ensures more { OnOk result (HasOneMore index.now.sizes call out.old out.new pass.old pass.new) }
 {
     let record = match call {

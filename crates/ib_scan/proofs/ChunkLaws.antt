@@ -15,7 +15,7 @@ use Rattle.ib_walk.proofs.TreeLaws.{IsTiled-leaves}
 use Rattle.ib_walk.proofs.WalkLaws.{AllByRecursion-right, records_along-append, sum_of-append}
 use Rattle.ib_scan.specs.Walked.{ReadLeaf, EndsBy}
 use Rattle.ib_scan.proofs.KeyLaws.{last_between, cut_below}
-use Rattle.ib_scan.proofs.StandLaws.{AreMetOnce, Stands, IsSameLeaf, link_behind, stands_leaf}
+use Rattle.ib_scan.proofs.LatchingLaws.{AreMetOnce, Stands, IsSameLeaf, link_behind, stands_leaf}
 
 -- leaves whose keys are below the start have nothing of the chunk
 pub cut-passed : (m : PageMemory) (vs : List Visit) (start end : MapKey) → AllByRecursion (λ v. AreBelow start (m v.page).records) vs → cut (records_along m vs) start end ≡ []

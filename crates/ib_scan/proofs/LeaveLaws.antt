@@ -8,7 +8,7 @@ use Rattle.ib_page.specs.Work.{WorkPage}
 use Rattle.ib_rule.specs.Pass.{PassState}
 use Rattle.ib_mtr.specs.Mtr.{IsUnchangedOn, MayRelease, IsReleasedAt, released_at}
 use Rattle.ib_cursor.specs.Grants.{Grant, memo_of, page_grant, HasGrants, IsAway}
-use Rattle.ib_cursor.proofs.StandLaws.{IsBeside}
+use Rattle.ib_cursor.proofs.LatchingLaws.{IsBeside}
 use Rattle.ib_cursor.proofs.GrantLaws.{given, grants_left, released_is}
 use Rattle.ib_scan.specs.Steps.{AreApart, HasFront, IsAside}
 use Rattle.ib_scan.proofs.PassLaws.{loaded_unchanged}

@@ -1,5 +1,5 @@
 pub mod KeyLaws
-pub mod StandLaws
+pub mod LatchingLaws
 pub mod ChunkLaws
 pub mod WalkedLaws
 pub mod FrontLaws

@@ -29,17 +29,17 @@ use Rattle.ib_tree.specs.Logs.{pages_after}
 use Rattle.ib_tree.specs.Scans.{IsReadAt, AreFront, AreWhole}
 use Rattle.ib_cursor.specs.Grants.{Grant, page_grant, HasGrants}
 use Rattle.ib_cursor.specs.Going.{IsKnown, WentOn}
-use Rattle.ib_cursor.proofs.StandLaws.{went_beside, went_both, went_none, known_beside, seen_longer}
+use Rattle.ib_cursor.proofs.LatchingLaws.{went_beside, went_both, went_none, known_beside, seen_longer}
 use Rattle.ib_cursor.specs.Laws.{Laws}
 use Rattle.ib_scan.specs.declared.walk.Found.{Found}
 use Rattle.ib_scan.specs.Walked.{ReadLeaf, first_read, leaf_grants, IsSkipped, EndsBy, IsWalked}
 use Rattle.ib_scan.specs.Scanning.{Appends, AreHeld, IsGivenBy}
-use Rattle.ib_scan.specs.Steps.{MayPass, HasPassed, IsOnLeaf, IsAlong, HasComeToEnd, HasFront, HasSomeFront, IsAside, HasLast, IsScannedTo, HasRun, HasRunToEnd, HasRunToStop, loaded_as}
+use Rattle.ib_scan.specs.Steps.{MayPass, HasPassed, IsOnLeaf, IsAlong, HasReachedEnd, HasFront, HasSomeFront, IsAside, HasLast, IsScannedTo, HasRun, HasRunToEnd, HasRunToStop, loaded_as}
 use Rattle.ib_scan.proofs.FrontLaws.{front_longer, front_push, appends_more}
 use Rattle.ib_scan.proofs.HoldLaws.{held_on, held_push}
 use Rattle.ib_scan.proofs.LeaveLaws.{beside_aside}
 use Rattle.ib_scan.proofs.PassLaws.{first_push, loaded_there}
-use Rattle.ib_scan.proofs.StandLaws.{held_apart}
+use Rattle.ib_scan.proofs.LatchingLaws.{held_apart}
 use Rattle.ib_scan.proofs.WalkedLaws.{tree_at_log, tree_is, leaves_met, walked_stands, walked_tree, walked_chunk, walked_leaf, walked_begins, walked_on}
 
 -- the first leaf of a work set
@@ -130,65 +130,65 @@ module _ (sizes : Sizes) (roots : ℕ) (lawful : List Entry → Type 0) (opening
     abbrev pub on_leaf : IsOnLeaf sizes lawful opening roots leaf start p
     on_leaf = record { root = root; image = i.image; scans = i.scans; room = let r = i.room in omega arith }
 
-    module _ (found : Found) (q : PassState) (come : HasComeToEnd sizes lawful opening roots root start high found p q) where
+    module _ (found : Found) (q : PassState) (reached : HasReachedEnd sizes lawful opening roots root start high found p q) where
       abbrev image : List ℕ
-      image = come.along.last.image
+      image = reached.along.last.image
 
       abbrev pub span_read : Span
       span_read = record { low = start; high = found.end; place = length q.view.memory.seen; pairs = cut (records_of image) start found.end }
 
       legal : lawful q.view.memory.seen
-      legal = come.along.scans.known.legal
+      legal = reached.along.scans.known.legal
 
       chunk : IsChunk (pages_after opening q.view.memory.seen) root start high found.end (cut (records_of image) start found.end)
-      chunk = walked_chunk sizes.pages roots lawful opening laws root q.view.memory.seen legal start come.along.ps come.along.last come.along.scans.walked high found.end come.ends
+      chunk = walked_chunk sizes.pages roots lawful opening laws root q.view.memory.seen legal start reached.along.ps reached.along.last reached.along.scans.walked high found.end reached.ends
 
       -- the leaf that gave the chunk before is as it was
-      first-is : first_read come.along.ps come.along.last ≡ record { page = leaf; image = i.image }
-      first-is = ap (λ ws. leaf-in ws) (sym come.along.begins ∙ i.scans.work)
+      first-is : first_read reached.along.ps reached.along.last ≡ record { page = leaf; image = i.image }
+      first-is = ap (λ ws. leaf-in ws) (sym reached.along.begins ∙ i.scans.work)
 
       still : i.image ≡ image_of (memory_after opening q.view.memory.seen) leaf
       still = subst (λ (f : ReadLeaf). f.image ≡ image_of (memory_after opening q.view.memory.seen) f.page) first-is
-          (walked_begins sizes.pages roots lawful opening laws root q.view.memory.seen legal start come.along.ps come.along.last come.along.scans.walked)
+          (walked_begins sizes.pages roots lawful opening laws root q.view.memory.seen legal start reached.along.ps reached.along.last reached.along.scans.walked)
 
       held : AreHeld opening q.view.memory.seen root high i.up_to.spans (length q.view.memory.seen)
-      held = subst (λ es. AreHeld opening es root high i.up_to.spans (length es)) (sym come.along.went.seen)
-          (held_on opening root high p.view.memory.seen come.along.went.more leaf i.image i.up_to.spans i.on (subst (λ es. i.image ≡ image_of (memory_after opening es) leaf) come.along.went.seen still))
+      held = subst (λ es. AreHeld opening es root high i.up_to.spans (length es)) (sym reached.along.went.seen)
+          (held_on opening root high p.view.memory.seen reached.along.went.more leaf i.image i.up_to.spans i.on (subst (λ es. i.image ≡ image_of (memory_after opening es) leaf) reached.along.went.seen still))
 
       given : IsGivenBy opening (take (length q.view.memory.seen) q.view.memory.seen) root found.leaf high span_read
       unfolding chunk
       given = subst (λ es. IsGivenBy opening es root found.leaf high span_read) (sym (take-length q.view.memory.seen)) (record {
         chunk = chunk;
-        page = walked_leaf sizes.pages roots lawful opening laws root q.view.memory.seen legal start come.along.ps come.along.last come.along.scans.walked high found.end come.ends ∙ come.along.here;
+        page = walked_leaf sizes.pages roots lawful opening laws root q.view.memory.seen legal start reached.along.ps reached.along.last reached.along.scans.walked high found.end reached.ends ∙ reached.along.here;
       })
 
       read : IsReadAt opening q.view.memory.seen root start high i.up_to.last span_read
       read = record {
         begins = refl;
-        placed = let a = i.up_to.within in let b = seen_longer p q come.along.went in omega arith;
+        placed = let a = i.up_to.within in let b = seen_longer p q reached.along.went in omega arith;
         within = omega arith;
         chunk = subst (λ es. IsChunk (pages_after opening es) root start high found.end (cut (records_of image) start found.end)) (sym (take-length q.view.memory.seen)) chunk;
       }
 
       before : AreFront opening q.view.memory.seen root low high (length p0.view.memory.seen) i.up_to.spans start i.up_to.last
-      before = subst (λ es. AreFront opening es root low high (length p0.view.memory.seen) i.up_to.spans start i.up_to.last) (sym come.along.went.seen)
-          (front_longer opening root high p.view.memory.seen come.along.went.more low (length p0.view.memory.seen) i.up_to.spans start i.up_to.last i.up_to.chunks)
+      before = subst (λ es. AreFront opening es root low high (length p0.view.memory.seen) i.up_to.spans start i.up_to.last) (sym reached.along.went.seen)
+          (front_longer opening root high p.view.memory.seen reached.along.went.more low (length p0.view.memory.seen) i.up_to.spans start i.up_to.last i.up_to.chunks)
 
       -- the leaves in front were given up
       module _ (r : PassState) (f : HasFront 0 found.leaf image r) (aside : IsAside q r) where
         went : WentOn p0 r
-        went = went_both p0 p r i.up_to.went (went_both p q r come.along.went (went_beside q r (beside_aside q r aside)))
+        went = went_both p0 p r i.up_to.went (went_both p q r reached.along.went (went_beside q r (beside_aside q r aside)))
 
         known : IsKnown sizes lawful r
-        known = known_beside sizes lawful q r (beside_aside q r aside) come.along.scans.known
+        known = known_beside sizes lawful q r (beside_aside q r aside) reached.along.scans.known
 
         within : i.up_to.last ≤ length r.view.memory.seen
-        within = let a = i.up_to.within in let b = seen_longer p q come.along.went in let c = ap length aside.seen in omega arith
+        within = let a = i.up_to.within in let b = seen_longer p q reached.along.went in let c = ap length aside.seen in omega arith
 
         run : (new : HeldChunks) (spans : List Span) → Appends out0 new spans → new.chunk_room ≤ out.chunk_room → AllByRecursion (λ span. length span.pairs ≤ MOST_RECORDS) spans → HasRun sizes lawful out0 new spans p0 r
         run new spans appends less short =
             let gs = ap (λ (g : Grants). g.s) aside.grants in let gsx = ap (λ (g : Grants). g.sx) aside.grants in let gx = ap (λ (g : Grants). g.x) aside.grants in
-            let cs = come.along.s in let csx = come.along.sx in let cx = come.along.x in let few = come.along.few in
+            let cs = reached.along.s in let csx = reached.along.sx in let cx = reached.along.x in let few = reached.along.few in
             let is = i.up_to.s in let isx = i.up_to.sx in let ix = i.up_to.x in
             let room = appends.chunk_room in
             record {
@@ -273,14 +273,14 @@ module _ (sizes : Sizes) (roots : ℕ) (lawful : List Entry → Type 0) (opening
 
           pub again : (next : MapKey) → key_after found.end ≡ Some next → rank found.end < rank high → IsScannedTo sizes lawful opening roots root found.leaf low next high out0 new p0 r
           again next after lt =
-              let key = on-key lt come.ends in
+              let key = on-key lt reached.ends in
               let up = after-above found.end next after in
               let from = key.from in
               let gs = ap (λ (g : Grants). g.s) aside.grants in let gsx = ap (λ (g : Grants). g.sx) aside.grants in let gx = ap (λ (g : Grants). g.x) aside.grants in
-              let cs = come.along.s in let csx = come.along.sx in let cx = come.along.x in let few = come.along.few in
+              let cs = reached.along.s in let csx = reached.along.sx in let cx = reached.along.x in let few = reached.along.few in
               let is = i.up_to.s in let isx = i.up_to.sx in let ix = i.up_to.x in
               let room = put.chunk_room in let had = i.room in
-              let walked = walked_on sizes.pages roots lawful opening laws root q.view.memory.seen legal start come.along.ps come.along.last come.along.scans.walked found.end next key.last up in
+              let walked = walked_on sizes.pages roots lawful opening laws root q.view.memory.seen legal start reached.along.ps reached.along.last reached.along.scans.walked found.end next key.last up in
               record {
                 up_to = record {
                   spans = i.up_to.spans ++ span_read ∷ [];
@@ -308,7 +308,7 @@ module _ (sizes : Sizes) (roots : ℕ) (lawful : List Entry → Type 0) (opening
                   within = omega arith;
                   given = given;
                   read = subst (λ es. image ≡ image_of (memory_after opening es) found.leaf) (sym (take-length q.view.memory.seen))
-                      (come.along.scans.walked.image ∙ ap (image_of (memory_after opening q.view.memory.seen)) come.along.here);
+                      (reached.along.scans.walked.image ∙ ap (image_of (memory_after opening q.view.memory.seen)) reached.along.here);
                 }));
                 scans = record {
                   grants = alone f.front f.size f.grants;
@@ -316,8 +316,8 @@ module _ (sizes : Sizes) (roots : ℕ) (lawful : List Entry → Type 0) (opening
                   here = f.watched;
                   work = f.work;
                   known = known;
-                  walked = subst (λ k. IsWalked roots opening r.view.memory.seen root next [] (record { page = k; image = image })) come.along.here
-                      (subst (λ es. IsWalked roots opening es root next [] come.along.last) (sym aside.seen) walked);
+                  walked = subst (λ k. IsWalked roots opening r.view.memory.seen root next [] (record { page = k; image = image })) reached.along.here
+                      (subst (λ es. IsWalked roots opening es root next [] reached.along.last) (sym aside.seen) walked);
                 };
                 room = omega arith;
               }

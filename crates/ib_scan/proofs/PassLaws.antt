@@ -32,12 +32,12 @@ use Rattle.ib_mtr.specs.Mtr.{with_work}
 use Rattle.ib_cursor.specs.Grants.{Grant, hold_of, page_grant, HasGrants, HasTaken}
 use Rattle.ib_cursor.specs.Going.{HasSeen}
 use Rattle.ib_cursor.specs.Descent.{HasPage}
-use Rattle.ib_cursor.proofs.StandLaws.{IsBeside, went_beside, went_both, beside_taken}
+use Rattle.ib_cursor.proofs.LatchingLaws.{IsBeside, went_beside, went_both, beside_taken}
 use Rattle.ib_cursor.proofs.GrantLaws.{hold-latch, can_wish, may_grow, last_held, grants_more}
 use Rattle.ib_cursor.specs.Laws.{Laws}
 use Rattle.ib_scan.specs.Walked.{ReadLeaf, first_read, IsSkipped, ArePassed, leaf_grants, IsReadOf, IsWalked, IsScanning}
 use Rattle.ib_scan.specs.Steps.{HasPassed}
-use Rattle.ib_scan.proofs.StandLaws.{IsFresh, behind_fresh}
+use Rattle.ib_scan.proofs.LatchingLaws.{IsFresh, behind_fresh}
 use Rattle.ib_scan.proofs.WalkedLaws.{AreCalm, walked_stays, tree_at_log, tree_is, leaves_met, walked_stands, walked_same}
 
 -- a grant's latch is held

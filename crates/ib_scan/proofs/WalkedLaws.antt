@@ -15,17 +15,17 @@ use Rattle.ib_walk.specs.Words.{image_of, bits_of}
 use Rattle.ib_walk.specs.Chunk.{IsLastKey, IsChunk}
 use Rattle.ib_tree.specs.Logs.{pages_after}
 use Rattle.ib_tree.proofs.PatchLaws.{counts_visit-own}
-use Rattle.ib_cursor.specs.Way.{IsOnWay}
+use Rattle.ib_cursor.specs.OnPath.{IsOnPath}
 use Rattle.ib_cursor.specs.Laws.{Laws}
 use Rattle.ib_cursor.proofs.LogLaws.{tree_of-log, range_stays, bit_inside}
 use Rattle.ib_cursor.proofs.NextLaws.{leaf-counts}
 use Rattle.ib_cursor.proofs.PageLaws.{tree_image}
 use Rattle.ib_cursor.proofs.StepLaws.{image_stays}
-use Rattle.ib_cursor.proofs.WayLaws.{met_on-way}
+use Rattle.ib_cursor.proofs.OnPathLaws.{met_on-path}
 use Rattle.ib_scan.specs.Walked.{ReadLeaf, first_read, EndsBy, IsReadOf, IsWalked}
 use Rattle.ib_scan.proofs.ChunkLaws.{chunk_leaf, chunk_read}
 use Rattle.ib_scan.proofs.KeyLaws.{last_between}
-use Rattle.ib_scan.proofs.StandLaws.{AreMetOnce, met_once, Stands, IsSameLeaf, stands_at, stands_kind, stands_leaf}
+use Rattle.ib_scan.proofs.LatchingLaws.{AreMetOnce, met_once, Stands, IsSameLeaf, stands_at, stands_kind, stands_leaf}
 
 -- entries write no word of the page
 abbrev pub AreCalm : List Entry → ℕ → Type 0
@@ -120,8 +120,8 @@ module _ (pages roots : ℕ) (lawful : List Entry → Type 0) (opening : ℕ →
     pub walked_first : (key : MapKey) (leaf : ℕ) (image : List ℕ) → 0 < root → root ≤ roots → rank key < end_rank → leaf ≡ leaf_for tree_at_log key root → image ≡ image_of (memory_after opening log) leaf
         → IsWalked roots opening log root key [] (record { page = leaf; image = image })
     walked_first key leaf image some le lt is read =
-        let on : IsOnWay tree_at_log root key leaf 0 = record { depth = height_of tree_at_log root; height = omega arith; below = sym is } in
-        let met = met_on-way tree_at_log root (tree_is some le) key lt leaf 0 on in
+        let on : IsOnPath tree_at_log root key leaf 0 = record { depth = height_of tree_at_log root; height = omega arith; below = sym is } in
+        let met = met_on-path tree_at_log root (tree_is some le) key lt leaf 0 on in
         record {
           images = tt;
           image = read;

@@ -26,7 +26,7 @@ use Rattle.ib_mtr.specs.Mtr.{started, finished}
 use Rattle.ib_cursor.specs.Spaces.{space_of}
 use Rattle.ib_cursor.specs.Going.{WentOn}
 use Rattle.ib_cursor.specs.Descent.{HasDescended}
-use Rattle.ib_cursor.proofs.StandLaws.{IsBeside, went_beside, went_both, went_none, added_both, known_beside}
+use Rattle.ib_cursor.proofs.LatchingLaws.{IsBeside, went_beside, went_both, went_none, added_both, known_beside}
 use Rattle.ib_cursor.specs.Laws.{Laws}
 use Rattle.ib_scan.specs.Scanning.{AreHeld, HasGone, HasScanned, HasStopped, HasNoRoom}
 use Rattle.ib_scan.specs.Scans.{HasAll, FitsSeen, scan_answer}
@@ -37,16 +37,16 @@ use Rattle.ib_scan.proofs.WalkedLaws.{walked_first}
 -- a scan begins where the descent ends
 pub begins : (sizes : Sizes) (roots : ℕ) (lawful : List Entry → Type 0) (opening : ℕ → ℕ) (laws : Laws sizes.pages roots lawful opening) (root : ℕ) → 0 < root → root ≤ roots → (low high : MapKey) → rank low < end_rank → rank low ≤ rank high
     → (out : HeldChunks) (path : List ℕ) (p q : PassState) (d : HasDescended sizes lawful opening root low false path p q) → total p.view.grants + 8192 * out.chunk_room + 8192 ≤ 2 ^ 52
-    → IsScannedTo sizes lawful opening roots root d.come.leaf low low high out out q q
+    → IsScannedTo sizes lawful opening roots root d.reached.leaf low low high out out q q
 begins sizes roots lawful opening laws root some le low high lt up out path p q d room =
-    let sx = d.come.sx in let x = (d.come.finds refl).1 in let s = d.come.s in
+    let sx = d.reached.sx in let x = (d.reached.finds refl).1 in let s = d.reached.s in
     record {
       up_to = record {
         spans = [];
         appends = appends_none out;
         short = tt;
         went = went_none q;
-        known = d.come.known;
+        known = d.reached.known;
         least = omega arith;
         s = omega arith;
         sx = refl;
@@ -60,13 +60,13 @@ begins sizes roots lawful opening laws root some le low high lt up out path p q 
       image = d.image;
       on = inl refl;
       scans = record {
-        grants = d.come.grants;
+        grants = d.reached.grants;
         watched = tt;
-        here = d.come.watched;
+        here = d.reached.watched;
         work = d.work;
-        known = d.come.known;
-        walked = walked_first sizes.pages roots lawful opening laws root q.view.memory.seen d.come.known.legal low d.come.leaf d.image some le lt d.come.is_leaf
-            (sym (image_of-list (memory_after opening q.view.memory.seen) d.come.leaf d.image d.size (λ index lt. sym (d.is_page index lt))));
+        known = d.reached.known;
+        walked = walked_first sizes.pages roots lawful opening laws root q.view.memory.seen d.reached.known.legal low d.reached.leaf d.image some le lt d.reached.is_leaf
+            (sym (image_of-list (memory_after opening q.view.memory.seen) d.reached.leaf d.image d.size (λ index lt. sym (d.is_page index lt))));
       };
       room = omega arith;
     }
@@ -85,8 +85,8 @@ first_look (n ∷ ns) least most some bounds = record { first = n; rest = ns; is
 -- from the start to the end: the pass as the caller sees it, as the descent left it, as the loop did, and once the last leaf was given up
 module _ (sizes : Sizes) (lawful : List Entry → Type 0) (opening : ℕ → ℕ) (root : ℕ) (low high : MapKey) (path : List ℕ) (out new : HeldChunks) (p q r s : PassState) (d : HasDescended sizes lawful opening root low false path (started p) q)
     (aside : IsAside r s) where
-  look : HasFirstLook d.come.went.added (length q.view.memory.seen)
-  look = first_look d.come.went.added (length p.view.memory.seen) (length q.view.memory.seen) d.come.looked d.come.went.bounds
+  look : HasFirstLook d.reached.went.added (length q.view.memory.seen)
+  look = first_look d.reached.went.added (length p.view.memory.seen) (length q.view.memory.seen) d.reached.looked d.reached.went.bounds
 
   abbrev end : PassState
   end = finished s
@@ -99,7 +99,7 @@ module _ (sizes : Sizes) (lawful : List Entry → Type 0) (opening : ℕ → ℕ
 
   abbrev went : WentOn q r → WentOn p end
   went w =
-      let on = went_both (started p) q end d.come.went (later w) in
+      let on = went_both (started p) q end d.reached.went (later w) in
       record { table = on.table; sizes = on.sizes; number = on.number; own = on.own; more = on.more; seen = on.seen; added = on.added; ends = on.ends; bounds = on.bounds }
 
   gone : (spans : List Span) → HasRun sizes lawful out new spans q r → HasGone sizes lawful out new p end
@@ -107,7 +107,7 @@ module _ (sizes : Sizes) (lawful : List Entry → Type 0) (opening : ℕ → ℕ
       let gs = ap (λ (g : Grants). g.s) aside.grants in
       let gsx = ap (λ (g : Grants). g.sx) aside.grants in
       let gx = ap (λ (g : Grants). g.x) aside.grants in
-      let ds = d.come.s in let dsx = d.come.sx in let dx = (d.come.finds refl).1 in let hs = h.s in let hsx = h.sx in let hx = h.x in
+      let ds = d.reached.s in let dsx = d.reached.sx in let dx = (d.reached.finds refl).1 in let hs = h.s in let hsx = h.sx in let hx = h.x in
       record {
         spans = spans;
         appends = h.appends;
@@ -115,9 +115,9 @@ module _ (sizes : Sizes) (lawful : List Entry → Type 0) (opening : ℕ → ℕ
         went = went h.went;
         first = look.first;
         rest = look.rest ++ (later h.went).added;
-        looks = added_both (started p) q end d.come.went (later h.went) ∙ ap (λ ns. ns ++ (later h.went).added) look.is;
+        looks = added_both (started p) q end d.reached.went (later h.went) ∙ ap (λ ns. ns ++ (later h.went).added) look.is;
         known = known_beside sizes lawful r end beside h.known;
-        least = let path_is = ap length d.come.ends in let long = length-append d.come.front (d.come.leaf ∷ []) in let finds = (d.come.finds refl).0 in let hl = h.least in omega arith;
+        least = let path_is = ap length d.reached.ends in let long = length-append d.reached.front (d.reached.leaf ∷ []) in let finds = (d.reached.finds refl).0 in let hl = h.least in omega arith;
         s = omega arith;
         sx = omega arith;
         x = omega arith;

@@ -67,7 +67,7 @@ pub record IsAlong (sizes : Sizes) (lawful : List Entry → Type 0) (opening : �
   pub x : q.view.grants.x ≡ p.view.grants.x
 
 -- .. to the leaf that gives the chunk
-pub record HasComeToEnd (sizes : Sizes) (lawful : List Entry → Type 0) (opening : ℕ → ℕ) (roots root : ℕ) (start high : MapKey) (found : Found) (p q : PassState) : Type 0 where
+pub record HasReachedEnd (sizes : Sizes) (lawful : List Entry → Type 0) (opening : ℕ → ℕ) (roots root : ℕ) (start high : MapKey) (found : Found) (p q : PassState) : Type 0 where
   pub along : IsAlong sizes lawful opening roots root start found.leaf found.passed p q
   pub ends : EndsBy start high found.end along.last.image
 

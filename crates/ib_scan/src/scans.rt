@@ -1,12 +1,13 @@
 //! Scans.
 
-ghost use Rattle.std.specs.Prelude.{◌≡◌, ◌≤◌, ◌<◌, ◌+◌, ◌*◌, ◌^◌, [], length, Ok, IfErr, IfOk, MatchOption};
-ghost use Rattle.ib_map.specs.Keys.{rank, end_rank};
+ghost use Rattle.std.specs.Prelude.{◌≡◌, ◌≤◌, ◌<◌, [], length, Ok, IfErr, IfOk, MatchOption};
+ghost use Rattle.ib_map.specs.Keys.{rank};
 ghost use Rattle.ib_logrec.specs.Log.{by_place};
 ghost use Rattle.ib_rule.specs.Pass.{IsAtRest};
-ghost use Rattle.ib_rule.specs.Views.{total};
+ghost use Rattle.ib_rule.specs.Under.{under};
+ghost use Rattle.ib_cursor.specs.OnPath.{IsRoot, IsSought};
 ghost use Rattle.ib_scan.specs.Scanning.{HasScanned, HasStopped};
-ghost use Rattle.ib_scan.specs.Scans.{FitsSeen, HasAll, scan_answer};
+ghost use Rattle.ib_scan.specs.Scans.{FitsSeen, HasAll, MayScan, scan_answer};
 
 use crate::more::More;
 use crate::walk::{Sought, scan_from, trees_of};
@@ -26,19 +27,14 @@ fn read_chunks<L: Trees, R: Wait>(
     sought: Sought,
     out: &mut Chunks,
 ) -> Option<Key>
-    requires rest { IsAtRest latches.now pass.old }
-    requires room { total pass.old.view.grants + 8192 * out.old.chunk_room + 8192 ≤ 2 ^ 52 }
-    requires some { 0 < sought.root }
-    requires root { sought.root ≤ L.ROOTS }
+    requires may { MayScan latches.now out.old pass.old }
+    requires sought { IsSought L.ROOTS sought.root sought.low }
     requires ascends { rank sought.low ≤ rank sought.high }
-    requires key { rank sought.low < end_rank }
     ensures rest { IsAtRest latches.now pass.new }
     ensures scanned { MatchOption result
-        (HasAll latches.now.sizes (L.lawful latches.now.sizes.pages)
-        (by_place L.opening latches.now.sizes.pages) sought.root sought.low sought.high
+        (under L.Law latches.now HasAll sought.root sought.low sought.high
         out.old out.new pass.old pass.new)
-        (λ next. HasStopped latches.now.sizes (L.lawful latches.now.sizes.pages)
-        (by_place L.opening latches.now.sizes.pages) sought.root sought.low sought.high next
+        (λ next. under L.Law latches.now HasStopped sought.root sought.low sought.high next
         out.old out.new pass.old pass.new) }
 {
     let mut mtr = Mtr::start(latches, pass);
@@ -69,19 +65,13 @@ pub fn scan_at<L: Trees, R: Wait>(
     high: Key,
     out: &mut Chunks,
 ) -> Result<Record, More>
-    requires rest { IsAtRest latches.now pass.old }
-    requires room { total pass.old.view.grants + 8192 * out.old.chunk_room + 8192 ≤ 2 ^ 52 }
-    requires some { 0 < root }
-    requires root { root ≤ L.ROOTS }
+    requires may { MayScan latches.now out.old pass.old }
+    requires root { IsRoot L.ROOTS root }
     ensures rest { IsAtRest latches.now pass.new }
-    ensures scanned { rank low ≤ rank high → IfOk result (λ answer. HasScanned
-        latches.now.sizes (L.lawful latches.now.sizes.pages)
-        (by_place L.opening latches.now.sizes.pages) root low high answer
-        out.old out.new pass.old pass.new) }
-    ensures stopped { rank low ≤ rank high → IfErr result (λ more. HasStopped
-        latches.now.sizes (L.lawful latches.now.sizes.pages)
-        (by_place L.opening latches.now.sizes.pages) root low high more.next
-        out.old out.new pass.old pass.new) }
+    ensures scanned { rank low ≤ rank high → IfOk result (λ answer. under L.Law latches.now
+        HasScanned root low high answer out.old out.new pass.old pass.new) }
+    ensures stopped { rank low ≤ rank high → IfErr result (λ more. under L.Law latches.now
+        HasStopped root low high more.next out.old out.new pass.old pass.new) }
     ensures none { rank high < rank low → result ≡ Ok
         (scan_answer low high 0 0 (length pass.old.view.memory.seen)) }
     ensures same { rank high < rank low → pass.new ≡ pass.old }
@@ -112,23 +102,16 @@ pub fn scan<L: Trees, R: Wait>(
     high: Key,
     out: &mut Chunks,
 ) -> Result<Record, More>
-    requires rest { IsAtRest latches.now pass.old }
-    requires room { total pass.old.view.grants + 8192 * out.old.chunk_room + 8192 ≤ 2 ^ 52 }
+    requires may { MayScan latches.now out.old pass.old }
     requires root { 1 ≤ L.ROOTS }
     ensures rest { IsAtRest latches.now pass.new }
-    ensures scanned { rank low ≤ rank high → IfOk result (λ answer. HasScanned
-        latches.now.sizes (L.lawful latches.now.sizes.pages)
-        (by_place L.opening latches.now.sizes.pages) 1 low high answer
-        out.old out.new pass.old pass.new) }
-    ensures fits { rank low ≤ rank high → IfOk result (λ answer. (h : HasScanned
-        latches.now.sizes (L.lawful latches.now.sizes.pages)
-        (by_place L.opening latches.now.sizes.pages) 1 low high answer
-        out.old out.new pass.old pass.new) → FitsSeen latches.now.sizes
+    ensures scanned { rank low ≤ rank high → IfOk result (λ answer. under L.Law latches.now
+        HasScanned 1 low high answer out.old out.new pass.old pass.new) }
+    ensures fits { rank low ≤ rank high → IfOk result (λ answer. (h : under L.Law latches.now
+        HasScanned 1 low high answer out.old out.new pass.old pass.new) → FitsSeen latches.now.sizes
         (by_place L.opening latches.now.sizes.pages) answer h.gone.spans pass.old pass.new) }
-    ensures stopped { rank low ≤ rank high → IfErr result (λ more. HasStopped
-        latches.now.sizes (L.lawful latches.now.sizes.pages)
-        (by_place L.opening latches.now.sizes.pages) 1 low high more.next
-        out.old out.new pass.old pass.new) }
+    ensures stopped { rank low ≤ rank high → IfErr result (λ more. under L.Law latches.now
+        HasStopped 1 low high more.next out.old out.new pass.old pass.new) }
     ensures none { rank high < rank low → result ≡ Ok
         (scan_answer low high 0 0 (length pass.old.view.memory.seen)) }
     ensures fits_none { rank high < rank low → IfOk result (λ answer. FitsSeen latches.now.sizes

@@ -1,13 +1,12 @@
 //! From leaf to leaf, and from chunk to chunk.
 
-ghost use Rattle.std.specs.Prelude.{◌≡◌, ◌≤◌, ◌+◌, ◌*◌, ◌^◌, ℕ, List, true, MatchOption};
-ghost use Rattle.ib_map.specs.Keys.{rank};
+ghost use Rattle.std.specs.Prelude.{◌≡◌, true, MatchOption};
 ghost use Rattle.ib_map.specs.Space.{has_pages};
 ghost use Rattle.ib_logrec.specs.Log.{by_place};
-ghost use Rattle.ib_rule.specs.Views.{total};
-ghost use Rattle.ib_mtr.specs.Mtr.{IsMtr};
+ghost use Rattle.ib_rule.specs.Under.{under};
+ghost use Rattle.ib_mtr.specs.Mtr.{IsMtr, IsStillMtr};
 ghost use Rattle.ib_cursor.specs.Laws.{Laws};
-ghost use Rattle.ib_scan.specs.Steps.{HasComeToEnd, HasRunToEnd, HasFront, HasRunToStop, HasPassed, HasSomeFront, IsAside, IsOnLeaf, IsScannedTo, MayPass};
+ghost use Rattle.ib_scan.specs.Steps.{HasReachedEnd, HasRunToEnd, HasFront, HasRunToStop, HasPassed, HasSomeFront, IsAside, IsOnLeaf, IsScannedTo, MayPass};
 
 use crate::part::{Part, part_of, put};
 use ib_cursor::{read, take};
@@ -50,16 +49,10 @@ pub(crate) fn trees_of<L: Trees, S: Sleep>(mtr: &Mtr<'_, L, S>)
 // and those before it are still held.
 fn pass_over<L: Trees, R: Wait>(rt: &R, mtr: &mut Mtr<'_, L, Parkers>, leaf: u32, next: u32)
     requires mtr { IsMtr mtr.old.latches.now mtr.old.pass.now }
-    requires may { MayPass mtr.old.latches.now.sizes (L.lawful mtr.old.latches.now.sizes.pages)
-        (by_place L.opening mtr.old.latches.now.sizes.pages) L.ROOTS leaf next mtr.old.pass.now }
-    ensures mtr { IsMtr mtr.new.latches.now mtr.new.pass.now }
-    ensures latches { mtr.new.latches ≡ mtr.old.latches }
-    ensures pass { mtr.new.pass.ghost_name ≡ mtr.old.pass.ghost_name }
-    ensures passed { (h : MayPass mtr.old.latches.now.sizes
-        (L.lawful mtr.old.latches.now.sizes.pages)
-        (by_place L.opening mtr.old.latches.now.sizes.pages) L.ROOTS leaf next mtr.old.pass.now)
-        → HasPassed mtr.old.latches.now.sizes (L.lawful mtr.old.latches.now.sizes.pages)
-        (by_place L.opening mtr.old.latches.now.sizes.pages) L.ROOTS h.root h.start h.ps h.last
+    requires may { under L.Law mtr.old.latches.now MayPass L.ROOTS leaf next mtr.old.pass.now }
+    ensures still { IsStillMtr mtr.old mtr.new }
+    ensures passed { (h : under L.Law mtr.old.latches.now MayPass L.ROOTS leaf next mtr.old.pass.now)
+        → under L.Law mtr.old.latches.now HasPassed L.ROOTS h.root h.start h.ps h.last
         mtr.old.pass.now mtr.new.pass.now }
 {
     trees_of(mtr);
@@ -70,7 +63,7 @@ fn pass_over<L: Trees, R: Wait>(rt: &R, mtr: &mut Mtr<'_, L, Parkers>, leaf: u32
 
 // Goes on to the leaf in which the chunk from `start` ends. Those that give no chunk are passed over, and
 // held still.
-fn come_to_end<L: Trees, R: Wait>(
+fn reach_end<L: Trees, R: Wait>(
     rt: &R,
     mtr: &mut Mtr<'_, L, Parkers>,
     leaf: u32,
@@ -78,16 +71,10 @@ fn come_to_end<L: Trees, R: Wait>(
     high: Key,
 ) -> Found
     requires mtr { IsMtr mtr.old.latches.now mtr.old.pass.now }
-    requires on { IsOnLeaf mtr.old.latches.now.sizes (L.lawful mtr.old.latches.now.sizes.pages)
-        (by_place L.opening mtr.old.latches.now.sizes.pages) L.ROOTS leaf start mtr.old.pass.now }
-    ensures mtr { IsMtr mtr.new.latches.now mtr.new.pass.now }
-    ensures latches { mtr.new.latches ≡ mtr.old.latches }
-    ensures pass { mtr.new.pass.ghost_name ≡ mtr.old.pass.ghost_name }
-    ensures come { (h : IsOnLeaf mtr.old.latches.now.sizes
-        (L.lawful mtr.old.latches.now.sizes.pages)
-        (by_place L.opening mtr.old.latches.now.sizes.pages) L.ROOTS leaf start mtr.old.pass.now)
-        → HasComeToEnd mtr.old.latches.now.sizes (L.lawful mtr.old.latches.now.sizes.pages)
-        (by_place L.opening mtr.old.latches.now.sizes.pages) L.ROOTS h.root start high result
+    requires on { under L.Law mtr.old.latches.now IsOnLeaf L.ROOTS leaf start mtr.old.pass.now }
+    ensures still { IsStillMtr mtr.old mtr.new }
+    ensures reached { (h : under L.Law mtr.old.latches.now IsOnLeaf L.ROOTS leaf start mtr.old.pass.now)
+        → under L.Law mtr.old.latches.now HasReachedEnd L.ROOTS h.root start high result
         mtr.old.pass.now mtr.new.pass.now }
 {
     trees_of(mtr);
@@ -115,9 +102,7 @@ fn come_to_end<L: Trees, R: Wait>(
 fn leave_front<L: Law, S: Sleep>(mtr: &mut Mtr<'_, L, S>, count: usize)
     requires mtr { IsMtr mtr.old.latches.now mtr.old.pass.now }
     requires front { HasSomeFront count mtr.old.pass.now }
-    ensures mtr { IsMtr mtr.new.latches.now mtr.new.pass.now }
-    ensures latches { mtr.new.latches ≡ mtr.old.latches }
-    ensures pass { mtr.new.pass.ghost_name ≡ mtr.old.pass.ghost_name }
+    ensures still { IsStillMtr mtr.old mtr.new }
     ensures left { (h : HasSomeFront count mtr.old.pass.now)
         → HasFront 0 h.leaf h.image mtr.new.pass.now }
     ensures aside { IsAside mtr.old.pass.now mtr.new.pass.now }
@@ -137,26 +122,20 @@ pub(crate) fn scan_from<L: Trees, R: Wait>(
     out: &mut Chunks,
 ) -> Option<Key>
     requires mtr { IsMtr mtr.old.latches.now mtr.old.pass.now }
-    requires begins { IsScannedTo mtr.old.latches.now.sizes
-        (L.lawful mtr.old.latches.now.sizes.pages)
-        (by_place L.opening mtr.old.latches.now.sizes.pages) L.ROOTS sought.root first sought.low
-        sought.low sought.high out.old out.old mtr.old.pass.now mtr.old.pass.now }
-    ensures mtr { IsMtr mtr.new.latches.now mtr.new.pass.now }
-    ensures latches { mtr.new.latches ≡ mtr.old.latches }
-    ensures pass { mtr.new.pass.ghost_name ≡ mtr.old.pass.ghost_name }
+    requires begins { under L.Law mtr.old.latches.now IsScannedTo L.ROOTS sought.root first
+        sought.low sought.low sought.high out.old out.old mtr.old.pass.now mtr.old.pass.now }
+    ensures still { IsStillMtr mtr.old mtr.new }
     ensures scanned { MatchOption result
-        (HasRunToEnd mtr.old.latches.now.sizes (L.lawful mtr.old.latches.now.sizes.pages)
-        (by_place L.opening mtr.old.latches.now.sizes.pages) sought.root sought.low sought.high
+        (under L.Law mtr.old.latches.now HasRunToEnd sought.root sought.low sought.high
         out.old out.new mtr.old.pass.now mtr.new.pass.now)
-        (λ next. HasRunToStop mtr.old.latches.now.sizes (L.lawful mtr.old.latches.now.sizes.pages)
-        (by_place L.opening mtr.old.latches.now.sizes.pages) sought.root sought.low sought.high
+        (λ next. under L.Law mtr.old.latches.now HasRunToStop sought.root sought.low sought.high
         next out.old out.new mtr.old.pass.now mtr.new.pass.now) }
 {
     trees_of(mtr);
     let mut leaf = first;
     let mut start = sought.low;
     loop {
-        let found = come_to_end(rt, mtr, leaf, start, sought.high);
+        let found = reach_end(rt, mtr, leaf, start, sought.high);
         let place = mtr.place();
         let fits = put(mtr, found.leaf, start, found.end, place, out);
         leave_front(mtr, found.passed);

@@ -22,7 +22,7 @@ use Rattle.ib_plans.proofs.EditLaws.{IsSome-and}
 use Rattle.ib_plans.proofs.LevelLaws.{above-sum}
 use Rattle.ib_plans.proofs.PathLaws.{page_below-child}
 use Rattle.ib_split.specs.Inserts.{HasFresh, HasInsertImages, with_record, CanPut, CanSplit, IsSplit, CanRaise, IsRaised, IsInsertClimbed}
-use Rattle.ib_split.proofs.WayLaws.{in-range, path-length, path-last, path-at, path-tree, path-same}
+use Rattle.ib_split.proofs.OnPathLaws.{in-range, path-length, path-last, path-at, path-tree, path-same}
 use Rattle.ib_split.proofs.Pending.{IsPending, HasRoom, on-path, clean-here, kept-here, now, absent-here}
 use Rattle.ib_split.proofs.Putting.{put-climbed}
 use Rattle.ib_split.proofs.Splitting.{fresh-at, height-few, can-split, split-pending}

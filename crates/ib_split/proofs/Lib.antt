@@ -3,7 +3,7 @@ pub mod SplitEdits
 pub mod RaiseEdits
 pub mod BitLaws
 pub mod FreeLaws
-pub mod WayLaws
+pub mod OnPathLaws
 pub mod Pending
 pub mod Putting
 pub mod Splitting

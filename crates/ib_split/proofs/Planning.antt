@@ -12,9 +12,9 @@ use Rattle.ib_walk.proofs.ChoiceLaws.{cond-ne}
 use Rattle.ib_plans.specs.Marks.{with_bit}
 use Rattle.ib_plans.specs.Moves.{Move, HasMoved}
 use Rattle.ib_plans.specs.Insert.{AreFresh}
-use Rattle.ib_plans.specs.Agreement.{IsThere, state_or_free, reads_of, HasBits, IsPlanned, space_ticks, taken_bits, with_bits}
+use Rattle.ib_plans.specs.Agreement.{SetsBits, IsThere, state_or_free, reads_of, HasBits, IsPlanned, space_ticks, taken_bits, with_bits}
 use Rattle.ib_plans.proofs.EditLaws.{changed_of-same, changed_of-other, reads_of-changed}
-use Rattle.ib_split.specs.Inserts.{IsInsertClimbed, MayTakePages, TakesPages}
+use Rattle.ib_split.specs.Inserts.{IsInsertClimbed, MayTakePages}
 use Rattle.ib_split.proofs.BitLaws.{SameBits, with_bits-same, AreFresh-same}
 
 -- the bits that a memory has are those of the space page
@@ -122,7 +122,7 @@ module _ (pages : ℕ) (few : pages ≤ MAPPED_PAGES) (used : List ℕ) (m plann
         fresh None b e h = tt
         fresh (Some image) b e h = AreFresh-same used bits (taken_bits image) (HasBits-same pages bits image (if-some (HasBits pages bits) b image h (sym e))) free
 
-    module _ (new : List WorkPage) (takes : TakesPages used mid new) where
+    module _ (new : List WorkPage) (takes : SetsBits 1 used mid new) where
       mid-there : IsThere mid 0
       mid-there = subst IsSome (sym takes.before) refl
 

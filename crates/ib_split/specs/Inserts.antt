@@ -1,13 +1,12 @@
 -- What a planned insert asks of its work set, and what a split and a raise do to it.
-use Rattle.std.specs.Prelude.{◌≡◌, ◌≢◌, ℕ, ◌+◌, ◌<◌, ◌≤◌, ◌^◌, Bool, true, false, List, length, take, nat_lt, Some, None, IsSomeAnd, IfSome, slice_index}
+use Rattle.std.specs.Prelude.{◌≡◌, ◌≢◌, ℕ, ◌<◌, ◌≤◌, ◌^◌, Bool, true, false, List, length, take, nat_lt, None, IsSomeAnd, IfSome}
 use Rattle.std.specs.List.{All}
 use Rattle.ib_map.specs.Keys.{MapKey}
 use Rattle.ib_map.specs.Pairs.{put, value_at}
 use Rattle.ib_heap.specs.declared.TheConstants.{MOST_LEVEL, MOST_RECORDS}
-use Rattle.ib_page.specs.declared.space.TheConstants.{MAPPED_PAGES}
 use Rattle.ib_page.specs.Image.{IsTreePage, IsFormed}
 use Rattle.ib_page.specs.Space.{space_clock_of}
-use Rattle.ib_page.specs.Work.{WorkPage, changed_of, with_changed}
+use Rattle.ib_page.specs.Work.{WorkPage, changed_of}
 use Rattle.ib_walk.specs.Pages.{PageState, PageMemory}
 use Rattle.ib_walk.specs.Trees.{height_of, most_height}
 use Rattle.ib_walk.specs.Full.{need_of, is_root_full, free_of, chosen}
@@ -125,17 +124,6 @@ pub record MayTakePages (pages : List ℕ) (work : List WorkPage) : Type 0 where
   pub there : IsThere work 0
   pub free : IfSome (changed_of 0 work) (λ image. AreFresh (taken_bits image) pages)
   pub clock : IfSome (changed_of 0 work) (λ image. space_clock_of image < 2 ^ 63)
-
--- page 0 has these pages taken, and its clock is one higher
-pub record TakesPages (taken : List ℕ) (old new : List WorkPage) : Type 0 where
-  pub was : List ℕ
-  pub image : List ℕ
-  pub before : changed_of 0 old ≡ Some was
-  pub work : new ≡ with_changed 0 image old
-  pub size : length image ≡ length was
-  pub bits : (page : ℕ) → page < MAPPED_PAGES → taken_bits image page ≡ with_bits taken 1 (taken_bits was) page
-  pub clock : space_clock_of image ≡ space_clock_of was + 1
-  pub behind : (i : ℕ) → 64 < i → slice_index image i ≡ slice_index was i
 
 -- the tree's pages are those of the plan, and their records stand as it moves them; page 0 and each page that is not touched is as it was; these fresh pages were used, and the plan has taken them
 pub record IsInsertClimbed (used : List ℕ) (memory planned : PageMemory) (bits before : ℕ → ℕ) (touched : ℕ → Bool) (moves : ℕ → Move) (old new : List WorkPage) : Type 0 where

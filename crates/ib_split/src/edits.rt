@@ -5,8 +5,8 @@ ghost use Rattle.ib_page.specs.declared.space.TheConstants.{MAPPED_PAGES};
 ghost use Rattle.ib_page.specs.Work.{changed_of};
 ghost use Rattle.ib_plans.specs.Insert.{AreFresh};
 ghost use Rattle.ib_plans.specs.Moves.{HasMoved, Puts};
-ghost use Rattle.ib_plans.specs.Agreement.{memory_in, Sets, tick, taken_bits, with_bits};
-ghost use Rattle.ib_split.specs.Inserts.{with_record, CanPut, CanSplit, IsSplit, CanRaise, IsRaised, MayTakePages, TakesPages};
+ghost use Rattle.ib_plans.specs.Agreement.{SetsBits, memory_in, Sets, tick, taken_bits, with_bits};
+ghost use Rattle.ib_split.specs.Inserts.{with_record, CanPut, CanSplit, IsSplit, CanRaise, IsRaised, MayTakePages};
 
 use crate::halves::{raise_images, split_images};
 use ib_map::Key;
@@ -65,7 +65,7 @@ pub(crate) fn raise(work: &mut WorkSet, root: u32, left: u32, right: u32, key: K
 // Takes pages that are free.
 pub(crate) fn take_pages(work: &mut WorkSet, pages: &[u32])
     requires { MayTakePages pages.now work.old }
-    ensures { TakesPages pages.now work.old work.new }
+    ensures { SetsBits 1 pages.now work.old work.new }
 {
     let mut space = SpaceImage::from_image(image_of(work, 0));
     take_all(&mut space, pages);

@@ -1,9 +1,8 @@
 //! What the program answers to an input that was read.
 
-ghost use Rattle.std.specs.Prelude.{◌≡◌, ◌≢◌, ◌<◌, ◌≤◌, ◌^◌, IfOk, None, length, true};
-ghost use Rattle.ib_io.specs.Faults.{Rose};
+ghost use Rattle.std.specs.Prelude.{◌≡◌, ◌<◌, ◌≤◌, ◌^◌, IfOk, None, length, true};
 ghost use Rattle.ib_io.specs.Lines.{readings_by};
-ghost use Rattle.ib_io.specs.Told.{IsOutOfMemory, IsOutOfMemoryWhere, Told};
+ghost use Rattle.ib_io.specs.Told.{IsOutOfMemory, IsOutOfMemoryWhere, TellsFault, Told};
 ghost use Rattle.ib_replay.specs.Files.{AreWords, file_of};
 ghost use Rattle.ib_runs.specs.Outcomes.{HasRan};
 ghost use Rattle.ib_script.specs.Loads.{is_load};
@@ -41,8 +40,7 @@ fn file_of(alloc: Global, pages: u32, words: &[u64]) -> Result<Vec<u8>, AllocErr
 fn write_file<K: Sink>(alloc: Global, script: &Script, ran: &Ran, sink: &mut K) -> Status
     requires { HasRan script.now.sizes script.now.commands ran.now }
     ensures told { Told (λ e. (e.status ≡ Status.Done) × IsRawText script.now e.text) IsOutOfMemory (K.written sink.old) (K.written sink.new) result }
-    ensures calm { result ≢ Status.WriteFault → K.faults sink.new ≡ K.faults sink.old }
-    ensures write { result ≡ Status.WriteFault → Rose (K.faults sink.old) (K.faults sink.new) }
+    ensures write { TellsFault Status.WriteFault result (K.faults sink.old) (K.faults sink.new) }
 {
     let geometry = script.geometry();
     // A log has fewer words than 2^32.
@@ -64,8 +62,7 @@ fn run<K: Sink, G: Gate + Sync, R: Threads + Wait + Sync>(
 ) -> Status
     requires { IsSmall script.now }
     ensures told { Told (λ e. (e.status ≡ Status.Done) × IsWrittenRun shape script.now e.text) IsOutOfMemory (K.written sink.old) (K.written sink.new) result }
-    ensures calm { result ≢ Status.WriteFault → K.faults sink.new ≡ K.faults sink.old }
-    ensures write { result ≡ Status.WriteFault → Rose (K.faults sink.old) (K.faults sink.new) }
+    ensures write { TellsFault Status.WriteFault result (K.faults sink.old) (K.faults sink.new) }
 {
     let Ok(ran) = run_script(rt, alloc, script, gate) else {
         return Status::Memory;
@@ -87,8 +84,7 @@ fn answer_script<K: Sink, G: Gate + Sync, R: Threads + Wait + Sync>(
 ) -> Status
     requires { length input.now ≤ INPUT_BYTES }
     ensures told { Told (AnswersScript shape input.now) (IsOutOfMemoryWhere (first_fault (readings_by reading_of input.now) ≡ None)) (K.written sink.old) (K.written sink.new) result }
-    ensures calm { result ≢ Status.WriteFault → K.faults sink.new ≡ K.faults sink.old }
-    ensures write { result ≡ Status.WriteFault → Rose (K.faults sink.old) (K.faults sink.new) }
+    ensures write { TellsFault Status.WriteFault result (K.faults sink.old) (K.faults sink.new) }
 {
     match read_script::<PlainLines>(alloc, input) {
         Ok(script) => run(rt, alloc, shape, &script, sink, gate),
@@ -106,8 +102,7 @@ fn answer_load<K: Sink, G: Gate + Sync, R: Threads + Wait + Sync>(
 ) -> Status
     requires { is_load load.commands load.seed load.sessions ≡ true }
     ensures told { Told (λ e. (e.status ≡ Status.Done) × IsCountText load e.text) IsOutOfMemory (K.written sink.old) (K.written sink.new) result }
-    ensures calm { result ≢ Status.WriteFault → K.faults sink.new ≡ K.faults sink.old }
-    ensures write { result ≡ Status.WriteFault → Rose (K.faults sink.old) (K.faults sink.new) }
+    ensures write { TellsFault Status.WriteFault result (K.faults sink.old) (K.faults sink.new) }
 {
     let Ok(script) = generate(alloc, load) else {
         return Status::Memory;
@@ -130,8 +125,7 @@ pub fn answer<K: Sink, G: Gate + Sync, R: Threads + Wait + Sync>(
     requires few { length input.now ≤ INPUT_BYTES }
     requires lawful { IsLawfulForm form }
     ensures told { Told (AnswersInput form input.now) (IsOutOfMemoryWhere (MayLackInput form input.now)) (K.written sink.old) (K.written sink.new) result }
-    ensures calm { result ≢ Status.WriteFault → K.faults sink.new ≡ K.faults sink.old }
-    ensures write { result ≡ Status.WriteFault → Rose (K.faults sink.old) (K.faults sink.new) }
+    ensures write { TellsFault Status.WriteFault result (K.faults sink.old) (K.faults sink.new) }
 {
     match form {
         Form::Run => answer_script(rt, alloc, Shape::Text, input, sink, gate),

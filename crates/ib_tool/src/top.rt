@@ -1,9 +1,9 @@
 //! The public call `top`: the program, from the bytes that it reads to the bytes that it writes.
 
-ghost use Rattle.std.specs.Prelude.{◌≡◌, ◌≢◌, Some, map, string_bytes};
+ghost use Rattle.std.specs.Prelude.{◌≡◌, Some, map, string_bytes};
 ghost use Rattle.ib_io.specs.Faults.{Rose};
 ghost use Rattle.ib_tool.specs.Answers.{IsCutOff, IsOwedAt, IsServed, IsSilent, IsSilentAt, Owes, OwesInput};
-ghost use Rattle.ib_io.specs.Told.{IsComplete, Told};
+ghost use Rattle.ib_io.specs.Told.{IsComplete, TellsFault, Told};
 ghost use Rattle.ib_tool.specs.Words.{IsLawfulForm, form_of};
 ghost use Rattle.ib_tool.specs.declared.form.Form.{Form};
 
@@ -27,10 +27,8 @@ fn read_and_answer<S: Source, K: Sink, G: Gate + Sync, R: Threads + Wait + Sync>
 ) -> Status
     requires { IsLawfulForm form }
     ensures told { Told (OwesInput form (S.left source.old) (S.left source.new)) (IsCutOff (S.left source.old) (S.left source.new)) (K.written sink.old) (K.written sink.new) result }
-    ensures read_calm { result ≢ Status.ReadFault → S.faults source.new ≡ S.faults source.old }
-    ensures read { result ≡ Status.ReadFault → Rose (S.faults source.old) (S.faults source.new) }
-    ensures write_calm { result ≢ Status.WriteFault → K.faults sink.new ≡ K.faults sink.old }
-    ensures write { result ≡ Status.WriteFault → Rose (K.faults sink.old) (K.faults sink.new) }
+    ensures read { TellsFault Status.ReadFault result (S.faults source.old) (S.faults source.new) }
+    ensures write { TellsFault Status.WriteFault result (K.faults sink.old) (K.faults sink.new) }
 {
     match read_all(alloc, source, INPUT_BYTES) {
         Ok(input) => answer(rt, alloc, form, &input, sink, gate),
@@ -51,10 +49,8 @@ fn act<S: Source, K: Sink, G: Gate + Sync, R: Threads + Wait + Sync>(
 ) -> Status
     requires { IsLawfulForm form }
     ensures told { Told (IsOwedAt form (S.left source.old) (S.left source.new)) (IsSilentAt form (S.left source.old) (S.left source.new)) (K.written sink.old) (K.written sink.new) result }
-    ensures read_calm { result ≢ Status.ReadFault → S.faults source.new ≡ S.faults source.old }
-    ensures read { result ≡ Status.ReadFault → Rose (S.faults source.old) (S.faults source.new) }
-    ensures write_calm { result ≢ Status.WriteFault → K.faults sink.new ≡ K.faults sink.old }
-    ensures write { result ≡ Status.WriteFault → Rose (K.faults sink.old) (K.faults sink.new) }
+    ensures read { TellsFault Status.ReadFault result (S.faults source.old) (S.faults source.new) }
+    ensures write { TellsFault Status.WriteFault result (K.faults sink.old) (K.faults sink.new) }
 {
     if form.reads() {
         read_and_answer(rt, alloc, form, source, sink, gate)
@@ -74,10 +70,8 @@ fn dispatch<S: Source, K: Sink, G: Gate + Sync, R: Threads + Wait + Sync>(
 ) -> Status
     ensures told { Told (Owes (map (λ w. string_bytes w) words.now) (S.left source.old) (S.left source.new))
         (IsSilent (map (λ w. string_bytes w) words.now) (S.left source.old) (S.left source.new)) (K.written sink.old) (K.written sink.new) result }
-    ensures read_calm { result ≢ Status.ReadFault → S.faults source.new ≡ S.faults source.old }
-    ensures read { result ≡ Status.ReadFault → Rose (S.faults source.old) (S.faults source.new) }
-    ensures write_calm { result ≢ Status.WriteFault → K.faults sink.new ≡ K.faults sink.old }
-    ensures write { result ≡ Status.WriteFault → Rose (K.faults sink.old) (K.faults sink.new) }
+    ensures read { TellsFault Status.ReadFault result (S.faults source.old) (S.faults source.new) }
+    ensures write { TellsFault Status.WriteFault result (K.faults sink.old) (K.faults sink.new) }
 {
     match form_of(words) {
         Some(form) => act(rt, alloc, form, source, sink, gate),
@@ -108,10 +102,8 @@ pub fn top<S: Source, K: Sink, G: Gate + Sync, R: Threads + Wait + Sync>(
         (IsSilent (map (λ w. string_bytes w) words.now) (S.left source.old) (S.left source.new)) (K.written sink.old) (K.written sink.new) result }
 
     // A fault is told only where that object's count rose in this call, and where none is told none came.
-    ensures read_calm { result ≢ Status.ReadFault → S.faults source.new ≡ S.faults source.old }
-    ensures read { result ≡ Status.ReadFault → Rose (S.faults source.old) (S.faults source.new) }
-    ensures write_calm { result ≢ Status.WriteFault → K.faults sink.new ≡ K.faults sink.old }
-    ensures write { result ≡ Status.WriteFault → Rose (K.faults sink.old) (K.faults sink.new) }
+    ensures read { TellsFault Status.ReadFault result (S.faults source.old) (S.faults source.new) }
+    ensures write { TellsFault Status.WriteFault result (K.faults sink.old) (K.faults sink.new) }
 
     // A form that gets what it needs is answered and the whole output written, unless memory runs out or one side fails.
     ensures complete { (form : Form) → form_of (map (λ w. string_bytes w) words.now) ≡ Some form → IsServed form (S.left source.old) →

@@ -13,13 +13,14 @@ const BIT_WORDS: usize = 64;
 
 const WORD_BITS: usize = 64;
 
-/// The image of page 0, which has all words, as each image has.
+/// The image of page 0, which has all words of a page.
 pub fn space_page(images: &[Image]) -> &Image
     requires { 0 < length images.now }
     ensures image { result.now ≡ image_at images.now 0 }
     ensures size { length result.now ≡ PAGE_WORDS }
 {
     let image = &images[0];
+    // For the proof: an image has all words of a page.
     let _first = image.word(0);
     image
 }

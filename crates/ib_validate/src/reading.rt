@@ -11,11 +11,12 @@ ghost use Rattle.ib_validate.specs.Positions.{is_tree_page};
 use ib_map::{Key, PAGE_WORDS};
 use ib_page::{Image, Kind, MOST_LEVEL, MOST_RECORDS};
 
-// Whether the words can be read. An image has all words of a page, whatever they are.
+// Whether the words can be read. They are all words of a page, whatever they are.
 fn is_formed(image: &Image) -> bool
     ensures formed { IsTrue result ↔ IsFormed image.now }
     ensures size { length image.now ≡ PAGE_WORDS }
 {
+    // For the proof: an image has all words of a page.
     let _first = image.word(0);
     image.is_formed()
 }

@@ -1,34 +1,26 @@
 -- The index is taken in SX, and then the log's end looked at.
-use Rattle.std.proofs.Common.{◌∷◌, ◌++◌, [], ◌∙◌, subst, ap, arith}
-use Rattle.ib_levels.specs.declared.level.Level.TheVariants.{IndexTree}
+use Rattle.std.proofs.Common.{◌∷◌, ◌++◌, [], ◌∙◌, subst, ap}
 use Rattle.ib_core.specs.declared.session.Session.{Session}
 use Rattle.ib_rule.specs.declared.memory.Knowledge.{Knowledge}
 use Rattle.ib_rule.specs.Pass.{PassState}
 use Rattle.ib_rule.specs.Views.{is_watched}
 use Rattle.ib_cursor.specs.Claims.{claim_grant}
 use Rattle.ib_cursor.specs.Grants.{hold_of}
-use Rattle.ib_cursor.specs.Shapes.{HasGlanced}
-use Rattle.ib_cursor.proofs.GrantLaws.{none_granted, can_wish, may_grow}
-use Rattle.ib_cursor.proofs.StandLaws.{stood_by}
+use Rattle.ib_cursor.specs.Shapes.{HasLookedOn}
+use Rattle.ib_cursor.proofs.GrantLaws.{none_granted, may_take_index}
+use Rattle.ib_cursor.proofs.LatchingLaws.{latched_by}
 use Rattle.ib_cursor.proofs.claim.claim_index.Goals as goal
 
-pub take-requires-clause-grows : goal.take-requires-clause-grows
-take-requires-clause-grows g c =
-    let p : PassState = c.args.mtr.now.pass.now in
-    may_grow [] p (none_granted c.args.mtr.now.latches.now p c.requires.mtr c.requires.memo) c.requires.room (omega arith)
-
 pub take-requires-clause-may : goal.take-requires-clause-may
-take-requires-clause-may g c =
-    let p : PassState = c.args.mtr.now.pass.now in
-    can_wish [] p (none_granted c.args.mtr.now.latches.now p c.requires.mtr c.requires.memo) 1 IndexTree tt tt
+take-requires-clause-may g c = may_take_index c.args.mtr.now.latches.now c.args.mtr.now.pass.now c.requires.mtr c.requires.memo c.requires.room
 
-pub returns-clause-stood : goal.returns-clause-stood
-returns-clause-stood g c =
+pub returns-clause-latched : goal.returns-clause-latched
+returns-clause-latched g c =
     let key = c.args.mtr.now.latches.now.sizes in
     let p = c.args.mtr.now.pass.now in let q = c.take.new.mtr.pass.now in let r = c.look.new.mtr.pass.now in
-    let same = ap (λ m. m.now.sizes) c.take.ensures.latches in
-    let glanced = subst (λ k. HasGlanced k (g.L.Law.lawful k.pages) q r) same c.look.ensures.glanced in
-    stood_by key (g.L.Law.lawful key.pages) claim_grant p q r c.take.ensures.taken glanced.seen
+    let same = ap (λ m. m.now.sizes) c.take.ensures.still.latches in
+    let looked_on = subst (λ k. HasLookedOn k (g.L.Law.lawful k.pages) q r) same c.look.ensures.looked_on in
+    latched_by key (g.L.Law.lawful key.pages) claim_grant p q r c.take.ensures.taken looked_on.seen
     c.look.ensures.memo c.look.ensures.session c.look.ensures.grants c.look.ensures.work
 
 pub returns-clause-claimed : goal.returns-clause-claimed

@@ -1,9 +1,10 @@
 -- The nodes one after the other.
 use Rattle.std.specs.Prelude.{take, get_or}
-use Rattle.std.proofs.Common.{◌≡◌, ◌∙◌, ◌∷◌, ◌<◌, List, [], ℕ, ap, sym, subst, refl, arith, length, length-append}
+use Rattle.std.proofs.Common.{◌≡◌, ◌∷◌, ◌<◌, List, [], ℕ, ap, sym, subst, refl, arith, length, length-append}
 use Rattle.ib_layout.specs.Geometry.{Sizes}
 use Rattle.ib_logrec.specs.Log.{by_place}
 use Rattle.ib_rule.specs.Pass.{PassState}
+use Rattle.ib_mtr.proofs.Keeping.{still_then}
 use Rattle.ib_cursor.specs.Takings.{CanTakePage, HasTakenMore, HasTakenPage}
 use Rattle.ib_cursor.proofs.TakeLaws.{more_none, node_can, node_room, node_step, take_whole, take_nothing}
 use Rattle.ib_cursor.proofs.claim.take_nodes.Goals as goal
@@ -13,9 +14,7 @@ loop-at-init g c =
     let sizes : Sizes = c.args.mtr.now.latches.now.sizes in
     let r = c.requires.ready in
     record {
-      mtr = c.requires.mtr;
-      latches = refl;
-      pass = refl;
+      still = record { mtr = c.requires.mtr; latches = refl; pass = refl };
       within = let a = ap length r.3 in let b = length-append r.0 (r.2 ∷ []) in omega arith;
       taken = λ front more leaf is w. subst (λ ps. HasTakenMore sizes (g.L.Law.lawful sizes.pages) (by_place g.L.Law.opening sizes.pages) [] ps c.args.mtr.now.pass.now c.args.mtr.now.pass.now) (sym (take_nothing front))
           (more_none sizes (g.L.Law.lawful sizes.pages) (by_place g.L.Law.opening sizes.pages) [] c.args.mtr.now.pass.now w.holds);
@@ -26,7 +25,7 @@ take_page-requires-clause-page g c =
     let sizes : Sizes = c.args.mtr.now.latches.now.sizes in
     let r = c.requires.ready in
     let inv = c.loop-at.invariant in
-    subst (λ (s : Sizes). get_or c.pages-pages.result.now c.loop-at.at 0 < s.pages) (sym (ap (λ m. m.now.sizes) inv.latches))
+    subst (λ (s : Sizes). get_or c.pages-pages.result.now c.loop-at.at 0 < s.pages) (sym (ap (λ m. m.now.sizes) inv.still.latches))
     (node_can sizes (g.L.Law.lawful sizes.pages) (by_place g.L.Law.opening sizes.pages) r.0 r.1 c.args.path.now c.pages-pages.result.now r.2 c.loop-at.at c.args.mtr.now.pass.now c.loop-at.mtr.pass.now r.3 c.pages-pages.ensures.pages c.loop-at-test.true r.4 (inv.taken r.0 r.1 r.2 r.3 r.4)).1
 
 pub take_page-requires-clause-room : goal.take_page-requires-clause-room
@@ -43,7 +42,7 @@ take_page-requires-clause-holds g c =
     let r = c.requires.ready in
     let inv = c.loop-at.invariant in
     let page = get_or c.pages-pages.result.now c.loop-at.at 0 in
-    subst (λ (s : Sizes). (held : List ℕ) × CanTakePage s (g.L.Law.lawful s.pages) (by_place g.L.Law.opening s.pages) held page c.loop-at.mtr.pass.now) (sym (ap (λ m. m.now.sizes) inv.latches))
+    subst (λ (s : Sizes). (held : List ℕ) × CanTakePage s (g.L.Law.lawful s.pages) (by_place g.L.Law.opening s.pages) held page c.loop-at.mtr.pass.now) (sym (ap (λ m. m.now.sizes) inv.still.latches))
     (take c.loop-at.at r.0, (node_can sizes (g.L.Law.lawful sizes.pages) (by_place g.L.Law.opening sizes.pages) r.0 r.1 c.args.path.now c.pages-pages.result.now r.2 c.loop-at.at c.args.mtr.now.pass.now c.loop-at.mtr.pass.now r.3 c.pages-pages.ensures.pages c.loop-at-test.true r.4 (inv.taken r.0 r.1 r.2 r.3 r.4)).0)
 
 pub loop-at-preserved : goal.loop-at-preserved
@@ -53,14 +52,12 @@ loop-at-preserved g c =
     let page = get_or c.pages-pages.result.now c.loop-at.at 0 in
     let q : PassState = c.loop-at.mtr.pass.now in let t : PassState = c.take_page.new.mtr.pass.now in
     record {
-      mtr = c.take_page.ensures.mtr;
-      latches = c.take_page.ensures.latches ∙ inv.latches;
-      pass = c.take_page.ensures.pass ∙ inv.pass;
+      still = still_then inv.still c.take_page.ensures.still;
       within = let a = ap length c.pages-pages.ensures.pages in let b = c.loop-at-test.true in omega arith;
       taken = λ front more leaf is w.
           let before = inv.taken front more leaf is w in
           let can = (node_can sizes (g.L.Law.lawful sizes.pages) (by_place g.L.Law.opening sizes.pages) front more c.args.path.now c.pages-pages.result.now leaf c.loop-at.at c.args.mtr.now.pass.now q is c.pages-pages.ensures.pages c.loop-at-test.true w before).0 in
-          let one = subst (λ (s : Sizes). (held : List ℕ) → CanTakePage s (g.L.Law.lawful s.pages) (by_place g.L.Law.opening s.pages) held page q → HasTakenPage s (g.L.Law.lawful s.pages) (by_place g.L.Law.opening s.pages) held page q t) (ap (λ m. m.now.sizes) inv.latches) c.take_page.ensures.taken in
+          let one = subst (λ (s : Sizes). (held : List ℕ) → CanTakePage s (g.L.Law.lawful s.pages) (by_place g.L.Law.opening s.pages) held page q → HasTakenPage s (g.L.Law.lawful s.pages) (by_place g.L.Law.opening s.pages) held page q t) (ap (λ m. m.now.sizes) inv.still.latches) c.take_page.ensures.taken in
           node_step sizes (g.L.Law.lawful sizes.pages) (by_place g.L.Law.opening sizes.pages) front more c.args.path.now c.pages-pages.result.now leaf c.loop-at.at c.args.mtr.now.pass.now q is c.pages-pages.ensures.pages c.loop-at-test.true w before t (one (take c.loop-at.at front) can);
     }
 

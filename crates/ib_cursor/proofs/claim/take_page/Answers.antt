@@ -5,28 +5,29 @@ use Rattle.ib_layout.specs.Geometry.{Sizes}
 use Rattle.ib_levels.specs.declared.latch.Latch.{Latch}
 use Rattle.ib_levels.specs.declared.level.Level.TheVariants.{TreeNode}
 use Rattle.ib_levels.specs.declared.level.Mode.TheVariants.{X}
-use Rattle.ib_core.specs.Holders.{CanWish}
 use Rattle.ib_logrec.specs.Log.{by_place}
 use Rattle.ib_page.specs.Work.{changed_of}
 use Rattle.ib_rule.specs.Pass.{PassState}
+use Rattle.ib_rule.specs.Takes.{MayTake}
 use Rattle.ib_cursor.specs.Claims.{claim_grant}
 use Rattle.ib_cursor.specs.Descent.{HasPage}
 use Rattle.ib_cursor.specs.Grants.{HasTaken, page_grant}
-use Rattle.ib_cursor.specs.Shapes.{HasGlanced}
+use Rattle.ib_cursor.specs.Shapes.{HasLookedOn}
 use Rattle.ib_cursor.specs.Takings.{page_grants}
 use Rattle.ib_cursor.proofs.GrantLaws.{may_grow}
 use Rattle.ib_cursor.proofs.TakeLaws.{page_may, page_absent, page_taken}
 use Rattle.ib_cursor.proofs.claim.take_page.Goals as goal
 
-pub take-requires-clause-grows : goal.take-requires-clause-grows
-take-requires-clause-grows g c =
-    let h = c.requires.holds.1 in
-    may_grow (claim_grant ∷ page_grants c.requires.holds.0) c.args.mtr.now.pass.now h.holds.grants c.requires.room (let f = h.few in let l = length-map c.requires.holds.0 (λ page. page_grant page X) in omega arith)
-
 pub take-requires-clause-may : goal.take-requires-clause-may
 take-requires-clause-may g c =
-    let sizes : Sizes = c.args.mtr.now.latches.now.sizes in
-    subst (λ (l : Latch). CanWish l.0 TreeNode c.args.mtr.now.pass.now.view.session) (sym c.page.ensures) (page_may sizes (g.L.Law.lawful sizes.pages) (by_place g.L.Law.opening sizes.pages) c.requires.holds.0 c.args.page c.args.mtr.now.pass.now c.requires.holds.1)
+    let space = c.args.mtr.now.latches.now in let p = c.args.mtr.now.pass.now in
+    let h = c.requires.holds.1 in
+    subst (λ (l : Latch). MayTake space l.0 TreeNode p) (sym c.page.ensures) (record {
+      own = c.requires.mtr.own;
+      latch = let low = c.requires.page in omega arith;
+      grows = may_grow (claim_grant ∷ page_grants c.requires.holds.0) p h.holds.grants c.requires.room (let f = h.few in let l = length-map c.requires.holds.0 (λ page. page_grant page X) in omega arith);
+      may = page_may space.sizes (g.L.Law.lawful space.sizes.pages) (by_place g.L.Law.opening space.sizes.pages) c.requires.holds.0 c.args.page p h;
+    })
 
 pub read-requires-clause-absent : goal.read-requires-clause-absent
 read-requires-clause-absent g c =
@@ -38,7 +39,7 @@ returns-clause-taken g c = λ held can.
     let sizes : Sizes = c.args.mtr.now.latches.now.sizes in
     let p = c.args.mtr.now.pass.now in let q = c.take.new.mtr.pass.now in let r = c.read.new.mtr.pass.now in
     let taken = subst (λ (l : Latch). HasTaken (record { latch = l.0; mode = X; level = TreeNode }) p q) c.page.ensures c.take.ensures.taken in
-    let same = ap (λ m. m.now.sizes) c.take.ensures.latches in
+    let same = ap (λ m. m.now.sizes) c.take.ensures.still.latches in
     let l = c.read.ensures in
-    page_taken sizes (g.L.Law.lawful sizes.pages) (by_place g.L.Law.opening sizes.pages) held c.args.page p can q r c.requires.mtr.held taken (subst (λ (k : Sizes). HasGlanced k (g.L.Law.lawful k.pages) q r) same l.glanced) l.memo l.session l.grants
-    (subst (λ (k : Sizes). HasPage (by_place g.L.Law.opening k.pages) c.args.page q r) same l.loaded) l.mtr.held
+    page_taken sizes (g.L.Law.lawful sizes.pages) (by_place g.L.Law.opening sizes.pages) held c.args.page p can q r c.requires.mtr.held taken (subst (λ (k : Sizes). HasLookedOn k (g.L.Law.lawful k.pages) q r) same l.looked_on) l.memo l.session l.grants
+    (subst (λ (k : Sizes). HasPage (by_place g.L.Law.opening k.pages) c.args.page q r) same l.loaded) l.still.mtr.held

@@ -2,8 +2,8 @@
 use Rattle.ib_map.proofs.KeyLaws.{rank-lt_end}
 use Rattle.ib_cursor.proofs.descent.descend_at.Goals as goal
 
-pub come_to_leaf-path-requires-clause-key : goal.come_to_leaf-path-requires-clause-key
-come_to_leaf-path-requires-clause-key g c = rank-lt_end c.args.key
+pub reach_leaf-path-requires-clause-sought : goal.reach_leaf-path-requires-clause-sought
+reach_leaf-path-requires-clause-sought g c = record { some = c.requires.root.some; there = c.requires.root.there; is_key = rank-lt_end c.args.key }
 
-pub load_end-requires-clause-key : goal.load_end-requires-clause-key
-load_end-requires-clause-key g c = rank-lt_end c.args.key
+pub load_end-requires-clause-sought : goal.load_end-requires-clause-sought
+load_end-requires-clause-sought g c = record { some = c.requires.root.some; there = c.requires.root.there; is_key = rank-lt_end c.args.key }

@@ -1,6 +1,7 @@
 -- A key of 64 bits is below the end.
+use Rattle.std.proofs.Common.{arith}
 use Rattle.ib_map.proofs.KeyLaws.{rank-lt_end}
 use Rattle.ib_cursor.proofs.lookup.find_nowait.Goals as goal
 
-pub come_to_leaf_nowait-requires-clause-key : goal.come_to_leaf_nowait-requires-clause-key
-come_to_leaf_nowait-requires-clause-key g c = rank-lt_end c.args.key
+pub reach_leaf_nowait-requires-clause-sought : goal.reach_leaf_nowait-requires-clause-sought
+reach_leaf_nowait-requires-clause-sought g c = record { some = omega arith; there = c.requires.root; is_key = rank-lt_end c.args.key }

@@ -10,7 +10,8 @@ use Rattle.ib_logrec.specs.Log.{by_place, memory_after}
 use Rattle.ib_rule.specs.Pass.{PassState}
 use Rattle.ib_rule.specs.Views.{is_watched}
 use Rattle.ib_walk.specs.Words.{image_of}
-use Rattle.ib_cursor.proofs.LogLaws.{laws_of}
+use Rattle.ib_cursor.proofs.PageLaws.{has_told}
+use Rattle.ib_cursor.proofs.LogLaws.{laws_under}
 use Rattle.ib_cursor.proofs.DownLaws.{last_of_path, leaf_held, leaf_image}
 use Rattle.ib_cursor.proofs.FindLaws.{found}
 use Rattle.ib_cursor.proofs.lookup.value_at_end.Goals as goal
@@ -18,12 +19,11 @@ use Rattle.ib_cursor.proofs.lookup.value_at_end.Goals as goal
 pub value_of-requires-clause-can : goal.value_of-requires-clause-can
 value_of-requires-clause-can g c =
     let sizes : Sizes = c.args.mtr.now.latches.now.sizes in
-    let has : has_pages sizes.pages ≡ true = subst (λ (s : Sizes). has_pages s.pages ≡ true) c.geometry.ensures (subst (λ n. has_pages n ≡ true) c.pages.ensures.pages c.pages.ensures.in_range) in
-    let laws = laws_of sizes.pages g.L.Trees.ROOTS (g.L.Law.lawful sizes.pages) (by_place g.L.Law.opening sizes.pages) (g.L.Law.range sizes.pages) (λ xs ys. g.met.L.Law.begins sizes.pages xs ys has)
-    (λ log. c.trees_law.ensures.memory sizes.pages log has) (λ xs e page r. g.met.L.Law.stays sizes.pages xs e page r has) (λ log page r. c.trees_law.ensures.range sizes.pages log page r) in
+    let has : has_pages sizes.pages ≡ true = has_told c.geometry.ensures c.pages.ensures.pages c.pages.ensures.in_range in
+    let laws = laws_under g.L.Law g.L.Trees.ROOTS sizes.pages has g.met.L.Law.begins c.trees_law.ensures.memory g.met.L.Law.stays c.trees_law.ensures.range in
     let lt = rank-lt_end c.args.key in
     let q : PassState = c.args.mtr.now.pass.now in
-    let p = c.requires.come.0 in let d = c.requires.come.1 in
+    let p = c.requires.reached.0 in let d = c.requires.reached.1 in
     let at : c.unwrap-leaf.result ≡ d.leaf = last_of_path c.last.result c.unwrap-leaf.result c.args.path.now d.front d.leaf d.ends c.last.ensures.last c.unwrap-leaf.ensures in
     record {
       mtr = c.requires.mtr;
@@ -35,21 +35,19 @@ value_of-requires-clause-can g c =
 pub value_of-requires-clause-tree : goal.value_of-requires-clause-tree
 value_of-requires-clause-tree g c =
     let sizes : Sizes = c.args.mtr.now.latches.now.sizes in
-    let has : has_pages sizes.pages ≡ true = subst (λ (s : Sizes). has_pages s.pages ≡ true) c.geometry.ensures (subst (λ n. has_pages n ≡ true) c.pages.ensures.pages c.pages.ensures.in_range) in
-    let laws = laws_of sizes.pages g.L.Trees.ROOTS (g.L.Law.lawful sizes.pages) (by_place g.L.Law.opening sizes.pages) (g.L.Law.range sizes.pages) (λ xs ys. g.met.L.Law.begins sizes.pages xs ys has)
-    (λ log. c.trees_law.ensures.memory sizes.pages log has) (λ xs e page r. g.met.L.Law.stays sizes.pages xs e page r has) (λ log page r. c.trees_law.ensures.range sizes.pages log page r) in
+    let has : has_pages sizes.pages ≡ true = has_told c.geometry.ensures c.pages.ensures.pages c.pages.ensures.in_range in
+    let laws = laws_under g.L.Law g.L.Trees.ROOTS sizes.pages has g.met.L.Law.begins c.trees_law.ensures.memory g.met.L.Law.stays c.trees_law.ensures.range in
     let lt = rank-lt_end c.args.key in
     let q : PassState = c.args.mtr.now.pass.now in
-    let p = c.requires.come.0 in let d = c.requires.come.1 in
+    let p = c.requires.reached.0 in let d = c.requires.reached.1 in
     let at : c.unwrap-leaf.result ≡ d.leaf = last_of_path c.last.result c.unwrap-leaf.result c.args.path.now d.front d.leaf d.ends c.last.ensures.last c.unwrap-leaf.ensures in
     subst (λ (n : ℕ). IsTreePage (image_of (memory_after (by_place g.L.Law.opening sizes.pages) q.view.memory.seen) n)) (sym at) (leaf_image sizes g.L.Trees.ROOTS (g.L.Law.lawful sizes.pages) (by_place g.L.Law.opening sizes.pages) laws 1 (omega arith) c.requires.root c.args.key lt false c.args.path.now p q d).image.tree
 
 pub returns-clause-found : goal.returns-clause-found
 returns-clause-found g c = λ p d.
     let sizes : Sizes = c.args.mtr.now.latches.now.sizes in
-    let has : has_pages sizes.pages ≡ true = subst (λ (s : Sizes). has_pages s.pages ≡ true) c.geometry.ensures (subst (λ n. has_pages n ≡ true) c.pages.ensures.pages c.pages.ensures.in_range) in
-    let laws = laws_of sizes.pages g.L.Trees.ROOTS (g.L.Law.lawful sizes.pages) (by_place g.L.Law.opening sizes.pages) (g.L.Law.range sizes.pages) (λ xs ys. g.met.L.Law.begins sizes.pages xs ys has)
-    (λ log. c.trees_law.ensures.memory sizes.pages log has) (λ xs e page r. g.met.L.Law.stays sizes.pages xs e page r has) (λ log page r. c.trees_law.ensures.range sizes.pages log page r) in
+    let has : has_pages sizes.pages ≡ true = has_told c.geometry.ensures c.pages.ensures.pages c.pages.ensures.in_range in
+    let laws = laws_under g.L.Law g.L.Trees.ROOTS sizes.pages has g.met.L.Law.begins c.trees_law.ensures.memory g.met.L.Law.stays c.trees_law.ensures.range in
     let lt = rank-lt_end c.args.key in
     let q : PassState = c.args.mtr.now.pass.now in
     let at : c.unwrap-leaf.result ≡ d.leaf = last_of_path c.last.result c.unwrap-leaf.result c.args.path.now d.front d.leaf d.ends c.last.ensures.last c.unwrap-leaf.ensures in

@@ -9,22 +9,22 @@ use Rattle.ib_page.specs.Image.{next_of}
 use Rattle.ib_page.specs.Work.{changed_of}
 use Rattle.ib_logrec.specs.Log.{by_place}
 use Rattle.ib_rule.specs.Pass.{PassState}
+use Rattle.ib_rule.specs.Takes.{MayTake}
 use Rattle.ib_mtr.specs.Mtr.{IsReleasedAt}
 use Rattle.ib_cursor.specs.Grants.{memo_of, page_grant, HasTaken}
 use Rattle.ib_cursor.specs.Going.{HasSeen}
 use Rattle.ib_cursor.specs.Descent.{HasPage}
 use Rattle.ib_cursor.specs.Nexts.{HoldsNext}
-use Rattle.ib_cursor.proofs.PageLaws.{few_pages}
-use Rattle.ib_cursor.proofs.LogLaws.{laws_of}
+use Rattle.ib_cursor.proofs.PageLaws.{few_pages, has_told}
+use Rattle.ib_cursor.proofs.LogLaws.{laws_under}
 use Rattle.ib_cursor.proofs.NextLaws.{held_formed, held_inside, next_inside, next_other, absent_in, there_in, last_there, place_is, memo_length, stepped}
 use Rattle.ib_cursor.proofs.next.next_leaf.Goals as goal
 
 pub right_of-next-requires-clause-loaded : goal.right_of-next-requires-clause-loaded
 right_of-next-requires-clause-loaded g c =
     let sizes : Sizes = c.args.mtr.now.latches.now.sizes in
-    let has : has_pages sizes.pages ≡ true = subst (λ (s : Sizes). has_pages s.pages ≡ true) c.geometry.ensures (subst (λ n. has_pages n ≡ true) c.pages.ensures.pages c.pages.ensures.in_range) in
-    let laws = laws_of sizes.pages g.L.Trees.ROOTS (g.L.Law.lawful sizes.pages) (by_place g.L.Law.opening sizes.pages) (g.L.Law.range sizes.pages) (λ xs ys. g.met.L.Law.begins sizes.pages xs ys has)
-    (λ log. c.trees_law.ensures.memory sizes.pages log has) (λ xs e page r. g.met.L.Law.stays sizes.pages xs e page r has) (λ log page r. c.trees_law.ensures.range sizes.pages log page r) in
+    let has : has_pages sizes.pages ≡ true = has_told c.geometry.ensures c.pages.ensures.pages c.pages.ensures.in_range in
+    let laws = laws_under g.L.Law g.L.Trees.ROOTS sizes.pages has g.met.L.Law.begins c.trees_law.ensures.memory g.met.L.Law.stays c.trees_law.ensures.range in
     let p : PassState = c.args.mtr.now.pass.now in
     let h = c.requires.held in
     (h.image, ap (changed_of c.args.leaf) h.holds.work ∙ there_in c.args.leaf h.image, held_formed sizes g.L.Trees.ROOTS (g.L.Law.lawful sizes.pages) (by_place g.L.Law.opening sizes.pages) laws h.front c.args.leaf h.image h.range p h.holds)
@@ -32,9 +32,8 @@ right_of-next-requires-clause-loaded g c =
 pub page-requires : goal.page-requires
 page-requires g c =
     let sizes : Sizes = c.args.mtr.now.latches.now.sizes in
-    let has : has_pages sizes.pages ≡ true = subst (λ (s : Sizes). has_pages s.pages ≡ true) c.geometry.ensures (subst (λ n. has_pages n ≡ true) c.pages.ensures.pages c.pages.ensures.in_range) in
-    let laws = laws_of sizes.pages g.L.Trees.ROOTS (g.L.Law.lawful sizes.pages) (by_place g.L.Law.opening sizes.pages) (g.L.Law.range sizes.pages) (λ xs ys. g.met.L.Law.begins sizes.pages xs ys has)
-    (λ log. c.trees_law.ensures.memory sizes.pages log has) (λ xs e page r. g.met.L.Law.stays sizes.pages xs e page r has) (λ log page r. c.trees_law.ensures.range sizes.pages log page r) in
+    let has : has_pages sizes.pages ≡ true = has_told c.geometry.ensures c.pages.ensures.pages c.pages.ensures.in_range in
+    let laws = laws_under g.L.Law g.L.Trees.ROOTS sizes.pages has g.met.L.Law.begins c.trees_law.ensures.memory g.met.L.Law.stays c.trees_law.ensures.range in
     let p : PassState = c.args.mtr.now.pass.now in
     let h = c.requires.held in
     few_pages sizes.pages c.args.leaf has (held_inside sizes g.L.Trees.ROOTS (g.L.Law.lawful sizes.pages) (by_place g.L.Law.opening sizes.pages) laws h.front c.args.leaf h.image h.range p h.holds)
@@ -47,9 +46,8 @@ unwrap-at-requires g c =
 pub page-requires-2 : goal.page-requires-2
 page-requires-2 g c =
     let sizes : Sizes = c.args.mtr.now.latches.now.sizes in
-    let has : has_pages sizes.pages ≡ true = subst (λ (s : Sizes). has_pages s.pages ≡ true) c.geometry.ensures (subst (λ n. has_pages n ≡ true) c.pages.ensures.pages c.pages.ensures.in_range) in
-    let laws = laws_of sizes.pages g.L.Trees.ROOTS (g.L.Law.lawful sizes.pages) (by_place g.L.Law.opening sizes.pages) (g.L.Law.range sizes.pages) (λ xs ys. g.met.L.Law.begins sizes.pages xs ys has)
-    (λ log. c.trees_law.ensures.memory sizes.pages log has) (λ xs e page r. g.met.L.Law.stays sizes.pages xs e page r has) (λ log page r. c.trees_law.ensures.range sizes.pages log page r) in
+    let has : has_pages sizes.pages ≡ true = has_told c.geometry.ensures c.pages.ensures.pages c.pages.ensures.in_range in
+    let laws = laws_under g.L.Law g.L.Trees.ROOTS sizes.pages has g.met.L.Law.begins c.trees_law.ensures.memory g.met.L.Law.stays c.trees_law.ensures.range in
     let p : PassState = c.args.mtr.now.pass.now in
     let h = c.requires.held in
     let loaded = ap (changed_of c.args.leaf) h.holds.work ∙ there_in c.args.leaf h.image in
@@ -57,39 +55,37 @@ page-requires-2 g c =
     let some : next_of h.image ≢ 0 = λ z. c.if-next-eq0.false (link ∙ z) in
     few_pages sizes.pages c.right_of-next.result has (subst (λ (n : ℕ). n < sizes.pages) (sym link) (next_inside sizes g.L.Trees.ROOTS (g.L.Law.lawful sizes.pages) (by_place g.L.Law.opening sizes.pages) laws h.front c.args.leaf h.image h.range p h.holds some))
 
-pub take-requires-clause-latch : goal.take-requires-clause-latch
-take-requires-clause-latch g c =
+pub take-requires-clause-may : goal.take-requires-clause-may
+take-requires-clause-may g c =
     let sizes : Sizes = c.args.mtr.now.latches.now.sizes in
-    let has : has_pages sizes.pages ≡ true = subst (λ (s : Sizes). has_pages s.pages ≡ true) c.geometry.ensures (subst (λ n. has_pages n ≡ true) c.pages.ensures.pages c.pages.ensures.in_range) in
-    let laws = laws_of sizes.pages g.L.Trees.ROOTS (g.L.Law.lawful sizes.pages) (by_place g.L.Law.opening sizes.pages) (g.L.Law.range sizes.pages) (λ xs ys. g.met.L.Law.begins sizes.pages xs ys has)
-    (λ log. c.trees_law.ensures.memory sizes.pages log has) (λ xs e page r. g.met.L.Law.stays sizes.pages xs e page r has) (λ log page r. c.trees_law.ensures.range sizes.pages log page r) in
+    let has : has_pages sizes.pages ≡ true = has_told c.geometry.ensures c.pages.ensures.pages c.pages.ensures.in_range in
+    let laws = laws_under g.L.Law g.L.Trees.ROOTS sizes.pages has g.met.L.Law.begins c.trees_law.ensures.memory g.met.L.Law.stays c.trees_law.ensures.range in
     let p : PassState = c.args.mtr.now.pass.now in
     let h = c.requires.held in
     let loaded = ap (changed_of c.args.leaf) h.holds.work ∙ there_in c.args.leaf h.image in
     let link = c.right_of-next.ensures h.image loaded in
     let some : next_of h.image ≢ 0 = λ z. c.if-next-eq0.false (link ∙ z) in
     let inside = next_inside sizes g.L.Trees.ROOTS (g.L.Law.lawful sizes.pages) (by_place g.L.Law.opening sizes.pages) laws h.front c.args.leaf h.image h.range p h.holds some in
-    subst (λ (l : Latch). l.0 < sizes.pages + 2) (sym c.page-2.ensures) (omega arith)
+    subst (λ (l : Latch). MayTake c.args.mtr.now.latches.now l.0 TreeNode p) (sym (c.page-2.ensures ∙ ap (λ (n : ℕ). let l : Latch = record { 0 = n + 2 } in l) link))
+    (record { own = c.requires.mtr.own; latch = omega arith; grows = h.grows; may = h.may some })
 
 pub read-requires-clause-page : goal.read-requires-clause-page
 read-requires-clause-page g c =
     let sizes : Sizes = c.args.mtr.now.latches.now.sizes in
-    let has : has_pages sizes.pages ≡ true = subst (λ (s : Sizes). has_pages s.pages ≡ true) c.geometry.ensures (subst (λ n. has_pages n ≡ true) c.pages.ensures.pages c.pages.ensures.in_range) in
-    let laws = laws_of sizes.pages g.L.Trees.ROOTS (g.L.Law.lawful sizes.pages) (by_place g.L.Law.opening sizes.pages) (g.L.Law.range sizes.pages) (λ xs ys. g.met.L.Law.begins sizes.pages xs ys has)
-    (λ log. c.trees_law.ensures.memory sizes.pages log has) (λ xs e page r. g.met.L.Law.stays sizes.pages xs e page r has) (λ log page r. c.trees_law.ensures.range sizes.pages log page r) in
+    let has : has_pages sizes.pages ≡ true = has_told c.geometry.ensures c.pages.ensures.pages c.pages.ensures.in_range in
+    let laws = laws_under g.L.Law g.L.Trees.ROOTS sizes.pages has g.met.L.Law.begins c.trees_law.ensures.memory g.met.L.Law.stays c.trees_law.ensures.range in
     let p : PassState = c.args.mtr.now.pass.now in
     let h = c.requires.held in
     let loaded = ap (changed_of c.args.leaf) h.holds.work ∙ there_in c.args.leaf h.image in
     let link = c.right_of-next.ensures h.image loaded in
     let some : next_of h.image ≢ 0 = λ z. c.if-next-eq0.false (link ∙ z) in
-    subst (λ (s : Sizes). c.right_of-next.result < s.pages) (sym (ap (λ m. m.now.sizes) c.take.ensures.latches)) (subst (λ (n : ℕ). n < sizes.pages) (sym link) (next_inside sizes g.L.Trees.ROOTS (g.L.Law.lawful sizes.pages) (by_place g.L.Law.opening sizes.pages) laws h.front c.args.leaf h.image h.range p h.holds some))
+    subst (λ (s : Sizes). c.right_of-next.result < s.pages) (sym (ap (λ m. m.now.sizes) c.take.ensures.still.latches)) (subst (λ (n : ℕ). n < sizes.pages) (sym link) (next_inside sizes g.L.Trees.ROOTS (g.L.Law.lawful sizes.pages) (by_place g.L.Law.opening sizes.pages) laws h.front c.args.leaf h.image h.range p h.holds some))
 
 pub read-requires-clause-absent : goal.read-requires-clause-absent
 read-requires-clause-absent g c =
     let sizes : Sizes = c.args.mtr.now.latches.now.sizes in
-    let has : has_pages sizes.pages ≡ true = subst (λ (s : Sizes). has_pages s.pages ≡ true) c.geometry.ensures (subst (λ n. has_pages n ≡ true) c.pages.ensures.pages c.pages.ensures.in_range) in
-    let laws = laws_of sizes.pages g.L.Trees.ROOTS (g.L.Law.lawful sizes.pages) (by_place g.L.Law.opening sizes.pages) (g.L.Law.range sizes.pages) (λ xs ys. g.met.L.Law.begins sizes.pages xs ys has)
-    (λ log. c.trees_law.ensures.memory sizes.pages log has) (λ xs e page r. g.met.L.Law.stays sizes.pages xs e page r has) (λ log page r. c.trees_law.ensures.range sizes.pages log page r) in
+    let has : has_pages sizes.pages ≡ true = has_told c.geometry.ensures c.pages.ensures.pages c.pages.ensures.in_range in
+    let laws = laws_under g.L.Law g.L.Trees.ROOTS sizes.pages has g.met.L.Law.begins c.trees_law.ensures.memory g.met.L.Law.stays c.trees_law.ensures.range in
     let p : PassState = c.args.mtr.now.pass.now in
     let h = c.requires.held in
     let loaded = ap (changed_of c.args.leaf) h.holds.work ∙ there_in c.args.leaf h.image in
@@ -111,18 +107,17 @@ release_at-requires-clause-at g c =
 pub returns-clause-next : goal.returns-clause-next
 returns-clause-next g c = λ h.
     let sizes : Sizes = c.args.mtr.now.latches.now.sizes in
-    let has : has_pages sizes.pages ≡ true = subst (λ (s : Sizes). has_pages s.pages ≡ true) c.geometry.ensures (subst (λ n. has_pages n ≡ true) c.pages.ensures.pages c.pages.ensures.in_range) in
-    let laws = laws_of sizes.pages g.L.Trees.ROOTS (g.L.Law.lawful sizes.pages) (by_place g.L.Law.opening sizes.pages) (g.L.Law.range sizes.pages) (λ xs ys. g.met.L.Law.begins sizes.pages xs ys has)
-    (λ log. c.trees_law.ensures.memory sizes.pages log has) (λ xs e page r. g.met.L.Law.stays sizes.pages xs e page r has) (λ log page r. c.trees_law.ensures.range sizes.pages log page r) in
+    let has : has_pages sizes.pages ≡ true = has_told c.geometry.ensures c.pages.ensures.pages c.pages.ensures.in_range in
+    let laws = laws_under g.L.Law g.L.Trees.ROOTS sizes.pages has g.met.L.Law.begins c.trees_law.ensures.memory g.met.L.Law.stays c.trees_law.ensures.range in
     let p : PassState = c.args.mtr.now.pass.now in
     let loaded = ap (changed_of c.args.leaf) h.holds.work ∙ there_in c.args.leaf h.image in
     let link = c.right_of-next.ensures h.image loaded in
     let some : next_of h.image ≢ 0 = λ z. c.if-next-eq0.false (link ∙ z) in
     let q : PassState = c.take.new.mtr.pass.now in let s : PassState = c.read.new.mtr.pass.now in let t : PassState = c.release_at.new.self.pass.now in
     let at = place_is c.position.result c.unwrap-at.result c.page.result c.args.leaf c.args.mtr.now.pass.now.memo h.front h.holds.grants.memo c.page.ensures h.holds.once c.unwrap-at.ensures c.position.ensures in
-    let same = ap (λ m. m.now.sizes) c.take.ensures.latches in
+    let same = ap (λ m. m.now.sizes) c.take.ensures.still.latches in
     let taken = subst (λ (l : Latch). HasTaken (record { latch = l.0; mode = S; level = TreeNode }) p q) (c.page-2.ensures ∙ ap (λ (n : ℕ). let l : Latch = record { 0 = n + 2 } in l) link) c.take.ensures.taken in
-    let seen = subst (λ (k : Sizes). HasSeen k (g.L.Law.lawful k.pages) q s) same c.read.ensures.glanced.seen in
+    let seen = subst (λ (k : Sizes). HasSeen k (g.L.Law.lawful k.pages) q s) same c.read.ensures.looked_on.seen in
     let page = subst (λ (n : ℕ). HasPage (by_place g.L.Law.opening sizes.pages) n q s) link (subst (λ (k : Sizes). HasPage (by_place g.L.Law.opening k.pages) c.right_of-next.result q s) same c.read.ensures.loaded) in
     subst (λ (n : ℕ). HoldsNext sizes (g.L.Law.lawful sizes.pages) (by_place g.L.Law.opening sizes.pages) g.L.Trees.ROOTS h.front c.args.leaf h.image h.range n p t) (sym link)
     (stepped sizes g.L.Trees.ROOTS (g.L.Law.lawful sizes.pages) (by_place g.L.Law.opening sizes.pages) laws h.front c.args.leaf h.image h.range p h.holds some (h.may some) q s t taken seen c.read.ensures.memo c.read.ensures.session c.read.ensures.grants page

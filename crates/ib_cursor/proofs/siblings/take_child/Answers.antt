@@ -1,16 +1,16 @@
 -- A record that is there names a page, which is taken.
-use Rattle.std.proofs.Common.{◌≡◌, true, subst}
+use Rattle.std.proofs.Common.{◌≡◌, true}
 use Rattle.ib_map.specs.Space.{has_pages}
 use Rattle.ib_layout.specs.Geometry.{Sizes}
 use Rattle.ib_logrec.specs.Log.{by_place}
 use Rattle.ib_cursor.proofs.ChildLaws.{child_can, child_none, child_taken}
-use Rattle.ib_cursor.proofs.PageLaws.{few}
+use Rattle.ib_cursor.proofs.PageLaws.{few, has_told}
 use Rattle.ib_cursor.proofs.siblings.take_child.Goals as goal
 
 pub overflow_cast-page : goal.overflow_cast-page
 overflow_cast-page g c =
     let sizes : Sizes = c.args.mtr.now.latches.now.sizes in
-    let has : has_pages sizes.pages ≡ true = subst (λ (s : Sizes). has_pages s.pages ≡ true) c.geometry.ensures (subst (λ n. has_pages n ≡ true) c.pages.ensures.pages c.pages.ensures.in_range) in
+    let has : has_pages sizes.pages ≡ true = has_told c.geometry.ensures c.pages.ensures.pages c.pages.ensures.in_range in
     let r = c.requires.ready in
     record { fits = few sizes.pages c.in-Some.page has (child_can sizes (g.L.Law.lawful sizes.pages) (by_place g.L.Law.opening sizes.pages) c.args.child c.in-Some.field-0-0 c.in-Some.page c.args.mtr.now.pass.now c.in-Some.is r.0 r.1 r.2).1 }
 

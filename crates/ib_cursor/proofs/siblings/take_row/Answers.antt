@@ -7,7 +7,7 @@ use Rattle.ib_rule.specs.Pass.{PassState}
 use Rattle.ib_cursor.specs.Siblings.{child_if}
 use Rattle.ib_cursor.specs.Takings.{HasTakenMore, WillTake}
 use Rattle.ib_cursor.proofs.ChildLaws.{last_inside, last_is, node_image, room_here, room_right, row_taken, will_here, will_left, will_right}
-use Rattle.ib_cursor.proofs.PageLaws.{few}
+use Rattle.ib_cursor.proofs.PageLaws.{few, has_told}
 use Rattle.ib_cursor.proofs.siblings.take_row.Goals as goal
 
 pub children_of-left-requires-clause-loaded : goal.children_of-left-requires-clause-loaded
@@ -41,7 +41,7 @@ take_child-requires-2-clause-ready g c =
     let left = will_left sizes (g.L.Law.lawful sizes.pages) (by_place g.L.Law.opening sizes.pages) c.args.key r.0 c.args.node p r.1 b.left b.here b.right c.children_of-left.ensures in
     let one = c.take_child.ensures.taken r.0 (b.here.1 ∷ child_if b.right) left in
     let here = will_here sizes (g.L.Law.lawful sizes.pages) (by_place g.L.Law.opening sizes.pages) c.args.key r.0 c.args.node p r.1 b.left b.here b.right c.children_of-left.ensures q one in
-    subst (λ (s : Sizes). (held : List ℕ) × (more : List ℕ) × WillTake s (g.L.Law.lawful s.pages) (by_place g.L.Law.opening s.pages) held (b.here.1 ∷ more) q) (sym (ap (λ m. m.now.sizes) c.take_child.ensures.latches))
+    subst (λ (s : Sizes). (held : List ℕ) × (more : List ℕ) × WillTake s (g.L.Law.lawful s.pages) (by_place g.L.Law.opening s.pages) held (b.here.1 ∷ more) q) (sym (ap (λ m. m.now.sizes) c.take_child.ensures.still.latches))
     (r.0 ++ child_if b.left, child_if b.right, here)
 
 pub take_child-requires-3-clause-room : goal.take_child-requires-3-clause-room
@@ -53,7 +53,7 @@ take_child-requires-3-clause-room g c =
     let one = c.take_child.ensures.taken r.0 (b.here.1 ∷ child_if b.right) left in
     let here = will_here sizes (g.L.Law.lawful sizes.pages) (by_place g.L.Law.opening sizes.pages) c.args.key r.0 c.args.node p r.1 b.left b.here b.right c.children_of-left.ensures q one in
     let taken = subst (λ (s : Sizes). (held more : List ℕ) → WillTake s (g.L.Law.lawful s.pages) (by_place g.L.Law.opening s.pages) held (b.here.1 ∷ more) q → HasTakenMore s (g.L.Law.lawful s.pages) (by_place g.L.Law.opening s.pages) held (b.here.1 ∷ []) q t)
-    (ap (λ m. m.now.sizes) c.take_child.ensures.latches) c.take_child-2.ensures.taken in
+    (ap (λ m. m.now.sizes) c.take_child.ensures.still.latches) c.take_child-2.ensures.taken in
     let two = taken (r.0 ++ child_if b.left) (child_if b.right) here in
     let more = room_right sizes (g.L.Law.lawful sizes.pages) (by_place g.L.Law.opening sizes.pages) c.args.key r.0 c.args.node p r.1 b.left b.here b.right c.children_of-left.ensures q one t two in
     let room = c.requires.room in omega arith
@@ -67,17 +67,17 @@ take_child-requires-3-clause-ready g c =
     let one = c.take_child.ensures.taken r.0 (b.here.1 ∷ child_if b.right) left in
     let here = will_here sizes (g.L.Law.lawful sizes.pages) (by_place g.L.Law.opening sizes.pages) c.args.key r.0 c.args.node p r.1 b.left b.here b.right c.children_of-left.ensures q one in
     let taken = subst (λ (s : Sizes). (held more : List ℕ) → WillTake s (g.L.Law.lawful s.pages) (by_place g.L.Law.opening s.pages) held (b.here.1 ∷ more) q → HasTakenMore s (g.L.Law.lawful s.pages) (by_place g.L.Law.opening s.pages) held (b.here.1 ∷ []) q t)
-    (ap (λ m. m.now.sizes) c.take_child.ensures.latches) c.take_child-2.ensures.taken in
+    (ap (λ m. m.now.sizes) c.take_child.ensures.still.latches) c.take_child-2.ensures.taken in
     let two = taken (r.0 ++ child_if b.left) (child_if b.right) here in
     let right = will_right sizes (g.L.Law.lawful sizes.pages) (by_place g.L.Law.opening sizes.pages) c.args.key r.0 c.args.node p r.1 b.left b.here b.right c.children_of-left.ensures q one t two in
-    subst (λ (s : Sizes). (held : List ℕ) × (more : List ℕ) × WillTake s (g.L.Law.lawful s.pages) (by_place g.L.Law.opening s.pages) held (child_if b.right ++ more) t) (sym (ap (λ m. m.now.sizes) (c.take_child-2.ensures.latches ∙ c.take_child.ensures.latches)))
+    subst (λ (s : Sizes). (held : List ℕ) × (more : List ℕ) × WillTake s (g.L.Law.lawful s.pages) (by_place g.L.Law.opening s.pages) held (child_if b.right ++ more) t) (sym (ap (λ m. m.now.sizes) (c.take_child-2.ensures.still.latches ∙ c.take_child.ensures.still.latches)))
     ((r.0 ++ child_if b.left) ++ b.here.1 ∷ [], [], right)
 
 pub last_page-requires : goal.last_page-requires
 last_page-requires g c =
     let sizes : Sizes = c.args.mtr.now.latches.now.sizes in
     let r = c.requires.ready in let b = c.children_of-left.result in
-    let has : has_pages sizes.pages ≡ true = subst (λ (s : Sizes). has_pages s.pages ≡ true) c.geometry.ensures (subst (λ n. has_pages n ≡ true) c.pages.ensures.pages c.pages.ensures.in_range) in
+    let has : has_pages sizes.pages ≡ true = has_told c.geometry.ensures c.pages.ensures.pages c.pages.ensures.in_range in
     record { small = few sizes.pages _ has (last_inside sizes (g.L.Law.lawful sizes.pages) (by_place g.L.Law.opening sizes.pages) c.args.key r.0 c.args.node c.args.mtr.now.pass.now r.1 b.left b.here b.right c.children_of-left.ensures) }
 
 pub returns-clause-taken : goal.returns-clause-taken
@@ -88,8 +88,8 @@ returns-clause-taken g c = λ held can.
     let left = will_left sizes (g.L.Law.lawful sizes.pages) (by_place g.L.Law.opening sizes.pages) c.args.key held c.args.node p can b.left b.here b.right c.children_of-left.ensures in
     let one = c.take_child.ensures.taken held (b.here.1 ∷ child_if b.right) left in
     let here = will_here sizes (g.L.Law.lawful sizes.pages) (by_place g.L.Law.opening sizes.pages) c.args.key held c.args.node p can b.left b.here b.right c.children_of-left.ensures q one in
-    let first = ap (λ m. m.now.sizes) c.take_child.ensures.latches in
-    let second = ap (λ m. m.now.sizes) (c.take_child-2.ensures.latches ∙ c.take_child.ensures.latches) in
+    let first = ap (λ m. m.now.sizes) c.take_child.ensures.still.latches in
+    let second = ap (λ m. m.now.sizes) (c.take_child-2.ensures.still.latches ∙ c.take_child.ensures.still.latches) in
     let taken = subst (λ (s : Sizes). (held more : List ℕ) → WillTake s (g.L.Law.lawful s.pages) (by_place g.L.Law.opening s.pages) held (b.here.1 ∷ more) q → HasTakenMore s (g.L.Law.lawful s.pages) (by_place g.L.Law.opening s.pages) held (b.here.1 ∷ []) q t) first c.take_child-2.ensures.taken in
     let two = taken (held ++ child_if b.left) (child_if b.right) here in
     let right = will_right sizes (g.L.Law.lawful sizes.pages) (by_place g.L.Law.opening sizes.pages) c.args.key held c.args.node p can b.left b.here b.right c.children_of-left.ensures q one t two in

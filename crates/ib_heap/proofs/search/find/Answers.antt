@@ -2,5 +2,5 @@
 use Rattle.ib_heap.proofs.SeekLaws.{size-of}
 use Rattle.ib_heap.proofs.search.find.Goals as goal
 
-pub find_in-requires-clause-can : goal.find_in-requires-clause-can
-find_in-requires-clause-can c = size-of c.args.words.now c.requires
+pub find_in-requires : goal.find_in-requires
+find_in-requires c = record { can = size-of c.args.words.now c.requires; tree = c.requires }

@@ -15,47 +15,38 @@ is-place steps index ws slot key one two = omega arith
 pub overflow_add-index : goal.overflow_add-index
 overflow_add-index g c =
     let ws = g.W.PageWords.words c.args.page.now in let kn = known ws c.requires.tree in let se = c.seek-cursor.ensures in
-    let behind = rw se.same at c.index_behind.ensures.index in
+    let behind = rw se.still.same at c.index_behind.ensures.index in
     let e = is-place c.seek-cursor.result.steps c.index_behind.result ws (c.seek-cursor.result.slot - 1) c.args.key se.steps behind in
     let few = up_to-records ws c.args.key c.seek-cursor.result.before c.seek-cursor.result.at kn se.before se.at in
     let long = kn.long in let most = kn.few in omega arith
 
-pub returns-then-cursor-clause-in_range : goal.returns-then-cursor-clause-in_range
-returns-then-cursor-clause-in_range g c =
-    let ws = g.W.PageWords.words c.args.page.now in let kn = known ws c.requires.tree in let se = c.seek-cursor.ensures in
-    let behind = rw se.same at c.index_behind.ensures.index in
-    let e = is-place c.seek-cursor.result.steps c.index_behind.result ws (c.seek-cursor.result.slot - 1) c.args.key se.steps behind in
-    let lt = within-records ws c.args.key c.seek-cursor.result.before c.seek-cursor.result.at kn se.before se.at (se.found c.if-cursor.true).0 in
-    omega arith
-
 pub returns-then-cursor-clause-found : goal.returns-then-cursor-clause-found
 returns-then-cursor-clause-found g c =
     let ws = g.W.PageWords.words c.args.page.now in let kn = known ws c.requires.tree in let se = c.seek-cursor.ensures in
-    let behind = rw se.same at c.index_behind.ensures.index in
+    let behind = rw se.still.same at c.index_behind.ensures.index in
     let e = is-place c.seek-cursor.result.steps c.index_behind.result ws (c.seek-cursor.result.slot - 1) c.args.key se.steps behind in
     let there = se.found c.if-cursor.true in
+    let lt = within-records ws c.args.key c.seek-cursor.result.before c.seek-cursor.result.at kn se.before se.at there.0 in
     let at = ap (λ i. slice_get (records_of ws) i) e ∙ has-record ws c.args.key c.seek-cursor.result.before c.seek-cursor.result.at kn se.before se.at there.0 in
-    subst (λ (o : Option (MapKey × ℕ)). IsSomeAnd o (λ r. r.0 ≡ c.args.key)) (sym at) there.1
+    record {
+      place = e;
+      in_range = omega arith;
+      found = subst (λ (o : Option (MapKey × ℕ)). IsSomeAnd o (λ r. r.0 ≡ c.args.key)) (sym at) there.1;
+      value = subst (λ (o : Option (MapKey × ℕ)). IsSomeAnd o (λ r. value_at c.args.key (records_of ws) ≡ Some r.1)) (sym at)
+          (found ws c.args.key c.seek-cursor.result.before c.seek-cursor.result.at kn se.before se.at there.0 (ap rank there.1));
+      absent = tt;
+    }
 
-pub returns-then-cursor-clause-value : goal.returns-then-cursor-clause-value
-returns-then-cursor-clause-value g c =
+pub returns-else-cursor-clause-found : goal.returns-else-cursor-clause-found
+returns-else-cursor-clause-found g c =
     let ws = g.W.PageWords.words c.args.page.now in let kn = known ws c.requires.tree in let se = c.seek-cursor.ensures in
-    let behind = rw se.same at c.index_behind.ensures.index in
-    let e = is-place c.seek-cursor.result.steps c.index_behind.result ws (c.seek-cursor.result.slot - 1) c.args.key se.steps behind in
-    let there = se.found c.if-cursor.true in
-    let at = ap (λ i. slice_get (records_of ws) i) e ∙ has-record ws c.args.key c.seek-cursor.result.before c.seek-cursor.result.at kn se.before se.at there.0 in
-    subst (λ (o : Option (MapKey × ℕ)). IsSomeAnd o (λ r. value_at c.args.key (records_of ws) ≡ Some r.1)) (sym at)
-    (found ws c.args.key c.seek-cursor.result.before c.seek-cursor.result.at kn se.before se.at there.0 (ap rank there.1))
-
-pub returns-else-cursor-clause-in_range : goal.returns-else-cursor-clause-in_range
-returns-else-cursor-clause-in_range g c =
-    let ws = g.W.PageWords.words c.args.page.now in let kn = known ws c.requires.tree in let se = c.seek-cursor.ensures in
-    let behind = rw se.same at c.index_behind.ensures.index in
+    let behind = rw se.still.same at c.index_behind.ensures.index in
     let e = is-place c.seek-cursor.result.steps c.index_behind.result ws (c.seek-cursor.result.slot - 1) c.args.key se.steps behind in
     let few = up_to-records ws c.args.key c.seek-cursor.result.before c.seek-cursor.result.at kn se.before se.at in
-    omega arith
-
-pub returns-else-cursor-clause-absent : goal.returns-else-cursor-clause-absent
-returns-else-cursor-clause-absent g c =
-    let ws = g.W.PageWords.words c.args.page.now in let kn = known ws c.requires.tree in let se = c.seek-cursor.ensures in
-    absent-at ws c.args.key c.seek-cursor.result.before c.seek-cursor.result.at kn se.before se.at (se.other c.if-cursor.false)
+    record {
+      place = e;
+      in_range = omega arith;
+      found = tt;
+      value = tt;
+      absent = absent-at ws c.args.key c.seek-cursor.result.before c.seek-cursor.result.at kn se.before se.at (se.other c.if-cursor.false);
+    }

@@ -13,7 +13,7 @@ value_word-requires-clause-in_page g c =
 pub returns-then-cursor-clause-value : goal.returns-then-cursor-clause-value
 returns-then-cursor-clause-value g c =
     let ws = g.W.PageWords.words c.args.page.now in let kn = known ws c.requires.tree in let se = c.seek-cursor.ensures in
-    let same = se.same in
+    let same = se.still.same in
     let there = se.found c.if-cursor.true in
     ap (λ n. Some n) (c.value_word.ensures.value ∙ ap (λ (xs : List ℕ). get_or xs (c.seek-cursor.result.at + 3) 0) same)
     ∙ sym (found ws c.args.key c.seek-cursor.result.before c.seek-cursor.result.at kn se.before se.at there.0 (ap rank there.1))

@@ -7,17 +7,17 @@ use Rattle.ib_heap.proofs.search.seek.Goals as goal
 pub loop-steps-init : goal.loop-steps-init
 loop-steps-init g c =
     let ws = g.W.PageWords.words c.args.page.now in
-    let first = c.slot_of-slot.ensures.same in
-    let second = c.owner-before.ensures.same ∙ first in
+    let first = c.slot_of-slot.ensures.still.same in
+    let second = c.owner-before.ensures.still.same ∙ first in
     let before = rw first at c.owner-before.ensures.place in
     let next = rw second at c.next_place-at.ensures.next in
     let some = c.slot_of-slot.ensures.some in
     let range = c.slot_of-slot.ensures.in_range in
     let all = g.met.W.PageWords.read_more in
     record {
-      same = c.next_place-at.ensures.same ∙ second;
-      can = c.next_place-at.ensures.can;
-      read = all _ _ _ c.slot_of-slot.ensures.read (all _ _ _ c.owner-before.ensures.read c.next_place-at.ensures.read);
+      same = c.next_place-at.ensures.still.same ∙ second;
+      can = c.next_place-at.ensures.still.can;
+      read = all _ _ _ c.slot_of-slot.ensures.still.read (all _ _ _ c.owner-before.ensures.still.read c.next_place-at.ensures.still.read);
       walk = walk-start ws c.args.key (c.slot_of-slot.result - 1) c.owner-before.result c.next_place-at.result (known ws c.requires.tree) c.slot_of-slot.ensures.low (before (omega arith)) next;
     }
 
@@ -45,16 +45,16 @@ returns-then-is_ge-clause-at g c =
 pub loop-steps-preserved : goal.loop-steps-preserved
 loop-steps-preserved g c =
     let ws = g.W.PageWords.words c.args.page.now in
-    let first = c.standing-order.ensures.same ∙ c.loop-steps.invariant.same in
+    let first = c.standing-order.ensures.still.same ∙ c.loop-steps.invariant.same in
     let order = rw c.loop-steps.invariant.same at c.standing-order.ensures.order in
     let lower = sym c.is_ge.ensures ∙ c.if-is_ge.false in
     let record_there = standing-record _ _ c.standing-order.ensures.supremum lower in
     let next = rw first at c.next_place-at-in-loop-steps.ensures.next in
     let all = g.met.W.PageWords.read_more in
     record {
-      same = c.next_place-at-in-loop-steps.ensures.same ∙ first;
-      can = c.next_place-at-in-loop-steps.ensures.can;
-      read = all _ _ _ c.loop-steps.invariant.read (all _ _ _ c.standing-order.ensures.read c.next_place-at-in-loop-steps.ensures.read);
+      same = c.next_place-at-in-loop-steps.ensures.still.same ∙ first;
+      can = c.next_place-at-in-loop-steps.ensures.still.can;
+      read = all _ _ _ c.loop-steps.invariant.read (all _ _ _ c.standing-order.ensures.still.read c.next_place-at-in-loop-steps.ensures.still.read);
       walk = walk-on ws c.args.key _ c.loop-steps.before c.loop-steps.at c.loop-steps.steps _ (known ws c.requires.tree) c.loop-steps.invariant.walk record_there (order-below _ _ _ (order record_there) (order-lt _ lower)) next;
     }
 

@@ -13,11 +13,11 @@ pub returns-in-None-clause-called : goal.returns-in-None-clause-called
 returns-in-None-clause-called g c =
     let sizes : Sizes = c.args.latches.now.sizes in let p : PassState = c.args.pass.now in let q : PassState = c.optimistic_delete.new.pass in let r : PassState = c.pessimistic_delete.new.pass in
     called-again sizes (IsKeptLog sizes.pages) (by_place opening sizes.pages) (IsShortFor c.args.key) c.args.key p q r (Delete c.args.key) c.pessimistic_delete.result
-    (λ h session one other reply place fits. fits) c.in-None.ensures.called c.pessimistic_delete.ensures.called
+    (λ h session one other reply place fits. fits) c.in-None.ensures.tried.called c.pessimistic_delete.ensures.changed.called
 
 pub returns-in-None-clause-grants : goal.returns-in-None-clause-grants
 returns-in-None-clause-grants g c =
     let sizes : Sizes = c.args.latches.now.sizes in let p : PassState = c.args.pass.now in let q : PassState = c.optimistic_delete.new.pass in let r : PassState = c.pessimistic_delete.new.pass in
-    let called = c.pessimistic_delete.ensures.called in
+    let called = c.pessimistic_delete.ensures.changed.called in
     few-again sizes (IsKeptLog sizes.pages) (by_place opening sizes.pages) (IsShortFor c.args.key) c.args.key p q r c.pessimistic_delete.result.reply
-    c.in-None.ensures.called c.in-None.ensures.grants c.pessimistic_delete.ensures.grants called.more called.seen
+    c.in-None.ensures.tried.called c.in-None.ensures.tried.grants c.pessimistic_delete.ensures.changed.grants called.more called.seen

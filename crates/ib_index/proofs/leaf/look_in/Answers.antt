@@ -19,29 +19,29 @@ pub get-requires : goal.get-requires
 get-requires c =
     let p = c.args.mtr.now.pass.now in let sizes = c.args.mtr.now.latches.now.sizes in
     let got = subst (λ o. MatchOption o (changed_of c.args.leaf p.work ≡ None) (λ image. changed_of c.args.leaf p.work ≡ Some image.now)) c.unwrap-image.ensures c.image.ensures in
-    let same = image-got sizes c.requires.seated.fits c.args.key c.args.leaf p c.requires.at c.unwrap-image.result.now got in
-    subst IsTreePage (sym same) (leaf-tree sizes c.requires.seated.fits c.args.key c.args.leaf p c.requires.at)
+    let same = image-got sizes c.requires.on.seated.fits c.args.key c.args.leaf p c.requires.on.at c.unwrap-image.result.now got in
+    subst IsTreePage (sym same) (leaf-tree sizes c.requires.on.seated.fits c.args.key c.args.leaf p c.requires.on.at)
 
 pub len-requires : goal.len-requires
 len-requires c =
     let p = c.args.mtr.now.pass.now in let sizes = c.args.mtr.now.latches.now.sizes in
     let got = subst (λ o. MatchOption o (changed_of c.args.leaf p.work ≡ None) (λ image. changed_of c.args.leaf p.work ≡ Some image.now)) c.unwrap-image.ensures c.image.ensures in
-    let same = image-got sizes c.requires.seated.fits c.args.key c.args.leaf p c.requires.at c.unwrap-image.result.now got in
-    let tree = subst IsTreePage (sym same) (leaf-tree sizes c.requires.seated.fits c.args.key c.args.leaf p c.requires.at) in
+    let same = image-got sizes c.requires.on.seated.fits c.args.key c.args.leaf p c.requires.on.at c.unwrap-image.result.now got in
+    let tree = subst IsTreePage (sym same) (leaf-tree sizes c.requires.on.seated.fits c.args.key c.args.leaf p c.requires.on.at) in
     formed (page_of c.unwrap-image.result.now) tree
 
 pub returns-clause-value : goal.returns-clause-value
 returns-clause-value c =
     let p = c.args.mtr.now.pass.now in let sizes = c.args.mtr.now.latches.now.sizes in
     let got = subst (λ o. MatchOption o (changed_of c.args.leaf p.work ≡ None) (λ image. changed_of c.args.leaf p.work ≡ Some image.now)) c.unwrap-image.ensures c.image.ensures in
-    let same = image-got sizes c.requires.seated.fits c.args.key c.args.leaf p c.requires.at c.unwrap-image.result.now got in
+    let same = image-got sizes c.requires.on.seated.fits c.args.key c.args.leaf p c.requires.on.at c.unwrap-image.result.now got in
     c.get.ensures ∙ (ap (λ (ws : List ℕ). value_at c.args.key (records_of ws)) same
-    ∙ ap (value_at c.args.key) (records-are sizes c.requires.seated.fits c.args.key c.args.leaf p c.requires.at))
+    ∙ ap (value_at c.args.key) (records-are sizes c.requires.on.seated.fits c.args.key c.args.leaf p c.requires.on.at))
 
 pub returns-clause-count : goal.returns-clause-count
 returns-clause-count c =
     let p = c.args.mtr.now.pass.now in let sizes = c.args.mtr.now.latches.now.sizes in
     let got = subst (λ o. MatchOption o (changed_of c.args.leaf p.work ≡ None) (λ image. changed_of c.args.leaf p.work ≡ Some image.now)) c.unwrap-image.ensures c.image.ensures in
-    let same = image-got sizes c.requires.seated.fits c.args.key c.args.leaf p c.requires.at c.unwrap-image.result.now got in
+    let same = image-got sizes c.requires.on.seated.fits c.args.key c.args.leaf p c.requires.on.at c.unwrap-image.result.now got in
     c.len.ensures.count ∙ (ap (λ (ws : List ℕ). length (records_of ws)) same
-    ∙ ap length (records-are sizes c.requires.seated.fits c.args.key c.args.leaf p c.requires.at))
+    ∙ ap length (records-are sizes c.requires.on.seated.fits c.args.key c.args.leaf p c.requires.on.at))

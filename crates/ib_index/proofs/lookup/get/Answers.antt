@@ -15,7 +15,7 @@ returns-clause-looked_up g c =
     let first = ap (λ m. m.now.sizes) c.start-mtr.ensures.latches in
     let found = subst (λ (k : Sizes). HasFound k (g.L.Law.lawful k.pages) (by_place g.L.Law.opening k.pages) 1 c.args.key c.find-value.result c.start-mtr.result.pass.now q) first c.find-value.ensures.found in
     let looked = subst (λ (k : Sizes). (p : PassState) → HasFound k (g.L.Law.lawful k.pages) (by_place g.L.Law.opening k.pages) 1 c.args.key c.find-value.result p q
-    → HasLookedUp k (g.L.Law.lawful k.pages) (by_place g.L.Law.opening k.pages) c.args.key c.look_up.result p r) (ap (λ m. m.now.sizes) c.find-value.ensures.latches ∙ first) c.look_up.ensures.looked_up in
+    → HasLookedUp k (g.L.Law.lawful k.pages) (by_place g.L.Law.opening k.pages) c.args.key c.look_up.result p r) (ap (λ m. m.now.sizes) c.find-value.ensures.still.latches ∙ first) c.look_up.ensures.looked_up in
     subst (HasLookedUp sizes (g.L.Law.lawful sizes.pages) (by_place g.L.Law.opening sizes.pages) c.args.key c.look_up.result p) (search rules)
     (from_start sizes (g.L.Law.lawful sizes.pages) (by_place g.L.Law.opening sizes.pages) c.args.key c.look_up.result p r
     (subst (λ (s : PassState). HasLookedUp sizes (g.L.Law.lawful sizes.pages) (by_place g.L.Law.opening sizes.pages) c.args.key c.look_up.result s r) c.start-mtr.ensures.started (looked c.start-mtr.result.pass.now found)))

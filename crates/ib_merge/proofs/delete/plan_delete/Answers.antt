@@ -5,9 +5,9 @@ use Rattle.ib_map.specs.Pairs.{value_at}
 use Rattle.ib_page.specs.Form.{page_of}
 use Rattle.ib_page.specs.Image.{IsTreePage, records_of}
 use Rattle.ib_page.specs.Work.{WorkPage, changed_of}
-use Rattle.ib_plans.specs.Agreement.{state_or_free, memory_in, last_of}
+use Rattle.ib_plans.specs.Agreement.{SetsBits, state_or_free, memory_in, last_of}
 use Rattle.ib_plans.proofs.EditLaws.{state-records, there-is}
-use Rattle.ib_merge.specs.Deletes.{CanDelete, IsDeleteClimbedForAll, MayGivePages, GivesPages}
+use Rattle.ib_merge.specs.Deletes.{CanDelete, IsDeleteClimbedForAll, MayGivePages}
 use Rattle.ib_merge.proofs.ClimbLaws.{path-some, path-tree}
 use Rattle.ib_merge.proofs.FinishLaws.{may-give, given-reads, planned-all}
 use Rattle.ib_plans.proofs.PathListLaws.{last_of-at}
@@ -55,7 +55,7 @@ returns-clause-planned c pages roots root memory bits a =
     planned-all c.args.path.now c.args.key c.args.work.now c.requires c.climb-freed.result c.climb-freed.new.work
     (subst (λ (ps : List ℕ). IsDeleteClimbedForAll ps c.args.key c.climb-freed.result c.args.work.now c.climb-freed.new.work) c.pages-2.ensures.pages c.climb-freed.ensures)
     c.give_pages.new.work (λ z. c.give_pages.ensures.none (c.pages-3.ensures.pages ∙ z))
-    (λ some. subst (λ (ps : List ℕ). GivesPages ps c.climb-freed.new.work c.give_pages.new.work) c.pages-3.ensures.pages (c.give_pages.ensures.given (λ z. some (sym c.pages-3.ensures.pages ∙ z))))
+    (λ some. subst (λ (ps : List ℕ). SetsBits 0 ps c.climb-freed.new.work c.give_pages.new.work) c.pages-3.ensures.pages (c.give_pages.ensures.given (λ z. some (sym c.pages-3.ensures.pages ∙ z))))
     pages roots root memory bits a
 
 pub returns-clause-reads : goal.returns-clause-reads
@@ -63,7 +63,7 @@ returns-clause-reads c =
     given-reads c.args.path.now c.args.key c.args.work.now c.requires c.climb-freed.result c.climb-freed.new.work
     (subst (λ (ps : List ℕ). IsDeleteClimbedForAll ps c.args.key c.climb-freed.result c.args.work.now c.climb-freed.new.work) c.pages-2.ensures.pages c.climb-freed.ensures)
     c.give_pages.new.work (λ z. c.give_pages.ensures.none (c.pages-3.ensures.pages ∙ z))
-    (λ some. subst (λ (ps : List ℕ). GivesPages ps c.climb-freed.new.work c.give_pages.new.work) c.pages-3.ensures.pages (c.give_pages.ensures.given (λ z. some (sym c.pages-3.ensures.pages ∙ z))))
+    (λ some. subst (λ (ps : List ℕ). SetsBits 0 ps c.climb-freed.new.work c.give_pages.new.work) c.pages-3.ensures.pages (c.give_pages.ensures.given (λ z. some (sym c.pages-3.ensures.pages ∙ z))))
 
 pub returns-clause-missing : goal.returns-clause-missing
 returns-clause-missing c =

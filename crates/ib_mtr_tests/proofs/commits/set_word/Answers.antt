@@ -1,6 +1,9 @@
 -- With another changed image it is a mini-transaction.
+use Rattle.std.proofs.Common.{refl}
 use Rattle.ib_mtr.proofs.Looking.{edited_mtr}
 use Rattle.ib_mtr_tests.proofs.commits.set_word.Goals as goal
 
-pub returns-clause-mtr : goal.returns-clause-mtr
-returns-clause-mtr g c = edited_mtr c.args.mtr.now.latches.now c.args.mtr.now.pass.now c.args.page c.set_word.new.self c.requires.mtr
+pub returns : goal.returns
+returns g c = record {
+  still = record { mtr = edited_mtr c.args.mtr.now.latches.now c.args.mtr.now.pass.now c.args.page c.set_word.new.self c.requires.mtr; latches = refl; pass = refl };
+}

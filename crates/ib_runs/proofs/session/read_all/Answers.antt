@@ -1,4 +1,4 @@
-use Rattle.std.proofs.Common.{◌∙◌, subst, arith, inr}
+use Rattle.std.proofs.Common.{◌∙◌, sym, subst, arith, inr}
 use Rattle.ib_logrec.specs.Log.{by_place}
 use Rattle.ib_tree.specs.TreeLog.{opening}
 use Rattle.ib_planned_log.specs.Kept.{IsKeptLog}
@@ -8,12 +8,15 @@ use Rattle.ib_scan.specs.Scanning.{HasScanned, HasStopped}
 use Rattle.ib_runs.proofs.ReadLaws.{reserved_by, so_far_more, so_far_all, so_far_room}
 use Rattle.ib_runs.proofs.session.read_all.Goals as goal
 
-pub scan-requires-clause-room : goal.scan-requires-clause-room
-scan-requires-clause-room g c =
+pub scan-requires-clause-may : goal.scan-requires-clause-may
+scan-requires-clause-may g c =
     let i = c.loop-pass.invariant in
     let r = reserved_by c.loop-pass.chunks c.reserve.new.self i.room c.in_ok-reserve.ensures.reserved in
-    so_far_room c.args.index.now.sizes c.laws_of.ensures c.args.low c.args.high i.ascends c.args.chunks.now c.args.pass.now c.loop-pass.next c.loop-pass.chunks c.reserve.new.self c.loop-pass.pass
-    i.so_far r.chunk_room c.requires.few
+    record {
+      rest = subst (λ (s : SpaceState). IsAtRest s c.loop-pass.pass) (sym c.latches.ensures) i.rest;
+      room = so_far_room c.args.index.now.sizes c.laws_of.ensures c.args.low c.args.high i.ascends c.args.chunks.now c.args.pass.now c.loop-pass.next c.loop-pass.chunks c.reserve.new.self c.loop-pass.pass
+          i.so_far r.chunk_room c.requires.may.few;
+    }
 
 pub returns-in-Ok-clause-read : goal.returns-in-Ok-clause-read
 returns-in-Ok-clause-read g c =

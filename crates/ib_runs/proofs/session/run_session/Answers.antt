@@ -26,10 +26,16 @@ loop-call-init g c =
       number = refl;
     }
 
-pub answer-requires-clause-few : goal.answer-requires-clause-few
-answer-requires-clause-few g c =
-    let taken = c.loop-call.invariant.answered.grants in let none = ap total c.requires.no_grants in
-    grants_fit c.args.commands.now c.loop-call.call-index (total c.loop-call.pass.view.grants) c.requires.few (omega arith)
+pub answer-requires-clause-may : goal.answer-requires-clause-may
+answer-requires-clause-may g c =
+    let i = c.loop-call.invariant in
+    let taken = i.answered.grants in let none = ap total c.requires.no_grants in
+    record {
+      rest = i.rest;
+      known = i.answered.known;
+      few = grants_fit c.args.commands.now c.loop-call.call-index (total c.loop-call.pass.view.grants) c.requires.few (omega arith);
+      room = i.room;
+    }
 
 pub loop-call-preserved : goal.loop-call-preserved
 loop-call-preserved g c =
@@ -44,11 +50,11 @@ loop-call-preserved g c =
     let more = answered_more sizes call a.r c.args.pass.now c.loop-call.pass c.answer.new.pass a.answered (take at calls) (answers_of c.loop-call.out) a.least a.grants i.answered in
     let next : take at calls ++ call ∷ [] ≡ take (at + 1) calls = sym (take_more calls at item c.loop-call-test.true) in
     record {
-      rest = c.answer.ensures.rest;
-      same = c.answer.ensures.number ∙ i.same;
+      rest = c.answer.ensures.still.rest;
+      same = c.answer.ensures.still.number ∙ i.same;
       answered = subst (λ (rs : List FullRecord). HasAnswered sizes (take (at + 1) calls) rs c.args.pass.now c.answer.new.pass) (sym a.answers)
           (subst (λ (ks : List Call). HasAnswered sizes ks (answers_of c.loop-call.out ++ a.r ∷ []) c.args.pass.now c.answer.new.pass) next more);
       whole = a.whole;
-      room = c.answer.ensures.room;
+      room = c.answer.ensures.still.room;
       number = let n = i.number in omega arith;
     }

@@ -16,14 +16,14 @@ pub scan_from-stop-requires-clause-begins : goal.scan_from-stop-requires-clause-
 scan_from-stop-requires-clause-begins g c =
     let sizes : Sizes = c.args.latches.now.sizes in let p : PassState = c.args.pass.now in let q : PassState = c.descend_at-path.new.mtr.pass.now in
     let first = ap (λ l. l.now.sizes) c.start-mtr.ensures.latches in
-    let same = ap (λ m. m.now.sizes) c.descend_at-path.ensures.latches ∙ first in
+    let same = ap (λ m. m.now.sizes) c.descend_at-path.ensures.still.latches ∙ first in
     let laws = subst (λ (k : Sizes). Laws k.pages g.L.Trees.ROOTS (g.L.Law.lawful k.pages) (by_place g.L.Law.opening k.pages)) first c.trees_of.ensures.laws in
     let on = subst (λ (k : Sizes). HasDescended k (g.L.Law.lawful k.pages) (by_place g.L.Law.opening k.pages) c.args.sought.root c.args.sought.low false c.descend_at-path.result c.start-mtr.result.pass.now q) first c.descend_at-path.ensures.descended in
     let d = subst (λ (s : PassState). HasDescended sizes (g.L.Law.lawful sizes.pages) (by_place g.L.Law.opening sizes.pages) c.args.sought.root c.args.sought.low false c.descend_at-path.result s q) c.start-mtr.ensures.started on in
-    let at = begins sizes g.L.Trees.ROOTS (g.L.Law.lawful sizes.pages) (by_place g.L.Law.opening sizes.pages) laws c.args.sought.root c.requires.some c.requires.root c.args.sought.low c.args.sought.high c.requires.key c.requires.ascends
-    c.args.out.now c.descend_at-path.result (started p) q d c.requires.room in
-    let last = ap (λ ps. get_or ps (c.len.result - 1) 0) c.pages.ensures.pages ∙ path_last c.descend_at-path.result d.come.front d.come.leaf c.len.result d.come.ends c.len.ensures.count in
-    let there = subst (λ (k : Sizes). IsScannedTo k (g.L.Law.lawful k.pages) (by_place g.L.Law.opening k.pages) g.L.Trees.ROOTS c.args.sought.root d.come.leaf c.args.sought.low c.args.sought.low c.args.sought.high c.args.out.now c.args.out.now q q) (sym same) at in
+    let at = begins sizes g.L.Trees.ROOTS (g.L.Law.lawful sizes.pages) (by_place g.L.Law.opening sizes.pages) laws c.args.sought.root c.requires.sought.some c.requires.sought.there c.args.sought.low c.args.sought.high c.requires.sought.is_key c.requires.ascends
+    c.args.out.now c.descend_at-path.result (started p) q d c.requires.may.room in
+    let last = ap (λ ps. get_or ps (c.len.result - 1) 0) c.pages.ensures.pages ∙ path_last c.descend_at-path.result d.reached.front d.reached.leaf c.len.result d.reached.ends c.len.ensures.count in
+    let there = subst (λ (k : Sizes). IsScannedTo k (g.L.Law.lawful k.pages) (by_place g.L.Law.opening k.pages) g.L.Trees.ROOTS c.args.sought.root d.reached.leaf c.args.sought.low c.args.sought.low c.args.sought.high c.args.out.now c.args.out.now q q) (sym same) at in
     let now : Sizes = c.descend_at-path.new.mtr.latches.now.sizes in
     subst (λ (n : ℕ). IsScannedTo now (g.L.Law.lawful now.pages) (by_place g.L.Law.opening now.pages) g.L.Trees.ROOTS c.args.sought.root n c.args.sought.low c.args.sought.low c.args.sought.high c.args.out.now c.args.out.now q q) (sym last) there
 
@@ -32,7 +32,7 @@ returns-clause-scanned g c =
     let sizes : Sizes = c.args.latches.now.sizes in let p : PassState = c.args.pass.now in let q : PassState = c.descend_at-path.new.mtr.pass.now in
     let r : PassState = c.scan_from-stop.new.mtr.pass.now in let s : PassState = c.release_at.new.self.pass.now in
     let first = ap (λ l. l.now.sizes) c.start-mtr.ensures.latches in
-    let same = ap (λ m. m.now.sizes) c.descend_at-path.ensures.latches ∙ first in
+    let same = ap (λ m. m.now.sizes) c.descend_at-path.ensures.still.latches ∙ first in
     let on = subst (λ (k : Sizes). HasDescended k (g.L.Law.lawful k.pages) (by_place g.L.Law.opening k.pages) c.args.sought.root c.args.sought.low false c.descend_at-path.result c.start-mtr.result.pass.now q) first c.descend_at-path.ensures.descended in
     let d = subst (λ (o : PassState). HasDescended sizes (g.L.Law.lawful sizes.pages) (by_place g.L.Law.opening sizes.pages) c.args.sought.root c.args.sought.low false c.descend_at-path.result o q) c.start-mtr.ensures.started on in
     let ran = subst (λ (k : Sizes). MatchOption c.scan_from-stop.result

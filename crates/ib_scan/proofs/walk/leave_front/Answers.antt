@@ -20,9 +20,9 @@ loop-preserved g c =
     let h = c.requires.front in
     let step = front_step n h.leaf h.image p q (subst (λ (k : ℕ). HasFront k h.leaf h.image p) e (c.loop.invariant.left h)) c.release_at.ensures.released in
     record {
-      mtr = c.release_at.ensures.mtr;
-      latches = c.release_at.ensures.latches ∙ c.loop.invariant.latches;
-      pass = c.release_at.ensures.pass ∙ c.loop.invariant.pass;
+      mtr = c.release_at.ensures.still.mtr;
+      latches = c.release_at.ensures.still.latches ∙ c.loop.invariant.latches;
+      pass = c.release_at.ensures.still.pass ∙ c.loop.invariant.pass;
       few = omega arith;
       left = λ k. (front_step n k.leaf k.image p q (subst (λ (m : ℕ). HasFront m k.leaf k.image p) e (c.loop.invariant.left k)) c.release_at.ensures.released).front;
       aside = aside_both c.args.mtr.now.pass.now p q c.loop.invariant.aside step.aside;

@@ -12,7 +12,7 @@ use Rattle.ib_plans.specs.Insert.{planned_insert}
 use Rattle.ib_plans.specs.Moves.{Puts, HasMoved}
 use Rattle.ib_plans.specs.Agreement.{memory_in, Sets, tick}
 use Rattle.ib_split.specs.Inserts.{CanPut, with_record, IsInsertClimbed}
-use Rattle.ib_split.proofs.WayLaws.{path-length, path-page, path-at}
+use Rattle.ib_split.proofs.OnPathLaws.{path-length, path-page, path-at}
 use Rattle.ib_split.proofs.Pending.{IsPending, IsPending-leaf}
 use Rattle.ib_split.proofs.Climbing.{tree-at, put-can, put-done, fresh-few, split-can, split-done, fresh-two, raise-can, raise-done}
 use Rattle.ib_split.proofs.insert.climb.Goals as goal

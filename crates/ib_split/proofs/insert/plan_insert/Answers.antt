@@ -6,8 +6,8 @@ use Rattle.ib_map.specs.Keys.{MapKey}
 use Rattle.ib_map.specs.Pairs.{value_at}
 use Rattle.ib_page.specs.Work.{WorkPage}
 use Rattle.ib_walk.specs.Full.{need_of, chosen}
-use Rattle.ib_plans.specs.Agreement.{memory_in, reads_of, last_of}
-use Rattle.ib_split.specs.Inserts.{CanInsert, IsInsertClimbedForAll, IsPlannedInsertForAll, MayTakePages, TakesPages}
+use Rattle.ib_plans.specs.Agreement.{SetsBits, memory_in, reads_of, last_of}
+use Rattle.ib_split.specs.Inserts.{CanInsert, IsInsertClimbedForAll, IsPlannedInsertForAll, MayTakePages}
 use Rattle.ib_split.proofs.Climbing.{has-room}
 use Rattle.ib_split.proofs.Planning.{AreFresh-take, chosen-below, planned-alone, may-take, planned-taken}
 use Rattle.ib_split.proofs.insert.plan_insert.Goals as goal
@@ -33,7 +33,7 @@ module _ (path fresh : List ℕ) (key : MapKey) (value used : ℕ) (old mid : Li
       (below can.pages can.bits (need_of can.memory key can.root) can.fits.chosen_are) (let c = count in omega arith)
       (can.images.space_there (omega arith)) (AreFresh-take used fresh can.bits x.free) can.clocks.1
 
-  taken : 0 < used → (new : List WorkPage) → TakesPages (take used fresh) mid new → IsPlannedInsertForAll path fresh key value old new
+  taken : 0 < used → (new : List WorkPage) → SetsBits 1 (take used fresh) mid new → IsPlannedInsertForAll path fresh key value old new
   taken some new takes pages roots root m bits agrees fits =
       planned-taken pages agrees.few (take used fresh) m _ bits _ _ _ old mid (climbed pages roots root m bits agrees fits) agrees.space
       (below pages bits (need_of m key root) fits.chosen_are) (let c = count in omega arith) new takes
@@ -41,7 +41,7 @@ module _ (path fresh : List ℕ) (key : MapKey) (value used : ℕ) (old mid : Li
   reads-alone : used ≡ 0 → reads_of mid ≡ reads_of old
   reads-alone none = (alone none can.pages can.roots can.root can.memory can.bits can.agrees can.fits).reads
 
-  reads-taken : 0 < used → (new : List WorkPage) → TakesPages (take used fresh) mid new → reads_of new ≡ reads_of old
+  reads-taken : 0 < used → (new : List WorkPage) → SetsBits 1 (take used fresh) mid new → reads_of new ≡ reads_of old
   reads-taken some new takes = (taken some new takes can.pages can.roots can.root can.memory can.bits can.agrees can.fits).reads
 
 -- the climb is along the path and over the fresh pages
@@ -66,14 +66,14 @@ returns-then-used-gt0-clause-planned c =
     let climbed = climb-of c.args.path.now c.pages-2.result.now c.args.fresh.now c.pages-3.result.now c.args.key c.args.value c.climb-used.result c.args.work.now c.climb-used.new.work c.pages-2.ensures.pages c.pages-3.ensures.pages c.climb-used.ensures.climbed in
     let few : c.climb-used.result ≤ length c.args.fresh.now = let u = c.climb-used.ensures.used in let e = ap length c.pages-3.ensures.pages in omega arith in
     taken c.args.path.now c.args.fresh.now c.args.key c.args.value c.climb-used.result c.args.work.now c.climb-used.new.work c.requires climbed few c.if-used-gt0.true c.take_pages.new.work
-    (subst (λ xs. TakesPages (take c.climb-used.result xs) c.climb-used.new.work c.take_pages.new.work) c.pages-then-used-gt0.ensures.pages c.take_pages.ensures)
+    (subst (λ xs. SetsBits 1 (take c.climb-used.result xs) c.climb-used.new.work c.take_pages.new.work) c.pages-then-used-gt0.ensures.pages c.take_pages.ensures)
 
 pub returns-then-used-gt0-clause-reads : goal.returns-then-used-gt0-clause-reads
 returns-then-used-gt0-clause-reads c =
     let climbed = climb-of c.args.path.now c.pages-2.result.now c.args.fresh.now c.pages-3.result.now c.args.key c.args.value c.climb-used.result c.args.work.now c.climb-used.new.work c.pages-2.ensures.pages c.pages-3.ensures.pages c.climb-used.ensures.climbed in
     let few : c.climb-used.result ≤ length c.args.fresh.now = let u = c.climb-used.ensures.used in let e = ap length c.pages-3.ensures.pages in omega arith in
     reads-taken c.args.path.now c.args.fresh.now c.args.key c.args.value c.climb-used.result c.args.work.now c.climb-used.new.work c.requires climbed few c.if-used-gt0.true c.take_pages.new.work
-    (subst (λ xs. TakesPages (take c.climb-used.result xs) c.climb-used.new.work c.take_pages.new.work) c.pages-then-used-gt0.ensures.pages c.take_pages.ensures)
+    (subst (λ xs. SetsBits 1 (take c.climb-used.result xs) c.climb-used.new.work c.take_pages.new.work) c.pages-then-used-gt0.ensures.pages c.take_pages.ensures)
 
 pub returns-else-used-gt0-clause-planned : goal.returns-else-used-gt0-clause-planned
 returns-else-used-gt0-clause-planned c =

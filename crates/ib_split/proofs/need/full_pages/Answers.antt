@@ -1,7 +1,7 @@
 -- One page more of the path, from its end.
 use Rattle.std.proofs.Common.{◌∙◌, sym, arith}
 use Rattle.ib_plans.specs.Agreement.{memory_in}
-use Rattle.ib_split.proofs.WayLaws.{full_run-at}
+use Rattle.ib_split.proofs.OnPathLaws.{full_run-at}
 use Rattle.ib_split.proofs.need.full_pages.Goals as goal
 
 pub returns-then-not-is_full-clause-run : goal.returns-then-not-is_full-clause-run

@@ -8,7 +8,7 @@ use Rattle.ib_walk.specs.Pages.{PageMemory}
 use Rattle.ib_walk.specs.Trees.{height_of}
 use Rattle.ib_map.specs.Keys.{MapKey}
 use Rattle.ib_plans.specs.Agreement.{memory_in}
-use Rattle.ib_split.proofs.WayLaws.{path-length, full_run-path}
+use Rattle.ib_split.proofs.OnPathLaws.{path-length, full_run-path}
 use Rattle.ib_split.proofs.need.pages_needed.Goals as goal
 
 -- how a need follows from the run

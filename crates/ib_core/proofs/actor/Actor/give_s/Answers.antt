@@ -7,14 +7,20 @@ use Rattle.ib_core.proofs.Weighs.{read_weighs}
 use Rattle.ib_core.proofs.OnLatch.{weighs}
 use Rattle.ib_core.proofs.actor.Actor.give_s.Goals as goal
 
-pub returns-then-is_drained-clause-weighs : goal.returns-then-is_drained-clause-weighs
-returns-then-is_drained-clause-weighs c =
-    let all = read_weighs c.args.latch.0 (session_of c.args.self.now) c.requires.can.proper (omega arith) in
-    let gone = on-without c.args.latch.0 weighs c.args.self.now.held.items in
-    rw c.give_up.ensures.items (omega (arith, ints))
+pub returns-then-is_drained-clause-moves : goal.returns-then-is_drained-clause-moves
+returns-then-is_drained-clause-moves c = record {
+  weighs =
+      let all = read_weighs c.args.latch.0 (session_of c.args.self.now) c.requires.can.proper (omega arith) in
+      let gone = on-without c.args.latch.0 weighs c.args.self.now.held.items in
+      rw c.give_up.ensures.items (omega (arith, ints));
+  capacity = omega arith;
+}
 
-pub returns-else-is_drained-clause-weighs : goal.returns-else-is_drained-clause-weighs
-returns-else-is_drained-clause-weighs c =
-    let all = read_weighs c.args.latch.0 (session_of c.args.self.now) c.requires.can.proper (omega arith) in
-    let gone = on-without c.args.latch.0 weighs c.args.self.now.held.items in
-    rw c.give_up.ensures.items (omega (arith, ints))
+pub returns-else-is_drained-clause-moves : goal.returns-else-is_drained-clause-moves
+returns-else-is_drained-clause-moves c = record {
+  weighs =
+      let all = read_weighs c.args.latch.0 (session_of c.args.self.now) c.requires.can.proper (omega arith) in
+      let gone = on-without c.args.latch.0 weighs c.args.self.now.held.items in
+      rw c.give_up.ensures.items (omega (arith, ints));
+  capacity = omega arith;
+}

@@ -9,18 +9,24 @@ use Rattle.ib_core.proofs.Weighs.{back_last_sx_taken, back_more_sx_taken, sum_mo
 use Rattle.ib_core.proofs.actor.Actor.give_sx.Goals as goal
 use Rattle.ib_core.proofs.actor.Actor.give_sx.Goals.{then-mine-eq1, else-mine-eq1}
 
-pub returns-then-mine-eq1-2-clause-weighs : goal.returns-then-mine-eq1-2-clause-weighs
-returns-then-mine-eq1-2-clause-weighs c =
-    let proper = c.requires.can.proper in
-    elim c.if-mine-eq1.branch [
-      | then-mine-eq1 w ↦ let at = ap (λ (k : LockWord). k.0) w.word-is in let t = back_last_sx_taken c.args.latch.0 (session_of c.args.self.now) proper (omega arith) in sum_moves c.args.latch.0 c.args.word.now.0 (session_of c.args.self.now) _ _ (given_back Sx c.args.latch.0 (session_of c.args.self.now)) c.give_back.ensures.held (omega (arith, ints))
-      | else-mine-eq1 w ↦ let at = ap (λ (k : LockWord). k.0) w.word-is in let t = back_more_sx_taken c.args.latch.0 (session_of c.args.self.now) proper (omega arith) in sum_moves c.args.latch.0 c.args.word.now.0 (session_of c.args.self.now) _ _ (given_back Sx c.args.latch.0 (session_of c.args.self.now)) c.give_back.ensures.held (omega (arith, ints))
-    ]
+pub returns-then-mine-eq1-2-clause-moves : goal.returns-then-mine-eq1-2-clause-moves
+returns-then-mine-eq1-2-clause-moves c = record {
+  weighs =
+      let proper = c.requires.can.proper in
+      elim c.if-mine-eq1.branch [
+        | then-mine-eq1 w ↦ let at = ap (λ (k : LockWord). k.0) w.word-is in let t = back_last_sx_taken c.args.latch.0 (session_of c.args.self.now) proper (omega arith) in sum_moves c.args.latch.0 c.args.word.now.0 (session_of c.args.self.now) _ _ (given_back Sx c.args.latch.0 (session_of c.args.self.now)) c.give_back.ensures.held (omega (arith, ints))
+        | else-mine-eq1 w ↦ let at = ap (λ (k : LockWord). k.0) w.word-is in let t = back_more_sx_taken c.args.latch.0 (session_of c.args.self.now) proper (omega arith) in sum_moves c.args.latch.0 c.args.word.now.0 (session_of c.args.self.now) _ _ (given_back Sx c.args.latch.0 (session_of c.args.self.now)) c.give_back.ensures.held (omega (arith, ints))
+      ];
+  capacity = c.give_back.ensures.capacity;
+}
 
-pub returns-else-mine-eq1-2-clause-weighs : goal.returns-else-mine-eq1-2-clause-weighs
-returns-else-mine-eq1-2-clause-weighs c =
-    let proper = c.requires.can.proper in
-    elim c.if-mine-eq1.branch [
-      | then-mine-eq1 w ↦ let at = ap (λ (k : LockWord). k.0) w.word-is in let t = back_last_sx_taken c.args.latch.0 (session_of c.args.self.now) proper (omega arith) in sum_moves c.args.latch.0 c.args.word.now.0 (session_of c.args.self.now) _ _ (given_back Sx c.args.latch.0 (session_of c.args.self.now)) c.give_back.ensures.held (omega (arith, ints))
-      | else-mine-eq1 w ↦ let at = ap (λ (k : LockWord). k.0) w.word-is in let t = back_more_sx_taken c.args.latch.0 (session_of c.args.self.now) proper (omega arith) in sum_moves c.args.latch.0 c.args.word.now.0 (session_of c.args.self.now) _ _ (given_back Sx c.args.latch.0 (session_of c.args.self.now)) c.give_back.ensures.held (omega (arith, ints))
-    ]
+pub returns-else-mine-eq1-2-clause-moves : goal.returns-else-mine-eq1-2-clause-moves
+returns-else-mine-eq1-2-clause-moves c = record {
+  weighs =
+      let proper = c.requires.can.proper in
+      elim c.if-mine-eq1.branch [
+        | then-mine-eq1 w ↦ let at = ap (λ (k : LockWord). k.0) w.word-is in let t = back_last_sx_taken c.args.latch.0 (session_of c.args.self.now) proper (omega arith) in sum_moves c.args.latch.0 c.args.word.now.0 (session_of c.args.self.now) _ _ (given_back Sx c.args.latch.0 (session_of c.args.self.now)) c.give_back.ensures.held (omega (arith, ints))
+        | else-mine-eq1 w ↦ let at = ap (λ (k : LockWord). k.0) w.word-is in let t = back_more_sx_taken c.args.latch.0 (session_of c.args.self.now) proper (omega arith) in sum_moves c.args.latch.0 c.args.word.now.0 (session_of c.args.self.now) _ _ (given_back Sx c.args.latch.0 (session_of c.args.self.now)) c.give_back.ensures.held (omega (arith, ints))
+      ];
+  capacity = c.give_back.ensures.capacity;
+}

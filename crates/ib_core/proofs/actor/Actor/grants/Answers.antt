@@ -4,13 +4,10 @@ use Rattle.ib_core.specs.Actor.{session_of}
 use Rattle.ib_core.proofs.OnLatch.{counted}
 use Rattle.ib_core.proofs.actor.Actor.grants.Goals as goal
 
-pub returns-clause-claims : goal.returns-clause-claims
-returns-clause-claims c =
-    let k = counted c.args.latch.0 (session_of c.args.self.now) c.requires in
-    let sx = rw c.as_slice.ensures.value at c.grants_on.ensures.sx in let x = rw c.as_slice.ensures.value at c.grants_on.ensures.x in omega arith
-
-pub returns-clause-all : goal.returns-clause-all
-returns-clause-all c =
+pub returns : goal.returns
+returns c =
     let k = counted c.args.latch.0 (session_of c.args.self.now) c.requires in
     let s = rw c.as_slice.ensures.value at c.grants_on.ensures.s in
-    let sx = rw c.as_slice.ensures.value at c.grants_on.ensures.sx in let x = rw c.as_slice.ensures.value at c.grants_on.ensures.x in omega arith
+    let sx = rw c.as_slice.ensures.value at c.grants_on.ensures.sx in
+    let x = rw c.as_slice.ensures.value at c.grants_on.ensures.x in
+    record { s = s; sx = sx; x = x; claims = omega arith; all = omega arith }

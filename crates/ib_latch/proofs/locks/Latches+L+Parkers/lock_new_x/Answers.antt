@@ -1,6 +1,7 @@
-use Rattle.ib_core.specs.declared.phase.Phase.TheVariants.{Free}
-use Rattle.ib_latch.proofs.Stills.{taken_still}
+use Rattle.ib_latch.proofs.Stills.{locked_still}
 use Rattle.ib_latch.proofs.locks.Latches+L+Parkers.lock_new_x.Goals as goal
 
-pub returns-clause-taken : goal.returns-clause-taken
-returns-clause-taken g c = taken_still Free _ _ _ c.args.pass.now c.lock_first.new.pass c.own_x.new.pass c.lock_first.ensures.won.taken c.own_x.ensures.still
+pub returns-clause-locked : goal.returns-clause-locked
+returns-clause-locked g c =
+    let won = c.lock_first.ensures.won in
+    locked_still _ c.args.latch.0 _ c.args.pass.now c.lock_first.new.pass c.own_x.new.pass won.taken (won.signed (λ e. absurd (cc))) won.looks c.own_x.ensures.still c.own_x.ensures.ends

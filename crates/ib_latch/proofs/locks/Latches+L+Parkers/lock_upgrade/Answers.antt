@@ -1,6 +1,7 @@
-use Rattle.ib_core.specs.declared.phase.Phase.TheVariants.{Free}
-use Rattle.ib_latch.proofs.Stills.{taken_still}
+use Rattle.ib_latch.proofs.Stills.{locked_still}
 use Rattle.ib_latch.proofs.locks.Latches+L+Parkers.lock_upgrade.Goals as goal
 
-pub returns-clause-taken : goal.returns-clause-taken
-returns-clause-taken g c = taken_still Free _ _ _ c.args.pass.now c.spin_upgrade.new.pass c.own_x.new.pass c.spin_upgrade.ensures.upgraded.taken c.own_x.ensures.still
+pub returns-clause-locked : goal.returns-clause-locked
+returns-clause-locked g c =
+    let up = c.spin_upgrade.ensures.upgraded in
+    locked_still _ c.args.latch.0 _ c.args.pass.now c.spin_upgrade.new.pass c.own_x.new.pass up.taken up.signed up.looks c.own_x.ensures.still c.own_x.ensures.ends

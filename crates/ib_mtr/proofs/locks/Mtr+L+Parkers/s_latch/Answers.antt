@@ -1,5 +1,5 @@
 -- The memo and the session have one grant more.
-use Rattle.std.proofs.Common.{List, ◌+◌, subst, sym}
+use Rattle.std.proofs.Common.{rules, List, ◌+◌, subst, sym, refl}
 use Rattle.ib_levels.specs.declared.holding.Holding.{Holding}
 use Rattle.ib_levels.specs.declared.level.Mode.TheVariants.{S}
 use Rattle.ib_levels.proofs.Counts.{on-none}
@@ -11,11 +11,12 @@ use Rattle.ib_mtr.proofs.locks.Mtr+L+Parkers.s_latch.Goals as goal
 
 pub remember-requires-clause-room : goal.remember-requires-clause-room
 remember-requires-clause-room g c =
-    memo_room c.args.self.now.latches.now c.args.self.now.pass.now c.lock_s.new.pass c.requires.mtr c.requires.grows c.lock_s.ensures.same
+    memo_room c.args.self.now.latches.now c.args.self.now.pass.now c.lock_s.new.pass c.requires.mtr c.requires.may.grows (search rules)
 
-pub returns-clause-mtr : goal.returns-clause-mtr
-returns-clause-mtr g c =
+pub returns-clause-still : goal.returns-clause-still
+returns-clause-still g c =
     let l = c.args.latch.0 in let a = c.args.self.now.pass.now.view.session in let v = c.args.level in
-    let taken = subst (λ (held : List Holding). HasTakenGrant S held Free c.args.self.now.pass.now.view c.lock_s.new.pass.view) (sym (held_first S l v a (on-none l (λ h. h.sx + h.x) a.held c.requires.may.none))) c.lock_s.ensures.taken in
-    granted c.args.self.now.latches.now c.args.self.now.pass.now c.lock_s.new.pass c.remember.new.self S c.args.latch c.args.level c.requires.mtr c.requires.latch
-    c.lock_s.ensures.same taken c.remember.ensures.session c.remember.ensures.more
+    let taken = subst (λ (held : List Holding). HasTakenGrant S held Free c.args.self.now.pass.now.view c.lock_s.new.pass.view) (sym (held_first S l v a (on-none l (λ h. h.sx + h.x) a.held c.requires.may.may.none))) c.lock_s.ensures.won.taken in
+    let mtr = granted c.args.self.now.latches.now c.args.self.now.pass.now c.lock_s.new.pass c.remember.new.self S c.args.latch c.args.level c.requires.mtr c.requires.may.latch
+    (search rules) taken c.remember.ensures.session c.remember.ensures.more in
+    record { mtr = mtr; latches = refl; pass = refl }

@@ -12,4 +12,4 @@ returns-clause-given g c = c.release_all.ensures.released ∙ ap (λ (ws : List 
 pub returns-clause-idle : goal.returns-clause-idle
 returns-clause-idle g c =
     let q = c.release_all.new.self.pass.now in let r = c.release_all.ensures in
-    idle_by q.memo q.view.session r.mtr.exact r.mtr.proper (ap (λ (p : PassState). p.memo) r.released) r.mtr.free
+    idle_by q.memo q.view.session r.still.mtr.exact r.still.mtr.proper (ap (λ (p : PassState). p.memo) r.released) r.still.mtr.free

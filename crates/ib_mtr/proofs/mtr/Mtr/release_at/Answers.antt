@@ -1,5 +1,5 @@
 -- The grant at the place is given back, forgotten, and its page leaves.
-use Rattle.std.proofs.Common.{◌≡◌, ◌<◌, ℕ, List, Option, ap, ◌∙◌, subst, sym, length, get_or, Some, slice_get}
+use Rattle.std.proofs.Common.{◌≡◌, ◌<◌, ℕ, List, Option, ap, ◌∙◌, subst, sym, length, get_or, Some, slice_get, refl}
 use Rattle.std.specs.Prelude.{IfSome, IsSomeAnd}
 use Rattle.std.proofs.lemmas.Option.{slice_get-get_or}
 use Rattle.ib_levels.specs.declared.latch.Latch.{Latch}
@@ -24,11 +24,12 @@ leave-requires-clause-unchanged g c =
     unchanged_then p c.unlock.new.pass c.forget_at.new.self c.args.at _ c.unlock.ensures c.forget_at.ensures.fewer
     (subst (λ (o : Option (Latch × Mode)). IfSome o (λ g. IsUnchangedOn g.0.0 p.work)) there c.requires.unchanged)
 
-pub returns-clause-mtr : goal.returns-clause-mtr
-returns-clause-mtr g c =
+pub returns-clause-still : goal.returns-clause-still
+returns-clause-still g c =
     let p = c.args.self.now.pass.now in let there = at_place c.memo.result.now p.memo c.args.at _ c.memo.ensures c.requires.at in
-    released_mtr p c.unlock.new.pass c.forget_at.new.self c.leave.new.pass c.args.at _ c.unlock.ensures c.forget_at.ensures.fewer c.leave.ensures
-    c.args.self.now.latches.now c.requires.mtr there c.forget_at.ensures.session
+    let mtr = released_mtr p c.unlock.new.pass c.forget_at.new.self c.leave.new.pass c.args.at _ c.unlock.ensures c.forget_at.ensures.fewer c.leave.ensures
+    c.args.self.now.latches.now c.requires.mtr there c.forget_at.ensures.session in
+    record { mtr = mtr; latches = refl; pass = refl }
 
 pub returns-clause-released : goal.returns-clause-released
 returns-clause-released g c =

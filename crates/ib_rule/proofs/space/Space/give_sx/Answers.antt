@@ -13,4 +13,4 @@ pub returns-clause-left : goal.returns-clause-left
 returns-clause-left g c =
     let v = c.args.pass.now.view in let n = cell_of c.last_sx_on.result.0 - X_LOCK_HALF_DECR in
     c.last_sx_on.ensures.turn.0 ∙ ap (with_view c.args.pass.now) (sx_back_view v (view_after (Turn (Usx c.args.latch.0)) n v) c.args.latch.0 n _ c.requires.last refl
-    (last_sx_session v _ c.args.latch.0 n c.requires.free c.last_sx_on.ensures.proper c.requires.last c.requires.no_x refl))
+    (last_sx_session v _ c.args.latch.0 n c.requires.free.phase c.last_sx_on.ensures.proper c.requires.last c.requires.no_x refl))

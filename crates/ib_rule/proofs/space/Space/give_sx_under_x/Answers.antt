@@ -20,4 +20,4 @@ returns-clause-left g c =
     let has : 0 < sx_grants c.args.latch.0 c.args.pass.now.view.session = omega arith in
     let more : 1 < claims c.args.latch.0 c.args.pass.now.view.session = omega arith in
     c.last_sx_on.ensures.turn.0 ∙ ap (with_view c.args.pass.now) (sx_back_view v (view_after (Turn (Usx c.args.latch.0)) n v) c.args.latch.0 n _ c.requires.last refl
-    (sx_back_session v _ c.args.latch.0 n c.requires.free proper has more refl))
+    (sx_back_session v _ c.args.latch.0 n c.requires.free.phase proper has more refl))

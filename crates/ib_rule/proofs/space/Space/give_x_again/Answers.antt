@@ -13,9 +13,9 @@ pub counts-requires : goal.counts-requires
 counts-requires g c = subst (λ a. holdings c.args.latch.0 a ≤ 1) (sym c.pass.invariant.session) (c.pass.invariant.proper.single c.args.latch.0)
 
 pub turn-found-requires-clause-step : goal.turn-found-requires-clause-step
-turn-found-requires-clause-step g c = λ proper n found. x_back_step c.args.pass.now.view c.args.latch.0 n c.requires.free proper c.from-weight.result c.counts.result.x (c.counts.ensures.x ∙ (ap (x_grants c.args.latch.0) c.pass.invariant.session ∙ ap (λ (p : PassState). x_grants c.args.latch.0 p.view.session) c.pass.view_is)) (omega arith) (rw c.from-weight.ensures c.give_x.ensures.weighs) (either_small _ c.from-weight.result (c.from-weight.ensures ∙ c.give_x.ensures.table)) found
+turn-found-requires-clause-step g c = λ proper n found. x_back_step c.args.pass.now.view c.args.latch.0 n c.requires.free.phase proper c.from-weight.result c.counts.result.x (c.counts.ensures.x ∙ (ap (x_grants c.args.latch.0) c.pass.invariant.session ∙ ap (λ (p : PassState). x_grants c.args.latch.0 p.view.session) c.pass.view_is)) (omega arith) (rw c.from-weight.ensures c.give_x.ensures.weighs) (either_small _ c.from-weight.result (c.from-weight.ensures ∙ c.give_x.ensures.table)) found
 
 pub returns-clause-left : goal.returns-clause-left
 returns-clause-left g c =
     let v = c.args.pass.now.view in let n = c.turn-found.result.0 in
-    c.turn-found.ensures.view ∙ ap (with_view c.args.pass.now) (x_back_view v (view_after (Turn (Ux c.args.latch.0)) n v) c.args.latch.0 n _ refl (x_back_session v _ c.args.latch.0 n c.requires.free c.turn-found.ensures.proper c.requires.more refl))
+    c.turn-found.ensures.view ∙ ap (with_view c.args.pass.now) (x_back_view v (view_after (Turn (Ux c.args.latch.0)) n v) c.args.latch.0 n _ refl (x_back_session v _ c.args.latch.0 n c.requires.free.phase c.turn-found.ensures.proper c.requires.more refl))

@@ -1,0 +1,18 @@
+-- How far the descent has come; the level falls.
+use Rattle.std.proofs.Common.{◌∷◌, [], length}
+use Rattle.ib_rule.specs.Under.{under}
+use Rattle.ib_mtr.specs.Mtr.{IsStillMtr}
+use Rattle.ib_cursor.specs.Descent.{IsDown}
+use Rattle.ib_cursor.specs.Grants.{index_grant}
+use Rattle.ib_cursor.specs.Modes.{is_exclusive}
+use Rattle.ib_cursor.proofs.descent.reach_leaf.Given as goal
+
+abbrev pub invariant-loop-level : goal.invariant-loop-level
+invariant-loop-level g l = record {
+  still : IsStillMtr l.fn.mtr l.mtr;
+  down : under g.L.Law l.fn.mtr.latches.now IsDown l.sought.root l.sought.key (index_grant ∷ []) (is_exclusive l.search)
+      (length l.path) l.page l.level l.fn.mtr.pass.now l.mtr.pass.now;
+}
+
+abbrev pub decreases-loop-level : goal.decreases-loop-level
+decreases-loop-level g l = l.level

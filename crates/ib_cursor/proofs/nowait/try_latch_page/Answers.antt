@@ -1,0 +1,19 @@
+-- The grant, and then the look.
+use Rattle.std.proofs.Common.{subst, ap}
+use Rattle.ib_levels.specs.declared.latch.Latch.{Latch}
+use Rattle.ib_levels.specs.declared.level.Level.TheVariants.{TreeNode}
+use Rattle.ib_levels.specs.declared.level.Mode.TheVariants.{S}
+use Rattle.ib_cursor.specs.Grants.{HasTaken, page_grant}
+use Rattle.ib_cursor.specs.Going.{HasSeen}
+use Rattle.ib_cursor.proofs.LatchingLaws.{latched_by}
+use Rattle.ib_cursor.proofs.nowait.try_latch_page.Goals as goal
+
+pub returns-clause-latched : goal.returns-clause-latched
+returns-clause-latched g c =
+    let key = c.args.mtr.now.latches.now.sizes in
+    let p = c.args.mtr.now.pass.now in let q = c.try_latch.new.mtr.pass.now in let r = c.look.new.mtr.pass.now in
+    let taken = subst (λ (l : Latch). HasTaken (record { latch = l.0; mode = S; level = TreeNode }) p q) c.page.ensures c.in_ok-try_latch.ensures.taken in
+    let same = ap (λ m. m.now.sizes) c.try_latch.ensures.still.latches in
+    latched_by key (g.L.Law.lawful key.pages) (page_grant c.args.page S) p q r taken
+    (subst (λ k. HasSeen k (g.L.Law.lawful k.pages) q r) same c.look.ensures.looked_on.seen)
+    c.look.ensures.memo c.look.ensures.session c.look.ensures.grants c.look.ensures.work

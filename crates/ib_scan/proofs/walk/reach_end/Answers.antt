@@ -1,0 +1,68 @@
+-- Each leaf that gives no chunk is passed over.
+use Rattle.std.proofs.Common.{◌∙◌, refl, sym, ap, subst, arith}
+use Rattle.ib_layout.specs.Geometry.{Sizes}
+use Rattle.ib_logrec.specs.Log.{by_place}
+use Rattle.ib_rule.specs.Pass.{PassState}
+use Rattle.ib_scan.specs.Steps.{MayPass, HasPassed}
+use Rattle.ib_scan.proofs.PassLaws.{most_pages}
+use Rattle.ib_scan.proofs.LoopLaws.{along_none, along_loaded, along_may, along_passed}
+use Rattle.ib_scan.proofs.walk.reach_end.Goals as goal
+
+pub loop-next-init : goal.loop-next-init
+loop-next-init g c =
+    let sizes : Sizes = c.args.mtr.now.latches.now.sizes in
+    record {
+      mtr = c.requires.mtr;
+      latches = refl;
+      pass = refl;
+      along = along_none sizes g.L.Trees.ROOTS (g.L.Law.lawful sizes.pages) (by_place g.L.Law.opening sizes.pages) c.trees_of.ensures.laws c.args.leaf c.args.start c.args.mtr.now.pass.now;
+    }
+
+pub part_of-requires-clause-loaded : goal.part_of-requires-clause-loaded
+part_of-requires-clause-loaded g c =
+    let sizes : Sizes = c.args.mtr.now.latches.now.sizes in let p : PassState = c.args.mtr.now.pass.now in let q : PassState = c.loop-next.mtr.pass.now in let h = c.requires.on in
+    let a = c.loop-next.invariant.along h in
+    let l = along_loaded sizes g.L.Trees.ROOTS (g.L.Law.lawful sizes.pages) (by_place g.L.Law.opening sizes.pages) c.trees_of.ensures.laws h.root c.args.start c.loop-next.at c.loop-next.passed p q a in
+    (a.last.image, l.is, l.tree)
+
+pub pass_over-requires-clause-may : goal.pass_over-requires-clause-may
+pass_over-requires-clause-may g c =
+    let sizes : Sizes = c.args.mtr.now.latches.now.sizes in let p : PassState = c.args.mtr.now.pass.now in let q : PassState = c.loop-next.mtr.pass.now in let h = c.requires.on in
+    let a = c.loop-next.invariant.along h in
+    let l = along_loaded sizes g.L.Trees.ROOTS (g.L.Law.lawful sizes.pages) (by_place g.L.Law.opening sizes.pages) c.trees_of.ensures.laws h.root c.args.start c.loop-next.at c.loop-next.passed p q a in
+    let part = c.in-Passed.ensures a.last.image l.is in
+    let same = ap (λ m. m.now.sizes) c.loop-next.invariant.latches in
+    subst (λ (k : Sizes). MayPass k (g.L.Law.lawful k.pages) (by_place g.L.Law.opening k.pages) g.L.Trees.ROOTS c.loop-next.at c.in-Passed.next q) (sym same)
+    (along_may sizes g.L.Trees.ROOTS (g.L.Law.lawful sizes.pages) (by_place g.L.Law.opening sizes.pages) c.trees_of.ensures.laws h.root c.args.start c.loop-next.at c.loop-next.passed p q a c.in-Passed.next part.0 part.1 h.room)
+
+pub overflow_add-passed : goal.overflow_add-passed
+overflow_add-passed g c = let a = (c.loop-next.invariant.along c.requires.on).few in omega arith
+
+pub loop-next-smaller : goal.loop-next-smaller
+loop-next-smaller g c = let a = (c.loop-next.invariant.along c.requires.on).few in omega arith
+
+pub loop-next-preserved : goal.loop-next-preserved
+loop-next-preserved g c =
+    let sizes : Sizes = c.args.mtr.now.latches.now.sizes in let p : PassState = c.args.mtr.now.pass.now in let q : PassState = c.loop-next.mtr.pass.now in let r : PassState = c.pass_over.new.mtr.pass.now in
+    let same = ap (λ m. m.now.sizes) c.loop-next.invariant.latches in
+    let passed = subst (λ (k : Sizes). (m : MayPass k (g.L.Law.lawful k.pages) (by_place g.L.Law.opening k.pages) g.L.Trees.ROOTS c.loop-next.at c.in-Passed.next q)
+    → HasPassed k (g.L.Law.lawful k.pages) (by_place g.L.Law.opening k.pages) g.L.Trees.ROOTS m.root m.start m.ps m.last q r) same c.pass_over.ensures.passed in
+    record {
+      mtr = c.pass_over.ensures.still.mtr;
+      latches = c.pass_over.ensures.still.latches ∙ c.loop-next.invariant.latches;
+      pass = c.pass_over.ensures.still.pass ∙ c.loop-next.invariant.pass;
+      along = λ h.
+          let a = c.loop-next.invariant.along h in
+          let l = along_loaded sizes g.L.Trees.ROOTS (g.L.Law.lawful sizes.pages) (by_place g.L.Law.opening sizes.pages) c.trees_of.ensures.laws h.root c.args.start c.loop-next.at c.loop-next.passed p q a in
+          let part = c.in-Passed.ensures a.last.image l.is in
+          let m = along_may sizes g.L.Trees.ROOTS (g.L.Law.lawful sizes.pages) (by_place g.L.Law.opening sizes.pages) c.trees_of.ensures.laws h.root c.args.start c.loop-next.at c.loop-next.passed p q a c.in-Passed.next part.0 part.1 h.room in
+          along_passed sizes g.L.Trees.ROOTS (g.L.Law.lawful sizes.pages) (by_place g.L.Law.opening sizes.pages) c.trees_of.ensures.laws h.root c.args.start c.loop-next.at c.loop-next.passed p q a c.in-Passed.next r part.0
+          (most_pages sizes.pages c.trees_of.ensures.space) (passed m);
+    }
+
+pub returns-in-Ends-clause-reached : goal.returns-in-Ends-clause-reached
+returns-in-Ends-clause-reached g c = λ h.
+    let sizes : Sizes = c.args.mtr.now.latches.now.sizes in let p : PassState = c.args.mtr.now.pass.now in let q : PassState = c.loop-next.mtr.pass.now in
+    let a = c.loop-next.invariant.along h in
+    let l = along_loaded sizes g.L.Trees.ROOTS (g.L.Law.lawful sizes.pages) (by_place g.L.Law.opening sizes.pages) c.trees_of.ensures.laws h.root c.args.start c.loop-next.at c.loop-next.passed p q a in
+    record { along = a; ends = c.in-Ends.ensures a.last.image l.is }
