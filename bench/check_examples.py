@@ -20,6 +20,7 @@ EXAMPLES = os.path.join(TOP, "examples")
 FIXED = (
     ("run", "first.script", "first.out", 0),
     ("run", "refused.script", "refused.out", 2),
+    ("run", "tree.script", "tree.out", 0),
     ("latch", "latch.script", "latch.out", 0),
     ("replay", "insert.log", "insert.out", 0),
 )
