@@ -5,7 +5,7 @@ use Rattle.ib_levels.specs.declared.holding.Holding.{Holding}
 use Rattle.ib_levels.specs.declared.level.Level.{Level}
 use Rattle.ib_levels.specs.declared.level.Mode.{Mode}
 use Rattle.ib_levels.specs.declared.level.Mode.TheVariants.{S, Sx, X}
-use Rattle.ib_levels.specs.Level.{MayTake, IsOrderly}
+use Rattle.ib_levels.specs.Level.{MayFollowAll, IsOrderly}
 use Rattle.ib_levels.specs.Holding.{on, levels_of}
 use Rattle.ib_levels.proofs.Counts.{on-push_here, on-push_away, on-none}
 use Rattle.ib_levels.proofs.Holdings.{orderly_hold}
@@ -17,7 +17,7 @@ use Rattle.ib_core.specs.Sessions.{Stands, is_next, holdings, claims, x_grants, 
 use Rattle.ib_core.specs.Takings.{first_holding, holding_too}
 use Rattle.ib_core.specs.Responses.{is_elsewhere}
 use Rattle.ib_core.specs.Good.{IsGood}
-use Rattle.ib_core.proofs.Places.{one_of}
+use Rattle.ib_core.proofs.Elements.{one_of}
 use Rattle.ib_core.proofs.Quiet.{at_itself}
 use Rattle.ib_core.proofs.Kept.{IsLocal, ProperOn}
 use Rattle.ib_core.proofs.Phased.{with_phase}
@@ -37,7 +37,7 @@ first_level X l v = refl
 
 module _ (m : ℕ → Marks) (ss : List Session) (i : ℕ) (held : List Holding) (l : ℕ) (v : Level) (p : Phase)
     (good : IsGood ss m) (at : Stands ss i (with_phase p held)) (before : is_elsewhere l p ≡ false) (quiet : OwesNothing p)
-    (none : holdings l (with_phase p held) ≡ 0) (may : MayTake v (levels_of held)) where
+    (none : holdings l (with_phase p held) ≡ 0) (may : MayFollowAll v (levels_of held)) where
   -- what is on the latch is the first holding alone
   now : (mode : Mode) (f : Holding → ℕ) → on l f (holding_too mode l v held) ≡ f (first_holding mode l v)
   now mode f = let a = on-push_here l f held (first_holding mode l v) (first_latch mode l v) in let b = on-none l f held none in omega arith
@@ -53,7 +53,7 @@ module _ (m : ℕ → Marks) (ss : List Session) (i : ℕ) (held : List Holding)
   }
 
   orderly : (mode : Mode) → IsOrderly (levels_of (holding_too mode l v held))
-  orderly mode = orderly_hold held (first_holding mode l v) (good.proper i (with_phase p held) at).orderly (subst (λ v. MayTake v (levels_of held)) (sym (first_level mode l v)) may)
+  orderly mode = orderly_hold held (first_holding mode l v) (good.proper i (with_phase p held) at).orderly (subst (λ v. MayFollowAll v (levels_of held)) (sym (first_level mode l v)) may)
 
   grows : (mode : Mode) (p' : Phase) → Grows l (with_phase p held) (with_phase p' (holding_too mode l v held))
   grows mode p' = let r = was (λ h. h.s) in let x = was (λ h. h.x) in let c = was (λ h. h.sx + h.x) in record { more_reads = omega arith; more_x = omega arith; more_claims = omega arith }

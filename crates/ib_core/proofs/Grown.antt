@@ -11,7 +11,7 @@ use Rattle.ib_core.specs.declared.session.Session.{Session}
 use Rattle.ib_core.specs.declared.session.Marks.{Marks}
 use Rattle.ib_core.specs.Sessions.{Stands, is_next, reads, claims, x_grants, owned, readers_of}
 use Rattle.ib_core.specs.Good.{Suits, GoBeside, IsOwed, Heard, IsGood, against, owes_raise, owes_raise_ex, owes_signal}
-use Rattle.ib_core.proofs.Places.{sum_at}
+use Rattle.ib_core.proofs.Elements.{sum_at}
 use Rattle.ib_core.proofs.Heard.{owed_set}
 use Rattle.ib_core.proofs.Kept.{IsLocal, ProperOn, proper_local, good_local}
 use Rattle.ib_core.proofs.Waiting.{OwesNothing}

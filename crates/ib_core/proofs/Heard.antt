@@ -8,7 +8,7 @@ use Rattle.ib_core.specs.declared.session.Session.{Session}
 use Rattle.ib_core.specs.declared.session.Marks.{Marks}
 use Rattle.ib_core.specs.Sessions.{Stands, is_next}
 use Rattle.ib_core.specs.Good.{IsOwed, WillRaise, MustWait, MustDrain, Heard}
-use Rattle.ib_core.proofs.Places.{same_at, set_here, set_else}
+use Rattle.ib_core.proofs.Elements.{same_at, set_here, set_else}
 use Rattle.std.proofs.Common.{eq-eqb}
 
 -- what sleepers on the latch rest on: a generation never falls, and while it stays the reasons stay

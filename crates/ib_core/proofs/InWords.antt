@@ -24,7 +24,7 @@ use Rattle.ib_core.specs.Holders.{OwnsSx, OwnsX, IsNextWriter, HoldersAreCompati
 use Rattle.ib_core.specs.Machine.{CoreState, marks_at, fresh, opening_state, session_at, outcome_of, turn_in, IsGoodState}
 use Rattle.ib_core.specs.Actions.{Action, IsAmong, AllAmong, state_after}
 use Rattle.ib_core.proofs.OnLatch.{counted}
-use Rattle.ib_core.proofs.Places.{all_zero, at_below}
+use Rattle.ib_core.proofs.Elements.{all_zero, at_below}
 use Rattle.ib_core.proofs.Kept.{next_has_x}
 use Rattle.ib_core.proofs.Grown.{owned_le}
 use Rattle.ib_core.proofs.EachTurn.{turn_kept}
@@ -181,30 +181,30 @@ pub word_of_counts : (m : ℕ → Marks) (ss : List Session) (l : ℕ) → IsGoo
 word_of_counts m ss l good = ap word_less (counts_taken l ss good.proper (λ i j a b e d n. (good.beside i j a b e d n l).one_claim))
 
 -- each event of a session and a latch that there are leads from a good state to a good state
-pub event_kept : (state : CoreState) (action : Action) → HasFewReaders state.sessions → IsAmong state action → IsGoodState state → IsGoodState (outcome_of state action.place action.event).state
+pub event_kept : (state : CoreState) (action : Action) → HasFewReaders state.sessions → IsAmong state action → IsGoodState state → IsGoodState (outcome_of state action.index action.event).state
 event_kept state action few among good =
     let l : ℕ = latch_of action.event in
-    turn_kept (marks_at state.marks) (marks_at (set state.marks l (turn_in state action.place action.event).marks)) state.sessions action.place (session_at state action.place) action.event few good
-    (stands_at state.sessions action.place idle among.session)
-    (get_or-set_same state.marks l (turn_in state action.place action.event).marks fresh among.latch)
-    (λ k n. get_or-set_other state.marks l k (turn_in state action.place action.event).marks fresh (λ q. n (sym q)))
+    turn_kept (marks_at state.marks) (marks_at (set state.marks l (turn_in state action.index action.event).marks)) state.sessions action.index (session_at state action.index) action.event few good
+    (stands_at state.sessions action.index idle among.session)
+    (get_or-set_same state.marks l (turn_in state action.index action.event).marks fresh among.latch)
+    (λ k n. get_or-set_other state.marks l k (turn_in state action.index action.event).marks fresh (λ q. n (sym q)))
 
 -- as many sessions and latches as before
-among_after : (state : CoreState) (action other : Action) → IsAmong state other → IsAmong (outcome_of state action.place action.event).state other
+among_after : (state : CoreState) (action other : Action) → IsAmong state other → IsAmong (outcome_of state action.index action.event).state other
 among_after state action other among = record {
-  session = let n = length-set state.sessions action.place (turn_in state action.place action.event).session in let w = among.session in omega arith;
-  latch = let n = length-set state.marks (latch_of action.event) (turn_in state action.place action.event).marks in let w = among.latch in omega arith;
+  session = let n = length-set state.sessions action.index (turn_in state action.index action.event).session in let w = among.session in omega arith;
+  latch = let n = length-set state.marks (latch_of action.event) (turn_in state action.index action.event).marks in let w = among.latch in omega arith;
 }
 
-all_among_after : (state : CoreState) (action : Action) (actions : List Action) → AllAmong state actions → AllAmong (outcome_of state action.place action.event).state actions
+all_among_after : (state : CoreState) (action : Action) (actions : List Action) → AllAmong state actions → AllAmong (outcome_of state action.index action.event).state actions
 all_among_after state action [] among = tt
 all_among_after state action (other ∷ actions) among = (among_after state action other among.0, all_among_after state action actions among.1)
 
 pub run_kept : (state : CoreState) (actions : List Action) → length state.sessions ≤ 1024 → AllAmong state actions → IsGoodState state → IsGoodState (state_after state actions)
 run_kept state [] few among good = good
 run_kept state (action ∷ actions) few among good =
-    run_kept (outcome_of state action.place action.event).state actions
-    (let n = length-set state.sessions action.place (turn_in state action.place action.event).session in omega arith)
+    run_kept (outcome_of state action.index action.event).state actions
+    (let n = length-set state.sessions action.index (turn_in state action.index action.event).session in omega arith)
     (all_among_after state action actions among.1) (event_kept state action (λ l. let r = readers_few l state.sessions good.proper in omega arith) among.0 good)
 
 pub opening_good : (sessions latches : ℕ) → IsGoodState (opening_state sessions latches)

@@ -17,7 +17,7 @@ use Rattle.ib_core.specs.declared.session.Marks.{Marks}
 use Rattle.ib_core.specs.Sessions.{Stands, is_next, holdings, reads, claims, grants, x_grants, owned, readers_of}
 use Rattle.ib_core.specs.Responses.{is_elsewhere}
 use Rattle.ib_core.specs.Good.{Suits, IsProper, GoBeside, IsOwed, Heard, IsGood, against, owes_raise, owes_raise_ex, owes_signal}
-use Rattle.ib_core.proofs.Places.{at_set, sum_at}
+use Rattle.ib_core.proofs.Elements.{at_set, sum_at}
 use Rattle.ib_core.proofs.Quiet.{quiet}
 use Rattle.ib_core.proofs.Heard.{Heeds, Drains, heard_move, owed_set}
 

@@ -1,7 +1,7 @@
 pub mod OnLatch
-pub mod AtPlace
+pub mod AtHeld
 pub mod Weighs
-pub mod Places
+pub mod Elements
 pub mod Quiet
 pub mod Heard
 pub mod Kept

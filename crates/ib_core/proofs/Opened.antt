@@ -15,7 +15,7 @@ use Rattle.ib_core.specs.Good.{IsProper, IsGood, Heard, GoBeside, IsOwed, agains
 use Rattle.ib_core.specs.Machine.{marks_at, fresh, free_word}
 use Rattle.ib_core.specs.Member.{SessionAmong, sessions_of, idle_among}
 use Rattle.ib_core.specs.Keeping.{IsKept}
-use Rattle.ib_core.proofs.Places.{all_zero, at_snoc, at_longer}
+use Rattle.ib_core.proofs.Elements.{all_zero, at_snoc, at_longer}
 use Rattle.ib_core.proofs.Heard.{Heeds, heard_move}
 use Rattle.std.proofs.lemmas.List.Sums.{sum_by_push}
 use Rattle.std.proofs.Common.{inl, inr, ⊎_elim, Bool, ◌<◌, ◌≢◌}

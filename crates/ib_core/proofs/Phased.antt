@@ -10,7 +10,7 @@ use Rattle.ib_core.specs.declared.session.Marks.{Marks}
 use Rattle.ib_core.specs.Sessions.{Stands, is_next, reads, x_grants, owned, readers_of}
 use Rattle.ib_core.specs.Responses.{is_elsewhere}
 use Rattle.ib_core.specs.Good.{Suits, IsProper, Heard, IsGood, against, owes_raise, owes_raise_ex, owes_signal}
-use Rattle.ib_core.proofs.Places.{sum_at}
+use Rattle.ib_core.proofs.Elements.{sum_at}
 use Rattle.ib_core.proofs.Heard.{Heeds, Drains, owed_set}
 use Rattle.ib_core.proofs.Kept.{IsLocal, good_local}
 

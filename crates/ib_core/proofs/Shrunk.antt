@@ -21,7 +21,7 @@ use Rattle.ib_core.specs.Sessions.{Stands, is_next, reads, claims, x_grants, sx_
 use Rattle.ib_core.specs.Takings.{one_fewer}
 use Rattle.ib_core.specs.Responses.{is_elsewhere}
 use Rattle.ib_core.specs.Good.{Suits, IsProper, GoBeside, IsOwed, Heard, IsGood, against, owes_raise, owes_raise_ex, owes_signal}
-use Rattle.ib_core.proofs.Places.{sum_at, one_of, set_else, at_set}
+use Rattle.ib_core.proofs.Elements.{sum_at, one_of, set_else, at_set}
 use Rattle.ib_core.proofs.Quiet.{at_itself}
 use Rattle.ib_core.proofs.OnLatch.{counted, counts_changed, one_fewer-latch, held_by_grant}
 use Rattle.ib_core.proofs.Weighs.{reads_none}
@@ -63,7 +63,7 @@ module _ (m : ℕ → Marks) (ss : List Session) (i : ℕ) (l : ℕ) (a a' : Ses
             (λ (p : 0 < sum_by (against mode l) ss).
             let s = sum_at (against mode l) ss i a a' at in
             ⊎_elim (λ (le : against mode l a ≤ against mode l a'). inl (omega arith))
-            (⊎_elim (λ (some : 0 < against mode l a'). inl (let t = one_of (against mode l) (set ss i a') i a' (Rattle.ib_core.proofs.Places.set_here ss i a a' at) in omega arith))
+            (⊎_elim (λ (some : 0 < against mode l a'). inl (let t = one_of (against mode l) (set ss i a') i a' (Rattle.ib_core.proofs.Elements.set_here ss i a a' at) in omega arith))
             (λ (owes : owes_signal l a'.phase ≡ true). inr (owed_now (owes_signal l) ss i a a' at owes)))
             (keeps mode))
             (λ o. inr (free_owes (owes_signal l) refl o)) w;

@@ -9,7 +9,7 @@ use Rattle.ib_core.specs.declared.session.Session.{Session}
 use Rattle.ib_core.specs.declared.session.Marks.{Marks}
 use Rattle.ib_core.specs.Sessions.{Stands}
 use Rattle.ib_core.specs.Good.{IsOwed, WillRaise, MustWait, IsGood, against, owes_raise, owes_signal}
-use Rattle.ib_core.proofs.Places.{sum_at}
+use Rattle.ib_core.proofs.Elements.{sum_at}
 use Rattle.ib_core.proofs.Quiet.{at_itself, raise_signals}
 use Rattle.ib_core.proofs.Heard.{owed_set, owed_now}
 use Rattle.ib_core.proofs.Phased.{with_phase, phase_kept, heeds_phase, drains_phase, owned_as_before, same_against}

@@ -24,7 +24,7 @@ use Rattle.ib_core.specs.Good.{IsGood}
 use Rattle.ib_core.specs.Machine.{marks_at, fresh, free_word}
 use Rattle.ib_core.specs.Member.{SessionAmong, sessions_of, CanStep, SameSum}
 use Rattle.ib_core.specs.Keeping.{IsKept}
-use Rattle.ib_core.proofs.Places.{at_set, sum_at, one_of}
+use Rattle.ib_core.proofs.Elements.{at_set, sum_at, one_of}
 use Rattle.ib_core.proofs.OnLatch.{counted, weighs}
 use Rattle.ib_core.proofs.Totals.{taken_bound, readers_few}
 use Rattle.ib_core.proofs.Near.{Near, near_response, all_grants}

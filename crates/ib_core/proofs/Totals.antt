@@ -12,7 +12,7 @@ use Rattle.ib_core.specs.Sessions.{Stands, reads, sx_grants, x_grants, claims, t
 use Rattle.ib_core.specs.Good.{IsProper, against}
 use Rattle.ib_levels.specs.declared.level.Mode.{Mode}
 use Rattle.ib_levels.specs.declared.level.Mode.TheVariants.{S, Sx, X}
-use Rattle.ib_core.proofs.Places.{one_of, two_of, only_one, sum_more}
+use Rattle.ib_core.proofs.Elements.{one_of, two_of, only_one, sum_more}
 use Rattle.ib_core.proofs.OnLatch.{counted}
 
 -- who takes off less than X_LOCK_DECR has no X, and who takes off less than HALF has no SX either

@@ -9,7 +9,7 @@ use Rattle.ib_levels.specs.declared.holding.Holding.{Holding}
 use Rattle.ib_levels.specs.declared.level.Level.{Level}
 use Rattle.ib_levels.specs.declared.level.Mode.{Mode}
 use Rattle.ib_levels.specs.declared.level.Mode.TheVariants.{S as ModeS, Sx as ModeSx, X as ModeX}
-use Rattle.ib_levels.specs.Level.{MayTake, first_against}
+use Rattle.ib_levels.specs.Level.{MayFollowAll, first_against}
 use Rattle.ib_levels.specs.Listed.{answer_to, refused_by}
 use Rattle.ib_levels.specs.Holding.{is_held, levels_of, changed_on, without_latch}
 use Rattle.ib_levels.proofs.Counts.{none_from_unheld, unheld_from_none, on-without, by_equal}
@@ -24,7 +24,7 @@ use Rattle.ib_word.specs.Word.{is_drained}
 use Rattle.ib_core.specs.Responses.{Response, is_above_0}
 use Rattle.ib_core.specs.Table.{arming}
 use Rattle.ib_core.specs.Good.{IsProper, IsGood}
-use Rattle.ib_core.proofs.Places.{sum_at, one_of, set_again}
+use Rattle.ib_core.proofs.Elements.{sum_at, one_of, set_again}
 use Rattle.ib_core.proofs.Quiet.{at_itself}
 use Rattle.ib_core.proofs.OnLatch.{counted}
 use Rattle.ib_core.proofs.Weighs.{reads_none, read_weighs}
@@ -54,7 +54,7 @@ module _ (m : ℕ → Marks) (ss : List Session) (i : ℕ) (held : List Holding)
   one l j k a b e d n = (good.beside j k a b e d n l).one_claim
 
   module _ (l : ℕ) (v : Level) (p waiting : Phase) (at : Stands ss i (with_phase p held)) (before : Rattle.ib_core.specs.Responses.is_elsewhere l p ≡ false) (quiet : OwesNothing p)
-      (none : holdings l (with_phase p held) ≡ 0) (may : MayTake v (levels_of held)) where
+      (none : holdings l (with_phase p held) ≡ 0) (may : MayFollowAll v (levels_of held)) where
     -- a first wish, where the session may wait in the phase given
     pub first_kept : (mode : Mode) → (is_given_at mode (word_on l ss) ≡ false → IsGood (set ss i (with_phase waiting held)) m) → IsGood (set ss i (first mode l v waiting (word_on l ss) held).session) m
     first_kept ModeS waits = choose (λ (r : Response). IsGood (set ss i r.session) m) (is_given_at ModeS (word_on l ss)) _ _
@@ -72,7 +72,7 @@ module _ (m : ℕ → Marks) (ss : List Session) (i : ℕ) (held : List Holding)
         waits
 
   -- a wish that the order of levels allows, or refuses
-  pub allowed : (l : ℕ) (v : Level) (p : Phase) (b : Bool) (r : Response) → Stands ss i (with_phase p held) → ((b ≡ false → MayTake v (levels_of held)) → IsGood (set ss i r.session) m)
+  pub allowed : (l : ℕ) (v : Level) (p : Phase) (b : Bool) (r : Response) → Stands ss i (with_phase p held) → ((b ≡ false → MayFollowAll v (levels_of held)) → IsGood (set ss i r.session) m)
       → IsGood (set ss i (if_allowed (answer_to b v (levels_of held)) (with_phase p held) r).session) m
   allowed l v p true r at kept = kept (λ z. absurd (cc))
   allowed l v p false r at kept = by_first (first_against v (levels_of held)) refl

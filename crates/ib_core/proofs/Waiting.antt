@@ -3,7 +3,7 @@ use Rattle.std.proofs.Common.{◌≡◌, ◌≢◌, ℕ, ◌<◌, ◌≤◌, inl
 use Rattle.ib_levels.specs.declared.holding.Holding.{Holding}
 use Rattle.ib_levels.specs.declared.level.Level.{Level}
 use Rattle.ib_levels.specs.declared.level.Mode.{Mode}
-use Rattle.ib_levels.specs.Level.{MayTake}
+use Rattle.ib_levels.specs.Level.{MayFollowAll}
 use Rattle.ib_levels.specs.Holding.{levels_of}
 use Rattle.ib_core.specs.declared.phase.Phase.{Phase}
 use Rattle.ib_core.specs.declared.phase.Phase.TheVariants.{Free, Armed, Flagged, Checked, Asleep, Next, NextArmed, NextChecked, NextAsleep}
@@ -73,7 +73,7 @@ module _ (m : ℕ → Marks) (ss : List Session) (i : ℕ) (held : List Holding)
   waits_on p p' at before after quiet same suits heard =
       quiet_kept m ss i held l p p' good at before after quiet suits (owned_as_before ss i held l p p' m good at same) heard
 
-  pub arms : (mode : Mode) (v : Level) → Stands ss i (with_phase Free held) → holdings l (with_phase Free held) ≡ 0 → MayTake v (levels_of held)
+  pub arms : (mode : Mode) (v : Level) → Stands ss i (with_phase Free held) → holdings l (with_phase Free held) ≡ 0 → MayFollowAll v (levels_of held)
       → IsGood (set ss i (with_phase (Armed l mode v (m l).generation) held)) m
   arms mode v at none may = waits_on Free (Armed l mode v (m l).generation) at refl (at_itself l) nothing_free refl (none, may) (omega arith)
 

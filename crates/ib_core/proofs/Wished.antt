@@ -27,7 +27,7 @@ use Rattle.ib_core.proofs.InWords.{nobody_against}
 use Rattle.ib_core.proofs.Kept.{next_has_x}
 use Rattle.ib_core.proofs.NumberTests.{if_true, if_false}
 use Rattle.ib_core.proofs.OnLatch.{counted}
-use Rattle.ib_core.proofs.Places.{all_zero, same_at}
+use Rattle.ib_core.proofs.Elements.{all_zero, same_at}
 use Rattle.ib_core.proofs.Totals.{nobody_x, nobody_claims, few_taken, refused_wish}
 use Rattle.ib_core.proofs.Turned.{choose}
 use Rattle.ib_core.proofs.Wishes.{at_free, first_wish, sx_further, x_further, x_upgrade}

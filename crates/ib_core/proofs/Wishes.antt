@@ -7,7 +7,7 @@ use Rattle.ib_levels.specs.declared.level.Mode.{Mode}
 use Rattle.ib_levels.specs.declared.level.Mode.TheVariants.{S, Sx, X}
 use Rattle.ib_levels.specs.declared.holding.Holding.{Holding}
 use Rattle.ib_levels.specs.Listed.{answer_to, refused_by}
-use Rattle.ib_levels.specs.Level.{MayTake}
+use Rattle.ib_levels.specs.Level.{MayFollowAll}
 use Rattle.ib_levels.specs.Holding.{on, is_held, levels_of, changed_on}
 use Rattle.ib_levels.proofs.Counts.{unheld_from_none, none_from_unheld, on-none}
 use Rattle.ib_levels.proofs.Orderly.{none_from_may}
@@ -30,7 +30,7 @@ pub at_free : (a : Session) → a.phase ≡ Free → a ≡ with_phase Free a.hel
 at_free a free = λ j. record { held = a.held; phase = free j }
 
 -- the order of levels allows it, or the latch is held already
-pub allowed_new : (l : ℕ) (v : Level) (a : Session) (r : Response) → is_held l a.held ≡ false → MayTake v (levels_of a.held) → if_allowed (answer_to (is_held l a.held) v (levels_of a.held)) a r ≡ r
+pub allowed_new : (l : ℕ) (v : Level) (a : Session) (r : Response) → is_held l a.held ≡ false → MayFollowAll v (levels_of a.held) → if_allowed (answer_to (is_held l a.held) v (levels_of a.held)) a r ≡ r
 allowed_new l v a r unheld may = ap (λ b. if_allowed (answer_to b v (levels_of a.held)) a r) unheld ∙ ap (λ (o : Option Level). if_allowed (refused_by v o) a r) (none_from_may v (levels_of a.held) may)
 
 held_is : (l : ℕ) (held : List Holding) → 0 < on l (λ h. 1) held → is_held l held ≡ true
@@ -48,23 +48,23 @@ module _ (l : ℕ) (held : List Holding) (w : ℤ) where
   none_of f none = on-none l f held none
 
   -- a first wish
-  s_first : (v : Level) → holdings l (with_phase Free held) ≡ 0 → MayTake v (levels_of held) → taking_s l v w (with_phase Free held) ≡ first S l v Free w held
+  s_first : (v : Level) → holdings l (with_phase Free held) ≡ 0 → MayFollowAll v (levels_of held) → taking_s l v w (with_phase Free held) ≡ first S l v Free w held
   s_first v none may = let unheld = unheld_from_none l held none in if_false (is_held l held) _ _ unheld ∙ allowed_new l v (with_phase Free held) _ unheld may
 
-  sx_first : (v : Level) → holdings l (with_phase Free held) ≡ 0 → MayTake v (levels_of held) → taking_sx l v w (with_phase Free held) ≡ first Sx l v Free w held
+  sx_first : (v : Level) → holdings l (with_phase Free held) ≡ 0 → MayFollowAll v (levels_of held) → taking_sx l v w (with_phase Free held) ≡ first Sx l v Free w held
   sx_first v none may =
       let unheld = unheld_from_none l held none in
       if_false (nat_lt 0 (reads l (with_phase Free held))) _ _ (lt_none _ (none_of (λ h. h.s) none)) ∙ (allowed_new l v (with_phase Free held) _ unheld may ∙
       if_false (nat_lt 0 (claims l (with_phase Free held))) _ _ (lt_none _ (none_of (λ h. h.sx + h.x) none)))
 
-  x_first : (v : Level) → holdings l (with_phase Free held) ≡ 0 → MayTake v (levels_of held) → taking_x l v w (with_phase Free held) ≡ first X l v Free w held
+  x_first : (v : Level) → holdings l (with_phase Free held) ≡ 0 → MayFollowAll v (levels_of held) → taking_x l v w (with_phase Free held) ≡ first X l v Free w held
   x_first v none may =
       let unheld = unheld_from_none l held none in
       if_false (nat_lt 0 (reads l (with_phase Free held))) _ _ (lt_none _ (none_of (λ h. h.s) none)) ∙ (allowed_new l v (with_phase Free held) _ unheld may ∙
       (if_false (nat_lt 0 (x_grants l (with_phase Free held))) _ _ (lt_none _ (none_of (λ h. h.x) none)) ∙
       if_false (nat_lt 0 (sx_grants l (with_phase Free held))) _ _ (lt_none _ (none_of (λ h. h.sx) none))))
 
-  pub first_wish : (m : Marks) (mode : Mode) (v : Level) → holdings l (with_phase Free held) ≡ 0 → MayTake v (levels_of held)
+  pub first_wish : (m : Marks) (mode : Mode) (v : Level) → holdings l (with_phase Free held) ≡ 0 → MayFollowAll v (levels_of held)
       → response_of w m (wish mode l v) (with_phase Free held) ≡ first mode l v Free w held
   first_wish m S v none may = s_first v none may
   first_wish m Sx v none may = sx_first v none may

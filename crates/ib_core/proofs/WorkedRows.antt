@@ -13,7 +13,7 @@ use Rattle.ib_core.specs.Holders.{IsTaken}
 use Rattle.ib_core.specs.Responses.{latch_of}
 use Rattle.ib_core.specs.Sessions.{HasFewReaders, idle, reads}
 use Rattle.ib_core.specs.Machine.{CoreState, IsGoodState, fresh, opening_state, outcome_of}
-use Rattle.ib_core.proofs.Places.{all_zero}
+use Rattle.ib_core.proofs.Elements.{all_zero}
 use Rattle.ib_core.proofs.Opened.{at_replicate}
 use Rattle.ib_core.proofs.InWords.{event_kept, opening_good}
 
@@ -32,7 +32,7 @@ few_readers l =
 
 pub last_session_keeps_it_good : (event : Event) → latch_of event < 1 → IsGoodState (outcome_of many_sessions 1999 event).state
 last_session_keeps_it_good event among =
-    event_kept many_sessions (record { place = 1999; event = event }) few_readers
+    event_kept many_sessions (record { index = 1999; event = event }) few_readers
     (record { session = let n = length-replicate 2000 idle in omega arith; latch = among })
     (opening_good 2000 1)
 

@@ -2,7 +2,7 @@
 use Rattle.std.specs.Prelude.{◌≡◌, ◌≢◌, ℕ, ◌<◌, ◌≤◌, ◌⊎◌, ◌==◌, Bool, false, IsTrue, List, sum_by}
 use Rattle.ib_levels.specs.declared.level.Mode.{Mode}
 use Rattle.ib_levels.specs.declared.level.Mode.TheVariants.{S, Sx, X}
-use Rattle.ib_levels.specs.Level.{IsOrderly, MayTake}
+use Rattle.ib_levels.specs.Level.{IsOrderly, MayFollowAll}
 use Rattle.ib_levels.specs.Holding.{levels_of}
 use Rattle.ib_core.specs.declared.phase.Phase.{Phase}
 use Rattle.ib_core.specs.declared.phase.Phase.TheVariants.{Armed, Flagged, Checked, Asleep, Next, NextArmed, NextChecked, NextAsleep, OwesLook, OwesClear, OwesRaise, OwesRaiseEx}
@@ -13,10 +13,10 @@ use Rattle.ib_core.specs.Sessions.{Stands, holdings, reads, claims, grants, x_gr
 -- what a phase says of its session's own holdings: who waits holds nothing on the latch and may
 -- take it at the level recorded, and a next writer has one X there
 abbrev pub Suits : Phase → Session → Type 0
-Suits (Armed l mode v g) a = (holdings l a ≡ 0) × MayTake v (levels_of a.held)
-Suits (Flagged l mode v g) a = (holdings l a ≡ 0) × MayTake v (levels_of a.held)
-Suits (Checked l mode v g) a = (holdings l a ≡ 0) × MayTake v (levels_of a.held)
-Suits (Asleep l mode v g) a = (holdings l a ≡ 0) × MayTake v (levels_of a.held)
+Suits (Armed l mode v g) a = (holdings l a ≡ 0) × MayFollowAll v (levels_of a.held)
+Suits (Flagged l mode v g) a = (holdings l a ≡ 0) × MayFollowAll v (levels_of a.held)
+Suits (Checked l mode v g) a = (holdings l a ≡ 0) × MayFollowAll v (levels_of a.held)
+Suits (Asleep l mode v g) a = (holdings l a ≡ 0) × MayFollowAll v (levels_of a.held)
 Suits (Next l v) a = x_grants l a ≡ 1
 Suits (NextArmed l v g) a = x_grants l a ≡ 1
 Suits (NextChecked l v g) a = x_grants l a ≡ 1

@@ -3,7 +3,7 @@ use Rattle.std.specs.Prelude.{◌≡◌, ◌≢◌, ℕ, ◌<◌, ◌⊎◌, IsT
 use Rattle.ib_levels.specs.declared.level.Level.{Level}
 use Rattle.ib_levels.specs.declared.level.Mode.{Mode}
 use Rattle.ib_levels.specs.declared.level.Mode.TheVariants.{S, Sx, X}
-use Rattle.ib_levels.specs.Level.{MayTake}
+use Rattle.ib_levels.specs.Level.{MayFollowAll}
 use Rattle.ib_levels.specs.Holding.{levels_of}
 use Rattle.ib_core.specs.declared.phase.Phase.TheVariants.{Free}
 use Rattle.ib_core.specs.declared.event.Answer.{Answer}
@@ -58,7 +58,7 @@ IsGrantable X l sessions = IsFreeOfClaims l sessions
 pub record CanWish (l : ℕ) (v : Level) (a : Session) : Type 0 where
   pub free : a.phase ≡ Free
   pub none : holdings l a ≡ 0
-  pub allowed : MayTake v (levels_of a.held)
+  pub allowed : MayFollowAll v (levels_of a.held)
 
 -- the answer to a wish says that it was taken: granted, or reserved for the next writer
 abbrev pub IsTaken : Answer → Type 0

@@ -13,4 +13,4 @@ pub mod Debts
 pub mod Machine
 pub mod Actions
 pub mod Keeping
-pub mod Place
+pub mod HeldAt

@@ -4,7 +4,7 @@ ghost use Rattle.std.specs.Prelude.{◌≡◌, ◌+◌, ◌<◌, ◌≤◌};
 ghost use Rattle.ib_levels.specs.Listed.{answer_to};
 ghost use Rattle.ib_levels.specs.Holding.{is_held, levels_of};
 ghost use Rattle.ib_core.specs.Actor.{session_of};
-ghost use Rattle.ib_core.specs.Place.{IsPlace};
+ghost use Rattle.ib_core.specs.HeldAt.{IsHeldAt};
 ghost use Rattle.ib_core.specs.Rows.{AreGrants};
 ghost use Rattle.ib_core.specs.Sessions.{holdings};
 
@@ -41,8 +41,8 @@ impl Actor {
         requires { holdings latch.0 (session_of self.now) ≤ 1 }
         ensures counts { AreGrants latch.0 (session_of self.now)
             (record { s = result.s; sx = result.sx; x = result.x }) }
-        ensures place { 0 < result.s + result.sx + result.x
-            → IsPlace latch.0 result.at self.now.held.items }
+        ensures index { 0 < result.s + result.sx + result.x
+            → IsHeldAt latch.0 result.at self.now.held.items }
     {
         found_on(self.held.as_slice(), latch)
     }

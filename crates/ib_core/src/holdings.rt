@@ -2,7 +2,7 @@
 
 ghost use Rattle.std.specs.Prelude.{◌≡◌, ℕ, ◌+◌, ◌^◌, ◌<◌, ◌≤◌, ◌==◌, if◌then◌else◌, ◌∷◌, ◌++◌, [], find, position, length, IfSome, vec_len, vec_capacity};
 ghost use Rattle.ib_levels.specs.Holding.{changed_on, on, without_latch};
-ghost use Rattle.ib_core.specs.Place.{IsPlace};
+ghost use Rattle.ib_core.specs.HeldAt.{IsHeldAt};
 ghost use Rattle.ib_core.specs.Takings.{count_of, level_on, one_fewer, one_more};
 
 use crate::removal::take_out;
@@ -53,7 +53,7 @@ pub(crate) fn grants_on(held: &[Holding], latch: Latch) -> Counts
 // The place of the first holding on the latch, None where it is not held.
 #[inline(always)]
 fn place_on(held: &[Holding], latch: Latch) -> Option<usize>
-    ensures place { result ≡ position (λ h. h.latch.0 == latch.0) held.now }
+    ensures index { result ≡ position (λ h. h.latch.0 == latch.0) held.now }
     ensures within { IfSome result (λ at. at < length held.now) }
 {
     held.iter().position(|h| h.latch == latch)
@@ -66,7 +66,7 @@ pub(crate) fn found_on(held: &[Holding], latch: Latch) -> Found
     ensures s { result.s ≡ on latch.0 (λ h. h.s) held.now }
     ensures sx { result.sx ≡ on latch.0 (λ h. h.sx) held.now }
     ensures x { result.x ≡ on latch.0 (λ h. h.x) held.now }
-    ensures place { 0 < result.s + result.sx + result.x → IsPlace latch.0 result.at held.now }
+    ensures index { 0 < result.s + result.sx + result.x → IsHeldAt latch.0 result.at held.now }
 {
     match place_on(held, latch) {
         Some(at) => {
@@ -171,7 +171,7 @@ pub(crate) fn take_one(held: &mut Vec<Holding>, latch: Latch, mode: Mode)
 #[inline(always)]
 pub(crate) fn give_up(held: &mut Vec<Holding>, latch: Latch, at: usize)
     requires single { on latch.0 (λ h. 1) held.old.items ≤ 1 }
-    requires place { IsPlace latch.0 at held.old.items }
+    requires index { IsHeldAt latch.0 at held.old.items }
     ensures items { held.new.items ≡ without_latch latch.0 held.old.items }
     ensures capacity { vec_capacity held.new ≡ vec_capacity held.old }
 {

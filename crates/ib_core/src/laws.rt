@@ -27,7 +27,7 @@ use ib_word::MOST_READERS;
 pub fn core_law()
     ensures each { (state : CoreState) (action : Action) → HasFewReaders state.sessions
         → IsAmong state action → IsGoodState state
-        → IsGoodState (outcome_of state action.place action.event).state }
+        → IsGoodState (outcome_of state action.index action.event).state }
     ensures runs { (sessions latches : ℕ) (actions : List Action) → sessions ≤ MOST_SESSIONS
         → AllAmong (opening_state sessions latches) actions
         → IsGoodState (state_after (opening_state sessions latches) actions) }

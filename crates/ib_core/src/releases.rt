@@ -8,7 +8,7 @@ ghost use Rattle.ib_core.specs.Member.{CanStep};
 ghost use Rattle.ib_core.specs.Rows.{HasMoved};
 ghost use Rattle.ib_core.specs.Sessions.{claims, grants, holdings};
 ghost use Rattle.ib_core.specs.Takings.{count_of, given_back, giving_s, giving_sx, giving_x};
-ghost use Rattle.ib_core.specs.Place.{IsPlace};
+ghost use Rattle.ib_core.specs.HeldAt.{IsHeldAt};
 ghost use Rattle.ib_core.specs.Responses.{answered};
 
 use crate::actor::Actor;
@@ -26,7 +26,7 @@ impl Actor {
         requires single { holdings latch.0 (session_of self.old) ≤ 1 }
         requires few { grants latch.0 (session_of self.old) < 2 ^ 28 }
         requires has { 0 < on latch.0 (count_of mode) self.old.held.items }
-        requires place { IsPlace latch.0 at self.old.held.items }
+        requires index { IsHeldAt latch.0 at self.old.held.items }
         requires all { all ≡ claims latch.0 (session_of self.old) }
         ensures held { self.new.held.items ≡ given_back mode latch.0 (session_of self.old) }
         ensures phase { self.new.phase ≡ self.old.phase }

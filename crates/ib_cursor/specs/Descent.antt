@@ -1,5 +1,5 @@
 -- What a descent keeps, and where it ends.
-use Rattle.std.specs.Prelude.{◌≡◌, ◌⊎◌, ℕ, ◌+◌, ◌<◌, ◌≤◌, Bool, true, false, ◌==◌, ◌&&◌, nat_lt, if◌then◌else◌, List, [], ◌∷◌, ◌++◌, ◌^◌, length, Option}
+use Rattle.std.specs.Prelude.{◌≡◌, ◌⊎◌, ℕ, ◌+◌, ◌<◌, ◌≤◌, Bool, true, false, ◌==◌, ◌&&◌, nat_lt, if◌then◌else◌, List, [], ◌∷◌, ◌++◌, length, Option}
 use Rattle.ib_map.specs.Keys.{MapKey}
 use Rattle.ib_map.specs.Pairs.{value_at}
 use Rattle.ib_map.specs.declared.TheConstants.{PAGE_WORDS}
@@ -12,6 +12,7 @@ use Rattle.ib_logrec.specs.declared.entry.Entry.{Entry}
 use Rattle.ib_walk.specs.Trees.{height_of}
 use Rattle.ib_walk.specs.Search.{leaf_for}
 use Rattle.ib_tree.specs.Logs.{pages_after}
+use Rattle.ib_rule.specs.Conditions.{HasGrantsLeft}
 use Rattle.ib_rule.specs.Pass.{PassState}
 use Rattle.ib_rule.specs.Space.{SpaceState}
 use Rattle.ib_rule.specs.Views.{is_watched, total}
@@ -27,7 +28,7 @@ pub record MayDescend (space : SpaceState) (p : PassState) : Type 0 where
   pub mtr : IsMtr space p
   pub memo : p.memo ≡ []
   pub none : p.work ≡ []
-  pub room : total p.view.grants + 64 ≤ 2 ^ 52
+  pub room : HasGrantsLeft 64 p.view
 
 -- a page is held behind these grants, with a look at the log's end since, and is on the key's path in the tree after all seen; no page is loaded
 pub record IsAt (sizes : Sizes) (lawful : List Entry → Type 0) (opening : ℕ → ℕ) (root : ℕ) (key : MapKey) (front : List Grant) (page level : ℕ) (mode : Mode) (p : PassState) : Type 0 where

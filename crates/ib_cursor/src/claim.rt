@@ -1,14 +1,15 @@
 //! The index claimed, and the path of a key read under it.
 
-ghost use Rattle.std.specs.Prelude.{◌≡◌, ℕ, ◌<◌, ◌≤◌, ◌+◌, ◌^◌, ◌∷◌, ◌++◌, [], true, false, List, Some};
+ghost use Rattle.std.specs.Prelude.{◌≡◌, ℕ, ◌<◌, ◌≤◌, ◌+◌, ◌∷◌, ◌++◌, [], true, false, List, Some};
 ghost use Rattle.ib_map.specs.Space.{has_pages};
 ghost use Rattle.ib_levels.specs.declared.level.Mode.TheVariants.{S};
 ghost use Rattle.ib_page.specs.Image.{IsFormed, next_of, prev_of};
 ghost use Rattle.ib_page.specs.Work.{changed_of};
 ghost use Rattle.ib_heap.specs.declared.TheConstants.{MOST_LEVEL};
 ghost use Rattle.ib_logrec.specs.Log.{by_place};
+ghost use Rattle.ib_rule.specs.Conditions.{HasGrantLeft, HasGrantsLeft};
 ghost use Rattle.ib_rule.specs.Under.{under, under_lawful};
-ghost use Rattle.ib_rule.specs.Views.{is_watched, total};
+ghost use Rattle.ib_rule.specs.Views.{is_watched};
 ghost use Rattle.ib_mtr.specs.Mtr.{IsMtr, IsStillMtr};
 ghost use Rattle.ib_cursor.specs.Claims.{HasClaimed, IsPathWithLeaves, beside, claim_grant};
 ghost use Rattle.ib_cursor.specs.Descent.{IsAt, MayDescend};
@@ -31,13 +32,14 @@ use ib_tree::Trees;
 use std::sync::Wait;
 
 // The laws of trees on the space of a mini-transaction.
-pub(crate) fn shape_of<L: Trees, S: Sleep>(mtr: &Mtr<'_, L, S>)
+pub(crate) fn facts_of_trees<L: Trees, S: Sleep>(mtr: &Mtr<'_, L, S>)
     ensures shapes { ShapeLaws mtr.now.latches.now.sizes.pages L.ROOTS
         (L.lawful mtr.now.latches.now.sizes.pages)
         (by_place L.opening mtr.now.latches.now.sizes.pages) }
     ensures empty { L.lawful mtr.now.latches.now.sizes.pages [] }
     ensures pages { has_pages mtr.now.latches.now.sizes.pages ≡ true }
 {
+    // For the proof: the laws of trees, at the number of pages that the space has.
     L::trees_law();
     let _ = mtr.geometry().pages();
 }
@@ -47,7 +49,7 @@ pub(crate) fn shape_of<L: Trees, S: Sleep>(mtr: &Mtr<'_, L, S>)
 pub(crate) fn claim_index<L: Law, R: Wait>(rt: &R, mtr: &mut Mtr<'_, L, Parkers>)
     requires mtr { IsMtr mtr.old.latches.now mtr.old.pass.now }
     requires memo { mtr.old.pass.now.memo ≡ [] }
-    requires room { total mtr.old.pass.now.view.grants < 2 ^ 52 }
+    requires room { HasGrantLeft mtr.old.pass.now.view }
     requires unwatched { is_watched 1 mtr.old.pass.now.view.memory.since ≡ false }
     ensures still { IsStillMtr mtr.old mtr.new }
     ensures latched { under_lawful L.Law mtr.old.latches.now HasLatched claim_grant mtr.old.pass.now
@@ -82,7 +84,7 @@ fn left_link<L: Trees>(mtr: &mut Mtr<'_, L, Parkers>, sought: Sought, leaf: u32)
     ensures linked { under L.Law mtr.old.latches.now NamesLink sought.root sought.key leaf 0
         result mtr.old.pass.now mtr.new.pass.now }
 {
-    shape_of(mtr);
+    facts_of_trees(mtr);
     read(mtr, leaf);
     let left = left_of(mtr, leaf);
     mtr.forget(leaf);
@@ -101,7 +103,7 @@ fn link_here<L: Trees>(mtr: &mut Mtr<'_, L, Parkers>, sought: Sought, page: u32,
     ensures linked { under L.Law mtr.old.latches.now NamesLink sought.root sought.key page level
         result mtr.old.pass.now mtr.new.pass.now }
 {
-    shape_of(mtr);
+    facts_of_trees(mtr);
     if level == 0 {
         return left_link(mtr, sought, page);
     }
@@ -126,14 +128,14 @@ fn read_link<L: Trees, R: Wait>(
     requires index { under_lawful L.Law mtr.old.latches.now HasIndex mtr.old.pass.now }
     requires on_path { (level : ℕ) × IsOnPath (pages_under L.Law mtr.old.latches.now mtr.old.pass.now)
         sought.root sought.key page level }
-    requires room { total mtr.old.pass.now.view.grants < 2 ^ 52 }
+    requires room { HasGrantLeft mtr.old.pass.now.view }
     requires sought { IsSought L.ROOTS sought.root sought.key }
     ensures still { IsStillMtr mtr.old mtr.new }
     ensures link_read { under L.Law mtr.old.latches.now HasReadLink sought.root sought.key page
         result.level result.link mtr.old.pass.now mtr.new.pass.now }
     ensures low { result.level ≤ MOST_LEVEL }
 {
-    shape_of(mtr);
+    facts_of_trees(mtr);
     latch_page(rt, mtr, page, Mode::S);
     let level = level_of(mtr, page);
     let link = link_here(mtr, sought, page, level);
@@ -158,13 +160,13 @@ pub(crate) fn read_path<L: Trees, R: Wait>(
 ) -> FoundPath
     requires mtr { IsMtr mtr.old.latches.now mtr.old.pass.now }
     requires index { under_lawful L.Law mtr.old.latches.now HasIndex mtr.old.pass.now }
-    requires room { total mtr.old.pass.now.view.grants + 32 ≤ 2 ^ 52 }
+    requires room { HasGrantsLeft 32 mtr.old.pass.now.view }
     requires sought { IsSought L.ROOTS sought.root sought.key }
     ensures still { IsStillMtr mtr.old mtr.new }
     ensures on_path { under L.Law mtr.old.latches.now HasReadPath sought.root sought.key result.path
         result.leaf result.left mtr.old.pass.now mtr.new.pass.now }
 {
-    shape_of(mtr);
+    facts_of_trees(mtr);
     let mut path = Path::new();
     let mut page = sought.root;
     let first = read_link(rt, mtr, sought, page);
@@ -189,7 +191,7 @@ pub(crate) fn read_path<L: Trees, R: Wait>(
 pub(crate) fn take_page<L: Law, R: Wait>(rt: &R, mtr: &mut Mtr<'_, L, Parkers>, page: u32)
     requires mtr { IsMtr mtr.old.latches.now mtr.old.pass.now }
     requires page { page < mtr.old.latches.now.sizes.pages }
-    requires room { total mtr.old.pass.now.view.grants < 2 ^ 52 }
+    requires room { HasGrantLeft mtr.old.pass.now.view }
     requires holds { (held : List ℕ) × under L.Law mtr.old.latches.now CanTakePage held page
         mtr.old.pass.now }
     ensures still { IsStillMtr mtr.old mtr.new }
@@ -197,6 +199,7 @@ pub(crate) fn take_page<L: Law, R: Wait>(rt: &R, mtr: &mut Mtr<'_, L, Parkers>, 
         mtr.old.pass.now → under L.Law mtr.old.latches.now HasTakenPage held page mtr.old.pass.now
         mtr.new.pass.now }
 {
+    // For the proof: a space has a number of pages of which the laws speak.
     let _ = mtr.geometry().pages();
     take(rt, mtr, Latch::page(page), Mode::X, Level::TreeNode);
     read(mtr, page);
@@ -205,7 +208,7 @@ pub(crate) fn take_page<L: Law, R: Wait>(rt: &R, mtr: &mut Mtr<'_, L, Parkers>, 
 // Takes the page of a link, where there is one.
 pub(crate) fn take_beside<L: Law, R: Wait>(rt: &R, mtr: &mut Mtr<'_, L, Parkers>, page: u32)
     requires mtr { IsMtr mtr.old.latches.now mtr.old.pass.now }
-    requires room { total mtr.old.pass.now.view.grants < 2 ^ 52 }
+    requires room { HasGrantLeft mtr.old.pass.now.view }
     requires ready { under L.Law mtr.old.latches.now MayTakeFirst (beside page) mtr.old.pass.now }
     ensures still { IsStillMtr mtr.old mtr.new }
     ensures taken { under L.Law mtr.old.latches.now TakesFirst (beside page) mtr.old.pass.now
@@ -220,7 +223,7 @@ pub(crate) fn take_beside<L: Law, R: Wait>(rt: &R, mtr: &mut Mtr<'_, L, Parkers>
 // Takes the nodes of the path, from the root down.
 fn take_nodes<L: Law, R: Wait>(rt: &R, mtr: &mut Mtr<'_, L, Parkers>, path: &Path)
     requires mtr { IsMtr mtr.old.latches.now mtr.old.pass.now }
-    requires room { total mtr.old.pass.now.view.grants + 32 ≤ 2 ^ 52 }
+    requires room { HasGrantsLeft 32 mtr.old.pass.now.view }
     requires ready { (front : List ℕ) × (more : List ℕ) × (leaf : ℕ)
         × (path.now ≡ front ++ leaf ∷ []) × under L.Law mtr.old.latches.now WillTake []
         (front ++ more) mtr.old.pass.now }
@@ -254,7 +257,7 @@ pub(crate) fn right_of<L: Law, S: Sleep>(mtr: &Mtr<'_, L, S>, leaf: u32) -> u32
 // and the one that its link names then.
 fn take_leaves<L: Law, R: Wait>(rt: &R, mtr: &mut Mtr<'_, L, Parkers>, leaf: u32, left: u32)
     requires mtr { IsMtr mtr.old.latches.now mtr.old.pass.now }
-    requires room { total mtr.old.pass.now.view.grants + 8 ≤ 2 ^ 52 }
+    requires room { HasGrantsLeft 8 mtr.old.pass.now.view }
     requires ready { under L.Law mtr.old.latches.now MayTakeLeaves leaf left mtr.old.pass.now }
     ensures still { IsStillMtr mtr.old mtr.new }
     ensures taken { (r : under L.Law mtr.old.latches.now MayTakeLeaves leaf left mtr.old.pass.now)
@@ -288,7 +291,7 @@ pub fn descend_to_insert<L: Trees, R: Wait>(
         (pages_under L.Law mtr.old.latches.now mtr.new.pass.now) result held }
     ensures alone { is_claimed mtr.new.pass.now.view.memory.since ≡ true }
 {
-    shape_of(mtr);
+    facts_of_trees(mtr);
     claim_index(rt, mtr);
     let found = read_path(rt, mtr, Sought { root, key });
     take_nodes(rt, mtr, &found.path);

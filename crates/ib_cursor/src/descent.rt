@@ -1,10 +1,11 @@
 //! The descent, from the index to the leaf of a key.
 
-ghost use Rattle.std.specs.Prelude.{◌≡◌, ◌+◌, ◌-◌, ◌*◌, ◌<◌, ◌≤◌, ◌^◌, ◌∷◌, [], Bool, false, Some, IfErr, IfOk};
+ghost use Rattle.std.specs.Prelude.{◌≡◌, ◌+◌, ◌-◌, ◌*◌, ◌<◌, ◌≤◌, ◌∷◌, [], Bool, false, Some, IfErr, IfOk};
 ghost use Rattle.ib_heap.specs.declared.TheConstants.{MOST_LEVEL};
+ghost use Rattle.ib_rule.specs.Conditions.{HasGrantLeft};
 ghost use Rattle.ib_rule.specs.Pass.{PassState};
 ghost use Rattle.ib_rule.specs.Under.{under, under_lawful};
-ghost use Rattle.ib_rule.specs.Views.{total, with_grant};
+ghost use Rattle.ib_rule.specs.Views.{with_grant};
 ghost use Rattle.ib_walk.specs.Trees.{height_of};
 ghost use Rattle.ib_mtr.specs.Mtr.{IsMtr, IsStillMtr};
 ghost use Rattle.ib_cursor.specs.Descent.{HasReached, HasDescended, IsAt, IsDown, IsHeldAt, MayDescend};
@@ -38,7 +39,7 @@ fn latch_root<L: Trees, R: Wait>(
     requires mtr { IsMtr mtr.old.latches.now mtr.old.pass.now }
     requires index { HasGrants (index_grant ∷ []) mtr.old.pass.now }
     requires none { mtr.old.pass.now.work ≡ [] }
-    requires room { total mtr.old.pass.now.view.grants < 2 ^ 52 }
+    requires room { HasGrantLeft mtr.old.pass.now.view }
     requires sought { IsSought L.ROOTS sought.root sought.key }
     ensures still { IsStillMtr mtr.old mtr.new }
     ensures here { under L.Law mtr.old.latches.now IsAt sought.root sought.key (index_grant ∷ [])
@@ -51,6 +52,7 @@ fn latch_root<L: Trees, R: Wait>(
     ensures grants { mtr.new.pass.now.view.grants
         ≡ with_grant (Some mode) mtr.old.pass.now.view.grants }
 {
+    // For the proof: the laws of trees, at the number of pages that the space has.
     L::trees_law();
     let _ = mtr.geometry().pages();
     latch_page(rt, mtr, sought.root, mode);
@@ -71,7 +73,7 @@ fn step_down<L: Trees, R: Wait>(
     requires here { under L.Law mtr.old.latches.now IsHeldAt sought.root sought.key
         (index_grant ∷ []) page level mtr.old.pass.now }
     requires node { 0 < level }
-    requires room { total mtr.old.pass.now.view.grants < 2 ^ 52 }
+    requires room { HasGrantLeft mtr.old.pass.now.view }
     requires sought { IsSought L.ROOTS sought.root sought.key }
     ensures still { IsStillMtr mtr.old mtr.new }
     ensures here { under L.Law mtr.old.latches.now IsAt sought.root sought.key (index_grant ∷ [])
@@ -80,6 +82,7 @@ fn step_down<L: Trees, R: Wait>(
     ensures grants { mtr.new.pass.now.view.grants
         ≡ with_grant (Some mode) mtr.old.pass.now.view.grants }
 {
+    // For the proof: the laws of trees, at the number of pages that the space has.
     L::trees_law();
     let _ = mtr.geometry().pages();
     let child = child_of(mtr, page, sought.key);
@@ -159,6 +162,7 @@ fn load_end<L: Trees, S: Sleep>(mtr: &mut Mtr<'_, L, S>, path: &Path, sought: So
         exclusive path.now p mtr.new.pass.now }
     ensures looks { mtr.new.pass.now.view.looks ≡ mtr.old.pass.now.view.looks }
 {
+    // For the proof: the laws of trees, at the number of pages that the space has.
     L::trees_law();
     let _ = mtr.geometry().pages();
     let leaf = path.last().unwrap();

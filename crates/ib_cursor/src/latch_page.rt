@@ -63,7 +63,7 @@ pub(crate) fn look<L: Law, S: Sleep>(mtr: &mut Mtr<'_, L, S>)
     ensures work { mtr.new.pass.now.work ≡ mtr.old.pass.now.work }
     ensures looks { mtr.new.pass.now.view.looks ≡ mtr.old.pass.now.view.looks }
 {
-    // The session's entries are those of its number.
+    // For the proof: the session's entries are those of its number.
     let _ = mtr.pass().number();
     let _ = mtr.log_end();
 }
@@ -88,6 +88,7 @@ pub(crate) fn latch_page<L: Law, R: Wait>(
         → KeepsClaim mtr.old.pass.now mtr.new.pass.now }
     ensures space { has_pages mtr.old.latches.now.sizes.pages ≡ true }
 {
+    // For the proof: a space has a number of pages of which the laws speak.
     let _ = mtr.geometry().pages();
     take(rt, mtr, Latch::page(page), mode, Level::TreeNode);
     look(mtr);
@@ -112,7 +113,7 @@ pub fn read<L: Law, S: Sleep>(mtr: &mut Mtr<'_, L, S>, page: u32)
         mtr.old.pass.now mtr.new.pass.now }
     ensures looks { mtr.new.pass.now.view.looks ≡ mtr.old.pass.now.view.looks }
 {
-    // The session's entries are those of its number.
+    // For the proof: the session's entries are those of its number.
     let _ = mtr.pass().number();
     mtr.load(page);
 }

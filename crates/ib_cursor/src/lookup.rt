@@ -33,6 +33,7 @@ fn value_at_end<L: Trees, S: Sleep>(mtr: &mut Mtr<'_, L, S>, path: &Path, key: K
         mtr.new.pass.now }
     ensures looks { mtr.new.pass.now.view.looks.count ≡ mtr.old.pass.now.view.looks.count }
 {
+    // For the proof: the laws of trees, at the number of pages that the space has.
     L::trees_law();
     let _ = mtr.geometry().pages();
     let leaf = path.last().unwrap();

@@ -27,6 +27,7 @@ pub fn next_leaf<L: Trees, R: Wait>(rt: &R, mtr: &mut Mtr<'_, L, Parkers>, leaf:
         (λ next. under L.Law mtr.old.latches.now HoldsNext L.ROOTS h.front leaf h.image h.range
         next mtr.old.pass.now mtr.new.pass.now) }
 {
+    // For the proof: the laws of trees, at the number of pages that the space has.
     L::trees_law();
     let _ = mtr.geometry().pages();
     let next = right_of(mtr, leaf);

@@ -1,14 +1,14 @@
 //! The descent that does not wait.
 
-ghost use Rattle.std.specs.Prelude.{◌≡◌, ◌+◌, ◌-◌, ◌*◌, ◌<◌, ◌≤◌, ◌^◌, ◌∷◌, [], false, Some, IfErr, IfOk, OnOk};
+ghost use Rattle.std.specs.Prelude.{◌≡◌, ◌+◌, ◌-◌, ◌*◌, ◌<◌, ◌≤◌, ◌∷◌, [], false, Some, IfErr, IfOk, OnOk};
 ghost use Rattle.ib_levels.specs.declared.level.Mode.TheVariants.{S as ModeS};
 ghost use Rattle.ib_levels.specs.declared.level.Level.TheVariants.{TreeNode};
 ghost use Rattle.ib_heap.specs.declared.TheConstants.{MOST_LEVEL};
 ghost use Rattle.ib_core.specs.Holders.{CanWish};
-ghost use Rattle.ib_rule.specs.Conditions.{MayGrow};
+ghost use Rattle.ib_rule.specs.Conditions.{HasGrantLeft, MayGrow};
 ghost use Rattle.ib_rule.specs.Takes.{MayTake};
 ghost use Rattle.ib_rule.specs.Under.{under, under_lawful};
-ghost use Rattle.ib_rule.specs.Views.{total, with_grant};
+ghost use Rattle.ib_rule.specs.Views.{with_grant};
 ghost use Rattle.ib_mtr.specs.Mtr.{IsMtr, IsStillMtr};
 ghost use Rattle.ib_cursor.specs.Descent.{HasReached, IsAt, IsHeldAt, MayDescend};
 ghost use Rattle.ib_cursor.specs.Going.{HasSeen, HasLatched, WentOn};
@@ -68,6 +68,7 @@ fn try_latch_page<L: Law, S: Sleep>(mtr: &mut Mtr<'_, L, S>, page: u32) -> Resul
     ensures few { mtr.new.pass.now.view.looks.count
         ≤ mtr.old.pass.now.view.looks.count + 2 }
 {
+    // For the proof: a space has a number of pages of which the laws speak.
     let _ = mtr.geometry().pages();
     try_latch(mtr, Latch::page(page), Level::TreeNode)?;
     look(mtr);
@@ -79,7 +80,7 @@ fn try_root<L: Trees, S: Sleep>(mtr: &mut Mtr<'_, L, S>, sought: Sought) -> Resu
     requires mtr { IsMtr mtr.old.latches.now mtr.old.pass.now }
     requires index { HasGrants (index_grant ∷ []) mtr.old.pass.now }
     requires none { mtr.old.pass.now.work ≡ [] }
-    requires room { total mtr.old.pass.now.view.grants < 2 ^ 52 }
+    requires room { HasGrantLeft mtr.old.pass.now.view }
     requires sought { IsSought L.ROOTS sought.root sought.key }
     ensures still { IsStillMtr mtr.old mtr.new }
     ensures here { IfOk result (λ level. under L.Law mtr.old.latches.now IsAt sought.root
@@ -95,6 +96,7 @@ fn try_root<L: Trees, S: Sleep>(mtr: &mut Mtr<'_, L, S>, sought: Sought) -> Resu
     ensures few { mtr.new.pass.now.view.looks.count
         ≤ mtr.old.pass.now.view.looks.count + 2 }
 {
+    // For the proof: the laws of trees, at the number of pages that the space has.
     L::trees_law();
     let _ = mtr.geometry().pages();
     match try_latch_page(mtr, sought.root) {
@@ -115,7 +117,7 @@ fn try_down<L: Trees, S: Sleep>(
     requires here { under L.Law mtr.old.latches.now IsHeldAt sought.root sought.key
         (index_grant ∷ []) page level mtr.old.pass.now }
     requires node { 0 < level }
-    requires room { total mtr.old.pass.now.view.grants < 2 ^ 52 }
+    requires room { HasGrantLeft mtr.old.pass.now.view }
     requires sought { IsSought L.ROOTS sought.root sought.key }
     ensures still { IsStillMtr mtr.old mtr.new }
     ensures here { IfOk result (λ child. under L.Law mtr.old.latches.now IsAt sought.root
@@ -129,6 +131,7 @@ fn try_down<L: Trees, S: Sleep>(
     ensures few { mtr.new.pass.now.view.looks.count
         ≤ mtr.old.pass.now.view.looks.count + 2 }
 {
+    // For the proof: the laws of trees, at the number of pages that the space has.
     L::trees_law();
     let _ = mtr.geometry().pages();
     let child = child_of(mtr, page, sought.key);

@@ -6,8 +6,9 @@ ghost use Rattle.ib_page.specs.Image.{IsTreePage, records_of};
 ghost use Rattle.ib_page.specs.Work.{changed_of};
 ghost use Rattle.ib_plans.specs.Agreement.{last_of, path_of};
 ghost use Rattle.ib_plans.specs.Merge.{siblings_of};
+ghost use Rattle.ib_rule.specs.Conditions.{HasGrantLeft, HasGrantsLeft};
 ghost use Rattle.ib_rule.specs.Under.{under, under_lawful};
-ghost use Rattle.ib_rule.specs.Views.{is_watched, total};
+ghost use Rattle.ib_rule.specs.Views.{is_watched};
 ghost use Rattle.ib_mtr.specs.Mtr.{IsMtr, IsStillMtr};
 ghost use Rattle.ib_cursor.specs.Claims.{HasClaimed};
 ghost use Rattle.ib_cursor.specs.Descent.{MayDescend};
@@ -18,7 +19,7 @@ ghost use Rattle.ib_cursor.specs.Spaces.{pages_under};
 ghost use Rattle.ib_cursor.specs.Takings.{HasTakenMore, MayTakeFirst, TakesFirst};
 ghost use Rattle.ib_cursor.specs.OnPath.{IsSought, IsRoot};
 
-use crate::claim::{claim_index, read_path, right_of, shape_of, take_beside, take_page};
+use crate::claim::{claim_index, facts_of_trees, read_path, right_of, take_beside, take_page};
 use crate::search::Sought;
 use ib_latch::{Parkers, Sleep};
 use ib_logrec::Law;
@@ -45,14 +46,14 @@ fn children_of<L: Law, S: Sleep>(mtr: &Mtr<'_, L, S>, node: u32, key: Key) -> Be
 // Takes the page of a node's record, where there is one.
 fn take_child<L: Law, R: Wait>(rt: &R, mtr: &mut Mtr<'_, L, Parkers>, child: Option<(Key, u64)>)
     requires mtr { IsMtr mtr.old.latches.now mtr.old.pass.now }
-    requires room { total mtr.old.pass.now.view.grants < 2 ^ 52 }
+    requires room { HasGrantLeft mtr.old.pass.now.view }
     requires ready { under L.Law mtr.old.latches.now MayTakeFirst (child_if child)
         mtr.old.pass.now }
     ensures still { IsStillMtr mtr.old mtr.new }
     ensures taken { under L.Law mtr.old.latches.now TakesFirst (child_if child) mtr.old.pass.now
         mtr.new.pass.now }
 {
-    // A page of the space has a number that fits 32 bits.
+    // For the proof: a page of the space has a number that fits 32 bits.
     let _ = mtr.geometry().pages();
     if let Some((_, page)) = child {
         take_page(rt, mtr, page as u32);
@@ -72,7 +73,7 @@ fn last_page(here: (Key, u64), right: Option<(Key, u64)>) -> u32
 // It answers the last one.
 fn take_row<L: Law, R: Wait>(rt: &R, mtr: &mut Mtr<'_, L, Parkers>, node: u32, key: Key) -> u32
     requires mtr { IsMtr mtr.old.latches.now mtr.old.pass.now }
-    requires room { total mtr.old.pass.now.view.grants + 8 ≤ 2 ^ 52 }
+    requires room { HasGrantsLeft 8 mtr.old.pass.now.view }
     requires ready { (held : List ℕ) × under L.Law mtr.old.latches.now CanTakeRow key held node
         mtr.old.pass.now }
     ensures still { IsStillMtr mtr.old mtr.new }
@@ -83,7 +84,7 @@ fn take_row<L: Law, R: Wait>(rt: &R, mtr: &mut Mtr<'_, L, Parkers>, node: u32, k
     ensures last { result ≡ last_of (with_siblings (pages_under L.Law mtr.old.latches.now
         mtr.old.pass.now) key node) }
 {
-    // A page of the space has a number that fits 32 bits.
+    // For the proof: a page of the space has a number that fits 32 bits.
     let _ = mtr.geometry().pages();
     let Beside { left, here, right } = children_of(mtr, node, key);
     take_child(rt, mtr, left);
@@ -104,13 +105,13 @@ fn take_rows<L: Trees, R: Wait>(
     requires index { under_lawful L.Law mtr.old.latches.now HasIndex mtr.old.pass.now }
     requires on_path { path.now ≡ path_of (pages_under L.Law mtr.old.latches.now mtr.old.pass.now)
         sought.key sought.root }
-    requires room { total mtr.old.pass.now.view.grants + 32 ≤ 2 ^ 52 }
+    requires room { HasGrantsLeft 32 mtr.old.pass.now.view }
     requires sought { IsSought L.ROOTS sought.root sought.key }
     ensures still { IsStillMtr mtr.old mtr.new }
     ensures taken { under L.Law mtr.old.latches.now HasTakenRows sought.root sought.key path.now
         (length path.now - 1) result mtr.old.pass.now mtr.new.pass.now }
 {
-    shape_of(mtr);
+    facts_of_trees(mtr);
     let pages = path.pages();
     take_page(rt, mtr, sought.root);
     let mut last = sought.root;
@@ -143,7 +144,7 @@ pub fn descend_to_delete<L: Trees, R: Wait>(
         (pages_under L.Law mtr.old.latches.now mtr.new.pass.now) root key result held }
     ensures alone { is_claimed mtr.new.pass.now.view.memory.since ≡ true }
 {
-    shape_of(mtr);
+    facts_of_trees(mtr);
     claim_index(rt, mtr);
     let sought = Sought { root, key };
     let found = read_path(rt, mtr, sought);

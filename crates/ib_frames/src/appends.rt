@@ -57,7 +57,7 @@ pub fn append<L: Law>(
         ↔ (space.now.sizes.log_words < used pass.old.view.memory.seen + ENTRY_WORDS) }
 {
     let geometry = space.geometry();
-    // The law of logs speaks of the numbers of pages that a space has.
+    // For the proof: the law of logs speaks of the numbers of pages that a space has.
     let _ = geometry.pages();
     let cap = geometry.log_words();
     let used = pass.used();
@@ -92,7 +92,7 @@ fn store_pages<L: Law>(space: &Space<L>, pass: &mut Pass, writes: usize)
     ensures during { HasStored (entry_of pass.old) pass.old pass.new }
     ensures stored { PagesStored (entry_of pass.old) writes pass.new }
 {
-    // The places of page words fit 32 bits.
+    // For the proof: the places of page words fit 32 bits.
     let _ = space.geometry().pages();
     for i in 0..writes {
         let write = write_at(pass.words(), i);

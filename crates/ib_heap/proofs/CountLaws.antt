@@ -1,7 +1,7 @@
 -- The slots after a record is taken out, and after a short slot is balanced.
 use Rattle.std.proofs.Common.{◌≡◌, ℕ, zero, suc, ◌+◌, ◌<◌, ◌≤◌, ◌⊎◌, [], ◌∷◌, List, length, refl, ap, sym, arith, inl, inr, subst}
 use Rattle.std.proofs.lemmas.Bool.{cases_eq, eq-eqb, ne_eqb, cases_lt, le-leb, lt-leb}
-use Rattle.ib_heap.specs.Heap.{Node, places_of}
+use Rattle.ib_heap.specs.Heap.{Node, offsets_of}
 use Rattle.ib_heap.specs.Put.{owned_by}
 use Rattle.ib_heap.specs.Take.{own_one_fewer, last_one_fewer, unlink_node, unlink_last, own_three_more, last_three_more, lend, lend_last, balance, balance_last}
 use Rattle.ib_heap.proofs.HeapLaws.{Owned, IsOwner}
@@ -86,10 +86,10 @@ owned-balance n (x ∷ xs) last (inr (inr h)) =
       | inr ge ↦ rw (le-leb 5 (owned_by xs last) ge) (inl (refl, subst (λ (m : ℕ). Owned m (lend xs) (lend_last xs last)) (sym two) (owned-lend xs last h.1 ge)))
     ])
 
--- places are those of the chain without the record
-pub places-own_one_fewer : (xs : List Node) → places_of (own_one_fewer xs) ≡ places_of xs
-places-own_one_fewer [] = refl
-places-own_one_fewer (x ∷ xs) = elim (cases_eq x.owned 0) [
-  | inl e ↦ rw (eq-eqb x.owned 0 e) (ap (λ (ps : List ℕ). x.place ∷ ps) (places-own_one_fewer xs))
+-- offsets are those of the chain without the record
+pub offsets-own_one_fewer : (xs : List Node) → offsets_of (own_one_fewer xs) ≡ offsets_of xs
+offsets-own_one_fewer [] = refl
+offsets-own_one_fewer (x ∷ xs) = elim (cases_eq x.owned 0) [
+  | inl e ↦ rw (eq-eqb x.owned 0 e) (ap (λ (ps : List ℕ). x.offset ∷ ps) (offsets-own_one_fewer xs))
   | inr ne ↦ rw (ne_eqb x.owned 0 ne) refl
 ]

@@ -32,7 +32,7 @@ empty-is level clock le = record {
   freed = tt;
   owned = (refl, omega arith);
   directory = (refl, (refl, (refl, (refl, (refl, (refl, (refl, (refl, (refl, (refl, refl))))))))));
-  places = tt;
+  offsets = tt;
   once = tt;
   keyed = refl;
 }
@@ -84,7 +84,7 @@ leaf-other clock (suc (suc (suc (suc (suc (suc (suc (suc (suc (suc i)))))))))) a
     behind (suc (suc (suc (suc (suc (suc (suc (suc (suc zero))))))))) f g = absurd (g refl)
     behind (suc (suc (suc (suc (suc (suc (suc (suc (suc (suc i)))))))))) f g = zeros-at (PAGE_WORDS - 20) i
 
--- behind the head all is 0
+-- behind the header all is 0
 skip : (ws : List ℕ) (j i w : ℕ) → i ≢ j → get_or ws i 0 ≡ 0 → get_or (set ws j w) i 0 ≡ 0
 skip ws j i w ne none = get_or-set_other ws j i w 0 ne ∙ none
 

@@ -4,9 +4,9 @@ use Rattle.std.proofs.Math.Seq.{take-append_seam, take-append-add}
 use Rattle.std.proofs.lemmas.List.{take-append-le}
 use borrow.Rule.Slice.PartMut.{put_mid}
 use Rattle.ib_map.specs.Keys.{MapKey, rank}
-use Rattle.ib_map.specs.Pairs.{Pairs, Rises, put, value_at, place_of}
+use Rattle.ib_map.specs.Pairs.{Pairs, Rises, put, value_at, index_of}
 use Rattle.ib_map.proofs.PairLaws.{value_at-above, put-behind}
-use Rattle.ib_map.proofs.PlaceLaws.{place_of-behind}
+use Rattle.ib_map.proofs.IndexLaws.{index_of-behind}
 
 -- a record whose key is above all others
 module _ (xs : Pairs) (r : MapKey × ℕ) (rises : Rises 0 xs (rank r.0)) where
@@ -16,8 +16,8 @@ module _ (xs : Pairs) (r : MapKey × ℕ) (rises : Rises 0 xs (rank r.0)) where
   pub is-put-last : put r.0 r.1 xs ≡ xs ++ r ∷ []
   is-put-last = ap (λ (ys : Pairs). put r.0 r.1 ys) (sym (append-nil xs)) ∙ put-behind r.0 r.1 0 xs (rank r.0) [] rises (omega arith)
 
-  pub is-last-place : place_of r.0 xs ≡ length xs
-  is-last-place = ap (λ (ys : Pairs). place_of r.0 ys) (sym (append-nil xs)) ∙ (place_of-behind r.0 0 xs (rank r.0) [] rises (omega arith) ∙ (let e : length xs + 0 ≡ length xs = omega arith in e))
+  pub is-last-index : index_of r.0 xs ≡ length xs
+  is-last-index = ap (λ (ys : Pairs). index_of r.0 ys) (sym (append-nil xs)) ∙ (index_of-behind r.0 0 xs (rank r.0) [] rises (omega arith) ∙ (let e : length xs + 0 ≡ length xs = omega arith in e))
 
 -- the records before one of those that ascend
 pub take-rises : (low : ℕ) (xs : Pairs) (high i : ℕ) (d : MapKey × ℕ) → Rises low xs high → i < length xs → Rises low (take i xs) (rank (get_or xs i d).0)

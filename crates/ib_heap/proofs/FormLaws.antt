@@ -1,4 +1,4 @@
--- What an image holds, and what stands in the words of its head.
+-- What an image holds, and what stands in the words of its header.
 use Rattle.std.proofs.Common.{◌≡◌, ◌≢◌, ℕ, ◌-◌, ◌<◌, ◌≤◌, ◌^◌, ◌⊎◌, true, [], ◌∙◌, List, length, get_or, refl, ap, sym, arith, inl, inr, subst}
 use Rattle.std.specs.Str.{bytes_eq}
 use Rattle.std.proofs.lemmas.Bool.{cases_Bool, cond-true, cond-false}
@@ -84,8 +84,8 @@ length-formed ws holds = elim (kinds_of ws) [
   | neither is ↦ absurd (subst HoldsPage is holds)
 ]
 
--- what stands in the words of an image's head
-pub record HeadRead (ws : List ℕ) : Type 0 where
+-- what stands in the words of an image's header
+pub record HeaderRead (ws : List ℕ) : Type 0 where
   pub level : get_or ws 1 0 ≡ (page_in (page_of ws)).level
   pub count : get_or ws 2 0 ≡ length (page_in (page_of ws)).records
   pub prev : get_or ws 3 0 ≡ (page_in (page_of ws)).prev
@@ -97,8 +97,8 @@ pub record HeadRead (ws : List ℕ) : Type 0 where
   pub few : length (page_in (page_of ws)).records ≤ MOST_RECORDS
   pub size : length ws ≡ PAGE_WORDS
 
-head_read-tree : (ws : List ℕ) → IsHeap ws (read_heap ws) → HeadRead ws
-head_read-tree ws is =
+header_read-tree : (ws : List ℕ) → IsHeap ws (read_heap ws) → HeaderRead ws
+header_read-tree ws is =
     let here : Page = page_with ws (records_in ws (nodes_of ws)) in
     let at : page_in (page_of ws) ≡ here = ap page_in (page-from ws (read_heap ws) is) in
     record {
@@ -114,23 +114,23 @@ head_read-tree ws is =
       size = is.size;
     }
 
-head-free_page_words : (clock : ℕ) → (get_or (free_page_words clock) 1 0 ≡ 0) × (get_or (free_page_words clock) 2 0 ≡ 0)
+header-free_page_words : (clock : ℕ) → (get_or (free_page_words clock) 1 0 ≡ 0) × (get_or (free_page_words clock) 2 0 ≡ 0)
     × (get_or (free_page_words clock) 3 0 ≡ 0) × (get_or (free_page_words clock) 4 0 ≡ 0) × (get_or (free_page_words clock) 5 0 ≡ clock)
 unfolding free_page_words
-head-free_page_words clock = (refl, refl, refl, refl, refl)
+header-free_page_words clock = (refl, refl, refl, refl, refl)
 
-head_read-free : (ws : List ℕ) → HasFree ws → HeadRead ws
-head_read-free ws h =
-    let head = head-free_page_words h.clock in
+header_read-free : (ws : List ℕ) → HasFree ws → HeaderRead ws
+header_read-free ws h =
+    let header = header-free_page_words h.clock in
     let free_page : Page = record { level = 0; prev = 0; next = 0; clock = h.clock; records = [] } in
     let at : page_in (page_of ws) ≡ free_page = ap page_in h.holds in
     let read : (i : ℕ) → get_or ws i 0 ≡ get_or (free_page_words h.clock) i 0 = λ i. ap (λ (xs : List ℕ). get_or xs i 0) h.words in
     record {
-      level = read 1 ∙ (head.0 ∙ ap (λ (q : Page). q.level) (sym at));
-      count = read 2 ∙ (head.1 ∙ ap (λ (q : Page). length q.records) (sym at));
-      prev = read 3 ∙ (head.2 ∙ ap (λ (q : Page). q.prev) (sym at));
-      next = read 4 ∙ (head.3 ∙ ap (λ (q : Page). q.next) (sym at));
-      clock = read 5 ∙ (head.4 ∙ ap (λ (q : Page). q.clock) (sym at));
+      level = read 1 ∙ (header.0 ∙ ap (λ (q : Page). q.level) (sym at));
+      count = read 2 ∙ (header.1 ∙ ap (λ (q : Page). length q.records) (sym at));
+      prev = read 3 ∙ (header.2 ∙ ap (λ (q : Page). q.prev) (sym at));
+      next = read 4 ∙ (header.3 ∙ ap (λ (q : Page). q.next) (sym at));
+      clock = read 5 ∙ (header.4 ∙ ap (λ (q : Page). q.clock) (sym at));
       low = subst (λ (q : Page). q.level ≤ MOST_LEVEL) (sym at) (omega arith);
       prev_fits = subst (λ (q : Page). q.prev < 2 ^ 32) (sym at) (omega arith);
       next_fits = subst (λ (q : Page). q.next < 2 ^ 32) (sym at) (omega arith);
@@ -138,10 +138,10 @@ head_read-free ws h =
       size = length-free ws h;
     }
 
-pub head_read : (ws : List ℕ) → HoldsPage (page_of ws) → HeadRead ws
-head_read ws holds = elim (kinds_of ws) [
-  | tree h ↦ head_read-tree ws h.is
-  | free h ↦ head_read-free ws h
+pub header_read : (ws : List ℕ) → HoldsPage (page_of ws) → HeaderRead ws
+header_read ws holds = elim (kinds_of ws) [
+  | tree h ↦ header_read-tree ws h.is
+  | free h ↦ header_read-free ws h
   | neither is ↦ absurd (subst HoldsPage is holds)
 ]
 
@@ -178,7 +178,7 @@ formed-free ws is = subst HoldsPage (sym (ap page_of is ∙ page_of-free_page_wo
 pub free-formed : (ws : List ℕ) → get_or ws 0 0 ≢ 1 → HoldsPage (page_of ws) → ws ≡ free_page_words (get_or ws 5 0)
 free-formed ws other holds = elim (kinds_of ws) [
   | tree h ↦ absurd (other h.is.kind)
-  | free h ↦ (let clock : h.clock ≡ get_or ws 5 0 = sym (ap (λ (xs : List ℕ). get_or xs 5 0) h.words ∙ (head-free_page_words h.clock).4) in h.words ∙ ap free_page_words clock)
+  | free h ↦ (let clock : h.clock ≡ get_or ws 5 0 = sym (ap (λ (xs : List ℕ). get_or xs 5 0) h.words ∙ (header-free_page_words h.clock).4) in h.words ∙ ap free_page_words clock)
   | neither is ↦ absurd (subst HoldsPage is holds)
 ]
 

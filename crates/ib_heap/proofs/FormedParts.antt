@@ -3,12 +3,12 @@ use Rattle.std.proofs.Common.{inl, inr, ◌≡◌, ℕ, zero, suc, ◌+◌, ◌-
 use Rattle.std.proofs.lemmas.Bool.{cases_Bool, cases_eq, eq-eqb, eqb-true, and_from, and_parts}
 use Rattle.ib_map.specs.Keys.{end_rank}
 use Rattle.ib_heap.specs.Page.{rises, HasLimits}
-use Rattle.ib_heap.specs.Heap.{Heap, is_heap, read_heap, places_of, chain_from, free_from, is_directory, is_owned, owners, records_in, first_of, first_free, used_places}
-use Rattle.ib_heap.specs.Walks.{HasHead, HasSlots, IsUnmet, are_new, met_with, first_step, chain_holds, end_from, free_end}
+use Rattle.ib_heap.specs.Heap.{Heap, is_heap, read_heap, offsets_of, chain_from, free_from, is_directory, is_owned, owners, records_in, first_of, first_free, used_offsets}
+use Rattle.ib_heap.specs.Walks.{HasHeader, HasSlots, IsUnmet, are_new, met_with, first_step, chain_holds, end_from, free_end}
 use Rattle.ib_heap.proofs.PageLaws.{rises-Decides}
-use Rattle.ib_heap.proofs.HeapLaws.{Chained, Freed, Directory, ArePlaces, EachOnce, IsHeap, IsHeap-Decides, Owned-Decides, Directory-Decides, ArePlaces-left, last-word}
-use Rattle.ib_heap.proofs.SeekLaws.{first-in, owner-last, directory-at, directory-few, owners-some, length-records, length-places}
-use Rattle.ib_heap.proofs.MetLaws.{new-append, new-places, new-few, few-new, few-once, once-few}
+use Rattle.ib_heap.proofs.HeapLaws.{Chained, Freed, Directory, AreOffsets, EachOnce, IsHeap, IsHeap-Decides, Owned-Decides, Directory-Decides, AreOffsets-left, last-word}
+use Rattle.ib_heap.proofs.SeekLaws.{first-in, owner-last, directory-at, directory-few, owners-some, length-records, length-offsets}
+use Rattle.ib_heap.proofs.MetLaws.{new-append, new-offsets, new-few, few-new, few-once, once-few}
 use Rattle.ib_heap.proofs.FormedLoops.{chained-from, freed-from, slots-number}
 
 pub length-chain : (ws : List ℕ) (n p : ℕ) → length (chain_from ws n p) ≡ n
@@ -38,14 +38,14 @@ module _ (ws : List ℕ) (k : IsHeap ws (read_heap ws)) where
   h = read_heap ws
 
   low : first_of h.nodes < 256
-  low = elim (first-in (used_places h) h.nodes 0 k.few (ArePlaces-left _ _ _ k.places) (omega arith)) [ inl e ↦ (let f = e.0 in omega arith) | inr e ↦ (let f = e.1.0 in omega arith) ]
+  low = elim (first-in (used_offsets h) h.nodes 0 k.few (AreOffsets-left _ _ _ k.offsets) (omega arith)) [ inl e ↦ (let f = e.0 in omega arith) | inr e ↦ (let f = e.1.0 in omega arith) ]
 
-  pub head-of : HasHead ws
-  head-of =
+  pub header-of : HasHeader ws
+  header-of =
       let t = k.top in let c = k.count in let f = k.few in let s = k.start in let l = low in let w = last-word ws h.nodes h.last k.chained in
       (k.kind, (omega arith, (omega arith, (omega arith, (omega arith, (omega arith, (omega arith, (omega arith, k.directory.0))))))))
 
-  used-is : used_places h ≡ (get_or ws 7 0 % 256 - 20) / 4
+  used-is : used_offsets h ≡ (get_or ws 7 0 % 256 - 20) / 4
   used-is = let t = k.top in let f = k.few in omega arith
 
   pub end-of : end_from ws (get_or ws 2 0) (get_or ws 18 0 % 256) ≡ 19
@@ -77,58 +77,58 @@ module _ (ws : List ℕ) (k : IsHeap ws (read_heap ws)) where
   holds-of : chain_holds ws (get_or ws 2 0) (first_step ws) ≡ true
   holds-of = and_from _ _ (eq-eqb _ _ end-of) (and_from _ _ owned-of (and_from _ _ directory-of (and_from _ _ k.keyed rises-of)))
 
-  new-of : (met : List ℕ) → IsUnmet met → are_new ((get_or ws 7 0 % 256 - 20) / 4) met (places_of h.nodes ++ h.free) ≡ true
+  new-of : (met : List ℕ) → IsUnmet met → are_new ((get_or ws 7 0 % 256 - 20) / 4) met (offsets_of h.nodes ++ h.free) ≡ true
   new-of met unmet =
-      let few : used_places h ≤ 35 = k.few in
-      subst (λ (n : ℕ). are_new n met (places_of h.nodes ++ h.free) ≡ true) used-is
-      (few-new (used_places h) met (places_of h.nodes ++ h.free) few unmet.size k.places
-      (λ r lt. let z = unmet.none r (omega arith) in let o = once-few (used_places h) (places_of h.nodes ++ h.free) k.once r lt in omega arith))
+      let few : used_offsets h ≤ 35 = k.few in
+      subst (λ (n : ℕ). are_new n met (offsets_of h.nodes ++ h.free) ≡ true) used-is
+      (few-new (used_offsets h) met (offsets_of h.nodes ++ h.free) few unmet.size k.offsets
+      (λ r lt. let z = unmet.none r (omega arith) in let o = once-few (used_offsets h) (offsets_of h.nodes ++ h.free) k.once r lt in omega arith))
 
-  new-parts : (met : List ℕ) → IsUnmet met → (are_new ((get_or ws 7 0 % 256 - 20) / 4) met (places_of h.nodes) ≡ true) × (are_new ((get_or ws 7 0 % 256 - 20) / 4) (met_with met (places_of h.nodes)) h.free ≡ true)
-  new-parts met unmet = and_parts (are_new ((get_or ws 7 0 % 256 - 20) / 4) met (places_of h.nodes)) (are_new ((get_or ws 7 0 % 256 - 20) / 4) (met_with met (places_of h.nodes)) h.free)
-      (sym (new-append ((get_or ws 7 0 % 256 - 20) / 4) met (places_of h.nodes) h.free) ∙ new-of met unmet)
+  new-parts : (met : List ℕ) → IsUnmet met → (are_new ((get_or ws 7 0 % 256 - 20) / 4) met (offsets_of h.nodes) ≡ true) × (are_new ((get_or ws 7 0 % 256 - 20) / 4) (met_with met (offsets_of h.nodes)) h.free ≡ true)
+  new-parts met unmet = and_parts (are_new ((get_or ws 7 0 % 256 - 20) / 4) met (offsets_of h.nodes)) (are_new ((get_or ws 7 0 % 256 - 20) / 4) (met_with met (offsets_of h.nodes)) h.free)
+      (sym (new-append ((get_or ws 7 0 % 256 - 20) / 4) met (offsets_of h.nodes) h.free) ∙ new-of met unmet)
 
-  pub chain-of : (met : List ℕ) → IsUnmet met → (are_new ((get_or ws 7 0 % 256 - 20) / 4) met (places_of h.nodes) && chain_holds ws (get_or ws 2 0) (first_step ws)) ≡ true
+  pub chain-of : (met : List ℕ) → IsUnmet met → (are_new ((get_or ws 7 0 % 256 - 20) / 4) met (offsets_of h.nodes) && chain_holds ws (get_or ws 2 0) (first_step ws)) ≡ true
   chain-of met unmet = and_from _ _ (new-parts met unmet).0 holds-of
 
-  pub free-of : (met : List ℕ) → IsUnmet met → (are_new ((get_or ws 7 0 % 256 - 20) / 4) (met_with met (places_of h.nodes)) h.free && eqb (free_end ws ((get_or ws 7 0 % 256 - 20) / 4 - get_or ws 2 0) (get_or ws 6 0)) 0) ≡ true
+  pub free-of : (met : List ℕ) → IsUnmet met → (are_new ((get_or ws 7 0 % 256 - 20) / 4) (met_with met (offsets_of h.nodes)) h.free && eqb (free_end ws ((get_or ws 7 0 % 256 - 20) / 4 - get_or ws 2 0) (get_or ws 6 0)) 0) ≡ true
   free-of met unmet = and_from _ _ (new-parts met unmet).1 (eq-eqb _ _ list-of)
 
 abbrev top_n : List ℕ → ℕ
 top_n ws = (get_or ws 7 0 % 256 - 20) / 4
 
--- the numbers of places and records, by the head
+-- the numbers of offsets and records, by the header
 pub record TopFits (ws : List ℕ) : Type 0 where
   pub low : 20 ≤ get_or ws 7 0 % 256
   pub few : (get_or ws 7 0 % 256 - 20) / 4 ≤ 35
   pub count : get_or ws 2 0 ≤ (get_or ws 7 0 % 256 - 20) / 4
   pub records : get_or ws 2 0 ≤ 35
 
-pub top-fits : (ws : List ℕ) → HasHead ws → TopFits ws
+pub top-fits : (ws : List ℕ) → HasHeader ws → TopFits ws
 top-fits ws h =
     let a = h.1.0 in let b = h.1.1.0 in let d = h.1.1.1.1.0 in
     record { low = b; few = omega arith; count = h.1.1.1.1.1.0; records = a }
 
-pub formed-from : (ws met : List ℕ) → IsUnmet met → length ws ≡ 160 → HasHead ws → HasLimits (get_or ws 1 0) (get_or ws 3 0) (get_or ws 4 0) → HasSlots ws → (are_new (top_n ws) met (places_of (read_heap ws).nodes) && chain_holds ws (get_or ws 2 0) (first_step ws)) ≡ true
-    → (are_new (top_n ws) (met_with met (places_of (read_heap ws).nodes)) (read_heap ws).free && eqb (free_end ws (top_n ws - get_or ws 2 0) (get_or ws 6 0)) 0) ≡ true → IsHeap ws (read_heap ws)
+pub formed-from : (ws met : List ℕ) → IsUnmet met → length ws ≡ 160 → HasHeader ws → HasLimits (get_or ws 1 0) (get_or ws 3 0) (get_or ws 4 0) → HasSlots ws → (are_new (top_n ws) met (offsets_of (read_heap ws).nodes) && chain_holds ws (get_or ws 2 0) (first_step ws)) ≡ true
+    → (are_new (top_n ws) (met_with met (offsets_of (read_heap ws).nodes)) (read_heap ws).free && eqb (free_end ws (top_n ws - get_or ws 2 0) (get_or ws 6 0)) 0) ≡ true → IsHeap ws (read_heap ws)
 formed-from ws met unmet size hd lm sl chain rest =
     let g : Heap = read_heap ws in
     let a0 = and_parts _ _ chain in let b0 = and_parts _ _ rest in
-    let new : are_new (top_n ws) met (places_of g.nodes ++ g.free) ≡ true = new-append (top_n ws) met (places_of g.nodes) g.free ∙ and_from _ _ a0.0 b0.0 in
+    let new : are_new (top_n ws) met (offsets_of g.nodes ++ g.free) ≡ true = new-append (top_n ws) met (offsets_of g.nodes) g.free ∙ and_from _ _ a0.0 b0.0 in
     let fe = eqb-true _ _ b0.1 in
     let c0 = and_parts _ _ a0.1 in let c1 = and_parts _ _ c0.1 in let c2 = and_parts _ _ c1.1 in let c3 = and_parts _ _ c2.1 in
     let en = eqb-true _ _ c0.0 in
     let hd2 = hd.1.0 in let hd3 = hd.1.1.0 in let hd4 = hd.1.1.1.0 in let hd5 = hd.1.1.1.1.0 in let hd6 = hd.1.1.1.1.1.0 in let hd7 = hd.1.1.1.1.1.1.0 in let hd8 = hd.1.1.1.1.1.1.1.0 in let hd9 = hd.1.1.1.1.1.1.1.1 in
     let ln = length-chain ws (get_or ws 2 0) (get_or ws 18 0 % 256) in
     let lf = length-free ws (top_n ws - get_or ws 2 0) (get_or ws 6 0) in
-    let us : top_n ws ≡ used_places g = omega arith in
+    let us : top_n ws ≡ used_offsets g = omega arith in
     let few : top_n ws ≤ 35 = omega arith in
-    let pl : ArePlaces (top_n ws) (places_of g.nodes ++ g.free) = new-places (top_n ws) met (places_of g.nodes ++ g.free) new in
-    let lp : length (places_of g.nodes ++ g.free) ≡ top_n ws = (let a = length-append (places_of g.nodes) g.free in let b = length-places g.nodes in omega arith) in
-    let once : EachOnce (top_n ws) (places_of g.nodes ++ g.free) = few-once (top_n ws) (places_of g.nodes ++ g.free) pl lp (λ r lt.
-    let f = new-few (top_n ws) met (places_of g.nodes ++ g.free) few unmet.size (λ q below. let z = unmet.none q (omega arith) in omega arith) new r lt in
+    let pl : AreOffsets (top_n ws) (offsets_of g.nodes ++ g.free) = new-offsets (top_n ws) met (offsets_of g.nodes ++ g.free) new in
+    let lp : length (offsets_of g.nodes ++ g.free) ≡ top_n ws = (let a = length-append (offsets_of g.nodes) g.free in let b = length-offsets g.nodes in omega arith) in
+    let once : EachOnce (top_n ws) (offsets_of g.nodes ++ g.free) = few-once (top_n ws) (offsets_of g.nodes ++ g.free) pl lp (λ r lt.
+    let f = new-few (top_n ws) met (offsets_of g.nodes ++ g.free) few unmet.size (λ q below. let z = unmet.none q (omega arith) in omega arith) new r lt in
     let z = unmet.none r (omega arith) in omega arith) in
-    let pln : ArePlaces (top_n ws) (places_of g.nodes) = ArePlaces-left _ _ _ pl in
+    let pln : AreOffsets (top_n ws) (offsets_of g.nodes) = AreOffsets-left _ _ _ pl in
     let ch = chained-from ws (get_or ws 2 0) (get_or ws 18 0 % 256) g.last en (omega arith) in
     let fr = freed-from ws (top_n ws - get_or ws 2 0) (get_or ws 6 0) fe in
     let dir : Directory ws 10 8 (18 ∷ owners g.nodes) = (hd9, (Directory-Decides ws 9 9 (owners g.nodes)).0 c2.0) in
@@ -151,7 +151,7 @@ formed-from ws met unmet size hd lm sl chain rest =
       freed = fr.0;
       owned = (Owned-Decides 0 g.nodes g.last).0 c1.0;
       directory = dir;
-      places = subst (λ (n : ℕ). ArePlaces n (places_of g.nodes ++ g.free)) us pl;
-      once = subst (λ (n : ℕ). EachOnce n (places_of g.nodes ++ g.free)) us once;
+      offsets = subst (λ (n : ℕ). AreOffsets n (offsets_of g.nodes ++ g.free)) us pl;
+      once = subst (λ (n : ℕ). EachOnce n (offsets_of g.nodes ++ g.free)) us once;
       keyed = c3.0;
     }

@@ -40,17 +40,17 @@ and_one false = refl
 -- the end of a chain
 pub end-holds : (ws : List ℕ) (s : ChainStep) → s.at ≡ 19 → get_or ws 19 0 / 256 ≡ s.owned + 1 → get_or ws 19 0 / 256 ≤ 8 → (s.slot < 10) × (get_or ws (8 + s.slot) 0 ≡ 19) → low_of s.last ≤ end_rank
     → is_directory ws (10 - (s.slot + 1)) (8 + (s.slot + 1)) [] ≡ chain_holds ws 0 s
-end-holds ws s at head few owner low =
+end-holds ws s at header few owner low =
     let lt = owner.0 in
     let more : 10 - s.slot ≡ suc (10 - (s.slot + 1)) = omega arith in
     let next : 8 + s.slot + 1 ≡ 8 + (s.slot + 1) = omega arith in
     let slots : is_directory ws (10 - s.slot) (8 + s.slot) (19 ∷ []) ≡ is_directory ws (10 - (s.slot + 1)) (8 + (s.slot + 1)) [] =
     ap (λ n. is_directory ws n (8 + s.slot) (19 ∷ [])) more ∙ rw (eq-eqb (get_or ws (8 + s.slot) 0) 19 owner.1) (ap (λ i. is_directory ws (10 - (s.slot + 1)) i []) next) in
-    sym (rw (eq-eqb s.at 19 at, eq-eqb (get_or ws 19 0 / 256) (s.owned + 1) head, le-leb (get_or ws 19 0 / 256) 8 few, le-leb (low_of s.last) end_rank low) (and_one _ ∙ slots))
+    sym (rw (eq-eqb s.at 19 at, eq-eqb (get_or ws 19 0 / 256) (s.owned + 1) header, le-leb (get_or ws 19 0 / 256) 8 few, le-leb (low_of s.last) end_rank low) (and_one _ ∙ slots))
 
 module _ (ws : List ℕ) (s : ChainStep) (m : ℕ) where
-  abbrev head : ℕ
-  head = get_or ws s.at 0 / 256
+  abbrev header : ℕ
+  header = get_or ws s.at 0 / 256
 
   abbrev key : MapKey
   key = key_at ws s.at
@@ -61,23 +61,23 @@ module _ (ws : List ℕ) (s : ChainStep) (m : ℕ) where
   keys-behind : (owned slot : ℕ) → low_of s.last ≤ rank key → is_key_at ws s.at ≡ true → keys_part ws (suc m) s ≡ keys_part ws m (step_behind ws s owned slot)
   keys-behind owned slot le is = rw (le-leb (low_of s.last) (rank key) le, is) refl
 
-  pub holds-none : head ≡ 0 → low_of s.last ≤ rank key → is_key_at ws s.at ≡ true → chain_holds ws (suc m) s ≡ chain_holds ws m (step_behind ws s (s.owned + 1) s.slot)
-  holds-none z le is = parts-same ws m s (step_behind ws s (s.owned + 1) s.slot) refl (rw (eq-eqb head 0 z) refl) (rw (eq-eqb head 0 z) refl) (keys-behind (s.owned + 1) s.slot le is)
+  pub holds-none : header ≡ 0 → low_of s.last ≤ rank key → is_key_at ws s.at ≡ true → chain_holds ws (suc m) s ≡ chain_holds ws m (step_behind ws s (s.owned + 1) s.slot)
+  holds-none z le is = parts-same ws m s (step_behind ws s (s.owned + 1) s.slot) refl (rw (eq-eqb header 0 z) refl) (rw (eq-eqb header 0 z) refl) (keys-behind (s.owned + 1) s.slot le is)
 
-  owned-some : (head ≡ 0 → ⊥) → IsOwner s.owned head → owned_part ws (suc m) s ≡ is_owned 0 (chain_from ws m rest_at) (get_or ws 19 0 / 256)
-  owned-some ne is = rw (ne_eqb head 0 ne, eq-eqb head (s.owned + 1) is.0, le-leb 4 head is.1.0, le-leb head 8 is.1.1) refl
+  owned-some : (header ≡ 0 → ⊥) → IsOwner s.owned header → owned_part ws (suc m) s ≡ is_owned 0 (chain_from ws m rest_at) (get_or ws 19 0 / 256)
+  owned-some ne is = rw (ne_eqb header 0 ne, eq-eqb header (s.owned + 1) is.0, le-leb 4 header is.1.0, le-leb header 8 is.1.1) refl
 
-  slots-some : (head ≡ 0 → ⊥) → (s.slot < 10) × (get_or ws (8 + s.slot) 0 ≡ s.at) → slots_part ws (suc m) s ≡ is_directory ws (10 - (s.slot + 1)) (8 + (s.slot + 1)) (owners (chain_from ws m rest_at))
+  slots-some : (header ≡ 0 → ⊥) → (s.slot < 10) × (get_or ws (8 + s.slot) 0 ≡ s.at) → slots_part ws (suc m) s ≡ is_directory ws (10 - (s.slot + 1)) (8 + (s.slot + 1)) (owners (chain_from ws m rest_at))
   slots-some ne owner =
       let lt = owner.0 in
-      let first : owners (chain_from ws (suc m) s.at) ≡ s.at ∷ owners (chain_from ws m rest_at) = rw (ne_eqb head 0 ne) refl in
+      let first : owners (chain_from ws (suc m) s.at) ≡ s.at ∷ owners (chain_from ws m rest_at) = rw (ne_eqb header 0 ne) refl in
       let more : 10 - s.slot ≡ suc (10 - (s.slot + 1)) = omega arith in
       let next : 8 + s.slot + 1 ≡ 8 + (s.slot + 1) = omega arith in
       ap (λ (slots : List ℕ). is_directory ws (10 - s.slot) (8 + s.slot) slots) first
       ∙ (ap (λ n. is_directory ws n (8 + s.slot) (s.at ∷ owners (chain_from ws m rest_at))) more
       ∙ rw (eq-eqb (get_or ws (8 + s.slot) 0) s.at owner.1) (ap (λ i. is_directory ws (10 - (s.slot + 1)) i (owners (chain_from ws m rest_at))) next))
 
-  pub holds-some : (head ≡ 0 → ⊥) → IsOwner s.owned head → (s.slot < 10) × (get_or ws (8 + s.slot) 0 ≡ s.at) → low_of s.last ≤ rank key → is_key_at ws s.at ≡ true → chain_holds ws (suc m) s ≡ chain_holds ws m (step_behind ws s 0 (s.slot + 1))
+  pub holds-some : (header ≡ 0 → ⊥) → IsOwner s.owned header → (s.slot < 10) × (get_or ws (8 + s.slot) 0 ≡ s.at) → low_of s.last ≤ rank key → is_key_at ws s.at ≡ true → chain_holds ws (suc m) s ≡ chain_holds ws m (step_behind ws s 0 (s.slot + 1))
   holds-some ne is owner le is_key = parts-same ws m s (step_behind ws s 0 (s.slot + 1)) refl (owned-some ne is) (slots-some ne owner) (keys-behind 0 (s.slot + 1) le is_key)
 
   -- words that are no key's
@@ -89,10 +89,10 @@ module _ (ws : List ℕ) (s : ChainStep) (m : ℕ) where
       (and_right (owned_part ws (suc m) s) (slots_part ws (suc m) s && keys_part ws (suc m) s) (and_right (slots_part ws (suc m) s) (keys_part ws (suc m) s) keys))
 
   -- a slot that is another's
-  pub holds-unowned : (head ≡ 0 → ⊥) → ((s.slot < 10) × (get_or ws (8 + s.slot) 0 ≡ s.at) → ⊥) → chain_holds ws (suc m) s ≡ false
+  pub holds-unowned : (header ≡ 0 → ⊥) → ((s.slot < 10) × (get_or ws (8 + s.slot) 0 ≡ s.at) → ⊥) → chain_holds ws (suc m) s ≡ false
   holds-unowned ne not =
       let rest : List ℕ = owners (chain_from ws m rest_at) in
-      let first : owners (chain_from ws (suc m) s.at) ≡ s.at ∷ rest = rw (ne_eqb head 0 ne) refl in
+      let first : owners (chain_from ws (suc m) s.at) ≡ s.at ∷ rest = rw (ne_eqb header 0 ne) refl in
       let slots : slots_part ws (suc m) s ≡ false = ap (λ (os : List ℕ). is_directory ws (10 - s.slot) (8 + s.slot) os) first ∙ elim (cases_lt s.slot 10) [
         | inl lt ↦ (let more : 10 - s.slot ≡ suc (10 - (s.slot + 1)) = omega arith in
             ap (λ n. is_directory ws n (8 + s.slot) (s.at ∷ rest)) more ∙ and_left _ _ (ne_eqb (get_or ws (8 + s.slot) 0) s.at (λ e. not (lt, e))))

@@ -7,14 +7,14 @@ use Rattle.std.proofs.lemmas.Bool.Decides.{Decides-and, Decides-like, Decides-eq
 use Rattle.ib_map.specs.declared.TheConstants.{PAGE_WORDS}
 use Rattle.ib_heap.specs.Words.{free_page_words}
 use Rattle.ib_heap.specs.Page.{IsPage, HoldsTree}
-use Rattle.ib_heap.specs.Heap.{Node, Heap, first_of, first_free, is_chained, is_freed, is_owned, owners, is_directory, times, is_place, are_places, each_once, places_of, records_in, used_places, page_with, is_heap, chain_from, free_from, read_heap, are_keys}
+use Rattle.ib_heap.specs.Heap.{Node, Heap, first_of, first_free, is_chained, is_freed, is_owned, owners, is_directory, times, is_offset, are_offsets, each_once, offsets_of, records_in, used_offsets, page_with, is_heap, chain_from, free_from, read_heap, are_keys}
 use Rattle.ib_heap.specs.Form.{page_of}
 use Rattle.ib_heap.specs.Page.PageValue.{Tree}
 use Rattle.ib_heap.proofs.PageLaws.{Decides-leb, Decides-ltb, counts_page-Decides}
 
 abbrev pub Chained : List ℕ → List Node → ℕ → Type 0
 Chained ws [] last = get_or ws 19 0 ≡ last * 256
-Chained ws (x ∷ xs) last = (get_or ws x.place 0 ≡ x.owned * 256 + first_of xs) × Chained ws xs last
+Chained ws (x ∷ xs) last = (get_or ws x.offset 0 ≡ x.owned * 256 + first_of xs) × Chained ws xs last
 
 pub Chained-Decides : (ws : List ℕ) (xs : List Node) (last : ℕ) → Decides (is_chained ws xs last) (Chained ws xs last)
 Chained-Decides ws [] last = Decides-eqb _ _
@@ -60,28 +60,28 @@ Directory-Decides ws zero i slots = Decides-eqb _ _
 Directory-Decides ws (suc n) i [] = Decides-and _ _ (Decides-eqb _ _) (Directory-Decides ws n (i + 1) [])
 Directory-Decides ws (suc n) i (s ∷ slots) = Decides-and _ _ (Decides-eqb _ _) (Directory-Decides ws n (i + 1) slots)
 
--- what holds of a record place
-pub record IsPlace (n p : ℕ) : Type 0 where
+-- what holds of a record offset
+pub record IsOffset (n p : ℕ) : Type 0 where
   pub number : ℕ
   pub is : p ≡ 20 + 4 * number
   pub below : number < n
 
-place-from : (n p : ℕ) → (20 ≤ p) × (((p - 20) % 4 ≡ 0) × (p < 20 + 4 * n)) → IsPlace n p
-place-from n p h = let a = h.0 in let b = h.1.0 in let d = h.1.1 in record { number = (p - 20) / 4; is = omega arith; below = omega arith }
+offset-from : (n p : ℕ) → (20 ≤ p) × (((p - 20) % 4 ≡ 0) × (p < 20 + 4 * n)) → IsOffset n p
+offset-from n p h = let a = h.0 in let b = h.1.0 in let d = h.1.1 in record { number = (p - 20) / 4; is = omega arith; below = omega arith }
 
-place-to : (n p : ℕ) → IsPlace n p → (20 ≤ p) × (((p - 20) % 4 ≡ 0) × (p < 20 + 4 * n))
-place-to n p h = let a = h.is in let b = h.below in (omega arith, (omega arith, omega arith))
+offset-to : (n p : ℕ) → IsOffset n p → (20 ≤ p) × (((p - 20) % 4 ≡ 0) × (p < 20 + 4 * n))
+offset-to n p h = let a = h.is in let b = h.below in (omega arith, (omega arith, omega arith))
 
-pub IsPlace-Decides : (n p : ℕ) → Decides (is_place n p) (IsPlace n p)
-IsPlace-Decides n p = Decides-like (is_place n p) (place-from n p) (place-to n p) (Decides-and _ _ (Decides-leb 20 p) (Decides-and _ _ (Decides-eqb ((p - 20) % 4) 0) (Decides-ltb p (20 + 4 * n))))
+pub IsOffset-Decides : (n p : ℕ) → Decides (is_offset n p) (IsOffset n p)
+IsOffset-Decides n p = Decides-like (is_offset n p) (offset-from n p) (offset-to n p) (Decides-and _ _ (Decides-leb 20 p) (Decides-and _ _ (Decides-eqb ((p - 20) % 4) 0) (Decides-ltb p (20 + 4 * n))))
 
-abbrev pub ArePlaces : ℕ → List ℕ → Type 0
-ArePlaces n [] = Unit {0}
-ArePlaces n (p ∷ ps) = IsPlace n p × ArePlaces n ps
+abbrev pub AreOffsets : ℕ → List ℕ → Type 0
+AreOffsets n [] = Unit {0}
+AreOffsets n (p ∷ ps) = IsOffset n p × AreOffsets n ps
 
-pub ArePlaces-Decides : (n : ℕ) (ps : List ℕ) → Decides (are_places n ps) (ArePlaces n ps)
-ArePlaces-Decides n [] = (λ h. tt, λ h. refl)
-ArePlaces-Decides n (p ∷ ps) = Decides-and _ _ (IsPlace-Decides n p) (ArePlaces-Decides n ps)
+pub AreOffsets-Decides : (n : ℕ) (ps : List ℕ) → Decides (are_offsets n ps) (AreOffsets n ps)
+AreOffsets-Decides n [] = (λ h. tt, λ h. refl)
+AreOffsets-Decides n (p ∷ ps) = Decides-and _ _ (IsOffset-Decides n p) (AreOffsets-Decides n ps)
 
 abbrev pub EachOnce : ℕ → List ℕ → Type 0
 EachOnce zero ps = Unit {0}
@@ -98,15 +98,15 @@ pub record IsHeap (ws : List ℕ) (h : Heap) : Type 0 where
   pub count : get_or ws 2 0 ≡ length h.nodes
   pub fits : IsPage (page_with ws (records_in ws h.nodes))
   pub front : get_or ws 6 0 ≡ first_free h.free
-  pub top : get_or ws 7 0 ≡ (1 + length (owners h.nodes)) * 256 + (20 + 4 * used_places h)
-  pub few : used_places h ≤ 35
+  pub top : get_or ws 7 0 ≡ (1 + length (owners h.nodes)) * 256 + (20 + 4 * used_offsets h)
+  pub few : used_offsets h ≤ 35
   pub start : get_or ws 18 0 ≡ 256 + first_of h.nodes
   pub chained : Chained ws h.nodes h.last
   pub freed : Freed ws h.free
   pub owned : Owned 0 h.nodes h.last
   pub directory : Directory ws 10 8 (18 ∷ owners h.nodes)
-  pub places : ArePlaces (used_places h) (places_of h.nodes ++ h.free)
-  pub once : EachOnce (used_places h) (places_of h.nodes ++ h.free)
+  pub offsets : AreOffsets (used_offsets h) (offsets_of h.nodes ++ h.free)
+  pub once : EachOnce (used_offsets h) (offsets_of h.nodes ++ h.free)
   pub keyed : are_keys ws h.nodes ≡ true
 
 pub IsHeap-Decides : (ws : List ℕ) (h : Heap) → Decides (is_heap ws h) (IsHeap ws h)
@@ -124,28 +124,28 @@ IsHeap-Decides ws h = Decides-like (is_heap ws h)
       freed = k.1.1.1.1.1.1.1.1.1.0;
       owned = k.1.1.1.1.1.1.1.1.1.1.0;
       directory = k.1.1.1.1.1.1.1.1.1.1.1.0;
-      places = k.1.1.1.1.1.1.1.1.1.1.1.1.0;
+      offsets = k.1.1.1.1.1.1.1.1.1.1.1.1.0;
       once = k.1.1.1.1.1.1.1.1.1.1.1.1.1.0;
       keyed = k.1.1.1.1.1.1.1.1.1.1.1.1.1.1;
     })
-    (λ k. (k.size, (k.kind, (k.count, (k.fits, (k.front, (k.top, (k.few, (k.start, (k.chained, (k.freed, (k.owned, (k.directory, (k.places, (k.once, k.keyed)))))))))))))))
+    (λ k. (k.size, (k.kind, (k.count, (k.fits, (k.front, (k.top, (k.few, (k.start, (k.chained, (k.freed, (k.owned, (k.directory, (k.offsets, (k.once, k.keyed)))))))))))))))
     (Decides-and _ _ (Decides-eqb _ _) (Decides-and _ _ (Decides-eqb _ _) (Decides-and _ _ (Decides-eqb _ _) (Decides-and _ _ (counts_page-Decides _)
     (Decides-and _ _ (Decides-eqb _ _) (Decides-and _ _ (Decides-eqb _ _) (Decides-and _ _ (Decides-leb _ _) (Decides-and _ _ (Decides-eqb _ _)
     (Decides-and _ _ (Chained-Decides ws h.nodes h.last) (Decides-and _ _ (Freed-Decides ws h.free) (Decides-and _ _ (Owned-Decides 0 h.nodes h.last)
-    (Decides-and _ _ (Directory-Decides ws 10 8 (18 ∷ owners h.nodes)) (Decides-and _ _ (ArePlaces-Decides _ _) (Decides-and _ _ (EachOnce-Decides _ _)
+    (Decides-and _ _ (Directory-Decides ws 10 8 (18 ∷ owners h.nodes)) (Decides-and _ _ (AreOffsets-Decides _ _) (Decides-and _ _ (EachOnce-Decides _ _)
     (λ yes. yes, λ yes. yes)))))))))))))))
 
--- places of two lists
-pub ArePlaces-left : (n : ℕ) (ps qs : List ℕ) → ArePlaces n (ps ++ qs) → ArePlaces n ps
-ArePlaces-left n [] qs h = tt
-ArePlaces-left n (p ∷ ps) qs h = (h.0, ArePlaces-left n ps qs h.1)
+-- offsets of two lists
+pub AreOffsets-left : (n : ℕ) (ps qs : List ℕ) → AreOffsets n (ps ++ qs) → AreOffsets n ps
+AreOffsets-left n [] qs h = tt
+AreOffsets-left n (p ∷ ps) qs h = (h.0, AreOffsets-left n ps qs h.1)
 
-pub ArePlaces-right : (n : ℕ) (ps qs : List ℕ) → ArePlaces n (ps ++ qs) → ArePlaces n qs
-ArePlaces-right n [] qs h = h
-ArePlaces-right n (p ∷ ps) qs h = ArePlaces-right n ps qs h.1
+pub AreOffsets-right : (n : ℕ) (ps qs : List ℕ) → AreOffsets n (ps ++ qs) → AreOffsets n qs
+AreOffsets-right n [] qs h = h
+AreOffsets-right n (p ∷ ps) qs h = AreOffsets-right n ps qs h.1
 
 -- the chain is read from its words again
-pub first-low : (n : ℕ) (xs : List Node) → n ≤ 35 → ArePlaces n (places_of xs) → first_of xs < 256
+pub first-low : (n : ℕ) (xs : List Node) → n ≤ 35 → AreOffsets n (offsets_of xs) → first_of xs < 256
 first-low n [] le h = omega arith
 first-low n (x ∷ xs) le h = let a = h.0.is in let b = h.0.below in omega arith
 
@@ -154,15 +154,15 @@ pub last-word : (ws : List ℕ) (xs : List Node) (last : ℕ) → Chained ws xs 
 last-word ws [] last c = c
 last-word ws (x ∷ xs) last c = last-word ws xs last c.1
 
-pub chain-read : (ws : List ℕ) (n : ℕ) (xs : List Node) (last : ℕ) → n ≤ 35 → ArePlaces n (places_of xs) → Chained ws xs last → chain_from ws (length xs) (first_of xs) ≡ xs
-chain-read ws n [] last le places h = refl
-chain-read ws n (x ∷ xs) last le places h =
-    let low = first-low n xs le places.1 in
-    let head = h.0 in
-    let owned : get_or ws x.place 0 / 256 ≡ x.owned = omega arith in
-    let next : get_or ws x.place 0 % 256 ≡ first_of xs = omega arith in
-    let rest = chain-read ws n xs last le places.1 h.1 in
-    ap (λ k. (let y : Node = record { place = x.place; owned = k } in y) ∷ chain_from ws (length xs) (get_or ws x.place 0 % 256)) owned
+pub chain-read : (ws : List ℕ) (n : ℕ) (xs : List Node) (last : ℕ) → n ≤ 35 → AreOffsets n (offsets_of xs) → Chained ws xs last → chain_from ws (length xs) (first_of xs) ≡ xs
+chain-read ws n [] last le offsets h = refl
+chain-read ws n (x ∷ xs) last le offsets h =
+    let low = first-low n xs le offsets.1 in
+    let header = h.0 in
+    let owned : get_or ws x.offset 0 / 256 ≡ x.owned = omega arith in
+    let next : get_or ws x.offset 0 % 256 ≡ first_of xs = omega arith in
+    let rest = chain-read ws n xs last le offsets.1 h.1 in
+    ap (λ k. (let y : Node = record { offset = x.offset; owned = k } in y) ∷ chain_from ws (length xs) (get_or ws x.offset 0 % 256)) owned
     ∙ (ap (λ k. x ∷ chain_from ws (length xs) k) next ∙ ap (λ (ys : List Node). x ∷ ys) rest)
 
 pub free-read : (ws : List ℕ) (ps : List ℕ) → Freed ws ps → free_from ws (length ps) (first_free ps) ≡ ps
@@ -175,11 +175,11 @@ heap-read ws h k =
     let top = k.top in
     let count = k.count in
     let start = k.start in
-    let nodes_places = ArePlaces-left (used_places h) (places_of h.nodes) h.free k.places in
-    let low = first-low (used_places h) h.nodes few nodes_places in
+    let nodes_offsets = AreOffsets-left (used_offsets h) (offsets_of h.nodes) h.free k.offsets in
+    let low = first-low (used_offsets h) h.nodes few nodes_offsets in
     let first : get_or ws 18 0 % 256 ≡ first_of h.nodes = omega arith in
     let nodes : chain_from ws (get_or ws 2 0) (get_or ws 18 0 % 256) ≡ h.nodes =
-    ap (λ n. chain_from ws n (get_or ws 18 0 % 256)) count ∙ (ap (λ n. chain_from ws (length h.nodes) n) first ∙ chain-read ws (used_places h) h.nodes h.last few nodes_places k.chained) in
+    ap (λ n. chain_from ws n (get_or ws 18 0 % 256)) count ∙ (ap (λ n. chain_from ws (length h.nodes) n) first ∙ chain-read ws (used_offsets h) h.nodes h.last few nodes_offsets k.chained) in
     let last : get_or ws 19 0 / 256 ≡ h.last = let e = last-word ws h.nodes h.last k.chained in omega arith in
     let long : (get_or ws 7 0 % 256 - 20) / 4 - get_or ws 2 0 ≡ length h.free = omega arith in
     let free : free_from ws ((get_or ws 7 0 % 256 - 20) / 4 - get_or ws 2 0) (get_or ws 6 0) ≡ h.free =

@@ -1,7 +1,7 @@
 -- How many records stand before a slot, by what the slots before it own.
 use Rattle.std.proofs.Common.{◌≡◌, ℕ, zero, suc, ◌+◌, ◌/◌, ◌<◌, ◌≤◌, [], ◌∷◌, ◌∙◌, List, length, drop, get_or, refl, ap, sym, arith, inl, inr, subst}
 use Rattle.std.proofs.lemmas.Bool.{eq-eqb, ne_eqb}
-use Rattle.ib_heap.specs.Heap.{Node, owners, up_to, used_places, read_heap, nodes_of}
+use Rattle.ib_heap.specs.Heap.{Node, owners, up_to, used_offsets, read_heap, nodes_of}
 use Rattle.ib_heap.specs.Put.{owned_by, owner_from}
 use Rattle.ib_heap.proofs.HeapLaws.{Owned}
 use Rattle.ib_heap.proofs.SeekLaws.{Known, directory-at, up_to-le}
@@ -26,13 +26,13 @@ up_to-next (suc j) n (x ∷ xs) last none (inl h) lt =
 up_to-next (suc j) n (x ∷ xs) last none (inr h) lt =
     let a = h.0.0 in
     let e = ne_eqb x.owned 0 (λ z. omega arith) in
-    let l : suc (suc j) < length (x.place ∷ owners xs) = rw e at lt in
+    let l : suc (suc j) < length (x.offset ∷ owners xs) = rw e at lt in
     let r = up_to-next j 0 xs last (λ z. refl) h.1 (omega arith) in
     let s : up_to (suc j) (x ∷ xs) ≡ suc (up_to j xs) = rw e (omega arith) in
     let t : up_to (suc (suc j)) (x ∷ xs) ≡ 1 + up_to (suc j) xs = rw e refl in
     subst (λ (m : ℕ). up_to (suc (suc j)) (x ∷ xs) ≡ m + owned_by (drop m (x ∷ xs)) last) (sym s) (t ∙ (let q : 1 + up_to (suc j) xs ≡ suc (up_to j xs) + owned_by (drop (up_to j xs) xs) last = omega arith in q))
 
--- the number of a slot's owner, by its head
+-- the number of a slot's owner, by its header
 pub index-step : (ws : List ℕ) (j : ℕ) → Known ws → suc j < length (owners (nodes_of ws)) → up_to (suc j) (nodes_of ws) ≡ up_to j (nodes_of ws) + get_or ws (get_or ws (8 + suc j) 0) 0 / 256
 index-step ws j kn lt =
     let xs = nodes_of ws in let last = (read_heap ws).last in
@@ -41,10 +41,10 @@ index-step ws j kn lt =
     let le = up_to-le j xs in
     let within : InSlot j (up_to j xs) xs = (omega arith, (inl (omega arith), omega arith)) in
     let slots = kn.slots in
-    let place : get_or ws (8 + suc j) 0 ≡ owner_from (drop (up_to j xs) xs) = directory-at ws 10 8 (18 ∷ owners xs) (suc j) kn.is.directory (omega arith) ∙ owner-slot 18 j (up_to j xs) xs within le in
-    let o = owner-word ws (used_places (read_heap ws)) (up_to j xs) xs last kn.few kn.places kn.is.chained le in
+    let offset : get_or ws (8 + suc j) 0 ≡ owner_from (drop (up_to j xs) xs) = directory-at ws 10 8 (18 ∷ owners xs) (suc j) kn.is.directory (omega arith) ∙ owner-slot 18 j (up_to j xs) xs within le in
+    let o = owner-word ws (used_offsets (read_heap ws)) (up_to j xs) xs last kn.few kn.offsets kn.is.chained le in
     let i = o.is in let l = o.low in
-    let word : get_or ws (get_or ws (8 + suc j) 0) 0 ≡ get_or ws (owner_from (drop (up_to j xs) xs)) 0 = ap (λ n. get_or ws n 0) place in
+    let word : get_or ws (get_or ws (8 + suc j) 0) 0 ≡ get_or ws (owner_from (drop (up_to j xs) xs)) 0 = ap (λ n. get_or ws n 0) offset in
     omega arith
 
 pub index-low : (ws : List ℕ) (j : ℕ) → Known ws → up_to j (nodes_of ws) ≤ 35

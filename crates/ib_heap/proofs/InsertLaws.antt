@@ -1,15 +1,15 @@
 -- An insert, step by step.
 use Rattle.std.proofs.Common.{◌≡◌, ℕ, zero, suc, ◌+◌, ◌-◌, ◌/◌, ◌<◌, ◌≤◌, ◌∙◌, List, length, drop, get_or, refl, ap, sym, subst, arith, None}
 use Rattle.ib_map.specs.Keys.{MapKey, rank, end_rank}
-use Rattle.ib_map.specs.Pairs.{put, value_at, place_of}
+use Rattle.ib_map.specs.Pairs.{put, value_at, index_of}
 use Rattle.ib_heap.specs.Page.{Page, HoldsTree}
 use Rattle.ib_heap.specs.Page.PageValue.{Tree}
-use Rattle.ib_heap.specs.Heap.{Heap, first_of, nodes_of, read_heap, up_to, used_places}
+use Rattle.ib_heap.specs.Heap.{Heap, first_of, nodes_of, read_heap, up_to, used_offsets}
 use Rattle.ib_heap.specs.Form.{page_of}
 use Rattle.ib_heap.specs.Image.{records_of, value_with_records}
-use Rattle.ib_heap.specs.Put.{owned_by, owner_from, place_for, rest_of, put_in}
+use Rattle.ib_heap.specs.Put.{owned_by, owner_from, offset_for, rest_of, put_in}
 use Rattle.ib_heap.specs.Kept.{IsKept, IsOutside}
-use Rattle.ib_heap.specs.Steps.{IsPlaceOfKey, IsHead, IsPlaceTaken, CanLink, IsLinkedIn, CanSplitSlot, IsSlotSplit}
+use Rattle.ib_heap.specs.Steps.{IsOffsetOfKey, IsHeader, IsOffsetTaken, CanLink, IsLinkedIn, CanSplitSlot, IsSlotSplit}
 use Rattle.ib_heap.specs.Walks.{end_from}
 use Rattle.ib_heap.proofs.SeekLaws.{Known, known}
 use Rattle.ib_heap.proofs.PutPage.{owner_is, shaped1, page1, over1, within, within1, wanted, k_le, owner-drop, own-apart, kept1, heap1, Steps}
@@ -23,15 +23,15 @@ use Rattle.ib_heap.proofs.PutHeap.{put-in-split}
 -- what an insert leaves
 pub record IsPut (ws vs : List ℕ) (key : MapKey) (value : ℕ) : Type 0 where
   pub page : page_of vs ≡ value_with_records (put key value (records_of ws)) (page_of ws)
-  pub heap : read_heap vs ≡ put_in (place_of key (records_of ws)) (read_heap ws)
-  pub kept : (i : ℕ) → IsKept (used_places (read_heap vs)) i → IsOutside (place_for (read_heap ws)) i → get_or vs i 0 ≡ get_or ws i 0
+  pub heap : read_heap vs ≡ put_in (index_of key (records_of ws)) (read_heap ws)
+  pub kept : (i : ℕ) → IsKept (used_offsets (read_heap vs)) i → IsOutside (offset_for (read_heap ws)) i → get_or vs i 0 ≡ get_or ws i 0
 
-module _ (ws : List ℕ) (key : MapKey) (slot before at : ℕ) (holds : HoldsTree (page_of ws)) (room35 : length (records_of ws) < 35) (st : IsPlaceOfKey ws key slot before at) where
+module _ (ws : List ℕ) (key : MapKey) (slot before at : ℕ) (holds : HoldsTree (page_of ws)) (room35 : length (records_of ws) < 35) (st : IsOffsetOfKey ws key slot before at) where
   kn : Known ws
   kn = known ws holds
 
   abbrev k : ℕ
-  k = place_of key (records_of ws)
+  k = index_of key (records_of ws)
 
   abbrev own : ℕ
   own = get_or ws (8 + slot) 0
@@ -42,8 +42,8 @@ module _ (ws : List ℕ) (key : MapKey) (slot before at : ℕ) (holds : HoldsTre
   pub slot-read : 8 + slot < length ws
   slot-read = let s = kn.size in let few = kn.slots in let r = st.in_range in omega arith
 
-  -- the place is taken
-  module _ (w1 : List ℕ) (p : ℕ) (tk : IsPlaceTaken ws w1 p) where
+  -- the offset is taken
+  module _ (w1 : List ℕ) (p : ℕ) (tk : IsOffsetTaken ws w1 p) where
     pub can-link : CanLink w1 before at own p
     can-link =
         let b = before-range ws w1 key slot before at p kn st nodes-few tk in
@@ -51,10 +51,10 @@ module _ (ws : List ℕ) (key : MapKey) (slot before at : ℕ) (holds : HoldsTre
         let a = apart-all ws w1 key slot before at p kn st nodes-few tk in
         record {
           size = tk.size ∙ kn.size;
-          place_low = tk.low;
-          place_high = tk.high;
-          before_head = record { low = b.0; high = b.1 };
-          owner_head = record { low = o.0; high = o.1 };
+          offset_low = tk.low;
+          offset_high = tk.high;
+          before_header = record { low = b.0; high = b.1 };
+          owner_header = record { low = o.0; high = o.1 };
           apart = a.0;
           before_apart = a.1.0;
           owner_apart = a.1.1;
@@ -84,8 +84,8 @@ module _ (ws : List ℕ) (key : MapKey) (slot before at : ℕ) (holds : HoldsTre
         heap = plain-heap ws w1 key slot before at p kn st nodes-few tk vs value lk absent below few;
         kept = λ i kept out.
             kept1 ws key slot before at p kn st nodes-few gives vs value wr absent below i
-            (subst (λ (n : ℕ). IsKept n i) (ap used_places (plain-read ws w1 key slot before at p kn st nodes-few tk vs value lk absent below few)) kept)
-            (subst (λ (q : ℕ). IsOutside q i) (sym tk.place) out);
+            (subst (λ (n : ℕ). IsKept n i) (ap used_offsets (plain-read ws w1 key slot before at p kn st nodes-few tk vs value lk absent below few)) kept)
+            (subst (λ (q : ℕ). IsOutside q i) (sym tk.offset) out);
       }
 
       -- a slot of nine
@@ -128,11 +128,11 @@ module _ (ws : List ℕ) (key : MapKey) (slot before at : ℕ) (holds : HoldsTre
           abbrev mi : middle ≡ first_of (drop (up_to (slot - 1) h1.nodes + 3) h1.nodes)
           mi = is ∙ walk.is
 
-          middle-head : IsHead middle
-          middle-head = let l = walk.low4 in let h = walk.high4 in record { low = omega arith; high = omega arith }
+          middle-header : IsHeader middle
+          middle-header = let l = walk.low4 in let h = walk.high4 in record { low = omega arith; high = omega arith }
 
-          owner-head : IsHead own
-          owner-head = let o = owner-range ws w1 key slot before at p kn st nodes-few tk in record { low = o.0; high = o.1 }
+          owner-header : IsHeader own
+          owner-header = let o = owner-range ws w1 key slot before at p kn st nodes-few tk in record { low = o.0; high = o.1 }
 
           pub can-split : CanSplitSlot vs slot middle own
           can-split =
@@ -145,8 +145,8 @@ module _ (ws : List ℕ) (key : MapKey) (slot before at : ℕ) (holds : HoldsTre
                 some = st.some;
                 last = omega arith;
                 few = omega arith;
-                middle_head = middle-head;
-                owner_head = owner-head;
+                middle_header = middle-header;
+                owner_header = owner-header;
                 apart = two-apart vs h1 k slot own middle sh st.some ov nn wi oi mi;
                 middle_word = middle-low vs h1 k slot own middle sh st.some ov nn wi oi mi;
                 owner_word = omega arith;
@@ -155,13 +155,13 @@ module _ (ws : List ℕ) (key : MapKey) (slot before at : ℕ) (holds : HoldsTre
           pub put-split : (v2 : List ℕ) → IsSlotSplit vs v2 slot middle own → IsPut ws v2 key value
           put-split v2 sp =
               let nine = nn in
-              let after = split-heap-is vs h1 k slot own middle sh st.some ov nn wi oi mi v2 sp owner-head.low middle-head.low in
+              let after = split-heap-is vs h1 k slot own middle sh st.some ov nn wi oi mi v2 sp owner-header.low middle-header.low in
               record {
-                page = split-done vs h1 k slot own middle sh st.some ov nn wi oi mi v2 sp owner-head.low middle-head.low
+                page = split-done vs h1 k slot own middle sh st.some ov nn wi oi mi v2 sp owner-header.low middle-header.low
                     ∙ (ap (λ (q : Page). Tree q) (page1 ws key slot before at p kn st nodes-few gives vs value wr absent below) ∙ sym (wanted ws key slot before at p kn st nodes-few gives vs value wr absent below));
-                heap = after ∙ put-in-split _ p slot (read_heap ws) tk.place (omega arith) (within ws key slot before at p kn st nodes-few gives) (k_le ws key slot before at p kn st nodes-few gives);
+                heap = after ∙ put-in-split _ p slot (read_heap ws) tk.offset (omega arith) (within ws key slot before at p kn st nodes-few gives) (k_le ws key slot before at p kn st nodes-few gives);
                 kept = λ i kept out.
-                    let now = subst (λ (n : ℕ). IsKept n i) (ap used_places after ∙ used-split _ h1) kept in
+                    let now = subst (λ (n : ℕ). IsKept n i) (ap used_offsets after ∙ used-split _ h1) kept in
                     split-kept vs h1 k slot own middle sh st.some ov nn wi oi mi v2 sp i now (own-apart ws key slot before at p kn st nodes-few gives vs value wr absent below i now)
-                    ∙ kept1 ws key slot before at p kn st nodes-few gives vs value wr absent below i now (subst (λ (q : ℕ). IsOutside q i) (sym tk.place) out);
+                    ∙ kept1 ws key slot before at p kn st nodes-few gives vs value wr absent below i now (subst (λ (q : ℕ). IsOutside q i) (sym tk.offset) out);
               }

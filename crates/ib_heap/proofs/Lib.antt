@@ -13,7 +13,7 @@ pub mod PutShape
 pub mod SplitLaws
 pub mod SplitShape
 pub mod SplitPage
-pub mod PlaceLaws
+pub mod OffsetLaws
 pub mod PutPage
 pub mod PutSteps
 pub mod PutHeap
@@ -24,7 +24,7 @@ pub mod CopyLaws
 pub mod FillLaws
 pub mod RecordsLaws
 pub mod FilledLaws
-pub mod HeadLaws
+pub mod HeaderLaws
 pub mod CountLaws
 pub mod UnlinkLaws
 pub mod BalanceLaws

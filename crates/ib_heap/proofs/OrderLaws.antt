@@ -43,22 +43,22 @@ order-lt Equal lt = absurd (true≢false lt)
 order-lt Greater lt = absurd (true≢false lt)
 
 -- .. of the supremum, which stands above each, too
-pub standing-from : (place : ℕ) (a b : MapKey) (order : Ordering) → (place ≡ 19 → order ≡ Greater) → (place ≢ 19 → IsOrder a b order) → is_ge order ≡ true → (place ≡ 19) ⊎ (rank b ≤ rank a)
-standing-from place a b order top is ge = elim (cases_eq place 19) [
+pub standing-from : (offset : ℕ) (a b : MapKey) (order : Ordering) → (offset ≡ 19 → order ≡ Greater) → (offset ≢ 19 → IsOrder a b order) → is_ge order ≡ true → (offset ≡ 19) ⊎ (rank b ≤ rank a)
+standing-from offset a b order top is ge = elim (cases_eq offset 19) [
   | inl e ↦ inl e
   | inr ne ↦ inr (order-not_below a b order (is ne) (order-ge order ge))
 ]
 
-pub standing-record : (place : ℕ) (order : Ordering) → (place ≡ 19 → order ≡ Greater) → is_ge order ≡ false → place ≢ 19
-standing-record place order top lt e = let z : true ≡ false = ap is_ge (sym (top e)) ∙ lt in true≢false z
+pub standing-record : (offset : ℕ) (order : Ordering) → (offset ≡ 19 → order ≡ Greater) → is_ge order ≡ false → offset ≢ 19
+standing-record offset order top lt e = let z : true ≡ false = ap is_ge (sym (top e)) ∙ lt in true≢false z
 
-pub standing-found : (place : ℕ) (a b : MapKey) (order : Ordering) → (place ≡ 19 → order ≡ Greater) → (place ≢ 19 → IsOrder a b order) → is_eq order ≡ true → (place ≢ 19) × (a ≡ b)
-standing-found place a b order top is eq =
-    let ne : place ≢ 19 = λ e. (let z : false ≡ true = ap is_eq (sym (top e)) ∙ eq in true≢false (sym z)) in
+pub standing-found : (offset : ℕ) (a b : MapKey) (order : Ordering) → (offset ≡ 19 → order ≡ Greater) → (offset ≢ 19 → IsOrder a b order) → is_eq order ≡ true → (offset ≢ 19) × (a ≡ b)
+standing-found offset a b order top is eq =
+    let ne : offset ≢ 19 = λ e. (let z : false ≡ true = ap is_eq (sym (top e)) ∙ eq in true≢false (sym z)) in
     (ne, order-same a b order (is ne) eq)
 
-pub standing-other : (place : ℕ) (a b : MapKey) (order : Ordering) → (place ≢ 19 → IsOrder a b order) → is_eq order ≡ false → (place ≡ 19) ⊎ ((place ≢ 19) × (rank a ≢ rank b))
-standing-other place a b order is differ = elim (cases_eq place 19) [
+pub standing-other : (offset : ℕ) (a b : MapKey) (order : Ordering) → (offset ≢ 19 → IsOrder a b order) → is_eq order ≡ false → (offset ≡ 19) ⊎ ((offset ≢ 19) × (rank a ≢ rank b))
+standing-other offset a b order is differ = elim (cases_eq offset 19) [
   | inl e ↦ inl e
   | inr ne ↦ inr (ne, order-differs a b order (is ne) differ)
 ]

@@ -2,11 +2,11 @@
 use Rattle.std.proofs.Common.{◌≡◌, ℕ, zero, suc, ◌+◌, ◌-◌, ◌<◌, ◌≤◌, ◌⊎◌, [], ◌∷◌, ◌∙◌, List, length, take, drop, refl, ap, sym, arith, inl, inr, subst}
 use Rattle.std.proofs.lemmas.Bool.{cases_eq, eq-eqb, ne_eqb, le-leb, lt-leb, cond-true, cond-false}
 use Rattle.ib_heap.specs.Heap.{Node, Heap, owners, up_to}
-use Rattle.ib_heap.specs.Put.{put_node, put_last, give_slot, give_slot_last, place_for, rest_of, owned_by, put_in}
+use Rattle.ib_heap.specs.Put.{put_node, put_last, give_slot, give_slot_last, offset_for, rest_of, owned_by, put_in}
 use Rattle.ib_heap.proofs.SeekLaws.{owners-some}
 use Rattle.ib_heap.proofs.SplitLaws.{InSlot}
 
--- a place's slot, by the slots before it
+-- an offset's slot, by the slots before it
 pub slot-number : (j k : ℕ) (xs : List Node) → InSlot j k xs → k ≤ length xs → length (owners (take k xs)) ≡ j + 1
 slot-number zero zero xs within le = refl
 slot-number (suc j) zero [] within le = absurd (let b = within.1.1 in omega arith)
@@ -20,7 +20,7 @@ slot-number zero (suc k) (x ∷ xs) within le = elim (cases_eq x.owned 0) [
       rw e (slot-number 0 k xs (omega arith, (elim high [ inl b ↦ inl (omega arith) | inr b ↦ inr b ], slots)) (omega arith)))
   | inr f ↦ absurd (
       let e = ne_eqb x.owned 0 f in
-      let w : (suc k < 1 + up_to 0 xs) ⊎ (1 ≡ length (x.place ∷ owners xs)) = rw e at within.1.0 in
+      let w : (suc k < 1 + up_to 0 xs) ⊎ (1 ≡ length (x.offset ∷ owners xs)) = rw e at within.1.0 in
       let some = owners-some xs in
       elim w [ inl b ↦ omega arith | inr b ↦ omega arith ])
 ]
@@ -34,13 +34,13 @@ slot-number (suc j) (suc k) (x ∷ xs) within le = elim (cases_eq x.owned 0) [
   | inr f ↦ (
       let e = ne_eqb x.owned 0 f in
       let low : 1 + up_to j xs ≤ suc k = rw e at within.0 in
-      let high : (suc k < 1 + up_to (suc j) xs) ⊎ (suc (suc j) ≡ length (x.place ∷ owners xs)) = rw e at within.1.0 in
-      let slots : suc j < length (x.place ∷ owners xs) = rw e at within.1.1 in
+      let high : (suc k < 1 + up_to (suc j) xs) ⊎ (suc (suc j) ≡ length (x.offset ∷ owners xs)) = rw e at within.1.0 in
+      let slots : suc j < length (x.offset ∷ owners xs) = rw e at within.1.1 in
       let r = slot-number j k xs (omega arith, (elim high [ inl b ↦ inl (omega arith) | inr b ↦ inr (omega arith) ], omega arith)) (omega arith) in
       rw e (omega arith))
 ]
 
-module _ (k p slot : ℕ) (h : Heap) (place : p ≡ place_for h) where
+module _ (k p slot : ℕ) (h : Heap) (offset : p ≡ offset_for h) where
   abbrev made : ℕ → Heap
   made q = record { nodes = put_node k q h.nodes; last = put_last k h.nodes h.last; free = rest_of h.free }
 
@@ -49,12 +49,12 @@ module _ (k p slot : ℕ) (h : Heap) (place : p ≡ place_for h) where
 
   pub put-in-plain : owned_by (drop k (put_node k p h.nodes)) (put_last k h.nodes h.last) ≤ 8 → made p ≡ put_in k h
   put-in-plain room =
-      let r = subst (λ (q : ℕ). owned_by (drop k (put_node k q h.nodes)) (put_last k h.nodes h.last) ≤ 8) place room in
-      ap made place ∙ sym (cond-true _ _ _ (le-leb (owned_by (drop k (put_node k (place_for h) h.nodes)) (put_last k h.nodes h.last)) 8 (omega arith)))
+      let r = subst (λ (q : ℕ). owned_by (drop k (put_node k q h.nodes)) (put_last k h.nodes h.last) ≤ 8) offset room in
+      ap made offset ∙ sym (cond-true _ _ _ (le-leb (owned_by (drop k (put_node k (offset_for h) h.nodes)) (put_last k h.nodes h.last)) 8 (omega arith)))
 
   pub put-in-split : 8 < owned_by (drop k (put_node k p h.nodes)) (put_last k h.nodes h.last) → InSlot (slot - 1) k h.nodes → k ≤ length h.nodes → split p (slot - 1) ≡ put_in k h
   put-in-split full within le =
-      let r = subst (λ (q : ℕ). 8 < owned_by (drop k (put_node k q h.nodes)) (put_last k h.nodes h.last)) place full in
+      let r = subst (λ (q : ℕ). 8 < owned_by (drop k (put_node k q h.nodes)) (put_last k h.nodes h.last)) offset full in
       let n = slot-number (slot - 1) k h.nodes within le in
-      ap (λ q. split q (slot - 1)) place ∙ (ap (λ j. split (place_for h) j) (let f : slot - 1 ≡ length (owners (take k h.nodes)) - 1 = omega arith in f)
-      ∙ sym (cond-false _ _ _ (lt-leb (owned_by (drop k (put_node k (place_for h) h.nodes)) (put_last k h.nodes h.last)) 8 (omega arith))))
+      ap (λ q. split q (slot - 1)) offset ∙ (ap (λ j. split (offset_for h) j) (let f : slot - 1 ≡ length (owners (take k h.nodes)) - 1 = omega arith in f)
+      ∙ sym (cond-false _ _ _ (lt-leb (owned_by (drop k (put_node k (offset_for h) h.nodes)) (put_last k h.nodes h.last)) 8 (omega arith))))

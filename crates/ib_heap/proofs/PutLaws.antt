@@ -2,7 +2,7 @@
 use Rattle.std.proofs.Common.{◌≡◌, ℕ, zero, suc, ◌+◌, ◌*◌, ◌<◌, ◌≤◌, ◌≢◌, ◌⊎◌, [], ◌∷◌, ◌++◌, ◌∙◌, List, length, take, drop, get_or, refl, ap, sym, arith, inl, inr, subst}
 use Rattle.std.specs.Prelude.{if◌then◌else◌, ◌==◌}
 use Rattle.std.proofs.lemmas.Bool.{cases_eq, eq-eqb, ne_eqb}
-use Rattle.ib_heap.specs.Heap.{Node, first_of, owners, times, places_of, last_from}
+use Rattle.ib_heap.specs.Heap.{Node, first_of, owners, times, offsets_of, last_from}
 use Rattle.ib_heap.specs.Put.{owned_by, owner_from, own_one_more, last_one_more, put_node, put_last}
 use Rattle.ib_heap.proofs.HeapLaws.{Chained, Owned, IsOwner}
 
@@ -50,10 +50,10 @@ over_at-room (suc k) n [] last h room = absurd h
 over_at-room (suc k) n (x ∷ xs) last (inl h) room = inl (h.0, over_at-room k (n + 1) xs last h.1 room)
 over_at-room (suc k) n (x ∷ xs) last (inr h) room = inr (h.0, over_at-room k 0 xs last h.1 room)
 
-pub places-own_one_more : (xs : List Node) → places_of (own_one_more xs) ≡ places_of xs
-places-own_one_more [] = refl
-places-own_one_more (x ∷ xs) = elim (cases_eq x.owned 0) [
-  | inl e ↦ rw (eq-eqb x.owned 0 e) (ap (λ (ps : List ℕ). x.place ∷ ps) (places-own_one_more xs))
+pub offsets-own_one_more : (xs : List Node) → offsets_of (own_one_more xs) ≡ offsets_of xs
+offsets-own_one_more [] = refl
+offsets-own_one_more (x ∷ xs) = elim (cases_eq x.owned 0) [
+  | inl e ↦ rw (eq-eqb x.owned 0 e) (ap (λ (ps : List ℕ). x.offset ∷ ps) (offsets-own_one_more xs))
   | inr ne ↦ rw (ne_eqb x.owned 0 ne) refl
 ]
 
@@ -76,7 +76,7 @@ owners-put zero p xs le = owners-own_one_more xs
 owners-put (suc k) p [] le = absurd (omega arith)
 owners-put (suc k) p (x ∷ xs) le = elim (cases_eq x.owned 0) [
   | inl e ↦ rw (eq-eqb x.owned 0 e) (owners-put k p xs (omega arith))
-  | inr ne ↦ rw (ne_eqb x.owned 0 ne) (ap (λ (os : List ℕ). x.place ∷ os) (owners-put k p xs (omega arith)))
+  | inr ne ↦ rw (ne_eqb x.owned 0 ne) (ap (λ (os : List ℕ). x.offset ∷ os) (owners-put k p xs (omega arith)))
 ]
 
 pub length-own_one_more : (xs : List Node) → length (own_one_more xs) ≡ length xs
@@ -91,8 +91,8 @@ length-put zero p xs le = let r = length-own_one_more xs in omega arith
 length-put (suc k) p [] le = absurd (omega arith)
 length-put (suc k) p (x ∷ xs) le = let r = length-put k p xs (omega arith) in omega arith
 
-pub times-put : (k p q : ℕ) (xs : List Node) → k ≤ length xs → times q (places_of (put_node k p xs)) ≡ one p q + times q (places_of xs)
-times-put zero p q xs le = ap (λ (ps : List ℕ). one p q + times q ps) (places-own_one_more xs)
+pub times-put : (k p q : ℕ) (xs : List Node) → k ≤ length xs → times q (offsets_of (put_node k p xs)) ≡ one p q + times q (offsets_of xs)
+times-put zero p q xs le = ap (λ (ps : List ℕ). one p q + times q ps) (offsets-own_one_more xs)
 times-put (suc k) p q [] le = absurd (omega arith)
 times-put (suc k) p q (x ∷ xs) le = let r = times-put k p q xs (omega arith) in omega arith
 
@@ -100,7 +100,7 @@ pub times-append : (q : ℕ) (ps qs : List ℕ) → times q (ps ++ qs) ≡ times
 times-append q [] qs = omega arith
 times-append q (p ∷ ps) qs = let r = times-append q ps qs in omega arith
 
--- a place that stands in a list is not one that does not
+-- an offset that stands in a list is not one that does not
 pub times-apart : (i q : ℕ) (ps : List ℕ) → times i ps ≡ 0 → 0 < times q ps → i ≢ q
 times-apart i q ps none some z = absurd (let t = subst (λ (n : ℕ). times n ps ≡ 0) z none in omega arith)
 
@@ -110,108 +110,108 @@ first-put k p [] = refl
 first-put k p (x ∷ xs) = refl
 
 -- members
-pub owner-in : (xs : List Node) → (owner_from xs ≡ 19) ⊎ (0 < times (owner_from xs) (places_of xs))
+pub owner-in : (xs : List Node) → (owner_from xs ≡ 19) ⊎ (0 < times (owner_from xs) (offsets_of xs))
 owner-in [] = inl refl
 owner-in (x ∷ xs) = elim (cases_eq x.owned 0) [
   | inl e ↦
       let is : owner_from xs ≡ owner_from (x ∷ xs) = rw (eq-eqb x.owned 0 e) refl in
-      subst (λ (q : ℕ). (q ≡ 19) ⊎ (0 < times q (places_of (x ∷ xs)))) is (elim (owner-in xs) [ inl z ↦ inl z | inr z ↦ inr (omega arith) ])
+      subst (λ (q : ℕ). (q ≡ 19) ⊎ (0 < times q (offsets_of (x ∷ xs)))) is (elim (owner-in xs) [ inl z ↦ inl z | inr z ↦ inr (omega arith) ])
   | inr ne ↦
-      let is : x.place ≡ owner_from (x ∷ xs) = rw (ne_eqb x.owned 0 ne) refl in
-      subst (λ (q : ℕ). (q ≡ 19) ⊎ (0 < times q (places_of (x ∷ xs)))) is (inr (let o = one-same x.place in omega arith))
+      let is : x.offset ≡ owner_from (x ∷ xs) = rw (ne_eqb x.owned 0 ne) refl in
+      subst (λ (q : ℕ). (q ≡ 19) ⊎ (0 < times q (offsets_of (x ∷ xs)))) is (inr (let o = one-same x.offset in omega arith))
 ]
 
-pub times-drop : (k q : ℕ) (xs : List Node) → times q (places_of (drop k xs)) ≤ times q (places_of xs)
+pub times-drop : (k q : ℕ) (xs : List Node) → times q (offsets_of (drop k xs)) ≤ times q (offsets_of xs)
 times-drop zero q xs = omega arith
 times-drop (suc k) q [] = omega arith
 times-drop (suc k) q (x ∷ xs) = let r = times-drop k q xs in omega arith
 
-pub last-member : (b k : ℕ) (xs : List Node) → k < length xs → 0 < times (last_from b (take (suc k) xs)) (places_of xs)
+pub last-member : (b k : ℕ) (xs : List Node) → k < length xs → 0 < times (last_from b (take (suc k) xs)) (offsets_of xs)
 last-member b k [] lt = absurd (omega arith)
-last-member b zero (x ∷ xs) lt = let o = one-same x.place in omega arith
-last-member b (suc k) (x ∷ xs) lt = let r = last-member x.place k xs (omega arith) in omega arith
+last-member b zero (x ∷ xs) lt = let o = one-same x.offset in omega arith
+last-member b (suc k) (x ∷ xs) lt = let r = last-member x.offset k xs (omega arith) in omega arith
 
-pub first-member : (i : ℕ) (ys : List Node) → i < length ys → 0 < times (first_of (drop i ys)) (places_of ys)
+pub first-member : (i : ℕ) (ys : List Node) → i < length ys → 0 < times (first_of (drop i ys)) (offsets_of ys)
 first-member i [] l = absurd (omega arith)
-first-member zero (y ∷ ys) l = let o = one-same y.place in omega arith
+first-member zero (y ∷ ys) l = let o = one-same y.offset in omega arith
 first-member (suc i) (y ∷ ys) l = let r = first-member i ys (omega arith) in omega arith
 
--- each place once, and each a record's
+-- each offset once, and each a record's
 pub record Apart (xs : List Node) : Type 0 where
-  pub once : (q : ℕ) → times q (places_of xs) ≤ 1
-  pub above : (q : ℕ) → 0 < times q (places_of xs) → 20 ≤ q
+  pub once : (q : ℕ) → times q (offsets_of xs) ≤ 1
+  pub above : (q : ℕ) → 0 < times q (offsets_of xs) → 20 ≤ q
 
 pub apart-rest : (x : Node) (xs : List Node) → Apart (x ∷ xs) → Apart xs
 apart-rest x xs h = record { once = λ q. let r = h.once q in omega arith; above = λ q lt. h.above q (omega arith) }
 
-pub apart-first : (x : Node) (xs : List Node) (q : ℕ) → Apart (x ∷ xs) → 0 < times q (places_of xs) → x.place ≢ q
-apart-first x xs q h lt e = let r = h.once q in let z : one x.place q ≡ 1 = rw e (one-same q) in absurd (omega arith)
+pub apart-first : (x : Node) (xs : List Node) (q : ℕ) → Apart (x ∷ xs) → 0 < times q (offsets_of xs) → x.offset ≢ q
+apart-first x xs q h lt e = let r = h.once q in let z : one x.offset q ≡ 1 = rw e (one-same q) in absurd (omega arith)
 
-pub apart-place : (x : Node) (xs : List Node) → Apart (x ∷ xs) → 20 ≤ x.place
-apart-place x xs h = h.above x.place (let o = one-same x.place in omega arith)
+pub apart-offset : (x : Node) (xs : List Node) → Apart (x ∷ xs) → 20 ≤ x.offset
+apart-offset x xs h = h.above x.offset (let o = one-same x.offset in omega arith)
 
-pub apart-owner : (x : Node) (xs : List Node) (k : ℕ) → Apart (x ∷ xs) → x.place ≢ owner_from (drop k xs)
+pub apart-owner : (x : Node) (xs : List Node) (k : ℕ) → Apart (x ∷ xs) → x.offset ≢ owner_from (drop k xs)
 apart-owner x xs k h = elim (owner-in (drop k xs)) [
-  | inl is ↦ λ e. absurd (let l = apart-place x xs h in omega arith)
+  | inl is ↦ λ e. absurd (let l = apart-offset x xs h in omega arith)
   | inr lt ↦ let m = times-drop k (owner_from (drop k xs)) xs in apart-first x xs (owner_from (drop k xs)) h (omega arith)
 ]
 
--- and no place stands behind itself
+-- and no offset stands behind itself
 pub apart-next : (n : ℕ) (ys : List Node) → Apart ys → suc n < length ys → first_of (drop n ys) ≡ first_of (drop (suc n) ys) → ⊥
 apart-next n [] a2 m2 f = absurd (omega arith)
-apart-next zero (y ∷ ys) a2 m2 f = let r = a2.once y.place in let o = one-same y.place in let m3 = first-member 0 ys (omega arith) in let m4 : 0 < times y.place (places_of ys) = subst (λ (n : ℕ). 0 < times n (places_of ys)) (sym f) m3 in absurd (omega arith)
+apart-next zero (y ∷ ys) a2 m2 f = let r = a2.once y.offset in let o = one-same y.offset in let m3 = first-member 0 ys (omega arith) in let m4 : 0 < times y.offset (offsets_of ys) = subst (λ (n : ℕ). 0 < times n (offsets_of ys)) (sym f) m3 in absurd (omega arith)
 apart-next (suc n) (y ∷ ys) a2 m2 f = apart-next n ys (apart-rest y ys a2) (omega arith) f
 
--- words that are the same at these places and at the supremum
+-- words that are the same at these offsets and at the supremum
 abbrev pub SameAt : List ℕ → List ℕ → List Node → ℕ → ℕ → Type 0
-SameAt ws vs xs a b = (q : ℕ) → (0 < times q (places_of xs)) ⊎ (q ≡ 19) → q ≢ a → q ≢ b → get_or vs q 0 ≡ get_or ws q 0
+SameAt ws vs xs a b = (q : ℕ) → (0 < times q (offsets_of xs)) ⊎ (q ≡ 19) → q ≢ a → q ≢ b → get_or vs q 0 ≡ get_or ws q 0
 
-pub chain-same : (ws vs : List ℕ) (xs : List Node) (last : ℕ) → Chained ws xs last → ((q : ℕ) → (0 < times q (places_of xs)) ⊎ (q ≡ 19) → get_or vs q 0 ≡ get_or ws q 0) → Chained vs xs last
+pub chain-same : (ws vs : List ℕ) (xs : List Node) (last : ℕ) → Chained ws xs last → ((q : ℕ) → (0 < times q (offsets_of xs)) ⊎ (q ≡ 19) → get_or vs q 0 ≡ get_or ws q 0) → Chained vs xs last
 chain-same ws vs [] last h same = same 19 (inr refl) ∙ h
 chain-same ws vs (x ∷ xs) last h same =
-    (same x.place (inl (let o = one-same x.place in omega arith)) ∙ h.0, chain-same ws vs xs last h.1 (λ q m. same q (elim m [ inl lt ↦ inl (omega arith) | inr e ↦ inr e ])))
+    (same x.offset (inl (let o = one-same x.offset in omega arith)) ∙ h.0, chain-same ws vs xs last h.1 (λ q m. same q (elim m [ inl lt ↦ inl (omega arith) | inr e ↦ inr e ])))
 
-pub chain-own_one_more : (ws vs : List ℕ) (xs : List Node) (last b : ℕ) → Chained ws xs last → Apart xs → get_or vs (owner_from xs) 0 ≡ get_or ws (owner_from xs) 0 + 256 → (b ≡ 18) ⊎ ((20 ≤ b) × (times b (places_of xs) ≡ 0))
+pub chain-own_one_more : (ws vs : List ℕ) (xs : List Node) (last b : ℕ) → Chained ws xs last → Apart xs → get_or vs (owner_from xs) 0 ≡ get_or ws (owner_from xs) 0 + 256 → (b ≡ 18) ⊎ ((20 ≤ b) × (times b (offsets_of xs) ≡ 0))
     → SameAt ws vs xs b (owner_from xs) → Chained vs (own_one_more xs) (last_one_more xs last)
 chain-own_one_more ws vs [] last b h apart raised off same = let c : get_or ws 19 0 ≡ last * 256 = h in let d : get_or vs 19 0 ≡ get_or ws 19 0 + 256 = raised in omega arith
 chain-own_one_more ws vs (x ∷ xs) last b h apart raised off same = elim (cases_eq x.owned 0) [
   | inl e ↦
       let none = eq-eqb x.owned 0 e in
       let is : owner_from (x ∷ xs) ≡ owner_from xs = rw none refl in
-      let here : 0 < times x.place (places_of (x ∷ xs)) = let o = one-same x.place in omega arith in
-      let differs : x.place ≢ owner_from xs = apart-owner x xs 0 apart in
-      let first : get_or vs x.place 0 ≡ get_or ws x.place 0 = same x.place (inl here) (not_b here) (λ z. differs (z ∙ is)) in
+      let here : 0 < times x.offset (offsets_of (x ∷ xs)) = let o = one-same x.offset in omega arith in
+      let differs : x.offset ≢ owner_from xs = apart-owner x xs 0 apart in
+      let first : get_or vs x.offset 0 ≡ get_or ws x.offset 0 = same x.offset (inl here) (not_b here) (λ z. differs (z ∙ is)) in
       let rest : Chained vs (own_one_more xs) (last_one_more xs last) = chain-own_one_more ws vs xs last b h.1 (apart-rest x xs apart)
       (subst (λ (q : ℕ). get_or vs q 0 ≡ get_or ws q 0 + 256) is raised) (off-rest off)
       (λ q m ne nf. same q (elim m [ inl lt ↦ inl (omega arith) | inr z ↦ inr z ]) ne (λ z. nf (z ∙ is))) in
       rw none (first ∙ (h.0 ∙ ap (λ n. x.owned * 256 + n) (sym (first-own_one_more xs))), rest)
   | inr ne ↦
       let some = ne_eqb x.owned 0 ne in
-      let is : owner_from (x ∷ xs) ≡ x.place = rw some refl in
-      let up : get_or vs x.place 0 ≡ get_or ws x.place 0 + 256 = subst (λ (q : ℕ). get_or vs q 0 ≡ get_or ws q 0 + 256) is raised in
+      let is : owner_from (x ∷ xs) ≡ x.offset = rw some refl in
+      let up : get_or vs x.offset 0 ≡ get_or ws x.offset 0 + 256 = subst (λ (q : ℕ). get_or vs q 0 ≡ get_or ws q 0 + 256) is raised in
       let word = h.0 in
       let rest : Chained vs xs last = chain-same ws vs xs last h.1 (λ q m. same q (elim m [ inl lt ↦ inl (omega arith) | inr z ↦ inr z ]) (not_b-rest q m)
-      (elim m [ inl lt ↦ λ z. apart-first x xs q apart lt (sym (z ∙ is)) | inr t ↦ λ z. absurd (let l = apart-place x xs apart in let y : q ≡ x.place = z ∙ is in omega arith) ])) in
-      rw some (let e : get_or vs x.place 0 ≡ (x.owned + 1) * 256 + first_of xs = omega arith in e, rest)
+      (elim m [ inl lt ↦ λ z. apart-first x xs q apart lt (sym (z ∙ is)) | inr t ↦ λ z. absurd (let l = apart-offset x xs apart in let y : q ≡ x.offset = z ∙ is in omega arith) ])) in
+      rw some (let e : get_or vs x.offset 0 ≡ (x.owned + 1) * 256 + first_of xs = omega arith in e, rest)
 ]
   where
-    not_b : 0 < times x.place (places_of (x ∷ xs)) → x.place ≢ b
+    not_b : 0 < times x.offset (offsets_of (x ∷ xs)) → x.offset ≢ b
     not_b lt = elim off [
-      | inl e ↦ λ z. absurd (let l = apart-place x xs apart in omega arith)
-      | inr e ↦ λ z. times-apart b x.place (places_of (x ∷ xs)) e.1 lt (sym z)
+      | inl e ↦ λ z. absurd (let l = apart-offset x xs apart in omega arith)
+      | inr e ↦ λ z. times-apart b x.offset (offsets_of (x ∷ xs)) e.1 lt (sym z)
     ]
 
-    off-rest : (b ≡ 18) ⊎ ((20 ≤ b) × (times b (places_of (x ∷ xs)) ≡ 0)) → (b ≡ 18) ⊎ ((20 ≤ b) × (times b (places_of xs) ≡ 0))
+    off-rest : (b ≡ 18) ⊎ ((20 ≤ b) × (times b (offsets_of (x ∷ xs)) ≡ 0)) → (b ≡ 18) ⊎ ((20 ≤ b) × (times b (offsets_of xs) ≡ 0))
     off-rest o = elim o [ inl e ↦ inl e | inr e ↦ inr (e.0, let t = e.1 in omega arith) ]
 
-    not_b-rest : (q : ℕ) → (0 < times q (places_of xs)) ⊎ (q ≡ 19) → q ≢ b
+    not_b-rest : (q : ℕ) → (0 < times q (offsets_of xs)) ⊎ (q ≡ 19) → q ≢ b
     not_b-rest q m = elim off [
       | inl e ↦ elim m [ inl lt ↦ (λ z. absurd (let l = apart.above q (omega arith) in omega arith)) | inr t ↦ (λ z. absurd (omega arith)) ]
-      | inr e ↦ elim m [ inl lt ↦ (λ z. times-apart b q (places_of (x ∷ xs)) e.1 (omega arith) (sym z)) | inr t ↦ (λ z. absurd (let l = e.0 in omega arith)) ]
+      | inr e ↦ elim m [ inl lt ↦ (λ z. times-apart b q (offsets_of (x ∷ xs)) e.1 (omega arith) (sym z)) | inr t ↦ (λ z. absurd (let l = e.0 in omega arith)) ]
     ]
 
--- the chain with the new record, whose head and whose neighbours' heads were written
-pub chain-put : (ws vs : List ℕ) (b k p : ℕ) (xs : List Node) (last : ℕ) → k ≤ length xs → Chained ws xs last → Apart xs → (b ≡ 18) ⊎ ((20 ≤ b) × (times b (places_of xs) ≡ 0))
+-- the chain with the new record, whose header and whose neighbours' headers were written
+pub chain-put : (ws vs : List ℕ) (b k p : ℕ) (xs : List Node) (last : ℕ) → k ≤ length xs → Chained ws xs last → Apart xs → (b ≡ 18) ⊎ ((20 ≤ b) × (times b (offsets_of xs) ≡ 0))
     → get_or vs p 0 ≡ first_of (drop k xs)
     → get_or vs (last_from b (take k xs)) 0 + first_of (drop k xs) ≡ get_or ws (last_from b (take k xs)) 0 + p
     → get_or vs (owner_from (drop k xs)) 0 ≡ get_or ws (owner_from (drop k xs)) 0 + 256
@@ -222,18 +222,18 @@ chain-put ws vs b zero p xs last le h apart off new link raised same =
 chain-put ws vs b (suc k) p [] last le h apart off new link raised same = absurd (omega arith)
 chain-put ws vs b (suc zero) p (x ∷ xs) last le h apart off new link raised same =
     let word = h.0 in
-    let rest = chain-put ws vs x.place zero p xs last (omega arith) h.1 (apart-rest x xs apart) (inr (apart-place x xs apart, none_in)) new link raised
+    let rest = chain-put ws vs x.offset zero p xs last (omega arith) h.1 (apart-rest x xs apart) (inr (apart-offset x xs apart, none_in)) new link raised
     (λ q m ne nf. same q (elim m [ inl lt ↦ inl (omega arith) | inr z ↦ inr z ]) ne nf) in
-    (let e : get_or vs x.place 0 ≡ x.owned * 256 + p = omega arith in e, rest)
+    (let e : get_or vs x.offset 0 ≡ x.owned * 256 + p = omega arith in e, rest)
   where
-    none_in : times x.place (places_of xs) ≡ 0
-    none_in = let r = apart.once x.place in let o = one-same x.place in omega arith
+    none_in : times x.offset (offsets_of xs) ≡ 0
+    none_in = let r = apart.once x.offset in let o = one-same x.offset in omega arith
 chain-put ws vs b (suc (suc k)) p (x ∷ xs) last le h apart off new link raised same =
-    let rest = chain-put ws vs x.place (suc k) p xs last (omega arith) h.1 (apart-rest x xs apart) (inr (apart-place x xs apart, none_in)) new link raised
+    let rest = chain-put ws vs x.offset (suc k) p xs last (omega arith) h.1 (apart-rest x xs apart) (inr (apart-offset x xs apart, none_in)) new link raised
     (λ q m ne nf. same q (elim m [ inl lt ↦ inl (omega arith) | inr z ↦ inr z ]) ne nf) in
-    let here : get_or vs x.place 0 ≡ get_or ws x.place 0 = same x.place (inl (let o = one-same x.place in omega arith))
-    (apart-first x xs (last_from x.place (take (suc k) xs)) apart (last-member x.place k xs (omega arith))) (apart-owner x xs (suc k) apart) in
+    let here : get_or vs x.offset 0 ≡ get_or ws x.offset 0 = same x.offset (inl (let o = one-same x.offset in omega arith))
+    (apart-first x xs (last_from x.offset (take (suc k) xs)) apart (last-member x.offset k xs (omega arith))) (apart-owner x xs (suc k) apart) in
     (here ∙ (h.0 ∙ ap (λ n. x.owned * 256 + n) (sym (first-put k p xs))), rest)
   where
-    none_in : times x.place (places_of xs) ≡ 0
-    none_in = let r = apart.once x.place in let o = one-same x.place in omega arith
+    none_in : times x.offset (offsets_of xs) ≡ 0
+    none_in = let r = apart.once x.offset in let o = one-same x.offset in omega arith

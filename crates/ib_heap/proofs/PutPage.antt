@@ -2,26 +2,26 @@
 use Rattle.std.proofs.Common.{◌≡◌, ℕ, zero, suc, ◌+◌, ◌-◌, ◌*◌, ◌/◌, ◌%◌, ◌<◌, ◌≤◌, ◌≢◌, ◌⊎◌, [], ◌∷◌, ◌∙◌, List, length, take, drop, get_or, refl, ap, sym, arith, inl, inr, subst, None}
 use Rattle.std.proofs.lemmas.Bool.{cases_eq, eq-eqb, ne_eqb, cases_lt}
 use Rattle.ib_map.specs.Keys.{MapKey, rank, end_rank}
-use Rattle.ib_map.specs.Pairs.{Pairs, put, value_at, place_of}
-use Rattle.ib_map.proofs.PlaceLaws.{place_of-le}
+use Rattle.ib_map.specs.Pairs.{Pairs, put, value_at, index_of}
+use Rattle.ib_map.proofs.IndexLaws.{index_of-le}
 use Rattle.ib_heap.specs.Page.{Page, PageValue}
-use Rattle.ib_heap.specs.Heap.{Node, Heap, first_of, owners, times, places_of, records_in, used_places, page_with, read_heap, last_from, up_to, nodes_of}
+use Rattle.ib_heap.specs.Heap.{Node, Heap, first_of, owners, times, offsets_of, records_in, used_offsets, page_with, read_heap, last_from, up_to, nodes_of}
 use Rattle.ib_heap.specs.Form.{page_of}
 use Rattle.ib_heap.specs.Image.{value_with_records, records_of}
 use Rattle.ib_heap.specs.Put.{owned_by, owner_from, own_one_more, put_node, put_last, rest_of}
 use Rattle.ib_heap.specs.Page.PageValue.{Tree}
-use Rattle.ib_heap.specs.Steps.{IsPlaceOfKey}
-use Rattle.ib_heap.proofs.HeapLaws.{Chained, Owned, ArePlaces, ArePlaces-left, IsPlace, page-from}
+use Rattle.ib_heap.specs.Steps.{IsOffsetOfKey}
+use Rattle.ib_heap.proofs.HeapLaws.{Chained, Owned, AreOffsets, AreOffsets-left, IsOffset, page-from}
 use Rattle.ib_heap.proofs.SeekLaws.{Known, directory-at, owner-at, link-at, last-first, last-in, first-in}
 use Rattle.ib_heap.proofs.PutLaws.{one-same, OverAt, Over, over-put, over_at-room, owner-in, times-drop, Apart, apart-owner, apart-rest, owners-put, length-put, times-put, times-apart}
 use Rattle.ib_heap.specs.Kept.{IsKept, IsOutside}
-use Rattle.ib_heap.proofs.KeptLaws.{kept-fixed, kept-place, outside-other}
+use Rattle.ib_heap.proofs.KeptLaws.{kept-fixed, kept-offset, outside-other}
 use Rattle.ib_heap.proofs.SplitLaws.{InSlot, owner-slot, slot-put}
 use Rattle.ib_heap.proofs.SplitShape.{Group, group}
-use Rattle.ib_heap.proofs.ShapeLaws.{Shaped, heap-shaped, places-known, Gives, Written, put_heap}
-use Rattle.ib_heap.proofs.PutShape.{NewPlace, new-place, before-in, put-shaped, put-page, low-node}
+use Rattle.ib_heap.proofs.ShapeLaws.{Shaped, heap-shaped, offsets-known, Gives, Written, put_heap}
+use Rattle.ib_heap.proofs.PutShape.{NewOffset, new-offset, before-in, put-shaped, put-page, low-node}
 
--- the slot of a place, by its number
+-- the slot of an offset, by its number
 pub in-slot : (slot k : ℕ) (xs : List Node) → 0 < slot → slot ≤ length (owners xs) → up_to (slot - 1) xs ≤ k → (k < up_to slot xs) ⊎ (slot ≡ length (owners xs)) → InSlot (slot - 1) k xs
 in-slot slot k xs some le low high =
     let e : slot ≡ suc (slot - 1) = omega arith in
@@ -53,38 +53,38 @@ neighbours-apart (suc k) xs apart le = go 18 k xs apart le
     go : (b i : ℕ) (ys : List Node) → Apart ys → suc i ≤ length ys → last_from b (take (suc i) ys) ≢ owner_from (drop (suc i) ys)
     go b i [] ap1 l = absurd (omega arith)
     go b zero (y ∷ ys) ap1 l = apart-owner y ys 0 ap1
-    go b (suc i) (y ∷ ys) ap1 l = go y.place i ys (apart-rest y ys ap1) (omega arith)
+    go b (suc i) (y ∷ ys) ap1 l = go y.offset i ys (apart-rest y ys ap1) (omega arith)
 
 pub middle-apart : (t : ℕ) (xs : List Node) → Apart xs → t < length xs → first_of (drop t xs) ≢ owner_from (drop (suc t) xs)
 middle-apart t [] apart lt = absurd (omega arith)
 middle-apart zero (x ∷ xs) apart lt = apart-owner x xs 0 apart
 middle-apart (suc t) (x ∷ xs) apart lt = middle-apart t xs (apart-rest x xs apart) (omega arith)
 
--- the head of the last of the first k
-pub record HeadWord (word next most : ℕ) : Type 0 where
+-- the header of the last of the first k
+pub record HeaderWord (word next most : ℕ) : Type 0 where
   pub owned : ℕ
   pub is : word ≡ owned * 256 + next
   pub few : owned ≤ most
 
-pub before-word : (ws : List ℕ) (b n k : ℕ) (xs : List Node) (last : ℕ) → HeadWord (get_or ws b 0) (first_of xs) 8 → Chained ws xs last → Owned n xs last → k ≤ length xs → HeadWord (get_or ws (last_from b (take k xs)) 0) (first_of (drop k xs)) 8
+pub before-word : (ws : List ℕ) (b n k : ℕ) (xs : List Node) (last : ℕ) → HeaderWord (get_or ws b 0) (first_of xs) 8 → Chained ws xs last → Owned n xs last → k ≤ length xs → HeaderWord (get_or ws (last_from b (take k xs)) 0) (first_of (drop k xs)) 8
 before-word ws b n zero xs last h c o le = h
 before-word ws b n (suc k) [] last h c o le = absurd (omega arith)
-before-word ws b n (suc k) (x ∷ xs) last h c (inl o) le = before-word ws x.place (n + 1) k xs last (record { owned = x.owned; is = c.0; few = let z = o.0 in omega arith }) c.1 o.1 (omega arith)
-before-word ws b n (suc k) (x ∷ xs) last h c (inr o) le = before-word ws x.place 0 k xs last (record { owned = x.owned; is = c.0; few = o.0.1.1 }) c.1 o.1 (omega arith)
+before-word ws b n (suc k) (x ∷ xs) last h c (inl o) le = before-word ws x.offset (n + 1) k xs last (record { owned = x.owned; is = c.0; few = let z = o.0 in omega arith }) c.1 o.1 (omega arith)
+before-word ws b n (suc k) (x ∷ xs) last h c (inr o) le = before-word ws x.offset 0 k xs last (record { owned = x.owned; is = c.0; few = o.0.1.1 }) c.1 o.1 (omega arith)
 
--- the head of a slot's owner
+-- the header of a slot's owner
 pub record OwnerWord (word owned : ℕ) : Type 0 where
   pub next : ℕ
   pub is : word ≡ owned * 256 + next
   pub low : next < 256
 
-pub owner-word : (ws : List ℕ) (n k : ℕ) (xs : List Node) (last : ℕ) → n ≤ 35 → ArePlaces n (places_of xs) → Chained ws xs last → k ≤ length xs → OwnerWord (get_or ws (owner_from (drop k xs)) 0) (owned_by (drop k xs) last)
-owner-word ws n (suc k) [] last few places c le = absurd (omega arith)
-owner-word ws n (suc k) (x ∷ xs) last few places c le = owner-word ws n k xs last few places.1 c.1 (omega arith)
-owner-word ws n zero [] last few places c le = record { next = 0; is = let w : get_or ws 19 0 ≡ last * 256 = c in omega arith; low = omega arith }
-owner-word ws n zero (x ∷ xs) last few places c le = elim (cases_eq x.owned 0) [
-  | inl f ↦ (let e = eq-eqb x.owned 0 f in rw e (owner-word ws n zero xs last few places.1 c.1 (omega arith)))
-  | inr f ↦ (let e = ne_eqb x.owned 0 f in rw e (record { next = first_of xs; is = c.0; low = elim (first-in n xs 0 few places.1 (omega arith)) [ inl z ↦ (let y = z.0 in omega arith) | inr z ↦ (let y = z.1.0 in omega arith) ] }))
+pub owner-word : (ws : List ℕ) (n k : ℕ) (xs : List Node) (last : ℕ) → n ≤ 35 → AreOffsets n (offsets_of xs) → Chained ws xs last → k ≤ length xs → OwnerWord (get_or ws (owner_from (drop k xs)) 0) (owned_by (drop k xs) last)
+owner-word ws n (suc k) [] last few offsets c le = absurd (omega arith)
+owner-word ws n (suc k) (x ∷ xs) last few offsets c le = owner-word ws n k xs last few offsets.1 c.1 (omega arith)
+owner-word ws n zero [] last few offsets c le = record { next = 0; is = let w : get_or ws 19 0 ≡ last * 256 = c in omega arith; low = omega arith }
+owner-word ws n zero (x ∷ xs) last few offsets c le = elim (cases_eq x.owned 0) [
+  | inl f ↦ (let e = eq-eqb x.owned 0 f in rw e (owner-word ws n zero xs last few offsets.1 c.1 (omega arith)))
+  | inr f ↦ (let e = ne_eqb x.owned 0 f in rw e (record { next = first_of xs; is = c.0; low = elim (first-in n xs 0 few offsets.1 (omega arith)) [ inl z ↦ (let y = z.0 in omega arith) | inr z ↦ (let y = z.1.0 in omega arith) ] }))
 ]
 
 pub owned-few : (n k : ℕ) (xs : List Node) (last : ℕ) → Owned n xs last → owned_by (drop k xs) last ≤ 8
@@ -126,9 +126,9 @@ owner-drop zero p xs le = go xs
 owner-drop (suc k) p [] le = absurd (omega arith)
 owner-drop (suc k) p (x ∷ xs) le = owner-drop k p xs (omega arith)
 
-module _ (ws : List ℕ) (key : MapKey) (slot before at p : ℕ) (kn : Known ws) (st : IsPlaceOfKey ws key slot before at) (few : length (nodes_of ws) < 35) (gives : Gives (read_heap ws) p (rest_of (read_heap ws).free)) where
+module _ (ws : List ℕ) (key : MapKey) (slot before at p : ℕ) (kn : Known ws) (st : IsOffsetOfKey ws key slot before at) (few : length (nodes_of ws) < 35) (gives : Gives (read_heap ws) p (rest_of (read_heap ws).free)) where
   abbrev pub k : ℕ
-  k = place_of key (records_of ws)
+  k = index_of key (records_of ws)
 
   abbrev pub nodes : List Node
   nodes = nodes_of ws
@@ -143,16 +143,16 @@ module _ (ws : List ℕ) (key : MapKey) (slot before at p : ℕ) (kn : Known ws)
   last1 = put_last k nodes (read_heap ws).last
 
   pub k_le : k ≤ length nodes
-  k_le = let a = place_of-le key (records_of ws) in let b = kn.long in omega arith
+  k_le = let a = index_of-le key (records_of ws) in let b = kn.long in omega arith
 
   pub within : InSlot (slot - 1) k nodes
   within = in-slot slot k nodes st.some st.in_range st.low st.high
 
   pub apart : Apart nodes
-  apart = (places-known (read_heap ws) kn.is.places kn.is.once).apart
+  apart = (offsets-known (read_heap ws) kn.is.offsets kn.is.once).apart
 
-  new : NewPlace (read_heap ws) p (rest_of (read_heap ws).free)
-  new = new-place (read_heap ws) p (rest_of (read_heap ws).free) (places-known (read_heap ws) kn.is.places kn.is.once) kn.few gives
+  new : NewOffset (read_heap ws) p (rest_of (read_heap ws).free)
+  new = new-offset (read_heap ws) p (rest_of (read_heap ws).free) (offsets-known (read_heap ws) kn.is.offsets kn.is.once) kn.few gives
 
   pub owner_is : owner ≡ owner_from (drop k nodes)
   owner_is =
@@ -160,17 +160,17 @@ module _ (ws : List ℕ) (key : MapKey) (slot before at p : ℕ) (kn : Known ws)
       directory-at ws 10 8 (18 ∷ owners nodes) slot kn.is.directory (omega arith)
       ∙ (ap (λ i. get_or (18 ∷ owners nodes) i 0) (let e : slot ≡ suc (slot - 1) = omega arith in e) ∙ owner-slot 18 (slot - 1) k nodes within k_le)
 
-  p_place : IsPlace (length nodes + 1 + length (rest_of (read_heap ws).free)) p
-  p_place = new.place p (let o = one-same p in omega arith)
+  p_offset : IsOffset (length nodes + 1 + length (rest_of (read_heap ws).free)) p
+  p_offset = new.offset p (let o = one-same p in omega arith)
 
-  not_p : (q : ℕ) → 0 < times q (places_of nodes) → IsOutside p q
+  not_p : (q : ℕ) → 0 < times q (offsets_of nodes) → IsOutside p q
   not_p q m =
-      let l = low-node ws kn q m in let a = l.is in let pl = p_place in let b = pl.is in
-      outside-other p q q _ _ b a (λ z. times-apart p q (places_of nodes) new.not_node m (sym z)) (omega arith) (omega arith)
+      let l = low-node ws kn q m in let a = l.is in let pl = p_offset in let b = pl.is in
+      outside-other p q q _ _ b a (λ z. times-apart p q (offsets_of nodes) new.not_node m (sym z)) (omega arith) (omega arith)
 
   pub before_facts : (18 ≤ before) × ((before ≤ 156) × IsOutside p before)
   before_facts =
-      let e = st.before_is in let pl = p_place in let b = pl.is in
+      let e = st.before_is in let pl = p_offset in let b = pl.is in
       elim (before-in k nodes k_le) [
         | inl z ↦ (let f = z.1 in (omega arith, (omega arith, inl (omega arith))))
         | inr z ↦ subst (λ (q : ℕ). (18 ≤ q) × ((q ≤ 156) × IsOutside p q)) (sym e) (let l = low-node ws kn _ z.1 in let a = l.is in let d = l.below in (omega arith, (omega arith, not_p _ z.1)))
@@ -178,30 +178,30 @@ module _ (ws : List ℕ) (key : MapKey) (slot before at p : ℕ) (kn : Known ws)
 
   pub owner_facts : (18 ≤ owner) × ((owner ≤ 156) × IsOutside p owner)
   owner_facts =
-      let pl = p_place in let b = pl.is in
+      let pl = p_offset in let b = pl.is in
       subst (λ (q : ℕ). (18 ≤ q) × ((q ≤ 156) × IsOutside p q)) (sym owner_is) (elim (owner-in (drop k nodes)) [
         | inl f ↦ (omega arith, (omega arith, inl (omega arith)))
-        | inr m ↦ (let t = times-drop k (owner_from (drop k nodes)) nodes in let n : 0 < times (owner_from (drop k nodes)) (places_of nodes) = omega arith in let l = low-node ws kn _ n in let a = l.is in let d = l.below in (omega arith, (omega arith, not_p _ n)))
+        | inr m ↦ (let t = times-drop k (owner_from (drop k nodes)) nodes in let n : 0 < times (owner_from (drop k nodes)) (offsets_of nodes) = omega arith in let l = low-node ws kn _ n in let a = l.is in let d = l.below in (omega arith, (omega arith, not_p _ n)))
       ])
 
   pub two : before ≢ owner
   two z = neighbours-apart k nodes apart k_le (sym st.before_is ∙ (z ∙ owner_is))
 
-  start_word : HeadWord (get_or ws 18 0) (first_of nodes) 8
+  start_word : HeaderWord (get_or ws 18 0) (first_of nodes) 8
   start_word = let s = kn.is.start in record { owned = 1; is = omega arith; few = omega arith }
 
-  pub before_head : HeadWord (get_or ws before 0) at 8
-  before_head =
+  pub before_header : HeaderWord (get_or ws before 0) at 8
+  before_header =
       let h = before-word ws 18 0 k nodes (read_heap ws).last start_word kn.is.chained kn.is.owned k_le in
       let i = h.is in
       record { owned = h.owned; is = ap (λ n. get_or ws n 0) st.before_is ∙ (h.is ∙ ap (λ n. h.owned * 256 + n) (sym st.at_is)); few = h.few }
 
   pub at_low : at < 256
-  at_low = let e = st.at_is in elim (first-in (used_places (read_heap ws)) nodes k kn.few kn.places k_le) [ inl z ↦ (let y = z.0 in omega arith) | inr z ↦ (let y = z.1.0 in omega arith) ]
+  at_low = let e = st.at_is in elim (first-in (used_offsets (read_heap ws)) nodes k kn.few kn.offsets k_le) [ inl z ↦ (let y = z.0 in omega arith) | inr z ↦ (let y = z.1.0 in omega arith) ]
 
-  pub owner_head : get_or ws owner 0 < 65536
-  owner_head =
-      let o = owner-word ws (used_places (read_heap ws)) k nodes (read_heap ws).last kn.few kn.places kn.is.chained k_le in
+  pub owner_header : get_or ws owner 0 < 65536
+  owner_header =
+      let o = owner-word ws (used_offsets (read_heap ws)) k nodes (read_heap ws).last kn.few kn.offsets kn.is.chained k_le in
       let f = owned-few 0 k nodes (read_heap ws).last kn.is.owned in
       let i = o.is in let l = o.low in
       let e : get_or ws owner 0 ≡ get_or ws (owner_from (drop k nodes)) 0 = ap (λ n. get_or ws n 0) owner_is in omega arith
@@ -211,8 +211,8 @@ module _ (ws : List ℕ) (key : MapKey) (slot before at p : ℕ) (kn : Known ws)
     abbrev pub heap1 : Heap
     heap1 = put_heap k p (rest_of (read_heap ws).free) (read_heap ws)
 
-    at_key : k ≡ place_of key (records_in ws nodes)
-    at_key = ap (λ (rs : Pairs). place_of key rs) kn.records
+    at_key : k ≡ index_of key (records_in ws nodes)
+    at_key = ap (λ (rs : Pairs). index_of key rs) kn.records
 
     pub shaped1 : Shaped vs heap1
     shaped1 = put-shaped ws vs (read_heap ws) k p key value (rest_of (read_heap ws).free) kn.is gives w k_le few at_key (subst (λ (rs : Pairs). value_at key rs ≡ None) kn.records none) in_range
@@ -229,30 +229,30 @@ module _ (ws : List ℕ) (key : MapKey) (slot before at p : ℕ) (kn : Known ws)
     pub owner1 : OwnerWord (get_or vs owner 0) (owned_by (drop k nodes1) last1)
     owner1 =
         let l = long1 in let a = k_le in
-        let o = owner-word vs (used_places heap1) k nodes1 last1 shaped1.few (ArePlaces-left _ _ _ shaped1.places) shaped1.chained (omega arith) in
+        let o = owner-word vs (used_offsets heap1) k nodes1 last1 shaped1.few (AreOffsets-left _ _ _ shaped1.offsets) shaped1.chained (omega arith) in
         let e : owner ≡ owner_from (drop k nodes1) = owner_is ∙ sym (owner-drop k p nodes k_le) in
         record { next = o.next; is = ap (λ n. get_or vs n 0) e ∙ o.is; low = o.low }
 
-    -- the words that are kept are no place of the chain
-    pub member-apart : (i q : ℕ) → IsKept (used_places heap1) i → 0 < times q (places_of nodes1) → i ≢ q
-    member-apart i q kept m = kept-place (used_places heap1) i q kept ((places-known heap1 shaped1.places shaped1.once).place q (omega arith))
+    -- the words that are kept are no offset of the chain
+    pub member-apart : (i q : ℕ) → IsKept (used_offsets heap1) i → 0 < times q (offsets_of nodes1) → i ≢ q
+    member-apart i q kept m = kept-offset (used_offsets heap1) i q kept ((offsets-known heap1 shaped1.offsets shaped1.once).offset q (omega arith))
 
-    in-nodes1 : (q : ℕ) → 0 < times q (places_of nodes) → 0 < times q (places_of nodes1)
+    in-nodes1 : (q : ℕ) → 0 < times q (offsets_of nodes) → 0 < times q (offsets_of nodes1)
     in-nodes1 q m = let t = times-put k p q nodes k_le in omega arith
 
-    before-apart : (i : ℕ) → IsKept (used_places heap1) i → i ≢ before
+    before-apart : (i : ℕ) → IsKept (used_offsets heap1) i → i ≢ before
     before-apart i kept = elim (before-in k nodes k_le) [
       | inl e ↦ (let b = st.before_is ∙ e.1 in kept-fixed _ i before kept (inr (omega arith, omega arith)))
-      | inr m ↦ member-apart i before kept (in-nodes1 before (subst (λ (q : ℕ). 0 < times q (places_of nodes)) (sym st.before_is) m.1))
+      | inr m ↦ member-apart i before kept (in-nodes1 before (subst (λ (q : ℕ). 0 < times q (offsets_of nodes)) (sym st.before_is) m.1))
     ]
 
-    pub own-apart : (i : ℕ) → IsKept (used_places heap1) i → i ≢ owner
+    pub own-apart : (i : ℕ) → IsKept (used_offsets heap1) i → i ≢ owner
     own-apart i kept = elim (owner-in (drop k nodes)) [
       | inl e ↦ (let o = owner_is ∙ e in kept-fixed _ i owner kept (inr (omega arith, omega arith)))
-      | inr m ↦ (let d = times-drop k (owner_from (drop k nodes)) nodes in member-apart i owner kept (in-nodes1 owner (subst (λ (q : ℕ). 0 < times q (places_of nodes)) (sym owner_is) (omega arith))))
+      | inr m ↦ (let d = times-drop k (owner_from (drop k nodes)) nodes in member-apart i owner kept (in-nodes1 owner (subst (λ (q : ℕ). 0 < times q (offsets_of nodes)) (sym owner_is) (omega arith))))
     ]
 
-    pub kept1 : (i : ℕ) → IsKept (used_places heap1) i → IsOutside p i → get_or vs i 0 ≡ get_or ws i 0
+    pub kept1 : (i : ℕ) → IsKept (used_offsets heap1) i → IsOutside p i → get_or vs i 0 ≡ get_or ws i 0
     kept1 i kept out =
         w.other i (kept-fixed _ i 2 kept (inl refl)) (kept-fixed _ i 6 kept (inr (omega arith, omega arith))) (kept-fixed _ i 7 kept (inr (omega arith, omega arith)))
         out (λ z. before-apart i kept (z ∙ sym st.before_is)) (λ z. own-apart i kept (z ∙ sym owner_is))
@@ -287,17 +287,17 @@ module _ (ws : List ℕ) (key : MapKey) (slot before at p : ℕ) (kn : Known ws)
     pub group1 : owned_by (drop k nodes1) last1 ≡ 9 → Group (slot - 1) k t nodes1 last1
     group1 full = group (slot - 1) k 0 nodes1 last1 (λ z. refl) over1 full within1
 
-    places1 : ArePlaces (used_places heap1) (places_of nodes1)
-    places1 = ArePlaces-left _ _ _ shaped1.places
+    offsets1 : AreOffsets (used_offsets heap1) (offsets_of nodes1)
+    offsets1 = AreOffsets-left _ _ _ shaped1.offsets
 
     next1 : (i q : ℕ) → i < length nodes1 → q ≡ last_from 18 (take i nodes1) → get_or vs q 0 % 256 ≡ last_from 18 (take (suc i) nodes1)
     next1 i q lt e =
         let s = shaped1.start in
-        let low : first_of nodes1 < 256 = elim (first-in (used_places heap1) nodes1 0 shaped1.few places1 (omega arith)) [ inl z ↦ (let y = z.0 in omega arith) | inr z ↦ (let y = z.1.0 in omega arith) ] in
-        ap (λ n. get_or vs n 0 % 256) e ∙ (link-at vs (used_places heap1) 18 nodes1 last1 i shaped1.few places1 (omega arith) shaped1.chained (omega arith) ∙ sym (last-first 18 nodes1 i lt))
+        let low : first_of nodes1 < 256 = elim (first-in (used_offsets heap1) nodes1 0 shaped1.few offsets1 (omega arith)) [ inl z ↦ (let y = z.0 in omega arith) | inr z ↦ (let y = z.1.0 in omega arith) ] in
+        ap (λ n. get_or vs n 0 % 256) e ∙ (link-at vs (used_offsets heap1) 18 nodes1 last1 i shaped1.few offsets1 (omega arith) shaped1.chained (omega arith) ∙ sym (last-first 18 nodes1 i lt))
 
     pub low1 : (i q : ℕ) → i ≤ length nodes1 → q ≡ last_from 18 (take i nodes1) → q ≤ 156
-    low1 i q le e = elim (last-in (used_places heap1) 18 nodes1 i shaped1.few places1 le) [ inl z ↦ (let y = z.1 in omega arith) | inr z ↦ (let y = z.1 in omega arith) ]
+    low1 i q le e = elim (last-in (used_offsets heap1) 18 nodes1 i shaped1.few offsets1 le) [ inl z ↦ (let y = z.1 in omega arith) | inr z ↦ (let y = z.1 in omega arith) ]
 
     pub first_is : get_or ws (8 + (slot - 1)) 0 ≡ last_from 18 (take (up_to (slot - 1) nodes1) nodes1)
     first_is =
@@ -332,6 +332,6 @@ module _ (ws : List ℕ) (key : MapKey) (slot before at p : ℕ) (kn : Known ws)
           low2 = low1 (suc (suc u)) q2 (omega arith) p2;
           low3 = low1 (suc (suc (suc u))) q3 (omega arith) p3;
           low4 = low1 (suc (suc (suc (suc u)))) q4 (omega arith) p4;
-          high4 = elim (first-in (used_places heap1) nodes1 (suc (suc (suc u))) shaped1.few places1 (omega arith)) [ inl z ↦ absurd (let y = z.1 in omega arith) | inr z ↦ (let y = z.0 in omega arith) ];
+          high4 = elim (first-in (used_offsets heap1) nodes1 (suc (suc (suc u))) shaped1.few offsets1 (omega arith)) [ inl z ↦ absurd (let y = z.1 in omega arith) | inr z ↦ (let y = z.0 in omega arith) ];
           is = f4 ∙ ap (λ n. first_of (drop n nodes1)) e;
         }

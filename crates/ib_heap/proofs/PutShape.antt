@@ -3,55 +3,55 @@ use Rattle.std.proofs.Common.{◌≡◌, ℕ, zero, suc, ◌+◌, ◌*◌, ◌<�
 use Rattle.std.specs.List.{insert}
 use Rattle.std.proofs.lemmas.Bool.{cases_eq, cases_lt}
 use Rattle.ib_map.specs.Keys.{MapKey, rank, end_rank}
-use Rattle.ib_map.specs.Pairs.{Pairs, put, value_at, place_of}
+use Rattle.ib_map.specs.Pairs.{Pairs, put, value_at, index_of}
 use Rattle.ib_map.proofs.PairLaws.{Rises-put, length-put as length-put-pairs}
-use Rattle.ib_map.proofs.PlaceLaws.{insert-place}
+use Rattle.ib_map.proofs.IndexLaws.{insert-index}
 use Rattle.ib_heap.specs.Page.{Page, IsPage}
-use Rattle.ib_heap.specs.Heap.{Node, Heap, first_of, owners, times, places_of, records_in, used_places, page_with, last_from, nodes_of, read_heap}
+use Rattle.ib_heap.specs.Heap.{Node, Heap, first_of, owners, times, offsets_of, records_in, used_offsets, page_with, last_from, nodes_of, read_heap}
 use Rattle.ib_heap.specs.Put.{owner_from, put_node, put_last}
-use Rattle.ib_heap.proofs.HeapLaws.{Chained, Freed, Directory, IsPlace, ArePlaces, EachOnce, IsHeap}
+use Rattle.ib_heap.proofs.HeapLaws.{Chained, Freed, Directory, IsOffset, AreOffsets, EachOnce, IsHeap}
 use Rattle.ib_heap.proofs.SeekLaws.{length-records, Known}
 use Rattle.ib_heap.proofs.KeptLaws.{outside-other}
 use Rattle.ib_heap.proofs.PutLaws.{one, one-same, one-other, owners-put, length-put, times-put, times-append, first-put, owner-in, times-drop, last-member, SameAt, chain-put, times-apart}
-use Rattle.ib_heap.proofs.ShapeLaws.{Shaped, Places, places-known, places-from, once-from, freed-same, directory-same, records-put, keys-put, SameRecord, Gives, Written, put_heap, same-page}
+use Rattle.ib_heap.proofs.ShapeLaws.{Shaped, Offsets, offsets-known, offsets-from, once-from, freed-same, directory-same, records-put, keys-put, SameRecord, Gives, Written, put_heap, same-page}
 
--- what is known of the place that a record takes
-pub record NewPlace (h : Heap) (p : ℕ) (free : List ℕ) : Type 0 where
-  pub more : used_places h ≤ length h.nodes + 1 + length free
+-- what is known of the offset that a record takes
+pub record NewOffset (h : Heap) (p : ℕ) (free : List ℕ) : Type 0 where
+  pub more : used_offsets h ≤ length h.nodes + 1 + length free
   pub few : length h.nodes < 35 → length h.nodes + 1 + length free ≤ 35
-  pub not_node : times p (places_of h.nodes) ≡ 0
+  pub not_node : times p (offsets_of h.nodes) ≡ 0
   pub not_free : times p free ≡ 0
   pub was_free : (q : ℕ) → times q free ≤ times q h.free
-  pub place : (q : ℕ) → 0 < one p q + times q (places_of h.nodes) + times q free → IsPlace (length h.nodes + 1 + length free) q
-  pub each : (r : ℕ) → r < length h.nodes + 1 + length free → one p (20 + 4 * r) + times (20 + 4 * r) (places_of h.nodes) + times (20 + 4 * r) free ≡ 1
+  pub offset : (q : ℕ) → 0 < one p q + times q (offsets_of h.nodes) + times q free → IsOffset (length h.nodes + 1 + length free) q
+  pub each : (r : ℕ) → r < length h.nodes + 1 + length free → one p (20 + 4 * r) + times (20 + 4 * r) (offsets_of h.nodes) + times (20 + 4 * r) free ≡ 1
 
-wider : (n m q : ℕ) → IsPlace n q → n ≤ m → IsPlace m q
+wider : (n m q : ℕ) → IsOffset n q → n ≤ m → IsOffset m q
 wider n m q h le = let b = h.below in record { number = h.number; is = h.is; below = omega arith }
 
-pub new-place : (h : Heap) (p : ℕ) (free : List ℕ) → Places h → used_places h ≤ 35 → Gives h p free → NewPlace h p free
-new-place h p free known few (inl e) =
+pub new-offset : (h : Heap) (p : ℕ) (free : List ℕ) → Offsets h → used_offsets h ≤ 35 → Gives h p free → NewOffset h p free
+new-offset h p free known few (inl e) =
     let times_is : (q : ℕ) → times q h.free ≡ one p q + times q free = λ q. ap (λ (ps : List ℕ). times q ps) e in
     let long : length h.free ≡ 1 + length free = ap length e ∙ (let l : length (p ∷ free) ≡ 1 + length free = omega arith in l) in
-    let same : length h.nodes + 1 + length free ≡ used_places h = omega arith in
+    let same : length h.nodes + 1 + length free ≡ used_offsets h = omega arith in
     record {
       more = omega arith;
       few = λ lt. omega arith;
       not_node = let o = known.once p in let t = times_is p in let s = one-same p in omega arith;
       not_free = let o = known.once p in let t = times_is p in let s = one-same p in omega arith;
       was_free = λ q. let t = times_is q in omega arith;
-      place = λ q lt. wider (used_places h) _ q (known.place q (let t = times_is q in omega arith)) (omega arith);
+      offset = λ q lt. wider (used_offsets h) _ q (known.offset q (let t = times_is q in omega arith)) (omega arith);
       each = λ r lt. let o = known.each r (omega arith) in let t = times_is (20 + 4 * r) in omega arith;
     }
-new-place h p free known few (inr e) =
+new-offset h p free known few (inr e) =
     let none : h.free ≡ [] = e.0 in
-    let at : p ≡ 20 + 4 * used_places h = e.1.0 in
+    let at : p ≡ 20 + 4 * used_offsets h = e.1.0 in
     let empty : free ≡ [] = e.1.1 in
     let times_old : (q : ℕ) → times q h.free ≡ 0 = λ q. ap (λ (ps : List ℕ). times q ps) none in
     let times_new : (q : ℕ) → times q free ≡ 0 = λ q. ap (λ (ps : List ℕ). times q ps) empty in
     let long_old : length h.free ≡ 0 = ap length none in
     let long_new : length free ≡ 0 = ap length empty in
-    let not_node : times p (places_of h.nodes) ≡ 0 = elim (cases_lt 0 (times p (places_of h.nodes))) [
-      | inl lt ↦ absurd (let pl = known.place p (omega arith) in let i = pl.is in let b = pl.below in omega arith)
+    let not_node : times p (offsets_of h.nodes) ≡ 0 = elim (cases_lt 0 (times p (offsets_of h.nodes))) [
+      | inl lt ↦ absurd (let pl = known.offset p (omega arith) in let i = pl.is in let b = pl.below in omega arith)
       | inr ge ↦ omega arith
     ] in
     record {
@@ -60,42 +60,42 @@ new-place h p free known few (inr e) =
       not_node = not_node;
       not_free = times_new p;
       was_free = λ q. let t = times_new q in omega arith;
-      place = λ q lt. elim (cases_eq p q) [
-        | inl same ↦ record { number = used_places h; is = sym same ∙ at; below = omega arith }
-        | inr ne ↦ wider (used_places h) _ q (known.place q (let o = one-other p q ne in let t = times_new q in omega arith)) (omega arith)
+      offset = λ q lt. elim (cases_eq p q) [
+        | inl same ↦ record { number = used_offsets h; is = sym same ∙ at; below = omega arith }
+        | inr ne ↦ wider (used_offsets h) _ q (known.offset q (let o = one-other p q ne in let t = times_new q in omega arith)) (omega arith)
       ];
       each = λ r lt. elim (cases_eq p (20 + 4 * r)) [
-        | inl same ↦ (let s = one-same p in let z : one p (20 + 4 * r) ≡ 1 = ap (λ n. one p n) (sym same) ∙ s in let m : times (20 + 4 * r) (places_of h.nodes) ≡ 0 = ap (λ n. times n (places_of h.nodes)) (sym same) ∙ not_node in let t = times_new (20 + 4 * r) in omega arith)
+        | inl same ↦ (let s = one-same p in let z : one p (20 + 4 * r) ≡ 1 = ap (λ n. one p n) (sym same) ∙ s in let m : times (20 + 4 * r) (offsets_of h.nodes) ≡ 0 = ap (λ n. times n (offsets_of h.nodes)) (sym same) ∙ not_node in let t = times_new (20 + 4 * r) in omega arith)
         | inr ne ↦ (let z = one-other p (20 + 4 * r) ne in let o = known.each r (omega (arith, ne)) in let s = times_old (20 + 4 * r) in let t = times_new (20 + 4 * r) in omega arith)
       ];
     }
 
 -- where the neighbours stand
-pub before-in : (k : ℕ) (xs : List Node) → k ≤ length xs → ((k ≡ 0) × (last_from 18 (take k xs) ≡ 18)) ⊎ ((0 < k) × (0 < times (last_from 18 (take k xs)) (places_of xs)))
+pub before-in : (k : ℕ) (xs : List Node) → k ≤ length xs → ((k ≡ 0) × (last_from 18 (take k xs) ≡ 18)) ⊎ ((0 < k) × (0 < times (last_from 18 (take k xs)) (offsets_of xs)))
 before-in zero xs le = inl (refl, refl)
 before-in (suc k) xs le = inr (omega arith, last-member 18 k xs (omega arith))
 
--- a place of the chain or of the supremum that is not one of the two neighbours
+-- an offset of the chain or of the supremum that is not one of the two neighbours
 abbrev pub IsBefore : Heap → ℕ → Type 0
-IsBefore h b = (b ≡ 18) ⊎ (0 < times b (places_of h.nodes))
+IsBefore h b = (b ≡ 18) ⊎ (0 < times b (offsets_of h.nodes))
 
-abbrev pub IsOwnerPlace : Heap → ℕ → Type 0
-IsOwnerPlace h o = (o ≡ 19) ⊎ (0 < times o (places_of h.nodes))
+abbrev pub IsOwnerOffset : Heap → ℕ → Type 0
+IsOwnerOffset h o = (o ≡ 19) ⊎ (0 < times o (offsets_of h.nodes))
 
--- a place of the heap is 20 and four times a number below 35
+-- an offset of the heap is 20 and four times a number below 35
 pub record Low (p : ℕ) : Type 0 where
   pub number : ℕ
   pub is : p ≡ 20 + 4 * number
   pub below : number < 35
 
-pub low-member : (h : Heap) → Places h → used_places h ≤ 35 → (q : ℕ) → 0 < times q (places_of h.nodes) + times q h.free → Low q
-low-member h known few q m = let pl = known.place q m in let b = pl.below in record { number = pl.number; is = pl.is; below = omega arith }
+pub low-member : (h : Heap) → Offsets h → used_offsets h ≤ 35 → (q : ℕ) → 0 < times q (offsets_of h.nodes) + times q h.free → Low q
+low-member h known few q m = let pl = known.offset q m in let b = pl.below in record { number = pl.number; is = pl.is; below = omega arith }
 
 -- the same of an image of a page
-pub low-node : (ws : List ℕ) → Known ws → (q : ℕ) → 0 < times q (places_of (nodes_of ws)) → Low q
-low-node ws kn q m = low-member (read_heap ws) (places-known (read_heap ws) kn.is.places kn.is.once) kn.few q (omega arith)
+pub low-node : (ws : List ℕ) → Known ws → (q : ℕ) → 0 < times q (offsets_of (nodes_of ws)) → Low q
+low-node ws kn q m = low-member (read_heap ws) (offsets-known (read_heap ws) kn.is.offsets kn.is.once) kn.few q (omega arith)
 
--- a word that is the head of no record place
+-- a word that is the header of no record offset
 abbrev pub Off : ℕ → Type 0
 Off i = (i < 20) ⊎ ((156 < i) ⊎ ((q : ℕ) → i ≢ 20 + 4 * q))
 
@@ -103,14 +103,14 @@ pub off-low : (i q : ℕ) → Off i → Low q → i ≢ q
 off-low i q off l z = let a = l.is in let b = l.below in elim off [ inl f ↦ absurd (omega arith) | inr f ↦ elim f [ inl g ↦ absurd (omega arith) | inr g ↦ g l.number (z ∙ a) ] ]
 
 -- no record stands there
-pub off-none : (h : Heap) → Places h → used_places h ≤ 35 → (i : ℕ) → Off i → times i (places_of h.nodes) ≡ 0
-off-none h known few i off = elim (cases_lt 0 (times i (places_of h.nodes))) [
+pub off-none : (h : Heap) → Offsets h → used_offsets h ≤ 35 → (i : ℕ) → Off i → times i (offsets_of h.nodes) ≡ 0
+off-none h known few i off = elim (cases_lt 0 (times i (offsets_of h.nodes))) [
   | inl lt ↦ absurd (off-low i i off (low-member h known few i (omega arith)) refl)
   | inr ge ↦ omega arith
 ]
 
--- a record keeps its key and value where each word behind 20 that is no head stays as it is
-pub kept-pair : (ws vs : List ℕ) (h : Heap) → Places h → used_places h ≤ 35 → ((i : ℕ) → 20 < i → Off i → get_or vs i 0 ≡ get_or ws i 0) → (q : ℕ) → 0 < times q (places_of h.nodes)
+-- a record keeps its key and value where each word behind 20 that is no header stays as it is
+pub kept-pair : (ws vs : List ℕ) (h : Heap) → Offsets h → used_offsets h ≤ 35 → ((i : ℕ) → 20 < i → Off i → get_or vs i 0 ≡ get_or ws i 0) → (q : ℕ) → 0 < times q (offsets_of h.nodes)
     → SameRecord ws vs q
 kept-pair ws vs h known few same q m =
     let l = low-member h known few q (omega arith) in let a = l.is in
@@ -124,22 +124,22 @@ module _ (ws vs : List ℕ) (h : Heap) (k p : ℕ) (key : MapKey) (value : ℕ) 
   abbrev owner : ℕ
   owner = owner_from (drop k h.nodes)
 
-  known : Places h
-  known = places-known h is.places is.once
+  known : Offsets h
+  known = offsets-known h is.offsets is.once
 
-  new : NewPlace h p free
-  new = new-place h p free known is.few gives
+  new : NewOffset h p free
+  new = new-offset h p free known is.few gives
 
   n_few : length h.nodes + 1 + length free ≤ 35
   n_few = new.few lt
 
   p_low : Low p
-  p_low = let pl = new.place p (let o = one-same p in omega arith) in let b = pl.below in let f = n_few in record { number = pl.number; is = pl.is; below = omega arith }
+  p_low = let pl = new.offset p (let o = one-same p in omega arith) in let b = pl.below in let f = n_few in record { number = pl.number; is = pl.is; below = omega arith }
 
-  b_in : ((k ≡ 0) × (before ≡ 18)) ⊎ ((0 < k) × (0 < times before (places_of h.nodes)))
+  b_in : ((k ≡ 0) × (before ≡ 18)) ⊎ ((0 < k) × (0 < times before (offsets_of h.nodes)))
   b_in = before-in k h.nodes le
 
-  owner_is : IsOwnerPlace h owner
+  owner_is : IsOwnerOffset h owner
   owner_is = elim (owner-in (drop k h.nodes)) [ inl e ↦ inl e | inr m ↦ inr (let t = times-drop k owner h.nodes in omega arith) ]
 
   before_low : (before ≡ 18) ⊎ Low before
@@ -161,11 +161,11 @@ module _ (ws vs : List ℕ) (h : Heap) (k p : ℕ) (key : MapKey) (value : ℕ) 
       w.other i a b d (elim far [ inl g ↦ inl (omega arith) | inr g ↦ inr (omega arith) ])
       (not_before i off (λ z. elim far [ inl g ↦ absurd (omega arith) | inr g ↦ absurd (omega arith) ])) (not_owner i off (λ z. elim far [ inl g ↦ absurd (omega arith) | inr g ↦ absurd (omega arith) ]))
 
-  not_new : (q : ℕ) → 0 < times q (places_of h.nodes) → q ≢ p
-  not_new q m z = times-apart p q (places_of h.nodes) new.not_node m (sym z)
+  not_new : (q : ℕ) → 0 < times q (offsets_of h.nodes) → q ≢ p
+  not_new q m z = times-apart p q (offsets_of h.nodes) new.not_node m (sym z)
 
   -- the word of a key or a value
-  kept_word : (q i : ℕ) → 0 < times q (places_of h.nodes) → q < i → i ≤ q + 3 → get_or vs i 0 ≡ get_or ws i 0
+  kept_word : (q i : ℕ) → 0 < times q (offsets_of h.nodes) → q < i → i ≤ q + 3 → get_or vs i 0 ≡ get_or ws i 0
   kept_word q i m low high =
       let l = low-member h known is.few q (omega arith) in let a = l.is in let b = l.below in
       let pl = p_low in let pa = pl.is in
@@ -175,20 +175,20 @@ module _ (ws vs : List ℕ) (h : Heap) (k p : ℕ) (key : MapKey) (value : ℕ) 
       (outside-other p q i _ _ pa a ne (omega arith) (omega arith))
       (not_before i off (λ z. absurd (omega arith))) (not_owner i off (λ z. absurd (omega arith)))
 
-  kept_words : (q : ℕ) → 0 < times q (places_of h.nodes) → SameRecord ws vs q
+  kept_words : (q : ℕ) → 0 < times q (offsets_of h.nodes) → SameRecord ws vs q
   kept_words q m = record { first = kept_word q (q + 1) m (omega arith) (omega arith); second = kept_word q (q + 2) m (omega arith) (omega arith); value = kept_word q (q + 3) m (omega arith) (omega arith) }
 
-  new_records : k ≡ place_of key (records_in ws h.nodes) → records_in vs (put_node k p h.nodes) ≡ put key value (records_in ws h.nodes)
-  new_records at = records-put ws vs k p h.nodes le kept_words ∙ (ap (λ (n : MapKey). insert (records_in ws h.nodes) k (n, get_or vs (p + 3) 0)) w.key_word ∙ (ap (λ (n : ℕ). insert (records_in ws h.nodes) k (key, n)) w.value_word ∙ insert-place key value (records_in ws h.nodes) k at))
+  new_records : k ≡ index_of key (records_in ws h.nodes) → records_in vs (put_node k p h.nodes) ≡ put key value (records_in ws h.nodes)
+  new_records at = records-put ws vs k p h.nodes le kept_words ∙ (ap (λ (n : MapKey). insert (records_in ws h.nodes) k (n, get_or vs (p + 3) 0)) w.key_word ∙ (ap (λ (n : ℕ). insert (records_in ws h.nodes) k (key, n)) w.value_word ∙ insert-index key value (records_in ws h.nodes) k at))
 
-  same_head : (i : ℕ) → (i < 2) ⊎ ((2 < i) × (i < 6)) → get_or vs i 0 ≡ get_or ws i 0
-  same_head i m = far_word i (λ z. elim m [ inl f ↦ absurd (omega arith) | inr f ↦ absurd (omega arith) ]) (λ z. elim m [ inl f ↦ absurd (omega arith) | inr f ↦ absurd (omega arith) ]) (λ z. elim m [ inl f ↦ absurd (omega arith) | inr f ↦ absurd (omega arith) ])
+  same_header : (i : ℕ) → (i < 2) ⊎ ((2 < i) × (i < 6)) → get_or vs i 0 ≡ get_or ws i 0
+  same_header i m = far_word i (λ z. elim m [ inl f ↦ absurd (omega arith) | inr f ↦ absurd (omega arith) ]) (λ z. elim m [ inl f ↦ absurd (omega arith) | inr f ↦ absurd (omega arith) ]) (λ z. elim m [ inl f ↦ absurd (omega arith) | inr f ↦ absurd (omega arith) ])
       (inl (elim m [ inl f ↦ omega arith | inr f ↦ omega arith ]))
 
   new_page : (rs : Pairs) → page_with vs rs ≡ page_with ws rs
-  new_page rs = same-page ws vs rs (same_head 1 (inl (omega arith))) (same_head 3 (inr (omega arith, omega arith))) (same_head 4 (inr (omega arith, omega arith))) (same_head 5 (inr (omega arith, omega arith)))
+  new_page rs = same-page ws vs rs (same_header 1 (inl (omega arith))) (same_header 3 (inr (omega arith, omega arith))) (same_header 4 (inr (omega arith, omega arith))) (same_header 5 (inr (omega arith, omega arith)))
 
-  pub put-page : k ≡ place_of key (records_in ws h.nodes) → page_with vs (records_in vs (put_node k p h.nodes)) ≡ page_with ws (put key value (records_in ws h.nodes))
+  pub put-page : k ≡ index_of key (records_in ws h.nodes) → page_with vs (records_in vs (put_node k p h.nodes)) ≡ page_with ws (put key value (records_in ws h.nodes))
   put-page at = ap (λ (rs : Pairs). page_with vs rs) (new_records at) ∙ new_page (put key value (records_in ws h.nodes))
 
   new_fits : value_at key (records_in ws h.nodes) ≡ None → rank key < end_rank → IsPage (page_with ws (put key value (records_in ws h.nodes)))
@@ -196,10 +196,10 @@ module _ (ws vs : List ℕ) (h : Heap) (k p : ℕ) (key : MapKey) (value : ℕ) 
       let f = is.fits in let long = length-records ws h.nodes in let longer = length-put-pairs key value (records_in ws h.nodes) in
       record { level = f.level; prev = f.prev; next = f.next; no_prev = f.no_prev; no_next = f.no_next; few = omega arith; ascends = Rises-put key value 0 (records_in ws h.nodes) end_rank f.ascends (omega arith) in_range none }
 
-  times_new : (q : ℕ) → times q (places_of (put_node k p h.nodes) ++ free) ≡ one p q + times q (places_of h.nodes) + times q free
-  times_new q = let a = times-append q (places_of (put_node k p h.nodes)) free in let b = times-put k p q h.nodes le in omega arith
+  times_new : (q : ℕ) → times q (offsets_of (put_node k p h.nodes) ++ free) ≡ one p q + times q (offsets_of h.nodes) + times q free
+  times_new q = let a = times-append q (offsets_of (put_node k p h.nodes)) free in let b = times-put k p q h.nodes le in omega arith
 
-  used_is : used_places (put_heap k p free h) ≡ length h.nodes + 1 + length free
+  used_is : used_offsets (put_heap k p free h) ≡ length h.nodes + 1 + length free
   used_is = let longer = length-put k p h.nodes le in omega arith
 
   same_at : SameAt ws vs h.nodes before owner
@@ -210,13 +210,13 @@ module _ (ws vs : List ℕ) (h : Heap) (k p : ℕ) (key : MapKey) (value : ℕ) 
       (elim m [ inl n ↦ (let l = low-member h known is.few q (omega arith) in outside-other p q q _ _ pa l.is (not_new q n) (omega arith) (omega arith)) | inr e ↦ inl (omega arith) ]) nb nw
 
   new_chained : Chained vs (put_node k p h.nodes) (put_last k h.nodes h.last)
-  new_chained = chain-put ws vs 18 k p h.nodes h.last le is.chained known.apart (inl refl) w.place_word w.link w.raised same_at
+  new_chained = chain-put ws vs 18 k p h.nodes h.last le is.chained known.apart (inl refl) w.offset_word w.link w.raised same_at
 
   old_freed : Freed ws free
   old_freed = elim gives [ inl e ↦ (subst (λ (ps : List ℕ). Freed ws ps) e is.freed).1 | inr e ↦ subst (λ (ps : List ℕ). Freed ws ps) (sym e.1.1) tt ]
 
-  not_member : (q o : ℕ) → 0 < times q free → 0 < times o (places_of h.nodes) → q ≢ o
-  not_member q o m mo z = absurd (let t = subst (λ (x : ℕ). 0 < times x (places_of h.nodes)) (sym z) mo in let f = new.was_free q in let u = known.once q in omega arith)
+  not_member : (q o : ℕ) → 0 < times q free → 0 < times o (offsets_of h.nodes) → q ≢ o
+  not_member q o m mo z = absurd (let t = subst (λ (x : ℕ). 0 < times x (offsets_of h.nodes)) (sym z) mo in let f = new.was_free q in let u = known.once q in omega arith)
 
   free_word : (q : ℕ) → 0 < times q free → get_or vs q 0 ≡ get_or ws q 0
   free_word q m =
@@ -248,7 +248,7 @@ module _ (ws vs : List ℕ) (h : Heap) (k p : ℕ) (key : MapKey) (value : ℕ) 
   new_count : get_or vs 2 0 ≡ length (put_node k p h.nodes)
   new_count = let longer = length-put k p h.nodes le in let a = w.count in let b = is.count in omega arith
 
-  new_top : get_or vs 7 0 ≡ (1 + length (owners (put_node k p h.nodes))) * 256 + (20 + 4 * used_places (put_heap k p free h))
+  new_top : get_or vs 7 0 ≡ (1 + length (owners (put_node k p h.nodes))) * 256 + (20 + 4 * used_offsets (put_heap k p free h))
   new_top =
       let longer = used_is in let a = w.top in let b = is.top in let m = new.more in
       let owners_long : length (owners (put_node k p h.nodes)) ≡ length (owners h.nodes) = ap length (owners-put k p h.nodes le) in omega arith
@@ -257,16 +257,16 @@ module _ (ws vs : List ℕ) (h : Heap) (k p : ℕ) (key : MapKey) (value : ℕ) 
   new_directory = subst (λ (os : List ℕ). Directory vs 10 8 (18 ∷ os)) (sym (owners-put k p h.nodes le))
       (directory-same ws vs 10 8 (18 ∷ owners h.nodes) is.directory (λ j a b. far_word j (λ z. absurd (omega arith)) (λ z. absurd (omega arith)) (λ z. absurd (omega arith)) (inl (omega arith))))
 
-  new_places : ArePlaces (used_places (put_heap k p free h)) (places_of (put_node k p h.nodes) ++ free)
-  new_places = places-from (used_places (put_heap k p free h)) (places_of (put_node k p h.nodes) ++ free) (λ q m. wider _ _ q (new.place q (let t = times_new q in omega arith)) (let u = used_is in omega arith))
+  new_offsets : AreOffsets (used_offsets (put_heap k p free h)) (offsets_of (put_node k p h.nodes) ++ free)
+  new_offsets = offsets-from (used_offsets (put_heap k p free h)) (offsets_of (put_node k p h.nodes) ++ free) (λ q m. wider _ _ q (new.offset q (let t = times_new q in omega arith)) (let u = used_is in omega arith))
 
-  new_once : EachOnce (used_places (put_heap k p free h)) (places_of (put_node k p h.nodes) ++ free)
-  new_once = once-from (used_places (put_heap k p free h)) (places_of (put_node k p h.nodes) ++ free) (λ r m. (let u = used_is in let t = times_new (20 + 4 * r) in let e = new.each r (omega arith) in omega arith))
+  new_once : EachOnce (used_offsets (put_heap k p free h)) (offsets_of (put_node k p h.nodes) ++ free)
+  new_once = once-from (used_offsets (put_heap k p free h)) (offsets_of (put_node k p h.nodes) ++ free) (λ r m. (let u = used_is in let t = times_new (20 + 4 * r) in let e = new.each r (omega arith) in omega arith))
 
-  pub put-shaped : k ≡ place_of key (records_in ws h.nodes) → value_at key (records_in ws h.nodes) ≡ None → rank key < end_rank → Shaped vs (put_heap k p free h)
+  pub put-shaped : k ≡ index_of key (records_in ws h.nodes) → value_at key (records_in ws h.nodes) ≡ None → rank key < end_rank → Shaped vs (put_heap k p free h)
   put-shaped at none in_range = record {
     size = w.size;
-    kind = same_head 0 (inl (omega arith)) ∙ is.kind;
+    kind = same_header 0 (inl (omega arith)) ∙ is.kind;
     count = new_count;
     fits = subst (λ (q : Page). IsPage q) (sym (put-page at)) (new_fits none in_range);
     front = w.front;
@@ -276,7 +276,7 @@ module _ (ws vs : List ℕ) (h : Heap) (k p : ℕ) (key : MapKey) (value : ℕ) 
     chained = new_chained;
     freed = freed-same ws vs free old_freed free_word;
     directory = new_directory;
-    places = new_places;
+    offsets = new_offsets;
     once = new_once;
     keyed = keys-put ws vs k p h.nodes le kept_words w.is_key is.keyed;
   }

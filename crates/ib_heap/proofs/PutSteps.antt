@@ -3,34 +3,34 @@ use Rattle.std.proofs.Common.{◌≡◌, ℕ, suc, ◌+◌, ◌-◌, ◌/◌, �
 use Rattle.std.proofs.lemmas.Bool.{cases_lt}
 use Rattle.std.proofs.lemmas.List.{get_or_past}
 use Rattle.ib_map.specs.Keys.{MapKey, rank, end_rank}
-use Rattle.ib_map.specs.Pairs.{put, value_at, place_of}
+use Rattle.ib_map.specs.Pairs.{put, value_at, index_of}
 use Rattle.ib_heap.specs.Page.{Page}
-use Rattle.ib_heap.specs.Heap.{Node, Heap, first_of, owners, used_places, page_with, read_heap, up_to, nodes_of, records_in, times, places_of}
+use Rattle.ib_heap.specs.Heap.{Node, Heap, first_of, owners, used_offsets, page_with, read_heap, up_to, nodes_of, records_in, times, offsets_of}
 use Rattle.ib_heap.specs.Form.{page_of}
 use Rattle.ib_heap.specs.Image.{value_with_records, records_of}
-use Rattle.ib_heap.specs.Put.{owned_by, owner_from, give_slot, give_slot_last, place_for, rest_of, put_in}
+use Rattle.ib_heap.specs.Put.{owned_by, owner_from, give_slot, give_slot_last, offset_for, rest_of, put_in}
 use Rattle.ib_heap.specs.Kept.{IsKept, IsOutside}
-use Rattle.ib_heap.specs.Steps.{IsPlaceOfKey, IsPlaceTaken, IsLinkedIn, IsSlotSplit}
-use Rattle.ib_heap.proofs.KeptLaws.{kept-place, kept-far}
+use Rattle.ib_heap.specs.Steps.{IsOffsetOfKey, IsOffsetTaken, IsLinkedIn, IsSlotSplit}
+use Rattle.ib_heap.proofs.KeptLaws.{kept-offset, kept-far}
 use Rattle.ib_heap.specs.Page.PageValue.{Tree}
 use Rattle.ib_heap.proofs.PutHeap.{put-in-plain}
-use Rattle.ib_heap.proofs.HeapLaws.{Owned, page-from, heap-read, ArePlaces-left}
+use Rattle.ib_heap.proofs.HeapLaws.{Owned, page-from, heap-read, AreOffsets-left}
 use Rattle.ib_heap.proofs.SeekLaws.{Known, directory-at, first-in, node-word}
 use Rattle.ib_heap.proofs.PutLaws.{over_at-room, OverAt, times-append, first-member}
 use Rattle.ib_heap.proofs.SplitLaws.{InSlot, split-owned}
 use Rattle.ib_heap.proofs.SplitShape.{Group, group, slots-room}
 use Rattle.ib_heap.proofs.SplitPage.{SplitWords, split_heap, split-page, split-shaped}
-use Rattle.ib_heap.proofs.ShapeLaws.{Shaped, heap-shaped, Places, places-known, Gives, Written}
-use Rattle.ib_heap.proofs.PutPage.{done_plain, k, nodes1, last1, owner_is, before_facts, owner_facts, two, before_head, at_low, owner_head, heap1, shaped1, over1, owner1, nine, Steps, steps, middle-apart}
+use Rattle.ib_heap.proofs.ShapeLaws.{Shaped, heap-shaped, Offsets, offsets-known, Gives, Written}
+use Rattle.ib_heap.proofs.PutPage.{done_plain, k, nodes1, last1, owner_is, before_facts, owner_facts, two, before_header, at_low, owner_header, heap1, shaped1, over1, owner1, nine, Steps, steps, middle-apart}
 
-gives-from : (ns : List Node) (last : ℕ) (free : List ℕ) (p : ℕ) → p ≡ place_for (record { nodes = ns; last = last; free = free }) → Gives (record { nodes = ns; last = last; free = free }) p (rest_of free)
+gives-from : (ns : List Node) (last : ℕ) (free : List ℕ) (p : ℕ) → p ≡ offset_for (record { nodes = ns; last = last; free = free }) → Gives (record { nodes = ns; last = last; free = free }) p (rest_of free)
 gives-from ns last [] p e = inr (refl, (e, refl))
 gives-from ns last (q ∷ qs) p e = inl (ap (λ n. n ∷ qs) (sym e))
 
-pub taken-gives : (ws vs : List ℕ) (p : ℕ) → IsPlaceTaken ws vs p → Gives (read_heap ws) p (rest_of (read_heap ws).free)
-taken-gives ws vs p h = gives-from (nodes_of ws) (read_heap ws).last (read_heap ws).free p h.place
+pub taken-gives : (ws vs : List ℕ) (p : ℕ) → IsOffsetTaken ws vs p → Gives (read_heap ws) p (rest_of (read_heap ws).free)
+taken-gives ws vs p h = gives-from (nodes_of ws) (read_heap ws).last (read_heap ws).free p h.offset
 
-module _ (ws w1 : List ℕ) (key : MapKey) (slot before at p : ℕ) (kn : Known ws) (st : IsPlaceOfKey ws key slot before at) (few : length (nodes_of ws) < 35) (tk : IsPlaceTaken ws w1 p) where
+module _ (ws w1 : List ℕ) (key : MapKey) (slot before at p : ℕ) (kn : Known ws) (st : IsOffsetOfKey ws key slot before at) (few : length (nodes_of ws) < 35) (tk : IsOffsetTaken ws w1 p) where
   abbrev pub gv : Gives (read_heap ws) p (rest_of (read_heap ws).free)
   gv = taken-gives ws w1 p tk
 
@@ -53,30 +53,30 @@ module _ (ws w1 : List ℕ) (key : MapKey) (slot before at p : ℕ) (kn : Known 
   owner-same = let r = owner-range in let a = r.0 in tk.other own (λ z. absurd (omega arith)) (λ z. absurd (omega arith))
 
   pub at-le : at ≤ get_or w1 before 0
-  at-le = let h = before_head ws key slot before at p kn st few gv in let i = h.is in let s = before-same in omega arith
+  at-le = let h = before_header ws key slot before at p kn st few gv in let i = h.is in let s = before-same in omega arith
 
   pub before-low : get_or w1 before 0 < 65536
-  before-low = let h = before_head ws key slot before at p kn st few gv in let i = h.is in let s = before-same in let f = h.few in let l = at_low ws key slot before at p kn st few gv in omega arith
+  before-low = let h = before_header ws key slot before at p kn st few gv in let i = h.is in let s = before-same in let f = h.few in let l = at_low ws key slot before at p kn st few gv in omega arith
 
   pub owner-low : get_or w1 own 0 < 65536
-  owner-low = let s = owner-same in let l = owner_head ws key slot before at p kn st few gv in omega arith
+  owner-low = let s = owner-same in let l = owner_header ws key slot before at p kn st few gv in omega arith
 
   pub count-low : get_or w1 2 0 < 65536
   count-low = let c = kn.is.count in let o = tk.other 2 (λ z. absurd (omega arith)) (λ z. absurd (omega arith)) in omega arith
 
   module _ (vs : List ℕ) (value : ℕ) (lk : IsLinkedIn w1 vs before at own p key value) (absent : value_at key (records_of ws) ≡ None) (in_range : rank key < end_rank) where
-    pub written : Written ws vs (read_heap ws) (place_of key (records_of ws)) p key value (rest_of (read_heap ws).free)
+    pub written : Written ws vs (read_heap ws) (index_of key (records_of ws)) p key value (rest_of (read_heap ws).free)
     written =
         let o_is = owner_is ws key slot before at p kn st few gv in
         let bs = before-same in let os = owner-same in
         let pl = tk.low in
         record {
           size = lk.size ∙ (tk.size ∙ kn.is.size);
-          place_word = lk.place_word ∙ st.at_is;
+          offset_word = lk.offset_word ∙ st.at_is;
           key_word = lk.key_word;
           is_key = lk.is_key;
           value_word = lk.value_word;
-          link = subst (λ (b : ℕ). get_or vs b 0 + first_of (drop (place_of key (records_of ws)) (nodes_of ws)) ≡ get_or ws b 0 + p) st.before_is
+          link = subst (λ (b : ℕ). get_or vs b 0 + first_of (drop (index_of key (records_of ws)) (nodes_of ws)) ≡ get_or ws b 0 + p) st.before_is
               (subst (λ (a : ℕ). get_or vs before 0 + a ≡ get_or ws before 0 + p) st.at_is (let l = lk.link in omega arith));
           raised = subst (λ (o : ℕ). get_or vs o 0 ≡ get_or ws o 0 + 256) o_is (let r = lk.raised in omega arith);
           count = let c = lk.count in let o = tk.other 2 (λ z. absurd (omega arith)) (λ z. absurd (omega arith)) in omega arith;
@@ -93,14 +93,14 @@ module _ (ws w1 : List ℕ) (key : MapKey) (slot before at p : ℕ) (kn : Known 
         let o = owner1 ws key slot before at p kn st few gv vs value written absent in_range in let i = o.is in let l = o.low in
         let ov = over1 ws key slot before at p kn st few gv vs value written absent in_range in
         let sh = shaped1 ws key slot before at p kn st few gv vs value written absent in_range in
-        let owned : Owned 0 (nodes1 ws key slot before at p kn st few gv) (last1 ws key slot before at p kn st few gv) = over_at-room (place_of key (records_of ws)) 0 (nodes1 ws key slot before at p kn st few gv) (last1 ws key slot before at p kn st few gv) ov (omega arith) in
+        let owned : Owned 0 (nodes1 ws key slot before at p kn st few gv) (last1 ws key slot before at p kn st few gv) = over_at-room (index_of key (records_of ws)) 0 (nodes1 ws key slot before at p kn st few gv) (last1 ws key slot before at p kn st few gv) ov (omega arith) in
         heap-read vs (heap1 ws key slot before at p kn st few gv vs value written absent in_range) (heap-shaped vs (heap1 ws key slot before at p kn st few gv vs value written absent in_range) sh owned)
 
-    pub plain-heap : get_or vs own 0 / 256 ≤ 8 → read_heap vs ≡ put_in (place_of key (records_of ws)) (read_heap ws)
+    pub plain-heap : get_or vs own 0 / 256 ≤ 8 → read_heap vs ≡ put_in (index_of key (records_of ws)) (read_heap ws)
     plain-heap room =
         let o = owner1 ws key slot before at p kn st few gv vs value written absent in_range in let i = o.is in let l = o.low in
         plain-read room
-        ∙ put-in-plain (place_of key (records_of ws)) p slot (read_heap ws) tk.place (omega arith)
+        ∙ put-in-plain (index_of key (records_of ws)) p slot (read_heap ws) tk.offset (omega arith)
 
     pub full-nine : (get_or vs own 0 / 256 ≤ 8 → ⊥) → owned_by (drop (k ws key slot before at p kn st few gv) (nodes1 ws key slot before at p kn st few gv)) (last1 ws key slot before at p kn st few gv) ≡ 9
     full-nine full = nine ws key slot before at p kn st few gv vs value written absent in_range full
@@ -117,8 +117,8 @@ module _ (vs : List ℕ) (h : Heap) (kk slot own middle : ℕ) (sh : Shaped vs h
   grp : Group (slot - 1) kk tt1 h.nodes h.last
   grp = group (slot - 1) kk 0 h.nodes h.last (λ z. refl) over nn within
 
-  pl1 : Places h
-  pl1 = places-known h sh.places sh.once
+  pl1 : Offsets h
+  pl1 = offsets-known h sh.offsets sh.once
 
   pub top-is : get_or vs 7 0 / 256 ≡ 1 + length (owners h.nodes)
   top-is = let t = sh.top in let f = sh.few in omega arith
@@ -138,20 +138,20 @@ module _ (vs : List ℕ) (h : Heap) (kk slot own middle : ℕ) (sh : Shaped vs h
   pub middle-low : get_or vs middle 0 < 65536
   middle-low =
       let w = node-word vs tt1 h.nodes h.last grp.in_range sh.chained in
-      let z = grp.head in
+      let z = grp.header in
       let g = grp.in_range in
       let e : get_or vs middle 0 ≡ get_or vs (first_of (drop tt1 h.nodes)) 0 = ap (λ n. get_or vs n 0) middle_is in
-      let l = elim (first-in (used_places h) h.nodes (suc tt1) sh.few (ArePlaces-left _ _ _ sh.places) (omega arith)) as (λ u. first_of (drop (suc tt1) h.nodes) < 256) [ inl y ↦ (let x = y.0 in omega arith) | inr y ↦ (let x = y.1.0 in omega arith) ] in
+      let l = elim (first-in (used_offsets h) h.nodes (suc tt1) sh.few (AreOffsets-left _ _ _ sh.offsets) (omega arith)) as (λ u. first_of (drop (suc tt1) h.nodes) < 256) [ inl y ↦ (let x = y.0 in omega arith) | inr y ↦ (let x = y.1.0 in omega arith) ] in
       omega arith
 
   -- the record that owns the new slot is one of the chain
-  middle-in : 0 < times middle (places_of h.nodes)
-  middle-in = subst (λ (q : ℕ). 0 < times q (places_of h.nodes)) (sym middle_is) (first-member tt1 h.nodes grp.in_range)
+  middle-in : 0 < times middle (offsets_of h.nodes)
+  middle-in = subst (λ (q : ℕ). 0 < times q (offsets_of h.nodes)) (sym middle_is) (first-member tt1 h.nodes grp.in_range)
 
-  pub split-kept : (v2 : List ℕ) → IsSlotSplit vs v2 slot middle own → (i : ℕ) → IsKept (used_places h) i → i ≢ own → get_or v2 i 0 ≡ get_or vs i 0
+  pub split-kept : (v2 : List ℕ) → IsSlotSplit vs v2 slot middle own → (i : ℕ) → IsKept (used_offsets h) i → i ≢ own → get_or v2 i 0 ≡ get_or vs i 0
   split-kept v2 sc i kept other =
       let ti = top-is in let rm = room in
-      sc.other i (elim (kept-far _ i kept) [ inl low ↦ inl low | inr high ↦ inr (omega arith) ]) (kept-place (used_places h) i middle kept (pl1.place middle (let a = times-append middle (places_of h.nodes) h.free in let m = middle-in in omega arith))) other
+      sc.other i (elim (kept-far _ i kept) [ inl low ↦ inl low | inr high ↦ inr (omega arith) ]) (kept-offset (used_offsets h) i middle kept (pl1.offset middle (let a = times-append middle (offsets_of h.nodes) h.free in let m = middle-in in omega arith))) other
 
   pub split-done : (v2 : List ℕ) → IsSlotSplit vs v2 slot middle own → 18 ≤ own → 18 ≤ middle → (page_of v2 ≡ Tree (page_with vs (records_in vs h.nodes)))
   split-done v2 sc ol ml =

@@ -1,32 +1,32 @@
 -- A removal, step by step.
 use Rattle.std.proofs.Common.{◌≡◌, ◌≢◌, ℕ, ◌+◌, ◌/◌, ◌%◌, ◌<◌, ◌≤◌, ◌⊎◌, ◌∙◌, List, length, get_or, ap, arith, Some, None, true}
 use Rattle.ib_map.specs.Keys.{MapKey}
-use Rattle.ib_map.specs.Pairs.{without, value_at, place_of}
+use Rattle.ib_map.specs.Pairs.{without, value_at, index_of}
 use Rattle.ib_heap.specs.Page.{HoldsTree}
-use Rattle.ib_heap.specs.Heap.{nodes_of, read_heap, used_places, records_in, page_with}
+use Rattle.ib_heap.specs.Heap.{nodes_of, read_heap, used_offsets, records_in, page_with}
 use Rattle.ib_heap.specs.Form.{page_of}
 use Rattle.ib_heap.specs.Image.{records_of, value_with_records}
 use Rattle.ib_heap.specs.Take.{unlink_node, unlink_in, remove_in}
 use Rattle.ib_heap.specs.Shape.{is_shaped}
 use Rattle.ib_heap.specs.Kept.{IsKept}
-use Rattle.ib_heap.specs.Steps.{IsPlaceOfKey, IsHead, CanUnlink, IsLinkedPast, CanHandOver, IsHandedOver, CanGiveBack, IsGivenBack, CanLend, IsLent, CanJoin, IsSlotJoined}
+use Rattle.ib_heap.specs.Steps.{IsOffsetOfKey, IsHeader, CanUnlink, IsLinkedPast, CanHandOver, IsHandedOver, CanGiveBack, IsGivenBack, CanLend, IsLent, CanJoin, IsSlotJoined}
 use Rattle.ib_heap.proofs.SeekLaws.{Known, known}
 use Rattle.ib_heap.proofs.UnlinkSteps.{at-range, before-range, own-range, slot-range, at-le, before-few, own-word, two, count-some, plain, owning, plain-shaped, plain-page, plain-kept, owner-shaped, owner-page, owner-kept, value-is}
 use Rattle.ib_heap.proofs.BalanceSteps.{size1, short-range, well-from, well-page, well-heap, slot-small, after-range, short-much, short-after, first-range, apart-lend, first-few, after-much, lend-page, lend-heap, lend-kept, after-few, slot-below, top-few, join-page, join-heap, join-kept}
 
 -- what is left where the record is out of the chain, and its slot as it is then
 pub record IsOut (ws vs : List ℕ) (key : MapKey) : Type 0 where
-  pub shaped : is_shaped vs (unlink_in (place_of key (records_of ws)) (read_heap ws)) ≡ true
-  pub page : page_with vs (records_in vs (unlink_node (place_of key (records_of ws)) (nodes_of ws))) ≡ page_with ws (without key (records_of ws))
-  pub kept : (i : ℕ) → IsKept (used_places (read_heap ws)) i → get_or vs i 0 ≡ get_or ws i 0
+  pub shaped : is_shaped vs (unlink_in (index_of key (records_of ws)) (read_heap ws)) ≡ true
+  pub page : page_with vs (records_in vs (unlink_node (index_of key (records_of ws)) (nodes_of ws))) ≡ page_with ws (without key (records_of ws))
+  pub kept : (i : ℕ) → IsKept (used_offsets (read_heap ws)) i → get_or vs i 0 ≡ get_or ws i 0
 
 -- what a removal leaves
 pub record IsRemoved (ws vs : List ℕ) (key : MapKey) : Type 0 where
   pub page : page_of vs ≡ value_with_records (without key (records_of ws)) (page_of ws)
-  pub heap : read_heap vs ≡ remove_in (place_of key (records_of ws)) (read_heap ws)
-  pub kept : (i : ℕ) → IsKept (used_places (read_heap ws)) i → get_or vs i 0 ≡ get_or ws i 0
+  pub heap : read_heap vs ≡ remove_in (index_of key (records_of ws)) (read_heap ws)
+  pub kept : (i : ℕ) → IsKept (used_offsets (read_heap ws)) i → get_or vs i 0 ≡ get_or ws i 0
 
-module _ (ws : List ℕ) (key : MapKey) (slot before at : ℕ) (holds : HoldsTree (page_of ws)) (found : value_at key (records_of ws) ≢ None) (st : IsPlaceOfKey ws key slot before at) where
+module _ (ws : List ℕ) (key : MapKey) (slot before at : ℕ) (holds : HoldsTree (page_of ws)) (found : value_at key (records_of ws) ≢ None) (st : IsOffsetOfKey ws key slot before at) where
   kn : Known ws
   kn = known ws holds
 
@@ -42,8 +42,8 @@ module _ (ws : List ℕ) (key : MapKey) (slot before at : ℕ) (holds : HoldsTre
   pub value-there : value_at key (records_of ws) ≡ Some (get_or ws (at + 3) 0)
   value-there = value-is ws key slot before at kn st found
 
-  before-head : IsHead before
-  before-head = let r = before-range ws key slot before at kn st found in record { low = r.0; high = r.1 }
+  before-header : IsHeader before
+  before-header = let r = before-range ws key slot before at kn st found in record { low = r.0; high = r.1 }
 
   -- it owns its slot
   module _ (owns : at ≡ own) where
@@ -51,12 +51,12 @@ module _ (ws : List ℕ) (key : MapKey) (slot before at : ℕ) (holds : HoldsTre
     can-hand-over =
         let w = own-word ws key slot before at kn st found in
         let e : get_or ws at 0 ≡ get_or ws own 0 = ap (λ n. get_or ws n 0) owns in
-        record { size = kn.size; at_high = (at-range ws key slot before at kn st found).1; before_head = before-head; slot_few = slot-range ws key slot before at kn st found; at_word = omega arith }
+        record { size = kn.size; at_high = (at-range ws key slot before at kn st found).1; before_header = before-header; slot_few = slot-range ws key slot before at kn st found; at_word = omega arith }
 
     module _ (w1 : List ℕ) (u : IsHandedOver ws w1 before at slot) where
       pub can-give-owner : CanGiveBack w1 at
       can-give-owner =
-          let r = at-range ws key slot before at kn st found in let b = before-head.low in
+          let r = at-range ws key slot before at kn st found in let b = before-header.low in
           let c = count-some ws key slot before at kn st found in
           let same = u.other 2 (λ z. absurd (omega arith)) (λ z. absurd (omega arith)) in
           record { size = u.size ∙ kn.size; low = r.0; high = r.1; some = omega arith }
@@ -74,8 +74,8 @@ module _ (ws : List ℕ) (key : MapKey) (slot before at : ℕ) (holds : HoldsTre
         record {
           size = kn.size;
           at_high = (at-range ws key slot before at kn st found).1;
-          before_head = before-head;
-          owner_head = record { low = omega arith; high = o.1 };
+          before_header = before-header;
+          owner_header = record { low = omega arith; high = o.1 };
           apart = two ws key slot before at kn st found;
           reaches = at-le ws key slot before at kn st found;
           before_word = before-few ws key slot before at kn st found;
@@ -85,7 +85,7 @@ module _ (ws : List ℕ) (key : MapKey) (slot before at : ℕ) (holds : HoldsTre
     module _ (w1 : List ℕ) (u : IsLinkedPast ws w1 before at own) where
       pub can-give-plain : CanGiveBack w1 at
       can-give-plain =
-          let r = at-range ws key slot before at kn st found in let b = before-head.low in let o = (own-range ws key slot before at kn st found).0 in
+          let r = at-range ws key slot before at kn st found in let b = before-header.low in let o = (own-range ws key slot before at kn st found).0 in
           let c = count-some ws key slot before at kn st found in
           let same = u.other 2 (λ z. absurd (omega arith)) (λ z. absurd (omega arith)) in
           record { size = u.size ∙ kn.size; low = r.0; high = r.1; some = omega arith }
@@ -133,11 +133,11 @@ module _ (ws : List ℕ) (key : MapKey) (slot before at : ℕ) (holds : HoldsTre
       pub after-read : after < length w0
       after-read = let s = size in let r = after-bounds.1 in omega arith
 
-      short-head : IsHead short
-      short-head = let r = short-bounds in let low = r.0 in record { low = omega arith; high = r.1 }
+      short-header : IsHeader short
+      short-header = let r = short-bounds in let low = r.0 in record { low = omega arith; high = r.1 }
 
-      after-head : IsHead after
-      after-head = let r = after-bounds in let low = r.0 in record { low = omega arith; high = r.1 }
+      after-header : IsHeader after
+      after-header = let r = after-bounds in let low = r.0 in record { low = omega arith; high = r.1 }
 
       -- the slot after it has one to lend
       module _ (five : 5 ≤ get_or w0 after 0 / 256) where
@@ -150,9 +150,9 @@ module _ (ws : List ℕ) (key : MapKey) (slot before at : ℕ) (holds : HoldsTre
             record {
               size = size;
               slot_few = omega arith;
-              short_head = short-head;
-              first_head = record { low = f.0; high = f.1 };
-              after_head = after-head;
+              short_header = short-header;
+              first_header = record { low = f.0; high = f.1 };
+              after_header = after-header;
               apart = apart-lend ws w0 key slot before at kn st found out.shaped out.page ne three five;
               short_word = short-much ws w0 key slot before at kn st found out.shaped out.page ne three;
               first_word = first-few ws w0 key slot before at kn st found out.shaped out.page ne three five;
@@ -174,8 +174,8 @@ module _ (ws : List ℕ) (key : MapKey) (slot before at : ℕ) (holds : HoldsTre
           some = st.some;
           last = slot-below ws w0 key slot before at kn st found out.shaped out.page ne three few;
           few = top-few ws w0 key slot before at kn st found out.shaped out.page ne three few;
-          short_head = short-head;
-          after_head = after-head;
+          short_header = short-header;
+          after_header = after-header;
           apart = short-after ws w0 key slot before at kn st found out.shaped out.page ne three;
           short_word = short-much ws w0 key slot before at kn st found out.shaped out.page ne three;
           after_word = after-few ws w0 key slot before at kn st found out.shaped out.page ne three few;

@@ -1,7 +1,7 @@
 -- The chain after a slot of nine is split.
 use Rattle.std.proofs.Common.{◌≡◌, ℕ, zero, suc, ◌+◌, ◌<◌, ◌≤◌, ◌⊎◌, false, [], ◌∷◌, ◌∙◌, List, length, drop, get_or, refl, ap, sym, arith, eqb, inl, inr, subst}
 use Rattle.std.proofs.lemmas.Bool.{cases_eq, eq-eqb, ne_eqb}
-use Rattle.ib_heap.specs.Heap.{Node, first_of, owners, places_of, up_to}
+use Rattle.ib_heap.specs.Heap.{Node, first_of, owners, offsets_of, up_to}
 use Rattle.ib_heap.specs.Put.{owned_by, owner_from, put_node, own_four_fewer, last_four_fewer, give_slot, give_slot_last}
 use Rattle.ib_heap.proofs.HeapLaws.{Owned}
 use Rattle.ib_heap.proofs.SeekLaws.{owners-some, owner-first}
@@ -29,7 +29,7 @@ owned-give_slot n (suc m) (x ∷ xs) last e (inl h) nine =
     inl (h.0, owned-give_slot (n + 1) m xs last (omega arith) h.1 rest)
 owned-give_slot n (suc m) (x ∷ xs) last e (inr h) nine = absurd (let a = h.0.0 in let is : x.owned ≡ 9 = rw (ne_eqb x.owned 0 (λ z. omega arith)) at nine in omega arith)
 
--- the slot of a place is the one behind j others
+-- the slot of an offset is the one behind j others
 abbrev pub InSlot : ℕ → ℕ → List Node → Type 0
 InSlot j k xs = (up_to j xs ≤ k) × (((k < up_to (suc j) xs) ⊎ (suc j ≡ length (owners xs))) × (j < length (owners xs)))
 
@@ -44,7 +44,7 @@ first_slot n (suc k) (x ∷ xs) last (inl h) within =
     (inl (h.0, r.0), (rw e r.1.0, rw e r.1.1))
 first_slot n (suc k) (x ∷ xs) last (inr h) within = absurd (
     let a = h.0.0 in let e : eqb x.owned 0 ≡ false = ne_eqb x.owned 0 (λ z. omega arith) in
-    let w : (suc k < 1 + up_to 0 xs) ⊎ (1 ≡ length (x.place ∷ owners xs)) = rw e at within in
+    let w : (suc k < 1 + up_to 0 xs) ⊎ (1 ≡ length (x.offset ∷ owners xs)) = rw e at within in
     let some = owners-some xs in
     elim w [ inl b ↦ omega arith | inr b ↦ omega arith ])
 
@@ -68,13 +68,13 @@ split-owned (suc j) (suc k) n (x ∷ xs) last none (inr h) nine within =
     let a = h.0.0 in
     let e : eqb x.owned 0 ≡ false = ne_eqb x.owned 0 (λ z. omega arith) in
     let low : 1 + up_to j xs ≤ suc k = rw e at within.0 in
-    let high : (suc k < 1 + up_to (suc j) xs) ⊎ (suc (suc j) ≡ length (x.place ∷ owners xs)) = rw e at within.1.0 in
-    let slots : suc j < length (x.place ∷ owners xs) = rw e at within.1.1 in
+    let high : (suc k < 1 + up_to (suc j) xs) ⊎ (suc (suc j) ≡ length (x.offset ∷ owners xs)) = rw e at within.1.0 in
+    let slots : suc j < length (x.offset ∷ owners xs) = rw e at within.1.1 in
     let rest = split-owned j k 0 xs last (λ z. refl) h.1 nine (omega arith, (elim high [ inl b ↦ inl (omega arith) | inr b ↦ inr (omega arith) ], omega arith)) in
     let t : up_to (suc j) (x ∷ xs) + 3 ≡ suc (up_to j xs + 3) = rw e (omega arith) in
     subst (λ (m : ℕ). Owned n (give_slot m (x ∷ xs)) (give_slot_last m (x ∷ xs) last)) (sym t) (inr (h.0, rest))
 
--- the owner of a place's slot, by the directory
+-- the owner of an offset's slot, by the directory
 pub owner-slot : (p j k : ℕ) (xs : List Node) → InSlot j k xs → k ≤ length xs → get_or (p ∷ owners xs) (suc j) 0 ≡ owner_from (drop k xs)
 owner-slot p zero zero xs within le = owner-first xs
 owner-slot p j (suc k) [] within le = absurd (omega arith)
@@ -88,7 +88,7 @@ owner-slot p zero (suc k) (x ∷ xs) within le = elim (cases_eq x.owned 0) [
       rw e (owner-slot p 0 k xs (omega arith, (elim high [ inl b ↦ inl (omega arith) | inr b ↦ inr b ], slots)) (omega arith))
   | inr f ↦ absurd (
       let e = ne_eqb x.owned 0 f in
-      let w : (suc k < 1 + up_to 0 xs) ⊎ (1 ≡ length (x.place ∷ owners xs)) = rw e at within.1.0 in
+      let w : (suc k < 1 + up_to 0 xs) ⊎ (1 ≡ length (x.offset ∷ owners xs)) = rw e at within.1.0 in
       let some = owners-some xs in
       elim w [ inl b ↦ omega arith | inr b ↦ omega arith ])
 ]
@@ -102,12 +102,12 @@ owner-slot p (suc j) (suc k) (x ∷ xs) within le = elim (cases_eq x.owned 0) [
   | inr f ↦
       let e = ne_eqb x.owned 0 f in
       let low : 1 + up_to j xs ≤ suc k = rw e at within.0 in
-      let high : (suc k < 1 + up_to (suc j) xs) ⊎ (suc (suc j) ≡ length (x.place ∷ owners xs)) = rw e at within.1.0 in
-      let slots : suc j < length (x.place ∷ owners xs) = rw e at within.1.1 in
-      rw e (owner-slot x.place j k xs (omega arith, (elim high [ inl b ↦ inl (omega arith) | inr b ↦ inr (omega arith) ], omega arith)) (omega arith))
+      let high : (suc k < 1 + up_to (suc j) xs) ⊎ (suc (suc j) ≡ length (x.offset ∷ owners xs)) = rw e at within.1.0 in
+      let slots : suc j < length (x.offset ∷ owners xs) = rw e at within.1.1 in
+      rw e (owner-slot x.offset j k xs (omega arith, (elim high [ inl b ↦ inl (omega arith) | inr b ↦ inr (omega arith) ], omega arith)) (omega arith))
 ]
 
--- a put leaves a place's slot
+-- a put leaves an offset's slot
 pub slot-put : (j k p : ℕ) (xs : List Node) → InSlot j k xs → k ≤ length xs → up_to j (put_node k p xs) ≡ up_to j xs
 slot-put zero k p xs within le = refl
 slot-put (suc j) k p [] within le = absurd (let b = within.1.1 in omega arith)
@@ -123,27 +123,27 @@ slot-put (suc j) (suc k) p (x ∷ xs) within le = elim (cases_eq x.owned 0) [
   | inr f ↦
       let e = ne_eqb x.owned 0 f in
       let low : 1 + up_to j xs ≤ suc k = rw e at within.0 in
-      let high : (suc k < 1 + up_to (suc j) xs) ⊎ (suc (suc j) ≡ length (x.place ∷ owners xs)) = rw e at within.1.0 in
-      let slots : suc j < length (x.place ∷ owners xs) = rw e at within.1.1 in
+      let high : (suc k < 1 + up_to (suc j) xs) ⊎ (suc (suc j) ≡ length (x.offset ∷ owners xs)) = rw e at within.1.0 in
+      let slots : suc j < length (x.offset ∷ owners xs) = rw e at within.1.1 in
       let r = slot-put j k p xs (omega arith, (elim high [ inl b ↦ inl (omega arith) | inr b ↦ inr (omega arith) ], omega arith)) (omega arith) in
       rw e (ap (λ n. 1 + n) r)
 ]
 
--- places and records are as before
-pub places-own_four_fewer : (xs : List Node) → places_of (own_four_fewer xs) ≡ places_of xs
-places-own_four_fewer [] = refl
-places-own_four_fewer (x ∷ xs) = elim (cases_eq x.owned 0) [
-  | inl e ↦ rw (eq-eqb x.owned 0 e) (ap (λ (ps : List ℕ). x.place ∷ ps) (places-own_four_fewer xs))
+-- offsets and records are as before
+pub offsets-own_four_fewer : (xs : List Node) → offsets_of (own_four_fewer xs) ≡ offsets_of xs
+offsets-own_four_fewer [] = refl
+offsets-own_four_fewer (x ∷ xs) = elim (cases_eq x.owned 0) [
+  | inl e ↦ rw (eq-eqb x.owned 0 e) (ap (λ (ps : List ℕ). x.offset ∷ ps) (offsets-own_four_fewer xs))
   | inr ne ↦ rw (ne_eqb x.owned 0 ne) refl
 ]
 
-pub places-give_slot : (t : ℕ) (xs : List Node) → places_of (give_slot t xs) ≡ places_of xs
-places-give_slot t [] = refl
-places-give_slot zero (x ∷ xs) = ap (λ (ps : List ℕ). x.place ∷ ps) (places-own_four_fewer xs)
-places-give_slot (suc t) (x ∷ xs) = ap (λ (ps : List ℕ). x.place ∷ ps) (places-give_slot t xs)
+pub offsets-give_slot : (t : ℕ) (xs : List Node) → offsets_of (give_slot t xs) ≡ offsets_of xs
+offsets-give_slot t [] = refl
+offsets-give_slot zero (x ∷ xs) = ap (λ (ps : List ℕ). x.offset ∷ ps) (offsets-own_four_fewer xs)
+offsets-give_slot (suc t) (x ∷ xs) = ap (λ (ps : List ℕ). x.offset ∷ ps) (offsets-give_slot t xs)
 
-pub first-places : (xs ys : List Node) → places_of xs ≡ places_of ys → first_of xs ≡ first_of ys
-first-places [] [] e = refl
-first-places [] (y ∷ ys) e = cc
-first-places (x ∷ xs) [] e = cc
-first-places (x ∷ xs) (y ∷ ys) e = cc
+pub first-offsets : (xs ys : List Node) → offsets_of xs ≡ offsets_of ys → first_of xs ≡ first_of ys
+first-offsets [] [] e = refl
+first-offsets [] (y ∷ ys) e = cc
+first-offsets (x ∷ xs) [] e = cc
+first-offsets (x ∷ xs) (y ∷ ys) e = cc

@@ -4,15 +4,15 @@ use Rattle.std.proofs.lemmas.List.Edits.{length-insert}
 use Rattle.ib_map.specs.Pairs.{Pairs}
 use Rattle.ib_map.specs.declared.TheConstants.{PAGE_WORDS}
 use Rattle.ib_heap.specs.Page.{Page, IsPage}
-use Rattle.ib_heap.specs.Heap.{Node, Heap, first_of, owners, times, places_of, records_in, used_places, page_with, up_to}
+use Rattle.ib_heap.specs.Heap.{Node, Heap, first_of, owners, times, offsets_of, records_in, used_offsets, page_with, up_to}
 use Rattle.ib_heap.specs.Put.{owned_by, owner_from, give_slot, give_slot_last}
-use Rattle.ib_heap.proofs.HeapLaws.{Directory, ArePlaces, EachOnce}
+use Rattle.ib_heap.proofs.HeapLaws.{Directory, AreOffsets, EachOnce}
 use Rattle.ib_heap.proofs.PutLaws.{OverAt, owner-in, times-drop, SameAt, first-member}
-use Rattle.ib_heap.proofs.SplitLaws.{InSlot, places-give_slot, first-places}
+use Rattle.ib_heap.proofs.SplitLaws.{InSlot, offsets-give_slot, first-offsets}
 use Rattle.ib_heap.proofs.SplitShape.{Group, group, slots-room, chain-give_slot, directory-insert}
 use Rattle.ib_heap.proofs.PutShape.{Low, low-member, Off, off-low, kept-pair}
-use Rattle.ib_heap.proofs.ShapeLaws.{Shaped, Places, places-known, freed-same, records-same, records-places, same-page, keys-same, keys-places}
-use Rattle.ib_heap.proofs.SeekLaws.{length-places}
+use Rattle.ib_heap.proofs.ShapeLaws.{Shaped, Offsets, offsets-known, freed-same, records-same, records-offsets, same-page, keys-same, keys-offsets}
+use Rattle.ib_heap.proofs.SeekLaws.{length-offsets}
 
 -- what was written for a split
 pub record SplitWords (ws vs : List ℕ) (nodes : List Node) (j t : ℕ) : Type 0 where
@@ -29,10 +29,10 @@ abbrev pub split_heap : ℕ → Heap → Heap
 split_heap t h = record { nodes = give_slot t h.nodes; last = give_slot_last t h.nodes h.last; free = h.free }
 
 pub length-give_slot : (t : ℕ) (xs : List Node) → length (give_slot t xs) ≡ length xs
-length-give_slot t xs = sym (length-places (give_slot t xs)) ∙ (ap length (places-give_slot t xs) ∙ length-places xs)
+length-give_slot t xs = sym (length-offsets (give_slot t xs)) ∙ (ap length (offsets-give_slot t xs) ∙ length-offsets xs)
 
--- as many places are used as before
-pub used-split : (t : ℕ) (h : Heap) → used_places (split_heap t h) ≡ used_places h
+-- as many offsets are used as before
+pub used-split : (t : ℕ) (h : Heap) → used_offsets (split_heap t h) ≡ used_offsets h
 used-split t h = let a = length-give_slot t h.nodes in omega arith
 
 module _ (ws vs : List ℕ) (h : Heap) (j k : ℕ) (is : Shaped ws h) (over : OverAt k 0 h.nodes h.last) (nine : owned_by (drop k h.nodes) h.last ≡ 9) (within : InSlot j k h.nodes) (w : SplitWords ws vs h.nodes j (up_to j h.nodes + 3)) (few : length h.nodes ≤ 35) where
@@ -48,29 +48,29 @@ module _ (ws vs : List ℕ) (h : Heap) (j k : ℕ) (is : Shaped ws h) (over : Ov
   g : Group j k t h.nodes h.last
   g = group j k 0 h.nodes h.last (λ z. refl) over nine within
 
-  known : Places h
-  known = places-known h is.places is.once
+  known : Offsets h
+  known = offsets-known h is.offsets is.once
 
-  middle_in : 0 < times middle (places_of h.nodes)
+  middle_in : 0 < times middle (offsets_of h.nodes)
   middle_in = first-member t h.nodes g.in_range
 
   middle_low : Low middle
   middle_low = let m = middle_in in low-member h known is.few middle (omega arith)
 
-  owner_low : (owner ≡ 19) ⊎ ((0 < times owner (places_of h.nodes)) × Low owner)
+  owner_low : (owner ≡ 19) ⊎ ((0 < times owner (offsets_of h.nodes)) × Low owner)
   owner_low = elim (owner-in (drop (suc t) h.nodes)) [ inl e ↦ inl e | inr m ↦ (let d = times-drop (suc t) owner h.nodes in inr (omega arith, low-member h known is.few owner (omega arith))) ]
 
   off_word : (i : ℕ) → (i < 7) ⊎ (17 < i) → Off i → i ≢ 19 → get_or vs i 0 ≡ get_or ws i 0
   off_word i m off ne = w.other i m (off-low i middle off middle_low) (elim owner_low [ inl e ↦ (λ z. ne (z ∙ e)) | inr l ↦ off-low i owner off l.1 ])
 
   split_records : records_in vs (give_slot t h.nodes) ≡ records_in ws h.nodes
-  split_records = records-places vs (give_slot t h.nodes) h.nodes (places-give_slot t h.nodes) ∙ records-same ws vs h.nodes (kept-pair ws vs h known is.few (λ i high off. off_word i (inr (omega arith)) off (λ z. absurd (omega arith))))
+  split_records = records-offsets vs (give_slot t h.nodes) h.nodes (offsets-give_slot t h.nodes) ∙ records-same ws vs h.nodes (kept-pair ws vs h known is.few (λ i high off. off_word i (inr (omega arith)) off (λ z. absurd (omega arith))))
 
-  head_word : (i : ℕ) → i < 7 → get_or vs i 0 ≡ get_or ws i 0
-  head_word i lt = off_word i (inl lt) (inl (omega arith)) (λ z. absurd (omega arith))
+  header_word : (i : ℕ) → i < 7 → get_or vs i 0 ≡ get_or ws i 0
+  header_word i lt = off_word i (inl lt) (inl (omega arith)) (λ z. absurd (omega arith))
 
   pub split-page : page_with vs (records_in vs (give_slot t h.nodes)) ≡ page_with ws (records_in ws h.nodes)
-  split-page = ap (λ (rs : Pairs). page_with vs rs) split_records ∙ same-page ws vs (records_in ws h.nodes) (head_word 1 (omega arith)) (head_word 3 (omega arith)) (head_word 4 (omega arith)) (head_word 5 (omega arith))
+  split-page = ap (λ (rs : Pairs). page_with vs rs) split_records ∙ same-page ws vs (records_in ws h.nodes) (header_word 1 (omega arith)) (header_word 3 (omega arith)) (header_word 4 (omega arith)) (header_word 5 (omega arith))
 
   same_at : SameAt ws vs h.nodes middle owner
   same_at q m nm nw = w.other q (inr (elim m [ inl n ↦ (let l = low-member h known is.few q (omega arith) in let a = l.is in omega arith) | inr e ↦ omega arith ])) nm nw
@@ -86,29 +86,29 @@ module _ (ws vs : List ℕ) (h : Heap) (j k : ℕ) (is : Shaped ws h) (over : Ov
       let l = low-member h known is.few q (omega arith) in let a = l.is in let o = known.once q in
       w.other q (inr (omega arith)) (not_member q middle m middle_in) (elim owner_low [ inl e ↦ (λ z. absurd (omega arith)) | inr e ↦ not_member q owner m e.0 ])
     where
-      not_member : (q o : ℕ) → 0 < times q h.free → 0 < times o (places_of h.nodes) → q ≢ o
-      not_member q o mq mo z = absurd (let s = subst (λ (x : ℕ). 0 < times x (places_of h.nodes)) (sym z) mo in let u = known.once q in omega arith)
+      not_member : (q o : ℕ) → 0 < times q h.free → 0 < times o (offsets_of h.nodes) → q ≢ o
+      not_member q o mq mo z = absurd (let s = subst (λ (x : ℕ). 0 < times x (offsets_of h.nodes)) (sym z) mo in let u = known.once q in omega arith)
 
   pub split-shaped : Shaped vs (split_heap t h)
   split-shaped =
       let room = slots-room k 0 h.nodes h.last over nine in
       let b = within.1.1 in
       let wtop = w.top in let was = is.top in let l = long in let sl = slots_long in
-      let count = head_word 2 (omega arith) in let count_was = is.count in let few_was = is.few in
+      let count = header_word 2 (omega arith) in let count_was = is.count in let few_was = is.few in
       record {
         size = w.size;
-        kind = head_word 0 (omega arith) ∙ is.kind;
+        kind = header_word 0 (omega arith) ∙ is.kind;
         count = omega arith;
         fits = subst (λ (q : Page). IsPage q) (sym split-page) is.fits;
-        front = head_word 6 (omega arith) ∙ is.front;
+        front = header_word 6 (omega arith) ∙ is.front;
         top = omega arith;
         few = omega arith;
-        start = off_word 18 (inr (omega arith)) (inl (omega arith)) (λ z. absurd (omega arith)) ∙ (is.start ∙ ap (λ n. 256 + n) (first-places h.nodes (give_slot t h.nodes) (sym (places-give_slot t h.nodes))));
-        chained = chain-give_slot ws vs t h.nodes h.last g.in_range is.chained known.apart g.head g.owned w.marked w.lowered same_at;
+        start = off_word 18 (inr (omega arith)) (inl (omega arith)) (λ z. absurd (omega arith)) ∙ (is.start ∙ ap (λ n. 256 + n) (first-offsets h.nodes (give_slot t h.nodes) (sym (offsets-give_slot t h.nodes))));
+        chained = chain-give_slot ws vs t h.nodes h.last g.in_range is.chained known.apart g.header g.owned w.marked w.lowered same_at;
         freed = freed-same ws vs h.free is.freed free_word;
         directory = subst (λ (os : List ℕ). Directory vs 10 8 (18 ∷ os)) (sym g.slots) (directory-insert ws vs 10 8 (suc j) middle (18 ∷ owners h.nodes) is.directory (omega arith) (omega arith)
             (λ m lt. w.before m (omega arith)) (ap (λ i. get_or vs i 0) (let e : 8 + suc j ≡ 8 + (j + 1) = omega arith in e) ∙ w.here) (λ m le lt. w.behind m (omega arith) lt));
-        places = subst (λ (ps : List ℕ). ArePlaces (used_places (split_heap t h)) (ps ++ h.free)) (sym (places-give_slot t h.nodes)) (subst (λ (n : ℕ). ArePlaces n (places_of h.nodes ++ h.free)) (let e : used_places h ≡ used_places (split_heap t h) = omega arith in e) is.places);
-        once = subst (λ (ps : List ℕ). EachOnce (used_places (split_heap t h)) (ps ++ h.free)) (sym (places-give_slot t h.nodes)) (subst (λ (n : ℕ). EachOnce n (places_of h.nodes ++ h.free)) (let e : used_places h ≡ used_places (split_heap t h) = omega arith in e) is.once);
-        keyed = keys-places vs (give_slot t h.nodes) h.nodes (places-give_slot t h.nodes) ∙ (keys-same ws vs h.nodes (kept-pair ws vs h known is.few (λ i high off. off_word i (inr (omega arith)) off (λ z. absurd (omega arith)))) ∙ is.keyed);
+        offsets = subst (λ (ps : List ℕ). AreOffsets (used_offsets (split_heap t h)) (ps ++ h.free)) (sym (offsets-give_slot t h.nodes)) (subst (λ (n : ℕ). AreOffsets n (offsets_of h.nodes ++ h.free)) (let e : used_offsets h ≡ used_offsets (split_heap t h) = omega arith in e) is.offsets);
+        once = subst (λ (ps : List ℕ). EachOnce (used_offsets (split_heap t h)) (ps ++ h.free)) (sym (offsets-give_slot t h.nodes)) (subst (λ (n : ℕ). EachOnce n (offsets_of h.nodes ++ h.free)) (let e : used_offsets h ≡ used_offsets (split_heap t h) = omega arith in e) is.once);
+        keyed = keys-offsets vs (give_slot t h.nodes) h.nodes (offsets-give_slot t h.nodes) ∙ (keys-same ws vs h.nodes (kept-pair ws vs h known is.few (λ i high off. off_word i (inr (omega arith)) off (λ z. absurd (omega arith)))) ∙ is.keyed);
       }

@@ -15,7 +15,7 @@ none = set (set (set (set (set (set (replicate 160 0) 0 1) 7 532) 8 18) 9 19) 18
 
 -- the key is that of a number, eight bytes
 abbrev with_record : List ℕ → ℕ → ℕ → ℕ → ℕ → List ℕ
-with_record ws p head number value = set (set (set (set ws p head) (p + 1) number) (p + 2) 8) (p + 3) value
+with_record ws p header number value = set (set (set (set ws p header) (p + 1) number) (p + 2) 8) (p + 3) value
 
 -- the key of 10 with value 100
 abbrev ten : List ℕ
@@ -70,7 +70,7 @@ removed_heap = refl
 again_heap : read_heap again ≡ put_in 3 (read_heap removed)
 again_heap = refl
 
--- the words of a free place may hold anything, also what is no key, and those behind the top; its head and the chain's may not
+-- the words of a free offset may hold anything, also what is no key, and those behind the top; its header and the chain's may not
 free_value : page_of (set (set removed 33 77) 34 255) ≡ page_of removed
 unfolding page_of K.rank K.end_rank K.key_in is_key_words zero_bytes W.free_page_words W.zeros
 free_value = refl
@@ -79,9 +79,9 @@ unused_value : page_of (set (set removed 52 77) 54 255) ≡ page_of removed
 unfolding page_of K.rank K.end_rank K.key_in is_key_words zero_bytes W.free_page_words W.zeros
 unused_value = refl
 
-free_head : page_of (set removed 32 256) ≡ Malformed
+free_header : page_of (set removed 32 256) ≡ Malformed
 unfolding page_of K.rank K.end_rank K.key_in is_key_words zero_bytes W.free_page_words W.zeros
-free_head = refl
+free_header = refl
 
 slot_without_entry : page_of (set eight 36 1064) ≡ Malformed
 unfolding page_of K.rank K.end_rank K.key_in is_key_words zero_bytes W.free_page_words W.zeros

@@ -1,7 +1,7 @@
 -- What a call that puts a record in, or takes one out, answers, and what it leaves of the page.
 use Rattle.std.specs.Prelude.{◌≡◌, ◌≢◌, ◌↔◌, ℕ, List, length, Result, Err, Some, IsSome, IsNone, OnOk, OnErr, IfOk, IfErr}
 use Rattle.ib_map.specs.Keys.{MapKey}
-use Rattle.ib_map.specs.Pairs.{put, without, value_at, place_of}
+use Rattle.ib_map.specs.Pairs.{put, without, value_at, index_of}
 use Rattle.ib_heap.specs.declared.TheConstants.{MOST_RECORDS}
 use Rattle.ib_heap.specs.declared.fault.PageFault.{PageFault}
 use Rattle.ib_heap.specs.declared.fault.PageFault.TheVariants.{Duplicate, PageFull, Missing}
@@ -20,15 +20,15 @@ pub record HasPut (ws vs : List ℕ) (key : MapKey) (value : ℕ) (result : Resu
   pub full : (result ≡ Err PageFull) ↔ (IsNone (value_at key (records_of ws)) × (length (records_of ws) ≡ MOST_RECORDS))
   pub never_missing : result ≢ Err Missing
   pub unchanged : OnErr result (vs ≡ ws)
-  pub heap : OnOk result (read_heap vs ≡ put_in (place_of key (records_of ws)) (read_heap ws))
+  pub heap : OnOk result (read_heap vs ≡ put_in (index_of key (records_of ws)) (read_heap ws))
 
 -- The record of the key is taken out, and its value given. `Missing`, and no other fault, exactly where the key is not
 -- there; the page is then unchanged.
-pub record HasTaken (ws vs : List ℕ) (key : MapKey) (result : Result ℕ PageFault) : Type 0 where
+pub record HasRemoved (ws vs : List ℕ) (key : MapKey) (result : Result ℕ PageFault) : Type 0 where
   pub value : IfOk result (λ v. value_at key (records_of ws) ≡ Some v)
   pub removed : OnOk result (page_of vs ≡ value_with_records (without key (records_of ws)) (page_of ws))
   pub tree : IsTreePage vs
   pub missing : (result ≡ Err Missing) ↔ IsNone (value_at key (records_of ws))
   pub only_missing : IfErr result (λ fault. fault ≡ Missing)
   pub unchanged : OnErr result (vs ≡ ws)
-  pub heap : OnOk result (read_heap vs ≡ remove_in (place_of key (records_of ws)) (read_heap ws))
+  pub heap : OnOk result (read_heap vs ≡ remove_in (index_of key (records_of ws)) (read_heap ws))

@@ -3,7 +3,7 @@ use Rattle.std.specs.Prelude.{ℕ, zero, suc, []}
 use Rattle.ib_heap.specs.Heap.{Heap}
 use Rattle.ib_heap.specs.Put.{put_in}
 
--- the heap of a page with no records and no free places
+-- the heap of a page with no records and no free offsets
 abbrev pub empty_heap : Heap
 empty_heap = record { nodes = []; last = 1; free = [] }
 

@@ -1,45 +1,45 @@
 -- The steps of an insert and of a removal: what each asks of the words, and what it leaves.
 use Rattle.std.specs.Prelude.{◌≡◌, ◌≢◌, ℕ, ◌+◌, ◌-◌, ◌*◌, ◌/◌, ◌%◌, ◌<◌, ◌≤◌, ◌⊎◌, List, length, take, drop, slice_index, IsTrue}
 use Rattle.ib_map.specs.Keys.{MapKey}
-use Rattle.ib_map.specs.Pairs.{place_of}
+use Rattle.ib_map.specs.Pairs.{index_of}
 use Rattle.ib_map.specs.declared.TheConstants.{PAGE_WORDS}
-use Rattle.ib_heap.specs.declared.form.TheConstants.{COUNT, FREE, TOP, DIRECTORY, MOST_SLOTS, INFIMUM, FIRST_PLACE, PLACE_WORDS, LAST_PLACE, VALUE_WORD, OWNED_UNIT, FEWEST_OWNED, ONE_TOO_FEW}
-use Rattle.ib_heap.specs.Heap.{key_at, is_key_at, first_of, first_free, owners, used_places, read_heap, nodes_of, last_from, up_to}
+use Rattle.ib_heap.specs.declared.form.TheConstants.{COUNT, FREE, TOP, DIRECTORY, MOST_SLOTS, INFIMUM, FIRST_OFFSET, RECORD_WORDS, LAST_OFFSET, VALUE_WORD, OWNED_UNIT, FEWEST_OWNED, ONE_TOO_FEW}
+use Rattle.ib_heap.specs.Heap.{key_at, is_key_at, first_of, first_free, owners, used_offsets, read_heap, nodes_of, last_from, up_to}
 use Rattle.ib_heap.specs.Image.{records_of}
-use Rattle.ib_heap.specs.Put.{place_for, rest_of}
+use Rattle.ib_heap.specs.Put.{offset_for, rest_of}
 use Rattle.ib_heap.specs.Kept.{IsOutside}
 
 -- where a key stands on a page: its neighbours in the chain, and its slot
-pub record IsPlaceOfKey (ws : List ℕ) (key : MapKey) (slot before at : ℕ) : Type 0 where
-  pub before_is : before ≡ last_from INFIMUM (take (place_of key (records_of ws)) (nodes_of ws))
-  pub at_is : at ≡ first_of (drop (place_of key (records_of ws)) (nodes_of ws))
+pub record IsOffsetOfKey (ws : List ℕ) (key : MapKey) (slot before at : ℕ) : Type 0 where
+  pub before_is : before ≡ last_from INFIMUM (take (index_of key (records_of ws)) (nodes_of ws))
+  pub at_is : at ≡ first_of (drop (index_of key (records_of ws)) (nodes_of ws))
   pub some : 0 < slot
   pub in_range : slot ≤ length (owners (nodes_of ws))
-  pub low : up_to (slot - 1) (nodes_of ws) ≤ place_of key (records_of ws)
-  pub high : (place_of key (records_of ws) < up_to slot (nodes_of ws)) ⊎ (slot ≡ length (owners (nodes_of ws)))
+  pub low : up_to (slot - 1) (nodes_of ws) ≤ index_of key (records_of ws)
+  pub high : (index_of key (records_of ws) < up_to slot (nodes_of ws)) ⊎ (slot ≡ length (owners (nodes_of ws)))
 
--- a head that may be written
-pub record IsHead (place : ℕ) : Type 0 where
-  pub low : INFIMUM ≤ place
-  pub high : place ≤ LAST_PLACE
+-- a header that may be written
+pub record IsHeader (offset : ℕ) : Type 0 where
+  pub low : INFIMUM ≤ offset
+  pub high : offset ≤ LAST_OFFSET
 
--- the place for a new record is taken from the free ones, or from the top
-pub record IsPlaceTaken (ws vs : List ℕ) (p : ℕ) : Type 0 where
-  pub place : p ≡ place_for (read_heap ws)
-  pub low : FIRST_PLACE ≤ p
-  pub high : p ≤ LAST_PLACE
+-- the offset for a new record is taken from the free ones, or from the top
+pub record IsOffsetTaken (ws vs : List ℕ) (p : ℕ) : Type 0 where
+  pub offset : p ≡ offset_for (read_heap ws)
+  pub low : FIRST_OFFSET ≤ p
+  pub high : p ≤ LAST_OFFSET
   pub front : slice_index vs FREE ≡ first_free (rest_of (read_heap ws).free)
-  pub top : slice_index vs TOP ≡ slice_index ws TOP + PLACE_WORDS * (length (nodes_of ws) + 1 + length (rest_of (read_heap ws).free) - used_places (read_heap ws))
+  pub top : slice_index vs TOP ≡ slice_index ws TOP + RECORD_WORDS * (length (nodes_of ws) + 1 + length (rest_of (read_heap ws).free) - used_offsets (read_heap ws))
   pub other : (i : ℕ) → i ≢ FREE → i ≢ TOP → slice_index vs i ≡ slice_index ws i
   pub size : length vs ≡ length ws
 
--- a record can be linked in at a place that is none of its neighbours'
+-- a record can be linked in at an offset that is none of its neighbours'
 pub record CanLink (ws : List ℕ) (before at owner p : ℕ) : Type 0 where
   pub size : length ws ≡ PAGE_WORDS
-  pub place_low : FIRST_PLACE ≤ p
-  pub place_high : p ≤ LAST_PLACE
-  pub before_head : IsHead before
-  pub owner_head : IsHead owner
+  pub offset_low : FIRST_OFFSET ≤ p
+  pub offset_high : p ≤ LAST_OFFSET
+  pub before_header : IsHeader before
+  pub owner_header : IsHeader owner
   pub apart : before ≢ owner
   pub before_apart : IsOutside p before
   pub owner_apart : IsOutside p owner
@@ -50,7 +50,7 @@ pub record CanLink (ws : List ℕ) (before at owner p : ℕ) : Type 0 where
 
 -- it stands between its neighbours, and is counted, and owned
 pub record IsLinkedIn (ws vs : List ℕ) (before at owner p : ℕ) (key : MapKey) (value : ℕ) : Type 0 where
-  pub place_word : slice_index vs p ≡ at
+  pub offset_word : slice_index vs p ≡ at
   pub key_word : key_at vs p ≡ key
   pub is_key : IsTrue (is_key_at vs p)
   pub value_word : slice_index vs (p + VALUE_WORD) ≡ value
@@ -66,8 +66,8 @@ pub record CanSplitSlot (ws : List ℕ) (slot middle owner : ℕ) : Type 0 where
   pub some : 0 < slot
   pub last : slot + 1 ≤ slice_index ws TOP / OWNED_UNIT
   pub few : slice_index ws TOP / OWNED_UNIT ≤ MOST_SLOTS - 1
-  pub middle_head : IsHead middle
-  pub owner_head : IsHead owner
+  pub middle_header : IsHeader middle
+  pub owner_header : IsHeader owner
   pub apart : middle ≢ owner
   pub middle_word : slice_index ws middle < 65536
   pub owner_word : FEWEST_OWNED * OWNED_UNIT ≤ slice_index ws owner
@@ -86,9 +86,9 @@ pub record IsSlotSplit (ws vs : List ℕ) (slot middle owner : ℕ) : Type 0 whe
 -- a record that owns no slot can be unlinked
 pub record CanUnlink (ws : List ℕ) (before at owner : ℕ) : Type 0 where
   pub size : length ws ≡ PAGE_WORDS
-  pub at_high : at ≤ LAST_PLACE
-  pub before_head : IsHead before
-  pub owner_head : IsHead owner
+  pub at_high : at ≤ LAST_OFFSET
+  pub before_header : IsHeader before
+  pub owner_header : IsHeader owner
   pub apart : before ≢ owner
   pub reaches : at ≤ slice_index ws before
   pub before_word : slice_index ws before < 65536
@@ -104,8 +104,8 @@ pub record IsLinkedPast (ws vs : List ℕ) (before at owner : ℕ) : Type 0 wher
 -- a slot can be handed over to the record before its owner
 pub record CanHandOver (ws : List ℕ) (before at slot : ℕ) : Type 0 where
   pub size : length ws ≡ PAGE_WORDS
-  pub at_high : at ≤ LAST_PLACE
-  pub before_head : IsHead before
+  pub at_high : at ≤ LAST_OFFSET
+  pub before_header : IsHeader before
   pub slot_few : slot ≤ MOST_SLOTS - 1
   pub at_word : OWNED_UNIT ≤ slice_index ws at
 
@@ -116,11 +116,11 @@ pub record IsHandedOver (ws vs : List ℕ) (before at slot : ℕ) : Type 0 where
   pub other : (i : ℕ) → i ≢ before → i ≢ DIRECTORY + slot → slice_index vs i ≡ slice_index ws i
   pub size : length vs ≡ length ws
 
--- a place can be given back
+-- an offset can be given back
 pub record CanGiveBack (ws : List ℕ) (at : ℕ) : Type 0 where
   pub size : length ws ≡ PAGE_WORDS
-  pub low : FIRST_PLACE ≤ at
-  pub high : at ≤ LAST_PLACE
+  pub low : FIRST_OFFSET ≤ at
+  pub high : at ≤ LAST_OFFSET
   pub some : 0 < slice_index ws COUNT
 
 -- it is the first free one, and its record is counted out
@@ -135,9 +135,9 @@ pub record IsGivenBack (ws vs : List ℕ) (at : ℕ) : Type 0 where
 pub record CanLend (ws : List ℕ) (slot short first after : ℕ) : Type 0 where
   pub size : length ws ≡ PAGE_WORDS
   pub slot_few : slot ≤ MOST_SLOTS - 1
-  pub short_head : IsHead short
-  pub first_head : IsHead first
-  pub after_head : IsHead after
+  pub short_header : IsHeader short
+  pub first_header : IsHeader first
+  pub after_header : IsHeader after
   pub apart : (short ≢ first) × ((short ≢ after) × (first ≢ after))
   pub short_word : ONE_TOO_FEW * OWNED_UNIT ≤ slice_index ws short
   pub first_word : slice_index ws first < 65536
@@ -158,8 +158,8 @@ pub record CanJoin (ws : List ℕ) (slot short after : ℕ) : Type 0 where
   pub some : 0 < slot
   pub last : slot + 2 ≤ slice_index ws TOP / OWNED_UNIT
   pub few : slice_index ws TOP / OWNED_UNIT ≤ MOST_SLOTS
-  pub short_head : IsHead short
-  pub after_head : IsHead after
+  pub short_header : IsHeader short
+  pub after_header : IsHeader after
   pub apart : short ≢ after
   pub short_word : ONE_TOO_FEW * OWNED_UNIT ≤ slice_index ws short
   pub after_word : slice_index ws after < 65536

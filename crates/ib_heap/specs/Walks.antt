@@ -2,13 +2,13 @@
 use Rattle.std.specs.Prelude.{◌≡◌, ℕ, zero, suc, ◌+◌, ◌-◌, ◌/◌, ◌*◌, ◌%◌, ◌<◌, ◌≤◌, Bool, true, ◌==◌, ◌&&◌, List, [], ◌∷◌, Option, None, Some, length, slice_index, slice_set}
 use Rattle.ib_map.specs.declared.TheConstants.{PAGE_WORDS}
 use Rattle.ib_map.specs.Keys.{MapKey, rank, end_rank}
-use Rattle.ib_heap.specs.declared.form.TheConstants.{KIND, COUNT, TREE, TOP, DIRECTORY, MOST_SLOTS, INFIMUM, SUPREMUM, FIRST_PLACE, PLACE_WORDS, OWNED_UNIT}
+use Rattle.ib_heap.specs.declared.form.TheConstants.{KIND, COUNT, TREE, TOP, DIRECTORY, MOST_SLOTS, INFIMUM, SUPREMUM, FIRST_OFFSET, RECORD_WORDS, OWNED_UNIT}
 use Rattle.ib_heap.specs.declared.TheConstants.{MOST_RECORDS}
 use Rattle.ib_heap.specs.declared.formed.ChainStep.{ChainStep}
 use Rattle.ib_heap.specs.Page.{rises}
-use Rattle.ib_heap.specs.Heap.{is_place, chain_from, owners, is_owned, is_directory, records_in, are_keys}
+use Rattle.ib_heap.specs.Heap.{is_offset, chain_from, owners, is_owned, is_directory, records_in, are_keys}
 
--- where the chain stands after n records from a place on
+-- where the chain stands after n records from an offset on
 abbrev pub end_from : List ℕ → ℕ → ℕ → ℕ
 end_from ws zero p = p
 end_from ws (suc n) p = end_from ws n (slice_index ws p % OWNED_UNIT)
@@ -18,28 +18,28 @@ abbrev pub free_end : List ℕ → ℕ → ℕ → ℕ
 free_end ws zero p = p
 free_end ws (suc n) p = free_end ws n (slice_index ws p)
 
--- the words of the head that stand by themselves: kind, count, top, the start and the end of the chain
-abbrev pub HasHead : List ℕ → Type 0
-HasHead ws = (slice_index ws KIND ≡ TREE) × ((slice_index ws COUNT ≤ MOST_RECORDS) × ((FIRST_PLACE ≤ slice_index ws TOP % OWNED_UNIT) × (((slice_index ws TOP % OWNED_UNIT - FIRST_PLACE) % PLACE_WORDS ≡ 0) × ((slice_index ws TOP % OWNED_UNIT ≤ PAGE_WORDS)
-    × ((slice_index ws COUNT ≤ (slice_index ws TOP % OWNED_UNIT - FIRST_PLACE) / PLACE_WORDS) × ((slice_index ws INFIMUM / OWNED_UNIT ≡ 1) × ((slice_index ws SUPREMUM % OWNED_UNIT ≡ 0) × (slice_index ws DIRECTORY ≡ INFIMUM))))))))
+-- the words of the header that stand by themselves: kind, count, top, the start and the end of the chain
+abbrev pub HasHeader : List ℕ → Type 0
+HasHeader ws = (slice_index ws KIND ≡ TREE) × ((slice_index ws COUNT ≤ MOST_RECORDS) × ((FIRST_OFFSET ≤ slice_index ws TOP % OWNED_UNIT) × (((slice_index ws TOP % OWNED_UNIT - FIRST_OFFSET) % RECORD_WORDS ≡ 0) × ((slice_index ws TOP % OWNED_UNIT ≤ PAGE_WORDS)
+    × ((slice_index ws COUNT ≤ (slice_index ws TOP % OWNED_UNIT - FIRST_OFFSET) / RECORD_WORDS) × ((slice_index ws INFIMUM / OWNED_UNIT ≡ 1) × ((slice_index ws SUPREMUM % OWNED_UNIT ≡ 0) × (slice_index ws DIRECTORY ≡ INFIMUM))))))))
 
 -- whether the top word's number of slots ends at the supremum's
 abbrev pub HasSlots : List ℕ → Type 0
 HasSlots ws = (2 ≤ slice_index ws TOP / OWNED_UNIT) × ((slice_index ws TOP / OWNED_UNIT ≤ MOST_SLOTS) × (slice_index ws (DIRECTORY - 1 + slice_index ws TOP / OWNED_UNIT) ≡ SUPREMUM))
 
--- no word but the heads of record places is 0: only those may still be met
-abbrev pub HasOnlyPlaces : List ℕ → Type 0
-HasOnlyPlaces met = (p : ℕ) → p < PAGE_WORDS → slice_index met p ≡ 0 → is_place MOST_RECORDS p ≡ true
+-- no word but the headers of record offsets is 0: only those may still be met
+abbrev pub HasOnlyOffsets : List ℕ → Type 0
+HasOnlyOffsets met = (p : ℕ) → p < PAGE_WORDS → slice_index met p ≡ 0 → is_offset MOST_RECORDS p ≡ true
 
--- no record place is met
+-- no record offset is met
 pub record IsUnmet (met : List ℕ) : Type 0 where
   pub size : length met ≡ PAGE_WORDS
-  pub none : (r : ℕ) → r < MOST_RECORDS → slice_index met (FIRST_PLACE + PLACE_WORDS * r) ≡ 0
-  pub places : HasOnlyPlaces met
+  pub none : (r : ℕ) → r < MOST_RECORDS → slice_index met (FIRST_OFFSET + RECORD_WORDS * r) ≡ 0
+  pub offsets : HasOnlyOffsets met
 
--- the word is the head of one of the first n record places, and was not met before
+-- the word is the header of one of the first n record offsets, and was not met before
 abbrev pub is_new : ℕ → List ℕ → ℕ → Bool
-is_new n met p = is_place n p && (slice_index met p == 0)
+is_new n met p = is_offset n p && (slice_index met p == 0)
 
 -- the same of each of these words, of which none stands twice
 abbrev pub are_new : ℕ → List ℕ → List ℕ → Bool

@@ -2,14 +2,14 @@
 
 ghost use Rattle.std.specs.Prelude.{◌≡◌, ℕ, ◌+◌, ◌-◌, ◌/◌, ◌<◌, ◌≤◌, ◌⊎◌, ◌↔◌, length, take, drop, slice_index, IsTrue};
 ghost use Rattle.ib_map.specs.Keys.{rank};
-ghost use Rattle.ib_map.specs.Pairs.{place_of};
+ghost use Rattle.ib_map.specs.Pairs.{index_of};
 ghost use Rattle.ib_heap.specs.Image.{records_of};
 ghost use Rattle.ib_heap.specs.Heap.{key_at, is_key_at, nodes_of, owners, up_to, last_from, first_of};
 ghost use Rattle.ib_heap.specs.Order.{IsOrder};
 ghost use Rattle.ib_heap.specs.Source.{IsStillSource, IsTreeSource};
 
 use crate::form::{
-    DIRECTORY, FIRST_KEY_WORD, FIRST_PLACE, INFIMUM, LAST_PLACE, MOST_SLOTS, OWNED_UNIT,
+    DIRECTORY, FIRST_KEY_WORD, FIRST_OFFSET, INFIMUM, LAST_OFFSET, MOST_SLOTS, OWNED_UNIT,
     SECOND_KEY_WORD, TOP, VALUE_WORD,
 };
 use crate::words::PageWords;
@@ -27,72 +27,72 @@ pub(crate) fn last_slot<W: PageWords>(page: &mut W) -> usize
     (page.word(TOP) / OWNED_UNIT) as usize - 1
 }
 
-/// The place of the record that owns a slot.
+/// The offset of the record that owns a slot.
 pub(crate) fn owner<W: PageWords>(page: &mut W, slot: usize) -> usize
     requires page { IsTreeSource W.PageWords page.old }
     requires in_range { slot ≤ length (owners (nodes_of (W.words page.old))) }
-    ensures place { slot < length (owners (nodes_of (W.words page.old))) → result ≡ last_from INFIMUM (take (up_to slot (nodes_of (W.words page.old))) (nodes_of (W.words page.old))) }
+    ensures offset { slot < length (owners (nodes_of (W.words page.old))) → result ≡ last_from INFIMUM (take (up_to slot (nodes_of (W.words page.old))) (nodes_of (W.words page.old))) }
     ensures word { result ≡ slice_index (W.words page.old) (DIRECTORY + slot) }
     ensures low { INFIMUM ≤ result }
-    ensures high { result ≤ LAST_PLACE }
-    ensures is_record { 0 < slot → slot < length (owners (nodes_of (W.words page.old))) → FIRST_PLACE ≤ result }
+    ensures high { result ≤ LAST_OFFSET }
+    ensures is_record { 0 < slot → slot < length (owners (nodes_of (W.words page.old))) → FIRST_OFFSET ≤ result }
     ensures keyed { 0 < slot → slot < length (owners (nodes_of (W.words page.old))) → IsTrue (is_key_at (W.words page.old) result) }
     ensures still { IsStillSource W.PageWords page.old page.new }
 {
     page.word(DIRECTORY + slot) as usize
 }
 
-/// How many records the slot of a place owns, 0 where it has none.
-pub(crate) fn owned_at<W: PageWords>(page: &mut W, place: usize) -> usize
+/// How many records the slot of an offset owns, 0 where it has none.
+pub(crate) fn owned_at<W: PageWords>(page: &mut W, offset: usize) -> usize
     requires page { IsTreeSource W.PageWords page.old }
-    requires in_page { place ≤ LAST_PLACE }
-    ensures owned { result ≡ slice_index (W.words page.old) place / OWNED_UNIT }
+    requires in_page { offset ≤ LAST_OFFSET }
+    ensures owned { result ≡ slice_index (W.words page.old) offset / OWNED_UNIT }
     ensures still { IsStillSource W.PageWords page.old page.new }
 {
-    (page.word(place) / OWNED_UNIT) as usize
+    (page.word(offset) / OWNED_UNIT) as usize
 }
 
-/// The place behind another in the chain.
-pub(crate) fn next_place<W: PageWords>(page: &mut W, place: usize) -> usize
+/// The offset behind another in the chain.
+pub(crate) fn next_offset<W: PageWords>(page: &mut W, offset: usize) -> usize
     requires page { IsTreeSource W.PageWords page.old }
-    requires in_page { place ≤ LAST_PLACE }
-    ensures next { (k : ℕ) → k ≤ length (nodes_of (W.words page.old)) → place ≡ last_from INFIMUM (take k (nodes_of (W.words page.old))) → result ≡ first_of (drop k (nodes_of (W.words page.old))) }
+    requires in_page { offset ≤ LAST_OFFSET }
+    ensures next { (k : ℕ) → k ≤ length (nodes_of (W.words page.old)) → offset ≡ last_from INFIMUM (take k (nodes_of (W.words page.old))) → result ≡ first_of (drop k (nodes_of (W.words page.old))) }
     ensures still { IsStillSource W.PageWords page.old page.new }
 {
-    (page.word(place) % OWNED_UNIT) as usize
+    (page.word(offset) % OWNED_UNIT) as usize
 }
 
-/// Whether the key of the record at a place is below another. Its second word is read only where the first ones are
+/// Whether the key of the record at an offset is below another. Its second word is read only where the first ones are
 /// the same.
-pub(crate) fn is_below_at<W: PageWords>(page: &mut W, place: usize, key: Key) -> bool
+pub(crate) fn is_below_at<W: PageWords>(page: &mut W, offset: usize, key: Key) -> bool
     requires page { IsTreeSource W.PageWords page.old }
-    requires in_page { place ≤ LAST_PLACE }
-    requires keyed { IsTrue (is_key_at (W.words page.old) place) }
-    ensures below { IsTrue result ↔ (rank (key_at (W.words page.old) place) < rank key) }
+    requires in_page { offset ≤ LAST_OFFSET }
+    requires keyed { IsTrue (is_key_at (W.words page.old) offset) }
+    ensures below { IsTrue result ↔ (rank (key_at (W.words page.old) offset) < rank key) }
     ensures still { IsStillSource W.PageWords page.old page.new }
 {
     let (first, second) = key.words();
-    let word = page.word(place + FIRST_KEY_WORD);
+    let word = page.word(offset + FIRST_KEY_WORD);
     if word < first {
         return true;
     }
     if word > first {
         return false;
     }
-    page.word(place + SECOND_KEY_WORD) < second
+    page.word(offset + SECOND_KEY_WORD) < second
 }
 
-/// How the key of the record at a place stands to another. Its second word is read only where the first ones are
+/// How the key of the record at an offset stands to another. Its second word is read only where the first ones are
 /// the same.
-pub(crate) fn order_at<W: PageWords>(page: &mut W, place: usize, key: Key) -> Ordering
+pub(crate) fn order_at<W: PageWords>(page: &mut W, offset: usize, key: Key) -> Ordering
     requires page { IsTreeSource W.PageWords page.old }
-    requires in_page { place ≤ LAST_PLACE }
-    requires keyed { IsTrue (is_key_at (W.words page.old) place) }
-    ensures order { IsOrder (key_at (W.words page.old) place) key result }
+    requires in_page { offset ≤ LAST_OFFSET }
+    requires keyed { IsTrue (is_key_at (W.words page.old) offset) }
+    ensures order { IsOrder (key_at (W.words page.old) offset) key result }
     ensures still { IsStillSource W.PageWords page.old page.new }
 {
     let (first, second) = key.words();
-    let word = page.word(place + FIRST_KEY_WORD);
+    let word = page.word(offset + FIRST_KEY_WORD);
     // Branches, since the compiler makes a number of an order that is asked for twice.
     if word < first {
         return Ordering::Less;
@@ -100,7 +100,7 @@ pub(crate) fn order_at<W: PageWords>(page: &mut W, place: usize, key: Key) -> Or
     if word > first {
         return Ordering::Greater;
     }
-    let rest = page.word(place + SECOND_KEY_WORD);
+    let rest = page.word(offset + SECOND_KEY_WORD);
     if rest < second {
         return Ordering::Less;
     }
@@ -110,14 +110,14 @@ pub(crate) fn order_at<W: PageWords>(page: &mut W, place: usize, key: Key) -> Or
     Ordering::Equal
 }
 
-/// The value of the record at a place.
-pub(crate) fn value_word<W: PageWords>(page: &mut W, place: usize) -> u64
+/// The value of the record at an offset.
+pub(crate) fn value_word<W: PageWords>(page: &mut W, offset: usize) -> u64
     requires page { IsTreeSource W.PageWords page.old }
-    requires in_page { place ≤ LAST_PLACE }
-    ensures value { result ≡ slice_index (W.words page.old) (place + VALUE_WORD) }
+    requires in_page { offset ≤ LAST_OFFSET }
+    ensures value { result ≡ slice_index (W.words page.old) (offset + VALUE_WORD) }
     ensures still { IsStillSource W.PageWords page.old page.new }
 {
-    page.word(place + VALUE_WORD)
+    page.word(offset + VALUE_WORD)
 }
 
 /// The slot among whose records a key stands or would stand. By halving, over the keys of the slots' owners.
@@ -125,16 +125,16 @@ pub(crate) fn slot_of<W: PageWords>(page: &mut W, key: Key) -> usize
     requires { IsTreeSource W.PageWords page.old }
     ensures some { 0 < result }
     ensures in_range { result ≤ length (owners (nodes_of (W.words page.old))) }
-    ensures low { up_to (result - 1) (nodes_of (W.words page.old)) ≤ place_of key (records_of (W.words page.old)) }
-    ensures high { (place_of key (records_of (W.words page.old)) < up_to result (nodes_of (W.words page.old))) ⊎ (result ≡ length (owners (nodes_of (W.words page.old)))) }
+    ensures low { up_to (result - 1) (nodes_of (W.words page.old)) ≤ index_of key (records_of (W.words page.old)) }
+    ensures high { (index_of key (records_of (W.words page.old)) < up_to result (nodes_of (W.words page.old))) ⊎ (result ≡ length (owners (nodes_of (W.words page.old)))) }
     ensures still { IsStillSource W.PageWords page.old page.new }
 {
     let mut low = 0;
     let mut high = last_slot(page);
     while low + 1 < high {
         let middle = (low + high) / 2;
-        let place = owner(page, middle);
-        if is_below_at(page, place, key) {
+        let offset = owner(page, middle);
+        if is_below_at(page, offset, key) {
             low = middle;
         } else {
             high = middle;
@@ -152,8 +152,8 @@ pub(crate) fn index_behind<W: PageWords>(page: &mut W, slot: usize) -> usize
 {
     let mut index = 0;
     for j in 0..slot {
-        let place = owner(page, j + 1);
-        index += owned_at(page, place);
+        let offset = owner(page, j + 1);
+        index += owned_at(page, offset);
     }
     index
 }

@@ -1,4 +1,4 @@
-//! The head of a page: where its fields stand, and how they are read and set.
+//! The header of a page: where its fields stand, and how they are read and set.
 
 ghost use Rattle.std.specs.Prelude.{◌≡◌, ◌≢◌, ℕ, ◌<◌, ◌≤◌, [], length, slice_index, IsTrue, ◌↔◌};
 ghost use Rattle.ib_heap.specs.Page.PageValue.{Tree};
@@ -12,7 +12,7 @@ use crate::words::PageWords;
 use crate::{MOST_LEVEL, MOST_RECORDS};
 use ib_map::PAGE_WORDS;
 
-// The words of the head.
+// The words of the header.
 pub(crate) const KIND: usize = 0;
 
 pub(crate) const LEVEL: usize = 1;
@@ -26,7 +26,7 @@ pub(crate) const NEXT: usize = 4;
 // What word `KIND` holds.
 pub(crate) const TREE: u64 = 1;
 
-// The first free record place, and how many slots there are with the first word that no record has used.
+// The first free record offset, and how many slots there are with the first word that no record has used.
 pub(crate) const FREE: usize = 6;
 
 pub(crate) const TOP: usize = 7;
@@ -41,23 +41,23 @@ pub(crate) const INFIMUM: usize = 18;
 
 pub(crate) const SUPREMUM: usize = 19;
 
-// Where the record places begin, how many words each has, and where the last one stands: the page ends with it.
-pub(crate) const FIRST_PLACE: usize = 20;
+// Where the record offsets begin, how many words each has, and where the last one stands: the page ends with it.
+pub(crate) const FIRST_OFFSET: usize = 20;
 
-pub(crate) const PLACE_WORDS: usize = 4;
+pub(crate) const RECORD_WORDS: usize = 4;
 
-pub(crate) const LAST_PLACE: usize = FIRST_PLACE + PLACE_WORDS * (MOST_RECORDS - 1);
+pub(crate) const LAST_OFFSET: usize = FIRST_OFFSET + RECORD_WORDS * (MOST_RECORDS - 1);
 
-const _: () = prove!(LAST_PLACE + PLACE_WORDS == PAGE_WORDS);
+const _: () = prove!(LAST_OFFSET + RECORD_WORDS == PAGE_WORDS);
 
-// The words of a place behind its head: the key's two, and the value.
+// The words of an offset behind its header: the key's two, and the value.
 pub(crate) const FIRST_KEY_WORD: usize = 1;
 
 pub(crate) const SECOND_KEY_WORD: usize = 2;
 
 pub(crate) const VALUE_WORD: usize = 3;
 
-// What a head counts for each record that its slot owns: the head is so many of these, and the place behind
+// What a header counts for each record that its slot owns: the header is so many of these, and the offset behind
 // it in the chain. Word `TOP` is one for each slot, and the first word that no record has used.
 pub(crate) const OWNED_UNIT: u64 = 256;
 
@@ -72,8 +72,8 @@ pub(crate) const ONE_TOO_FEW: u64 = 3;
 // The supremum's slot where no record has one, behind the infimum's.
 const SECOND_SLOT: usize = DIRECTORY + 1;
 
-// Word `TOP` and the infimum's head where there are no records.
-const EMPTY_TOP: u64 = 2 * OWNED_UNIT + FIRST_PLACE as u64;
+// Word `TOP` and the infimum's header where there are no records.
+const EMPTY_TOP: u64 = 2 * OWNED_UNIT + FIRST_OFFSET as u64;
 
 const EMPTY_INFIMUM: u64 = OWNED_UNIT + SUPREMUM as u64;
 
@@ -85,7 +85,7 @@ pub fn empty_page(level: u32, clock: u64) -> [u64; PAGE_WORDS]
     ensures page { page_of result ≡ Tree (record { level = level; prev = 0; next = 0; clock = clock; records = [] }) }
     ensures leaf { level ≡ 0 → result ≡ empty_leaf_words clock }
     ensures heap { read_heap result ≡ empty_heap }
-    ensures rest { (i : ℕ) → FIRST_PLACE ≤ i → slice_index result i ≡ 0 }
+    ensures rest { (i : ℕ) → FIRST_OFFSET ≤ i → slice_index result i ≡ 0 }
 {
     let mut words = [0; PAGE_WORDS];
     words[KIND] = TREE;

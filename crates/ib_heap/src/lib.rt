@@ -29,7 +29,7 @@ pub use search::{child_in, find, get, get_in, route, route_to};
 pub use walk::{copy_between, record_at};
 pub use words::PageWords;
 
-/// The most records that a page has: behind its directory there are so many places of four words.
+/// The most records that a page has: behind its directory there are so many offsets of four words.
 pub const MOST_RECORDS: usize = 35;
 
 /// The highest level of a page, with leaves at level 0: no tree is higher (`BTR_MAX_NODE_LEVEL`).

@@ -1,15 +1,15 @@
-//! A record taken out of a page: its place becomes free, and its slot is balanced (`page_cur_delete_rec`).
+//! A record taken out of a page: its offset becomes free, and its slot is balanced (`page_cur_delete_rec`).
 
 ghost use Rattle.std.specs.Prelude.{◌≡◌, ◌≢◌, true, ◌+◌, ◌-◌, ◌<◌, ◌≤◌, ◌⊎◌, ℕ, length, slice_index, OnOk, Some, None};
-ghost use Rattle.ib_map.specs.Pairs.{without, value_at, place_of};
+ghost use Rattle.ib_map.specs.Pairs.{without, value_at, index_of};
 ghost use Rattle.ib_heap.specs.Form.{page_of};
 ghost use Rattle.ib_heap.specs.Image.{IsTreePage, records_of, value_with_records};
-ghost use Rattle.ib_heap.specs.Heap.{nodes_of, read_heap, used_places, records_in, page_with};
+ghost use Rattle.ib_heap.specs.Heap.{nodes_of, read_heap, used_offsets, records_in, page_with};
 ghost use Rattle.ib_heap.specs.Take.{unlink_node, unlink_in, remove_in};
 ghost use Rattle.ib_heap.specs.Shape.{is_shaped};
-ghost use Rattle.ib_heap.specs.Changes.{HasTaken};
+ghost use Rattle.ib_heap.specs.Changes.{HasRemoved};
 ghost use Rattle.ib_heap.specs.Kept.{IsKept};
-ghost use Rattle.ib_heap.specs.Steps.{IsPlaceOfKey, CanUnlink, IsLinkedPast, CanHandOver, IsHandedOver, CanGiveBack, IsGivenBack, CanLend, IsLent, CanJoin, IsSlotJoined};
+ghost use Rattle.ib_heap.specs.Steps.{IsOffsetOfKey, CanUnlink, IsLinkedPast, CanHandOver, IsHandedOver, CanGiveBack, IsGivenBack, CanLend, IsLent, CanJoin, IsSlotJoined};
 
 use crate::fault::PageFault;
 use crate::form::{
@@ -20,14 +20,14 @@ use crate::search::{Cursor, get};
 use crate::walk::{next_word, owned_word, record_of, slot_word};
 use ib_map::{Key, PAGE_WORDS};
 
-/// Takes a record out, and gives its value: its neighbours are linked to each other, its place goes to the front
+/// Takes a record out, and gives its value: its neighbours are linked to each other, its offset goes to the front
 /// of the free list, and a slot before the last that is left with three takes a record from the slot after it, or
 /// joins it (`page_cur_delete_rec`, `page_mem_free`, `page_dir_balance_slot`). Refused as `Missing` exactly where
 /// the key is not there; the page is then unchanged.
 pub fn take(words: &mut [u64], key: Key) -> Result<u64, PageFault>
     requires { IsTreePage words.old }
-    ensures taken { HasTaken words.old words.new key result }
-    ensures kept { OnOk result ((i : ℕ) → IsKept (used_places (read_heap words.old)) i → slice_index words.new i ≡ slice_index words.old i) }
+    ensures taken { HasRemoved words.old words.new key result }
+    ensures kept { OnOk result ((i : ℕ) → IsKept (used_offsets (read_heap words.old)) i → slice_index words.new i ≡ slice_index words.old i) }
 {
     match get(words, key) {
         Some(_) => Ok(take_there(words, key)),
@@ -42,8 +42,8 @@ fn take_there(words: &mut [u64], key: Key) -> u64
     requires found { value_at key (records_of words.old) ≢ None }
     ensures value { value_at key (records_of words.old) ≡ Some result }
     ensures page { page_of words.new ≡ value_with_records (without key (records_of words.old)) (page_of words.old) }
-    ensures heap { read_heap words.new ≡ remove_in (place_of key (records_of words.old)) (read_heap words.old) }
-    ensures kept { (i : ℕ) → IsKept (used_places (read_heap words.old)) i → slice_index words.new i ≡ slice_index words.old i }
+    ensures heap { read_heap words.new ≡ remove_in (index_of key (records_of words.old)) (read_heap words.old) }
+    ensures kept { (i : ℕ) → IsKept (used_offsets (read_heap words.old)) i → slice_index words.new i ≡ slice_index words.old i }
 {
     let cursor = locate(words, key);
     let value = record_of(words, cursor.at).1;
@@ -70,10 +70,10 @@ fn take_there(words: &mut [u64], key: Key) -> u64
 fn take_out(words: &mut [u64], key: Key, cursor: Cursor)
     requires tree { IsTreePage words.old }
     requires found { value_at key (records_of words.old) ≢ None }
-    requires stands { IsPlaceOfKey words.old key cursor.slot cursor.before cursor.at }
-    ensures shaped { is_shaped words.new (unlink_in (place_of key (records_of words.old)) (read_heap words.old)) ≡ true }
-    ensures page { let nodes = unlink_node (place_of key (records_of words.old)) (nodes_of words.old) in page_with words.new (records_in words.new nodes) ≡ page_with words.old (without key (records_of words.old)) }
-    ensures kept { (i : ℕ) → IsKept (used_places (read_heap words.old)) i → slice_index words.new i ≡ slice_index words.old i }
+    requires stands { IsOffsetOfKey words.old key cursor.slot cursor.before cursor.at }
+    ensures shaped { is_shaped words.new (unlink_in (index_of key (records_of words.old)) (read_heap words.old)) ≡ true }
+    ensures page { let nodes = unlink_node (index_of key (records_of words.old)) (nodes_of words.old) in page_with words.new (records_in words.new nodes) ≡ page_with words.old (without key (records_of words.old)) }
+    ensures kept { (i : ℕ) → IsKept (used_offsets (read_heap words.old)) i → slice_index words.new i ≡ slice_index words.old i }
 {
     let owner = slot_word(words, cursor.slot);
     if cursor.at == owner {
@@ -85,7 +85,7 @@ fn take_out(words: &mut [u64], key: Key, cursor: Cursor)
     give_back(words, cursor.at);
 }
 
-// Puts a place at the front of the free list, and counts its record out.
+// Puts an offset at the front of the free list, and counts its record out.
 fn give_back(words: &mut [u64], at: usize)
     requires { CanGiveBack words.old at }
     ensures { IsGivenBack words.old words.new at }
@@ -103,9 +103,9 @@ fn unlink(words: &mut [u64], before: usize, at: usize, owner: usize)
     ensures { IsLinkedPast words.old words.new before at owner }
 {
     let next = words[at] % OWNED_UNIT;
-    let head = words[before];
+    let header = words[before];
     let owned = words[owner];
-    write(words, before, head - at as u64 + next);
+    write(words, before, header - at as u64 + next);
     write(words, owner, owned - OWNED_UNIT);
 }
 
@@ -114,8 +114,8 @@ fn hand_over(words: &mut [u64], before: usize, at: usize, slot: usize)
     requires { CanHandOver words.old before at slot }
     ensures { IsHandedOver words.old words.new before at slot }
 {
-    let head = words[at];
-    write(words, before, head - OWNED_UNIT);
+    let header = words[at];
+    write(words, before, header - OWNED_UNIT);
     write(words, DIRECTORY + slot, before as u64);
 }
 

@@ -2,7 +2,7 @@
 
 ghost use Rattle.std.specs.Prelude.{◌≡◌, ◌≢◌, ◌+◌, ◌-◌, ◌<◌, ◌≤◌, ◌⊎◌, length, take, drop, slice_get, slice_index, IsTrue, false, IsSomeAnd, Some};
 ghost use Rattle.ib_map.specs.Keys.{rank};
-ghost use Rattle.ib_map.specs.Pairs.{value_at, place_of, place_after};
+ghost use Rattle.ib_map.specs.Pairs.{value_at, index_of, index_after};
 ghost use Rattle.ib_heap.specs.Image.{IsTreePage, records_of};
 ghost use Rattle.std.specs.declared.cmp.Ordering.TheVariants.{Greater};
 ghost use Rattle.ib_heap.specs.Order.{IsOrder};
@@ -11,15 +11,15 @@ ghost use Rattle.ib_heap.specs.Source.{IsStillSource, IsTreeSource};
 ghost use Rattle.ib_heap.specs.Heap.{key_at, is_key_at, nodes_of, owners, up_to, last_from, first_of};
 
 use crate::MOST_RECORDS;
-use crate::directory::{index_behind, next_place, order_at, owner, slot_of, value_word};
-use crate::form::{INFIMUM, LAST_PLACE, SUPREMUM, VALUE_WORD};
+use crate::directory::{index_behind, next_offset, order_at, owner, slot_of, value_word};
+use crate::form::{INFIMUM, LAST_OFFSET, SUPREMUM, VALUE_WORD};
 use crate::walk::record_of;
 use crate::words::PageWords;
 use ib_map::Key;
 use std::cmp::Ordering;
 
 /// Where a key stands in the chain, or would stand: the slot, how many steps behind the owner of the slot
-/// before it, the place before the key, the first place whose record is not below it, and whether that is the key's.
+/// before it, the offset before the key, the first offset whose record is not below it, and whether that is the key's.
 #[derive(Clone, Copy)]
 pub(crate) struct Cursor {
     pub(crate) slot: usize,
@@ -32,20 +32,20 @@ pub(crate) struct Cursor {
 /// Finds a key.
 pub(crate) fn seek<W: PageWords>(page: &mut W, key: Key) -> Cursor
     requires { IsTreeSource W.PageWords page.old }
-    ensures before { let nodes = nodes_of (W.words page.old) in result.before ≡ last_from INFIMUM (take (place_of key (records_of (W.words page.old))) nodes) }
-    ensures at { let nodes = nodes_of (W.words page.old) in result.at ≡ first_of (drop (place_of key (records_of (W.words page.old))) nodes) }
+    ensures before { let nodes = nodes_of (W.words page.old) in result.before ≡ last_from INFIMUM (take (index_of key (records_of (W.words page.old))) nodes) }
+    ensures at { let nodes = nodes_of (W.words page.old) in result.at ≡ first_of (drop (index_of key (records_of (W.words page.old))) nodes) }
     ensures found { IsTrue result.found → (result.at ≢ SUPREMUM) × (key_at (W.words page.old) result.at ≡ key) }
     ensures other { result.found ≡ false → (result.at ≡ SUPREMUM) ⊎ ((result.at ≢ SUPREMUM) × (rank (key_at (W.words page.old) result.at) ≢ rank key)) }
     ensures some { 0 < result.slot }
     ensures in_range { result.slot ≤ length (owners (nodes_of (W.words page.old))) }
-    ensures steps { up_to (result.slot - 1) (nodes_of (W.words page.old)) + result.steps ≡ place_of key (records_of (W.words page.old)) }
-    ensures low { up_to (result.slot - 1) (nodes_of (W.words page.old)) ≤ place_of key (records_of (W.words page.old)) }
-    ensures high { (place_of key (records_of (W.words page.old)) < up_to result.slot (nodes_of (W.words page.old))) ⊎ (result.slot ≡ length (owners (nodes_of (W.words page.old)))) }
+    ensures steps { up_to (result.slot - 1) (nodes_of (W.words page.old)) + result.steps ≡ index_of key (records_of (W.words page.old)) }
+    ensures low { up_to (result.slot - 1) (nodes_of (W.words page.old)) ≤ index_of key (records_of (W.words page.old)) }
+    ensures high { (index_of key (records_of (W.words page.old)) < up_to result.slot (nodes_of (W.words page.old))) ⊎ (result.slot ≡ length (owners (nodes_of (W.words page.old)))) }
     ensures still { IsStillSource W.PageWords page.old page.new }
 {
     let slot = slot_of(page, key);
     let mut before = owner(page, slot - 1);
-    let mut at = next_place(page, before);
+    let mut at = next_offset(page, before);
     for steps in 0..MOST_RECORDS {
         let order = standing(page, at, key);
         if order.is_ge() {
@@ -58,7 +58,7 @@ pub(crate) fn seek<W: PageWords>(page: &mut W, key: Key) -> Cursor
             };
         }
         before = at;
-        at = next_place(page, at);
+        at = next_offset(page, at);
     }
     Cursor {
         slot,
@@ -69,24 +69,24 @@ pub(crate) fn seek<W: PageWords>(page: &mut W, key: Key) -> Cursor
     }
 }
 
-// How the record at a place stands to a key; the supremum stands above each.
-fn standing<W: PageWords>(page: &mut W, place: usize, key: Key) -> Ordering
+// How the record at an offset stands to a key; the supremum stands above each.
+fn standing<W: PageWords>(page: &mut W, offset: usize, key: Key) -> Ordering
     requires page { IsTreeSource W.PageWords page.old }
-    requires in_page { place ≤ LAST_PLACE }
-    requires keyed { place ≢ SUPREMUM → IsTrue (is_key_at (W.words page.old) place) }
-    ensures supremum { place ≡ SUPREMUM → result ≡ Greater }
-    ensures order { place ≢ SUPREMUM → IsOrder (key_at (W.words page.old) place) key result }
+    requires in_page { offset ≤ LAST_OFFSET }
+    requires keyed { offset ≢ SUPREMUM → IsTrue (is_key_at (W.words page.old) offset) }
+    ensures supremum { offset ≡ SUPREMUM → result ≡ Greater }
+    ensures order { offset ≢ SUPREMUM → IsOrder (key_at (W.words page.old) offset) key result }
     ensures still { IsStillSource W.PageWords page.old page.new }
 {
-    if place == SUPREMUM {
+    if offset == SUPREMUM {
         return Ordering::Greater;
     }
-    order_at(page, place, key)
+    order_at(page, offset, key)
 }
 
 /// Where a key stands among the records in their order, as `Ok`, or where it would stand, as `Err`
 /// (`page_cur_search_with_match`). The search halves the directory down to one slot and goes along the chain
-/// from there; the place is what the slots before own, and the steps along the chain.
+/// from there; the index is what the slots before own, and the steps along the chain.
 pub fn find(words: &[u64], key: Key) -> Result<usize, usize>
     requires { IsTreePage words.now }
     ensures { IsFound (records_of words.now) key result }
@@ -115,7 +115,7 @@ pub fn get(words: &[u64], key: Key) -> Option<u64>
     get_in(&mut page, key)
 }
 
-/// The same over a source of the page's words: the search reads the directory, the heads and keys that it
+/// The same over a source of the page's words: the search reads the directory, the headers and keys that it
 /// passes, and the value.
 pub fn get_in<W: PageWords>(page: &mut W, key: Key) -> Option<u64>
     requires can { W.can_read page.old }
@@ -141,8 +141,8 @@ pub fn route(words: &[u64], key: Key) -> usize
     ensures { IsRouted (records_of words.now) key result }
 {
     match find(words, key) {
-        Ok(place) => place,
-        Err(place) => place - 1,
+        Ok(index) => index,
+        Err(index) => index - 1,
     }
 }
 
@@ -150,39 +150,39 @@ pub fn route(words: &[u64], key: Key) -> usize
 pub fn route_to(words: &[u64], key: Key) -> (Key, u64)
     requires tree { IsTreePage words.now }
     requires first { IsSomeAnd (slice_get (records_of words.now) 0) (λ r. rank r.0 ≤ rank key) }
-    ensures record { slice_get (records_of words.now) (place_after key (records_of words.now) - 1) ≡ Some result }
+    ensures record { slice_get (records_of words.now) (index_after key (records_of words.now) - 1) ≡ Some result }
     ensures not_above { rank result.0 ≤ rank key }
 {
     let mut page = words;
-    let place = route_word(&mut page, key);
-    record_of(words, place)
+    let offset = route_word(&mut page, key);
+    record_of(words, offset)
 }
 
 /// The value of the last record whose key is not above this one: in a node, the child whose keys it is
 /// among (`page_cur_search_with_match`, `btr_node_ptr_get_child_page_no`). The first record must have such a
-/// key. The search reads the directory, the heads and keys that it passes, and this value.
+/// key. The search reads the directory, the headers and keys that it passes, and this value.
 pub fn child_in<W: PageWords>(page: &mut W, key: Key) -> u64
     requires can { W.can_read page.old }
     requires tree { IsTreePage (W.words page.old) }
     requires first { IsSomeAnd (slice_get (records_of (W.words page.old)) 0) (λ r. rank r.0 ≤ rank key) }
     ensures value { IsSomeAnd (slice_get (records_of (W.words page.old))
-        (place_after key (records_of (W.words page.old)) - 1)) (λ r. r.1 ≡ result) }
+        (index_after key (records_of (W.words page.old)) - 1)) (λ r. r.1 ≡ result) }
     ensures same { W.words page.new ≡ W.words page.old }
     ensures can { W.can_read page.new }
     ensures read { W.has_read page.old page.new }
 {
-    let place = route_word(page, key);
-    value_word(page, place)
+    let offset = route_word(page, key);
+    value_word(page, offset)
 }
 
-// The place of the last record whose key is not above this one.
+// The offset of the last record whose key is not above this one.
 fn route_word<W: PageWords>(page: &mut W, key: Key) -> usize
     requires page { IsTreeSource W.PageWords page.old }
     requires first { IsSomeAnd (slice_get (records_of (W.words page.old)) 0) (λ r. rank r.0 ≤ rank key) }
-    ensures record { slice_get (records_of (W.words page.old)) (place_after key (records_of (W.words page.old)) - 1)
+    ensures record { slice_get (records_of (W.words page.old)) (index_after key (records_of (W.words page.old)) - 1)
         ≡ Some (key_at (W.words page.old) result, slice_index (W.words page.old) (result + VALUE_WORD)) }
     ensures not_above { rank (key_at (W.words page.old) result) ≤ rank key }
-    ensures in_page { result ≤ LAST_PLACE }
+    ensures in_page { result ≤ LAST_OFFSET }
     ensures still { IsStillSource W.PageWords page.old page.new }
 {
     let cursor = seek(page, key);

@@ -11,24 +11,24 @@ use crate::form::{
 };
 use ib_map::{Key, is_below};
 
-// The place behind another in the chain.
-pub(crate) fn next_word(words: &[u64], place: usize) -> usize
-    requires { place < length words.now }
-    ensures next { result ≡ slice_index words.now place % OWNED_UNIT }
+// The offset behind another in the chain.
+pub(crate) fn next_word(words: &[u64], offset: usize) -> usize
+    requires { offset < length words.now }
+    ensures next { result ≡ slice_index words.now offset % OWNED_UNIT }
     ensures low { result < OWNED_UNIT }
 {
-    (words[place] % OWNED_UNIT) as usize
+    (words[offset] % OWNED_UNIT) as usize
 }
 
-// How many records the slot of a place owns, 0 where it has none.
-pub(crate) fn owned_word(words: &[u64], place: usize) -> u64
-    requires { place < length words.now }
-    ensures { result ≡ slice_index words.now place / OWNED_UNIT }
+// How many records the slot of an offset owns, 0 where it has none.
+pub(crate) fn owned_word(words: &[u64], offset: usize) -> u64
+    requires { offset < length words.now }
+    ensures { result ≡ slice_index words.now offset / OWNED_UNIT }
 {
-    words[place] / OWNED_UNIT
+    words[offset] / OWNED_UNIT
 }
 
-// The place of the record that owns a slot.
+// The offset of the record that owns a slot.
 pub(crate) fn slot_word(words: &[u64], slot: usize) -> usize
     requires { DIRECTORY + slot < length words.now }
     ensures { result ≡ slice_index words.now (DIRECTORY + slot) }
@@ -36,27 +36,27 @@ pub(crate) fn slot_word(words: &[u64], slot: usize) -> usize
     words[DIRECTORY + slot] as usize
 }
 
-// The key and the value at a place.
-pub(crate) fn record_of(words: &[u64], place: usize) -> (Key, u64)
-    requires { place + VALUE_WORD < length words.now }
-    ensures { result ≡ (key_at words.now place, slice_index words.now (place + VALUE_WORD)) }
+// The key and the value at an offset.
+pub(crate) fn record_of(words: &[u64], offset: usize) -> (Key, u64)
+    requires { offset + VALUE_WORD < length words.now }
+    ensures { result ≡ (key_at words.now offset, slice_index words.now (offset + VALUE_WORD)) }
 {
     let key = Key::in_words(
-        words[place + FIRST_KEY_WORD],
-        words[place + SECOND_KEY_WORD],
+        words[offset + FIRST_KEY_WORD],
+        words[offset + SECOND_KEY_WORD],
     );
-    (key, words[place + VALUE_WORD])
+    (key, words[offset + VALUE_WORD])
 }
 
-/// The key and the value of a record, by its place in the order of keys (`page_rec_get_nth`). It is found along the
+/// The key and the value of a record, by its index in the order of keys (`page_rec_get_nth`). It is found along the
 /// chain.
-pub fn record_at(words: &[u64], place: usize) -> (Key, u64)
+pub fn record_at(words: &[u64], index: usize) -> (Key, u64)
     requires tree { IsTreePage words.now }
-    requires in_range { place < length (records_of words.now) }
-    ensures { slice_get (records_of words.now) place ≡ Some result }
+    requires in_range { index < length (records_of words.now) }
+    ensures { slice_get (records_of words.now) index ≡ Some result }
 {
     let mut at = next_word(words, INFIMUM);
-    for _step in 0..place {
+    for _step in 0..index {
         at = next_word(words, at);
     }
     record_of(words, at)
@@ -73,7 +73,7 @@ pub fn copy_between(words: &[u64], low: Key, high: Key, out: &mut [(Key, u64)]) 
     let len = count(words);
     let mut copied = 0;
     let mut at = next_word(words, INFIMUM);
-    for place in 0..len {
+    for index in 0..len {
         let record = record_of(words, at);
         if is_between(low, high, record.0) {
             out[copied] = record;

@@ -1,5 +1,5 @@
 -- An insert that changes the tree's structure.
-use Rattle.std.specs.Prelude.{◌≡◌, ℕ, ◌+◌, ◌/◌, ◌^◌, ◌<◌, ◌≤◌, true, false, List, [], ◌∷◌, ◌++◌, length, map, Some}
+use Rattle.std.specs.Prelude.{◌≡◌, ℕ, ◌+◌, ◌/◌, ◌<◌, ◌≤◌, true, false, List, [], ◌∷◌, ◌++◌, length, map, Some}
 use Rattle.std.specs.List.{All, AllByRecursion}
 use Rattle.ib_map.specs.Keys.{MapKey}
 use Rattle.ib_map.specs.declared.TheConstants.{PAGE_WORDS}
@@ -24,6 +24,7 @@ use Rattle.ib_tree.specs.PageLists.{AreOnce, is_listed}
 use Rattle.ib_tree.specs.TreeLog.{opening}
 use Rattle.ib_planned_log.specs.Kept.{IsKeptLog}
 use Rattle.ib_planned_log.specs.LeafChange.{kept_pages}
+use Rattle.ib_rule.specs.Conditions.{HasGrantsLeft}
 use Rattle.ib_rule.specs.Pass.{PassState, IsAtRest}
 use Rattle.ib_rule.specs.Space.{SpaceState}
 use Rattle.ib_rule.specs.Views.{total, with_grant}
@@ -160,7 +161,7 @@ pub record TakesAtMost (most : ℕ) (p q : PassState) : Type 0 where
 pub record MayChangeTree (space : SpaceState) (p : PassState) : Type 0 where
   pub rest : IsAtRest space p
   pub unwatched : p.view.memory.since ≡ []
-  pub room : total p.view.grants + 8192 ≤ 2 ^ 52
+  pub room : HasGrantsLeft 8192 p.view
 
 -- .. and was answered, with few grants
 pub record HasChangedTree (sizes : Sizes) (call : Call) (answer : Record) (p q : PassState) : Type 0 where

@@ -49,6 +49,11 @@ pub struct IndexRefused<S: Sleep = Parkers> {
 impl<S: Sleep> Index<S> {
     /// An index with no records, in a new space of these sizes: an empty log, no sessions, and every latch
     /// free. Refused where memory lacks.
+    ///
+    /// ```
+    /// let mut index: Index = Index::open(alloc, Geometry::new(64, 100_000)?)?;
+    /// let mut pass = index.connect(alloc)?;
+    /// ```
     pub fn open(alloc: Global, geometry: Geometry) -> Result<Index<S>, OutOfMemory>
         ensures { IfOk result (λ i. i
             ≡ record { table = i.table; sizes = geometry; drawn = 0; ended = [] }) }
@@ -58,6 +63,10 @@ impl<S: Sleep> Index<S> {
     }
 
     /// Its latches, for scans and for steps on a latch.
+    ///
+    /// ```
+    /// let scanned = scan(rt, index.latches(), &mut pass, low, high, &mut chunks);
+    /// ```
     pub fn latches(&self) -> &Latches<KeptLaw, S>
         ensures { result.now ≡ self.now }
     {
@@ -65,6 +74,12 @@ impl<S: Sleep> Index<S> {
     }
 
     /// How many passes are not given back yet.
+    ///
+    /// ```
+    /// if index.connected() == 0 {
+    ///     index.discard();
+    /// }
+    /// ```
     pub fn connected(&self) -> u32
         ensures connected { result ≡ self.now.drawn - length self.now.ended }
         ensures few { length self.now.ended ≤ self.now.drawn }
@@ -75,6 +90,12 @@ impl<S: Sleep> Index<S> {
     /// Draws the next number, and gives its session's pass: nothing seen, held or granted, and the scratch
     /// in it. Refused as `TooManySessions`, with 1,024, exactly where so many were drawn. Where memory lacks, no
     /// number is drawn.
+    ///
+    /// ```
+    /// let Ok(mut pass) = index.connect(alloc) else {
+    ///     return None;
+    /// };
+    /// ```
     pub fn connect(&mut self, alloc: Global) -> Result<Pass, ConnectFault>
         ensures { HasConnected self.old self.new result }
     {
@@ -83,6 +104,12 @@ impl<S: Sleep> Index<S> {
 
     /// The session ends, and what it has seen and made is kept. It holds nothing, and its scratch is in the
     /// pass.
+    ///
+    /// ```
+    /// if pass.is_idle() {
+    ///     index.disconnect(pass);
+    /// }
+    /// ```
     pub fn disconnect(&mut self, pass: Pass)
         requires { IsAtRest self.old pass }
         ensures { self.new ≡ record self.old { ended = ended_as pass.view ∷ self.old.ended } }
@@ -93,6 +120,11 @@ impl<S: Sleep> Index<S> {
     /// Afterwards `to` has seen what both had seen: the longer of the two lists, of which both are fronts.
     /// That tells it what a look at the log's end tells: what it had not seen before is harmless. What
     /// contracts see of `from` is as before.
+    ///
+    /// ```
+    /// index.meet(&mut reader, &mut writer);
+    /// assert!(rt; reader.place() >= writer.place());
+    /// ```
     pub fn meet(&self, to: &mut Pass, from: &mut Pass)
         requires to { IsFrom self.now to.old }
         requires from { IsFrom self.now from.old }
@@ -104,6 +136,13 @@ impl<S: Sleep> Index<S> {
     /// Closes the space, where nobody is connected: its log's words are those of one kept log, its pages
     /// are the memory after all of it, each session that has ended had seen a front of it, and its own
     /// entries are exactly those of its number. Refused for want of memory alone.
+    ///
+    /// ```
+    /// match index.close(alloc) {
+    ///     Ok(closed) => keep(closed),
+    ///     Err(IndexRefused { index }) => index.discard(),
+    /// }
+    /// ```
     pub fn close(self, alloc: Global) -> Result<Closed, IndexRefused<S>>
         requires none { length self.ended ≡ self.drawn }
         ensures ok { IfOk result (λ c. (c.sizes ≡ self.sizes) × (c.drawn ≡ self.drawn)
@@ -135,6 +174,16 @@ impl<S: Sleep> Index<S> {
     /// was not had, the index or a page of the key's path, and the words of the last looks, both of this
     /// call. There are two looks at most for each latch of the longest path that a tree can have. The session
     /// holds nothing before and after.
+    ///
+    /// ```
+    /// if pass.may_call() {
+    ///     match index.get_nowait(&mut pass, key) {
+    ///         Ok(answer) => tell(answer.reply),
+    ///         Err(NowaitFault::Busy { latch, word }) => later(latch),
+    ///         Err(NowaitFault::Raced { latch, .. }) => later(latch),
+    ///     }
+    /// }
+    /// ```
     pub fn get_nowait(&self, pass: &mut Pass, key: Key) -> Result<Record, NowaitFault>
         requires may { MayCall self.now pass.old }
         ensures rest { IsAtRest self.now pass.new }
@@ -154,6 +203,13 @@ impl Index<Parkers> {
     /// its value or `NotFound`, at the place of the log after all that is seen then. Latches are taken in S
     /// alone and waited for: the index, and each page of the key's path, from two to nine. The session holds
     /// nothing before and after.
+    ///
+    /// ```
+    /// if pass.may_call() {
+    ///     let answer = index.get(rt, &mut pass, Key::of_number(7));
+    ///     found = answer.reply == Reply::Found { value: 70 };
+    /// }
+    /// ```
     pub fn get<R: Wait>(&self, rt: &R, pass: &mut Pass, key: Key) -> Record
         requires may { MayCall self.now pass.old }
         ensures rest { IsAtRest self.now pass.new }
@@ -169,6 +225,13 @@ impl Index<Parkers> {
     /// (`btr_cur_optimistic_insert`). Where that leaf is full, all is given up and done again with the index in
     /// SX and the pages that may change in X (`btr_cur_pessimistic_insert`). The session holds nothing
     /// before and after.
+    ///
+    /// ```
+    /// if pass.may_call() {
+    ///     let answer = index.insert(rt, &mut pass, Key::of_number(7), 70);
+    ///     is_new = answer.reply == Reply::Inserted;
+    /// }
+    /// ```
     pub fn insert<R: Wait>(&self, rt: &R, pass: &mut Pass, key: Key, value: u64) -> Record
         requires may { MayCall self.now pass.old }
         ensures rest { IsAtRest self.now pass.new }
@@ -184,6 +247,13 @@ impl Index<Parkers> {
     /// is taken in X, the index and the pages above it in S (`btr_cur_optimistic_delete`). Where that leaf is not
     /// the root and has 17 records or fewer, all is given up and done again with the index in SX and the
     /// pages that may change in X (`btr_cur_pessimistic_delete`). The session holds nothing before and after.
+    ///
+    /// ```
+    /// if pass.may_call() {
+    ///     let answer = index.delete(rt, &mut pass, Key::of_number(7));
+    ///     was_there = matches!(answer.reply, Reply::Deleted { .. });
+    /// }
+    /// ```
     pub fn delete<R: Wait>(&self, rt: &R, pass: &mut Pass, key: Key) -> Record
         requires may { MayCall self.now pass.old }
         ensures rest { IsAtRest self.now pass.new }

@@ -15,8 +15,8 @@ ghost use Rattle.ib_plans.specs.declared.TheConstants.{FEWEST_RECORDS};
 ghost use Rattle.ib_plans.specs.Moves.{IsMovedHeap, Puts, Takes};
 ghost use Rattle.ib_planned_log.specs.Kept.{IsKeptLog};
 ghost use Rattle.ib_planned_log.specs.LeafChange.{with_pair, without_pair};
+ghost use Rattle.ib_rule.specs.Conditions.{HasGrantLeft};
 ghost use Rattle.ib_rule.specs.Pass.{IsAtRest};
-ghost use Rattle.ib_rule.specs.Views.{total};
 ghost use Rattle.ib_mtr.specs.Commits.{MayCommit};
 ghost use Rattle.ib_mtr.specs.Mtr.{IsStillMtr, with_work};
 ghost use Rattle.ib_cursor.specs.Descent.{MayDescend};
@@ -106,7 +106,7 @@ fn take_pair(image: &mut Image, key: Key)
 // Puts the pair into the leaf that is held, which has room. The change may be committed then.
 fn put_in(mtr: &mut Work<'_>, leaf: u32, key: Key, value: u64)
     requires on { WorksOnLeaf mtr.old.latches.now key leaf mtr.old.pass.now }
-    requires grows { total mtr.old.pass.now.view.grants < 2 ^ 52 }
+    requires grows { HasGrantLeft mtr.old.pass.now.view }
     requires missing { value_at key (leaf_page mtr.old.latches.now.sizes key mtr.old.pass.now).records ≡ None }
     requires room { length (leaf_page mtr.old.latches.now.sizes key mtr.old.pass.now).records < MOST_RECORDS }
     ensures still { IsStillMtr mtr.old mtr.new }
@@ -120,7 +120,7 @@ fn put_in(mtr: &mut Work<'_>, leaf: u32, key: Key, value: u64)
 // committed then.
 fn take_out(mtr: &mut Work<'_>, leaf: u32, key: Key)
     requires on { WorksOnLeaf mtr.old.latches.now key leaf mtr.old.pass.now }
-    requires grows { total mtr.old.pass.now.view.grants < 2 ^ 52 }
+    requires grows { HasGrantLeft mtr.old.pass.now.view }
     requires there { IsSome (value_at key (leaf_page mtr.old.latches.now.sizes key mtr.old.pass.now).records) }
     requires enough { (leaf ≡ 1) ⊎ (FEWEST_RECORDS < length (leaf_page mtr.old.latches.now.sizes key mtr.old.pass.now).records) }
     ensures still { IsStillMtr mtr.old mtr.new }

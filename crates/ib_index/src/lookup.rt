@@ -45,9 +45,10 @@ pub(crate) fn look_up<L: Trees, S: Sleep>(
     ensures looks { mtr.exit.1.0.now.view.looks.count
         ≡ mtr.entry.pass.now.view.looks.count }
 {
+    // For the proof: the laws of trees, at the number of pages that the space has.
     L::trees_law();
     let _ = mtr.geometry().pages();
-    // The session's entries are those of its number.
+    // For the proof: the session's entries are those of its number.
     let _ = mtr.pass().number();
     let reply = reply_of(value);
     let place = mtr.commit_read();

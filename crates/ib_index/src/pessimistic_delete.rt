@@ -13,7 +13,7 @@ ghost use Rattle.ib_index.specs.Grows.{HasChangedTree, MayChangeTree};
 ghost use Rattle.ib_index.specs.Shrinks.{HasClaimedSiblings};
 
 use crate::leaf::{ROOT, Work, changed};
-use crate::pessimistic_insert::{be_seated, take_space, value_in};
+use crate::pessimistic_insert::{facts_of_session, take_space, value_in};
 use ib_cursor::descend_to_delete;
 use ib_latch::{Latches, Parkers};
 use ib_map::{Call, Change, Key, Record, Reply};
@@ -32,6 +32,7 @@ fn claim_siblings<R: Wait>(rt: &R, mtr: &mut Work<'_>, key: Key) -> Path
     ensures still { IsStillMtr mtr.old mtr.new }
     ensures reached { HasClaimedSiblings mtr.old.latches.now.sizes key result mtr.old.pass.now mtr.new.pass.now }
 {
+    // For the proof: a space has a number of pages of which the laws speak.
     let _ = mtr.geometry().pages();
     descend_to_delete(rt, mtr, ROOT, key)
 }
@@ -48,6 +49,7 @@ fn plan_in(mtr: &mut Work<'_>, path: &Path, key: Key)
 {
     let work = mtr.work();
     let _ = plan_delete(work, path, key);
+    // For the proof: the pages of a work set ascend.
     let _ = work.len();
 }
 
@@ -66,7 +68,7 @@ pub(crate) fn pessimistic_delete<R: Wait>(
     let call = Call::Delete { key };
     let mut mtr = Mtr::start(latches, pass);
     let path = claim_siblings(rt, &mut mtr, key);
-    be_seated(&mtr);
+    facts_of_session(&mtr);
     let Some(value) = value_in(&mtr, &path, key) else {
         let place = mtr.commit_read();
         return Record {
@@ -76,7 +78,7 @@ pub(crate) fn pessimistic_delete<R: Wait>(
         };
     };
     take_space(rt, &mut mtr);
-    be_seated(&mtr);
+    facts_of_session(&mtr);
     plan_in(&mut mtr, &path, key);
     let committed = mtr.commit(rt, Change::Delete { key });
     changed(call, Reply::Deleted { value }, committed, pass.place())

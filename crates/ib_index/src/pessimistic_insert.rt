@@ -1,6 +1,6 @@
 //! The insert that changes the tree's structure.
 
-ghost use Rattle.std.specs.Prelude.{◌≡◌, ◌≢◌, ℕ, ◌+◌, ◌<◌, ◌≤◌, ◌^◌, List, [], ◌∷◌, ◌++◌, Some, None, length, true, false, IfOk, IfErr, MatchResult, Result};
+ghost use Rattle.std.specs.Prelude.{◌≡◌, ◌≢◌, ℕ, ◌+◌, ◌<◌, ◌≤◌, List, [], ◌∷◌, ◌++◌, Some, None, length, true, false, IfOk, IfErr, MatchResult, Result};
 ghost use Rattle.ib_map.specs.Keys.{MapKey};
 ghost use Rattle.ib_map.specs.Pairs.{value_at};
 ghost use Rattle.ib_core.specs.Holders.{CanWish};
@@ -15,9 +15,8 @@ ghost use Rattle.ib_plans.specs.declared.fault.TreeFault.{TreeFault};
 ghost use Rattle.ib_plans.specs.Agreement.{Agrees, HasTreePages, IsThere, last_of, memory_in, reads_of};
 ghost use Rattle.ib_split.specs.Inserts.{CanInsert, IsPlannedInsertForAll};
 ghost use Rattle.ib_tree.specs.PageLists.{AreOnce, is_listed};
-ghost use Rattle.ib_rule.specs.Conditions.{MayGrow};
+ghost use Rattle.ib_rule.specs.Conditions.{HasGrantLeft, HasGrantsLeft, MayGrow};
 ghost use Rattle.ib_rule.specs.Pass.{IsAtRest, PassState};
-ghost use Rattle.ib_rule.specs.Views.{total};
 ghost use Rattle.ib_mtr.specs.Mtr.{IsMtr, IsStillMtr, with_work};
 ghost use Rattle.ib_cursor.specs.Descent.{MayDescend};
 ghost use Rattle.ib_map.specs.declared.call.Call.TheVariants.{Insert as InsertCall};
@@ -38,7 +37,7 @@ use ib_split::{choose_pages, pages_needed, plan_insert};
 use std::sync::Wait;
 
 // What the session and its space are told to be by their own types.
-pub(crate) fn be_seated(mtr: &Work<'_>)
+pub(crate) fn facts_of_session(mtr: &Work<'_>)
     requires mtr { IsMtr mtr.now.latches.now mtr.now.pass.now }
     ensures { IsSeated mtr.now.latches.now.sizes mtr.now.pass.now }
 {
@@ -56,6 +55,7 @@ fn claim_path<R: Wait>(rt: &R, mtr: &mut Work<'_>, key: Key) -> Path
     ensures still { IsStillMtr mtr.old mtr.new }
     ensures reached { HasClaimedPath mtr.old.latches.now.sizes key result mtr.old.pass.now mtr.new.pass.now }
 {
+    // For the proof: a space has a number of pages of which the laws speak.
     let _ = mtr.geometry().pages();
     descend_to_insert(rt, mtr, ROOT, key)
 }
@@ -74,6 +74,7 @@ fn take_at<R: Wait>(rt: &R, mtr: &mut Work<'_>, page: u32, level: Level)
         → is_listed (pages_held held) page ≡ false
         → HasGrown mtr.old.latches.now.sizes key path held page level mtr.old.pass.now mtr.new.pass.now }
 {
+    // For the proof: a space has a number of pages of which the laws speak.
     let _ = mtr.geometry().pages();
     take(rt, mtr, Latch::page(page), Mode::X, level);
     read(mtr, page);
@@ -119,13 +120,14 @@ fn plan_in(mtr: &mut Work<'_>, path: &Path, fresh: &Path, key: Key, value: u64)
 {
     let work = mtr.work();
     let _ = plan_insert(work, path, fresh, key, value);
+    // For the proof: the pages of a work set ascend.
     let _ = work.len();
 }
 
 // Takes page 0 behind the pages of the tree.
 pub(crate) fn take_space<R: Wait>(rt: &R, mtr: &mut Work<'_>)
     requires mtr { IsMtr mtr.old.latches.now mtr.old.pass.now }
-    requires room { total mtr.old.pass.now.view.grants < 2 ^ 52 }
+    requires room { HasGrantLeft mtr.old.pass.now.view }
     requires ready { (key : MapKey) × (path : List ℕ) × (held : List ℕ)
         × IsGrowing mtr.old.latches.now.sizes key path (tree_pages held) mtr.old.pass.now
         × (is_listed held 0 ≡ false) × (length held ≤ 23) }
@@ -134,6 +136,7 @@ pub(crate) fn take_space<R: Wait>(rt: &R, mtr: &mut Work<'_>)
         → IsGrowing mtr.old.latches.now.sizes key path (tree_pages held) mtr.old.pass.now → is_listed held 0 ≡ false
         → HasGrown mtr.old.latches.now.sizes key path (tree_pages held) 0 Space mtr.old.pass.now mtr.new.pass.now }
 {
+    // For the proof: a space has a number of pages of which the laws speak.
     let _ = mtr.geometry().pages();
     take_at(rt, mtr, 0, Level::Space);
 }
@@ -157,7 +160,7 @@ fn choose(mtr: &mut Work<'_>, need: u32) -> Result<Path, TreeFault>
 // Takes the fresh pages behind page 0.
 fn take_new<R: Wait>(rt: &R, mtr: &mut Work<'_>, fresh: &Path)
     requires mtr { IsMtr mtr.old.latches.now mtr.old.pass.now }
-    requires room { total mtr.old.pass.now.view.grants + 16 ≤ 2 ^ 52 }
+    requires room { HasGrantsLeft 16 mtr.old.pass.now.view }
     requires ready { (key : MapKey) × (path : List ℕ) × (held : List ℕ)
         × IsGrowing mtr.old.latches.now.sizes key path (space_pages held) mtr.old.pass.now
         × AreOnce (held ++ 0 ∷ fresh.now) mtr.old.latches.now.sizes.pages × (length held ≤ 10) }
@@ -192,7 +195,7 @@ fn take_fresh<R: Wait>(rt: &R, mtr: &mut Work<'_>, path: &Path, need: u32) -> Re
     requires ready { (key : MapKey) × (p : PassState)
         × HasClaimedPath mtr.old.latches.now.sizes key path.now p mtr.old.pass.now }
     requires few { need ≤ MOST_PATH }
-    requires room { total mtr.old.pass.now.view.grants + 64 ≤ 2 ^ 52 }
+    requires room { HasGrantsLeft 64 mtr.old.pass.now.view }
     ensures still { IsStillMtr mtr.old mtr.new }
     ensures taken { IfOk result (λ fresh. (key : MapKey) → (p : PassState)
         → HasClaimedPath mtr.old.latches.now.sizes key path.now p mtr.old.pass.now
@@ -206,6 +209,7 @@ fn take_fresh<R: Wait>(rt: &R, mtr: &mut Work<'_>, path: &Path, need: u32) -> Re
     if need == 0 {
         return Ok(Path::new());
     }
+    // For the proof: a space has a number of pages of which the laws speak.
     let _ = mtr.geometry().pages();
     take_space(rt, mtr);
     match choose(mtr, need) {
@@ -232,7 +236,7 @@ pub(crate) fn pessimistic_insert<R: Wait>(
     let call = Call::Insert { key, value };
     let mut mtr = Mtr::start(latches, pass);
     let path = claim_path(rt, &mut mtr, key);
-    be_seated(&mtr);
+    facts_of_session(&mtr);
     if value_in(&mtr, &path, key).is_some() {
         let place = mtr.commit_read();
         return Record {
@@ -252,7 +256,7 @@ pub(crate) fn pessimistic_insert<R: Wait>(
     let fresh = match take_fresh(rt, &mut mtr, &path, need) {
         Ok(fresh) => fresh,
         Err(free) => {
-            be_seated(&mtr);
+            facts_of_session(&mtr);
             let place = mtr.commit_read();
             return Record {
                 call,
@@ -261,7 +265,7 @@ pub(crate) fn pessimistic_insert<R: Wait>(
             };
         }
     };
-    be_seated(&mtr);
+    facts_of_session(&mtr);
     plan_in(&mut mtr, &path, &fresh, key, value);
     let committed = mtr.commit(rt, Change::Insert { key, value });
     changed(call, Reply::Inserted, committed, pass.place())

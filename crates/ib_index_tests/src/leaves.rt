@@ -1,12 +1,11 @@
 //! A reader that goes from a leaf to the next.
 
-ghost use Rattle.std.specs.Prelude.{◌≡◌, ◌≢◌, ◌+◌, ◌≤◌, ◌<◌, ◌^◌, [], IfSome};
+ghost use Rattle.std.specs.Prelude.{◌≡◌, ◌≢◌, ◌+◌, ◌≤◌, ◌<◌, [], IfSome};
 ghost use Rattle.ib_levels.specs.declared.level.Level.TheVariants.{TreeNode};
 ghost use Rattle.ib_core.specs.Holders.{CanWish};
 ghost use Rattle.ib_page.specs.Image.{next_of};
 ghost use Rattle.ib_page.specs.Work.{changed_of};
-ghost use Rattle.ib_rule.specs.Conditions.{MayGrow};
-ghost use Rattle.ib_rule.specs.Views.{total};
+ghost use Rattle.ib_rule.specs.Conditions.{HasGrantsLeft, MayGrow};
 ghost use Rattle.ib_mtr.specs.Mtr.{IsMtr, IsStillMtr};
 
 use crate::rows::insert_up_to;
@@ -22,7 +21,7 @@ use std::sync::Wait;
 
 // It may take a way's latches: it has taken few grants.
 fn may_descend<L: Trees>(rt: &impl Abort, mtr: &Mtr<'_, L, Parkers>)
-    ensures { total mtr.now.pass.now.view.grants + 64 ≤ 2 ^ 52 }
+    ensures { HasGrantsLeft 64 mtr.now.pass.now.view }
 {
     let taken = mtr.pass().grants_taken();
     assert!(rt; taken.s < 1 << 40);

@@ -1,9 +1,9 @@
 //! Lookups in a new tree, whose root is its one leaf.
 
-ghost use Rattle.std.specs.Prelude.{◌≡◌, ◌+◌, ◌<◌, ◌≤◌, ◌^◌, true};
+ghost use Rattle.std.specs.Prelude.{◌≡◌, ◌<◌, true};
 ghost use Rattle.ib_core.specs.Sessions.{idle};
+ghost use Rattle.ib_rule.specs.Conditions.{HasGrantsLeft};
 ghost use Rattle.ib_rule.specs.Pass.{IsOf};
-ghost use Rattle.ib_rule.specs.Views.{total};
 
 use crate::space::come;
 use ib_core::Phase;
@@ -30,7 +30,7 @@ fn smallest<S: Sleep>(rt: &impl Abort, alloc: Global) -> Index<S> {
 // It may make a call.
 fn may_call(rt: &impl Abort, pass: &Pass)
     ensures idle { pass.now.view.session ≡ idle }
-    ensures room { total pass.now.view.grants + 16384 ≤ 2 ^ 52 }
+    ensures room { HasGrantsLeft 16384 pass.now.view }
 {
     assert!(rt; pass.is_idle());
     let taken = pass.grants_taken();

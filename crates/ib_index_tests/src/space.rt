@@ -1,8 +1,8 @@
 //! An index to test, and what its sessions may ask for.
 
-ghost use Rattle.std.specs.Prelude.{◌≡◌, ◌+◌, ◌*◌, ◌≤◌, ◌^◌};
+ghost use Rattle.std.specs.Prelude.{◌≡◌, ◌+◌, ◌*◌};
+ghost use Rattle.ib_rule.specs.Conditions.{HasGrantsLeft};
 ghost use Rattle.ib_rule.specs.Pass.{IsAtRest};
-ghost use Rattle.ib_rule.specs.Views.{total};
 
 use ib_index::Index;
 use ib_latch::Sleep;
@@ -37,7 +37,7 @@ pub(crate) fn come<S: Sleep>(rt: &impl Abort, alloc: Global, index: &mut Index<S
 
 // It may make a call: it has taken few grants.
 pub(crate) fn may_call(rt: &impl Abort, pass: &Pass)
-    ensures { total pass.now.view.grants + 16384 ≤ 2 ^ 52 }
+    ensures { HasGrantsLeft 16384 pass.now.view }
 {
     let taken = pass.grants_taken();
     assert!(rt; taken.s < 1 << 40);
@@ -47,7 +47,7 @@ pub(crate) fn may_call(rt: &impl Abort, pass: &Pass)
 
 // It may scan, with this room for chunks.
 fn may_scan(rt: &impl Abort, pass: &Pass, out: &Chunks)
-    ensures { total pass.now.view.grants + 8192 * out.now.chunk_room + 8192 ≤ 2 ^ 52 }
+    ensures { HasGrantsLeft (8192 * out.now.chunk_room + 8192) pass.now.view }
 {
     may_call(rt, pass);
     let taken = pass.grants_taken();

@@ -103,7 +103,7 @@ pub record HasTried (space : SpaceState) (mode : Mode) (l : ℕ) (v : Level) (re
   pub some : IfSome result (λ r. IsWon mode l v r p q)
   pub none : IfNone result (IsStill Free p q)
 
--- X was taken, and is owned: this is held then, where no X was had before the last look tells that it is owned, and the session is the writer
+-- X was taken and is owned. This is held then, the session is the writer, and where it had no X there before, its last look tells that it owns it
 pub record HasLockedX (held : List Holding) (l : ℕ) (p q : PassState) : Type 0 where
   pub taken : HasTakenGrant ModeX held Free p.view q.view
   pub ends : x_grants l p.view.session ≡ 0 → EndsOwning (sx_grants l q.view.session) l q.view.looks

@@ -28,6 +28,15 @@ impl<L: Law, S: Sleep> Latches<L, S> {
     /// Records the generation of a latch of which the session holds nothing, and what it wishes for
     /// there, and sets the waiters flag: two steps. It answers the generation. From then on no raise of it is
     /// missed: the session tries once more by `recheck`, or gives up by `stand_down`.
+    ///
+    /// ```
+    /// let generation = table.arm(&mut pass, latch, Mode::S, Level::TreeNode);
+    /// match table.recheck(&mut pass, latch) {
+    ///     Ok(_) => table.unlock_s(&mut pass, latch),
+    ///     Err(TryFault::Busy { .. }) => sleep_while_it_is(generation),
+    ///     Err(TryFault::Raced { .. }) => table.stand_down(&mut pass),
+    /// }
+    /// ```
     pub fn arm(&self, pass: &mut Pass, latch: Latch, mode: Mode, level: Level) -> u64
         requires own { IsOf self.now pass.old }
         requires latch { latch.0 < latches_of self.now.sizes }

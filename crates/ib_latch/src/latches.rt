@@ -44,6 +44,11 @@ pub struct LatchesCloseRefused<L: Law, S: Sleep = Parkers> {
 impl<L: Law, S: Sleep> Latches<L, S> {
     /// The latches of a new space: the opening pages of the law, an empty log, no sessions, and every
     /// latch free. Refused where memory lacks.
+    ///
+    /// ```
+    /// let sizes = Geometry::new(16, 100_000)?;
+    /// let mut table: Latches<AnyLaw> = Latches::open(alloc, sizes)?;
+    /// ```
     pub fn open(alloc: Global, geometry: Geometry) -> Result<Latches<L, S>, OutOfMemory>
         ensures { IfOk result (λ s. s
             ≡ record { table = s.table; sizes = geometry; drawn = 0; ended = [] }) }
@@ -54,6 +59,10 @@ impl<L: Law, S: Sleep> Latches<L, S> {
     }
 
     /// The space, for steps that are none on latches.
+    ///
+    /// ```
+    /// let word = table.space().load_word(&mut pass, Latch::INDEX);
+    /// ```
     pub fn space(&self) -> &Space<L>
         ensures { result.now ≡ self.now }
     {
@@ -61,6 +70,12 @@ impl<L: Law, S: Sleep> Latches<L, S> {
     }
 
     /// How many passes are not given back yet.
+    ///
+    /// ```
+    /// if table.connected() == 0 {
+    ///     table.discard();
+    /// }
+    /// ```
     pub fn connected(&self) -> u32
         ensures connected { result ≡ self.now.drawn - length self.now.ended }
         ensures few { length self.now.ended ≤ self.now.drawn }
@@ -71,6 +86,14 @@ impl<L: Law, S: Sleep> Latches<L, S> {
     /// Draws the next number, and gives its session's pass: nothing seen, held or granted, the phase
     /// free, and the scratch in it. Refused as `TooManySessions`, with 1,024, exactly where so many were drawn.
     /// Where memory lacks, no number is drawn.
+    ///
+    /// ```
+    /// let mut pass = match table.connect(alloc) {
+    ///     Ok(pass) => pass,
+    ///     Err(ConnectFault::TooManySessions { drawn }) => return refused(drawn),
+    ///     Err(ConnectFault::OutOfMemory) => return out_of_memory(),
+    /// };
+    /// ```
     pub fn connect(&mut self, alloc: Global) -> Result<Pass, ConnectFault>
         ensures { HasConnected self.old self.new result }
     {
@@ -83,6 +106,12 @@ impl<L: Law, S: Sleep> Latches<L, S> {
 
     /// The session ends, and its lists are kept. It holds nothing, its phase is free, and its
     /// scratch is in the pass.
+    ///
+    /// ```
+    /// if pass.is_idle() {
+    ///     table.disconnect(pass);
+    /// }
+    /// ```
     pub fn disconnect(&mut self, pass: Pass)
         requires { IsAtRest self.old pass }
         ensures { self.new ≡ record self.old { ended = ended_as pass.view ∷ self.old.ended } }
@@ -93,6 +122,11 @@ impl<L: Law, S: Sleep> Latches<L, S> {
     /// Afterwards `to` has seen what both had seen: the longer of the two lists, of which both are
     /// fronts. That tells it what a look at the log's end tells: what it had not seen before is harmless.
     /// What contracts see of `from` is as before.
+    ///
+    /// ```
+    /// table.meet(&mut reader, &mut writer);
+    /// assert!(rt; reader.place() >= writer.place());
+    /// ```
     pub fn meet(&self, to: &mut Pass, from: &mut Pass)
         requires to { IsFrom self.now to.old }
         requires from { IsFrom self.now from.old }
@@ -104,6 +138,16 @@ impl<L: Law, S: Sleep> Latches<L, S> {
     /// Closes the space, where nobody is connected: its words are those of a lawful log, the pages
     /// are the memory after all of it, each session that has ended had seen a front of it, and its
     /// own entries are exactly those of its number. Refused for want of memory alone.
+    ///
+    /// ```
+    /// match table.close(alloc) {
+    ///     Ok(closed) => Some(closed.page(5).word(9)),
+    ///     Err(LatchesCloseRefused { latches }) => {
+    ///         latches.discard();
+    ///         None
+    ///     }
+    /// }
+    /// ```
     pub fn close(self, alloc: Global) -> Result<Closed, LatchesCloseRefused<L, S>>
         requires none { length self.ended ≡ self.drawn }
         ensures ok { IfOk result (λ c. (c.sizes ≡ self.sizes) × (c.drawn ≡ self.drawn)

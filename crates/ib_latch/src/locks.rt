@@ -99,6 +99,7 @@ impl<L: Law, S: Sleep> Latches<L, S> {
         requires next { IsInPhase self.now latch.0 (Next latch.0 level) pass.old }
         ensures { HasLookedAsNext self.now latch.0 level result pass.old pass.new }
     {
+        // For the proof: the contract alone speaks of it.
         let _ = level;
         self.space.load_word(pass, latch);
         matches!(pass.phase(), Phase::Free)
@@ -107,6 +108,13 @@ impl<L: Law, S: Sleep> Latches<L, S> {
 
 impl<L: Law> Latches<L, Parkers> {
     /// Takes S, and waits until it is granted (sync0rw, `rw_lock_s_lock_func`).
+    ///
+    /// ```
+    /// if pass.can_wish(Latch::INDEX, Level::Index) && pass.may_grow() {
+    ///     table.lock_s(rt, &mut pass, Latch::INDEX, Level::Index);
+    ///     table.unlock_s(&mut pass, Latch::INDEX);
+    /// }
+    /// ```
     #[inline(always)]
     pub fn lock_s<R: Wait>(&self, rt: &R, pass: &mut Pass, latch: Latch, level: Level)
         requires may { MayTake self.now latch.0 level pass.old }
@@ -118,6 +126,13 @@ impl<L: Law> Latches<L, Parkers> {
 
     /// Takes SX on a latch that the session does not read, and waits until it is granted (WL#6363,
     /// `rw_lock_sx_lock_func`). Beside one's own SX or X it is granted at once.
+    ///
+    /// ```
+    /// if pass.may_claim(Latch::INDEX, Level::Index) && pass.may_grow() {
+    ///     table.lock_sx(rt, &mut pass, Latch::INDEX, Level::Index);
+    ///     table.unlock_sx(&mut pass, Latch::INDEX);
+    /// }
+    /// ```
     pub fn lock_sx<R: Wait>(&self, rt: &R, pass: &mut Pass, latch: Latch, level: Level)
         requires may { MayTakeMore self.now latch.0 level pass.old }
         ensures still { IsStillOf self.now pass.old pass.new }
@@ -141,6 +156,14 @@ impl<L: Law> Latches<L, Parkers> {
     /// Takes X on a latch that the session does not read, and waits until it owns it: as the next
     /// writer while readers remain (sync0rw, `rw_lock_x_lock_func`, `rw_lock_x_lock_wait_func`).
     /// Beside one's own X it is granted at once.
+    ///
+    /// ```
+    /// let latch = Latch::page(5);
+    /// if pass.may_claim(latch, Level::TreeNode) && pass.may_grow() {
+    ///     table.lock_x(rt, &mut pass, latch, Level::TreeNode);
+    ///     table.unlock_x(&mut pass, latch);
+    /// }
+    /// ```
     pub fn lock_x<R: Wait>(&self, rt: &R, pass: &mut Pass, latch: Latch, level: Level)
         requires may { MayTakeMore self.now latch.0 level pass.old }
         ensures still { IsStillOf self.now pass.old pass.new }

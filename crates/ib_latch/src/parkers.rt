@@ -70,6 +70,7 @@ impl Parkers {
     pub(crate) fn reserve<R: Wait>(&self, rt: &R, pass: &Pass, cell: Cell) -> Option<ReservedCell>
         requires { IsCellOf cell pass.now }
     {
+        // For the proof: the contract alone speaks of it.
         let _ = pass;
         match self.array.lend(rt).reserve(cell) {
             Ok(place) => Some(ReservedCell { place }),

@@ -66,6 +66,11 @@ pub struct NotReady {
 
 impl<L: Law, S: Sleep> Latches<L, S> {
     /// The lock word, by one look.
+    ///
+    /// ```
+    /// let word = table.word_of(&mut pass, Latch::INDEX);
+    /// let state = classify(word);
+    /// ```
     #[inline(always)]
     pub fn word_of(&self, pass: &mut Pass, latch: Latch) -> LockWord
         requires free { IsInPhase self.now latch.0 Free pass.old }
@@ -78,6 +83,14 @@ impl<L: Law, S: Sleep> Latches<L, S> {
     /// Takes S on a latch of which the session holds nothing (sync0rw, `rw_lock_s_lock_low`): a
     /// look, and one exchange that takes 1 off. Refused as `Busy` where the word found is not above
     /// 0: somebody owns X there or is its next writer. `Raced` where the exchange found another word.
+    ///
+    /// ```
+    /// match table.try_s(&mut pass, latch, Level::TreeNode) {
+    ///     Ok(()) => table.unlock_s(&mut pass, latch),
+    ///     Err(TryFault::Busy { word }) => note(word),
+    ///     Err(TryFault::Raced { expected, found }) => note(found),
+    /// }
+    /// ```
     pub fn try_s(&self, pass: &mut Pass, latch: Latch, level: Level) -> Result<(), TryFault>
         requires may { MayTake self.now latch.0 level pass.old }
         ensures still { IsStillOf self.now pass.old pass.new }
@@ -98,6 +111,12 @@ impl<L: Law, S: Sleep> Latches<L, S> {
     /// both are always granted. Else it is a look, and one exchange that takes HALF off: refused as
     /// `Busy` where the word found is not above HALF, as somebody has SX or X there or is its next
     /// writer, and as `Raced` where the exchange found another word.
+    ///
+    /// ```
+    /// if table.try_sx(&mut pass, Latch::INDEX, Level::Index).is_ok() {
+    ///     table.unlock_sx(&mut pass, Latch::INDEX);
+    /// }
+    /// ```
     pub fn try_sx(&self, pass: &mut Pass, latch: Latch, level: Level) -> Result<(), TryFault>
         requires may { MayTakeMore self.now latch.0 level pass.old }
         ensures still { IsStillOf self.now pass.old pass.new }
@@ -126,6 +145,12 @@ impl<L: Law, S: Sleep> Latches<L, S> {
     /// X always (sync0rw, `rw_lock_x_lock_low`), and else where nobody holds anything there, by a
     /// look, and one exchange that takes `X_LOCK_DECR` off. Refused as `Busy` where the word found
     /// is not that of a free latch, and as `Raced` where the exchange found another word.
+    ///
+    /// ```
+    /// if table.try_x(&mut pass, latch, Level::TreeNode).is_ok() {
+    ///     table.unlock_x(&mut pass, latch);
+    /// }
+    /// ```
     pub fn try_x(&self, pass: &mut Pass, latch: Latch, level: Level) -> Result<(), TryFault>
         requires may { MayTakeMore self.now latch.0 level pass.old }
         requires no_upgrade { 0 < sx_grants latch.0 pass.old.view.session
@@ -158,6 +183,14 @@ impl<L: Law, S: Sleep> Latches<L, S> {
     /// anew, and `ready_x` tells when X is owned. Refused as `Busy` where the word found is not above
     /// HALF, or beside one's own SX not above 0, and as `Raced` where the exchange found another
     /// word.
+    ///
+    /// ```
+    /// match table.reserve_x(&mut pass, latch, Level::TreeNode) {
+    ///     Ok(Reserve::Owned) => change(&mut pass),
+    ///     Ok(Reserve::Next) => wait_by_ready_x(&mut pass),
+    ///     Err(_) => later(),
+    /// }
+    /// ```
     pub fn reserve_x(
         &self,
         pass: &mut Pass,
@@ -194,6 +227,12 @@ impl<L: Law, S: Sleep> Latches<L, S> {
 
     /// Whether the next writer of the latch owns X by now (sync0rw, `rw_lock_x_lock_wait`): a look,
     /// at which it does where no reader is left. Else `NotReady`, and it is the next writer still.
+    ///
+    /// ```
+    /// if table.ready_x(&mut pass, latch).is_ok() {
+    ///     table.unlock_x(&mut pass, latch);
+    /// }
+    /// ```
     pub fn ready_x(&self, pass: &mut Pass, latch: Latch) -> Result<(), NotReady>
         requires own { IsOf self.now pass.old }
         requires latch { latch.0 < latches_of self.now.sizes }
@@ -384,22 +423,19 @@ impl<L: Law, S: Sleep> Latches<L, S> {
         ensures lost { IfErr result (λ found. (found.0 ≢ word.0)
             × (pass.new ≡ lost_at latch.0 word found pass.old)) }
     {
-        self.space.take_first(pass, mode, latch, level, word)?;
-        self.sign(pass, mode, latch);
-        Ok(())
-    }
-
-    // Where SX or X was granted or reserved, the session is stored as the writer.
-    #[inline(always)]
-    fn sign(&self, pass: &mut Pass, mode: Mode, latch: Latch)
-        requires own { IsOf self.now pass.old }
-        requires latch { latch.0 < latches_of self.now.sizes }
-        requires claims { mode ≢ ModeS → 0 < claims latch.0 pass.old.view.session }
-        ensures { pass.new ≡ signed_for mode latch.0 pass.old }
-    {
+        // Each mode by a call of its own, in which it is known.
         match mode {
-            Mode::S => {}
-            Mode::Sx | Mode::X => self.space.store_writer(pass, latch),
+            Mode::S => self.space.take_first(pass, Mode::S, latch, level, word),
+            Mode::Sx => {
+                self.space.take_first(pass, Mode::Sx, latch, level, word)?;
+                self.space.store_writer(pass, latch);
+                Ok(())
+            }
+            Mode::X => {
+                self.space.take_first(pass, Mode::X, latch, level, word)?;
+                self.space.store_writer(pass, latch);
+                Ok(())
+            }
         }
     }
 }

@@ -21,6 +21,11 @@ use ib_word::is_drained;
 impl<L: Law, S: Sleep> Latches<L, S> {
     /// Gives S back (sync0rw, `rw_lock_s_unlock_func`). The last reader before a next writer raises
     /// the ex generation, and wakes it.
+    ///
+    /// ```
+    /// table.lock_s(rt, &mut pass, latch, Level::TreeNode);
+    /// table.unlock_s(&mut pass, latch);
+    /// ```
     #[inline(always)]
     pub fn unlock_s(&self, pass: &mut Pass, latch: Latch)
         requires free { IsInPhase self.now latch.0 Free pass.old }
@@ -37,6 +42,11 @@ impl<L: Law, S: Sleep> Latches<L, S> {
 
     /// Gives one SX back (WL#6363, `rw_lock_sx_unlock_func`). The last one, where no X is held
     /// beside it, wakes who waits.
+    ///
+    /// ```
+    /// table.lock_sx(rt, &mut pass, Latch::INDEX, Level::Index);
+    /// table.unlock_sx(&mut pass, Latch::INDEX);
+    /// ```
     pub fn unlock_sx(&self, pass: &mut Pass, latch: Latch)
         requires free { IsInPhase self.now latch.0 Free pass.old }
         requires holds { 0 < sx_grants latch.0 pass.old.view.session }
@@ -55,6 +65,11 @@ impl<L: Law, S: Sleep> Latches<L, S> {
     }
 
     /// Gives one X back (sync0rw, `rw_lock_x_unlock_func`). The last one wakes who waits.
+    ///
+    /// ```
+    /// table.lock_x(rt, &mut pass, latch, Level::TreeNode);
+    /// table.unlock_x(&mut pass, latch);
+    /// ```
     pub fn unlock_x(&self, pass: &mut Pass, latch: Latch)
         requires free { IsInPhase self.now latch.0 Free pass.old }
         requires holds { 0 < x_grants latch.0 pass.old.view.session }

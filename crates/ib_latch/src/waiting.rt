@@ -69,6 +69,7 @@ impl<L: Law> Latches<L, Parkers> {
             × (pass.old.view.session.phase ≡ Flagged latch.0 mode level generation) }
         ensures { HasTried self.now mode latch.0 level result pass.old pass.new }
     {
+        // For the proof: the contract alone speaks of them.
         let _ = (mode, level);
         match self.recheck(pass, latch) {
             Ok(reserve) => Some(reserve),
@@ -105,6 +106,7 @@ impl<L: Law> Latches<L, Parkers> {
     fn rest<R: Wait>(&self, rt: &R, pass: &Pass, latch: Latch)
         requires { IsAsleepOn latch.0 pass.now.view.session.phase }
     {
+        // For the proof: the contract alone speaks of it.
         let _ = latch;
         self.sleep.sleep(rt, pass);
     }
@@ -190,6 +192,7 @@ impl<L: Law> Latches<L, Parkers> {
             latch.0 pass.new.view.looks }
         ensures waits { result ≡ false → NextWaits latch.0 level pass.new.view.session.phase }
     {
+        // For the proof: the contract alone speaks of it.
         let _ = level;
         self.space.load_word(pass, latch);
         matches!(pass.phase(), Phase::Free)
@@ -234,6 +237,7 @@ impl<L: Law> Latches<L, Parkers> {
         ensures asleep { result ≡ false → IsAsleepOn latch.0 pass.new.view.session.phase }
         ensures again { result ≡ false → NextWaits latch.0 level pass.new.view.session.phase }
     {
+        // For the proof: the contract alone speaks of it.
         let _ = level;
         self.space.load_ex_gen(pass, latch);
         matches!(pass.phase(), Phase::Next { .. })

@@ -6,6 +6,7 @@ ghost use Rattle.ib_core.specs.declared.phase.Phase.TheVariants.{Free};
 ghost use Rattle.ib_levels.specs.declared.level.Level.TheVariants.{TreeNode};
 ghost use Rattle.ib_rule.specs.Conditions.{MayGrow};
 ghost use Rattle.ib_rule.specs.Pass.{IsOf};
+ghost use Rattle.ib_rule.specs.Takes.{IsStillOf};
 ghost use Rattle.ib_rule.specs.Conditions.{MayClaim};
 
 use ib_core::Phase;
@@ -72,8 +73,7 @@ pub(crate) fn word<S: Sleep>(
     latch: Latch,
 ) -> LockWord
     requires own { IsOf table.now pass.old }
-    ensures own { IsOf table.now pass.new }
-    ensures scratch { pass.new.has_scratch ≡ pass.old.has_scratch }
+    ensures still { IsStillOf table.now pass.old pass.new }
 {
     is_ready(rt, table, pass, latch);
     table.word_of(pass, latch)
@@ -86,8 +86,7 @@ pub(crate) fn s<S: Sleep>(
     latch: Latch,
 ) -> Result<(), TryFault>
     requires own { IsOf table.now pass.old }
-    ensures own { IsOf table.now pass.new }
-    ensures scratch { pass.new.has_scratch ≡ pass.old.has_scratch }
+    ensures still { IsStillOf table.now pass.old pass.new }
 {
     is_ready(rt, table, pass, latch);
     assert!(rt; pass.can_wish(latch, NODE));
@@ -101,8 +100,7 @@ pub(crate) fn sx<S: Sleep>(
     latch: Latch,
 ) -> Result<(), TryFault>
     requires own { IsOf table.now pass.old }
-    ensures own { IsOf table.now pass.new }
-    ensures scratch { pass.new.has_scratch ≡ pass.old.has_scratch }
+    ensures still { IsStillOf table.now pass.old pass.new }
 {
     is_ready(rt, table, pass, latch);
     may_claim(rt, pass, latch);
@@ -116,8 +114,7 @@ pub(crate) fn x<S: Sleep>(
     latch: Latch,
 ) -> Result<(), TryFault>
     requires own { IsOf table.now pass.old }
-    ensures own { IsOf table.now pass.new }
-    ensures scratch { pass.new.has_scratch ≡ pass.old.has_scratch }
+    ensures still { IsStillOf table.now pass.old pass.new }
 {
     is_ready(rt, table, pass, latch);
     may_claim(rt, pass, latch);
@@ -133,8 +130,7 @@ pub(crate) fn reserve<S: Sleep>(
     latch: Latch,
 ) -> Result<Reserve, TryFault>
     requires own { IsOf table.now pass.old }
-    ensures own { IsOf table.now pass.new }
-    ensures scratch { pass.new.has_scratch ≡ pass.old.has_scratch }
+    ensures still { IsStillOf table.now pass.old pass.new }
 {
     is_ready(rt, table, pass, latch);
     may_claim(rt, pass, latch);
@@ -148,8 +144,7 @@ pub(crate) fn ready<S: Sleep>(
     latch: Latch,
 ) -> Result<(), NotReady>
     requires own { IsOf table.now pass.old }
-    ensures own { IsOf table.now pass.new }
-    ensures scratch { pass.new.has_scratch ≡ pass.old.has_scratch }
+    ensures still { IsStillOf table.now pass.old pass.new }
 {
     assert!(rt; latch.0 < table.space().geometry().pages() + 2);
     let next = Phase::Next {
@@ -162,8 +157,7 @@ pub(crate) fn ready<S: Sleep>(
 
 pub(crate) fn un_s<S: Sleep>(rt: &impl Abort, table: &Table<S>, pass: &mut Pass, latch: Latch)
     requires own { IsOf table.now pass.old }
-    ensures own { IsOf table.now pass.new }
-    ensures scratch { pass.new.has_scratch ≡ pass.old.has_scratch }
+    ensures still { IsStillOf table.now pass.old pass.new }
 {
     is_ready(rt, table, pass, latch);
     assert!(rt; pass.counts(latch).s > 0);
@@ -172,8 +166,7 @@ pub(crate) fn un_s<S: Sleep>(rt: &impl Abort, table: &Table<S>, pass: &mut Pass,
 
 pub(crate) fn un_sx<S: Sleep>(rt: &impl Abort, table: &Table<S>, pass: &mut Pass, latch: Latch)
     requires own { IsOf table.now pass.old }
-    ensures own { IsOf table.now pass.new }
-    ensures scratch { pass.new.has_scratch ≡ pass.old.has_scratch }
+    ensures still { IsStillOf table.now pass.old pass.new }
 {
     is_ready(rt, table, pass, latch);
     assert!(rt; pass.counts(latch).sx > 0);
@@ -182,8 +175,7 @@ pub(crate) fn un_sx<S: Sleep>(rt: &impl Abort, table: &Table<S>, pass: &mut Pass
 
 pub(crate) fn un_x<S: Sleep>(rt: &impl Abort, table: &Table<S>, pass: &mut Pass, latch: Latch)
     requires own { IsOf table.now pass.old }
-    ensures own { IsOf table.now pass.new }
-    ensures scratch { pass.new.has_scratch ≡ pass.old.has_scratch }
+    ensures still { IsStillOf table.now pass.old pass.new }
 {
     is_ready(rt, table, pass, latch);
     assert!(rt; pass.counts(latch).x > 0);
@@ -313,8 +305,7 @@ fn there_are_1024_sessions(rt: HostRuntime) {
 // X is owned once no reader is left.
 fn wait<R: Abort + Wait>(rt: &R, table: &Table<NoSleep>, pass: &mut Pass, latch: Latch)
     requires own { IsOf table.now pass.old }
-    ensures own { IsOf table.now pass.new }
-    ensures scratch { pass.new.has_scratch ≡ pass.old.has_scratch }
+    ensures still { IsStillOf table.now pass.old pass.new }
 {
     'waiting: for _ in rt.forever() {
         if ready(rt, table, pass, latch).is_ok() {
@@ -327,8 +318,7 @@ fn wait<R: Abort + Wait>(rt: &R, table: &Table<NoSleep>, pass: &mut Pass, latch:
 // S, and what is refused is let be.
 pub(crate) fn read<S: Sleep>(rt: &impl Abort, table: &Table<S>, pass: &mut Pass, latch: Latch)
     requires own { IsOf table.now pass.old }
-    ensures own { IsOf table.now pass.new }
-    ensures scratch { pass.new.has_scratch ≡ pass.old.has_scratch }
+    ensures still { IsStillOf table.now pass.old pass.new }
 {
     if s(rt, table, pass, latch).is_ok() {
         un_s(rt, table, pass, latch);
@@ -338,8 +328,7 @@ pub(crate) fn read<S: Sleep>(rt: &impl Abort, table: &Table<S>, pass: &mut Pass,
 // SX twice, and X beside it.
 fn claim<R: Abort + Wait>(rt: &R, table: &Table<NoSleep>, pass: &mut Pass, latch: Latch)
     requires own { IsOf table.now pass.old }
-    ensures own { IsOf table.now pass.new }
-    ensures scratch { pass.new.has_scratch ≡ pass.old.has_scratch }
+    ensures still { IsStillOf table.now pass.old pass.new }
 {
     if sx(rt, table, pass, latch).is_err() {
         return;
@@ -354,8 +343,7 @@ fn claim<R: Abort + Wait>(rt: &R, table: &Table<NoSleep>, pass: &mut Pass, latch
 // X, as soon as no reader is left.
 fn own<R: Abort + Wait>(rt: &R, table: &Table<NoSleep>, pass: &mut Pass, latch: Latch)
     requires own { IsOf table.now pass.old }
-    ensures own { IsOf table.now pass.new }
-    ensures scratch { pass.new.has_scratch ≡ pass.old.has_scratch }
+    ensures still { IsStillOf table.now pass.old pass.new }
 {
     match reserve(rt, table, pass, latch) {
         Err(_) => return,
@@ -371,8 +359,7 @@ fn own<R: Abort + Wait>(rt: &R, table: &Table<NoSleep>, pass: &mut Pass, latch: 
 // X alone.
 pub(crate) fn write<S: Sleep>(rt: &impl Abort, table: &Table<S>, pass: &mut Pass, latch: Latch)
     requires own { IsOf table.now pass.old }
-    ensures own { IsOf table.now pass.new }
-    ensures scratch { pass.new.has_scratch ≡ pass.old.has_scratch }
+    ensures still { IsStillOf table.now pass.old pass.new }
 {
     if x(rt, table, pass, latch).is_ok() {
         un_x(rt, table, pass, latch);
@@ -381,8 +368,7 @@ pub(crate) fn write<S: Sleep>(rt: &impl Abort, table: &Table<S>, pass: &mut Pass
 
 fn turn<R: Abort + Wait>(rt: &R, table: &Table<NoSleep>, pass: &mut Pass, round: u32)
     requires own { IsOf table.now pass.old }
-    ensures own { IsOf table.now pass.new }
-    ensures scratch { pass.new.has_scratch ≡ pass.old.has_scratch }
+    ensures still { IsStillOf table.now pass.old pass.new }
 {
     let latch = Latch(2 + round % 3);
     match round / 3 % 4 {
@@ -396,8 +382,7 @@ fn turn<R: Abort + Wait>(rt: &R, table: &Table<NoSleep>, pass: &mut Pass, round:
 // What one thread does.
 fn work<R: Abort + Wait>(rt: &R, table: &Table<NoSleep>, pass: &mut Pass)
     requires own { IsOf table.now pass.old }
-    ensures own { IsOf table.now pass.new }
-    ensures scratch { pass.new.has_scratch ≡ pass.old.has_scratch }
+    ensures still { IsStillOf table.now pass.old pass.new }
 {
     for round in 0..12_000 {
         turn(rt, table, pass, round);
@@ -413,8 +398,8 @@ fn pair<R: Abort + Wait + Threads + Sync>(
 )
     requires one { IsOf table.now one.old }
     requires two { IsOf table.now two.old }
-    ensures one { IsOf table.now one.new × (one.new.has_scratch ≡ one.old.has_scratch) }
-    ensures two { IsOf table.now two.new × (two.new.has_scratch ≡ two.old.has_scratch) }
+    ensures one { IsStillOf table.now one.old one.new }
+    ensures two { IsStillOf table.now two.old two.new }
 {
     join_mut(
         rt,
@@ -425,8 +410,7 @@ fn pair<R: Abort + Wait + Threads + Sync>(
 
 pub(crate) fn all_free<S: Sleep>(rt: &impl Abort, table: &Table<S>, pass: &mut Pass)
     requires own { IsOf table.now pass.old }
-    ensures own { IsOf table.now pass.new }
-    ensures scratch { pass.new.has_scratch ≡ pass.old.has_scratch }
+    ensures still { IsStillOf table.now pass.old pass.new }
 {
     for latch in 0..18 {
         let found = word(rt, table, pass, Latch(latch));

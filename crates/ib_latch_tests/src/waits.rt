@@ -1,10 +1,11 @@
 //! The worked table of one that arms itself, sessions that sleep until they are woken, and four
 //! threads that lock one latch in every mode.
 
-ghost use Rattle.std.specs.Prelude.{◌≡◌, ◌<◌};
+ghost use Rattle.std.specs.Prelude.{◌<◌};
 ghost use Rattle.ib_levels.specs.declared.level.Mode.{Mode};
 ghost use Rattle.ib_core.specs.declared.phase.Phase.TheVariants.{Flagged};
 ghost use Rattle.ib_rule.specs.Pass.{IsOf};
+ghost use Rattle.ib_rule.specs.Takes.{IsStillOf};
 
 use crate::tries::{
     NODE, PAGE, busy, come, finish, is_ready, leave, may_claim, ready, reserve, s, smallest, sx,
@@ -29,8 +30,7 @@ const TURNS: u32 = 20_000_000;
 
 fn arm(rt: &impl Abort, table: &Table, pass: &mut Pass, mode: Mode) -> u64
     requires own { IsOf table.now pass.old }
-    ensures own { IsOf table.now pass.new }
-    ensures scratch { pass.new.has_scratch ≡ pass.old.has_scratch }
+    ensures still { IsStillOf table.now pass.old pass.new }
 {
     is_ready(rt, table, pass, PAGE);
     assert!(rt; pass.can_wish(PAGE, NODE));
@@ -39,8 +39,7 @@ fn arm(rt: &impl Abort, table: &Table, pass: &mut Pass, mode: Mode) -> u64
 
 fn recheck(rt: &impl Abort, table: &Table, pass: &mut Pass) -> Result<Reserve, TryFault>
     requires own { IsOf table.now pass.old }
-    ensures own { IsOf table.now pass.new }
-    ensures scratch { pass.new.has_scratch ≡ pass.old.has_scratch }
+    ensures still { IsStillOf table.now pass.old pass.new }
 {
     assert!(rt; PAGE.0 < table.space().geometry().pages() + 2);
     assert!(rt; pass.may_grow());
@@ -53,8 +52,7 @@ fn recheck(rt: &impl Abort, table: &Table, pass: &mut Pass) -> Result<Reserve, T
 
 fn stand_down(rt: &impl Abort, table: &Table, pass: &mut Pass)
     requires own { IsOf table.now pass.old }
-    ensures own { IsOf table.now pass.new }
-    ensures scratch { pass.new.has_scratch ≡ pass.old.has_scratch }
+    ensures still { IsStillOf table.now pass.old pass.new }
 {
     let Phase::Checked { latch, .. } = pass.phase() else {
         panic!(rt; "its wish was refused")
@@ -101,8 +99,7 @@ fn each_session_has_a_sleeper(rt: HostRuntime) {
 // The wish is granted at once, though the flag was set for it. It is answered which generation was recorded.
 fn armed_in_vain(rt: &impl Abort, table: &Table, pass: &mut Pass) -> u64
     requires own { IsOf table.now pass.old }
-    ensures own { IsOf table.now pass.new }
-    ensures scratch { pass.new.has_scratch ≡ pass.old.has_scratch }
+    ensures still { IsStillOf table.now pass.old pass.new }
 {
     let generation = arm(rt, table, pass, Mode::S);
     assert_eq!(rt; recheck(rt, table, pass), Ok(Reserve::Owned));
@@ -114,8 +111,8 @@ fn armed_in_vain(rt: &impl Abort, table: &Table, pass: &mut Pass) -> u64
 fn every_mode(rt: &impl Abort, table: &Table, one: &mut Pass, two: &mut Pass)
     requires one { IsOf table.now one.old }
     requires two { IsOf table.now two.old }
-    ensures one { IsOf table.now one.new × (one.new.has_scratch ≡ one.old.has_scratch) }
-    ensures two { IsOf table.now two.new × (two.new.has_scratch ≡ two.old.has_scratch) }
+    ensures one { IsStillOf table.now one.old one.new }
+    ensures two { IsStillOf table.now two.old two.new }
 {
     assert_eq!(rt; x(rt, table, one, PAGE), Ok(()));
     assert_eq!(rt; s(rt, table, two, PAGE), busy(0));
@@ -154,8 +151,7 @@ fn who_releases_raises_nothing_where_nobody_waits(rt: HostRuntime) {
 
 fn lock_s<R: Abort + Wait>(rt: &R, table: &Table, pass: &mut Pass)
     requires own { IsOf table.now pass.old }
-    ensures own { IsOf table.now pass.new }
-    ensures scratch { pass.new.has_scratch ≡ pass.old.has_scratch }
+    ensures still { IsStillOf table.now pass.old pass.new }
 {
     is_ready(rt, table, pass, PAGE);
     assert!(rt; pass.can_wish(PAGE, NODE));
@@ -164,8 +160,7 @@ fn lock_s<R: Abort + Wait>(rt: &R, table: &Table, pass: &mut Pass)
 
 fn lock_sx<R: Abort + Wait>(rt: &R, table: &Table, pass: &mut Pass)
     requires own { IsOf table.now pass.old }
-    ensures own { IsOf table.now pass.new }
-    ensures scratch { pass.new.has_scratch ≡ pass.old.has_scratch }
+    ensures still { IsStillOf table.now pass.old pass.new }
 {
     is_ready(rt, table, pass, PAGE);
     may_claim(rt, pass, PAGE);
@@ -174,8 +169,7 @@ fn lock_sx<R: Abort + Wait>(rt: &R, table: &Table, pass: &mut Pass)
 
 fn lock_x<R: Abort + Wait>(rt: &R, table: &Table, pass: &mut Pass)
     requires own { IsOf table.now pass.old }
-    ensures own { IsOf table.now pass.new }
-    ensures scratch { pass.new.has_scratch ≡ pass.old.has_scratch }
+    ensures still { IsStillOf table.now pass.old pass.new }
 {
     is_ready(rt, table, pass, PAGE);
     may_claim(rt, pass, PAGE);
@@ -196,8 +190,7 @@ fn until_one_waits<R: Abort + Wait>(rt: &R, table: &Table) {
 // One thread waits for the latch in a mode, and gives it back.
 fn waiter<R: Abort + Wait>(rt: &R, table: &Table, pass: &mut Pass, mode: Mode)
     requires own { IsOf table.now pass.old }
-    ensures own { IsOf table.now pass.new }
-    ensures scratch { pass.new.has_scratch ≡ pass.old.has_scratch }
+    ensures still { IsStillOf table.now pass.old pass.new }
 {
     match mode {
         Mode::S => {
@@ -218,8 +211,7 @@ fn waiter<R: Abort + Wait>(rt: &R, table: &Table, pass: &mut Pass, mode: Mode)
 // The other holds the latch until somebody waits for it.
 fn holder<R: Abort + Wait>(rt: &R, table: &Table, pass: &mut Pass, mode: Mode)
     requires own { IsOf table.now pass.old }
-    ensures own { IsOf table.now pass.new }
-    ensures scratch { pass.new.has_scratch ≡ pass.old.has_scratch }
+    ensures still { IsStillOf table.now pass.old pass.new }
 {
     until_one_waits(rt, table);
     match mode {
@@ -274,8 +266,7 @@ fn a_next_writer_sleeps_until_the_readers_are_gone(rt: HostRuntime) {
 // Takes the latch in one mode after the other, and gives it back: SX with X beside it, and X twice.
 fn turn<R: Abort + Wait>(rt: &R, table: &Table, pass: &mut Pass, round: u32)
     requires own { IsOf table.now pass.old }
-    ensures own { IsOf table.now pass.new }
-    ensures scratch { pass.new.has_scratch ≡ pass.old.has_scratch }
+    ensures still { IsStillOf table.now pass.old pass.new }
 {
     match round % 4 {
         0 | 1 => waiter(rt, table, pass, Mode::S),
@@ -295,8 +286,7 @@ fn turn<R: Abort + Wait>(rt: &R, table: &Table, pass: &mut Pass, round: u32)
 // What one thread does.
 fn work<R: Abort + Wait>(rt: &R, table: &Table, pass: &mut Pass)
     requires own { IsOf table.now pass.old }
-    ensures own { IsOf table.now pass.new }
-    ensures scratch { pass.new.has_scratch ≡ pass.old.has_scratch }
+    ensures still { IsStillOf table.now pass.old pass.new }
 {
     for round in 0..30_000 {
         turn(rt, table, pass, round);
@@ -307,8 +297,8 @@ fn work<R: Abort + Wait>(rt: &R, table: &Table, pass: &mut Pass)
 fn pair<R: Abort + Wait + Threads + Sync>(rt: &R, table: &Table, one: &mut Pass, two: &mut Pass)
     requires one { IsOf table.now one.old }
     requires two { IsOf table.now two.old }
-    ensures one { IsOf table.now one.new × (one.new.has_scratch ≡ one.old.has_scratch) }
-    ensures two { IsOf table.now two.new × (two.new.has_scratch ≡ two.old.has_scratch) }
+    ensures one { IsStillOf table.now one.old one.new }
+    ensures two { IsStillOf table.now two.old two.new }
 {
     join_mut(
         rt,

@@ -7,7 +7,7 @@ use Rattle.std.proofs.lemmas.List.Elements.{All-cons, All-head, All-tail}
 use Rattle.std.proofs.lemmas.List.Kept.{AllPairs-cons}
 use Rattle.ib_levels.specs.declared.level.Level.{Level}
 use Rattle.ib_levels.specs.declared.holding.Holding.{Holding}
-use Rattle.ib_levels.specs.Level.{MayFollow, IsOrderly, MayTake}
+use Rattle.ib_levels.specs.Level.{MayFollow, IsOrderly, MayFollowAll}
 use Rattle.ib_levels.specs.Holding.{levels_of, without_latch, changed_on}
 use Rattle.ib_levels.proofs.Orderly.{orderly_push, orderly_head, orderly_tail, orderly_remove}
 
@@ -16,7 +16,7 @@ levels_of-push [] h = refl
 levels_of-push (g ∷ held) h = ap (λ levels. g.level ∷ levels) (levels_of-push held h)
 
 -- a latch that may be taken keeps the list orderly
-pub orderly_hold : (held : List Holding) (h : Holding) → IsOrderly (levels_of held) → MayTake h.level (levels_of held) → IsOrderly (levels_of (held ++ h ∷ []))
+pub orderly_hold : (held : List Holding) (h : Holding) → IsOrderly (levels_of held) → MayFollowAll h.level (levels_of held) → IsOrderly (levels_of (held ++ h ∷ []))
 orderly_hold held h orderly may = subst IsOrderly (sym (levels_of-push held h)) (orderly_push (levels_of held) h.level orderly may)
 
 -- a change of counts keeps the levels, and so the list orderly
@@ -49,7 +49,7 @@ orderly_filter p (h ∷ held) orderly = by_test (p h) (orderly_filter p held (or
 pub orderly_without : (l : ℕ) (held : List Holding) → IsOrderly (levels_of held) → IsOrderly (levels_of (without_latch l held))
 orderly_without l held orderly = orderly_filter (λ h. not (h.latch.0 == l)) held orderly
 
-pub may_take_without : (wanted : Level) (l : ℕ) (held : List Holding) → MayTake wanted (levels_of held) → MayTake wanted (levels_of (without_latch l held))
+pub may_take_without : (wanted : Level) (l : ℕ) (held : List Holding) → MayFollowAll wanted (levels_of held) → MayFollowAll wanted (levels_of (without_latch l held))
 may_take_without wanted l held may = all_filter (λ level. MayFollow level wanted) (λ h. not (h.latch.0 == l)) held may
 
 -- the levels after the holding at a place is removed

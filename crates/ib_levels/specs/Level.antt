@@ -35,8 +35,8 @@ abbrev pub IsOrderly : List Level → Type 0
 IsOrderly levels = AllPairs MayFollow levels
 
 -- none of the levels held forbids a latch at the level wanted
-abbrev pub MayTake : Level → List Level → Type 0
-MayTake wanted levels = All (λ held. MayFollow held wanted) levels
+abbrev pub MayFollowAll : Level → List Level → Type 0
+MayFollowAll wanted levels = All (λ held. MayFollow held wanted) levels
 
 -- the first of the levels held that forbids it
 abbrev pub first_against : Level → List Level → Option Level

@@ -4,7 +4,7 @@ use Rattle.std.specs.Prelude.{◌≡◌, ◌↔◌, ◌⊎◌, ◌++◌, ◌∷�
 use Rattle.std.specs.List.{list_any}
 use Rattle.ib_levels.specs.declared.level.Level.{Level}
 use Rattle.ib_levels.specs.declared.listed.Against.{Against}
-use Rattle.ib_levels.specs.Level.{IsOrderly, MayTake, first_against}
+use Rattle.ib_levels.specs.Level.{IsOrderly, MayFollowAll, first_against}
 
 -- the levels along a list, in order of taking
 abbrev pub levels_along : {A : Type 0} → (A → Level) → List A → List Level
@@ -28,5 +28,5 @@ answer_to false wanted levels = refused_by wanted (first_against wanted levels)
 -- not. Of an orderly list: it is allowed where the latch is held, or the list stays orderly with it.
 pub record Allows (is_held : Bool) (wanted : Level) (levels : List Level) (result : Result (Unit {0}) Against) : Type 0 where
   pub answer : result ≡ answer_to is_held wanted levels
-  pub ok : IsOk result ↔ (IsTrue is_held ⊎ MayTake wanted levels)
+  pub ok : IsOk result ↔ (IsTrue is_held ⊎ MayFollowAll wanted levels)
   pub orderly : IsOrderly levels → (IsOk result ↔ (IsTrue is_held ⊎ IsOrderly (levels ++ wanted ∷ [])))

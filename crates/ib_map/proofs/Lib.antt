@@ -4,7 +4,7 @@ pub mod ByteLaws
 pub mod RiseLaws
 pub mod PairLaws
 pub mod CutLaws
-pub mod PlaceLaws
+pub mod IndexLaws
 pub mod MapLaws
 pub mod HistoryLaws
 pub mod FitsLaws

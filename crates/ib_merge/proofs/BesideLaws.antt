@@ -3,7 +3,7 @@ use Rattle.std.proofs.Common.{◌≡◌, ◌∙◌, ℕ, zero, suc, ◌+◌, ◌
 use Rattle.std.specs.Prelude.{slice_get, IsSomeAnd}
 use Rattle.std.proofs.lemmas.Bool.{cases_lt, lt-ltb, le-ltb, le-leb, lt-leb}
 use Rattle.ib_map.specs.Keys.{MapKey, rank}
-use Rattle.ib_map.specs.Pairs.{Pairs, place_after}
+use Rattle.ib_map.specs.Pairs.{Pairs, index_after}
 use Rattle.ib_walk.proofs.ChoiceLaws.{Some-same}
 use Rattle.ib_plans.specs.Merge.{Siblings, siblings_from, siblings_of}
 
@@ -14,7 +14,7 @@ pub record IsBeside (xs : Pairs) (place : ℕ) (left : Option (MapKey × ℕ)) (
   pub here_is : slice_get xs place ≡ Some t.here
   pub right_is : slice_get xs (suc place) ≡ t.right
 
-pub IsBeside-from : (key : MapKey) (left : Option (MapKey × ℕ)) (here : MapKey × ℕ) (xs : Pairs) → IsBeside (here ∷ xs) (place_after key xs) left (siblings_from key left here xs)
+pub IsBeside-from : (key : MapKey) (left : Option (MapKey × ℕ)) (here : MapKey × ℕ) (xs : Pairs) → IsBeside (here ∷ xs) (index_after key xs) left (siblings_from key left here xs)
 IsBeside-from key left here [] = record { first = λ e. refl; left_is = λ lt. absurd (omega arith); here_is = refl; right_is = refl }
 IsBeside-from key left here (x ∷ xs) = elim (cases_lt (rank key) (rank x.0)) [
   | inl lt ↦
@@ -23,8 +23,8 @@ IsBeside-from key left here (x ∷ xs) = elim (cases_lt (rank key) (rank x.0)) [
   | inr le ↦
       let no = le-ltb (rank key) (rank x.0) le in let yes = le-leb (rank x.0) (rank key) le in
       let r = IsBeside-from key (Some here) x xs in
-      let e : suc (place_after key xs) ≡ 1 + place_after key xs = omega arith in
-      rw (no, yes) (subst (λ p. IsBeside (here ∷ x ∷ xs) p left (siblings_from key (Some here) x xs)) e (shifted key left here x xs (place_after key xs) (siblings_from key (Some here) x xs) r))
+      let e : suc (index_after key xs) ≡ 1 + index_after key xs = omega arith in
+      rw (no, yes) (subst (λ p. IsBeside (here ∷ x ∷ xs) p left (siblings_from key (Some here) x xs)) e (shifted key left here x xs (index_after key xs) (siblings_from key (Some here) x xs) r))
 ]
   where
     shifted : (key : MapKey) (left : Option (MapKey × ℕ)) (here x : MapKey × ℕ) (xs : Pairs) (place : ℕ) (t : Siblings) → IsBeside (x ∷ xs) place (Some here) t → IsBeside (here ∷ x ∷ xs) (suc place) left t
@@ -39,13 +39,13 @@ siblings-same t left here right l h r =
 
 -- so the siblings are the records before, at and behind the place of the key's child
 pub siblings-at : (key : MapKey) (xs : Pairs) (place : ℕ) (left : Option (MapKey × ℕ)) (here : MapKey × ℕ) (right : Option (MapKey × ℕ))
-    → place + 1 ≡ place_after key xs → IsSomeAnd (slice_get xs 0) (λ r. rank r.0 ≤ rank key) → (place ≡ 0 → left ≡ None) → (0 < place → slice_get xs (place - 1) ≡ left)
+    → place + 1 ≡ index_after key xs → IsSomeAnd (slice_get xs 0) (λ r. rank r.0 ≤ rank key) → (place ≡ 0 → left ≡ None) → (0 < place → slice_get xs (place - 1) ≡ left)
     → slice_get xs place ≡ Some here → slice_get xs (place + 1) ≡ right → siblings_of key xs ≡ record { left = left; here = here; right = right }
 siblings-at key [] place left here right is first none some at behind = absurd first
 siblings-at key (x ∷ xs) place left here right is first none some at behind =
     let yes : leb (rank x.0) (rank key) ≡ true = le-leb (rank x.0) (rank key) first in
-    let count : place_after key (x ∷ xs) ≡ 1 + place_after key xs = rw yes refl in
-    let e : place_after key xs ≡ place = omega arith in
+    let count : index_after key (x ∷ xs) ≡ 1 + index_after key xs = rw yes refl in
+    let e : index_after key xs ≡ place = omega arith in
     let b = subst (λ p. IsBeside (x ∷ xs) p None (siblings_from key None x xs)) e (IsBeside-from key None x xs) in
     let next : suc place ≡ place + 1 = omega arith in
     siblings-same (siblings_from key None x xs) left here right

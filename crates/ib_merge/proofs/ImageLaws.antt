@@ -2,7 +2,7 @@
 use Rattle.std.proofs.Common.{◌≡◌, ◌∙◌, ℕ, cond, ◌+◌, ◌≤◌, List, length, refl, sym, ap, subst, Option, Some, None}
 use Rattle.std.specs.Prelude.{Result, Ok, Err, OnOk, OnErr, IfOk, IfErr, is_some, IsNone, ◌↔◌, IsSomeAnd}
 use Rattle.ib_map.specs.Keys.{MapKey}
-use Rattle.ib_map.specs.Pairs.{Pairs, place_of, value_at, without}
+use Rattle.ib_map.specs.Pairs.{Pairs, index_of, value_at, without}
 use Rattle.ib_map.proofs.PairLaws.{without-none}
 use Rattle.ib_heap.specs.declared.TheConstants.{MOST_RECORDS}
 use Rattle.ib_heap.specs.Heap.{read_heap}
@@ -58,12 +58,12 @@ removed-is (Err fault) key old new tree removed missing only same =
 
 -- .. and the heap
 pub removed-heap : (result : Result ℕ PageFault) (key : MapKey) (old new : List ℕ) → IfOk result (λ value. value_at key (records_of old) ≡ Some value)
-    → OnOk result (read_heap new ≡ remove_in (place_of key (records_of old)) (read_heap old)) → ((result ≡ Err Missing) ↔ IsNone (value_at key (records_of old)))
+    → OnOk result (read_heap new ≡ remove_in (index_of key (records_of old)) (read_heap old)) → ((result ≡ Err Missing) ↔ IsNone (value_at key (records_of old)))
     → IfErr result (λ fault. fault ≡ Missing) → OnErr result (new ≡ old) → read_heap new ≡ heap_without key (records_of old) (read_heap old)
-removed-heap (Ok value) key old new there heap missing only same = heap ∙ sym (ap (λ o. cond (is_some o) (remove_in (place_of key (records_of old)) (read_heap old)) (read_heap old)) there)
+removed-heap (Ok value) key old new there heap missing only same = heap ∙ sym (ap (λ o. cond (is_some o) (remove_in (index_of key (records_of old)) (read_heap old)) (read_heap old)) there)
 removed-heap (Err fault) key old new there heap missing only same = ap read_heap same ∙ sym (absent (value_at key (records_of old)) (missing.0 (ap Err only)))
   where
-    absent : (o : Option ℕ) → IsNone o → cond (is_some o) (remove_in (place_of key (records_of old)) (read_heap old)) (read_heap old) ≡ read_heap old
+    absent : (o : Option ℕ) → IsNone o → cond (is_some o) (remove_in (index_of key (records_of old)) (read_heap old)) (read_heap old) ≡ read_heap old
     absent None h = refl
     absent (Some x) h = absurd (cc)
 

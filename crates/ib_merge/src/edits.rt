@@ -35,6 +35,7 @@ pub(crate) fn take_record(work: &mut WorkSet, page: u32, key: Key)
     ensures taken { HasMoved (Takes key) (changed_of page work.old) (changed_of page work.new) }
 {
     let image = work.edit(page);
+    // Where the key is not there, the page stays as it is.
     let _ = image.remove(key);
     image.touch();
 }

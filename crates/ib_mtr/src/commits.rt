@@ -31,6 +31,14 @@ impl<'a, L: Law> Mtr<'a, L, Parkers> {
     ///
     /// What others appended since the last look conflicts with no latch that was watched when the
     /// call began. The condition is on every such list of entries: the change is lawful behind it.
+    ///
+    /// ```
+    /// let key = Key::of_number(7);
+    /// match mtr.commit(rt, Change::Insert { key, value: 70 }) {
+    ///     Ok(place) => Some(place),
+    ///     Err(LogFull { used, cap }) => None,
+    /// }
+    /// ```
     pub fn commit<R: Wait>(self, rt: &R, change: Change) -> Result<u32, LogFull>
         requires mtr { IsMtr self.latches.now self.pass.now }
         requires may { MayCommit (L.lawful self.latches.now.sizes.pages) self.pass.now change }
@@ -48,6 +56,11 @@ impl<'a, L: Law, S: Sleep> Mtr<'a, L, S> {
     /// Ends without a change (`mtr_t::commit` of a mini-transaction that made no modifications), once the
     /// log's end was looked at: it answers the place after all entries seen. All latches are given back,
     /// from the newest to the oldest, and nothing is written.
+    ///
+    /// ```
+    /// let mtr = Mtr::start(&table, &mut pass);
+    /// let place = mtr.commit_read();
+    /// ```
     pub fn commit_read(self) -> u32
         requires { IsMtr self.latches.now self.pass.now }
         ensures { under_lawful L.Law self.entry.latches.now HasRead self.entry.pass.now result
@@ -82,7 +95,7 @@ impl<'a, L: Law, S: Sleep> Mtr<'a, L, S> {
         ensures work { IsWork self.old.pass.now.work }
     {
         let room = self.pass.leave_work();
-        // The pages of a work set ascend.
+        // For the proof: the pages of a work set ascend.
         let _ = room.work.len();
         let result = append(self.latches.space(), self.pass, change, &room.work);
         self.pass.resume_work(room);
@@ -115,14 +128,15 @@ fn commit_in<L: Law, R: Wait>(
     ensures full { IfErr result (λ full. under_lawful L.Law latches.now IsFull pass.old full
         pass.new) }
 {
-    // The session's number, which no step changes.
+    // For the proof: the session's number, which no step changes.
     let _ = pass.number();
     let mut mtr = Mtr { latches, pass };
     mtr.x_latch(rt, Latch::LOG, Level::Log);
+    // For the proof: it is that number still.
     let _ = mtr.pass.number();
     mtr.log_end();
     let result = mtr.append_entry(change);
-    // What is seen fits the log.
+    // For the proof: what is seen fits the log.
     let _ = mtr.pass.used();
     mtr.give_back();
     mtr.finish();

@@ -27,6 +27,11 @@ impl<'a, L: Law, S: Sleep> Mtr<'a, L, S> {
     /// not there yet (`buf_page_get_gen`, then `mtr_t::memo_push`): its words, and then a look at the log's end. It
     /// is the page after all entries that the session has seen then. The work set has at most
     /// `MOST_WORK_PAGES` pages.
+    ///
+    /// ```
+    /// mtr.s_latch(rt, Latch::page(page), Level::TreeNode);
+    /// mtr.load(page);
+    /// ```
     pub fn load(&mut self, page: u32)
         requires mtr { IsMtr self.old.latches.now self.old.pass.now }
         requires page { page < self.old.latches.now.sizes.pages }
@@ -40,7 +45,7 @@ impl<'a, L: Law, S: Sleep> Mtr<'a, L, S> {
         let mut room = self.pass.leave_work();
         let image = room.work.read_in(page);
         read_page(self.latches.space(), self.pass, page, image);
-        // An image has as many words as a page.
+        // For the proof: an image has as many words as a page.
         let _ = image.word(0);
         self.pass.resume_work(room);
     }
@@ -48,6 +53,12 @@ impl<'a, L: Law, S: Sleep> Mtr<'a, L, S> {
     /// A word of a page where it lies, of which the session holds the latch in some mode, with a look at
     /// the log's end since: it is that of the page after all entries seen. The page is not in the work
     /// set by it: a search reads a node in place, of whose latch it has the page by the word.
+    ///
+    /// ```
+    /// mtr.s_latch(rt, Latch::page(page), Level::TreeNode);
+    /// mtr.log_end();
+    /// let word = mtr.word(page, 9);
+    /// ```
     pub fn word(&mut self, page: u32, index: usize) -> u64
         requires mtr { IsMtr self.old.latches.now self.old.pass.now }
         requires page { page < self.old.latches.now.sizes.pages }
@@ -68,6 +79,12 @@ impl<'a, L: Law, S: Sleep> Mtr<'a, L, S> {
 
     /// The changed image of a page, lent to be changed: the page is loaded, and the session owns X on
     /// its latch. It is a mini-transaction again afterwards (`edit_law`).
+    ///
+    /// ```
+    /// let image = mtr.edit(page);
+    /// let count = image.word(9);
+    /// image.set_word(9, count.saturating_add(1));
+    /// ```
     pub fn edit(&mut self, page: u32) -> &mut Image
         requires mtr { IsMtr self.old.latches.now self.old.pass.now }
         requires held { 0 < x_grants (page + 2) self.old.pass.now.view.session }
@@ -79,6 +96,11 @@ impl<'a, L: Law, S: Sleep> Mtr<'a, L, S> {
     }
 
     /// Looks at the log's end: all of the log is seen then. Memo and work set stay as they are.
+    ///
+    /// ```
+    /// let end = mtr.log_end();
+    /// assert!(rt; end.entries == mtr.place());
+    /// ```
     pub fn log_end(&mut self) -> LogEnd
         requires mtr { IsMtr self.old.latches.now self.old.pass.now }
         ensures still { IsStillMtr self.old self.new }

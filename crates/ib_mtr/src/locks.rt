@@ -19,6 +19,12 @@ use std::sync::Wait;
 impl<'a, L: Law> Mtr<'a, L, Parkers> {
     /// Takes S on a latch of which the session holds nothing, and waits until it is granted: the
     /// grant is on top of the memo (`mtr_s_lock`).
+    ///
+    /// ```
+    /// if mtr.pass().can_wish(latch, Level::TreeNode) && mtr.pass().may_grow() {
+    ///     mtr.s_latch(rt, latch, Level::TreeNode);
+    /// }
+    /// ```
     #[inline(always)]
     pub fn s_latch<R: Wait>(&mut self, rt: &R, latch: Latch, level: Level)
         requires mtr { IsMtr self.old.latches.now self.old.pass.now }
@@ -34,6 +40,10 @@ impl<'a, L: Law> Mtr<'a, L, Parkers> {
 
     /// Takes SX on a latch that the session does not read, and waits until it is granted: the grant is
     /// on top of the memo (WL#6363, `mtr_sx_lock`). Beside one's own SX or X it is granted at once.
+    ///
+    /// ```
+    /// mtr.sx_latch(rt, Latch::INDEX, Level::Index);
+    /// ```
     pub fn sx_latch<R: Wait>(&mut self, rt: &R, latch: Latch, level: Level)
         requires mtr { IsMtr self.old.latches.now self.old.pass.now }
         requires may { MayTakeMore self.old.latches.now latch.0 level self.old.pass.now }
@@ -51,6 +61,12 @@ impl<'a, L: Law> Mtr<'a, L, Parkers> {
 
     /// Takes X on a latch that the session does not read, and waits until it owns it: the grant is on
     /// top of the memo (`mtr_x_lock`). Beside one's own X it is granted at once.
+    ///
+    /// ```
+    /// if mtr.pass().may_claim(latch, Level::TreeNode) && mtr.pass().may_grow() {
+    ///     mtr.x_latch(rt, latch, Level::TreeNode);
+    /// }
+    /// ```
     pub fn x_latch<R: Wait>(&mut self, rt: &R, latch: Latch, level: Level)
         requires mtr { IsMtr self.old.latches.now self.old.pass.now }
         requires may { MayTakeMore self.old.latches.now latch.0 level self.old.pass.now }

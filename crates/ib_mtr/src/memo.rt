@@ -26,6 +26,12 @@ impl<'a, L: Law, S: Sleep> Mtr<'a, L, S> {
     /// (`rw_lock_s_lock_nowait`, then `mtr_t::memo_push`): the grant is on top of the memo. Refused
     /// as the latch's own try is, `Busy` where the word found is not above 0 and `Raced` where the
     /// exchange found another word; then nothing is changed but the looks.
+    ///
+    /// ```
+    /// if mtr.try_s_latch(latch, Level::TreeNode).is_err() {
+    ///     return mtr.commit_read();
+    /// }
+    /// ```
     pub fn try_s_latch(&mut self, latch: Latch, level: Level) -> Result<(), TryFault>
         requires mtr { IsMtr self.old.latches.now self.old.pass.now }
         requires may { MayTake self.old.latches.now latch.0 level self.old.pass.now }
@@ -48,6 +54,12 @@ impl<'a, L: Law, S: Sleep> Mtr<'a, L, S> {
     }
 
     /// How many grants the memo has: the place of the next one (`mtr_t::get_savepoint`).
+    ///
+    /// ```
+    /// let at = mtr.savepoint();
+    /// mtr.s_latch(rt, latch, Level::TreeNode);
+    /// mtr.release_at(at);
+    /// ```
     pub fn savepoint(&self) -> usize
         ensures { result ≡ length self.now.pass.now.memo }
     {
@@ -62,6 +74,12 @@ impl<'a, L: Law, S: Sleep> Mtr<'a, L, S> {
     }
 
     /// The place of the newest grant on the latch. None exactly where the memo has none.
+    ///
+    /// ```
+    /// if let Some(at) = mtr.position(latch) {
+    ///     mtr.release_at(at);
+    /// }
+    /// ```
     pub fn position(&self, latch: Latch) -> Option<usize>
         ensures { MatchOption result (All (λ g. g.0 ≢ latch) self.now.pass.now.memo)
             (λ at. IsNewest latch at self.now.pass.now.memo) }

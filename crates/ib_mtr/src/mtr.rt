@@ -26,6 +26,11 @@ pub struct Mtr<'a, L: Law, S: Sleep = Parkers> {
 impl<'a, L: Law, S: Sleep> Mtr<'a, L, S> {
     /// Starts with an empty memo and no pages (`mtr_t::start`). The session holds nothing and is in
     /// the middle of nothing, and its scratch is free.
+    ///
+    /// ```
+    /// let mtr = Mtr::start(&table, &mut pass);
+    /// let place = mtr.commit_read();
+    /// ```
     pub fn start(latches: &'a Latches<L, S>, pass: &'a mut Pass) -> Mtr<'a, L, S>
         requires rest { IsAtRest latches.now pass.old }
         ensures mtr { IsMtr result.latches.now result.pass.now }
@@ -38,6 +43,11 @@ impl<'a, L: Law, S: Sleep> Mtr<'a, L, S> {
     }
 
     /// Ends with an empty memo: the scratch is free again. Nothing is read, and nothing is released.
+    ///
+    /// ```
+    /// let mtr = Mtr::start(&table, &mut pass);
+    /// mtr.finish();
+    /// ```
     pub fn finish(self)
         requires mtr { IsMtr self.latches.now self.pass.now }
         requires none { self.pass.now.memo ≡ [] }
@@ -50,6 +60,12 @@ impl<'a, L: Law, S: Sleep> Mtr<'a, L, S> {
     }
 
     /// The pass, to be asked what its session holds and may take.
+    ///
+    /// ```
+    /// if mtr.pass().may_grow() && mtr.pass().may_claim(latch, Level::TreeNode) {
+    ///     mtr.x_latch(rt, latch, Level::TreeNode);
+    /// }
+    /// ```
     pub fn pass(&self) -> &Pass
         ensures { result.now ≡ self.now.pass.now }
     {
@@ -72,6 +88,12 @@ impl<'a, L: Law, S: Sleep> Mtr<'a, L, S> {
     }
 
     /// The changed image of a page. None exactly where the page is not loaded.
+    ///
+    /// ```
+    /// if mtr.image(page).is_none() {
+    ///     mtr.load(page);
+    /// }
+    /// ```
     pub fn image(&self, page: u32) -> Option<&Image>
         requires { IsMtr self.now.latches.now self.now.pass.now }
         ensures { MatchOption result (changed_of page self.now.pass.now.work ≡ None)

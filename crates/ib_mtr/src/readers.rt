@@ -23,6 +23,14 @@ impl<'a, L: Law, S: Sleep> Mtr<'a, L, S> {
     /// grant and wish for X on the log latch, changes a word, and no more than `MOST_WRITES` of them,
     /// holds X on each page that it changes, and where these are several, SX on the index and not X. Then `commit` may be called with any
     /// change of a key.
+    ///
+    /// ```
+    /// if !mtr.may_commit_any() {
+    ///     mtr.commit_read();
+    ///     return None;
+    /// }
+    /// mtr.commit(rt, Change::Insert { key, value }).ok()
+    /// ```
     pub fn may_commit_any(&self) -> bool
         requires { IsMtr self.now.latches.now self.now.pass.now }
         ensures exact { IsTrue result ↔ MayCommitAny self.now.pass.now }
@@ -32,7 +40,7 @@ impl<'a, L: Law, S: Sleep> Mtr<'a, L, S> {
             → MayCommit (L.lawful self.now.latches.now.sizes.pages) self.now.pass.now change }
     {
         let (pass, work) = (self.pass(), self.pass.work());
-        // The session's number and those of its entries fit an entry, and its pages lie in the space.
+        // For the proof: the session's number and those of its entries fit an entry, and its pages lie in the space.
         let _ = (self.pass.number(), self.pass.made(), self.pass.used());
         let sizes = self.geometry();
         let _ = (sizes.pages(), sizes.log_words(), work.len());

@@ -346,8 +346,8 @@ found_slot (s ∷ ss) (suc i) page d h = let rest = found_slot ss i page d h in 
 pub found_slot-lt : (ss : List Slot) (i page : ℕ) → IsSomeAnd (slice_get ss i) (λ s. s.page ≡ page) → i < length ss
 found_slot-lt ss i page found = (found_slot ss i page (record { page = 0; room = 0; edited = false }) found).0
 
-pub place-lt : (before changed : List (List ℕ)) (ss : List Slot) (ps : List WorkPage) (i : ℕ) → pages_in before changed ss ≡ ps → i < length ps → i < length ss
-place-lt before changed ss ps i view lt = let long = length-map ss (work_page_in before changed) in let same = ap length view in omega arith
+pub index-lt : (before changed : List (List ℕ)) (ss : List Slot) (ps : List WorkPage) (i : ℕ) → pages_in before changed ss ≡ ps → i < length ps → i < length ss
+index-lt before changed ss ps i view lt = let long = length-map ss (work_page_in before changed) in let same = ap length view in omega arith
 
 -- the page at a place
 pub page_read : (before changed : List (List ℕ)) (ss : List Slot) (ps : List WorkPage) (i : ℕ) (s : Slot) (image latest : List ℕ) → pages_in before changed ss ≡ ps → i < length ss → s ≡ get_or ss i s

@@ -3,12 +3,12 @@
 
 ghost use Rattle.std.specs.Prelude.{List, ℕ, ◌≡◌, ◌+◌, ◌-◌, ◌*◌, ◌<◌, ◌≤◌, ◌^◌, ◌++◌, [], ◌∷◌, length, take, drop, slice_get, slice_index, slice_set, IsTrue, IsSomeAnd, ◌↔◌, Some};
 ghost use Rattle.ib_map.specs.Keys.{rank, end_rank};
-ghost use Rattle.ib_map.specs.Pairs.{Rises, cut, value_at, place_after};
+ghost use Rattle.ib_map.specs.Pairs.{Rises, cut, value_at, index_after};
 ghost use Rattle.ib_map.specs.Writes.{write_words};
 ghost use Rattle.ib_heap.specs.Page.PageValue.{Tree, Free};
 ghost use Rattle.ib_heap.specs.Words.{free_page_words};
 ghost use Rattle.ib_heap.specs.Heap.{read_heap};
-ghost use Rattle.ib_heap.specs.Changes.{HasPut, HasTaken};
+ghost use Rattle.ib_heap.specs.Changes.{HasPut, HasRemoved};
 ghost use Rattle.ib_heap.specs.Found.{IsFound, IsRouted};
 ghost use Rattle.ib_heap.specs.Filled.{filled, empty_heap};
 ghost use Rattle.ib_heap.specs.Form.{page_of, empty_leaf_words};
@@ -313,7 +313,7 @@ impl Image {
     pub fn route_to(&self, key: Key) -> (Key, u64)
         requires tree { IsTreePage self.now }
         requires first { IsSomeAnd (slice_get (records_of self.now) 0) (λ r. rank r.0 ≤ rank key) }
-        ensures record { slice_get (records_of self.now) (place_after key (records_of self.now) - 1) ≡ Some result }
+        ensures record { slice_get (records_of self.now) (index_after key (records_of self.now) - 1) ≡ Some result }
         ensures not_above { rank result.0 ≤ rank key }
     {
         ib_heap::route_to(&self.words, key)
@@ -343,7 +343,7 @@ impl Image {
     /// and for no other reason (`page_cur_delete_rec`).
     pub fn remove(&mut self, key: Key) -> Result<u64, PageFault>
         requires { IsTreePage self.old }
-        ensures { HasTaken self.old self.new key result }
+        ensures { HasRemoved self.old self.new key result }
     {
         ib_heap::take(&mut self.words, key)
     }

@@ -109,17 +109,17 @@ impl WorkSet {
         self.slots.is_empty()
     }
 
-    /// A page with its images, by its place in the order of pages, from 0 on.
-    pub fn page_at(&self, place: usize) -> PageImages<'_>
-        requires { place < length self.now }
-        ensures page { slice_get self.now place ≡ Some (record {
+    /// A page with its images, by its index in the order of pages, from 0 on.
+    pub fn page_at(&self, index: usize) -> PageImages<'_>
+        requires { index < length self.now }
+        ensures page { slice_get self.now index ≡ Some (record {
           page = result.page;
           before = result.before.now;
           changed = result.changed.now;
         }) }
         ensures work { IsWork self.now }
     {
-        let slot = self.slots[place];
+        let slot = self.slots[index];
         PageImages {
             page: slot.page,
             before: &self.before[slot.room],
@@ -133,7 +133,7 @@ impl WorkSet {
         ensures work { IsWork self.now }
     {
         match find(&self.slots, page) {
-            Some(place) => Some(latest(self.slots[place], &self.before, &self.changed)),
+            Some(index) => Some(latest(self.slots[index], &self.before, &self.changed)),
             None => None,
         }
     }
@@ -144,7 +144,7 @@ impl WorkSet {
         ensures work { IsWork self.now }
     {
         match find(&self.slots, page) {
-            Some(place) => Some(&self.before[self.slots[place].room]),
+            Some(index) => Some(&self.before[self.slots[index].room]),
             None => None,
         }
     }
@@ -161,13 +161,13 @@ impl WorkSet {
         count
     }
 
-    /// Whether the page at a place, in the order of pages, is changed: whether a word of its changed image differs from the one that was read.
-    pub fn is_changed_at(&self, place: usize) -> bool
-        requires { place < length self.now }
-        ensures changed { IsSomeAnd (slice_get self.now place) (λ w. IsTrue result ↔ (touches w.page (writes_of self.now) ≡ true)) }
+    /// Whether the page at an index, in the order of pages, is changed: whether a word of its changed image differs from the one that was read.
+    pub fn is_changed_at(&self, index: usize) -> bool
+        requires { index < length self.now }
+        ensures changed { IsSomeAnd (slice_get self.now index) (λ w. IsTrue result ↔ (touches w.page (writes_of self.now) ≡ true)) }
         ensures work { IsWork self.now }
     {
-        let images = self.page_at(place);
+        let images = self.page_at(index);
         images.before.differences(images.changed) > 0
     }
 
@@ -197,10 +197,10 @@ impl WorkSet {
         ensures image { changed_of page self.old ≡ Some result.now }
         ensures work { IsWork self.old }
     {
-        let place = find(&self.slots, page).unwrap();
-        let slot = self.slots[place];
+        let index = find(&self.slots, page).unwrap();
+        let slot = self.slots[index];
         copy_at_first(slot, &self.before, &mut self.changed);
-        self.slots[place] = Slot {
+        self.slots[index] = Slot {
             page: slot.page,
             room: slot.room,
             edited: true,
@@ -212,15 +212,15 @@ impl WorkSet {
     /// read and as changed. There must be room for a page.
     pub fn read_in(&mut self, page: u32) -> &mut Image
         requires absent { changed_of page self.old ≡ None }
-        requires place { length self.old < MOST_WORK_PAGES }
+        requires index { length self.old < MOST_WORK_PAGES }
         ensures* lends { sem 𝓛 (LendsRead self.entry page result) }
         ensures work { IsWork self.old }
     {
-        let place = place_for(&self.slots, page);
+        let index = index_for(&self.slots, page);
         let room = self.spare.pop().unwrap();
         // There is room, so the call takes no memory, and does not fail.
         let _ = self.slots.insert(
-            place,
+            index,
             Slot {
                 page,
                 room,
@@ -233,7 +233,7 @@ impl WorkSet {
     /// Takes a page in, that is not there, with one image as read and as changed. There must be room for a page.
     pub fn add(&mut self, page: u32, image: &Image)
         requires absent { changed_of page self.old ≡ None }
-        requires place { length self.old < MOST_WORK_PAGES }
+        requires index { length self.old < MOST_WORK_PAGES }
         ensures added { self.new ≡ with_read page image.now self.old }
         ensures work { IsWork self.old }
     {
@@ -247,8 +247,8 @@ impl WorkSet {
         ensures removed { self.new ≡ without_page page self.old }
         ensures work { IsWork self.old }
     {
-        let place = find(&self.slots, page).unwrap();
-        let slot = self.slots.remove(place);
+        let index = find(&self.slots, page).unwrap();
+        let slot = self.slots.remove(index);
         self.spare.push_reserved(slot.room);
     }
 
@@ -277,8 +277,8 @@ fn find(slots: &[Slot], page: u32) -> Option<usize>
 }
 
 // How many slots stand before a page.
-fn place_for(slots: &[Slot], page: u32) -> usize
-    ensures place { result ≡ prefix_len (λ s. nat_lt s.page page) slots.now }
+fn index_for(slots: &[Slot], page: u32) -> usize
+    ensures index { result ≡ prefix_len (λ s. nat_lt s.page page) slots.now }
     ensures in_range { result ≤ length slots.now }
 {
     for (i, slot) in slots.iter().enumerate() {

@@ -1,7 +1,7 @@
 -- How the records of a page stand after one move, and after another.
 use Rattle.std.proofs.Common.{◌≡◌, ◌≢◌, ◌∙◌, ℕ, List, refl, sym, ap, subst, Option, Some, None}
 use Rattle.std.specs.Prelude.{IsSome}
-use Rattle.ib_heap.specs.Heap.{Heap, used_places, read_heap}
+use Rattle.ib_heap.specs.Heap.{Heap, used_offsets, read_heap}
 use Rattle.ib_heap.specs.Filled.{filled}
 use Rattle.ib_heap.proofs.FilledLaws.{filled-used}
 use Rattle.ib_page.specs.Image.{records_of}
@@ -16,8 +16,8 @@ pub with_move-other : (page : ℕ) (move : Move) (moves : ℕ → Move) (n : ℕ
 with_move-other page move moves n ne = cond-ne n page move (moves n) ne
 
 -- a heap into which so many records were put in order is filled
-pub filled-is : (heap : Heap) (n : ℕ) → heap ≡ filled n → heap ≡ filled (used_places heap)
-filled-is heap n is = is ∙ ap filled (sym (ap used_places is ∙ filled-used n))
+pub filled-is : (heap : Heap) (n : ℕ) → heap ≡ filled n → heap ≡ filled (used_offsets heap)
+filled-is heap n is = is ∙ ap filled (sym (ap used_offsets is ∙ filled-used n))
 
 -- an image that is as it was
 pub still : (image : Option (List ℕ)) → HasMoved Stays image image

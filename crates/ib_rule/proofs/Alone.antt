@@ -16,7 +16,7 @@ use Rattle.ib_core.specs.declared.session.Session.{Session}
 use Rattle.ib_core.specs.Sessions.{is_next, owned, claims, x_grants, holdings}
 use Rattle.ib_core.proofs.OnLatch.{counted}
 use Rattle.ib_levels.proofs.Counts.{on-none}
-use Rattle.ib_core.proofs.Places.{one_of, two_of}
+use Rattle.ib_core.proofs.Elements.{one_of, two_of}
 use Rattle.ib_rule.specs.declared.view.Role.{Role}
 use Rattle.ib_rule.specs.declared.view.Role.TheVariants.{Space, Fresh, Session as Seated, Spent, Note}
 use Rattle.ib_rule.specs.declared.view.Ended.{Ended}
@@ -113,7 +113,7 @@ module _ (lawful : ℕ → List Entry → Type 0) (opening : ℕ → ℕ → ℕ
       by_role (Space k es) at = each (session_number_of u.role) es (
           let m : ℕ = session_number_of u.role in
           let roles : List Role = map role_of s.views in
-          let other : i ≢ j = λ here. differ u.role (Space k es) some_number refl (Rattle.ib_core.proofs.Places.same_at roles j u.role (Space k es) (subst (λ i. get_elem? roles i ≡ some u.role) here (at_map role_of s.views i u d)) at) in
+          let other : i ≢ j = λ here. differ u.role (Space k es) some_number refl (Rattle.ib_core.proofs.Elements.same_at roles j u.role (Space k es) (subst (λ i. get_elem? roles i ≡ some u.role) here (at_map role_of s.views i u d)) at) in
           let two = two_of (bears m) roles i j u.role (Space k es) (at_map role_of s.views i u d) at other in
           let a = bears_own u.role some_number in
           let p = kept.sessions.numbered m in let q = once_most m (sum_by drawn_in roles) some_number in omega arith)

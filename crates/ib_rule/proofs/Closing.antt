@@ -15,7 +15,7 @@ use Rattle.ib_logrec.specs.declared.entry.Entry.{Entry}
 use Rattle.ib_logrec.specs.Log.{used, log_words}
 use Rattle.ib_core.specs.Sessions.{x_grants}
 use Rattle.ib_core.specs.declared.session.Session.{Session}
-use Rattle.ib_core.proofs.Places.{two_of, same_at}
+use Rattle.ib_core.proofs.Elements.{two_of, same_at}
 use Rattle.ib_rule.specs.declared.view.Role.{Role}
 use Rattle.ib_rule.specs.declared.view.Role.TheVariants.{Space, Fresh, Session as Seated, Spent, Note}
 use Rattle.ib_rule.specs.declared.view.Ended.{Ended}

@@ -10,7 +10,7 @@ use Rattle.ib_layout.specs.Places.{words_of, latches_of, drawn_place}
 use Rattle.ib_logrec.specs.declared.entry.Entry.{Entry}
 use Rattle.ib_logrec.specs.Log.{by_place}
 use Rattle.ib_core.specs.declared.session.Session.{Session}
-use Rattle.ib_core.proofs.Places.{at_set, sum_at}
+use Rattle.ib_core.proofs.Elements.{at_set, sum_at}
 use Rattle.ib_rule.specs.declared.view.Role.{Role}
 use Rattle.ib_rule.specs.declared.looks.Looks.{Looks}
 use Rattle.ib_rule.specs.declared.memory.Since.{Since}

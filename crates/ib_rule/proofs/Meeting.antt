@@ -16,7 +16,7 @@ use Rattle.ib_logrec.specs.declared.entry.Entry.{Entry}
 use Rattle.ib_logrec.specs.Log.{by_place, log_words, used}
 use Rattle.ib_logrec.proofs.LogLaws.{log_words-append}
 use Rattle.ib_core.specs.Sessions.{idle}
-use Rattle.ib_core.proofs.Places.{at_set, set_again, set_else, sum_at}
+use Rattle.ib_core.proofs.Elements.{at_set, set_again, set_else, sum_at}
 use Rattle.ib_core.proofs.Turned.{choose}
 use Rattle.ib_rule.specs.declared.kind.StepKind.TheVariants.{Meet}
 use Rattle.ib_rule.specs.declared.memory.OpenAppend.{OpenAppend}

@@ -28,7 +28,7 @@ use Rattle.ib_core.specs.Good.{IsGood, IsProper}
 use Rattle.ib_core.proofs.OnLatch.{counted}
 use Rattle.ib_core.proofs.Phased.{with_phase}
 use Rattle.ib_core.proofs.Totals.{taken_bound}
-use Rattle.ib_core.proofs.Places.{at_set, set_here, sum_at, one_of}
+use Rattle.ib_core.proofs.Elements.{at_set, set_here, sum_at, one_of}
 use Rattle.ib_core.proofs.Turned.{choose}
 use Rattle.ib_core.specs.declared.latch_word.LatchWord.{LatchWord}
 use Rattle.ib_core.specs.declared.latch_word.LatchWord.TheVariants.{Lock, Waiters, Writer, Generation, ExGeneration}

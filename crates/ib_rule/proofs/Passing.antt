@@ -47,9 +47,9 @@ pub pass_turned : (p q : Inside) (e : Event) (n : ℕ) (answer : Answer) (looks 
     → answered answer q.member.session ≡ response_of (word_in n) (marks_found n) e p.member.session
     → q.grants ≡ with_grant (won answer (wish_of p.member.session.phase e)) p.grants
     → q.member.latches ≡ p.member.latches → q.geometry ≡ p.geometry
-    → q.number ≡ p.number → q.place ≡ p.place → q.used ≡ p.used → q.made ≡ p.made → q.looked_after ≡ p.looked_after → q.words ≡ p.words → q.desk ≡ p.desk
+    → q.number ≡ p.number → q.place ≡ p.place → q.used ≡ p.used → q.made ≡ p.made → q.looked_after ≡ p.looked_after → q.words ≡ p.words → q.holder ≡ p.holder
     → IsPass q
-pass_turned p q e n answer looks is plain view proper known few taken turn counts latches geometry number place used_is made looked_after words desk =
+pass_turned p q e n answer looks is plain view proper known few taken turn counts latches geometry number place used_is made looked_after words holder =
     let seen : q.seat.me.0.memory.seen ≡ p.seat.me.0.memory.seen = ap (λ (v : View). v.memory.seen) view in
     let own : q.seat.me.0.memory.own ≡ p.seat.me.0.memory.own = ap (λ (v : View). v.memory.own) view in
     let turn' : answered answer q.member.session ≡ response_of (word_in n) (marks_found n) e p.seat.me.0.session = turn ∙ ap (λ (a : Session). response_of (word_in n) (marks_found n) e a) is.session in
@@ -73,13 +73,13 @@ pass_turned p q e n answer looks is plain view proper known few taken turn count
       few = few;
       taken = let one : sessions_in q.seat.me.0.role ≡ 1 = ap sessions_in role in omega arith;
       sized = rw words is.sized;
-      desk = rw desk is.desk;
+      holder = rw holder is.holder;
     }
 
 -- a pass whose seat knows more of the log and the pages, with its mirrors of that
 pub pass_knows : (p q : Inside) (m : Knowledge) → IsPass p → q.seat.me ≡ (with_memory m p.seat.me.0, p.seat.me.1) → KnowsHeld q.seat.me.0 → q.place ≡ length m.seen → q.used ≡ used m.seen → q.made ≡ length m.own → IsFront p.geometry m
-    → q.geometry ≡ p.geometry → q.number ≡ p.number → q.member ≡ p.member → q.grants ≡ p.grants → q.words ≡ p.words → q.desk ≡ p.desk → IsWatching q.looked_after q.seat.me.0 → IsPass q
-pass_knows p q m is same known place used_is made front geometry number member grants_are words desk watches =
+    → q.geometry ≡ p.geometry → q.number ≡ p.number → q.member ≡ p.member → q.grants ≡ p.grants → q.words ≡ p.words → q.holder ≡ p.holder → IsWatching q.looked_after q.seat.me.0 → IsPass q
+pass_knows p q m is same known place used_is made front geometry number member grants_are words holder watches =
     let view : q.seat.me.0 ≡ with_memory m p.seat.me.0 = ap (λ (m : Me (Unit {0}) View). m.0) same in record {
       plain = ap (λ (m : Me (Unit {0}) View). m.1) same ∙ is.plain;
       role = ap (λ (v : View). v.role) view ∙ (is.role ∙ ap (λ (k : ℕ). Seated k) (sym number));
@@ -97,7 +97,7 @@ pass_knows p q m is same known place used_is made front geometry number member g
       few = subst (λ a. (l : ℕ) → grants l a ≤ MOST_HELD) (sym (ap (λ (v : View). v.session) view)) is.few;
       taken = subst (λ g. total g ≤ 2 ^ 52) (sym (ap (λ (v : View). v.grants) view)) is.taken;
       sized = rw words is.sized;
-      desk = rw desk is.desk;
+      holder = rw holder is.holder;
     }
 
 -- of two lists, by their entries and words, the longer one

@@ -15,7 +15,7 @@ use denote.Builtin.{unit}
 use Rattle.atomic_table.specs.contracts.shared.Seat as seat
 use Rattle.atomic_table.proofs.Fields.{token_val, token_told}
 use Rattle.ib_rule.specs.contracts.view.View as view
-use Rattle.ib_rule.specs.contracts.rest.Rest as rest
+use Rattle.ib_rule.specs.contracts.own_seat.OwnSeat as rest
 
 abbrev pub Nothing : RattleType
 Nothing = unit

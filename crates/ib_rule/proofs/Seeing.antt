@@ -21,7 +21,7 @@ use Rattle.ib_logrec.specs.declared.entry.Entry.{Entry}
 use Rattle.ib_logrec.specs.Log.{by_place, memory_after, log_words, used}
 use Rattle.ib_logrec.proofs.LogLaws.{log_words-append}
 use Rattle.ib_core.specs.Sessions.{claims, holdings}
-use Rattle.ib_core.proofs.Places.{same_at}
+use Rattle.ib_core.proofs.Elements.{same_at}
 use Rattle.ib_core.proofs.Turned.{choose}
 use Rattle.ib_rule.specs.declared.kind.StepKind.TheVariants.{LoadPage, LoadEnd, LoadLog}
 use Rattle.ib_rule.specs.declared.memory.Since.{Since}

@@ -17,7 +17,7 @@ use Rattle.ib_core.specs.declared.session.Session.{Session}
 use Rattle.ib_core.specs.Sessions.{idle, taken, grants}
 use Rattle.ib_core.specs.Good.{IsGood}
 use Rattle.ib_core.proofs.Opened.{good_push, good_idle}
-use Rattle.ib_core.proofs.Places.{at_set, at_snoc, at_longer, set_again, set_else, sum_at, one_of, two_of, only_one}
+use Rattle.ib_core.proofs.Elements.{at_set, at_snoc, at_longer, set_again, set_else, sum_at, one_of, two_of, only_one}
 use Rattle.ib_rule.specs.declared.view.Role.{Role}
 use Rattle.ib_rule.specs.declared.view.Role.TheVariants.{Space, Fresh, Session as Seated, Note, Spent}
 use Rattle.ib_rule.specs.declared.view.Ended.{Ended}

@@ -17,7 +17,7 @@ use Rattle.ib_core.specs.declared.session.Session.{Session}
 use Rattle.ib_core.specs.Sessions.{reads, claims, holdings}
 use Rattle.ib_core.specs.Good.{IsProper}
 use Rattle.ib_core.proofs.OnLatch.{counted}
-use Rattle.ib_core.proofs.Places.{at_set, set_else, same_at, sum_at}
+use Rattle.ib_core.proofs.Elements.{at_set, set_else, same_at, sum_at}
 use Rattle.atomic_table.proofs.Lists.{at_map}
 use Rattle.std.proofs.lemmas.List.{map-set}
 use Rattle.ib_core.proofs.Turned.{choose}
@@ -82,7 +82,7 @@ view_part sizes lawful opening words ws log views id v w part at same drawn foll
   logged = λ u h. same (log_place sizes u) (inr (omega arith)) ∙ part.logged u h;
   paged = λ q h none. same (base sizes + q) (inr (omega arith)) ∙ part.paged q h (λ i u e. dite (ℕ_discrete id i)
       (λ here. let is : u ≡ v = same_at views id u v (subst (λ i. get_elem? views i ≡ some u) (sym here) e) at in
-      subst (λ (u : View). stored_in u.memory.append q ≡ false) (sym is) (closed q (none id w (Rattle.ib_core.proofs.Places.set_here views id v w at))))
+      subst (λ (u : View). stored_in u.memory.append q ≡ false) (sym is) (closed q (none id w (Rattle.ib_core.proofs.Elements.set_here views id v w at))))
       (λ away. none i u (set_else views id i w away ∙ e)));
   follows = at_set (λ _ u. Follows sizes lawful opening ws log (session_number_of u.role) u.session u.memory) views id w
       (follows_words sizes lawful opening words ws same log (session_number_of w.role) w.session w.memory follows)

@@ -26,7 +26,7 @@ use Rattle.ib_core.specs.declared.session.Session.{Session}
 use Rattle.ib_core.specs.Sessions.{claims, holdings}
 use Rattle.ib_core.specs.Good.{IsGood}
 use Rattle.ib_core.specs.Debts.{debt}
-use Rattle.ib_core.proofs.Places.{at_set, set_here, set_else, same_at, sum_at}
+use Rattle.ib_core.proofs.Elements.{at_set, set_here, set_else, same_at, sum_at}
 use Rattle.ib_rule.specs.declared.view.Role.{Role}
 use Rattle.ib_rule.specs.declared.view.Ended.{Ended}
 use Rattle.ib_rule.specs.declared.view.View.{View}

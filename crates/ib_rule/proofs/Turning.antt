@@ -28,7 +28,7 @@ use Rattle.ib_core.specs.Good.{IsGood, IsProper}
 use Rattle.ib_core.proofs.EachTurn.{turn_kept}
 use Rattle.ib_core.proofs.Near.{Near, near_response, all_grants}
 use Rattle.ib_core.proofs.OnLatch.{weighs}
-use Rattle.ib_core.proofs.Places.{at_set, set_again, set_here, sum_at, sum_more}
+use Rattle.ib_core.proofs.Elements.{at_set, set_again, set_here, sum_at, sum_more}
 use Rattle.ib_core.specs.declared.latch_word.LatchWord.{LatchWord}
 use Rattle.ib_core.specs.declared.latch_word.LatchWord.TheVariants.{Lock, Waiters, Writer, Generation, ExGeneration}
 use Rattle.ib_rule.specs.declared.view.Role.{Role}

@@ -4,7 +4,7 @@ use Rattle.std.specs.Prelude.{IsTrue}
 use Rattle.std.specs.Result.{is_ok}
 use Rattle.ib_levels.specs.declared.level.Level.{Level}
 use Rattle.ib_levels.specs.declared.listed.Against.{Against}
-use Rattle.ib_levels.specs.Level.{MayTake, first_against}
+use Rattle.ib_levels.specs.Level.{MayFollowAll, first_against}
 use Rattle.ib_levels.specs.Holding.{is_held, levels_of}
 use Rattle.ib_levels.specs.Listed.{answer_to, refused_by}
 use Rattle.ib_levels.proofs.Counts.{none_from_unheld, unheld_from_none}
@@ -14,7 +14,7 @@ use Rattle.ib_core.specs.declared.session.Session.{Session}
 use Rattle.ib_core.specs.Holders.{CanWish}
 
 module _ (l : ℕ) (v : Level) (a : Session) where
-  allowed_by : (o : Option Level) → first_against v (levels_of a.held) ≡ o → IsTrue (is_ok (refused_by v o)) ↔ MayTake v (levels_of a.held)
+  allowed_by : (o : Option Level) → first_against v (levels_of a.held) ≡ o → IsTrue (is_ok (refused_by v o)) ↔ MayFollowAll v (levels_of a.held)
   allowed_by None is = (λ _. may_from_none v (levels_of a.held) is, λ _. refl)
   allowed_by (Some held) is = (λ ok. absurd (cc), λ may. let none = none_from_may v (levels_of a.held) may in absurd (cc))
 

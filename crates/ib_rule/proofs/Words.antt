@@ -11,7 +11,7 @@ use Rattle.ib_layout.specs.Geometry.{Sizes}
 use Rattle.ib_layout.specs.Places.{lock_place, waiters_place, writer_place, gen_place, ex_gen_place, words_of, latches_of}
 use Rattle.ib_core.specs.declared.session.Session.{Session}
 use Rattle.ib_core.specs.Sessions.{word_on}
-use Rattle.ib_core.proofs.Places.{set_again}
+use Rattle.ib_core.proofs.Elements.{set_again}
 use Rattle.ib_core.specs.declared.latch_word.LatchWord.{LatchWord}
 use Rattle.ib_core.specs.declared.latch_word.LatchWord.TheVariants.{Lock, Waiters, Writer, Generation, ExGeneration}
 use Rattle.ib_rule.specs.Steps.{latch_word_place}

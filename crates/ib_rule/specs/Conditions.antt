@@ -1,5 +1,5 @@
 -- What a session may do: the conditions of the steps on latches, and the event that each is.
-use Rattle.std.specs.Prelude.{◌≡◌, ◌⊎◌, ℕ, ◌+◌, ◌^◌, ◌<◌, ◌==◌, if◌then◌else◌, sum_by, Option, Some, None, Result, Ok, Err}
+use Rattle.std.specs.Prelude.{◌≡◌, ◌⊎◌, ℕ, ◌+◌, ◌^◌, ◌<◌, ◌≤◌, ◌==◌, if◌then◌else◌, sum_by, Option, Some, None, Result, Ok, Err}
 use Rattle.ib_word.specs.Word.{cell_of}
 use Rattle.ib_word.specs.declared.word.LockWord.{LockWord}
 use Rattle.ib_levels.specs.declared.level.Level.{Level}
@@ -17,6 +17,7 @@ use Rattle.ib_core.specs.Debts.{wish_of, won, grants_won}
 use Rattle.ib_core.specs.Holders.{CanWish}
 use Rattle.ib_rule.specs.declared.kind.StepKind.{StepKind}
 use Rattle.ib_rule.specs.declared.kind.StepKind.TheVariants.{Turn, Recheck, Look}
+use Rattle.ib_rule.specs.declared.pass.TheConstants.{MOST_HELD}
 use Rattle.ib_rule.specs.declared.view.View.{View}
 use Rattle.ib_rule.specs.Views.{total}
 
@@ -24,9 +25,16 @@ use Rattle.ib_rule.specs.Views.{total}
 abbrev pub held_now : Session → ℕ
 held_now a = sum_by (λ h. h.s + h.sx + h.x) a.held
 
+-- one grant more may be taken, or so many, of the 2 ^ 52 that a session may ever take
+abbrev pub HasGrantLeft : View → Type 0
+HasGrantLeft v = total v.grants < 2 ^ 52
+
+abbrev pub HasGrantsLeft : ℕ → View → Type 0
+HasGrantsLeft n v = total v.grants + n ≤ 2 ^ 52
+
 -- it may take a grant: it holds few enough now, and has taken few enough ever
 abbrev pub MayGrow : View → Type 0
-MayGrow v = (total v.grants < 2 ^ 52) × (held_now v.session < 8192)
+MayGrow v = HasGrantLeft v × (held_now v.session < MOST_HELD)
 
 -- SX or X may be wished for on the latch: nothing is read there, and where nothing is held there the latch may be taken at the level
 pub record MayClaim (l : ℕ) (v : Level) (a : Session) : Type 0 where
@@ -35,7 +43,7 @@ pub record MayClaim (l : ℕ) (v : Level) (a : Session) : Type 0 where
 
 -- the event at the word takes no grant, or there is room for one
 abbrev pub CanTake : Event → View → ℕ → Type 0
-CanTake e v n = (grants_won (won (turn_at e n v.session).answer (wish_of v.session.phase e)) ≡ 0) ⊎ ((total v.grants < 2 ^ 52) × (grants (latch_of e) v.session < 8192))
+CanTake e v n = (grants_won (won (turn_at e n v.session).answer (wish_of v.session.phase e)) ≡ 0) ⊎ (HasGrantLeft v × (grants (latch_of e) v.session < MOST_HELD))
 
 -- the word that an exchange found
 abbrev pub found_by : {A : Type 0} → Result A LockWord → LockWord → ℕ

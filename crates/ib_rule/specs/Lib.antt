@@ -8,12 +8,12 @@ pub mod Stores
 pub mod Told
 pub mod Conditions
 pub mod Space
-pub mod Desk
+pub mod ScratchHolder
 pub mod Pass
 pub mod Gauges
 pub mod Turns
 pub mod Afterwards
-pub mod Room
+pub mod PassMemory
 pub mod Closed
 pub mod Laws
 pub mod Lending

@@ -15,7 +15,7 @@ use Rattle.ib_rule.specs.declared.pass.Pass.TheInside.{Inside}
 use Rattle.ib_rule.specs.declared.memory.Knowledge.{Knowledge}
 use Rattle.ib_rule.specs.declared.view.Role.TheVariants.{Session}
 use Rattle.ib_rule.specs.declared.view.View.{View}
-use Rattle.ib_rule.specs.Desk.{IsDesk, desk_state}
+use Rattle.ib_rule.specs.ScratchHolder.{IsScratchHolder, holder_state}
 use Rattle.ib_rule.specs.Views.{total, KnowsHeld, is_watched}
 use Rattle.ib_rule.specs.Space.{SpaceState}
 
@@ -52,7 +52,7 @@ pub record IsAtRest (space : SpaceState) (p : PassState) : Type 0 where
   pub scratch : p.has_scratch ≡ true
 
 abbrev pub pass_state : Inside → PassState
-pass_state p = let d = desk_state p.desk in record { table = p.seat.table_id; sizes = p.geometry; number = p.number; view = p.seat.me.0; has_scratch = d.is_free; is_working = d.is_taken; work = d.work; memo = d.memo; words = p.words.items }
+pass_state p = let d = holder_state p.holder in record { table = p.seat.table_id; sizes = p.geometry; number = p.number; view = p.seat.me.0; has_scratch = d.is_free; is_working = d.is_taken; work = d.work; memo = d.memo; words = p.words.items }
 
 -- what is seen fits the log, has at least a word for each entry, and has the session's own entries
 pub record IsFront (sizes : Sizes) (m : Knowledge) : Type 0 where
@@ -83,4 +83,4 @@ pub record IsPass (p : Inside) : Type 0 where
   pub few : (l : ℕ) → grants l p.seat.me.0.session ≤ MOST_HELD
   pub taken : total p.seat.me.0.grants ≤ 2 ^ 52
   pub sized : vec_len p.words ≡ ENTRY_WORDS
-  pub desk : IsDesk p.desk
+  pub holder : IsScratchHolder p.holder

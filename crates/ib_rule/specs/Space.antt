@@ -3,7 +3,7 @@ use Rattle.std.specs.Prelude.{◌≡◌, ℕ, ◌≤◌, List, [], length, Optio
 use Rattle.atomic_table.specs.Seated.{TableId}
 use Rattle.ib_layout.specs.Geometry.{Sizes}
 use Rattle.ib_layout.specs.Places.{words_of}
-use Rattle.ib_rule.specs.declared.rest.Rest.{Rest}
+use Rattle.ib_rule.specs.declared.own_seat.OwnSeat.{OwnSeat}
 use Rattle.ib_rule.specs.declared.space.Space.TheInside.{Inside}
 use Rattle.ib_rule.specs.declared.view.Ended.{Ended}
 use Rattle.ib_rule.specs.Roles.{ended_in}
@@ -17,7 +17,7 @@ pub record SpaceState : Type 0 where
   pub ended : List Ended
 
 -- the ended sessions of the space's own seat
-abbrev pub rest_ended : Option Rest → List Ended
+abbrev pub rest_ended : Option OwnSeat → List Ended
 rest_ended None = []
 rest_ended (Some r) = ended_in r.seat.me.0.role
 
@@ -25,7 +25,7 @@ abbrev pub space_state : {L : Type 0} → Inside L → SpaceState
 space_state p = record { table = p.table.shared.table_id; sizes = p.geometry; drawn = p.drawn; ended = rest_ended p.rest }
 
 -- the seat is at rest, with the space's view
-abbrev pub Rests : TableId → ℕ → Option Rest → Type 0
+abbrev pub Rests : TableId → ℕ → Option OwnSeat → Type 0
 Rests t drawn None = ⊥
 Rests t drawn (Some r) = (r.seat.table_id ≡ t) × (r.seat.me ≡ (space_at drawn (ended_in r.seat.me.0.role) r.seat.me.0.grants, []))
 

@@ -71,7 +71,7 @@ impl<L: Law> Space<L> {
             × IsClosed L.lawful L.opening self.sizes c.words self.ended) }
         ensures err { IfErr result (λ e. e.space ≡ self) }
     {
-        // Room for the whole log, of which the used words alone are touched.
+        // PassMemory for the whole log, of which the used words alone are touched.
         let Ok(mut log) = Vec::with_capacity(alloc, self.geometry.log_words() as usize) else {
             return Err(SpaceCloseRefused { space: self });
         };

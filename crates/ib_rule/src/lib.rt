@@ -4,20 +4,20 @@
 #![tactic(auto)]
 
 mod closed;
-mod desk;
 mod kind;
 mod laws;
 mod loads;
 mod looks;
 mod memory;
 mod mirror;
+mod own_seat;
 mod pass;
+mod pass_memory;
 mod readers;
 mod releases;
-mod rest;
-mod room;
 mod rule;
 mod scratch;
+mod scratch_holder;
 mod seats;
 mod sleeping;
 mod space;

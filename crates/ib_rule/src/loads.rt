@@ -53,7 +53,7 @@ impl<L: Law> Space<L> {
             pass.old.view.memory.seen (word_place page index) }
     {
         let geometry = self.geometry;
-        // The places of page words fit 32 bits.
+        // For the proof: the places of page words fit 32 bits.
         let _ = geometry.pages();
         act::<L, Brand>(
             &self.table.shared,
@@ -77,7 +77,7 @@ impl<L: Law> Space<L> {
             PAGE_WORDS pass.old.view }
     {
         let geometry = self.geometry;
-        // The places of page words fit 32 bits.
+        // For the proof: the places of page words fit 32 bits.
         let _ = geometry.pages();
         let first = geometry.page_place(page, 0);
         load_words(&self.table.shared, &mut pass.seat, page, first, out);
@@ -115,7 +115,7 @@ impl<L: Law> Space<L> {
         ensures end { result
             ≡ length pass.new.view.memory.seen * 2 ^ 32 + used pass.new.view.memory.seen }
     {
-        // The words of the log fit 32 bits.
+        // For the proof: the words of the log fit 32 bits.
         let _ = pass.geometry.log_words();
         let end = act::<L, Brand>(
             &self.table.shared,

@@ -14,9 +14,9 @@ ghost use Rattle.ib_rule.specs.Lending.{LendsWords};
 ghost use Rattle.ib_rule.specs.declared.pass.TheConstants.{ENTRY_WORDS};
 ghost use Rattle.std.specs.Borrow.{sem};
 
-use crate::desk::Desk;
 use crate::looks::Grants;
 use crate::scratch::Scratch;
+use crate::scratch_holder::ScratchHolder;
 use crate::view::View;
 use atomic_table::Seat;
 use ib_core::{Member, Phase};
@@ -55,7 +55,7 @@ pub struct Pass {
     // How many grants it had taken at its last look at the log's end.
     pub(crate) looked_after: u64,
     pub(crate) words: Vec<u64>,
-    pub(crate) desk: Desk,
+    pub(crate) holder: ScratchHolder,
 }
 
 impl Model for Pass {
@@ -223,7 +223,7 @@ impl Pass {
         ensures out { self.new ≡ record self.old { has_scratch = false } }
         ensures rests { self.new.is_working ≡ false }
     {
-        self.desk.take()
+        self.holder.take()
     }
 
     /// The scratch is in the pass again, emptied. No mini-transaction works there.
@@ -236,7 +236,7 @@ impl Pass {
         let Scratch { mut work, mut memo } = scratch;
         work.clear();
         memo.clear();
-        self.desk = Desk::free(Scratch { work, memo });
+        self.holder = ScratchHolder::free(Scratch { work, memo });
     }
 }
 
@@ -258,7 +258,7 @@ impl Pass {
             made: _,
             looked_after: _,
             words: _,
-            desk: _,
+            holder: _,
         } = self;
         seat
     }

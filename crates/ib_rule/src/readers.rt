@@ -1,9 +1,9 @@
 //! What a caller asks of a pass before a call, who does not prove that the call's conditions hold.
 
-ghost use Rattle.std.specs.Prelude.{◌≡◌, ◌↔◌, ◌+◌, ◌*◌, ◌≤◌, ◌^◌, true, IsTrue};
+ghost use Rattle.std.specs.Prelude.{◌≡◌, ◌↔◌, ◌+◌, ◌*◌, ◌^◌, true, IsTrue};
 ghost use Rattle.ib_core.specs.Sessions.{idle};
 ghost use Rattle.ib_rule.specs.declared.readers.TheConstants.{CALL_GRANTS, CHUNK_GRANTS};
-ghost use Rattle.ib_rule.specs.Conditions.{MayClaim};
+ghost use Rattle.ib_rule.specs.Conditions.{HasGrantsLeft, MayClaim};
 ghost use Rattle.ib_rule.specs.Views.{is_watched, total};
 
 use crate::looks::Grants;
@@ -26,7 +26,7 @@ impl Pass {
     pub fn may_call(&self) -> bool
         ensures { IsTrue result ↔ ((self.now.view.session ≡ idle)
             × (self.now.has_scratch ≡ true)
-            × (total self.now.view.grants + CALL_GRANTS ≤ 2 ^ 52)) }
+            × (HasGrantsLeft CALL_GRANTS self.now.view)) }
     {
         self.is_idle() && self.has_scratch() && self.grants_left() >= CALL_GRANTS
     }
@@ -35,7 +35,7 @@ impl Pass {
     pub fn may_scan(&self, chunks: usize) -> bool
         ensures { IsTrue result ↔ ((self.now.view.session ≡ idle)
             × (self.now.has_scratch ≡ true)
-            × (total self.now.view.grants + CHUNK_GRANTS * chunks + CHUNK_GRANTS ≤ 2 ^ 52)) }
+            × (HasGrantsLeft (CHUNK_GRANTS * chunks + CHUNK_GRANTS) self.now.view)) }
     {
         self.is_idle() && self.has_scratch() && (chunks as u64) < self.grants_left() / CHUNK_GRANTS
     }

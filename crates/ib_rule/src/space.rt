@@ -11,9 +11,9 @@ ghost use Rattle.ib_rule.specs.Opening.{AreFreed, AreOpened};
 ghost use Rattle.ib_rule.specs.Views.{ended_as, longer};
 ghost use Rattle.ib_rule.specs.Pass.{IsAtRest, IsFrom};
 
+use crate::own_seat::OwnSeat;
 use crate::pass::Pass;
-use crate::rest::Rest;
-use crate::room::Room;
+use crate::pass_memory::PassMemory;
 use crate::rule::Ruled;
 use crate::seats::{draw, leave, tell};
 use crate::view::View;
@@ -37,7 +37,7 @@ const _: () = prove!(MOST_SESSIONS == ib_core::MOST_SESSIONS);
 /// not dropped but closed.
 pub struct Space<L: Law> {
     pub(crate) table: Table<(), View, Geometry, Ruled<L>, Global>,
-    pub(crate) rest: Option<Rest>,
+    pub(crate) rest: Option<OwnSeat>,
     pub(crate) geometry: Geometry,
     pub(crate) drawn: u32,
     pub(crate) ended: u32,
@@ -65,7 +65,7 @@ pub enum ConnectFault {
 }
 
 // The seat, out of its place.
-fn take_out(rest: &mut Option<Rest>) -> Seat<(), View>
+fn take_out(rest: &mut Option<OwnSeat>) -> Seat<(), View>
     requires { IsSome rest.old }
     ensures seat { rest.old ≡ Some record { seat = result } }
     ensures none { rest.new ≡ None }
@@ -76,11 +76,11 @@ fn take_out(rest: &mut Option<Rest>) -> Seat<(), View>
     rest.into_seat()
 }
 
-fn put_back(rest: &mut Option<Rest>, seat: Seat<(), View>)
+fn put_back(rest: &mut Option<OwnSeat>, seat: Seat<(), View>)
     requires { rest.old ≡ None }
     ensures { rest.new ≡ Some record { seat = seat } }
 {
-    if let Some(other) = rest.replace(Rest::new(seat)) {
+    if let Some(other) = rest.replace(OwnSeat::new(seat)) {
         drop(other.into_seat());
     }
 }
@@ -143,7 +143,7 @@ impl<L: Law> Space<L> {
         let (table, seat) = Table::of_words(alloc, words.as_slice(), &geometry)?;
         Ok(Space {
             table,
-            rest: Some(Rest::new(seat)),
+            rest: Some(OwnSeat::new(seat)),
             geometry,
             drawn: 0,
             ended: 0,
@@ -183,7 +183,7 @@ impl<L: Law> Space<L> {
             return Err(ConnectFault::TooManySessions { drawn: self.drawn });
         }
         let geometry = self.geometry;
-        let Ok(room) = Room::new(alloc, geometry.pages() + 2) else {
+        let Ok(room) = PassMemory::new(alloc, geometry.pages() + 2) else {
             return Err(ConnectFault::OutOfMemory);
         };
         let mut own = take_out(&mut self.rest);
@@ -213,7 +213,7 @@ impl<L: Law> Space<L> {
         requires from { IsFrom self.now from.old }
         ensures { under_lawful L.Law self.now HasMet to.old from.old to.new from.new }
     {
-        // The law of logs speaks of the numbers of pages that a space has.
+        // For the proof: the law of logs speaks of the numbers of pages that a space has.
         let _ = self.geometry.pages();
         tell(&self.table.shared, &mut to.seat, &mut from.seat);
         let front = further((to.place, to.used), (from.place, from.used));

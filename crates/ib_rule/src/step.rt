@@ -84,6 +84,7 @@ pub(crate) fn act<L: Law, T: Naming>(
     ensures told { tells L.lawful L.opening shared.now.key T.entry kind (run op) seat.old.me
         result seat.new.me }
 {
+    // For the proof: the contract alone speaks of it.
     let _ = kind;
     match op {
         WordOp::Load => shared.load::<Tells<T, L>>(seat, word),
@@ -119,6 +120,7 @@ pub(crate) fn store<L: Law, T: Naming>(
     ensures told { (n : ℕ) × tells L.lawful L.opening shared.now.key (entry_in words.now) kind
         (λ _. value) seat.old.me n seat.new.me }
 {
+    // For the proof: the contract alone speaks of it.
     let _ = words;
     act::<L, T>(shared, seat, word, WordOp::Swap(value), kind);
 }

@@ -34,7 +34,7 @@ impl<L: Law> Space<L> {
             (storing_page (entry_of pass.old) (word_place page index) pass.old.view) }
     {
         let geometry = self.geometry;
-        // The places of page words fit 32 bits.
+        // For the proof: the places of page words fit 32 bits.
         let _ = geometry.pages();
         store::<L, Brand>(
             &self.table.shared,
@@ -76,7 +76,7 @@ impl<L: Law> Space<L> {
         requires stored { AllStored (entry_of pass.old) pass.old.view.memory.append }
         ensures { pass.new ≡ with_view pass.old (appending (entry_of pass.old) pass.old.view) }
     {
-        // The words of the log fit 32 bits.
+        // For the proof: the words of the log fit 32 bits.
         let _ = pass.geometry.log_words();
         let length = entry_length(pass.words.as_slice());
         let end = (u64::from(pass.place) + 1) * (1 << 32) + u64::from(pass.used + length);

@@ -7,9 +7,9 @@ ghost use Rattle.ib_rule.specs.declared.pass.TheConstants.{MOST_HELD};
 ghost use Rattle.ib_rule.specs.Lending.{LendsWork};
 ghost use Rattle.ib_rule.specs.Views.{KnowsHeld};
 
-use crate::desk::Desk;
 use crate::pass::Pass;
 use crate::scratch::Scratch;
+use crate::scratch_holder::ScratchHolder;
 use ib_levels::{Latch, Mode};
 use ib_page::WorkSet;
 
@@ -18,14 +18,14 @@ impl Pass {
     pub fn has_scratch(&self) -> bool
         ensures { result ≡ self.now.has_scratch }
     {
-        self.desk.is_free()
+        self.holder.is_free()
     }
 
     /// Whether a mini-transaction works in the scratch.
     pub fn is_working(&self) -> bool
         ensures { result ≡ self.now.is_working }
     {
-        self.desk.is_taken()
+        self.holder.is_taken()
     }
 
     /// A mini-transaction works in the scratch from then on (mtr0mtr, `mtr_t::start`): its memo and
@@ -41,7 +41,7 @@ impl Pass {
         } }
         ensures session { IsProper self.old.view.session }
     {
-        self.desk.begin();
+        self.holder.begin();
     }
 
     /// The room of the mini-transaction, with its pages and its grants, which is out of the pass until
@@ -55,7 +55,7 @@ impl Pass {
         ensures out { self.new ≡ record self.old { is_working = false; work = []; memo = [] } }
         ensures bare { self.old.has_scratch ≡ false }
     {
-        self.desk.leave()
+        self.holder.leave()
     }
 
     /// The mini-transaction works on in this room, with the pages and the grants that are in it.
@@ -70,7 +70,7 @@ impl Pass {
           memo = room.memo.items;
         } }
     {
-        self.desk = Desk::taken(room);
+        self.holder = ScratchHolder::taken(room);
     }
 
     /// The mini-transaction ends, with nothing in its memo: its pages are gone, and the scratch is
@@ -86,7 +86,7 @@ impl Pass {
         } }
         ensures known { KnowsHeld self.old.view }
     {
-        self.desk.end();
+        self.holder.end();
     }
 
     /// The grants that the mini-transaction remembers, in order of taking. None where none works.
@@ -94,7 +94,7 @@ impl Pass {
     pub fn memo(&self) -> &[(Latch, Mode)]
         ensures { result.now ≡ self.now.memo }
     {
-        self.desk.memo()
+        self.holder.memo()
     }
 
     /// The mini-transaction remembers one more grant, behind the others. It remembers fewer than
@@ -106,7 +106,7 @@ impl Pass {
         ensures more { self.new ≡ record self.old { memo = self.old.memo ++ (latch, mode) ∷ [] } }
         ensures session { IsProper self.old.view.session }
     {
-        self.desk.remember(latch, mode);
+        self.holder.remember(latch, mode);
     }
 
     /// The mini-transaction forgets the grant at a place of its memo, from 0 on, and those behind it
@@ -119,7 +119,7 @@ impl Pass {
         ensures fewer { self.new ≡ record self.old { memo = remove self.old.memo at } }
         ensures session { IsProper self.old.view.session }
     {
-        self.desk.forget_at(at)
+        self.holder.forget_at(at)
     }
 
     /// The pages that the mini-transaction works on.
@@ -128,7 +128,7 @@ impl Pass {
         requires { IsTrue self.now.is_working }
         ensures { result.now ≡ self.now.work }
     {
-        self.desk.work()
+        self.holder.work()
     }
 
     /// The same, lent to be changed.
@@ -138,6 +138,6 @@ impl Pass {
         ensures* lends { sem 𝓛 (LendsWork self.entry result) }
         ensures work { result.now ≡ self.old.work }
     {
-        self.desk.work_mut()
+        self.holder.work_mut()
     }
 }

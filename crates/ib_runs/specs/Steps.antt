@@ -1,5 +1,5 @@
 -- The steps of a session's run.
-use Rattle.std.specs.Prelude.{◌≡◌, ◌⊎◌, ℕ, ◌+◌, ◌*◌, ◌^◌, ◌<◌, ◌≤◌, List, [], ◌∷◌, ◌++◌, length}
+use Rattle.std.specs.Prelude.{◌≡◌, ◌⊎◌, ℕ, ◌+◌, ◌*◌, ◌<◌, ◌≤◌, List, [], ◌∷◌, ◌++◌, length}
 use Rattle.std.specs.List.{AllByRecursion, filter_map}
 use Rattle.ib_map.specs.Keys.{MapKey, rank}
 use Rattle.ib_map.specs.Chunks.{HeldChunks, spans_of}
@@ -17,6 +17,7 @@ use Rattle.ib_tree.specs.Logs.{pages_after}
 use Rattle.ib_tree.specs.Scans.{AreFront, AreWhole}
 use Rattle.ib_tree.specs.TreeLog.{opening}
 use Rattle.ib_planned_log.specs.Kept.{IsKeptLog}
+use Rattle.ib_rule.specs.Conditions.{HasGrantsLeft}
 use Rattle.ib_rule.specs.Pass.{PassState, IsAtRest}
 use Rattle.ib_rule.specs.Space.{SpaceState}
 use Rattle.ib_rule.specs.Views.{total}
@@ -35,7 +36,7 @@ pub record KeptLaws (sizes : Sizes) : Type 0 where
 pub record MayAnswer (space : SpaceState) (chunks : HeldChunks) (p : PassState) : Type 0 where
   pub rest : IsAtRest space p
   pub known : IsKnown space.sizes (IsKeptLog space.sizes.pages) p
-  pub few : total p.view.grants + most_scan_grants ≤ 2 ^ 52
+  pub few : HasGrantsLeft most_scan_grants p.view
   pub room : chunks.chunk_room ≤ SCAN_CHUNKS
 
 -- .. and afterwards it is the same session, at rest again, with no more chunk places spare

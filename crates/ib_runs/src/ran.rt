@@ -77,6 +77,7 @@ pub(crate) fn read_off(
     ensures { (log : List Entry) → HasLog sizes closed.now.words log
         → IfOk result (λ found. IsReadOff sizes log found.0.items found.1) }
 {
+    // For the proof: the law of kept logs, at the sizes of the space.
     KeptLaw::trees_law();
     let pages = sizes.pages();
     let _ = sizes.log_words();

@@ -26,9 +26,10 @@ pub const SCAN_PAIRS: usize = 4096;
 const _: () = prove!(SCAN_CHUNKS == 64 && SCAN_PAIRS == 4096);
 
 // What kept logs say of the tree of the index.
-fn laws_of(index: &Index)
+fn facts_of_kept_logs(index: &Index)
     ensures { KeptLaws index.now.sizes }
 {
+    // For the proof: the law of kept logs, at the sizes of the space.
     KeptLaw::trees_law();
     let sizes = index.latches().space().geometry();
     let _ = sizes.pages();
@@ -52,7 +53,7 @@ fn read_all<R: Wait>(
     if is_below(high, low) {
         return Ok(());
     }
-    laws_of(index);
+    facts_of_kept_logs(index);
     let mut next = low;
     loop {
         chunks.reserve(SCAN_CHUNKS, SCAN_PAIRS)?;
@@ -77,11 +78,11 @@ fn answer_scan<R: Wait>(
     ensures still { IsStillSession index.now out.new.chunks pass.old pass.new }
     ensures more { OnOk result (HasOneMore index.now.sizes (Call.Scan low high) out.old out.new pass.old pass.new) }
 {
-    laws_of(index);
+    facts_of_kept_logs(index);
     let before = out.chunks.list().len();
     let pairs_before = out.chunks.pairs().len();
     read_all(rt, index, pass, low, high, &mut out.chunks)?;
-    // There are fewer than 2^32 of either.
+    // For the proof: there are fewer than 2^32 of either.
     let _ = out.chunks.room();
     out.records.push(Record {
         call: Call::Scan { low, high },
@@ -145,8 +146,8 @@ pub fn run_session<G: Gate, R: Wait>(
     ensures whole { OnOk result (IsWhole out.new) }
 {
     // The pages of the index have their number.
-    laws_of(index);
-    // What has seen no entry has made none.
+    facts_of_kept_logs(index);
+    // For the proof: what has seen no entry has made none.
     let _ = pass.made();
     let session = pass.number();
     let mut number = 0;

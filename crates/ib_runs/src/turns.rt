@@ -40,7 +40,7 @@ fn take_turn<G: Gate, R: Wait>(
         Ok(()) => Some(out),
         Err(_) => None,
     };
-    // It is the session of its number still.
+    // For the proof: it is the session of its number still.
     let _ = turn.pass.number();
 }
 
@@ -95,6 +95,7 @@ fn come_all(alloc: Global, index: &mut Index, count: u32) -> Vec<Turn>
 {
     let mut turns = Vec::new(alloc);
     for before in 0..count {
+        // For the proof: the contract alone speaks of it.
         let _ = before;
         if turns.reserve(1).is_err() {
             break;

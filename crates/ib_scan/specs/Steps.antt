@@ -1,5 +1,5 @@
 -- The steps of a scan.
-use Rattle.std.specs.Prelude.{◌≡◌, ◌⊎◌, ℕ, ◌+◌, ◌*◌, ◌<◌, ◌≤◌, ◌^◌, true, List, [], ◌∷◌, ◌++◌, length, take, Some}
+use Rattle.std.specs.Prelude.{◌≡◌, ◌⊎◌, ℕ, ◌+◌, ◌*◌, ◌<◌, ◌≤◌, true, List, [], ◌∷◌, ◌++◌, length, take, Some}
 use Rattle.std.specs.List.{AllByRecursion}
 use Rattle.ib_map.specs.Keys.{MapKey, rank}
 use Rattle.ib_map.specs.Chunks.{HeldChunks}
@@ -13,8 +13,9 @@ use Rattle.ib_logrec.specs.declared.entry.Entry.{Entry}
 use Rattle.ib_logrec.specs.Log.{memory_after}
 use Rattle.ib_walk.specs.Words.{image_of}
 use Rattle.ib_tree.specs.Scans.{AreFront, AreWhole}
+use Rattle.ib_rule.specs.Conditions.{HasGrantLeft, HasGrantsLeft}
 use Rattle.ib_rule.specs.Pass.{PassState}
-use Rattle.ib_rule.specs.Views.{is_watched, total, with_grant}
+use Rattle.ib_rule.specs.Views.{is_watched, with_grant}
 use Rattle.ib_cursor.specs.Grants.{Grant, page_grant, HasGrants, IsAway}
 use Rattle.ib_cursor.specs.Going.{IsKnown, WentOn}
 use Rattle.ib_scan.specs.declared.walk.Found.{Found}
@@ -31,7 +32,7 @@ pub record MayPass (sizes : Sizes) (lawful : List Entry → Type 0) (opening : �
   pub here : last.page ≡ leaf
   pub link : next ≡ next_of last.image
   pub skipped : IsSkipped start last.image
-  pub room : total p.view.grants < 2 ^ 52
+  pub room : HasGrantLeft p.view
 
 -- it was passed over: the scan stands on the next one, and all that were held are held still. No more are held than there are pages
 pub record HasPassed (sizes : Sizes) (lawful : List Entry → Type 0) (opening : ℕ → ℕ) (roots root : ℕ) (start : MapKey) (ps : List ReadLeaf) (last : ReadLeaf) (p q : PassState) : Type 0 where
@@ -46,7 +47,7 @@ pub record IsOnLeaf (sizes : Sizes) (lawful : List Entry → Type 0) (opening : 
   pub root : ℕ
   pub image : List ℕ
   pub scans : IsScanning sizes lawful opening roots root start [] (record { page = leaf; image = image }) p
-  pub room : total p.view.grants + 4096 ≤ 2 ^ 52
+  pub room : HasGrantsLeft 4096 p.view
 
 -- a leaf as it is loaded, unchanged
 abbrev pub loaded_as : ReadLeaf → WorkPage
@@ -134,7 +135,7 @@ pub record IsScannedTo (sizes : Sizes) (lawful : List Entry → Type 0) (opening
   pub image : List ℕ
   pub scans : IsScanning sizes lawful opening roots root start [] (record { page = leaf; image = image }) q
   pub on : (up_to.spans ≡ []) ⊎ HasLast opening q.view.memory.seen root leaf image high up_to.spans
-  pub room : total q.view.grants + 8192 * new.chunk_room + 8183 ≤ 2 ^ 52
+  pub room : HasGrantsLeft (8192 * new.chunk_room + 8183) q.view
 
 -- how the loop went: the chunks are appended, few grants more were taken for each, and one leaf alone is held
 pub record HasRun (sizes : Sizes) (lawful : List Entry → Type 0) (out new : HeldChunks) (spans : List Span) (p q : PassState) : Type 0 where

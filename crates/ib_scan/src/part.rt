@@ -113,7 +113,7 @@ fn copy_part(image: &Image, start: Key, end: Key, pairs: &mut [(Key, u64)]) -> u
     ensures few { result ≤ MOST_RECORDS }
     ensures size { length pairs.new ≡ MOST_RECORDS }
 {
-    // A page has no more records.
+    // For the proof: a page has no more records.
     let _ = image.len();
     image.copy_between(start, end, pairs)
 }

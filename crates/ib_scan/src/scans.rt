@@ -10,7 +10,7 @@ ghost use Rattle.ib_scan.specs.Scanning.{HasScanned, HasStopped};
 ghost use Rattle.ib_scan.specs.Scans.{FitsSeen, HasAll, MayScan, scan_answer};
 
 use crate::more::More;
-use crate::walk::{Sought, scan_from, trees_of};
+use crate::walk::{Sought, facts_of_trees, scan_from};
 use ib_cursor::{Search, descend_at};
 use ib_latch::{Latches, Parkers};
 use ib_map::{Call, Chunks, Key, Record, Reply, is_below};
@@ -38,7 +38,7 @@ fn read_chunks<L: Trees, R: Wait>(
         out.old out.new pass.old pass.new) }
 {
     let mut mtr = Mtr::start(latches, pass);
-    trees_of(&mtr);
+    facts_of_trees(&mtr);
     let path = descend_at(rt, &mut mtr, sought.root, Search::Find, sought.low);
     let first = path.pages()[path.len() - 1];
     let stop = scan_from(rt, &mut mtr, sought, first, out);
@@ -56,6 +56,15 @@ fn read_chunks<L: Trees, R: Wait>(
 ///
 /// `More` exactly where the next chunk finds no chunk place spare, or fewer pair places than it has pairs:
 /// the chunks before it were appended. Either way nothing is held at the end.
+///
+/// ```
+/// if pass.may_scan(chunks.room().0) {
+///     match scan_at(rt, &latches, 1, &mut pass, low, high, &mut chunks) {
+///         Ok(answer) => tell(answer.reply, chunks.pairs()),
+///         Err(More { next }) => go_on(next),
+///     }
+/// }
+/// ```
 pub fn scan_at<L: Trees, R: Wait>(
     rt: &R,
     latches: &Latches<L, Parkers>,
@@ -94,6 +103,14 @@ pub fn scan_at<L: Trees, R: Wait>(
 }
 
 /// Scans the first tree, that of page 1. The record of an `Ok` fits what is seen, by the map too.
+///
+/// ```
+/// let mut chunks = Chunks::with_room(alloc, 8, 280)?;
+/// if pass.may_scan(chunks.room().0) {
+///     let (low, high) = (Key::least(), Key::greatest());
+///     let scanned = scan(rt, index.latches(), &mut pass, low, high, &mut chunks);
+/// }
+/// ```
 pub fn scan<L: Trees, R: Wait>(
     rt: &R,
     latches: &Latches<L, Parkers>,
@@ -119,6 +136,7 @@ pub fn scan<L: Trees, R: Wait>(
     ensures same { rank high < rank low → pass.new ≡ pass.old }
     ensures same_out { rank high < rank low → out.new ≡ out.old }
 {
+    // For the proof: the laws of trees, at the number of pages that the space has.
     L::trees_law();
     let _ = latches.space().geometry().pages();
     scan_at(rt, latches, 1, pass, low, high, out)

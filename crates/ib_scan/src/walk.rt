@@ -35,12 +35,13 @@ struct Found {
 }
 
 // The trees of the space obey their law.
-pub(crate) fn trees_of<L: Trees, S: Sleep>(mtr: &Mtr<'_, L, S>)
+pub(crate) fn facts_of_trees<L: Trees, S: Sleep>(mtr: &Mtr<'_, L, S>)
     ensures laws { Laws mtr.now.latches.now.sizes.pages L.ROOTS
         (L.lawful mtr.now.latches.now.sizes.pages)
         (by_place L.opening mtr.now.latches.now.sizes.pages) }
     ensures space { has_pages mtr.now.latches.now.sizes.pages ≡ true }
 {
+    // For the proof: the laws of trees, at the number of pages that the space has.
     L::trees_law();
     let _ = mtr.geometry().pages();
 }
@@ -55,7 +56,7 @@ fn pass_over<L: Trees, R: Wait>(rt: &R, mtr: &mut Mtr<'_, L, Parkers>, leaf: u32
         → under L.Law mtr.old.latches.now HasPassed L.ROOTS h.root h.start h.ps h.last
         mtr.old.pass.now mtr.new.pass.now }
 {
-    trees_of(mtr);
+    facts_of_trees(mtr);
     mtr.forget(leaf);
     take(rt, mtr, Latch::page(next), Mode::S, Level::TreeNode);
     read(mtr, next);
@@ -77,7 +78,7 @@ fn reach_end<L: Trees, R: Wait>(
         → under L.Law mtr.old.latches.now HasReachedEnd L.ROOTS h.root start high result
         mtr.old.pass.now mtr.new.pass.now }
 {
-    trees_of(mtr);
+    facts_of_trees(mtr);
     let mut at = leaf;
     let mut passed = 0;
     loop {
@@ -131,7 +132,7 @@ pub(crate) fn scan_from<L: Trees, R: Wait>(
         (λ next. under L.Law mtr.old.latches.now HasRunToStop sought.root sought.low sought.high
         next out.old out.new mtr.old.pass.now mtr.new.pass.now) }
 {
-    trees_of(mtr);
+    facts_of_trees(mtr);
     let mut leaf = first;
     let mut start = sought.low;
     loop {

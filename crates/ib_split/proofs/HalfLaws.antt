@@ -4,7 +4,7 @@ use Rattle.std.specs.Prelude.{◌↔◌, List, Result, Ok, Err, OnOk, IsSome, Is
 use Rattle.std.proofs.lemmas.Bool.{cases_Bool}
 use Rattle.std.proofs.Common.{inl, inr}
 use Rattle.ib_map.specs.Keys.{MapKey, rank, end_rank, least}
-use Rattle.ib_map.specs.Pairs.{Pairs, Rises, put, place_of, value_at}
+use Rattle.ib_map.specs.Pairs.{Pairs, Rises, put, index_of, value_at}
 use Rattle.ib_heap.specs.declared.TheConstants.{MOST_RECORDS}
 use Rattle.ib_heap.specs.declared.fault.PageFault.{PageFault}
 use Rattle.ib_heap.specs.declared.fault.PageFault.TheVariants.{Duplicate, PageFull, Missing}
@@ -20,49 +20,49 @@ use Rattle.ib_plans.specs.declared.TheConstants.{LEFT_RECORDS}
 use Rattle.ib_plans.specs.Split.{right_part, first_key}
 
 -- the record goes to the first part: it has one more, and the second part is what it would be with one less before it
-pub take-put_low : (key : MapKey) (value n : ℕ) (xs : Pairs) → place_of key xs ≤ n → take (suc n) (put key value xs) ≡ put key value (take n xs)
+pub take-put_low : (key : MapKey) (value n : ℕ) (xs : Pairs) → index_of key xs ≤ n → take (suc n) (put key value xs) ≡ put key value (take n xs)
 take-put_low key value zero [] h = refl
 take-put_low key value (suc n) [] h = refl
 take-put_low key value zero (x ∷ xs) h = elim (cases_Bool (ltb (rank x.0) (rank key))) [
-  | inl below ↦ let z : place_of key (x ∷ xs) ≡ 1 + place_of key xs = rw below refl in absurd (omega arith)
+  | inl below ↦ let z : index_of key (x ∷ xs) ≡ 1 + index_of key xs = rw below refl in absurd (omega arith)
   | inr above ↦ rw above refl
 ]
 take-put_low key value (suc n) (x ∷ xs) h = elim (cases_Bool (ltb (rank x.0) (rank key))) [
-  | inl below ↦ let z : place_of key (x ∷ xs) ≡ 1 + place_of key xs = rw below refl in
+  | inl below ↦ let z : index_of key (x ∷ xs) ≡ 1 + index_of key xs = rw below refl in
       let r = take-put_low key value n xs (omega arith) in rw below (ap (λ ys. x ∷ ys) r)
   | inr above ↦ rw above refl
 ]
 
-pub drop-put_low : (key : MapKey) (value n : ℕ) (xs : Pairs) → place_of key xs ≤ n → drop (suc n) (put key value xs) ≡ drop n xs
+pub drop-put_low : (key : MapKey) (value n : ℕ) (xs : Pairs) → index_of key xs ≤ n → drop (suc n) (put key value xs) ≡ drop n xs
 drop-put_low key value zero [] h = refl
 drop-put_low key value (suc n) [] h = refl
 drop-put_low key value zero (x ∷ xs) h = elim (cases_Bool (ltb (rank x.0) (rank key))) [
-  | inl below ↦ let z : place_of key (x ∷ xs) ≡ 1 + place_of key xs = rw below refl in absurd (omega arith)
+  | inl below ↦ let z : index_of key (x ∷ xs) ≡ 1 + index_of key xs = rw below refl in absurd (omega arith)
   | inr above ↦ rw above refl
 ]
 drop-put_low key value (suc n) (x ∷ xs) h = elim (cases_Bool (ltb (rank x.0) (rank key))) [
-  | inl below ↦ let z : place_of key (x ∷ xs) ≡ 1 + place_of key xs = rw below refl in
+  | inl below ↦ let z : index_of key (x ∷ xs) ≡ 1 + index_of key xs = rw below refl in
       let r = drop-put_low key value n xs (omega arith) in rw below r
   | inr above ↦ rw above refl
 ]
 
 -- .. or to the second part
-pub take-put_high : (key : MapKey) (value n : ℕ) (xs : Pairs) → n ≤ place_of key xs → take n (put key value xs) ≡ take n xs
+pub take-put_high : (key : MapKey) (value n : ℕ) (xs : Pairs) → n ≤ index_of key xs → take n (put key value xs) ≡ take n xs
 take-put_high key value zero xs h = refl
 take-put_high key value (suc n) [] h = absurd (omega arith)
 take-put_high key value (suc n) (x ∷ xs) h = elim (cases_Bool (ltb (rank x.0) (rank key))) [
-  | inl below ↦ let z : place_of key (x ∷ xs) ≡ 1 + place_of key xs = rw below refl in
+  | inl below ↦ let z : index_of key (x ∷ xs) ≡ 1 + index_of key xs = rw below refl in
       let r = take-put_high key value n xs (omega arith) in rw below (ap (λ ys. x ∷ ys) r)
-  | inr above ↦ let z : place_of key (x ∷ xs) ≡ 0 = rw above refl in absurd (omega arith)
+  | inr above ↦ let z : index_of key (x ∷ xs) ≡ 0 = rw above refl in absurd (omega arith)
 ]
 
-pub drop-put_high : (key : MapKey) (value n : ℕ) (xs : Pairs) → n ≤ place_of key xs → drop n (put key value xs) ≡ put key value (drop n xs)
+pub drop-put_high : (key : MapKey) (value n : ℕ) (xs : Pairs) → n ≤ index_of key xs → drop n (put key value xs) ≡ put key value (drop n xs)
 drop-put_high key value zero xs h = refl
 drop-put_high key value (suc n) [] h = absurd (omega arith)
 drop-put_high key value (suc n) (x ∷ xs) h = elim (cases_Bool (ltb (rank x.0) (rank key))) [
-  | inl below ↦ let z : place_of key (x ∷ xs) ≡ 1 + place_of key xs = rw below refl in
+  | inl below ↦ let z : index_of key (x ∷ xs) ≡ 1 + index_of key xs = rw below refl in
       let r = drop-put_high key value n xs (omega arith) in rw below r
-  | inr above ↦ let z : place_of key (x ∷ xs) ≡ 0 = rw above refl in absurd (omega arith)
+  | inr above ↦ let z : index_of key (x ∷ xs) ≡ 0 = rw above refl in absurd (omega arith)
 ]
 
 -- an insert into a page with room, of a key that is not there, succeeds

@@ -20,6 +20,7 @@ pub(crate) fn put_record(work: &mut WorkSet, page: u32, key: Key, value: u64)
     ensures put { HasMoved (Puts key) (changed_of page work.old) (changed_of page work.new) }
 {
     let image = work.edit(page);
+    // The page has room and the key is not there, so the call does not fail.
     let _ = image.insert(key, value);
     image.touch();
 }

@@ -2,7 +2,7 @@
 
 ghost use Rattle.std.specs.Prelude.{◌≡◌, ◌≢◌, ◌<◌, ◌^◌, ◌+◌, ◌-◌, ◌==◌, ◌↔◌, if◌then◌else◌, [], ◌∷◌, length, None, IsNone, IsSome, OnOk};
 ghost use Rattle.ib_map.specs.Keys.{rank, least};
-ghost use Rattle.ib_map.specs.Pairs.{put, place_of, value_at};
+ghost use Rattle.ib_map.specs.Pairs.{put, index_of, value_at};
 ghost use Rattle.ib_heap.specs.declared.TheConstants.{MOST_LEVEL, MOST_RECORDS};
 ghost use Rattle.ib_heap.specs.Filled.{filled};
 ghost use Rattle.ib_heap.specs.Heap.{read_heap};
@@ -110,6 +110,7 @@ fn give_children(root: &mut Image, left: u32, first: Key, right: u32)
     ensures heap { read_heap root.new ≡ filled 2 }
 {
     root.set_level(root.level() + 1);
+    // The root has no record and the keys differ, so neither call fails.
     let _ = root.insert(Key::least(), left as u64);
     let _ = root.insert(first, right as u64);
     root.touch();
@@ -136,6 +137,7 @@ pub(crate) fn halve(left: &mut Image, right: &mut Image, key: Key, value: u64)
     ensures left_heap { read_heap left.new ≡ filled LEFT_RECORDS }
     ensures right_heap { read_heap right.new ≡ filled (MOST_RECORDS + 1 - LEFT_RECORDS) }
 {
+    // Behind the cut each half has room for the record, so neither call fails.
     if place_in(left, key) < LEFT_RECORDS {
         left.cut(LEFT_RECORDS - 1, right);
         let _ = insert_anew(left, key, value);
@@ -162,7 +164,7 @@ fn insert_anew(image: &mut Image, key: Key, value: u64) -> Result<(), PageFault>
 // How many records of a page stand before a key.
 fn place_in(image: &Image, key: Key) -> usize
     requires { IsTreePage image.now }
-    ensures { result ≡ place_of key (records_of image.now) }
+    ensures { result ≡ index_of key (records_of image.now) }
 {
     match image.find(key) {
         Ok(place) => place,

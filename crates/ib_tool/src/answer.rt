@@ -43,7 +43,7 @@ fn write_file<K: Sink>(alloc: Global, script: &Script, ran: &Ran, sink: &mut K) 
     ensures write { TellsFault Status.WriteFault result (K.faults sink.old) (K.faults sink.new) }
 {
     let geometry = script.geometry();
-    // A log has fewer words than 2^32.
+    // For the proof: a log has fewer words than 2^32.
     let _ = geometry.log_words();
     match file_of(alloc, geometry.pages(), ran.closed.log()) {
         Ok(bytes) => tell(sink, Bytes { bytes }, Status::Done),

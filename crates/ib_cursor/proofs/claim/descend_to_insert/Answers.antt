@@ -24,7 +24,7 @@ taken g c =
     let path = c.read_path-found.result.path in let leaf = c.read_path-found.result.leaf in let left = c.read_path-found.result.left in
     let idle = none_granted c.args.mtr.now.latches.now c.args.mtr.now.pass.now c.requires.may.mtr c.requires.may.memo in let s : PassState = c.take_nodes.new.mtr.pass.now in
     let w = subst (λ (s : Sizes). HasReadPath s (g.L.Law.lawful s.pages) (by_place g.L.Law.opening s.pages) c.args.root c.args.key path leaf left q r) (ap (λ m. m.now.sizes) c.claim_index.ensures.still.latches) c.read_path-found.ensures.on_path in
-    let will = will_nodes sizes g.L.Trees.ROOTS (g.L.Law.lawful sizes.pages) (by_place g.L.Law.opening sizes.pages) c.shape_of.ensures.shapes c.args.root c.requires.root.some c.requires.root.there c.args.key (rank-lt_end c.args.key) path leaf left p q r r r idle c.requires.may.none c.claim_index.ensures.latched c.claim_index.ensures.claimed w in
+    let will = will_nodes sizes g.L.Trees.ROOTS (g.L.Law.lawful sizes.pages) (by_place g.L.Law.opening sizes.pages) c.facts_of_trees.ensures.shapes c.args.root c.requires.root.some c.requires.root.there c.args.key (rank-lt_end c.args.key) path leaf left p q r r r idle c.requires.may.none c.claim_index.ensures.latched c.claim_index.ensures.claimed w in
     let nodes = subst (λ (k : Sizes). (front more : List ℕ) (leaf : ℕ) → path ≡ front ++ leaf ∷ [] → WillTake k (g.L.Law.lawful k.pages) (by_place g.L.Law.opening k.pages) [] (front ++ more) r → HasTakenMore k (g.L.Law.lawful k.pages) (by_place g.L.Law.opening k.pages) [] front r s)
     (ap (λ m. m.now.sizes) (c.read_path-found.ensures.still.latches ∙ c.claim_index.ensures.still.latches)) c.take_nodes.ensures.taken w.front (beside left ++ leaf ∷ beside (pages_after (by_place g.L.Law.opening sizes.pages) r.view.memory.seen leaf).next) leaf w.ends will in
     (w, nodes)
@@ -33,7 +33,7 @@ pub read_path-found-requires-clause-index : goal.read_path-found-requires-clause
 read_path-found-requires-clause-index g c =
     let sizes : Sizes = c.args.mtr.now.latches.now.sizes in let p : PassState = c.args.mtr.now.pass.now in let q : PassState = c.claim_index.new.mtr.pass.now in
     subst (λ (s : Sizes). HasIndex s (g.L.Law.lawful s.pages) q) (sym (ap (λ m. m.now.sizes) c.claim_index.ensures.still.latches))
-    (start_index sizes g.L.Trees.ROOTS (g.L.Law.lawful sizes.pages) (by_place g.L.Law.opening sizes.pages) c.shape_of.ensures.shapes c.args.root c.requires.root.some c.requires.root.there c.args.key (rank-lt_end c.args.key) [] 0 0 p q q q q (none_granted c.args.mtr.now.latches.now c.args.mtr.now.pass.now c.requires.may.mtr c.requires.may.memo) c.requires.may.none c.claim_index.ensures.latched c.claim_index.ensures.claimed)
+    (start_index sizes g.L.Trees.ROOTS (g.L.Law.lawful sizes.pages) (by_place g.L.Law.opening sizes.pages) c.facts_of_trees.ensures.shapes c.args.root c.requires.root.some c.requires.root.there c.args.key (rank-lt_end c.args.key) [] 0 0 p q q q q (none_granted c.args.mtr.now.latches.now c.args.mtr.now.pass.now c.requires.may.mtr c.requires.may.memo) c.requires.may.none c.claim_index.ensures.latched c.claim_index.ensures.claimed)
 
 pub read_path-found-requires-clause-room : goal.read_path-found-requires-clause-room
 read_path-found-requires-clause-room g c =
@@ -54,7 +54,7 @@ take_nodes-requires-clause-ready g c =
     let path = c.read_path-found.result.path in let leaf = c.read_path-found.result.leaf in let left = c.read_path-found.result.left in
     let idle = none_granted c.args.mtr.now.latches.now c.args.mtr.now.pass.now c.requires.may.mtr c.requires.may.memo in
     let w = subst (λ (s : Sizes). HasReadPath s (g.L.Law.lawful s.pages) (by_place g.L.Law.opening s.pages) c.args.root c.args.key path leaf left q r) (ap (λ m. m.now.sizes) c.claim_index.ensures.still.latches) c.read_path-found.ensures.on_path in
-    let will = will_nodes sizes g.L.Trees.ROOTS (g.L.Law.lawful sizes.pages) (by_place g.L.Law.opening sizes.pages) c.shape_of.ensures.shapes c.args.root c.requires.root.some c.requires.root.there c.args.key (rank-lt_end c.args.key) path leaf left p q r r r idle c.requires.may.none c.claim_index.ensures.latched c.claim_index.ensures.claimed w in
+    let will = will_nodes sizes g.L.Trees.ROOTS (g.L.Law.lawful sizes.pages) (by_place g.L.Law.opening sizes.pages) c.facts_of_trees.ensures.shapes c.args.root c.requires.root.some c.requires.root.there c.args.key (rank-lt_end c.args.key) path leaf left p q r r r idle c.requires.may.none c.claim_index.ensures.latched c.claim_index.ensures.claimed w in
     subst (λ (k : Sizes). (front : List ℕ) × (more : List ℕ) × (leaf : ℕ) × (path ≡ front ++ leaf ∷ []) × WillTake k (g.L.Law.lawful k.pages) (by_place g.L.Law.opening k.pages) [] (front ++ more) r)
     (sym (ap (λ m. m.now.sizes) (c.read_path-found.ensures.still.latches ∙ c.claim_index.ensures.still.latches))) (w.front, beside left ++ leaf ∷ beside (pages_after (by_place g.L.Law.opening sizes.pages) r.view.memory.seen leaf).next, leaf, w.ends, will)
 
@@ -73,7 +73,7 @@ take_leaves-requires-clause-ready g c =
     let idle = none_granted c.args.mtr.now.latches.now c.args.mtr.now.pass.now c.requires.may.mtr c.requires.may.memo in let s : PassState = c.take_nodes.new.mtr.pass.now in
     let so = taken g (goal.at.take_leaves-requires-clause-ready g c).After-take_nodes in
     subst (λ (k : Sizes). MayTakeLeaves k (g.L.Law.lawful k.pages) (by_place g.L.Law.opening k.pages) leaf left s) (sym (ap (λ m. m.now.sizes) (c.take_nodes.ensures.still.latches ∙ c.read_path-found.ensures.still.latches ∙ c.claim_index.ensures.still.latches)))
-    (ready sizes g.L.Trees.ROOTS (g.L.Law.lawful sizes.pages) (by_place g.L.Law.opening sizes.pages) c.shape_of.ensures.shapes c.args.root c.requires.root.some c.requires.root.there c.args.key (rank-lt_end c.args.key) path leaf left p q r s s idle c.requires.may.none c.claim_index.ensures.latched c.claim_index.ensures.claimed so.0 so.1)
+    (ready sizes g.L.Trees.ROOTS (g.L.Law.lawful sizes.pages) (by_place g.L.Law.opening sizes.pages) c.facts_of_trees.ensures.shapes c.args.root c.requires.root.some c.requires.root.there c.args.key (rank-lt_end c.args.key) path leaf left p q r s s idle c.requires.may.none c.claim_index.ensures.latched c.claim_index.ensures.claimed so.0 so.1)
 
 pub returns-clause-claimed : goal.returns-clause-claimed
 returns-clause-claimed g c =
@@ -82,12 +82,12 @@ returns-clause-claimed g c =
     let path = c.read_path-found.result.path in let leaf = c.read_path-found.result.leaf in let left = c.read_path-found.result.left in
     let idle = none_granted c.args.mtr.now.latches.now c.args.mtr.now.pass.now c.requires.may.mtr c.requires.may.memo in let s : PassState = c.take_nodes.new.mtr.pass.now in let t : PassState = c.take_leaves.new.mtr.pass.now in
     let so = taken g (goal.at.returns-clause-claimed g c).After-take_nodes in
-    let may = ready sizes g.L.Trees.ROOTS (g.L.Law.lawful sizes.pages) (by_place g.L.Law.opening sizes.pages) c.shape_of.ensures.shapes c.args.root c.requires.root.some c.requires.root.there c.args.key (rank-lt_end c.args.key) path leaf left p q r s s idle c.requires.may.none c.claim_index.ensures.latched c.claim_index.ensures.claimed so.0 so.1 in
+    let may = ready sizes g.L.Trees.ROOTS (g.L.Law.lawful sizes.pages) (by_place g.L.Law.opening sizes.pages) c.facts_of_trees.ensures.shapes c.args.root c.requires.root.some c.requires.root.there c.args.key (rank-lt_end c.args.key) path leaf left p q r s s idle c.requires.may.none c.claim_index.ensures.latched c.claim_index.ensures.claimed so.0 so.1 in
     let last = subst (λ (k : Sizes). (r : MayTakeLeaves k (g.L.Law.lawful k.pages) (by_place g.L.Law.opening k.pages) leaf left s) → HasTakenMore k (g.L.Law.lawful k.pages) (by_place g.L.Law.opening k.pages) r.held (beside left ++ leaf ∷ beside r.right) s t)
     (ap (λ m. m.now.sizes) (c.take_nodes.ensures.still.latches ∙ c.read_path-found.ensures.still.latches ∙ c.claim_index.ensures.still.latches)) c.take_leaves.ensures.taken may in (
       so.0.front ++ (beside left ++ leaf ∷ beside (pages_after (by_place g.L.Law.opening sizes.pages) r.view.memory.seen leaf).next),
-      has_claimed sizes g.L.Trees.ROOTS (g.L.Law.lawful sizes.pages) (by_place g.L.Law.opening sizes.pages) c.shape_of.ensures.shapes c.args.root c.requires.root.some c.requires.root.there c.args.key (rank-lt_end c.args.key) path leaf left p q r s t idle c.requires.may.none c.claim_index.ensures.latched c.claim_index.ensures.claimed so.0 so.1 last,
-      with_leaves sizes g.L.Trees.ROOTS (g.L.Law.lawful sizes.pages) (by_place g.L.Law.opening sizes.pages) c.shape_of.ensures.shapes c.args.root c.requires.root.some c.requires.root.there c.args.key (rank-lt_end c.args.key) path leaf left p q r s t idle c.requires.may.none c.claim_index.ensures.latched c.claim_index.ensures.claimed so.0 so.1 last,
+      has_claimed sizes g.L.Trees.ROOTS (g.L.Law.lawful sizes.pages) (by_place g.L.Law.opening sizes.pages) c.facts_of_trees.ensures.shapes c.args.root c.requires.root.some c.requires.root.there c.args.key (rank-lt_end c.args.key) path leaf left p q r s t idle c.requires.may.none c.claim_index.ensures.latched c.claim_index.ensures.claimed so.0 so.1 last,
+      with_leaves sizes g.L.Trees.ROOTS (g.L.Law.lawful sizes.pages) (by_place g.L.Law.opening sizes.pages) c.facts_of_trees.ensures.shapes c.args.root c.requires.root.some c.requires.root.there c.args.key (rank-lt_end c.args.key) path leaf left p q r s t idle c.requires.may.none c.claim_index.ensures.latched c.claim_index.ensures.claimed so.0 so.1 last,
     )
 
 pub returns-clause-alone : goal.returns-clause-alone
@@ -97,6 +97,6 @@ returns-clause-alone g c =
     let path = c.read_path-found.result.path in let leaf = c.read_path-found.result.leaf in let left = c.read_path-found.result.left in
     let idle = none_granted c.args.mtr.now.latches.now c.args.mtr.now.pass.now c.requires.may.mtr c.requires.may.memo in let s : PassState = c.take_nodes.new.mtr.pass.now in let t : PassState = c.take_leaves.new.mtr.pass.now in
     let so = taken g (goal.at.returns-clause-alone g c).After-take_nodes in
-    let may = ready sizes g.L.Trees.ROOTS (g.L.Law.lawful sizes.pages) (by_place g.L.Law.opening sizes.pages) c.shape_of.ensures.shapes c.args.root c.requires.root.some c.requires.root.there c.args.key (rank-lt_end c.args.key) path leaf left p q r s s idle c.requires.may.none c.claim_index.ensures.latched c.claim_index.ensures.claimed so.0 so.1 in
+    let may = ready sizes g.L.Trees.ROOTS (g.L.Law.lawful sizes.pages) (by_place g.L.Law.opening sizes.pages) c.facts_of_trees.ensures.shapes c.args.root c.requires.root.some c.requires.root.there c.args.key (rank-lt_end c.args.key) path leaf left p q r s s idle c.requires.may.none c.claim_index.ensures.latched c.claim_index.ensures.claimed so.0 so.1 in
     let last = subst (λ (k : Sizes). (r : MayTakeLeaves k (g.L.Law.lawful k.pages) (by_place g.L.Law.opening k.pages) leaf left s) → HasTakenMore k (g.L.Law.lawful k.pages) (by_place g.L.Law.opening k.pages) r.held (beside left ++ leaf ∷ beside r.right) s t)
     (ap (λ m. m.now.sizes) (c.take_nodes.ensures.still.latches ∙ c.read_path-found.ensures.still.latches ∙ c.claim_index.ensures.still.latches)) c.take_leaves.ensures.taken may in last.holds.claimed

@@ -12,7 +12,7 @@ use Rattle.ib_cursor.proofs.claim.left_link.Goals as goal
 pub read-requires-clause-page : goal.read-requires-clause-page
 read-requires-clause-page g c =
     let sizes : Sizes = c.args.mtr.now.latches.now.sizes in
-    (page_image sizes g.L.Trees.ROOTS (g.L.Law.lawful sizes.pages) (by_place g.L.Law.opening sizes.pages) c.shape_of.ensures.shapes c.args.sought.root c.requires.sought.some c.requires.sought.there c.args.sought.key c.requires.sought.is_key c.args.mtr.now.pass.now.view.memory.seen c.args.leaf 0 c.requires.at.known.legal c.requires.at.on_path).there
+    (page_image sizes g.L.Trees.ROOTS (g.L.Law.lawful sizes.pages) (by_place g.L.Law.opening sizes.pages) c.facts_of_trees.ensures.shapes c.args.sought.root c.requires.sought.some c.requires.sought.there c.args.sought.key c.requires.sought.is_key c.args.mtr.now.pass.now.view.memory.seen c.args.leaf 0 c.requires.at.known.legal c.requires.at.on_path).there
 
 pub read-requires-clause-held : goal.read-requires-clause-held
 read-requires-clause-held g c =
@@ -30,12 +30,12 @@ left_of-left-requires-clause-loaded g c =
     let sizes : Sizes = c.args.mtr.now.latches.now.sizes in
     let p = c.args.mtr.now.pass.now in let q = c.read.new.mtr.pass.now in
     let l = c.read.ensures in
-    (l.loaded.image, left_loaded sizes g.L.Trees.ROOTS (g.L.Law.lawful sizes.pages) (by_place g.L.Law.opening sizes.pages) c.shape_of.ensures.shapes c.args.sought.root c.requires.sought.some c.requires.sought.there c.args.sought.key c.requires.sought.is_key c.args.leaf p q c.requires.at c.requires.claimed l.looked_on l.memo l.session l.grants l.loaded, left_formed sizes g.L.Trees.ROOTS (g.L.Law.lawful sizes.pages) (by_place g.L.Law.opening sizes.pages) c.shape_of.ensures.shapes c.args.sought.root c.requires.sought.some c.requires.sought.there c.args.sought.key c.requires.sought.is_key c.args.leaf p q c.requires.at c.requires.claimed l.looked_on l.memo l.session l.grants l.loaded)
+    (l.loaded.image, left_loaded sizes g.L.Trees.ROOTS (g.L.Law.lawful sizes.pages) (by_place g.L.Law.opening sizes.pages) c.facts_of_trees.ensures.shapes c.args.sought.root c.requires.sought.some c.requires.sought.there c.args.sought.key c.requires.sought.is_key c.args.leaf p q c.requires.at c.requires.claimed l.looked_on l.memo l.session l.grants l.loaded, left_formed sizes g.L.Trees.ROOTS (g.L.Law.lawful sizes.pages) (by_place g.L.Law.opening sizes.pages) c.facts_of_trees.ensures.shapes c.args.sought.root c.requires.sought.some c.requires.sought.there c.args.sought.key c.requires.sought.is_key c.args.leaf p q c.requires.at c.requires.claimed l.looked_on l.memo l.session l.grants l.loaded)
 
 pub returns-clause-linked : goal.returns-clause-linked
 returns-clause-linked g c =
     let sizes : Sizes = c.args.mtr.now.latches.now.sizes in
     let p = c.args.mtr.now.pass.now in let q = c.read.new.mtr.pass.now in
     let l = c.read.ensures in
-    left_linked sizes g.L.Trees.ROOTS (g.L.Law.lawful sizes.pages) (by_place g.L.Law.opening sizes.pages) c.shape_of.ensures.shapes c.args.sought.root c.requires.sought.some c.requires.sought.there c.args.sought.key c.requires.sought.is_key c.args.leaf p q c.requires.at c.requires.claimed l.looked_on l.memo l.session l.grants l.loaded c.left_of-left.result c.forget.new.self.pass.now
-    (c.left_of-left.ensures l.loaded.image (left_loaded sizes g.L.Trees.ROOTS (g.L.Law.lawful sizes.pages) (by_place g.L.Law.opening sizes.pages) c.shape_of.ensures.shapes c.args.sought.root c.requires.sought.some c.requires.sought.there c.args.sought.key c.requires.sought.is_key c.args.leaf p q c.requires.at c.requires.claimed l.looked_on l.memo l.session l.grants l.loaded)) c.forget.ensures.forgotten
+    left_linked sizes g.L.Trees.ROOTS (g.L.Law.lawful sizes.pages) (by_place g.L.Law.opening sizes.pages) c.facts_of_trees.ensures.shapes c.args.sought.root c.requires.sought.some c.requires.sought.there c.args.sought.key c.requires.sought.is_key c.args.leaf p q c.requires.at c.requires.claimed l.looked_on l.memo l.session l.grants l.loaded c.left_of-left.result c.forget.new.self.pass.now
+    (c.left_of-left.ensures l.loaded.image (left_loaded sizes g.L.Trees.ROOTS (g.L.Law.lawful sizes.pages) (by_place g.L.Law.opening sizes.pages) c.facts_of_trees.ensures.shapes c.args.sought.root c.requires.sought.some c.requires.sought.there c.args.sought.key c.requires.sought.is_key c.args.leaf p q c.requires.at c.requires.claimed l.looked_on l.memo l.session l.grants l.loaded)) c.forget.ensures.forgotten

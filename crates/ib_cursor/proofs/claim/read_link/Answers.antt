@@ -17,7 +17,7 @@ use Rattle.ib_cursor.proofs.claim.read_link.Goals as goal
 pub latch_page-requires-clause-page : goal.latch_page-requires-clause-page
 latch_page-requires-clause-page g c =
     let sizes : Sizes = c.args.mtr.now.latches.now.sizes in
-    link_read_inside sizes g.L.Trees.ROOTS (g.L.Law.lawful sizes.pages) (by_place g.L.Law.opening sizes.pages) c.shape_of.ensures.shapes c.args.sought.root c.requires.sought.some c.requires.sought.there c.args.sought.key c.requires.sought.is_key c.args.page c.requires.on_path.0 c.args.mtr.now.pass.now c.requires.index c.requires.on_path.1
+    link_read_inside sizes g.L.Trees.ROOTS (g.L.Law.lawful sizes.pages) (by_place g.L.Law.opening sizes.pages) c.facts_of_trees.ensures.shapes c.args.sought.root c.requires.sought.some c.requires.sought.there c.args.sought.key c.requires.sought.is_key c.args.page c.requires.on_path.0 c.args.mtr.now.pass.now c.requires.index c.requires.on_path.1
 
 pub latch_page-requires-clause-grows : goal.latch_page-requires-clause-grows
 latch_page-requires-clause-grows g c = may_grow (claim_grant ∷ []) c.args.mtr.now.pass.now c.requires.index.grants c.requires.room (omega arith)
@@ -25,7 +25,7 @@ latch_page-requires-clause-grows g c = may_grow (claim_grant ∷ []) c.args.mtr.
 pub latch_page-requires-clause-may : goal.latch_page-requires-clause-may
 latch_page-requires-clause-may g c =
     let sizes : Sizes = c.args.mtr.now.latches.now.sizes in
-    link_read_may sizes g.L.Trees.ROOTS (g.L.Law.lawful sizes.pages) (by_place g.L.Law.opening sizes.pages) c.shape_of.ensures.shapes c.args.sought.root c.requires.sought.some c.requires.sought.there c.args.sought.key c.requires.sought.is_key c.args.page c.requires.on_path.0 c.args.mtr.now.pass.now c.requires.index c.requires.on_path.1
+    link_read_may sizes g.L.Trees.ROOTS (g.L.Law.lawful sizes.pages) (by_place g.L.Law.opening sizes.pages) c.facts_of_trees.ensures.shapes c.args.sought.root c.requires.sought.some c.requires.sought.there c.args.sought.key c.requires.sought.is_key c.args.page c.requires.on_path.0 c.args.mtr.now.pass.now c.requires.index c.requires.on_path.1
 
 pub level_of-level-requires-clause-can : goal.level_of-level-requires-clause-can
 level_of-level-requires-clause-can g c =
@@ -33,9 +33,9 @@ level_of-level-requires-clause-can g c =
     let p : PassState = c.args.mtr.now.pass.now in let q : PassState = c.latch_page.new.mtr.pass.now in
     let n : ℕ = c.requires.on_path.0 in
     let keeps = c.latch_page.ensures.keeps c.requires.index.claimed in
-    let at = link_read_at sizes g.L.Trees.ROOTS (g.L.Law.lawful sizes.pages) (by_place g.L.Law.opening sizes.pages) c.shape_of.ensures.shapes c.args.sought.root c.requires.sought.some c.requires.sought.there c.args.sought.key c.requires.sought.is_key c.args.page n p c.requires.index c.requires.on_path.1 q c.latch_page.ensures.latched keeps in
+    let at = link_read_at sizes g.L.Trees.ROOTS (g.L.Law.lawful sizes.pages) (by_place g.L.Law.opening sizes.pages) c.facts_of_trees.ensures.shapes c.args.sought.root c.requires.sought.some c.requires.sought.there c.args.sought.key c.requires.sought.is_key c.args.page n p c.requires.index c.requires.on_path.1 q c.latch_page.ensures.latched keeps in
     let same_sizes = ap (λ m. m.now.sizes) c.latch_page.ensures.still.latches in
-    let image = page_image sizes g.L.Trees.ROOTS (g.L.Law.lawful sizes.pages) (by_place g.L.Law.opening sizes.pages) c.shape_of.ensures.shapes c.args.sought.root c.requires.sought.some c.requires.sought.there c.args.sought.key c.requires.sought.is_key q.view.memory.seen c.args.page n at.known.legal at.on_path in
+    let image = page_image sizes g.L.Trees.ROOTS (g.L.Law.lawful sizes.pages) (by_place g.L.Law.opening sizes.pages) c.facts_of_trees.ensures.shapes c.args.sought.root c.requires.sought.some c.requires.sought.there c.args.sought.key c.requires.sought.is_key q.view.memory.seen c.args.page n at.known.legal at.on_path in
     record {
       mtr = c.latch_page.ensures.still.mtr;
       there = subst (λ (s : Sizes). c.args.page < s.pages) (sym same_sizes) image.there;
@@ -49,9 +49,9 @@ level_of-level-requires-clause-tree g c =
     let p : PassState = c.args.mtr.now.pass.now in let q : PassState = c.latch_page.new.mtr.pass.now in
     let n : ℕ = c.requires.on_path.0 in
     let keeps = c.latch_page.ensures.keeps c.requires.index.claimed in
-    let at = link_read_at sizes g.L.Trees.ROOTS (g.L.Law.lawful sizes.pages) (by_place g.L.Law.opening sizes.pages) c.shape_of.ensures.shapes c.args.sought.root c.requires.sought.some c.requires.sought.there c.args.sought.key c.requires.sought.is_key c.args.page n p c.requires.index c.requires.on_path.1 q c.latch_page.ensures.latched keeps in
+    let at = link_read_at sizes g.L.Trees.ROOTS (g.L.Law.lawful sizes.pages) (by_place g.L.Law.opening sizes.pages) c.facts_of_trees.ensures.shapes c.args.sought.root c.requires.sought.some c.requires.sought.there c.args.sought.key c.requires.sought.is_key c.args.page n p c.requires.index c.requires.on_path.1 q c.latch_page.ensures.latched keeps in
     let same_sizes = ap (λ m. m.now.sizes) c.latch_page.ensures.still.latches in
-    let image = page_image sizes g.L.Trees.ROOTS (g.L.Law.lawful sizes.pages) (by_place g.L.Law.opening sizes.pages) c.shape_of.ensures.shapes c.args.sought.root c.requires.sought.some c.requires.sought.there c.args.sought.key c.requires.sought.is_key q.view.memory.seen c.args.page n at.known.legal at.on_path in
+    let image = page_image sizes g.L.Trees.ROOTS (g.L.Law.lawful sizes.pages) (by_place g.L.Law.opening sizes.pages) c.facts_of_trees.ensures.shapes c.args.sought.root c.requires.sought.some c.requires.sought.there c.args.sought.key c.requires.sought.is_key q.view.memory.seen c.args.page n at.known.legal at.on_path in
     subst (λ (s : Sizes). IsTreePage (image_of (memory_after (by_place g.L.Law.opening s.pages) c.latch_page.new.mtr.pass.now.view.memory.seen) c.args.page)) (sym same_sizes) image.image.tree
 
 pub link_here-link-requires-clause-at : goal.link_here-link-requires-clause-at
@@ -60,9 +60,9 @@ link_here-link-requires-clause-at g c =
     let p : PassState = c.args.mtr.now.pass.now in let q : PassState = c.latch_page.new.mtr.pass.now in
     let n : ℕ = c.requires.on_path.0 in
     let keeps = c.latch_page.ensures.keeps c.requires.index.claimed in
-    let at = link_read_at sizes g.L.Trees.ROOTS (g.L.Law.lawful sizes.pages) (by_place g.L.Law.opening sizes.pages) c.shape_of.ensures.shapes c.args.sought.root c.requires.sought.some c.requires.sought.there c.args.sought.key c.requires.sought.is_key c.args.page n p c.requires.index c.requires.on_path.1 q c.latch_page.ensures.latched keeps in
+    let at = link_read_at sizes g.L.Trees.ROOTS (g.L.Law.lawful sizes.pages) (by_place g.L.Law.opening sizes.pages) c.facts_of_trees.ensures.shapes c.args.sought.root c.requires.sought.some c.requires.sought.there c.args.sought.key c.requires.sought.is_key c.args.page n p c.requires.index c.requires.on_path.1 q c.latch_page.ensures.latched keeps in
     let same_sizes = ap (λ m. m.now.sizes) c.latch_page.ensures.still.latches in
-    let image = page_image sizes g.L.Trees.ROOTS (g.L.Law.lawful sizes.pages) (by_place g.L.Law.opening sizes.pages) c.shape_of.ensures.shapes c.args.sought.root c.requires.sought.some c.requires.sought.there c.args.sought.key c.requires.sought.is_key q.view.memory.seen c.args.page n at.known.legal at.on_path in
+    let image = page_image sizes g.L.Trees.ROOTS (g.L.Law.lawful sizes.pages) (by_place g.L.Law.opening sizes.pages) c.facts_of_trees.ensures.shapes c.args.sought.root c.requires.sought.some c.requires.sought.there c.args.sought.key c.requires.sought.is_key q.view.memory.seen c.args.page n at.known.legal at.on_path in
     let level : c.level_of-level.result ≡ level_of (image_of (memory_after (by_place g.L.Law.opening sizes.pages) q.view.memory.seen) c.args.page) =
     subst (λ (s : Sizes). c.level_of-level.result ≡ level_of (image_of (memory_after (by_place g.L.Law.opening s.pages) c.latch_page.new.mtr.pass.now.view.memory.seen) c.args.page)) same_sizes c.level_of-level.ensures.level in
     let r : PassState = c.level_of-level.new.mtr.pass.now in
@@ -84,9 +84,9 @@ returns-clause-link_read g c =
     let p : PassState = c.args.mtr.now.pass.now in let q : PassState = c.latch_page.new.mtr.pass.now in
     let n : ℕ = c.requires.on_path.0 in
     let keeps = c.latch_page.ensures.keeps c.requires.index.claimed in
-    let at = link_read_at sizes g.L.Trees.ROOTS (g.L.Law.lawful sizes.pages) (by_place g.L.Law.opening sizes.pages) c.shape_of.ensures.shapes c.args.sought.root c.requires.sought.some c.requires.sought.there c.args.sought.key c.requires.sought.is_key c.args.page n p c.requires.index c.requires.on_path.1 q c.latch_page.ensures.latched keeps in
+    let at = link_read_at sizes g.L.Trees.ROOTS (g.L.Law.lawful sizes.pages) (by_place g.L.Law.opening sizes.pages) c.facts_of_trees.ensures.shapes c.args.sought.root c.requires.sought.some c.requires.sought.there c.args.sought.key c.requires.sought.is_key c.args.page n p c.requires.index c.requires.on_path.1 q c.latch_page.ensures.latched keeps in
     let same_sizes = ap (λ m. m.now.sizes) c.latch_page.ensures.still.latches in
-    let image = page_image sizes g.L.Trees.ROOTS (g.L.Law.lawful sizes.pages) (by_place g.L.Law.opening sizes.pages) c.shape_of.ensures.shapes c.args.sought.root c.requires.sought.some c.requires.sought.there c.args.sought.key c.requires.sought.is_key q.view.memory.seen c.args.page n at.known.legal at.on_path in
+    let image = page_image sizes g.L.Trees.ROOTS (g.L.Law.lawful sizes.pages) (by_place g.L.Law.opening sizes.pages) c.facts_of_trees.ensures.shapes c.args.sought.root c.requires.sought.some c.requires.sought.there c.args.sought.key c.requires.sought.is_key q.view.memory.seen c.args.page n at.known.legal at.on_path in
     let level : c.level_of-level.result ≡ level_of (image_of (memory_after (by_place g.L.Law.opening sizes.pages) q.view.memory.seen) c.args.page) =
     subst (λ (s : Sizes). c.level_of-level.result ≡ level_of (image_of (memory_after (by_place g.L.Law.opening s.pages) c.latch_page.new.mtr.pass.now.view.memory.seen) c.args.page)) same_sizes c.level_of-level.ensures.level in
     let r : PassState = c.level_of-level.new.mtr.pass.now in
@@ -99,4 +99,4 @@ returns-clause-link_read g c =
     let here = subst (λ k. (NamesLink sizes (g.L.Law.lawful sizes.pages) (by_place g.L.Law.opening sizes.pages) c.args.sought.root c.args.sought.key c.args.page k c.link_here-link.result q s)) (level ∙ image.height)
     (link_read_linked sizes (g.L.Law.lawful sizes.pages) (by_place g.L.Law.opening sizes.pages) c.args.sought.root c.args.sought.key c.args.page c.level_of-level.result c.link_here-link.result q r s keeps.claimed c.level_of-level.ensures.read linked) in
     subst (λ k. HasReadLink sizes (g.L.Law.lawful sizes.pages) (by_place g.L.Law.opening sizes.pages) c.args.sought.root c.args.sought.key c.args.page k c.link_here-link.result p c.release_at.new.self.pass.now) (sym image.height ∙ sym level)
-    (link_read sizes g.L.Trees.ROOTS (g.L.Law.lawful sizes.pages) (by_place g.L.Law.opening sizes.pages) c.shape_of.ensures.shapes c.args.sought.root c.requires.sought.some c.requires.sought.there c.args.sought.key c.requires.sought.is_key c.args.page n p c.requires.index c.requires.on_path.1 q c.latch_page.ensures.latched keeps c.link_here-link.result s c.release_at.new.self.pass.now here c.release_at.ensures.released)
+    (link_read sizes g.L.Trees.ROOTS (g.L.Law.lawful sizes.pages) (by_place g.L.Law.opening sizes.pages) c.facts_of_trees.ensures.shapes c.args.sought.root c.requires.sought.some c.requires.sought.there c.args.sought.key c.requires.sought.is_key c.args.page n p c.requires.index c.requires.on_path.1 q c.latch_page.ensures.latched keeps c.link_here-link.result s c.release_at.new.self.pass.now here c.release_at.ensures.released)

@@ -28,13 +28,13 @@ taken g c =
     let q : PassState = c.claim_index.new.mtr.pass.now in let leaf = c.read_path-found.result.leaf in let left = c.read_path-found.result.left in
     let w = subst (λ (s : Sizes). HasReadPath s (g.L.Law.lawful s.pages) (by_place g.L.Law.opening s.pages) c.args.root c.args.key path leaf left q r) (ap (λ m. m.now.sizes) c.claim_index.ensures.still.latches) c.read_path-found.ensures.on_path in
     let rows = subst (λ (k : Sizes). HasTakenRows k (g.L.Law.lawful k.pages) (by_place g.L.Law.opening k.pages) c.args.root c.args.key path (length path - 1) last r s) (ap (λ m. m.now.sizes) (c.read_path-found.ensures.still.latches ∙ c.claim_index.ensures.still.latches)) c.take_rows-last.ensures.taken in
-    (w, path_long sizes g.L.Trees.ROOTS (g.L.Law.lawful sizes.pages) (by_place g.L.Law.opening sizes.pages) c.shape_of.ensures.shapes c.args.root c.requires.root.some c.requires.root.there c.args.key (rank-lt_end c.args.key) path leaf left q r w, rows)
+    (w, path_long sizes g.L.Trees.ROOTS (g.L.Law.lawful sizes.pages) (by_place g.L.Law.opening sizes.pages) c.facts_of_trees.ensures.shapes c.args.root c.requires.root.some c.requires.root.there c.args.key (rank-lt_end c.args.key) path leaf left q r w, rows)
 
 pub read_path-found-requires-clause-index : goal.read_path-found-requires-clause-index
 read_path-found-requires-clause-index g c =
     let sizes : Sizes = c.args.mtr.now.latches.now.sizes in let p : PassState = c.args.mtr.now.pass.now in let q : PassState = c.claim_index.new.mtr.pass.now in
     subst (λ (s : Sizes). HasIndex s (g.L.Law.lawful s.pages) q) (sym (ap (λ m. m.now.sizes) c.claim_index.ensures.still.latches))
-    (start_index sizes g.L.Trees.ROOTS (g.L.Law.lawful sizes.pages) (by_place g.L.Law.opening sizes.pages) c.shape_of.ensures.shapes c.args.root c.requires.root.some c.requires.root.there c.args.key (rank-lt_end c.args.key) [] 0 0 p q q q q (none_granted c.args.mtr.now.latches.now c.args.mtr.now.pass.now c.requires.may.mtr c.requires.may.memo) c.requires.may.none c.claim_index.ensures.latched c.claim_index.ensures.claimed)
+    (start_index sizes g.L.Trees.ROOTS (g.L.Law.lawful sizes.pages) (by_place g.L.Law.opening sizes.pages) c.facts_of_trees.ensures.shapes c.args.root c.requires.root.some c.requires.root.there c.args.key (rank-lt_end c.args.key) [] 0 0 p q q q q (none_granted c.args.mtr.now.latches.now c.args.mtr.now.pass.now c.requires.may.mtr c.requires.may.memo) c.requires.may.none c.claim_index.ensures.latched c.claim_index.ensures.claimed)
 
 pub read_path-found-requires-clause-sought : goal.read_path-found-requires-clause-sought
 read_path-found-requires-clause-sought g c = record { some = c.requires.root.some; there = c.requires.root.there; is_key = rank-lt_end c.args.key }
@@ -47,7 +47,7 @@ right_of-behind-requires-clause-loaded g c =
     let sizes : Sizes = c.args.mtr.now.latches.now.sizes in let r : PassState = c.read_path-found.new.mtr.pass.now in let s : PassState = c.take_rows-last.new.mtr.pass.now in
     let path = c.read_path-found.result.path in let last = c.take_rows-last.result in
     let so = taken g (goal.at.right_of-behind-requires-clause-loaded g c).After-take_rows-last in let long = so.1 in let rows = so.2 in
-    let link = behind_link sizes g.L.Trees.ROOTS (g.L.Law.lawful sizes.pages) (by_place g.L.Law.opening sizes.pages) c.shape_of.ensures.shapes c.args.root c.requires.root.some c.requires.root.there c.args.key (rank-lt_end c.args.key) path (length path - 1) last r s long.0 rows long.1 in
+    let link = behind_link sizes g.L.Trees.ROOTS (g.L.Law.lawful sizes.pages) (by_place g.L.Law.opening sizes.pages) c.facts_of_trees.ensures.shapes c.args.root c.requires.root.some c.requires.root.there c.args.key (rank-lt_end c.args.key) path (length path - 1) last r s long.0 rows long.1 in
     (link.image, link.there, link.formed)
 
 pub take_beside-requires-clause-room : goal.take_beside-requires-clause-room
@@ -55,7 +55,7 @@ take_beside-requires-clause-room g c =
     let sizes : Sizes = c.args.mtr.now.latches.now.sizes in let r : PassState = c.read_path-found.new.mtr.pass.now in let s : PassState = c.take_rows-last.new.mtr.pass.now in
     let path = c.read_path-found.result.path in let last = c.take_rows-last.result in
     let so = taken g (goal.at.take_beside-requires-clause-room g c).After-take_rows-last in let long = so.1 in let rows = so.2 in
-    let more = rows_room sizes g.L.Trees.ROOTS (g.L.Law.lawful sizes.pages) (by_place g.L.Law.opening sizes.pages) c.shape_of.ensures.shapes c.args.root c.requires.root.some c.requires.root.there c.args.key (rank-lt_end c.args.key) path (length path - 1) last r s long.0 rows in
+    let more = rows_room sizes g.L.Trees.ROOTS (g.L.Law.lawful sizes.pages) (by_place g.L.Law.opening sizes.pages) c.facts_of_trees.ensures.shapes c.args.root c.requires.root.some c.requires.root.there c.args.key (rank-lt_end c.args.key) path (length path - 1) last r s long.0 rows in
     let gs = c.claim_index.ensures.latched.grants in let a = ap (λ (g : Grants). g.s) gs in let b = ap (λ (g : Grants). g.sx) gs in let d = ap (λ (g : Grants). g.x) gs in let room = c.requires.may.room in
     let w = so.0 in let e = w.s in let f = w.sx in let h = w.x in omega arith
 
@@ -64,10 +64,10 @@ take_beside-requires-clause-ready g c =
     let sizes : Sizes = c.args.mtr.now.latches.now.sizes in let r : PassState = c.read_path-found.new.mtr.pass.now in let s : PassState = c.take_rows-last.new.mtr.pass.now in
     let path = c.read_path-found.result.path in let last = c.take_rows-last.result in
     let so = taken g (goal.at.take_beside-requires-clause-ready g c).After-take_rows-last in let long = so.1 in let rows = so.2 in
-    let link = behind_link sizes g.L.Trees.ROOTS (g.L.Law.lawful sizes.pages) (by_place g.L.Law.opening sizes.pages) c.shape_of.ensures.shapes c.args.root c.requires.root.some c.requires.root.there c.args.key (rank-lt_end c.args.key) path (length path - 1) last r s long.0 rows long.1 in
-    let next = (pages_after (by_place g.L.Law.opening sizes.pages) s.view.memory.seen last).next in let held = rows_held sizes g.L.Trees.ROOTS (g.L.Law.lawful sizes.pages) (by_place g.L.Law.opening sizes.pages) c.shape_of.ensures.shapes c.args.root c.requires.root.some c.requires.root.there c.args.key (rank-lt_end c.args.key) path (length path - 1) last r s long.0 rows in
+    let link = behind_link sizes g.L.Trees.ROOTS (g.L.Law.lawful sizes.pages) (by_place g.L.Law.opening sizes.pages) c.facts_of_trees.ensures.shapes c.args.root c.requires.root.some c.requires.root.there c.args.key (rank-lt_end c.args.key) path (length path - 1) last r s long.0 rows long.1 in
+    let next = (pages_after (by_place g.L.Law.opening sizes.pages) s.view.memory.seen last).next in let held = rows_held sizes g.L.Trees.ROOTS (g.L.Law.lawful sizes.pages) (by_place g.L.Law.opening sizes.pages) c.facts_of_trees.ensures.shapes c.args.root c.requires.root.some c.requires.root.there c.args.key (rank-lt_end c.args.key) path (length path - 1) last r s long.0 rows in
     let is : c.right_of-behind.result ≡ next = c.right_of-behind.ensures link.image link.there ∙ link.right_is in
-    let will = subst (λ n. WillTake sizes (g.L.Law.lawful sizes.pages) (by_place g.L.Law.opening sizes.pages) held (beside n ++ []) s) (sym is) (behind_will sizes g.L.Trees.ROOTS (g.L.Law.lawful sizes.pages) (by_place g.L.Law.opening sizes.pages) c.shape_of.ensures.shapes c.args.root c.requires.root.some c.requires.root.there c.args.key (rank-lt_end c.args.key) path (length path - 1) last r s long.0 rows long.1) in
+    let will = subst (λ n. WillTake sizes (g.L.Law.lawful sizes.pages) (by_place g.L.Law.opening sizes.pages) held (beside n ++ []) s) (sym is) (behind_will sizes g.L.Trees.ROOTS (g.L.Law.lawful sizes.pages) (by_place g.L.Law.opening sizes.pages) c.facts_of_trees.ensures.shapes c.args.root c.requires.root.some c.requires.root.there c.args.key (rank-lt_end c.args.key) path (length path - 1) last r s long.0 rows long.1) in
     let third = ap (λ m. m.now.sizes) (c.take_rows-last.ensures.still.latches ∙ c.read_path-found.ensures.still.latches ∙ c.claim_index.ensures.still.latches) in
     subst (λ (k : Sizes). MayTakeFirst k (g.L.Law.lawful k.pages) (by_place g.L.Law.opening k.pages) (beside c.right_of-behind.result) s) (sym third) (held, [], will)
 
@@ -76,19 +76,19 @@ returns-clause-claimed g c =
     let sizes : Sizes = c.args.mtr.now.latches.now.sizes in let r : PassState = c.read_path-found.new.mtr.pass.now in let s : PassState = c.take_rows-last.new.mtr.pass.now in
     let path = c.read_path-found.result.path in let last = c.take_rows-last.result in
     let so = taken g (goal.at.returns-clause-claimed g c).After-take_rows-last in let long = so.1 in let rows = so.2 in
-    let link = behind_link sizes g.L.Trees.ROOTS (g.L.Law.lawful sizes.pages) (by_place g.L.Law.opening sizes.pages) c.shape_of.ensures.shapes c.args.root c.requires.root.some c.requires.root.there c.args.key (rank-lt_end c.args.key) path (length path - 1) last r s long.0 rows long.1 in
-    let next = (pages_after (by_place g.L.Law.opening sizes.pages) s.view.memory.seen last).next in let held = rows_held sizes g.L.Trees.ROOTS (g.L.Law.lawful sizes.pages) (by_place g.L.Law.opening sizes.pages) c.shape_of.ensures.shapes c.args.root c.requires.root.some c.requires.root.there c.args.key (rank-lt_end c.args.key) path (length path - 1) last r s long.0 rows in
+    let link = behind_link sizes g.L.Trees.ROOTS (g.L.Law.lawful sizes.pages) (by_place g.L.Law.opening sizes.pages) c.facts_of_trees.ensures.shapes c.args.root c.requires.root.some c.requires.root.there c.args.key (rank-lt_end c.args.key) path (length path - 1) last r s long.0 rows long.1 in
+    let next = (pages_after (by_place g.L.Law.opening sizes.pages) s.view.memory.seen last).next in let held = rows_held sizes g.L.Trees.ROOTS (g.L.Law.lawful sizes.pages) (by_place g.L.Law.opening sizes.pages) c.facts_of_trees.ensures.shapes c.args.root c.requires.root.some c.requires.root.there c.args.key (rank-lt_end c.args.key) path (length path - 1) last r s long.0 rows in
     let is : c.right_of-behind.result ≡ next = c.right_of-behind.ensures link.image link.there ∙ link.right_is in
-    let will = subst (λ n. WillTake sizes (g.L.Law.lawful sizes.pages) (by_place g.L.Law.opening sizes.pages) held (beside n ++ []) s) (sym is) (behind_will sizes g.L.Trees.ROOTS (g.L.Law.lawful sizes.pages) (by_place g.L.Law.opening sizes.pages) c.shape_of.ensures.shapes c.args.root c.requires.root.some c.requires.root.there c.args.key (rank-lt_end c.args.key) path (length path - 1) last r s long.0 rows long.1) in
+    let will = subst (λ n. WillTake sizes (g.L.Law.lawful sizes.pages) (by_place g.L.Law.opening sizes.pages) held (beside n ++ []) s) (sym is) (behind_will sizes g.L.Trees.ROOTS (g.L.Law.lawful sizes.pages) (by_place g.L.Law.opening sizes.pages) c.facts_of_trees.ensures.shapes c.args.root c.requires.root.some c.requires.root.there c.args.key (rank-lt_end c.args.key) path (length path - 1) last r s long.0 rows long.1) in
     let third = ap (λ m. m.now.sizes) (c.take_rows-last.ensures.still.latches ∙ c.read_path-found.ensures.still.latches ∙ c.claim_index.ensures.still.latches) in
     let t : PassState = c.take_beside.new.mtr.pass.now in
     let taken = subst (λ (k : Sizes). TakesFirst k (g.L.Law.lawful k.pages) (by_place g.L.Law.opening k.pages) (beside c.right_of-behind.result) s t) third c.take_beside.ensures.taken held [] will in
     let more = subst (λ n. HasTakenMore sizes (g.L.Law.lawful sizes.pages) (by_place g.L.Law.opening sizes.pages) held (beside n) s t) is taken in
     let p : PassState = c.args.mtr.now.pass.now in let q : PassState = c.claim_index.new.mtr.pass.now in let idle = none_granted c.args.mtr.now.latches.now c.args.mtr.now.pass.now c.requires.may.mtr c.requires.may.memo in
-    let all = all_taken sizes g.L.Trees.ROOTS (g.L.Law.lawful sizes.pages) (by_place g.L.Law.opening sizes.pages) c.shape_of.ensures.shapes c.args.root c.requires.root.some c.requires.root.there c.args.key (rank-lt_end c.args.key) path (length path - 1) last r s long.0 rows long.1 t more in (
+    let all = all_taken sizes g.L.Trees.ROOTS (g.L.Law.lawful sizes.pages) (by_place g.L.Law.opening sizes.pages) c.facts_of_trees.ensures.shapes c.args.root c.requires.root.some c.requires.root.there c.args.key (rank-lt_end c.args.key) path (length path - 1) last r s long.0 rows long.1 t more in (
       held ++ beside next,
-      claimed_with sizes g.L.Trees.ROOTS (g.L.Law.lawful sizes.pages) (by_place g.L.Law.opening sizes.pages) c.shape_of.ensures.shapes c.args.root c.requires.root.some c.requires.root.there c.args.key (rank-lt_end c.args.key) path c.read_path-found.result.leaf c.read_path-found.result.left p q r s t idle c.requires.may.none c.claim_index.ensures.latched c.claim_index.ensures.claimed so.0 (held ++ beside next) t all,
-      all_siblings sizes g.L.Trees.ROOTS (g.L.Law.lawful sizes.pages) (by_place g.L.Law.opening sizes.pages) c.shape_of.ensures.shapes c.args.root c.requires.root.some c.requires.root.there c.args.key (rank-lt_end c.args.key) path (length path - 1) last r s long.0 rows long.1 t more,
+      claimed_with sizes g.L.Trees.ROOTS (g.L.Law.lawful sizes.pages) (by_place g.L.Law.opening sizes.pages) c.facts_of_trees.ensures.shapes c.args.root c.requires.root.some c.requires.root.there c.args.key (rank-lt_end c.args.key) path c.read_path-found.result.leaf c.read_path-found.result.left p q r s t idle c.requires.may.none c.claim_index.ensures.latched c.claim_index.ensures.claimed so.0 (held ++ beside next) t all,
+      all_siblings sizes g.L.Trees.ROOTS (g.L.Law.lawful sizes.pages) (by_place g.L.Law.opening sizes.pages) c.facts_of_trees.ensures.shapes c.args.root c.requires.root.some c.requires.root.there c.args.key (rank-lt_end c.args.key) path (length path - 1) last r s long.0 rows long.1 t more,
     )
 
 pub returns-clause-alone : goal.returns-clause-alone
@@ -96,10 +96,10 @@ returns-clause-alone g c =
     let sizes : Sizes = c.args.mtr.now.latches.now.sizes in let r : PassState = c.read_path-found.new.mtr.pass.now in let s : PassState = c.take_rows-last.new.mtr.pass.now in
     let path = c.read_path-found.result.path in let last = c.take_rows-last.result in
     let so = taken g (goal.at.returns-clause-alone g c).After-take_rows-last in let long = so.1 in let rows = so.2 in
-    let link = behind_link sizes g.L.Trees.ROOTS (g.L.Law.lawful sizes.pages) (by_place g.L.Law.opening sizes.pages) c.shape_of.ensures.shapes c.args.root c.requires.root.some c.requires.root.there c.args.key (rank-lt_end c.args.key) path (length path - 1) last r s long.0 rows long.1 in
-    let next = (pages_after (by_place g.L.Law.opening sizes.pages) s.view.memory.seen last).next in let held = rows_held sizes g.L.Trees.ROOTS (g.L.Law.lawful sizes.pages) (by_place g.L.Law.opening sizes.pages) c.shape_of.ensures.shapes c.args.root c.requires.root.some c.requires.root.there c.args.key (rank-lt_end c.args.key) path (length path - 1) last r s long.0 rows in
+    let link = behind_link sizes g.L.Trees.ROOTS (g.L.Law.lawful sizes.pages) (by_place g.L.Law.opening sizes.pages) c.facts_of_trees.ensures.shapes c.args.root c.requires.root.some c.requires.root.there c.args.key (rank-lt_end c.args.key) path (length path - 1) last r s long.0 rows long.1 in
+    let next = (pages_after (by_place g.L.Law.opening sizes.pages) s.view.memory.seen last).next in let held = rows_held sizes g.L.Trees.ROOTS (g.L.Law.lawful sizes.pages) (by_place g.L.Law.opening sizes.pages) c.facts_of_trees.ensures.shapes c.args.root c.requires.root.some c.requires.root.there c.args.key (rank-lt_end c.args.key) path (length path - 1) last r s long.0 rows in
     let is : c.right_of-behind.result ≡ next = c.right_of-behind.ensures link.image link.there ∙ link.right_is in
-    let will = subst (λ n. WillTake sizes (g.L.Law.lawful sizes.pages) (by_place g.L.Law.opening sizes.pages) held (beside n ++ []) s) (sym is) (behind_will sizes g.L.Trees.ROOTS (g.L.Law.lawful sizes.pages) (by_place g.L.Law.opening sizes.pages) c.shape_of.ensures.shapes c.args.root c.requires.root.some c.requires.root.there c.args.key (rank-lt_end c.args.key) path (length path - 1) last r s long.0 rows long.1) in
+    let will = subst (λ n. WillTake sizes (g.L.Law.lawful sizes.pages) (by_place g.L.Law.opening sizes.pages) held (beside n ++ []) s) (sym is) (behind_will sizes g.L.Trees.ROOTS (g.L.Law.lawful sizes.pages) (by_place g.L.Law.opening sizes.pages) c.facts_of_trees.ensures.shapes c.args.root c.requires.root.some c.requires.root.there c.args.key (rank-lt_end c.args.key) path (length path - 1) last r s long.0 rows long.1) in
     let third = ap (λ m. m.now.sizes) (c.take_rows-last.ensures.still.latches ∙ c.read_path-found.ensures.still.latches ∙ c.claim_index.ensures.still.latches) in
     let t : PassState = c.take_beside.new.mtr.pass.now in
     let taken = subst (λ (k : Sizes). TakesFirst k (g.L.Law.lawful k.pages) (by_place g.L.Law.opening k.pages) (beside c.right_of-behind.result) s t) third c.take_beside.ensures.taken held [] will in

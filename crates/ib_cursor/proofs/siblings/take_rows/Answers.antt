@@ -16,19 +16,19 @@ use Rattle.ib_cursor.proofs.siblings.take_rows.Goals as goal
 pub take_page-requires-clause-page : goal.take_page-requires-clause-page
 take_page-requires-clause-page g c =
     let sizes : Sizes = c.args.mtr.now.latches.now.sizes in
-    (root_can sizes g.L.Trees.ROOTS (g.L.Law.lawful sizes.pages) (by_place g.L.Law.opening sizes.pages) c.shape_of.ensures.shapes c.args.sought.root c.requires.sought.some c.requires.sought.there c.args.sought.key c.requires.sought.is_key c.args.mtr.now.pass.now c.requires.index).1
+    (root_can sizes g.L.Trees.ROOTS (g.L.Law.lawful sizes.pages) (by_place g.L.Law.opening sizes.pages) c.facts_of_trees.ensures.shapes c.args.sought.root c.requires.sought.some c.requires.sought.there c.args.sought.key c.requires.sought.is_key c.args.mtr.now.pass.now c.requires.index).1
 
 pub take_page-requires-clause-holds : goal.take_page-requires-clause-holds
 take_page-requires-clause-holds g c =
     let sizes : Sizes = c.args.mtr.now.latches.now.sizes in
-    ([], (root_can sizes g.L.Trees.ROOTS (g.L.Law.lawful sizes.pages) (by_place g.L.Law.opening sizes.pages) c.shape_of.ensures.shapes c.args.sought.root c.requires.sought.some c.requires.sought.there c.args.sought.key c.requires.sought.is_key c.args.mtr.now.pass.now c.requires.index).0)
+    ([], (root_can sizes g.L.Trees.ROOTS (g.L.Law.lawful sizes.pages) (by_place g.L.Law.opening sizes.pages) c.facts_of_trees.ensures.shapes c.args.sought.root c.requires.sought.some c.requires.sought.there c.args.sought.key c.requires.sought.is_key c.args.mtr.now.pass.now c.requires.index).0)
 
 pub loop-at-init : goal.loop-at-init
 loop-at-init g c =
     let sizes : Sizes = c.args.mtr.now.latches.now.sizes in
     let p : PassState = c.args.mtr.now.pass.now in let q : PassState = c.take_page.new.mtr.pass.now in
-    let can = (root_can sizes g.L.Trees.ROOTS (g.L.Law.lawful sizes.pages) (by_place g.L.Law.opening sizes.pages) c.shape_of.ensures.shapes c.args.sought.root c.requires.sought.some c.requires.sought.there c.args.sought.key c.requires.sought.is_key p c.requires.index).0 in
-    let rows = rows_first sizes g.L.Trees.ROOTS (g.L.Law.lawful sizes.pages) (by_place g.L.Law.opening sizes.pages) c.shape_of.ensures.shapes c.args.sought.root c.requires.sought.some c.requires.sought.there c.args.sought.key c.requires.sought.is_key c.args.path.now p q c.requires.on_path (c.take_page.ensures.taken [] can) in
+    let can = (root_can sizes g.L.Trees.ROOTS (g.L.Law.lawful sizes.pages) (by_place g.L.Law.opening sizes.pages) c.facts_of_trees.ensures.shapes c.args.sought.root c.requires.sought.some c.requires.sought.there c.args.sought.key c.requires.sought.is_key p c.requires.index).0 in
+    let rows = rows_first sizes g.L.Trees.ROOTS (g.L.Law.lawful sizes.pages) (by_place g.L.Law.opening sizes.pages) c.facts_of_trees.ensures.shapes c.args.sought.root c.requires.sought.some c.requires.sought.there c.args.sought.key c.requires.sought.is_key c.args.path.now p q c.requires.on_path (c.take_page.ensures.taken [] can) in
     record {
       still = c.take_page.ensures.still;
       within = let a = ap length rows.is in let b = length-append rows.above (rows.node ∷ rows.rest) in omega arith;
@@ -39,7 +39,7 @@ pub take_row-last-requires-clause-room : goal.take_row-last-requires-clause-room
 take_row-last-requires-clause-room g c =
     let sizes : Sizes = c.args.mtr.now.latches.now.sizes in
     let inv = c.loop-at.invariant in
-    let more = rows_room sizes g.L.Trees.ROOTS (g.L.Law.lawful sizes.pages) (by_place g.L.Law.opening sizes.pages) c.shape_of.ensures.shapes c.args.sought.root c.requires.sought.some c.requires.sought.there c.args.sought.key c.requires.sought.is_key c.args.path.now c.loop-at.at c.loop-at.last c.args.mtr.now.pass.now c.loop-at.mtr.pass.now c.pages-pages.ensures.few inv.taken in
+    let more = rows_room sizes g.L.Trees.ROOTS (g.L.Law.lawful sizes.pages) (by_place g.L.Law.opening sizes.pages) c.facts_of_trees.ensures.shapes c.args.sought.root c.requires.sought.some c.requires.sought.there c.args.sought.key c.requires.sought.is_key c.args.path.now c.loop-at.at c.loop-at.last c.args.mtr.now.pass.now c.loop-at.mtr.pass.now c.pages-pages.ensures.few inv.taken in
     let room = c.requires.room in omega arith
 
 pub take_row-last-requires-clause-ready : goal.take_row-last-requires-clause-ready
@@ -50,9 +50,9 @@ take_row-last-requires-clause-ready g c =
     let page = get_or c.pages-pages.result.now c.loop-at.at 0 in
     let up : c.loop-at.at + 1 < length c.args.path.now = let a = ap length c.pages-pages.ensures.pages in let b = c.loop-at-test.true in omega arith in
     let is : inv.taken.node ≡ page = sym (ap (λ ps. get_or ps c.loop-at.at 0) c.pages-pages.ensures.pages
-    ∙ row_node sizes g.L.Trees.ROOTS (g.L.Law.lawful sizes.pages) (by_place g.L.Law.opening sizes.pages) c.shape_of.ensures.shapes c.args.sought.root c.requires.sought.some c.requires.sought.there c.args.sought.key c.requires.sought.is_key c.args.path.now c.loop-at.at c.loop-at.last p q c.pages-pages.ensures.few inv.taken up) in
-    let can = row_can sizes g.L.Trees.ROOTS (g.L.Law.lawful sizes.pages) (by_place g.L.Law.opening sizes.pages) c.shape_of.ensures.shapes c.args.sought.root c.requires.sought.some c.requires.sought.there c.args.sought.key c.requires.sought.is_key c.args.path.now c.loop-at.at c.loop-at.last p q c.pages-pages.ensures.few inv.taken up in
-    let held = rows_held sizes g.L.Trees.ROOTS (g.L.Law.lawful sizes.pages) (by_place g.L.Law.opening sizes.pages) c.shape_of.ensures.shapes c.args.sought.root c.requires.sought.some c.requires.sought.there c.args.sought.key c.requires.sought.is_key c.args.path.now c.loop-at.at c.loop-at.last p q c.pages-pages.ensures.few inv.taken in
+    ∙ row_node sizes g.L.Trees.ROOTS (g.L.Law.lawful sizes.pages) (by_place g.L.Law.opening sizes.pages) c.facts_of_trees.ensures.shapes c.args.sought.root c.requires.sought.some c.requires.sought.there c.args.sought.key c.requires.sought.is_key c.args.path.now c.loop-at.at c.loop-at.last p q c.pages-pages.ensures.few inv.taken up) in
+    let can = row_can sizes g.L.Trees.ROOTS (g.L.Law.lawful sizes.pages) (by_place g.L.Law.opening sizes.pages) c.facts_of_trees.ensures.shapes c.args.sought.root c.requires.sought.some c.requires.sought.there c.args.sought.key c.requires.sought.is_key c.args.path.now c.loop-at.at c.loop-at.last p q c.pages-pages.ensures.few inv.taken up in
+    let held = rows_held sizes g.L.Trees.ROOTS (g.L.Law.lawful sizes.pages) (by_place g.L.Law.opening sizes.pages) c.facts_of_trees.ensures.shapes c.args.sought.root c.requires.sought.some c.requires.sought.there c.args.sought.key c.requires.sought.is_key c.args.path.now c.loop-at.at c.loop-at.last p q c.pages-pages.ensures.few inv.taken in
     subst (λ (s : Sizes). (held : List ℕ) × CanTakeRow s (g.L.Law.lawful s.pages) (by_place g.L.Law.opening s.pages) c.args.sought.key held page q) (sym (ap (λ m. m.now.sizes) inv.still.latches))
     (held, subst (λ n. CanTakeRow sizes (g.L.Law.lawful sizes.pages) (by_place g.L.Law.opening sizes.pages) c.args.sought.key held n q) is can)
 
@@ -64,9 +64,9 @@ loop-at-preserved g c =
     let page = get_or c.pages-pages.result.now c.loop-at.at 0 in
     let up : c.loop-at.at + 1 < length c.args.path.now = let a = ap length c.pages-pages.ensures.pages in let b = c.loop-at-test.true in omega arith in
     let is : page ≡ inv.taken.node = ap (λ ps. get_or ps c.loop-at.at 0) c.pages-pages.ensures.pages
-    ∙ row_node sizes g.L.Trees.ROOTS (g.L.Law.lawful sizes.pages) (by_place g.L.Law.opening sizes.pages) c.shape_of.ensures.shapes c.args.sought.root c.requires.sought.some c.requires.sought.there c.args.sought.key c.requires.sought.is_key c.args.path.now c.loop-at.at c.loop-at.last p q c.pages-pages.ensures.few inv.taken up in
-    let can = row_can sizes g.L.Trees.ROOTS (g.L.Law.lawful sizes.pages) (by_place g.L.Law.opening sizes.pages) c.shape_of.ensures.shapes c.args.sought.root c.requires.sought.some c.requires.sought.there c.args.sought.key c.requires.sought.is_key c.args.path.now c.loop-at.at c.loop-at.last p q c.pages-pages.ensures.few inv.taken up in
-    let held = rows_held sizes g.L.Trees.ROOTS (g.L.Law.lawful sizes.pages) (by_place g.L.Law.opening sizes.pages) c.shape_of.ensures.shapes c.args.sought.root c.requires.sought.some c.requires.sought.there c.args.sought.key c.requires.sought.is_key c.args.path.now c.loop-at.at c.loop-at.last p q c.pages-pages.ensures.few inv.taken in
+    ∙ row_node sizes g.L.Trees.ROOTS (g.L.Law.lawful sizes.pages) (by_place g.L.Law.opening sizes.pages) c.facts_of_trees.ensures.shapes c.args.sought.root c.requires.sought.some c.requires.sought.there c.args.sought.key c.requires.sought.is_key c.args.path.now c.loop-at.at c.loop-at.last p q c.pages-pages.ensures.few inv.taken up in
+    let can = row_can sizes g.L.Trees.ROOTS (g.L.Law.lawful sizes.pages) (by_place g.L.Law.opening sizes.pages) c.facts_of_trees.ensures.shapes c.args.sought.root c.requires.sought.some c.requires.sought.there c.args.sought.key c.requires.sought.is_key c.args.path.now c.loop-at.at c.loop-at.last p q c.pages-pages.ensures.few inv.taken up in
+    let held = rows_held sizes g.L.Trees.ROOTS (g.L.Law.lawful sizes.pages) (by_place g.L.Law.opening sizes.pages) c.facts_of_trees.ensures.shapes c.args.sought.root c.requires.sought.some c.requires.sought.there c.args.sought.key c.requires.sought.is_key c.args.path.now c.loop-at.at c.loop-at.last p q c.pages-pages.ensures.few inv.taken in
     let same = ap (λ m. m.now.sizes) inv.still.latches in
     let m = pages_after (by_place g.L.Law.opening sizes.pages) q.view.memory.seen in
     let taken = subst (λ (s : Sizes). (held : List ℕ) → CanTakeRow s (g.L.Law.lawful s.pages) (by_place g.L.Law.opening s.pages) c.args.sought.key held page q
@@ -77,5 +77,5 @@ loop-at-preserved g c =
     record {
       still = still_then inv.still c.take_row-last.ensures.still;
       within = let a = ap length c.pages-pages.ensures.pages in let b = c.loop-at-test.true in omega arith;
-      taken = row_more sizes g.L.Trees.ROOTS (g.L.Law.lawful sizes.pages) (by_place g.L.Law.opening sizes.pages) c.shape_of.ensures.shapes c.args.sought.root c.requires.sought.some c.requires.sought.there c.args.sought.key c.requires.sought.is_key c.args.path.now c.loop-at.at c.loop-at.last p q c.pages-pages.ensures.few inv.taken up t c.take_row-last.result one last;
+      taken = row_more sizes g.L.Trees.ROOTS (g.L.Law.lawful sizes.pages) (by_place g.L.Law.opening sizes.pages) c.facts_of_trees.ensures.shapes c.args.sought.root c.requires.sought.some c.requires.sought.there c.args.sought.key c.requires.sought.is_key c.args.path.now c.loop-at.at c.loop-at.last p q c.pages-pages.ensures.few inv.taken up t c.take_row-last.result one last;
     }

@@ -19,14 +19,14 @@ returns-then-word-first-2-clause-below g c =
 pub returns-clause-below : goal.returns-clause-below
 returns-clause-below g c =
     let ws = g.W.PageWords.words c.args.page.now in let key = c.args.key in
-    let one : get_or ws (c.args.place + 1) 0 ≡ key.first =
+    let one : get_or ws (c.args.offset + 1) 0 ≡ key.first =
     (let first = c.words-first.ensures.first in let word = c.word-word.ensures.word in let ge = c.if-word-first.false in let le = c.if-word-first-2.false in omega arith) in
-    let two : c.word.result ≡ get_or ws (c.args.place + 2) 0 = c.word.ensures.word ∙ ap (λ (xs : List ℕ). get_or xs (c.args.place + 2) 0) c.word-word.ensures.same in
+    let two : c.word.result ≡ get_or ws (c.args.offset + 2) 0 = c.word.ensures.word ∙ ap (λ (xs : List ℕ). get_or xs (c.args.offset + 2) 0) c.word-word.ensures.same in
     let second = c.words-first.ensures.second in (
       λ yes. second_below _ _ key c.requires.keyed one (let lt = ltb-true _ _ yes in omega arith),
-      λ below. elim (cases_lt (get_or ws (c.args.place + 2) 0) key.second) [
+      λ below. elim (cases_lt (get_or ws (c.args.offset + 2) 0) key.second) [
         | inl lt ↦ lt-ltb _ _ (omega arith)
-        | inr ge ↦ absurd (elim (cases_eq (get_or ws (c.args.place + 2) 0) key.second) [
+        | inr ge ↦ absurd (elim (cases_eq (get_or ws (c.args.offset + 2) 0) key.second) [
           | inl e ↦ let same = ap rank (order-words _ _ key one e) in omega arith
           | inr ne ↦ let above = second_above _ _ key c.requires.keyed one (omega arith) in omega arith
         ])

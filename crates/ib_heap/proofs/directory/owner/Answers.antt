@@ -9,8 +9,8 @@ overflow_add-slot g c = let k = known (g.W.PageWords.words c.args.page.now) c.re
 pub word-requires-clause-index : goal.word-requires-clause-index
 word-requires-clause-index g c = let k = known (g.W.PageWords.words c.args.page.now) c.requires.page.tree in let s = k.slots in let r = c.requires.in_range in let z = k.size in omega arith
 
-pub returns-clause-place : goal.returns-clause-place
-returns-clause-place g c = let k = known (g.W.PageWords.words c.args.page.now) c.requires.page.tree in rw c.word.ensures.word (owner-is _ c.args.slot k c.requires.in_range).at
+pub returns-clause-offset : goal.returns-clause-offset
+returns-clause-offset g c = let k = known (g.W.PageWords.words c.args.page.now) c.requires.page.tree in rw c.word.ensures.word (owner-is _ c.args.slot k c.requires.in_range).at
 
 pub returns-clause-low : goal.returns-clause-low
 returns-clause-low g c = let k = known (g.W.PageWords.words c.args.page.now) c.requires.page.tree in rw c.word.ensures.word (owner-is _ c.args.slot k c.requires.in_range).low

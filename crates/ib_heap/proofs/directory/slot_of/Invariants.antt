@@ -1,6 +1,6 @@
 -- The owners up to the lower slot are below the key, and that of the upper slot is not.
 use Rattle.std.proofs.Common.{◌≡◌, ◌-◌, ◌<◌, ◌≤◌, ◌⊎◌, length}
-use Rattle.ib_map.specs.Pairs.{place_of}
+use Rattle.ib_map.specs.Pairs.{index_of}
 use Rattle.ib_heap.specs.Heap.{nodes_of, owners, up_to}
 use Rattle.ib_heap.specs.Image.{records_of}
 use Rattle.ib_heap.proofs.directory.slot_of.Given as goal
@@ -15,8 +15,8 @@ invariant-loop-low g l =
       read : g.W.PageWords.has_read l.fn.page l.page;
       between : l.low < l.high;
       in_range : l.high ≤ length (owners (nodes_of ws));
-      low : up_to l.low (nodes_of ws) ≤ place_of l.key (records_of ws);
-      high : (place_of l.key (records_of ws) < up_to l.high (nodes_of ws)) ⊎ (l.high ≡ length (owners (nodes_of ws)));
+      low : up_to l.low (nodes_of ws) ≤ index_of l.key (records_of ws);
+      high : (index_of l.key (records_of ws) < up_to l.high (nodes_of ws)) ⊎ (l.high ≡ length (owners (nodes_of ws)));
     }
 
 abbrev pub decreases-loop-low : goal.decreases-loop-low

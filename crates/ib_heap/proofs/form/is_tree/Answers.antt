@@ -1,11 +1,11 @@
 -- The first word tells.
 use Rattle.std.proofs.Common.{arith, inl, inr, subst, eq-eqb, eqb-true}
 use Rattle.ib_heap.specs.Page.{HoldsTree}
-use Rattle.ib_heap.proofs.FormLaws.{head_read, kind_read}
+use Rattle.ib_heap.proofs.FormLaws.{header_read, kind_read}
 use Rattle.ib_heap.proofs.form.is_tree.Goals as goal
 
 pub bounds-words-0 : goal.bounds-words-0
-bounds-words-0 c = let h = head_read c.args.words.now c.requires in omega arith
+bounds-words-0 c = let h = header_read c.args.words.now c.requires in omega arith
 
 pub returns : goal.returns
 returns c = elim (kind_read c.args.words.now c.requires) [

@@ -1,11 +1,11 @@
 -- One word is written.
 use Rattle.std.proofs.Common.{arith}
-use Rattle.ib_heap.proofs.FormLaws.{head_read}
-use Rattle.ib_heap.proofs.HeadLaws.{clock-set}
+use Rattle.ib_heap.proofs.FormLaws.{header_read}
+use Rattle.ib_heap.proofs.HeaderLaws.{clock-set}
 use Rattle.ib_heap.proofs.form.set_clock.Goals as goal
 
 pub bounds-words-5 : goal.bounds-words-5
-bounds-words-5 c = let h = head_read c.args.words.now c.requires in omega arith
+bounds-words-5 c = let h = header_read c.args.words.now c.requires in omega arith
 
 pub returns-clause-page : goal.returns-clause-page
 returns-clause-page c = (clock-set c.args.words.now c.args.clock c.requires).page

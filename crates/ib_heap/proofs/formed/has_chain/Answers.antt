@@ -1,6 +1,6 @@
 -- One more record, or none that goes on.
 use Rattle.std.proofs.Common.{arith, ◌∙◌, ◌≡◌, ◌+◌, ◌-◌, ◌%◌, sym, ap, Bool, ◌&&◌, get_or}
-use Rattle.ib_heap.specs.Heap.{places_of, chain_from}
+use Rattle.ib_heap.specs.Heap.{offsets_of, chain_from}
 use Rattle.ib_heap.specs.Walks.{are_new, met_with, first_step, chain_holds}
 use Rattle.ib_heap.proofs.FormedLoops.{chain-new, chain-met, chain-more, chain-not, chain-bad, chain-last}
 use Rattle.ib_heap.proofs.formed.has_chain.Goals as goal
@@ -10,9 +10,9 @@ loop-i-init c =
     let ws = c.args.words.now in
     let all : c.args.count - 0 ≡ c.args.count = omega arith in
     record {
-      holds = ap (λ m. are_new c.args.n c.args.met.now (places_of (chain_from ws m (get_or ws 18 0 % 256))) && chain_holds ws m (first_step ws)) all;
-      meets = ap (λ m. met_with c.args.met.now (places_of (chain_from ws m (get_or ws 18 0 % 256)))) all;
-      places = c.requires.met_places;
+      holds = ap (λ m. are_new c.args.n c.args.met.now (offsets_of (chain_from ws m (get_or ws 18 0 % 256))) && chain_holds ws m (first_step ws)) all;
+      meets = ap (λ m. met_with c.args.met.now (offsets_of (chain_from ws m (get_or ws 18 0 % 256)))) all;
+      offsets = c.requires.met_offsets;
       owned = omega arith;
       last = omega arith;
     }
@@ -38,9 +38,9 @@ loop-i-preserved c =
     let more = chain-more ws c.args.count c.loop-i.i c.loop-i.step c.in-Some.next (omega arith) left in
     record {
       holds = ap (λ (b : Bool). b && chain_holds ws (c.args.count - (c.loop-i.i + 1)) c.in-Some.next) (sym new)
-          ∙ (ap (λ (b : Bool). are_new c.args.n c.loop-i.met (places_of (chain_from ws (c.args.count - c.loop-i.i) c.loop-i.step.at)) && b) (sym more) ∙ i.holds);
+          ∙ (ap (λ (b : Bool). are_new c.args.n c.loop-i.met (offsets_of (chain_from ws (c.args.count - c.loop-i.i) c.loop-i.step.at)) && b) (sym more) ∙ i.holds);
       meets = sym (chain-met ws c.loop-i.met c.meet.new.met c.args.count c.loop-i.i c.loop-i.step.at c.in-Some.next.at (omega arith) met left.at) ∙ i.meets;
-      places = c.meet.ensures.places;
+      offsets = c.meet.ensures.offsets;
       owned = (let o = left.owned in let p = i.owned in omega arith);
       last = left.last;
     }

@@ -1,4 +1,4 @@
--- One place further.
+-- One offset further.
 use Rattle.std.proofs.Common.{◌≡◌, ℕ, zero, suc, ◌+◌, ◌%◌, ◌∙◌, List, get_or, ap, sym, refl, arith}
 use Rattle.ib_heap.specs.Walks.{end_from}
 use Rattle.ib_heap.proofs.insert.fourth_behind.Goals as goal
@@ -12,4 +12,4 @@ next_word-at-requires c = let lt = c.requires c.loop-step._step c.loop-step-test
 
 pub loop-step-preserved : goal.loop-step-preserved
 loop-step-preserved c =
-    c.next_word-at.ensures.next ∙ (ap (λ n. get_or c.args.words.now n 0 % 256) c.loop-step.invariant ∙ sym (end-more c.args.words.now c.loop-step._step c.args.place))
+    c.next_word-at.ensures.next ∙ (ap (λ n. get_or c.args.words.now n 0 % 256) c.loop-step.invariant ∙ sym (end-more c.args.words.now c.loop-step._step c.args.offset))

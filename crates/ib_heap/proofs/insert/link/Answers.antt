@@ -14,15 +14,15 @@ written vs p a b key first second is words = (
   ap (λ n. is_key_words n (get_or vs (p + 2) 0)) first ∙ (ap (λ n. is_key_words a n) second ∙ words),
 )
 
--- a word of the place is no head that is written behind it
+-- a word of the offset is no header that is written behind it
 word-apart : (p i j : ℕ) → IsOutside p i → p ≤ j → j < p + 4 → j ≢ i
 word-apart p i j out low high z = outside-apart p i j out low high (sym z)
 
 pub returns : goal.returns
 returns c =
     let r = c.requires in
-    let p = c.args.place in
-    let a = r.place_low in let b = r.before_head.low in let o = r.owner_head.low in
+    let p = c.args.offset in
+    let a = r.offset_low in let b = r.before_header.low in let o = r.owner_header.low in
     let before : (j : ℕ) → p ≤ j → j < p + 4 → j ≢ c.args.cursor.before = λ j low high. word-apart p _ j r.before_apart low high in
     let owner : (j : ℕ) → p ≤ j → j < p + 4 → j ≢ c.args.owner = λ j low high. word-apart p _ j r.owner_apart low high in
     let first =
@@ -33,7 +33,7 @@ returns c =
     ∙ (c.write-4.ensures.other _ (λ z. absurd (omega arith)) ∙ c.write-3.ensures.here))) in
     let key = written _ p _ _ c.args.key first second c.words-first.ensures.key c.words-first.ensures.are_words in
     record {
-      place_word = c.write-7.ensures.other _ (λ z. absurd (omega arith)) ∙ (c.write-6.ensures.other _ (owner p (omega arith) (omega arith)) ∙ (c.write-5.ensures.other _ (before p (omega arith) (omega arith))
+      offset_word = c.write-7.ensures.other _ (λ z. absurd (omega arith)) ∙ (c.write-6.ensures.other _ (owner p (omega arith) (omega arith)) ∙ (c.write-5.ensures.other _ (before p (omega arith) (omega arith))
           ∙ (c.write-4.ensures.other _ (λ z. absurd (omega arith)) ∙ (c.write-3.ensures.other _ (λ z. absurd (omega arith)) ∙ (c.write-2.ensures.other _ (λ z. absurd (omega arith)) ∙ c.write.ensures.here)))));
       key_word = key.0;
       is_key = key.1;

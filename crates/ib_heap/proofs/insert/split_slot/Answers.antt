@@ -5,7 +5,7 @@ use Rattle.ib_heap.proofs.insert.split_slot.Goals as goal
 pub returns : goal.returns
 returns c =
     let r = c.requires in
-    let a = r.some in let b = r.last in let f = r.few in let ml = r.middle_head.low in let ol = r.owner_head.low in let word = r.owner_word in
+    let a = r.some in let b = r.last in let f = r.few in let ml = r.middle_header.low in let ol = r.owner_header.low in let word = r.owner_word in
     record {
       marked = c.write-4.ensures.other _ (λ z. absurd (omega arith)) ∙ (c.write-3.ensures.other _ r.apart ∙ c.write-2.ensures.here);
       lowered = let e = c.write-4.ensures.other c.args.owner (λ z. absurd (omega arith)) in let h = c.write-3.ensures.here in omega arith;

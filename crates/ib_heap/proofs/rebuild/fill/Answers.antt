@@ -1,16 +1,16 @@
--- The next record stands behind all so far, and its place is the number of these.
+-- The next record stands behind all so far, and its offset is the number of these.
 use Rattle.std.proofs.Common.{◌≡◌, ◌<◌, ◌+◌, ◌∙◌, ◌*◌, ap, sym, subst, arith, inr, length, take, get_or, List, ℕ, None}
 use Rattle.std.proofs.lemmas.List.{length-take-le, take_more}
 use Rattle.ib_map.specs.Keys.{MapKey, end_rank}
-use Rattle.ib_map.specs.Pairs.{Pairs, Rises, put, value_at, place_of}
+use Rattle.ib_map.specs.Pairs.{Pairs, Rises, put, value_at, index_of}
 use Rattle.ib_heap.specs.Page.{HoldsTree, page_in}
 use Rattle.ib_heap.specs.Form.{page_of}
 use Rattle.ib_heap.specs.Image.{value_with_records, records_of}
 use Rattle.ib_heap.specs.Heap.{read_heap}
-use Rattle.ib_heap.specs.Put.{put_in, place_for}
+use Rattle.ib_heap.specs.Put.{put_in, offset_for}
 use Rattle.ib_heap.specs.Filled.{filled}
-use Rattle.ib_heap.proofs.FilledLaws.{filled-none, filled-more, filled-place, behind-kept}
-use Rattle.ib_heap.proofs.FillLaws.{is-absent, is-put-last, is-last-place, take-rises}
+use Rattle.ib_heap.proofs.FilledLaws.{filled-none, filled-more, filled-offset, behind-kept}
+use Rattle.ib_heap.proofs.FillLaws.{is-absent, is-put-last, is-last-index, take-rises}
 use Rattle.ib_heap.proofs.RecordsLaws.{holds-with, records-with, with-with, with-same}
 use Rattle.ib_heap.proofs.rebuild.fill.Goals as goal
 
@@ -32,9 +32,9 @@ module _ (ws vs : List ℕ) (rs : Pairs) (i : ℕ) (item : MapKey × ℕ) (holds
       let all : put r.0 r.1 (records_of vs) ≡ take (i + 1) rs = ap (λ (xs : Pairs). put r.0 r.1 xs) so-far ∙ (is-put-last (take i rs) r (take-rises 0 rs end_rank i item rises lt) ∙ sym (take_more rs i item lt)) in
       ap (λ (xs : Pairs). value_with_records xs (page_of vs)) all ∙ (ap (λ v. value_with_records (take (i + 1) rs) v) is ∙ with-with (take (i + 1) rs) (take i rs) (page_of ws))
 
-  next-place : Rises 0 rs end_rank → i < length rs → place_of (get_or rs i item).0 (records_of vs) ≡ i
-  next-place rises lt =
-      ap (λ (xs : Pairs). place_of (get_or rs i item).0 xs) so-far ∙ (is-last-place (take i rs) (get_or rs i item) (take-rises 0 rs end_rank i item rises lt) ∙ length-take-le i rs (omega arith))
+  next-index : Rises 0 rs end_rank → i < length rs → index_of (get_or rs i item).0 (records_of vs) ≡ i
+  next-index rises lt =
+      ap (λ (xs : Pairs). index_of (get_or rs i item).0 xs) so-far ∙ (is-last-index (take i rs) (get_or rs i item) (take-rises 0 rs end_rank i item rises lt) ∙ length-take-le i rs (omega arith))
 
 pub loop-record-init : goal.loop-record-init
 loop-record-init c = record {
@@ -62,10 +62,10 @@ pub loop-record-preserved : goal.loop-record-preserved
 loop-record-preserved c =
     let ws = c.args.words.now in let vs = c.loop-record.words in let rs = c.args.records.now in let i = c.loop-record.record-index in
     let is = c.loop-record.invariant.page in
-    let now : read_heap c.put_new.new.words ≡ filled (i + 1) = c.put_new.ensures.heap ∙ (ap (λ (r : MapKey × ℕ). put_in (place_of r.0 (records_of vs)) (read_heap vs)) c.record-item.is
-    ∙ ap (λ k. put_in k (read_heap vs)) (next-place ws vs rs i c.record-item.result c.requires.tree is c.requires.ascends c.loop-record-test.true)
+    let now : read_heap c.put_new.new.words ≡ filled (i + 1) = c.put_new.ensures.heap ∙ (ap (λ (r : MapKey × ℕ). put_in (index_of r.0 (records_of vs)) (read_heap vs)) c.record-item.is
+    ∙ ap (λ k. put_in k (read_heap vs)) (next-index ws vs rs i c.record-item.result c.requires.tree is c.requires.ascends c.loop-record-test.true)
     ∙ (ap (λ h. put_in i h) c.loop-record.invariant.heap ∙ filled-more i)) in
-    let place : place_for (read_heap vs) ≡ 20 + 4 * i = ap place_for c.loop-record.invariant.heap ∙ filled-place i in
+    let offset : offset_for (read_heap vs) ≡ 20 + 4 * i = ap offset_for c.loop-record.invariant.heap ∙ filled-offset i in
     record {
       page = c.put_new.ensures.page ∙ ap (λ (r : MapKey × ℕ). value_with_records (put r.0 r.1 (records_of vs)) (page_of vs)) c.record-item.is
           ∙ next-put ws vs rs i c.record-item.result c.requires.tree is c.requires.ascends c.loop-record-test.true;

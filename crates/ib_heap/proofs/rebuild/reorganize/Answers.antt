@@ -4,14 +4,14 @@ use Rattle.ib_map.specs.Keys.{end_rank}
 use Rattle.ib_map.specs.Pairs.{Pairs, Rises}
 use Rattle.ib_heap.specs.Form.{page_of}
 use Rattle.ib_heap.specs.Image.{records_of, value_with_records}
-use Rattle.ib_heap.proofs.FormLaws.{formed-tree, head_read}
+use Rattle.ib_heap.proofs.FormLaws.{formed-tree, header_read}
 use Rattle.ib_heap.proofs.SeekLaws.{records_ascend}
 use Rattle.ib_heap.proofs.FillLaws.{all-of}
 use Rattle.ib_heap.proofs.RecordsLaws.{with-same}
 use Rattle.ib_heap.proofs.rebuild.reorganize.Goals as goal
 
 pub copy_all-len-requires-clause-room : goal.copy_all-len-requires-clause-room
-copy_all-len-requires-clause-room c = (head_read c.args.words.now (formed-tree c.args.words.now c.requires)).few
+copy_all-len-requires-clause-room c = (header_read c.args.words.now (formed-tree c.args.words.now c.requires)).few
 
 pub rebuild-requires-clause-ascends : goal.rebuild-requires-clause-ascends
 rebuild-requires-clause-ascends c =

@@ -5,7 +5,7 @@ use Rattle.ib_heap.proofs.remove.join_slots.Goals as goal
 pub returns : goal.returns
 returns c =
     let r = c.requires in let some = r.some in let last = r.last in let few = r.few in
-    let a = r.short_head.low in let b = r.after_head.low in let short_word = r.short_word in
+    let a = r.short_header.low in let b = r.after_header.low in let short_word = r.short_word in
     record {
       fewer = let here = c.write-4.ensures.other c.args.short (λ z. absurd (omega arith)) ∙ (c.write-3.ensures.other _ r.apart ∙ c.write-2.ensures.here) in omega arith;
       raised = c.write-4.ensures.other _ (λ z. absurd (omega arith)) ∙ c.write-3.ensures.here;

@@ -1,4 +1,4 @@
--- The record is unlinked, or hands its slot over, and its place is given back.
+-- The record is unlinked, or hands its slot over, and its offset is given back.
 use Rattle.std.proofs.Common.{◌∙◌, sym}
 use Rattle.ib_heap.proofs.RemovalLaws.{slot-read, can-hand-over, can-give-owner, owner-out, can-unlink, can-give-plain, plain-out}
 use Rattle.ib_heap.proofs.remove.take_out.Goals as goal

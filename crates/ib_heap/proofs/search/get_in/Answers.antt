@@ -1,4 +1,4 @@
--- The record at the place where the key stands, or none.
+-- The record at the offset where the key stands, or none.
 use Rattle.std.proofs.Common.{◌∙◌, ◌+◌, ap, sym, get_or, List, ℕ, Some}
 use Rattle.ib_map.specs.Keys.{rank}
 use Rattle.ib_heap.proofs.SeekLaws.{known}

@@ -1,4 +1,4 @@
--- The key's own record, or the last one before its place.
+-- The key's own record, or the last one before its offset.
 use Rattle.std.proofs.Common.{arith, ap}
 use Rattle.ib_map.specs.Keys.{rank}
 use Rattle.ib_heap.proofs.SeekLaws.{known}

@@ -5,9 +5,9 @@ use Rattle.ib_heap.specs.Heap.{nodes_of, first_of}
 use Rattle.ib_heap.specs.Image.{records_of}
 use Rattle.ib_heap.proofs.walk.copy_between.Given as goal
 
-abbrev pub invariant-loop-place : goal.invariant-loop-place
-invariant-loop-place l = record {
-  at : l.at ≡ first_of (drop l.place (nodes_of l.words));
-  count : l.copied ≡ length (cut (take l.place (records_of l.words)) l.low l.high);
-  records : l.out ≡ cut (take l.place (records_of l.words)) l.low l.high ++ drop l.copied l.initial.out;
+abbrev pub invariant-loop-index : goal.invariant-loop-index
+invariant-loop-index l = record {
+  at : l.at ≡ first_of (drop l.index (nodes_of l.words));
+  count : l.copied ≡ length (cut (take l.index (records_of l.words)) l.low l.high);
+  records : l.out ≡ cut (take l.index (records_of l.words)) l.low l.high ++ drop l.copied l.initial.out;
 }

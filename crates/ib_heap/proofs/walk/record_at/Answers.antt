@@ -31,6 +31,6 @@ pub returns : goal.returns
 returns c =
     let ws = c.args.words.now in
     let long = nodes-length ws c.requires.tree in let r = c.requires.in_range in let e = c.loop-step-test.false in let most = c.loop-step.auto._step-end in
-    let same : c.loop-step._step ≡ c.args.place = omega arith in
+    let same : c.loop-step._step ≡ c.args.index = omega arith in
     let there = chain-record ws c.loop-step._step c.loop-step.at c.requires.tree (omega arith) c.loop-step.invariant in
     (rw same at there) ∙ ap Some (sym c.record_of.ensures)

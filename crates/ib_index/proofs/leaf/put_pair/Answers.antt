@@ -1,6 +1,6 @@
 -- The pair is put in where it belongs, and nothing else moves.
 use Rattle.std.proofs.Common.{◌≡◌, ◌∙◌}
-use Rattle.ib_map.specs.Pairs.{place_of}
+use Rattle.ib_map.specs.Pairs.{index_of}
 use Rattle.ib_heap.specs.Heap.{read_heap}
 use Rattle.ib_heap.specs.Put.{put_in}
 use Rattle.ib_page.specs.Image.{records_of}
@@ -9,5 +9,5 @@ use Rattle.ib_index.proofs.leaf.put_pair.Goals as goal
 
 pub returns-clause-heap : goal.returns-clause-heap
 returns-clause-heap c =
-    c.touch.ensures.heap ∙ put-done (read_heap c.insert.new.self ≡ put_in (place_of c.args.key (records_of c.args.image.now)) (read_heap c.args.image.now)) c.insert.result c.args.key (records_of c.args.image.now)
+    c.touch.ensures.heap ∙ put-done (read_heap c.insert.new.self ≡ put_in (index_of c.args.key (records_of c.args.image.now)) (read_heap c.args.image.now)) c.insert.result c.args.key (records_of c.args.image.now)
     c.requires.missing c.requires.room c.insert.ensures.duplicate c.insert.ensures.full c.insert.ensures.never_missing c.insert.ensures.heap

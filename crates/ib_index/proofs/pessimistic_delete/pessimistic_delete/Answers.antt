@@ -19,7 +19,7 @@ use Rattle.ib_index.proofs.ShrinkCalls.{called-missing, called-shrunk}
 use Rattle.ib_index.proofs.ShrinkMay.{may-shrink}
 use Rattle.ib_index.proofs.ShrinkWhole.{IsReadyToShrink, ready-to-shrink, siblings-started}
 use Rattle.ib_index.proofs.pessimistic_delete.pessimistic_delete.Given.{Over}
-use Rattle.ib_index.proofs.pessimistic_delete.pessimistic_delete.Goals.{After-be_seated-2}
+use Rattle.ib_index.proofs.pessimistic_delete.pessimistic_delete.Goals.{After-facts_of_session-2}
 use Rattle.ib_index.proofs.pessimistic_delete.pessimistic_delete.Goals as goal
 
 moved : (P : PassState → Type 0) (r u : PassState) → r ≡ u → P r → P u
@@ -33,7 +33,7 @@ returns-in_default-clause-changed g c =
     let at = c.claim_siblings-path.ensures.reached in
     let reached : HasClaimedSiblings sizes key path p q = siblings-started sizes key path p q (search (rules, at)) in
     let same : c.claim_siblings-path.new.mtr.latches.now.sizes ≡ sizes = ap (λ m. m.now.sizes) (c.claim_siblings-path.ensures.still.latches ∙ c.start-mtr.ensures.latches) in
-    let seated : IsSeated sizes q = subst (λ (s : Sizes). IsSeated s q) same c.be_seated.ensures in
+    let seated : IsSeated sizes q = subst (λ (s : Sizes). IsSeated s q) same c.facts_of_session.ensures in
     let read : HasRead sizes (IsKeptLog sizes.pages) q place r = subst (λ (s : Sizes). HasRead s (IsKeptLog s.pages) q place r) same c.commit_read-place.ensures in
     let none : c.value_in.result ≡ None = search rules in
     let called = called-missing sizes key path (tree_pages reached.held) p q reached.went reached.looked reached.growing seated place r read (sym c.value_in.ensures ∙ none) in
@@ -46,7 +46,7 @@ take_space-requires-clause-ready g c =
     (c.args.key, path, reached.held, subst (λ (s : Sizes). IsGrowing s c.args.key path (tree_pages reached.held) c.claim_siblings-path.new.mtr.pass.now) (sym size) reached.growing, reached.zero, reached.few)
 
 -- what the delete reads and writes is held
-ready : (g : Over) (c : After-be_seated-2 g)
+ready : (g : Over) (c : After-facts_of_session-2 g)
     → IsReadyToShrink c.args.latches.now.sizes c.args.key c.claim_siblings-path.result c.in-Some.value c.args.pass.now c.take_space.new.mtr.pass.now
 ready g c =
     let sizes : Sizes = c.args.latches.now.sizes in let p : PassState = c.args.pass.now in let q : PassState = c.claim_siblings-path.new.mtr.pass.now in let t : PassState = c.take_space.new.mtr.pass.now in
@@ -56,19 +56,19 @@ ready g c =
     let old : Sizes = c.claim_siblings-path.new.mtr.latches.now.sizes in
     let same : old ≡ sizes = ap (λ m. m.now.sizes) (c.claim_siblings-path.ensures.still.latches ∙ c.start-mtr.ensures.latches) in
     let then : c.take_space.new.mtr.latches.now.sizes ≡ old = ap (λ m. m.now.sizes) c.take_space.ensures.still.latches in
-    ready-to-shrink sizes key path value p q t reached old c.take_space.new.mtr.latches.now.sizes same then (c.take_space.ensures.grown key path reached.held) c.be_seated-2.ensures (sym c.value_in.ensures ∙ c.in-Some.is)
+    ready-to-shrink sizes key path value p q t reached old c.take_space.new.mtr.latches.now.sizes same then (c.take_space.ensures.grown key path reached.held) c.facts_of_session-2.ensures (sym c.value_in.ensures ∙ c.in-Some.is)
 
 pub plan_in-requires-clause-can : goal.plan_in-requires-clause-can
-plan_in-requires-clause-can g c = (ready g (goal.at.plan_in-requires-clause-can g c).After-be_seated-2).can
+plan_in-requires-clause-can g c = (ready g (goal.at.plan_in-requires-clause-can g c).After-facts_of_session-2).can
 
 pub plan_in-requires-clause-there : goal.plan_in-requires-clause-there
-plan_in-requires-clause-there g c = subst IsSome (sym (ready g (goal.at.plan_in-requires-clause-there g c).After-be_seated-2).value_is) refl
+plan_in-requires-clause-there g c = subst IsSome (sym (ready g (goal.at.plan_in-requires-clause-there g c).After-facts_of_session-2).value_is) refl
 
 pub commit-committed-requires-clause-may : goal.commit-committed-requires-clause-may
 commit-committed-requires-clause-may g c =
     let sizes : Sizes = c.args.latches.now.sizes in let p : PassState = c.args.pass.now in let t : PassState = c.take_space.new.mtr.pass.now in
     let key = c.args.key in let path : List ℕ = c.claim_siblings-path.result in let value : ℕ = c.in-Some.value in
-    let has = ready g (goal.at.commit-committed-requires-clause-may g c).After-be_seated-2 in
+    let has = ready g (goal.at.commit-committed-requires-clause-may g c).After-facts_of_session-2 in
     let planned = c.plan_in.ensures.planned in
     let last : c.plan_in.new.mtr.latches.now.sizes ≡ sizes = ap (λ m. m.now.sizes) (c.plan_in.ensures.still.latches ∙ (c.take_space.ensures.still.latches ∙ (c.claim_siblings-path.ensures.still.latches ∙ c.start-mtr.ensures.latches))) in
     let few : total t.view.grants < 2 ^ 52 = (let a = has.grants in let room = c.requires.may.room in omega arith) in
@@ -80,7 +80,7 @@ pub returns-clause-changed : goal.returns-clause-changed
 returns-clause-changed g c =
     let sizes : Sizes = c.args.latches.now.sizes in let p : PassState = c.args.pass.now in let t : PassState = c.take_space.new.mtr.pass.now in
     let key = c.args.key in let path : List ℕ = c.claim_siblings-path.result in let value : ℕ = c.in-Some.value in
-    let has = ready g (goal.at.returns-clause-changed g c).After-be_seated-2 in
+    let has = ready g (goal.at.returns-clause-changed g c).After-facts_of_session-2 in
     let planned = c.plan_in.ensures.planned in let r : PassState = c.commit-committed.new.self.1.0 in let call : Call = DeleteCall key in
     let last : c.plan_in.new.mtr.latches.now.sizes ≡ sizes = ap (λ m. m.now.sizes) (c.plan_in.ensures.still.latches ∙ (c.take_space.ensures.still.latches ∙ (c.claim_siblings-path.ensures.still.latches ∙ c.start-mtr.ensures.latches))) in
     let ends : CommitAnswered sizes call (Delete key) (Deleted value) c.commit-committed.result c.changed.result (with_work planned.0 t) r =

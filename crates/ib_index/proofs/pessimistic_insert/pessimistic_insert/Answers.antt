@@ -25,7 +25,7 @@ use Rattle.ib_index.proofs.GrowMay.{may-grow}
 use Rattle.ib_index.proofs.GrowCalls.{called-duplicate, called-ended, called-high, called-short}
 use Rattle.ib_index.proofs.GrowWhole.{IsReadyToGrow, can-insert, no-value, ready-to-grow, some-value, value-kept, path-started}
 use Rattle.ib_index.proofs.pessimistic_insert.pessimistic_insert.Given.{Over}
-use Rattle.ib_index.proofs.pessimistic_insert.pessimistic_insert.Goals.{After-be_seated-2, After-claim_path-path}
+use Rattle.ib_index.proofs.pessimistic_insert.pessimistic_insert.Goals.{After-facts_of_session-2, After-claim_path-path}
 use Rattle.ib_index.proofs.pessimistic_insert.pessimistic_insert.Goals as goal
 
 -- the mini-transaction has come to the path
@@ -40,7 +40,7 @@ returns-then-is_some-clause-changed g c =
     let key = c.args.key in let path : List ℕ = c.claim_path-path.result in let call : Call = InsertCall key c.args.value in let place = c.commit_read-place.result in
     let reached = came g (goal.at.returns-then-is_some-clause-changed g c).After-claim_path-path in
     let same : c.claim_path-path.new.mtr.latches.now.sizes ≡ sizes = ap (λ m. m.now.sizes) (c.claim_path-path.ensures.still.latches ∙ c.start-mtr.ensures.latches) in
-    let seated : IsSeated sizes q = subst (λ (s : Sizes). IsSeated s q) same c.be_seated.ensures in
+    let seated : IsSeated sizes q = subst (λ (s : Sizes). IsSeated s q) same c.facts_of_session.ensures in
     let read : HasRead sizes (IsKeptLog sizes.pages) q place r = subst (λ (s : Sizes). HasRead s (IsKeptLog s.pages) q place r) same c.commit_read-place.ensures in
     let some = some-value c.value_in.result (sym c.is_some.ensures ∙ c.if-is_some.true) in
     let called = called-duplicate sizes key path (tree_pages reached.held) p q reached.went reached.looked reached.growing seated c.args.value place r read some.0 (sym c.value_in.ensures ∙ some.1) in
@@ -74,7 +74,7 @@ returns-in_default-clause-changed g c =
     let same : c.claim_path-path.new.mtr.latches.now.sizes ≡ sizes = ap (λ m. m.now.sizes) (c.claim_path-path.ensures.still.latches ∙ c.start-mtr.ensures.latches) in
     let then : c.needed.new.mtr.latches.now.sizes ≡ sizes = ap (λ m. m.now.sizes) c.needed.ensures.still.latches ∙ same in
     let pass : c.needed.new.mtr.pass.now ≡ q = ap (λ m. m.now) c.needed.ensures.pass in
-    let seated : IsSeated sizes q = subst (λ (s : Sizes). IsSeated s q) same c.be_seated.ensures in
+    let seated : IsSeated sizes q = subst (λ (s : Sizes). IsSeated s q) same c.facts_of_session.ensures in
     let read : HasRead sizes (IsKeptLog sizes.pages) q place r = subst (λ (u : PassState). HasRead sizes (IsKeptLog sizes.pages) u place r) pass
     (subst (λ (s : Sizes). HasRead s (IsKeptLog s.pages) c.needed.new.mtr.pass.now place r) then c.commit_read-place-in_default.ensures) in
     let missing = sym c.value_in.ensures ∙ no-value c.value_in.result (sym c.is_some.ensures ∙ c.if-is_some.false) in
@@ -97,7 +97,7 @@ returns-in-Err-clause-changed g c =
     subst (λ (u : PassState). (key : MapKey) → (p : PassState) → HasClaimedPath sizes key path p u → NeedsPages sizes.pages key path need u.work → IsShort sizes key path free need u t) pass
     (subst (λ (s : Sizes). (key : MapKey) → (p : PassState) → HasClaimedPath s key path p c.needed.new.mtr.pass.now → NeedsPages s.pages key path need c.needed.new.mtr.pass.now.work → IsShort s key path free need c.needed.new.mtr.pass.now t) then c.in-Err.ensures.short)
     key p reached needs in
-    let seated : IsSeated sizes t = subst (λ (s : Sizes). IsSeated s t) taken-by c.be_seated-in-Err.ensures in
+    let seated : IsSeated sizes t = subst (λ (s : Sizes). IsSeated s t) taken-by c.facts_of_session-in-Err.ensures in
     let missing = value-kept key (last_of path) q.work t.work (short.same (last_of path) reached.growing.leaf) ∙ absent in
     let read : HasRead sizes (IsKeptLog sizes.pages) t place r = subst (λ (s : Sizes). HasRead s (IsKeptLog s.pages) t place r) taken-by c.commit_read-place-in-Err.ensures in
     let called = called-short sizes key path short.held p t (went_both p q t reached.went short.went) (looked_first p q t reached.went short.went reached.looked) short.growing seated c.args.value place r read missing free need short.lacks in
@@ -105,7 +105,7 @@ returns-in-Err-clause-changed g c =
     subst (HasChangedTree sizes call (record { call = call; reply = SpaceFull free need; place = place }) p) (search rules) changed
 
 -- what the insert reads and writes is held
-ready : (g : Over) (c : After-be_seated-2 g)
+ready : (g : Over) (c : After-facts_of_session-2 g)
     → IsReadyToGrow c.args.latches.now.sizes c.args.key c.claim_path-path.result c.in-Ok-take_fresh.fresh c.args.pass.now c.claim_path-path.new.mtr.pass.now c.take_fresh.new.mtr.pass.now
 ready g c =
     let sizes : Sizes = c.args.latches.now.sizes in let p : PassState = c.args.pass.now in let q : PassState = c.claim_path-path.new.mtr.pass.now in let t : PassState = c.take_fresh.new.mtr.pass.now in
@@ -113,24 +113,24 @@ ready g c =
     let at = c.claim_path-path.ensures.reached in
     let then : c.needed.new.mtr.latches.now.sizes ≡ sizes = ap (λ m. m.now.sizes) (c.needed.ensures.still.latches ∙ (c.claim_path-path.ensures.still.latches ∙ c.start-mtr.ensures.latches)) in
     ready-to-grow sizes c.needed.new.mtr.latches.now.sizes c.take_fresh.new.mtr.latches.now.sizes key path c.in-Ok-take_fresh.fresh c.in-Ok.need p q c.needed.new.mtr.pass.now t (path-started sizes key path p q (search (rules, at))) then
-    (ap (λ m. m.now.sizes) c.take_fresh.ensures.still.latches ∙ then) (ap (λ m. m.now) c.needed.ensures.pass) c.in-Ok-take_fresh.ensures.taken (λ memory bits a. c.in-Ok.ensures.needed sizes.pages 1 1 key memory bits a) c.be_seated-2.ensures
+    (ap (λ m. m.now.sizes) c.take_fresh.ensures.still.latches ∙ then) (ap (λ m. m.now) c.needed.ensures.pass) c.in-Ok-take_fresh.ensures.taken (λ memory bits a. c.in-Ok.ensures.needed sizes.pages 1 1 key memory bits a) c.facts_of_session-2.ensures
     (sym c.value_in.ensures ∙ no-value c.value_in.result (sym c.is_some.ensures ∙ c.if-is_some.false))
 
 pub plan_in-requires-clause-missing : goal.plan_in-requires-clause-missing
-plan_in-requires-clause-missing g c = (ready g (goal.at.plan_in-requires-clause-missing g c).After-be_seated-2).missing
+plan_in-requires-clause-missing g c = (ready g (goal.at.plan_in-requires-clause-missing g c).After-facts_of_session-2).missing
 
 pub plan_in-requires-clause-can : goal.plan_in-requires-clause-can
 plan_in-requires-clause-can g c =
     let sizes : Sizes = c.args.latches.now.sizes in let p : PassState = c.args.pass.now in let q : PassState = c.claim_path-path.new.mtr.pass.now in let t : PassState = c.take_fresh.new.mtr.pass.now in
     let key = c.args.key in let path : List ℕ = c.claim_path-path.result in let fresh : List ℕ = c.in-Ok-take_fresh.fresh in
-    let has = ready g (goal.at.plan_in-requires-clause-can g c).After-be_seated-2 in
+    let has = ready g (goal.at.plan_in-requires-clause-can g c).After-facts_of_session-2 in
     can-insert sizes key path fresh p q t has.seated has.reached has.holds (may-tick sizes key path t has.seated has.holds.growing.at)
 
 pub commit-committed-requires-clause-may : goal.commit-committed-requires-clause-may
 commit-committed-requires-clause-may g c =
     let sizes : Sizes = c.args.latches.now.sizes in let p : PassState = c.args.pass.now in let q : PassState = c.claim_path-path.new.mtr.pass.now in let t : PassState = c.take_fresh.new.mtr.pass.now in
     let key = c.args.key in let path : List ℕ = c.claim_path-path.result in let fresh : List ℕ = c.in-Ok-take_fresh.fresh in
-    let has = ready g (goal.at.commit-committed-requires-clause-may g c).After-be_seated-2 in
+    let has = ready g (goal.at.commit-committed-requires-clause-may g c).After-facts_of_session-2 in
     let holds = has.holds in
     let planned = c.plan_in.ensures.planned in
     let last : c.plan_in.new.mtr.latches.now.sizes ≡ sizes = ap (λ m. m.now.sizes) (c.plan_in.ensures.still.latches ∙ (c.take_fresh.ensures.still.latches ∙ (c.needed.ensures.still.latches ∙ (c.claim_path-path.ensures.still.latches ∙ c.start-mtr.ensures.latches)))) in
@@ -143,7 +143,7 @@ pub returns-clause-changed : goal.returns-clause-changed
 returns-clause-changed g c =
     let sizes : Sizes = c.args.latches.now.sizes in let p : PassState = c.args.pass.now in let q : PassState = c.claim_path-path.new.mtr.pass.now in let t : PassState = c.take_fresh.new.mtr.pass.now in let r : PassState = c.commit-committed.new.self.1.0 in
     let key = c.args.key in let path : List ℕ = c.claim_path-path.result in let fresh : List ℕ = c.in-Ok-take_fresh.fresh in let call : Call = InsertCall key c.args.value in
-    let has = ready g (goal.at.returns-clause-changed g c).After-be_seated-2 in
+    let has = ready g (goal.at.returns-clause-changed g c).After-facts_of_session-2 in
     let reached = has.reached in let holds = has.holds in
     let planned = c.plan_in.ensures.planned in
     let last : c.plan_in.new.mtr.latches.now.sizes ≡ sizes = ap (λ m. m.now.sizes) (c.plan_in.ensures.still.latches ∙ (c.take_fresh.ensures.still.latches ∙ (c.needed.ensures.still.latches ∙ (c.claim_path-path.ensures.still.latches ∙ c.start-mtr.ensures.latches)))) in

@@ -1,7 +1,6 @@
 -- The pass is the table's.
-use Rattle.std.proofs.Common.{◌≡◌}
-use Rattle.ib_rule.specs.Pass.{IsOf}
+use Rattle.ib_rule.specs.Takes.{IsStillOf}
 use Rattle.ib_latch_tests.proofs.tries.wait.Given as goal
 
 abbrev pub invariant-waiting : goal.invariant-waiting
-invariant-waiting g l = IsOf l.fn.table l.pass × (l.pass.has_scratch ≡ l.fn.pass.has_scratch)
+invariant-waiting g l = IsStillOf l.fn.table l.fn.pass l.pass

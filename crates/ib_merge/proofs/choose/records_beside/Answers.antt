@@ -11,4 +11,4 @@ overflow_add-place c = let few = records-few c.args.image.now c.requires.tree in
 pub returns : goal.returns
 returns c =
     siblings-at c.args.key (records_of c.args.image.now) c.route-place.result c.record_before.result c.record_at.result c.record_if.result
-    c.route-place.ensures.place c.requires.first c.record_before.ensures.none c.record_before.ensures.some c.record_at.ensures c.record_if.ensures
+    c.route-place.ensures.index c.requires.first c.record_before.ensures.none c.record_before.ensures.some c.record_at.ensures c.record_if.ensures

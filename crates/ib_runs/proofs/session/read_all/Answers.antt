@@ -14,8 +14,10 @@ scan-requires-clause-may g c =
     let r = reserved_by c.loop-pass.chunks c.reserve.new.self i.room c.in_ok-reserve.ensures.reserved in
     record {
       rest = subst (λ (s : SpaceState). IsAtRest s c.loop-pass.pass) (sym c.latches.ensures) i.rest;
-      room = so_far_room c.args.index.now.sizes c.laws_of.ensures c.args.low c.args.high i.ascends c.args.chunks.now c.args.pass.now c.loop-pass.next c.loop-pass.chunks c.reserve.new.self c.loop-pass.pass
-          i.so_far r.chunk_room c.requires.may.few;
+      room =
+          let few = so_far_room c.args.index.now.sizes c.facts_of_kept_logs.ensures c.args.low c.args.high i.ascends c.args.chunks.now c.args.pass.now c.loop-pass.next c.loop-pass.chunks c.reserve.new.self c.loop-pass.pass
+          i.so_far r.chunk_room c.requires.may.few in
+          omega arith;
     }
 
 pub returns-in-Ok-clause-read : goal.returns-in-Ok-clause-read
@@ -24,7 +26,7 @@ returns-in-Ok-clause-read g c =
     let r = reserved_by c.loop-pass.chunks c.reserve.new.self i.room c.in_ok-reserve.ensures.reserved in
     let scanned = subst (λ (s : SpaceState). HasScanned s.sizes (IsKeptLog s.sizes.pages) (by_place opening s.sizes.pages) 1 c.loop-pass.next c.args.high c.in-Ok.field-0 c.reserve.new.self c.scan.new.out c.loop-pass.pass c.scan.new.pass)
     c.latches.ensures (c.in-Ok.ensures.scanned i.to) in
-    inr (so_far_all c.args.index.now.sizes c.laws_of.ensures c.args.low c.args.high i.ascends c.args.chunks.now c.args.pass.now c.loop-pass.next c.in-Ok.field-0 c.loop-pass.chunks c.reserve.new.self c.scan.new.out
+    inr (so_far_all c.args.index.now.sizes c.facts_of_kept_logs.ensures c.args.low c.args.high i.ascends c.args.chunks.now c.args.pass.now c.loop-pass.next c.in-Ok.field-0 c.loop-pass.chunks c.reserve.new.self c.scan.new.out
     c.loop-pass.pass c.scan.new.pass i.so_far r scanned)
 
 pub loop-pass-preserved : goal.loop-pass-preserved
@@ -39,6 +41,6 @@ loop-pass-preserved g c =
       room = let a = stopped.gone.appends.chunk_room in let b = r.chunk_room in omega arith;
       ascends = i.ascends;
       to = stopped.to;
-      so_far = so_far_more c.args.index.now.sizes c.laws_of.ensures c.args.low c.args.high i.ascends c.args.chunks.now c.args.pass.now c.loop-pass.next c.in-Err.more.next c.loop-pass.chunks c.reserve.new.self c.scan.new.out
+      so_far = so_far_more c.args.index.now.sizes c.facts_of_kept_logs.ensures c.args.low c.args.high i.ascends c.args.chunks.now c.args.pass.now c.loop-pass.next c.in-Err.more.next c.loop-pass.chunks c.reserve.new.self c.scan.new.out
           c.loop-pass.pass c.scan.new.pass i.so_far r stopped;
     }

@@ -1,5 +1,5 @@
 -- A whole scan, from its start to its end.
-use Rattle.std.proofs.Common.{rules, get_or, ◌-◌, ◌∙◌, ℕ, false, sym, ap, subst}
+use Rattle.std.proofs.Common.{rules, arith, get_or, ◌-◌, ◌∙◌, ℕ, false, sym, ap, subst}
 use Rattle.std.specs.Prelude.{MatchOption}
 use Rattle.ib_layout.specs.Geometry.{Sizes}
 use Rattle.ib_logrec.specs.Log.{by_place}
@@ -17,11 +17,11 @@ scan_from-stop-requires-clause-begins g c =
     let sizes : Sizes = c.args.latches.now.sizes in let p : PassState = c.args.pass.now in let q : PassState = c.descend_at-path.new.mtr.pass.now in
     let first = ap (λ l. l.now.sizes) c.start-mtr.ensures.latches in
     let same = ap (λ m. m.now.sizes) c.descend_at-path.ensures.still.latches ∙ first in
-    let laws = subst (λ (k : Sizes). Laws k.pages g.L.Trees.ROOTS (g.L.Law.lawful k.pages) (by_place g.L.Law.opening k.pages)) first c.trees_of.ensures.laws in
+    let laws = subst (λ (k : Sizes). Laws k.pages g.L.Trees.ROOTS (g.L.Law.lawful k.pages) (by_place g.L.Law.opening k.pages)) first c.facts_of_trees.ensures.laws in
     let on = subst (λ (k : Sizes). HasDescended k (g.L.Law.lawful k.pages) (by_place g.L.Law.opening k.pages) c.args.sought.root c.args.sought.low false c.descend_at-path.result c.start-mtr.result.pass.now q) first c.descend_at-path.ensures.descended in
     let d = subst (λ (s : PassState). HasDescended sizes (g.L.Law.lawful sizes.pages) (by_place g.L.Law.opening sizes.pages) c.args.sought.root c.args.sought.low false c.descend_at-path.result s q) c.start-mtr.ensures.started on in
     let at = begins sizes g.L.Trees.ROOTS (g.L.Law.lawful sizes.pages) (by_place g.L.Law.opening sizes.pages) laws c.args.sought.root c.requires.sought.some c.requires.sought.there c.args.sought.low c.args.sought.high c.requires.sought.is_key c.requires.ascends
-    c.args.out.now c.descend_at-path.result (started p) q d c.requires.may.room in
+    c.args.out.now c.descend_at-path.result (started p) q d (let room = c.requires.may.room in omega arith) in
     let last = ap (λ ps. get_or ps (c.len.result - 1) 0) c.pages.ensures.pages ∙ path_last c.descend_at-path.result d.reached.front d.reached.leaf c.len.result d.reached.ends c.len.ensures.count in
     let there = subst (λ (k : Sizes). IsScannedTo k (g.L.Law.lawful k.pages) (by_place g.L.Law.opening k.pages) g.L.Trees.ROOTS c.args.sought.root d.reached.leaf c.args.sought.low c.args.sought.low c.args.sought.high c.args.out.now c.args.out.now q q) (sym same) at in
     let now : Sizes = c.descend_at-path.new.mtr.latches.now.sizes in

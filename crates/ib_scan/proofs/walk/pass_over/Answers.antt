@@ -20,21 +20,21 @@ use Rattle.ib_scan.proofs.walk.pass_over.Goals as goal
 pub page-requires : goal.page-requires
 page-requires g c =
     let sizes : Sizes = c.args.mtr.now.latches.now.sizes in let p : PassState = c.args.mtr.now.pass.now in let h = c.requires.may in
-    few_pages sizes.pages c.args.next c.trees_of.ensures.space (subst (λ (n : ℕ). n < sizes.pages) (sym h.link)
-    (next_inside sizes g.L.Trees.ROOTS (g.L.Law.lawful sizes.pages) (by_place g.L.Law.opening sizes.pages) c.trees_of.ensures.laws h.root h.start h.ps h.last p h.scans h.skipped.some))
+    few_pages sizes.pages c.args.next c.facts_of_trees.ensures.space (subst (λ (n : ℕ). n < sizes.pages) (sym h.link)
+    (next_inside sizes g.L.Trees.ROOTS (g.L.Law.lawful sizes.pages) (by_place g.L.Law.opening sizes.pages) c.facts_of_trees.ensures.laws h.root h.start h.ps h.last p h.scans h.skipped.some))
 
 pub take-requires-clause-may : goal.take-requires-clause-may
 take-requires-clause-may g c =
     let sizes : Sizes = c.args.mtr.now.latches.now.sizes in let p : PassState = c.args.mtr.now.pass.now in let h = c.requires.may in
-    let inside = next_inside sizes g.L.Trees.ROOTS (g.L.Law.lawful sizes.pages) (by_place g.L.Law.opening sizes.pages) c.trees_of.ensures.laws h.root h.start h.ps h.last p h.scans h.skipped.some in
+    let inside = next_inside sizes g.L.Trees.ROOTS (g.L.Law.lawful sizes.pages) (by_place g.L.Law.opening sizes.pages) c.facts_of_trees.ensures.laws h.root h.start h.ps h.last p h.scans h.skipped.some in
     let link = h.link in
-    let empty = c.forget.ensures.forgotten ∙ empty_now sizes g.L.Trees.ROOTS (g.L.Law.lawful sizes.pages) (by_place g.L.Law.opening sizes.pages) c.trees_of.ensures.laws h.root h.start h.ps h.last p h.scans c.args.leaf h.here in
-    let may = may_take sizes g.L.Trees.ROOTS (g.L.Law.lawful sizes.pages) (by_place g.L.Law.opening sizes.pages) c.trees_of.ensures.laws h.root h.start h.ps h.last p h.scans h.skipped.some in
+    let empty = c.forget.ensures.forgotten ∙ empty_now sizes g.L.Trees.ROOTS (g.L.Law.lawful sizes.pages) (by_place g.L.Law.opening sizes.pages) c.facts_of_trees.ensures.laws h.root h.start h.ps h.last p h.scans c.args.leaf h.here in
+    let may = may_take sizes g.L.Trees.ROOTS (g.L.Law.lawful sizes.pages) (by_place g.L.Law.opening sizes.pages) c.facts_of_trees.ensures.laws h.root h.start h.ps h.last p h.scans h.skipped.some in
     record {
       own = c.forget.ensures.still.mtr.own;
       latch = subst (λ (s : Sizes). c.page.result.0 < latches_of s) (sym (ap (λ m. m.now.sizes) c.forget.ensures.still.latches)) (subst (λ (l : Latch). l.0 < sizes.pages + 2) (sym c.page.ensures) (omega arith));
       grows = subst (λ (q : PassState). MayGrow q.view) (sym empty)
-          (may_have sizes g.L.Trees.ROOTS (g.L.Law.lawful sizes.pages) (by_place g.L.Law.opening sizes.pages) c.trees_of.ensures.laws h.root h.start h.ps h.last p h.scans h.skipped.some (most_pages sizes.pages c.trees_of.ensures.space) h.room);
+          (may_have sizes g.L.Trees.ROOTS (g.L.Law.lawful sizes.pages) (by_place g.L.Law.opening sizes.pages) c.facts_of_trees.ensures.laws h.root h.start h.ps h.last p h.scans h.skipped.some (most_pages sizes.pages c.facts_of_trees.ensures.space) h.room);
       may = subst (λ (l : Latch). CanWish l.0 TreeNode c.forget.new.self.pass.now.view.session) (sym (c.page.ensures ∙ ap (λ (n : ℕ). let l : Latch = record { 0 = n + 2 } in l) h.link))
           (subst (λ (q : PassState). CanWish (next_of h.last.image + 2) TreeNode q.view.session) (sym empty) may);
     }
@@ -43,16 +43,16 @@ pub read-requires-clause-page : goal.read-requires-clause-page
 read-requires-clause-page g c =
     let sizes : Sizes = c.args.mtr.now.latches.now.sizes in let p : PassState = c.args.mtr.now.pass.now in let h = c.requires.may in
     subst (λ (s : Sizes). c.args.next < s.pages) (sym (ap (λ m. m.now.sizes) (c.take.ensures.still.latches ∙ c.forget.ensures.still.latches))) (subst (λ (n : ℕ). n < sizes.pages) (sym h.link)
-    (next_inside sizes g.L.Trees.ROOTS (g.L.Law.lawful sizes.pages) (by_place g.L.Law.opening sizes.pages) c.trees_of.ensures.laws h.root h.start h.ps h.last p h.scans h.skipped.some))
+    (next_inside sizes g.L.Trees.ROOTS (g.L.Law.lawful sizes.pages) (by_place g.L.Law.opening sizes.pages) c.facts_of_trees.ensures.laws h.root h.start h.ps h.last p h.scans h.skipped.some))
 
 pub returns-clause-passed : goal.returns-clause-passed
 returns-clause-passed g c = λ h.
     let sizes : Sizes = c.args.mtr.now.latches.now.sizes in let p : PassState = c.args.mtr.now.pass.now in
     let q : PassState = c.take.new.mtr.pass.now in let r : PassState = c.read.new.mtr.pass.now in
-    let empty = c.forget.ensures.forgotten ∙ empty_now sizes g.L.Trees.ROOTS (g.L.Law.lawful sizes.pages) (by_place g.L.Law.opening sizes.pages) c.trees_of.ensures.laws h.root h.start h.ps h.last p h.scans c.args.leaf h.here in
+    let empty = c.forget.ensures.forgotten ∙ empty_now sizes g.L.Trees.ROOTS (g.L.Law.lawful sizes.pages) (by_place g.L.Law.opening sizes.pages) c.facts_of_trees.ensures.laws h.root h.start h.ps h.last p h.scans c.args.leaf h.here in
     let same = ap (λ m. m.now.sizes) (c.take.ensures.still.latches ∙ c.forget.ensures.still.latches) in
     let on = subst (λ (l : Latch). HasTaken (record { latch = l.0; mode = S; level = TreeNode }) c.forget.new.self.pass.now q) (c.page.ensures ∙ ap (λ (n : ℕ). let l : Latch = record { 0 = n + 2 } in l) h.link) c.take.ensures.taken in
     let taken = subst (λ (o : PassState). HasTaken (page_grant (next_of h.last.image) S) o q) empty on in
     let seen = subst (λ (k : Sizes). HasSeen k (g.L.Law.lawful k.pages) q r) same c.read.ensures.looked_on.seen in
     let page = subst (λ (n : ℕ). HasPage (by_place g.L.Law.opening sizes.pages) n q r) h.link (subst (λ (k : Sizes). HasPage (by_place g.L.Law.opening k.pages) c.args.next q r) same c.read.ensures.loaded) in
-    passed_over sizes g.L.Trees.ROOTS (g.L.Law.lawful sizes.pages) (by_place g.L.Law.opening sizes.pages) c.trees_of.ensures.laws h.root h.start h.ps h.last p h.scans h.skipped q r taken seen c.read.ensures.memo c.read.ensures.session c.read.ensures.grants page
+    passed_over sizes g.L.Trees.ROOTS (g.L.Law.lawful sizes.pages) (by_place g.L.Law.opening sizes.pages) c.facts_of_trees.ensures.laws h.root h.start h.ps h.last p h.scans h.skipped q r taken seen c.read.ensures.memo c.read.ensures.session c.read.ensures.grants page

@@ -15,25 +15,25 @@ loop-next-init g c =
       mtr = c.requires.mtr;
       latches = refl;
       pass = refl;
-      along = along_none sizes g.L.Trees.ROOTS (g.L.Law.lawful sizes.pages) (by_place g.L.Law.opening sizes.pages) c.trees_of.ensures.laws c.args.leaf c.args.start c.args.mtr.now.pass.now;
+      along = along_none sizes g.L.Trees.ROOTS (g.L.Law.lawful sizes.pages) (by_place g.L.Law.opening sizes.pages) c.facts_of_trees.ensures.laws c.args.leaf c.args.start c.args.mtr.now.pass.now;
     }
 
 pub part_of-requires-clause-loaded : goal.part_of-requires-clause-loaded
 part_of-requires-clause-loaded g c =
     let sizes : Sizes = c.args.mtr.now.latches.now.sizes in let p : PassState = c.args.mtr.now.pass.now in let q : PassState = c.loop-next.mtr.pass.now in let h = c.requires.on in
     let a = c.loop-next.invariant.along h in
-    let l = along_loaded sizes g.L.Trees.ROOTS (g.L.Law.lawful sizes.pages) (by_place g.L.Law.opening sizes.pages) c.trees_of.ensures.laws h.root c.args.start c.loop-next.at c.loop-next.passed p q a in
+    let l = along_loaded sizes g.L.Trees.ROOTS (g.L.Law.lawful sizes.pages) (by_place g.L.Law.opening sizes.pages) c.facts_of_trees.ensures.laws h.root c.args.start c.loop-next.at c.loop-next.passed p q a in
     (a.last.image, l.is, l.tree)
 
 pub pass_over-requires-clause-may : goal.pass_over-requires-clause-may
 pass_over-requires-clause-may g c =
     let sizes : Sizes = c.args.mtr.now.latches.now.sizes in let p : PassState = c.args.mtr.now.pass.now in let q : PassState = c.loop-next.mtr.pass.now in let h = c.requires.on in
     let a = c.loop-next.invariant.along h in
-    let l = along_loaded sizes g.L.Trees.ROOTS (g.L.Law.lawful sizes.pages) (by_place g.L.Law.opening sizes.pages) c.trees_of.ensures.laws h.root c.args.start c.loop-next.at c.loop-next.passed p q a in
+    let l = along_loaded sizes g.L.Trees.ROOTS (g.L.Law.lawful sizes.pages) (by_place g.L.Law.opening sizes.pages) c.facts_of_trees.ensures.laws h.root c.args.start c.loop-next.at c.loop-next.passed p q a in
     let part = c.in-Passed.ensures a.last.image l.is in
     let same = ap (λ m. m.now.sizes) c.loop-next.invariant.latches in
     subst (λ (k : Sizes). MayPass k (g.L.Law.lawful k.pages) (by_place g.L.Law.opening k.pages) g.L.Trees.ROOTS c.loop-next.at c.in-Passed.next q) (sym same)
-    (along_may sizes g.L.Trees.ROOTS (g.L.Law.lawful sizes.pages) (by_place g.L.Law.opening sizes.pages) c.trees_of.ensures.laws h.root c.args.start c.loop-next.at c.loop-next.passed p q a c.in-Passed.next part.0 part.1 h.room)
+    (along_may sizes g.L.Trees.ROOTS (g.L.Law.lawful sizes.pages) (by_place g.L.Law.opening sizes.pages) c.facts_of_trees.ensures.laws h.root c.args.start c.loop-next.at c.loop-next.passed p q a c.in-Passed.next part.0 part.1 h.room)
 
 pub overflow_add-passed : goal.overflow_add-passed
 overflow_add-passed g c = let a = (c.loop-next.invariant.along c.requires.on).few in omega arith
@@ -53,16 +53,16 @@ loop-next-preserved g c =
       pass = c.pass_over.ensures.still.pass ∙ c.loop-next.invariant.pass;
       along = λ h.
           let a = c.loop-next.invariant.along h in
-          let l = along_loaded sizes g.L.Trees.ROOTS (g.L.Law.lawful sizes.pages) (by_place g.L.Law.opening sizes.pages) c.trees_of.ensures.laws h.root c.args.start c.loop-next.at c.loop-next.passed p q a in
+          let l = along_loaded sizes g.L.Trees.ROOTS (g.L.Law.lawful sizes.pages) (by_place g.L.Law.opening sizes.pages) c.facts_of_trees.ensures.laws h.root c.args.start c.loop-next.at c.loop-next.passed p q a in
           let part = c.in-Passed.ensures a.last.image l.is in
-          let m = along_may sizes g.L.Trees.ROOTS (g.L.Law.lawful sizes.pages) (by_place g.L.Law.opening sizes.pages) c.trees_of.ensures.laws h.root c.args.start c.loop-next.at c.loop-next.passed p q a c.in-Passed.next part.0 part.1 h.room in
-          along_passed sizes g.L.Trees.ROOTS (g.L.Law.lawful sizes.pages) (by_place g.L.Law.opening sizes.pages) c.trees_of.ensures.laws h.root c.args.start c.loop-next.at c.loop-next.passed p q a c.in-Passed.next r part.0
-          (most_pages sizes.pages c.trees_of.ensures.space) (passed m);
+          let m = along_may sizes g.L.Trees.ROOTS (g.L.Law.lawful sizes.pages) (by_place g.L.Law.opening sizes.pages) c.facts_of_trees.ensures.laws h.root c.args.start c.loop-next.at c.loop-next.passed p q a c.in-Passed.next part.0 part.1 h.room in
+          along_passed sizes g.L.Trees.ROOTS (g.L.Law.lawful sizes.pages) (by_place g.L.Law.opening sizes.pages) c.facts_of_trees.ensures.laws h.root c.args.start c.loop-next.at c.loop-next.passed p q a c.in-Passed.next r part.0
+          (most_pages sizes.pages c.facts_of_trees.ensures.space) (passed m);
     }
 
 pub returns-in-Ends-clause-reached : goal.returns-in-Ends-clause-reached
 returns-in-Ends-clause-reached g c = λ h.
     let sizes : Sizes = c.args.mtr.now.latches.now.sizes in let p : PassState = c.args.mtr.now.pass.now in let q : PassState = c.loop-next.mtr.pass.now in
     let a = c.loop-next.invariant.along h in
-    let l = along_loaded sizes g.L.Trees.ROOTS (g.L.Law.lawful sizes.pages) (by_place g.L.Law.opening sizes.pages) c.trees_of.ensures.laws h.root c.args.start c.loop-next.at c.loop-next.passed p q a in
+    let l = along_loaded sizes g.L.Trees.ROOTS (g.L.Law.lawful sizes.pages) (by_place g.L.Law.opening sizes.pages) c.facts_of_trees.ensures.laws h.root c.args.start c.loop-next.at c.loop-next.passed p q a in
     record { along = a; ends = c.in-Ends.ensures a.last.image l.is }

@@ -21,14 +21,14 @@ reached g c =
     let sizes : Sizes = c.args.mtr.now.latches.now.sizes in let p : PassState = c.loop-sought.mtr.pass.now in let q : PassState = c.reach_end-found.new.mtr.pass.now in
     subst (λ (k : Sizes). (h : IsOnLeaf k (g.L.Law.lawful k.pages) (by_place g.L.Law.opening k.pages) g.L.Trees.ROOTS c.loop-sought.leaf c.loop-sought.start p)
     → HasReachedEnd k (g.L.Law.lawful k.pages) (by_place g.L.Law.opening k.pages) g.L.Trees.ROOTS h.root c.loop-sought.start c.args.sought.high c.reach_end-found.result p q) (ap (λ m. m.now.sizes) c.loop-sought.invariant.latches) c.reach_end-found.ensures.reached
-    (on_leaf sizes g.L.Trees.ROOTS (g.L.Law.lawful sizes.pages) (by_place g.L.Law.opening sizes.pages) c.trees_of.ensures.laws c.args.sought.root c.loop-sought.leaf c.args.sought.low c.loop-sought.start c.args.sought.high c.args.out.now c.loop-sought.out c.args.mtr.now.pass.now p c.loop-sought.invariant.to)
+    (on_leaf sizes g.L.Trees.ROOTS (g.L.Law.lawful sizes.pages) (by_place g.L.Law.opening sizes.pages) c.facts_of_trees.ensures.laws c.args.sought.root c.loop-sought.leaf c.args.sought.low c.loop-sought.start c.args.sought.high c.args.out.now c.loop-sought.out c.args.mtr.now.pass.now p c.loop-sought.invariant.to)
 
 pub put-fits-requires-clause-loaded : goal.put-fits-requires-clause-loaded
 put-fits-requires-clause-loaded g c =
     let sizes : Sizes = c.args.mtr.now.latches.now.sizes in let p : PassState = c.loop-sought.mtr.pass.now in let q : PassState = c.reach_end-found.new.mtr.pass.now in
     let found = c.reach_end-found.result in
     let at = reached g (goal.at.put-fits-requires-clause-loaded g c).After-reach_end-found in
-    let l = along_loaded sizes g.L.Trees.ROOTS (g.L.Law.lawful sizes.pages) (by_place g.L.Law.opening sizes.pages) c.trees_of.ensures.laws c.args.sought.root c.loop-sought.start found.leaf found.passed p q at.along in
+    let l = along_loaded sizes g.L.Trees.ROOTS (g.L.Law.lawful sizes.pages) (by_place g.L.Law.opening sizes.pages) c.facts_of_trees.ensures.laws c.args.sought.root c.loop-sought.start found.leaf found.passed p q at.along in
     (at.along.last.image, l.is, l.tree)
 
 pub leave_front-requires-clause-front : goal.leave_front-requires-clause-front
@@ -36,7 +36,7 @@ leave_front-requires-clause-front g c =
     let sizes : Sizes = c.args.mtr.now.latches.now.sizes in let p : PassState = c.loop-sought.mtr.pass.now in let q : PassState = c.reach_end-found.new.mtr.pass.now in
     let found = c.reach_end-found.result in
     let at = reached g (goal.at.leave_front-requires-clause-front g c).After-reach_end-found in
-    some_front sizes g.L.Trees.ROOTS (g.L.Law.lawful sizes.pages) (by_place g.L.Law.opening sizes.pages) c.trees_of.ensures.laws c.args.sought.root c.loop-sought.start found.leaf found.passed p q at.along
+    some_front sizes g.L.Trees.ROOTS (g.L.Law.lawful sizes.pages) (by_place g.L.Law.opening sizes.pages) c.facts_of_trees.ensures.laws c.args.sought.root c.loop-sought.start found.leaf found.passed p q at.along
 
 pub returns-then-not-fits-clause-scanned : goal.returns-then-not-fits-clause-scanned
 returns-then-not-fits-clause-scanned g c =
@@ -45,12 +45,12 @@ returns-then-not-fits-clause-scanned g c =
     let found = c.reach_end-found.result in
     let i = c.loop-sought.invariant.to in
     let at = reached g (goal.at.returns-then-not-fits-clause-scanned g c).After-reach_end-found in
-    let l = along_loaded sizes g.L.Trees.ROOTS (g.L.Law.lawful sizes.pages) (by_place g.L.Law.opening sizes.pages) c.trees_of.ensures.laws c.args.sought.root c.loop-sought.start found.leaf found.passed p q at.along in
-    let front = some_front sizes g.L.Trees.ROOTS (g.L.Law.lawful sizes.pages) (by_place g.L.Law.opening sizes.pages) c.trees_of.ensures.laws c.args.sought.root c.loop-sought.start found.leaf found.passed p q at.along in
-    let span = span_read sizes g.L.Trees.ROOTS (g.L.Law.lawful sizes.pages) (by_place g.L.Law.opening sizes.pages) c.trees_of.ensures.laws c.args.sought.root c.loop-sought.leaf c.args.sought.low c.loop-sought.start c.args.sought.high c.args.out.now c.loop-sought.out p0 p i found q at in
+    let l = along_loaded sizes g.L.Trees.ROOTS (g.L.Law.lawful sizes.pages) (by_place g.L.Law.opening sizes.pages) c.facts_of_trees.ensures.laws c.args.sought.root c.loop-sought.start found.leaf found.passed p q at.along in
+    let front = some_front sizes g.L.Trees.ROOTS (g.L.Law.lawful sizes.pages) (by_place g.L.Law.opening sizes.pages) c.facts_of_trees.ensures.laws c.args.sought.root c.loop-sought.start found.leaf found.passed p q at.along in
+    let span = span_read sizes g.L.Trees.ROOTS (g.L.Law.lawful sizes.pages) (by_place g.L.Law.opening sizes.pages) c.facts_of_trees.ensures.laws c.args.sought.root c.loop-sought.leaf c.args.sought.low c.loop-sought.start c.args.sought.high c.args.out.now c.loop-sought.out p0 p i found q at in
     let put = subst (λ (b : Bool). HasPut span b c.loop-sought.out c.put-fits.new.out) c.if-not-fits.true (subst (λ (n : ℕ). HasPut (record span { place = n }) c.put-fits.result c.loop-sought.out c.put-fits.new.out) c.place-place.ensures (c.put-fits.ensures at.along.last.image l.is)) in
     subst (λ (o : HeldChunks). HasRunToStop sizes (g.L.Law.lawful sizes.pages) (by_place g.L.Law.opening sizes.pages) c.args.sought.root c.args.sought.low c.args.sought.high c.loop-sought.start c.args.out.now o p0 r) (sym put.0)
-    (halted sizes g.L.Trees.ROOTS (g.L.Law.lawful sizes.pages) (by_place g.L.Law.opening sizes.pages) c.trees_of.ensures.laws c.args.sought.root c.loop-sought.leaf c.args.sought.low c.loop-sought.start c.args.sought.high c.args.out.now c.loop-sought.out p0 p i found q at
+    (halted sizes g.L.Trees.ROOTS (g.L.Law.lawful sizes.pages) (by_place g.L.Law.opening sizes.pages) c.facts_of_trees.ensures.laws c.args.sought.root c.loop-sought.leaf c.args.sought.low c.loop-sought.start c.args.sought.high c.args.out.now c.loop-sought.out p0 p i found q at
     r (c.leave_front.ensures.left front) c.leave_front.ensures.aside put.1 (part_short at.along.last.image c.loop-sought.start found.end l.tree))
 
 pub returns-then-is_same-clause-scanned : goal.returns-then-is_same-clause-scanned
@@ -60,12 +60,12 @@ returns-then-is_same-clause-scanned g c =
     let found = c.reach_end-found.result in
     let i = c.loop-sought.invariant.to in
     let at = reached g (goal.at.returns-then-is_same-clause-scanned g c).After-reach_end-found in
-    let l = along_loaded sizes g.L.Trees.ROOTS (g.L.Law.lawful sizes.pages) (by_place g.L.Law.opening sizes.pages) c.trees_of.ensures.laws c.args.sought.root c.loop-sought.start found.leaf found.passed p q at.along in
-    let front = some_front sizes g.L.Trees.ROOTS (g.L.Law.lawful sizes.pages) (by_place g.L.Law.opening sizes.pages) c.trees_of.ensures.laws c.args.sought.root c.loop-sought.start found.leaf found.passed p q at.along in
-    let span = span_read sizes g.L.Trees.ROOTS (g.L.Law.lawful sizes.pages) (by_place g.L.Law.opening sizes.pages) c.trees_of.ensures.laws c.args.sought.root c.loop-sought.leaf c.args.sought.low c.loop-sought.start c.args.sought.high c.args.out.now c.loop-sought.out p0 p i found q at in
+    let l = along_loaded sizes g.L.Trees.ROOTS (g.L.Law.lawful sizes.pages) (by_place g.L.Law.opening sizes.pages) c.facts_of_trees.ensures.laws c.args.sought.root c.loop-sought.start found.leaf found.passed p q at.along in
+    let front = some_front sizes g.L.Trees.ROOTS (g.L.Law.lawful sizes.pages) (by_place g.L.Law.opening sizes.pages) c.facts_of_trees.ensures.laws c.args.sought.root c.loop-sought.start found.leaf found.passed p q at.along in
+    let span = span_read sizes g.L.Trees.ROOTS (g.L.Law.lawful sizes.pages) (by_place g.L.Law.opening sizes.pages) c.facts_of_trees.ensures.laws c.args.sought.root c.loop-sought.leaf c.args.sought.low c.loop-sought.start c.args.sought.high c.args.out.now c.loop-sought.out p0 p i found q at in
     let put = subst (λ (b : Bool). HasPut span b c.loop-sought.out c.put-fits.new.out) c.if-not-fits.false (subst (λ (n : ℕ). HasPut (record span { place = n }) c.put-fits.result c.loop-sought.out c.put-fits.new.out) c.place-place.ensures (c.put-fits.ensures at.along.last.image l.is)) in
     let same : found.end ≡ c.args.sought.high = rank_injective found.end c.args.sought.high (c.is_same.ensures.same.0 c.if-is_same.true) in
-    ended sizes g.L.Trees.ROOTS (g.L.Law.lawful sizes.pages) (by_place g.L.Law.opening sizes.pages) c.trees_of.ensures.laws c.args.sought.root c.loop-sought.leaf c.args.sought.low c.loop-sought.start c.args.sought.high c.args.out.now c.loop-sought.out p0 p i found q at
+    ended sizes g.L.Trees.ROOTS (g.L.Law.lawful sizes.pages) (by_place g.L.Law.opening sizes.pages) c.facts_of_trees.ensures.laws c.args.sought.root c.loop-sought.leaf c.args.sought.low c.loop-sought.start c.args.sought.high c.args.out.now c.loop-sought.out p0 p i found q at
     r (c.leave_front.ensures.left front) c.leave_front.ensures.aside c.put-fits.new.out put (part_short at.along.last.image c.loop-sought.start found.end l.tree) same
 
 pub unwrap-start-requires : goal.unwrap-start-requires
@@ -84,8 +84,8 @@ loop-sought-smaller g c =
     let found = c.reach_end-found.result in
     let i = c.loop-sought.invariant.to in
     let at = reached g (goal.at.loop-sought-smaller g c).After-reach_end-found in
-    let l = along_loaded sizes g.L.Trees.ROOTS (g.L.Law.lawful sizes.pages) (by_place g.L.Law.opening sizes.pages) c.trees_of.ensures.laws c.args.sought.root c.loop-sought.start found.leaf found.passed p q at.along in
-    let span = span_read sizes g.L.Trees.ROOTS (g.L.Law.lawful sizes.pages) (by_place g.L.Law.opening sizes.pages) c.trees_of.ensures.laws c.args.sought.root c.loop-sought.leaf c.args.sought.low c.loop-sought.start c.args.sought.high c.args.out.now c.loop-sought.out p0 p i found q at in
+    let l = along_loaded sizes g.L.Trees.ROOTS (g.L.Law.lawful sizes.pages) (by_place g.L.Law.opening sizes.pages) c.facts_of_trees.ensures.laws c.args.sought.root c.loop-sought.start found.leaf found.passed p q at.along in
+    let span = span_read sizes g.L.Trees.ROOTS (g.L.Law.lawful sizes.pages) (by_place g.L.Law.opening sizes.pages) c.facts_of_trees.ensures.laws c.args.sought.root c.loop-sought.leaf c.args.sought.low c.loop-sought.start c.args.sought.high c.args.out.now c.loop-sought.out p0 p i found q at in
     let put = subst (λ (b : Bool). HasPut span b c.loop-sought.out c.put-fits.new.out) c.if-not-fits.false (subst (λ (n : ℕ). HasPut (record span { place = n }) c.put-fits.result c.loop-sought.out c.put-fits.new.out) c.place-place.ensures (c.put-fits.ensures at.along.last.image l.is)) in
     let fell = put.chunk_room in omega arith
 
@@ -96,10 +96,10 @@ loop-sought-preserved g c =
     let found = c.reach_end-found.result in
     let i = c.loop-sought.invariant.to in
     let at = reached g (goal.at.loop-sought-preserved g c).After-reach_end-found in
-    let l = along_loaded sizes g.L.Trees.ROOTS (g.L.Law.lawful sizes.pages) (by_place g.L.Law.opening sizes.pages) c.trees_of.ensures.laws c.args.sought.root c.loop-sought.start found.leaf found.passed p q at.along in
-    let span = span_read sizes g.L.Trees.ROOTS (g.L.Law.lawful sizes.pages) (by_place g.L.Law.opening sizes.pages) c.trees_of.ensures.laws c.args.sought.root c.loop-sought.leaf c.args.sought.low c.loop-sought.start c.args.sought.high c.args.out.now c.loop-sought.out p0 p i found q at in
+    let l = along_loaded sizes g.L.Trees.ROOTS (g.L.Law.lawful sizes.pages) (by_place g.L.Law.opening sizes.pages) c.facts_of_trees.ensures.laws c.args.sought.root c.loop-sought.start found.leaf found.passed p q at.along in
+    let span = span_read sizes g.L.Trees.ROOTS (g.L.Law.lawful sizes.pages) (by_place g.L.Law.opening sizes.pages) c.facts_of_trees.ensures.laws c.args.sought.root c.loop-sought.leaf c.args.sought.low c.loop-sought.start c.args.sought.high c.args.out.now c.loop-sought.out p0 p i found q at in
     let put = subst (λ (b : Bool). HasPut span b c.loop-sought.out c.put-fits.new.out) c.if-not-fits.false (subst (λ (n : ℕ). HasPut (record span { place = n }) c.put-fits.result c.loop-sought.out c.put-fits.new.out) c.place-place.ensures (c.put-fits.ensures at.along.last.image l.is)) in
-    let front = some_front sizes g.L.Trees.ROOTS (g.L.Law.lawful sizes.pages) (by_place g.L.Law.opening sizes.pages) c.trees_of.ensures.laws c.args.sought.root c.loop-sought.start found.leaf found.passed p q at.along in
+    let front = some_front sizes g.L.Trees.ROOTS (g.L.Law.lawful sizes.pages) (by_place g.L.Law.opening sizes.pages) c.facts_of_trees.ensures.laws c.args.sought.root c.loop-sought.start found.leaf found.passed p q at.along in
     let le = ends_within c.loop-sought.start c.args.sought.high found.end at.along.last.image at.ends in
     let ne : rank found.end ≢ rank c.args.sought.high = λ e. (let t : c.is_same.result ≡ true = c.is_same.ensures.same.1 e in let f : c.is_same.result ≡ false = c.if-is_same.false in cc) in
     let lt : rank found.end < rank c.args.sought.high = omega arith in
@@ -107,7 +107,7 @@ loop-sought-preserved g c =
       mtr = c.leave_front.ensures.still.mtr;
       latches = c.leave_front.ensures.still.latches ∙ (c.reach_end-found.ensures.still.latches ∙ c.loop-sought.invariant.latches);
       pass = c.leave_front.ensures.still.pass ∙ (c.reach_end-found.ensures.still.pass ∙ c.loop-sought.invariant.pass);
-      to = again sizes g.L.Trees.ROOTS (g.L.Law.lawful sizes.pages) (by_place g.L.Law.opening sizes.pages) c.trees_of.ensures.laws c.args.sought.root c.loop-sought.leaf c.args.sought.low c.loop-sought.start c.args.sought.high c.args.out.now c.loop-sought.out p0 p i found q at
+      to = again sizes g.L.Trees.ROOTS (g.L.Law.lawful sizes.pages) (by_place g.L.Law.opening sizes.pages) c.facts_of_trees.ensures.laws c.args.sought.root c.loop-sought.leaf c.args.sought.low c.loop-sought.start c.args.sought.high c.args.out.now c.loop-sought.out p0 p i found q at
           r (c.leave_front.ensures.left front) c.leave_front.ensures.aside c.put-fits.new.out put (part_short at.along.last.image c.loop-sought.start found.end l.tree)
           c.unwrap-start.result (sym c.after.ensures.next ∙ c.unwrap-start.ensures) lt;
     }

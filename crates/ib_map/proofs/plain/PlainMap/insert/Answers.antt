@@ -1,10 +1,10 @@
--- An insert at the place of a key that is not there is `put`.
+-- An insert at the index of a key that is not there is `put`.
 use Rattle.std.proofs.Common.{arith, refl}
 use Rattle.std.proofs.lemmas.Bool.{cond_both}
 use Rattle.ib_map.specs.Keys.{end_rank}
 use Rattle.ib_map.specs.Map.{IsMap}
 use Rattle.ib_map.proofs.KeyLaws.{rank-lt_end}
-use Rattle.ib_map.proofs.PlaceLaws.{is_some-found, insert-place, Rises-insert}
+use Rattle.ib_map.proofs.IndexLaws.{is_some-found, insert-index, Rises-insert}
 use Rattle.ib_map.proofs.plain.PlainMap.insert.Goals as goal
 use Rattle.ib_map.proofs.plain.PlainMap.insert.Goals.{in-Ok-insert, in-Err-insert}
 
@@ -15,7 +15,7 @@ pub invariant_of-self : goal.invariant_of-self
 invariant_of-self c =
     let search = rw c.deref.ensures.value at c.in-Err.ensures in
     rw c.insert.ensures.items (cond_both _ _ _ IsMap
-    (λ ok. Rises-insert c.args.key c.args.value 0 c.self.inside.pairs.items end_rank c.in-Err.place c.self.invariant (omega arith) (rank-lt_end c.args.key) search.absent search.place)
+    (λ ok. Rises-insert c.args.key c.args.value 0 c.self.inside.pairs.items end_rank c.in-Err.index c.self.invariant (omega arith) (rank-lt_end c.args.key) search.absent search.index)
     (λ err. c.self.invariant))
 
 pub returns-in-Ok-clause-duplicate : goal.returns-in-Ok-clause-duplicate
@@ -27,7 +27,7 @@ pub returns-after-insert-clause-inserted : goal.returns-after-insert-clause-inse
 returns-after-insert-clause-inserted c =
     let search = rw c.deref.ensures.value at c.in-Err.ensures in
     elim c.match-insert.branch [
-      | in-Ok-insert w ↦ rw (w.result-is, w.in-Ok-insert.ensures.items, ← c.self.view_is) (insert-place c.args.key c.args.value c.self.inside.pairs.items c.in-Err.place search.place)
+      | in-Ok-insert w ↦ rw (w.result-is, w.in-Ok-insert.ensures.items, ← c.self.view_is) (insert-index c.args.key c.args.value c.self.inside.pairs.items c.in-Err.index search.index)
       | in-Err-insert w ↦ rw w.result-is tt
     ]
 

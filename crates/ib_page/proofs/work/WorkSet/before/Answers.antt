@@ -8,16 +8,16 @@ use Rattle.ib_page.proofs.work.WorkSet.before.Goals as goal
 
 pub index-requires-in-Some : goal.index-requires-in-Some
 index-requires-in-Some c =
-    let found = subst (λ (ss : List Slot). IsSomeAnd (slice_get ss c.in-Some.place) (λ s. s.page ≡ c.args.page)) c.deref.ensures.value c.in-Some.ensures.there in
-    let lt = room_at-lt _ _ _ _ c.in-Some.place c.index.result.now c.self.invariant.kept (found_slot _ _ _ c.index.result.now found).0 c.index.ensures in
+    let found = subst (λ (ss : List Slot). IsSomeAnd (slice_get ss c.in-Some.index) (λ s. s.page ≡ c.args.page)) c.deref.ensures.value c.in-Some.ensures.there in
+    let lt = room_at-lt _ _ _ _ c.in-Some.index c.index.result.now c.self.invariant.kept (found_slot _ _ _ c.index.result.now found).0 c.index.ensures in
     omega (arith, lt, c.self.invariant.kept.before_size, c.self.inside.before.ok)
 
 pub returns-in-Some-clause-image : goal.returns-in-Some-clause-image
 returns-in-Some-clause-image c =
-    let found = subst (λ (ss : List Slot). IsSomeAnd (slice_get ss c.in-Some.place) (λ s. s.page ≡ c.args.page)) c.deref.ensures.value c.in-Some.ensures.there in
-    let lt = room_at-lt _ _ _ _ c.in-Some.place c.index.result.now c.self.invariant.kept (found_slot _ _ _ c.index.result.now found).0 c.index.ensures in
+    let found = subst (λ (ss : List Slot). IsSomeAnd (slice_get ss c.in-Some.index) (λ s. s.page ≡ c.args.page)) c.deref.ensures.value c.in-Some.ensures.there in
+    let lt = room_at-lt _ _ _ _ c.in-Some.index c.index.result.now c.self.invariant.kept (found_slot _ _ _ c.index.result.now found).0 c.index.ensures in
     let lt_before : c.index.result.now.room < length c.self.inside.before.items = omega (arith, lt, c.self.invariant.kept.before_size) in
-    before_found _ _ _ _ c.in-Some.place c.args.page c.index.result.now c.index-in-Some.result.now c.self.view_is c.self.invariant.kept.ascends found c.index.ensures
+    before_found _ _ _ _ c.in-Some.index c.args.page c.index.result.now c.index-in-Some.result.now c.self.view_is c.self.invariant.kept.ascends found c.index.ensures
     (image_read c.self.inside.before.items c.index.result.now.room c.index-in-Some.result.now lt_before c.index-in-Some.ensures)
 
 pub returns-in-None-clause-image : goal.returns-in-None-clause-image

@@ -9,20 +9,20 @@ use Rattle.ib_page.proofs.work.WorkSet.image.Goals as goal
 
 pub latest-requires-clause-before : goal.latest-requires-clause-before
 latest-requires-clause-before c =
-    let found = subst (λ (ss : List Slot). IsSomeAnd (slice_get ss c.in-Some.place) (λ s. s.page ≡ c.args.page)) c.deref.ensures.value c.in-Some.ensures.there in
-    let lt = room_at-lt _ _ _ _ c.in-Some.place c.index.result.now c.self.invariant.kept (found_slot _ _ _ c.index.result.now found).0 c.index.ensures in
+    let found = subst (λ (ss : List Slot). IsSomeAnd (slice_get ss c.in-Some.index) (λ s. s.page ≡ c.args.page)) c.deref.ensures.value c.in-Some.ensures.there in
+    let lt = room_at-lt _ _ _ _ c.in-Some.index c.index.result.now c.self.invariant.kept (found_slot _ _ _ c.index.result.now found).0 c.index.ensures in
     omega (arith, lt, c.self.invariant.kept.before_size, ap length c.deref-in-Some.ensures.value)
 
 pub latest-requires-clause-changed : goal.latest-requires-clause-changed
 latest-requires-clause-changed c =
-    let found = subst (λ (ss : List Slot). IsSomeAnd (slice_get ss c.in-Some.place) (λ s. s.page ≡ c.args.page)) c.deref.ensures.value c.in-Some.ensures.there in
-    let lt = room_at-lt _ _ _ _ c.in-Some.place c.index.result.now c.self.invariant.kept (found_slot _ _ _ c.index.result.now found).0 c.index.ensures in
+    let found = subst (λ (ss : List Slot). IsSomeAnd (slice_get ss c.in-Some.index) (λ s. s.page ≡ c.args.page)) c.deref.ensures.value c.in-Some.ensures.there in
+    let lt = room_at-lt _ _ _ _ c.in-Some.index c.index.result.now c.self.invariant.kept (found_slot _ _ _ c.index.result.now found).0 c.index.ensures in
     omega (arith, lt, c.self.invariant.kept.changed_size, ap length c.deref-in-Some-2.ensures.value)
 
 pub returns-in-Some-clause-image : goal.returns-in-Some-clause-image
 returns-in-Some-clause-image c =
-    let found = subst (λ (ss : List Slot). IsSomeAnd (slice_get ss c.in-Some.place) (λ s. s.page ≡ c.args.page)) c.deref.ensures.value c.in-Some.ensures.there in
-    image_found _ _ _ _ c.in-Some.place c.args.page c.index.result.now c.latest.result.now c.self.view_is c.self.invariant.kept.ascends found c.index.ensures
+    let found = subst (λ (ss : List Slot). IsSomeAnd (slice_get ss c.in-Some.index) (λ s. s.page ≡ c.args.page)) c.deref.ensures.value c.in-Some.ensures.there in
+    image_found _ _ _ _ c.in-Some.index c.args.page c.index.result.now c.latest.result.now c.self.view_is c.self.invariant.kept.ascends found c.index.ensures
     (c.latest.ensures ∙ (ap (λ v. changed_in v c.deref-in-Some-2.result.now c.index.result.now) c.deref-in-Some.ensures.value ∙ ap (λ v. changed_in c.self.inside.before.items v c.index.result.now) c.deref-in-Some-2.ensures.value))
 
 pub returns-in-None-clause-image : goal.returns-in-None-clause-image

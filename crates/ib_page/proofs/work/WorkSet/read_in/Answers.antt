@@ -18,12 +18,12 @@ index_mut-requires c =
 pub invariant_of-self-lent : goal.invariant_of-self-lent
 invariant_of-self-lent c w =
     let popped : c.self.inside.spare.items ≡ c.pop.new.self.items ++ c.unwrap-room.result ∷ [] = c.pop.ensures.items ∙ ap (λ o. c.pop.new.self.items ++ option_to_list o) c.unwrap-room.ensures in
-    let at : c.place_for-place.result ≡ place_in c.args.page c.self.inside.slots.items = rw c.deref.ensures.value at c.place_for-place.ensures.place in
-    let short : length c.self.inside.slots.items < MOST_WORK_PAGES = omega (arith, c.requires.place, ap length c.self.view_is, length-map c.self.inside.slots.items (work_page_in c.self.inside.before.items c.self.inside.changed.items)) in
-    let done : is_ok c.insert.result ≡ true = c.insert.ensures.succeeds (omega (arith, c.place_for-place.ensures.in_range, c.deref.ensures.len, ap length c.deref.ensures.value, c.self.invariant.slots_room)) in
-    let inserted : c.insert.new.self.items ≡ insert c.self.inside.slots.items c.place_for-place.result (record { page = c.args.page; room = c.unwrap-room.result; edited = false }) = rw done at c.insert.ensures.items in
+    let at : c.index_for-index.result ≡ place_in c.args.page c.self.inside.slots.items = rw c.deref.ensures.value at c.index_for-index.ensures.index in
+    let short : length c.self.inside.slots.items < MOST_WORK_PAGES = omega (arith, c.requires.index, ap length c.self.view_is, length-map c.self.inside.slots.items (work_page_in c.self.inside.before.items c.self.inside.changed.items)) in
+    let done : is_ok c.insert.result ≡ true = c.insert.ensures.succeeds (omega (arith, c.index_for-index.ensures.in_range, c.deref.ensures.len, ap length c.deref.ensures.value, c.self.invariant.slots_room)) in
+    let inserted : c.insert.new.self.items ≡ insert c.self.inside.slots.items c.index_for-index.result (record { page = c.args.page; room = c.unwrap-room.result; edited = false }) = rw done at c.insert.ensures.items in
     record {
-      kept = read_kept _ _ _ _ _ _ c.args.page c.unwrap-room.result c.place_for-place.result c.insert.new.self.items c.self.invariant.kept c.self.view_is c.requires.absent popped at inserted w;
+      kept = read_kept _ _ _ _ _ _ c.args.page c.unwrap-room.result c.index_for-index.result c.insert.new.self.items c.self.invariant.kept c.self.view_is c.requires.absent popped at inserted w;
       slots_room = omega (arith, c.insert.ensures.capacity, c.self.invariant.slots_room);
       spare_room = omega (arith, c.pop.ensures.capacity, c.self.invariant.spare_room);
     }
@@ -31,11 +31,11 @@ invariant_of-self-lent c w =
 pub returns : goal.returns
 returns c =
     let popped : c.self.inside.spare.items ≡ c.pop.new.self.items ++ c.unwrap-room.result ∷ [] = c.pop.ensures.items ∙ ap (λ o. c.pop.new.self.items ++ option_to_list o) c.unwrap-room.ensures in
-    let at : c.place_for-place.result ≡ place_in c.args.page c.self.inside.slots.items = rw c.deref.ensures.value at c.place_for-place.ensures.place in
-    let short : length c.self.inside.slots.items < MOST_WORK_PAGES = omega (arith, c.requires.place, ap length c.self.view_is, length-map c.self.inside.slots.items (work_page_in c.self.inside.before.items c.self.inside.changed.items)) in
-    let done : is_ok c.insert.result ≡ true = c.insert.ensures.succeeds (omega (arith, c.place_for-place.ensures.in_range, c.deref.ensures.len, ap length c.deref.ensures.value, c.self.invariant.slots_room)) in
-    let inserted : c.insert.new.self.items ≡ insert c.self.inside.slots.items c.place_for-place.result (record { page = c.args.page; room = c.unwrap-room.result; edited = false }) = rw done at c.insert.ensures.items in (
-      (refl, λ w. read_gives _ _ _ _ _ _ c.args.page c.unwrap-room.result c.place_for-place.result c.insert.new.self.items c.self.invariant.kept c.self.view_is c.requires.absent popped at inserted w),
+    let at : c.index_for-index.result ≡ place_in c.args.page c.self.inside.slots.items = rw c.deref.ensures.value at c.index_for-index.ensures.index in
+    let short : length c.self.inside.slots.items < MOST_WORK_PAGES = omega (arith, c.requires.index, ap length c.self.view_is, length-map c.self.inside.slots.items (work_page_in c.self.inside.before.items c.self.inside.changed.items)) in
+    let done : is_ok c.insert.result ≡ true = c.insert.ensures.succeeds (omega (arith, c.index_for-index.ensures.in_range, c.deref.ensures.len, ap length c.deref.ensures.value, c.self.invariant.slots_room)) in
+    let inserted : c.insert.new.self.items ≡ insert c.self.inside.slots.items c.index_for-index.result (record { page = c.args.page; room = c.unwrap-room.result; edited = false }) = rw done at c.insert.ensures.items in (
+      (refl, λ w. read_gives _ _ _ _ _ _ c.args.page c.unwrap-room.result c.index_for-index.result c.insert.new.self.items c.self.invariant.kept c.self.view_is c.requires.absent popped at inserted w),
       record {
         lends = tt;
         work = subst IsWork c.self.view_is (is_work _ _ _ _ c.self.invariant.kept);

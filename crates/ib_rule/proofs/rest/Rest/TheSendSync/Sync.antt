@@ -1,6 +1,0 @@
-use denote.Param.Send.{IsSync, part_keyless}
-use Rattle.ib_rule.specs.contracts.rest.Rest.{the_row}
-use Rattle.ib_rule.proofs.rest.Rest.TheSendSync.Send.{send}
-
-pub sync : IsSync the_row
-sync = record { shared = λ d b o ν q. part_keyless the_row send q d b o }
