@@ -1,0 +1,229 @@
+#!/usr/bin/env python3
+"""Spoils log files, scripts and events that are in order, and compares what the program answers with the models of check_models.py.
+
+Logs are written by the program itself (`raw`, of scripts that split, raise, merge and lift) and by tree_logs.py. Each is spoiled once to
+four times: a bit or a byte changed, bytes cut out, put in or doubled, two words exchanged, a word replaced by 0, by the greatest, by another
+word of the file or by one more, a count of writes out of range, the tail of another log behind the front of one. Scripts and events are
+spoiled by bytes and by lines. Every input must be answered as the model answers it, within a second, and with memory in proportion to its
+length.
+Words: how many inputs (20,000 if none; a half are logs, a quarter scripts, a quarter events), a seed (83), and how many processes (4).
+It prints how many inputs of each form were taken and refused, the longest time, and the most memory beside what the shortest input of the
+form takes (of `run`, one with 64 sessions on the largest space), for each byte of the input. At the first difference it prints what differs and the file with the input, and ends with the status 1.
+It takes some two minutes for 20,000 inputs on four processors.
+"""
+
+import os
+import random
+import sys
+import tempfile
+import time
+from collections import Counter
+from multiprocessing import Pool
+
+import keys
+from check_models import latch, replay, run, some_events, some_script, some_tree
+from judge import Wrong, commands_of, judge
+from program import PROGRAM, answer, built
+from tree_logs import HEAD, entry_words, file_of
+
+GREATEST = 2**64 - 1
+SECONDS = 1.0
+
+
+def measured(form, data):
+    """The status, the output, the seconds and the most memory in kilobytes of the program for this input."""
+    with tempfile.TemporaryFile() as source, tempfile.TemporaryFile() as sink:
+        source.write(data)
+        source.seek(0)
+        start = time.monotonic()
+        child = os.posix_spawn(
+            PROGRAM,
+            [PROGRAM, form],
+            os.environ,
+            file_actions=[(os.POSIX_SPAWN_DUP2, source.fileno(), 0), (os.POSIX_SPAWN_DUP2, sink.fileno(), 1)],
+        )
+        _, status, used = os.wait4(child, 0)
+        seconds = time.monotonic() - start
+        sink.seek(0)
+        return os.waitstatus_to_exitcode(status), sink.read(), seconds, used.ru_maxrss
+
+
+def falling_script(dice):
+    """Inserts that split and raise, and then deletes that merge and lift, on few pages."""
+    many = dice.choice([20, 45, 90])
+    order = [keys.text(keys.nth(number)) for number in range(many)]
+    dice.shuffle(order)
+    lines = ["space 64 60000"] + [f"insert {key} {dice.randrange(1000)}" for key in order]
+    dice.shuffle(order)
+    lines += [f"delete {key}" for key in order[: dice.randrange(many)]]
+    return "\n".join(lines).encode()
+
+
+def lawful_logs(dice, count):
+    logs = [answer(["raw"], falling_script(dice))[1] for _ in range(count)]
+    for _ in range(count):
+        words, made, pages = [], {}, dice.choice([16, 17, 64, 4096])
+        for entry in some_tree(dice, pages):
+            session = dice.choice([1, 2, 1024])
+            made[session] = made.get(session, 0) + 1
+            words += entry_words(session, made[session], *entry)
+        logs.append(file_of(pages, words))
+    return [log for log in logs if len(log) > 16]
+
+
+def words_in(data):
+    return [int.from_bytes(data[at : at + 8], "big") for at in range(0, len(data) - 7, 8)]
+
+
+def bytes_of(words):
+    return b"".join((word & GREATEST).to_bytes(8, "big") for word in words)
+
+
+def heads_in(words):
+    """Where the entries of a log begin, as far as their counts tell."""
+    heads, at = [], 2
+    while at < len(words):
+        heads.append(at)
+        at += HEAD + 2 * (words[at] & 0xFFFF)
+    return heads
+
+
+def spoiled_words(dice, data, other):
+    words = words_in(data)
+    heads = heads_in(words)
+    at = dice.choice([dice.randrange(len(words)), min(dice.choice(heads) + dice.randrange(HEAD), len(words) - 1)])
+    how = dice.randrange(7)
+    if how == 0:
+        words[at] = dice.choice([0, 1, GREATEST, words[at] + 1, words[at] - 1, words[at] ^ 1 << dice.randrange(64)])
+    elif how == 1:
+        words[at] = dice.choice(words)
+    elif how == 2:
+        there = dice.randrange(len(words))
+        words[at], words[there] = words[there], words[at]
+    elif how == 3:
+        head = dice.choice(heads)
+        words[head] = words[head] & ~0xFFFF | dice.choice([0, 1, 0xFFFF, 4095, 4096, (words[head] & 0xFFFF) + 1])
+    elif how == 4:
+        words = words[: dice.choice(heads)] + words_in(other)[2:]
+    elif how == 5:
+        head, end = dice.choice(heads), dice.choice(heads)
+        words = words[:head] + words[end:]
+    else:
+        head = dice.choice(heads)
+        words[head:head] = words[dice.choice(heads) :][: dice.randrange(40)]
+    return bytes_of(words)
+
+
+def spoiled_bytes(dice, data):
+    at, how = dice.randrange(len(data)), dice.randrange(5)
+    if how == 0:
+        return data[:at] + bytes([data[at] ^ 1 << dice.randrange(8)]) + data[at + 1 :]
+    if how == 1:
+        return data[:at] + bytes([dice.randrange(256)]) + data[at + 1 :]
+    if how == 2:
+        return data[:at]
+    if how == 3:
+        return data[:at] + data[at + dice.choice([1, 8, 64]) :]
+    return data[:at] + data[at : at + dice.choice([1, 8, 64])] + data[at:]
+
+
+def spoiled_log(dice, logs):
+    data = dice.choice(logs)
+    for _ in range(dice.choice([1, 1, 2, 4])):
+        if len(data) < 24 or dice.randrange(4) == 0:
+            data = spoiled_bytes(dice, data) if data else data
+        else:
+            data = spoiled_words(dice, data, dice.choice(logs))
+    return data
+
+
+def spoiled_lines(dice, data):
+    lines = data.split(b"\n")
+    for _ in range(dice.choice([1, 2, 4])):
+        at, how = dice.randrange(len(lines)), dice.randrange(5)
+        if how == 0:
+            lines[at] = spoiled_bytes(dice, lines[at]) if lines[at] else b" "
+        elif how == 1:
+            lines.insert(at, dice.choice(lines))
+        elif how == 2:
+            fields = lines[at].split(b" ")
+            fields[dice.randrange(len(fields))] = dice.choice([b"", b"18446744073709551616", b"18446744073709551615", b"0", b"00", b"x:", b"x:0", b"\xff", b"_"])
+            lines[at] = b" ".join(fields)
+        elif how == 3:
+            lines[at] = lines[at] + dice.choice([b" ", b" 1", b"\r", b"\0", b"\t"])
+        else:
+            lines[at], lines[0] = lines[0], lines[at]
+    return b"\n".join(lines)
+
+
+def is_told_full(text):
+    return b" -> log full " in text or b" -> space full " in text
+
+
+def why_differs(form, data, status, found):
+    """Why this answer is not the model's; None where it is."""
+    if form == "run":
+        wanted, text = run(data)
+        if wanted == 0 and status == 0:
+            try:
+                judge(data.decode("latin-1"), found.decode("latin-1"))
+            except Wrong as wrong:
+                return str(wrong)
+            if len(commands_of(data.decode("latin-1"))[1]) > 1 or is_told_full(found):
+                return None
+    else:
+        wanted, text = (replay if form == "replay" else latch)(data)
+    return None if (status, found) == (wanted, text.encode()) else f"the program ends with {status}, the model with {wanted}"
+
+
+def tried(work):
+    """What came of so many inputs by this seed: counts, the longest seconds, and the most memory for each byte."""
+    seed, count, base = work
+    dice = random.Random(seed)
+    logs, counts, longest, most = lawful_logs(dice, 12), Counter(), 0.0, 0.0
+    for turn in range(count):
+        form = ("replay", "run", "replay", "latch")[turn % 4]
+        data = spoiled_log(dice, logs) if form == "replay" else spoiled_lines(dice, (some_script if form == "run" else some_events)(dice))
+        status, found, seconds, memory = measured(form, data)
+        why = why_differs(form, data, status, found)
+        if why is None and seconds > SECONDS:
+            status, found, seconds, memory = measured(form, data)
+            why = f"it takes {seconds:.1f} seconds" if seconds > SECONDS else None
+        if why is not None:
+            with tempfile.NamedTemporaryFile(prefix="input-", delete=False) as file:
+                file.write(data)
+            return f"{form} < {file.name}: {why}"
+        counts[form, status] += 1
+        longest = max(longest, seconds)
+        if len(data) > 64 and not (form == "replay" and words_in(data)[1] > 64):
+            most = max(most, (memory - base[form]) * 1024 / len(data))
+    return counts, longest, most
+
+
+def main():
+    count = int(sys.argv[1]) if len(sys.argv) > 1 else 20_000
+    seed = int(sys.argv[2]) if len(sys.argv) > 2 else 83
+    workers = int(sys.argv[3]) if len(sys.argv) > 3 else 4
+    built()
+    base = {"run": measured("run", b"session 64\nget 1\n")[3], "latch": measured("latch", b"")[3], "replay": measured("replay", file_of(16, []))[3]}
+    portion = 1_000
+    works = [(seed * 1_000_003 + turn, min(portion, count - turn * portion), base) for turn in range((count + portion - 1) // portion)]
+    counts, longest, most = Counter(), 0.0, 0.0
+    with Pool(workers) as pool:
+        for came in pool.imap_unordered(tried, works):
+            if isinstance(came, str):
+                print(came)
+                pool.terminate()
+                return 1
+            counts.update(came[0])
+            longest, most = max(longest, came[1]), max(most, came[2])
+    for form in ("replay", "run", "latch"):
+        by_status = {status: number for (of, status), number in counts.items() if of == form}
+        told = ", ".join(f"{number} with status {status}" for status, number in sorted(by_status.items()))
+        print(f"{form}: {sum(by_status.values())} inputs, {told}: the same")
+    print(f"the longest took {longest:.3f} s; the most memory for a byte of input, beside that of an empty one: {most:.0f} bytes")
+    return 0
+
+
+if __name__ == "__main__":
+    sys.exit(main())
