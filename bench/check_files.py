@@ -4,12 +4,10 @@
 Logs are written by the program itself (`raw`, of scripts that split, raise, merge and lift) and by tree_logs.py. Each is spoiled once to
 four times: a bit or a byte changed, bytes cut out, put in or doubled, two words exchanged, a word replaced by 0, by the greatest, by another
 word of the file or by one more, a count of writes out of range, the tail of another log behind the front of one. Scripts and events are
-spoiled by bytes and by lines. Every input must be answered as the model answers it, within a second, and with memory in proportion to its
-length.
+spoiled by bytes and by lines. Every input must be answered as the model answers it, and within a second.
 Words: how many inputs (20,000 if none; a half are logs, a quarter scripts, a quarter events), a seed (83), and how many processes (4).
-It prints how many inputs of each form were taken and refused, the longest time, and the most memory beside what the shortest input of the
-form takes (of `run`, one with 64 sessions on the largest space), for each byte of the input. At the first difference it prints what differs and the file with the input, and ends with the status 1.
-It takes some two minutes for 20,000 inputs on four processors.
+It prints how many inputs of each form were taken and refused, and the longest time. At the first difference it prints what differs and
+the file with the input, and ends with the status 1. It takes some minutes for 20,000 inputs on four processors.
 """
 
 import os
@@ -31,7 +29,7 @@ SECONDS = 1.0
 
 
 def measured(form, data):
-    """The status, the output, the seconds and the most memory in kilobytes of the program for this input."""
+    """The status, the output and the seconds of the program for this input."""
     with tempfile.TemporaryFile() as source, tempfile.TemporaryFile() as sink:
         source.write(data)
         source.seek(0)
@@ -42,10 +40,10 @@ def measured(form, data):
             os.environ,
             file_actions=[(os.POSIX_SPAWN_DUP2, source.fileno(), 0), (os.POSIX_SPAWN_DUP2, sink.fileno(), 1)],
         )
-        _, status, used = os.wait4(child, 0)
+        _, status = os.waitpid(child, 0)
         seconds = time.monotonic() - start
         sink.seek(0)
-        return os.waitstatus_to_exitcode(status), sink.read(), seconds, used.ru_maxrss
+        return os.waitstatus_to_exitcode(status), sink.read(), seconds
 
 
 def falling_script(dice):
@@ -177,17 +175,17 @@ def why_differs(form, data, status, found):
 
 
 def tried(work):
-    """What came of so many inputs by this seed: counts, the longest seconds, and the most memory for each byte."""
-    seed, count, base = work
+    """What came of so many inputs by this seed: counts, and the longest seconds."""
+    seed, count = work
     dice = random.Random(seed)
-    logs, counts, longest, most = lawful_logs(dice, 12), Counter(), 0.0, 0.0
+    logs, counts, longest = lawful_logs(dice, 12), Counter(), 0.0
     for turn in range(count):
         form = ("replay", "run", "replay", "latch")[turn % 4]
         data = spoiled_log(dice, logs) if form == "replay" else spoiled_lines(dice, (some_script if form == "run" else some_events)(dice))
-        status, found, seconds, memory = measured(form, data)
+        status, found, seconds = measured(form, data)
         why = why_differs(form, data, status, found)
         if why is None and seconds > SECONDS:
-            status, found, seconds, memory = measured(form, data)
+            status, found, seconds = measured(form, data)
             why = f"it takes {seconds:.1f} seconds" if seconds > SECONDS else None
         if why is not None:
             with tempfile.NamedTemporaryFile(prefix="input-", delete=False) as file:
@@ -195,9 +193,7 @@ def tried(work):
             return f"{form} < {file.name}: {why}"
         counts[form, status] += 1
         longest = max(longest, seconds)
-        if len(data) > 64 and not (form == "replay" and words_in(data)[1] > 64):
-            most = max(most, (memory - base[form]) * 1024 / len(data))
-    return counts, longest, most
+    return counts, longest
 
 
 def main():
@@ -205,10 +201,9 @@ def main():
     seed = int(sys.argv[2]) if len(sys.argv) > 2 else 83
     workers = int(sys.argv[3]) if len(sys.argv) > 3 else 4
     built()
-    base = {"run": measured("run", b"session 64\nget 1\n")[3], "latch": measured("latch", b"")[3], "replay": measured("replay", file_of(16, []))[3]}
     portion = 1_000
-    works = [(seed * 1_000_003 + turn, min(portion, count - turn * portion), base) for turn in range((count + portion - 1) // portion)]
-    counts, longest, most = Counter(), 0.0, 0.0
+    works = [(seed * 1_000_003 + turn, min(portion, count - turn * portion)) for turn in range((count + portion - 1) // portion)]
+    counts, longest = Counter(), 0.0
     with Pool(workers) as pool:
         for came in pool.imap_unordered(tried, works):
             if isinstance(came, str):
@@ -216,12 +211,12 @@ def main():
                 pool.terminate()
                 return 1
             counts.update(came[0])
-            longest, most = max(longest, came[1]), max(most, came[2])
+            longest = max(longest, came[1])
     for form in ("replay", "run", "latch"):
         by_status = {status: number for (of, status), number in counts.items() if of == form}
         told = ", ".join(f"{number} with status {status}" for status, number in sorted(by_status.items()))
         print(f"{form}: {sum(by_status.values())} inputs, {told}: the same")
-    print(f"the longest took {longest:.3f} s; the most memory for a byte of input, beside that of an empty one: {most:.0f} bytes")
+    print(f"the longest took {longest:.3f} s")
     return 0
 
 
