@@ -23,6 +23,7 @@ FIXED = (
     ("run", "tree.script", "tree.out", 0),
     ("latch", "latch.script", "latch.out", 0),
     ("replay", "insert.log", "insert.out", 0),
+    ("upgrade", "old.log", "old.out", 0),
 )
 
 

@@ -20,3 +20,4 @@ pub mod RowLaws
 pub mod LevelLaws
 pub mod TakenLaws
 pub mod ChildLaws
+pub mod PositionLaws

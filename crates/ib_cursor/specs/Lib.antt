@@ -13,3 +13,4 @@ pub mod Siblings
 pub mod Shapes
 pub mod Takings
 pub mod Rows
+pub mod Positions

@@ -10,6 +10,7 @@ mod latch_page;
 mod lookup;
 mod next;
 mod nowait;
+mod position;
 mod search;
 mod siblings;
 
@@ -19,5 +20,6 @@ pub use fault::NowaitFault;
 pub use latch_page::{read, take};
 pub use lookup::{find, find_nowait};
 pub use next::next_leaf;
+pub use position::{Position, Restored, restore, store};
 pub use search::Search;
 pub use siblings::descend_to_delete;

@@ -46,7 +46,7 @@ use Rattle.ib_cursor.proofs.LatchingLaws.{beside_taken, went_beside, went_both}
 use Rattle.ib_cursor.proofs.TakeLaws.{absent_loaded, all-both, among-more, loaded-more, long-more}
 use Rattle.ib_index.specs.Grows.{HasGrown, IsGrowing, held_grant, pages_held, tree_pages}
 use Rattle.ib_index.proofs.AgreeLaws.{kept-shapes}
-use Rattle.ib_index.proofs.WorkLaws.{reads-each}
+use Rattle.ib_planned_change.proofs.WorkLaws.{reads-each}
 
 -- the image of a page, with one more that was not there
 pub changed-more : (n page : ℕ) (image : List ℕ) (ps : List WorkPage) → changed_of page ps ≡ None → changed_of n (with_read page image ps) ≡ cond (page == n) (Some image) (changed_of n ps)

@@ -7,9 +7,6 @@ mod CallEnds
 mod EndLaws
 mod LeafCalls
 mod AgreeLaws
-mod WorkLaws
-mod PlanLaws
-mod PlanCommits
 mod GrowLaws
 mod ClaimedLaws
 mod BeginLaws
@@ -21,7 +18,6 @@ mod FreshLaws
 mod ReadyLaws
 mod GrowWhole
 mod SpaceTicks
-mod ShrinkPlanLaws
 mod SiblingWays
 mod SiblingBegins
 mod ShrinkMay

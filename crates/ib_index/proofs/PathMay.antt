@@ -45,9 +45,9 @@ use Rattle.ib_cursor.proofs.GrantLaws.{away-none, can_wish, hold-latch, may_grow
 use Rattle.ib_index.specs.Leaf.{IsSeated}
 use Rattle.ib_index.specs.Grows.{IsGrowing, held_grant, most_held, pages_held}
 use Rattle.ib_index.proofs.AgreeLaws.{agrees, images-before, images-now, still-in}
-use Rattle.ib_index.proofs.PlanCommits.{IsPlannedChange, entry-kept}
+use Rattle.ib_planned_change.proofs.PlanCommits.{IsPlannedChange, entry-kept}
 use Rattle.ib_index.proofs.LeafCommits.{own-behind}
-use Rattle.ib_index.proofs.WorkLaws.{count-same, none-same, pages-same, reads-same}
+use Rattle.ib_planned_change.proofs.WorkLaws.{count-same, none-same, pages-same, reads-same}
 
 -- X is held on each of the pages
 held-x : (held : List (ℕ × Level)) (page : ℕ) → is_listed (pages_held held) page ≡ true → 0 < on (page + 2) (λ h. h.x) (map hold_of (map held_grant held))

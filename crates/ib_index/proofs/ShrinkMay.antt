@@ -1,6 +1,6 @@
 -- A delete that is planned on the images of what is held may be committed.
 use Rattle.std.specs.List.{AllByRecursion}
-use Rattle.std.proofs.Common.{◌≤◌, ◌≡◌, ℕ, ◌<◌, ◌^◌, true, List, ◌∷◌, Option, Some, length, map, refl, ap, ◌∙◌}
+use Rattle.std.proofs.Common.{◌≤◌, ◌≡◌, ℕ, ◌<◌, ◌^◌, true, List, ◌∷◌, Option, Some, length, map, ap, ◌∙◌}
 use Rattle.ib_map.specs.Keys.{MapKey}
 use Rattle.ib_map.specs.Map.{delete_answer, is_made}
 use Rattle.ib_map.specs.Pairs.{value_at}
@@ -10,7 +10,6 @@ use Rattle.ib_levels.specs.declared.level.Level.TheVariants.{Log}
 use Rattle.ib_levels.specs.Level.{may_follow}
 use Rattle.ib_layout.specs.Geometry.{Sizes}
 use Rattle.ib_page.specs.Work.{WorkPage, IsWork}
-use Rattle.ib_walk.specs.Search.{leaf_for}
 use Rattle.ib_plans.specs.Agreement.{last_of, memory_in, reads_of}
 use Rattle.ib_merge.specs.Deletes.{IsPlannedDeleteForAll}
 use Rattle.ib_planned_log.specs.Kept.{IsKeptLog}
@@ -22,8 +21,7 @@ use Rattle.ib_cursor.specs.Claims.{claim_grant}
 use Rattle.ib_cursor.specs.Grants.{Grant}
 use Rattle.ib_index.specs.Grows.{IsGrowing, held_grant, most_held}
 use Rattle.ib_index.specs.Leaf.{IsSeated}
-use Rattle.ib_plans.proofs.StayLaws.{planned_delete-stays}
-use Rattle.ib_index.proofs.ShrinkPlanLaws.{delete-bits, delete-on}
+use Rattle.ib_planned_change.proofs.ChangeLaws.{delete-planned}
 use Rattle.ib_index.proofs.PathMay.{may-commit}
 
 module _ (sizes : Sizes) (key : MapKey) (path : List ℕ) (held : List (ℕ × Level)) (p : PassState) (can : IsGrowing sizes key path held p) (seated : IsSeated sizes p)
@@ -33,10 +31,4 @@ module _ (sizes : Sizes) (key : MapKey) (path : List ℕ) (held : List (ℕ × L
   pub may-shrink : MayCommit (IsKeptLog sizes.pages) (with_work work p) (Delete key)
   may-shrink = may-commit sizes key path held p can seated few short follow (Delete key)
       (λ log same. ap (λ (o : Option ℕ). is_made (delete_answer o)) (same ∙ there)) work
-      (λ memory bits a. record {
-        may = tt;
-        plan = planned sizes.pages 1 1 memory bits a;
-        leaf_on = delete-on memory bits key 1 (leaf_for memory key 1) refl;
-        stays = λ n off. planned_delete-stays n memory bits key 1 off;
-        bits_stay = λ off n. delete-bits memory bits key 1 n off;
-      }) reads is-work
+      (λ memory bits a. delete-planned sizes.pages key memory bits p.work work (planned sizes.pages 1 1 memory bits a)) reads is-work

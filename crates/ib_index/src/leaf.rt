@@ -1,20 +1,14 @@
 //! The change that needs the key's leaf alone.
 
-ghost use Rattle.std.specs.Prelude.{◌≡◌, ◌⊎◌, ◌<◌, ◌≤◌, ◌^◌, List, None, length, IsSome, IfOk, IfErr};
+ghost use Rattle.std.specs.Prelude.{◌≡◌, ◌⊎◌, ◌<◌, ◌≤◌, List, None, length, IsSome, IfOk, IfErr};
 ghost use Rattle.ib_map.specs.Pairs.{value_at};
 ghost use Rattle.ib_map.specs.declared.call.Call.TheVariants.{Insert as InsertCall, Delete as DeleteCall};
 ghost use Rattle.ib_map.specs.declared.call.Change.TheVariants.{Insert, Delete};
 ghost use Rattle.ib_map.specs.declared.call.Reply.TheVariants.{LogFull as LogFullReply};
 ghost use Rattle.ib_heap.specs.declared.TheConstants.{MOST_RECORDS};
-ghost use Rattle.ib_heap.specs.Heap.{read_heap};
-ghost use Rattle.ib_page.specs.Form.{page_of};
-ghost use Rattle.ib_page.specs.Image.{IsTreePage, clock_of, records_of};
 ghost use Rattle.ib_page.specs.Work.{WorkPage};
-ghost use Rattle.ib_walk.specs.Words.{state_of};
 ghost use Rattle.ib_plans.specs.declared.TheConstants.{FEWEST_RECORDS};
-ghost use Rattle.ib_plans.specs.Moves.{IsMovedHeap, Puts, Takes};
 ghost use Rattle.ib_planned_log.specs.Kept.{IsKeptLog};
-ghost use Rattle.ib_planned_log.specs.LeafChange.{with_pair, without_pair};
 ghost use Rattle.ib_rule.specs.Conditions.{HasGrantLeft};
 ghost use Rattle.ib_rule.specs.Pass.{IsAtRest};
 ghost use Rattle.ib_mtr.specs.Commits.{MayCommit};
@@ -28,7 +22,8 @@ use ib_frames::LogFull;
 use ib_latch::{Latches, Parkers};
 use ib_map::{Call, Change, Key, Record, Reply};
 use ib_mtr::Mtr;
-use ib_page::{Image, MOST_RECORDS};
+use ib_page::MOST_RECORDS;
+use ib_planned_change::{put_pair, take_pair};
 use ib_planned_log::KeptLaw;
 use ib_plans::FEWEST_RECORDS;
 use ib_rule::Pass;
@@ -76,31 +71,6 @@ fn look_in(mtr: &Work<'_>, leaf: u32, key: Key) -> Looked
         value: image.get(key),
         count: image.len(),
     }
-}
-
-// Puts a pair into a leaf that has room for it.
-fn put_pair(image: &mut Image, key: Key, value: u64)
-    requires tree { IsTreePage image.old }
-    requires missing { value_at key (records_of image.old) ≡ None }
-    requires room { length (records_of image.old) < MOST_RECORDS }
-    requires clock { clock_of image.old < 2 ^ 63 }
-    ensures page { state_of (page_of image.new) ≡ with_pair key value (state_of (page_of image.old)) }
-    ensures heap { IsMovedHeap (Puts key) (records_of image.old) (read_heap image.old) (read_heap image.new) }
-{
-    let _ = image.insert(key, value);
-    image.touch();
-}
-
-// Takes the pair of a key out of its leaf.
-fn take_pair(image: &mut Image, key: Key)
-    requires tree { IsTreePage image.old }
-    requires there { IsSome (value_at key (records_of image.old)) }
-    requires clock { clock_of image.old < 2 ^ 63 }
-    ensures page { state_of (page_of image.new) ≡ without_pair key (state_of (page_of image.old)) }
-    ensures heap { IsMovedHeap (Takes key) (records_of image.old) (read_heap image.old) (read_heap image.new) }
-{
-    let _ = image.remove(key);
-    image.touch();
 }
 
 // Puts the pair into the leaf that is held, which has room. The change may be committed then.

@@ -12,6 +12,8 @@ mod lookups;
 #[cfg(test)]
 mod pages;
 #[cfg(test)]
+mod positions;
+#[cfg(test)]
 mod rows;
 #[cfg(test)]
 mod runs;
@@ -21,5 +23,7 @@ mod scans;
 mod scripts;
 #[cfg(test)]
 mod space;
+#[cfg(test)]
+mod stored;
 #[cfg(test)]
 mod threads;

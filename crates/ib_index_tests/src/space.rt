@@ -46,7 +46,7 @@ pub(crate) fn may_call(rt: &impl Abort, pass: &Pass)
 }
 
 // It may scan, with this room for chunks.
-fn may_scan(rt: &impl Abort, pass: &Pass, out: &Chunks)
+pub(crate) fn may_scan(rt: &impl Abort, pass: &Pass, out: &Chunks)
     ensures { HasGrantsLeft (8192 * out.now.chunk_room + 8192) pass.now.view }
 {
     may_call(rt, pass);

@@ -18,6 +18,15 @@ pub enum UnlawfulKind {
     Tree,
 }
 
+/// What is full where an insert of an older log cannot be planned anew.
+#[derive(Clone, Copy, Debug, PartialEq, Eq)]
+pub enum FullKind {
+    /// The tree would get a level more than trees may have.
+    High,
+    /// The space has fewer free pages than the insert takes.
+    Space,
+}
+
 /// Why words or bytes are no log. `place` is the log word at which the entry begins.
 #[derive(Clone, Copy, Debug, PartialEq, Eq, Error)]
 pub enum LogFault {
@@ -42,6 +51,9 @@ pub enum LogFault {
     /// An entry that may not stand where it stands.
     #[error("unlawful at {place}")]
     Unlawful { place: u32, kind: UnlawfulKind },
+    /// An entry of an older log whose insert finds the tree or the space full where it is planned anew.
+    #[error("cannot plan at {place}")]
+    CannotPlan { place: u32, why: FullKind },
     #[error("out of memory")]
     OutOfMemory,
 }

@@ -14,7 +14,7 @@ mod writes;
 pub use decode::{decode_at, head_at};
 pub use encode::encode_into;
 pub use entry::{Entry, HEAD_WORDS, MOST_SESSIONS, MOST_WRITES};
-pub use fault::{LogFault, UnlawfulKind};
+pub use fault::{FullKind, LogFault, UnlawfulKind};
 pub use head::Head;
 pub use ib_map::{Write, spans_pages};
 pub use law::{AnyLaw, Law};

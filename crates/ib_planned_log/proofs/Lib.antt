@@ -6,3 +6,4 @@ pub mod WordLaws
 pub mod LeafPlanLaws
 pub mod PageChangeLaws
 pub mod LeafChangeLaws
+pub mod WrittenLaws

@@ -1,7 +1,7 @@
 //! The law of a running space: which lists of entries keep it.
 
 use ib_logrec::Law;
-use ib_tree::{TreeLaw, Trees};
+use ib_tree::{Clocks, TreeLaw, Trees};
 
 /// The law of one tree that is changed by plan alone: the lawful lists of `TreeLaw` whose entries each make
 /// just the change that is planned for it behind those before it, and write exactly the words that differ.
@@ -37,4 +37,8 @@ impl Trees for KeptLaw {
     const ROOTS: u32 = 1;
 
     fn trees_law() {}
+}
+
+impl Clocks for KeptLaw {
+    fn clocks_law() {}
 }

@@ -17,7 +17,7 @@ use Rattle.ib_logrec.specs.declared.fault.LogFault.TheVariants.{OutOfMemory}
 use Rattle.ib_logrec.specs.Grammar.{IsFault}
 use Rattle.ib_logrec.proofs.EntryLaws.{IsFault-none}
 use Rattle.ib_replay.specs.declared.file.TheConstants.{FILE_FORM}
-use Rattle.ib_replay.specs.Files.{LogFile, AreWords, word_bytes, file_of, file_number, file_fault}
+use Rattle.ib_replay.specs.Files.{LogFile, AreWords, word_bytes, file_with, file_of, file_number, file_fault, file_fault_with}
 
 abbrev pub AreBytes : List ℕ → Type 0
 AreBytes bytes = (i : ℕ) → get_or bytes i 0 < 256
@@ -71,14 +71,17 @@ word_bytes-one (x ∷ xs) (y ∷ ys) xs_fit ys_fit same =
     λ i. first i ∷ rest i
 
 -- a file of a log is no other log's
-pub file_of-one : (p q : ℕ) (xs ys : List ℕ) → p < 2 ^ 64 → q < 2 ^ 64 → AreWords xs → AreWords ys → file_of p xs ≡ file_of q ys → (p ≡ q) × (xs ≡ ys)
-unfolding file_of
-file_of-one p q xs ys p_fits q_fits xs_fit ys_fit same =
+pub file_with-one : (form p q : ℕ) (xs ys : List ℕ) → form < 2 ^ 64 → p < 2 ^ 64 → q < 2 ^ 64 → AreWords xs → AreWords ys → file_with form p xs ≡ file_with form q ys → (p ≡ q) × (xs ≡ ys)
+unfolding file_with
+file_with-one form p q xs ys form_fits p_fits q_fits xs_fit ys_fit same =
     let fits : ℕ → Type 0 = λ w. w < 2 ^ 64 in
-    let words = word_bytes-one (FILE_FORM ∷ p ∷ xs) (FILE_FORM ∷ q ∷ ys)
-    (All-cons fits FILE_FORM (p ∷ xs) (omega arith) (All-cons fits p xs p_fits xs_fit))
-    (All-cons fits FILE_FORM (q ∷ ys) (omega arith) (All-cons fits q ys q_fits ys_fit)) same in
+    let words = word_bytes-one (form ∷ p ∷ xs) (form ∷ q ∷ ys)
+    (All-cons fits form (p ∷ xs) form_fits (All-cons fits p xs p_fits xs_fit))
+    (All-cons fits form (q ∷ ys) form_fits (All-cons fits q ys q_fits ys_fit)) same in
     (cc, cc)
+
+pub file_of-one : (p q : ℕ) (xs ys : List ℕ) → p < 2 ^ 64 → q < 2 ^ 64 → AreWords xs → AreWords ys → file_of p xs ≡ file_of q ys → (p ≡ q) × (xs ≡ ys)
+file_of-one p q xs ys p_fits q_fits xs_fit ys_fit same = file_with-one FILE_FORM p q xs ys (omega arith) p_fits q_fits xs_fit ys_fit same
 
 -- words that are read fit
 pub words_fit : (words bytes : List ℕ) → AreBytes bytes → IsRead big_number 8 bytes words → AreWords words
@@ -87,36 +90,39 @@ words_fit words bytes fits read k d lt =
     rw (get_or_default words k d 0 lt, read k lt) bound
 
 -- bytes that begin with the form are the file of the pages and words that are read from them
-pub file_of-read : (bytes words : List ℕ) (pages : ℕ) → 16 ≤ length bytes → AreBytes bytes → big_number 8 bytes ≡ FILE_FORM → pages ≡ big_number 8 (drop 8 bytes)
-    → word_bytes words ≡ drop 16 bytes → bytes ≡ file_of pages words
-unfolding file_of
-file_of-read bytes words pages long fits form second rest =
-    let front : big_bytes 8 FILE_FORM ≡ take 8 bytes = ap (big_bytes 8) (sym form) ∙ big_bytes-front bytes (omega arith) fits in
+pub file_with-read : (form : ℕ) (bytes words : List ℕ) (pages : ℕ) → 16 ≤ length bytes → AreBytes bytes → big_number 8 bytes ≡ form → pages ≡ big_number 8 (drop 8 bytes)
+    → word_bytes words ≡ drop 16 bytes → bytes ≡ file_with form pages words
+unfolding file_with
+file_with-read form bytes words pages long fits first second rest =
+    let front : big_bytes 8 form ≡ take 8 bytes = ap (big_bytes 8) (sym first) ∙ big_bytes-front bytes (omega arith) fits in
     let next : big_bytes 8 pages ≡ take 8 (drop 8 bytes) = ap (big_bytes 8) second ∙ big_bytes-front (drop 8 bytes) (omega (arith, length-drop 8 bytes)) (λ i. rw get_or-drop (fits (8 + i))) in
     let last : word_bytes words ≡ drop 8 (drop 8 bytes) = rest ∙ sym (drop-drop 8 8 bytes) in
     let behind : word_bytes (pages ∷ words) ≡ drop 8 bytes =
     flat_map-cons (big_bytes 8) pages words ∙ ap (λ (xs : List ℕ). xs ++ word_bytes words) next ∙ ap (λ (xs : List ℕ). take 8 (drop 8 bytes) ++ xs) last ∙ take-append-drop 8 (drop 8 bytes) in
-    sym (flat_map-cons (big_bytes 8) FILE_FORM (pages ∷ words) ∙ ap (λ (xs : List ℕ). xs ++ word_bytes (pages ∷ words)) front ∙ ap (λ (xs : List ℕ). take 8 bytes ++ xs) behind ∙ take-append-drop 8 bytes)
+    sym (flat_map-cons (big_bytes 8) form (pages ∷ words) ∙ ap (λ (xs : List ℕ). xs ++ word_bytes (pages ∷ words)) front ∙ ap (λ (xs : List ℕ). take 8 bytes ++ xs) behind ∙ take-append-drop 8 bytes)
 
-module _ (pages : ℕ) (words : List ℕ) where
-  pub length-file_of : length (file_of pages words) ≡ 16 + 8 * length words
-  unfolding file_of
-  length-file_of = length-word_bytes (FILE_FORM ∷ pages ∷ words) ∙ omega arith
+module _ (form : ℕ) (form_fits : form < 2 ^ 64) (pages : ℕ) (words : List ℕ) where
+  pub length-file_with : length (file_with form pages words) ≡ 16 + 8 * length words
+  unfolding file_with
+  length-file_with = length-word_bytes (form ∷ pages ∷ words) ∙ omega arith
 
-  file_number-0 : file_number (file_of pages words) 0 ≡ FILE_FORM
-  unfolding file_of
-  file_number-0 = big_number-words FILE_FORM (pages ∷ words) (omega arith)
+  file_number-0 : file_number (file_with form pages words) 0 ≡ form
+  unfolding file_with
+  file_number-0 = big_number-words form (pages ∷ words) form_fits
 
-  file_number-1 : pages < 2 ^ 64 → file_number (file_of pages words) 1 ≡ pages
-  unfolding file_of
+  file_number-1 : pages < 2 ^ 64 → file_number (file_with form pages words) 1 ≡ pages
+  unfolding file_with
   file_number-1 fits =
-      let behind : drop 8 (word_bytes (FILE_FORM ∷ pages ∷ words)) ≡ word_bytes (pages ∷ words) =
-      ap (drop 8) (flat_map-cons (big_bytes 8) FILE_FORM (pages ∷ words)) ∙ drop_at (big_bytes 8 FILE_FORM) (word_bytes (pages ∷ words)) 8 (length-bytes_high_first 8 FILE_FORM) in
+      let behind : drop 8 (word_bytes (form ∷ pages ∷ words)) ≡ word_bytes (pages ∷ words) =
+      ap (drop 8) (flat_map-cons (big_bytes 8) form (pages ∷ words)) ∙ drop_at (big_bytes 8 form) (word_bytes (pages ∷ words)) 8 (length-bytes_high_first 8 form) in
       ap (big_number 8) behind ∙ big_number-words pages words fits
 
-no_fault : (bytes : List ℕ) → length bytes % 8 ≡ 0 → 16 ≤ length bytes → file_number bytes 0 ≡ FILE_FORM → has_pages (file_number bytes 1) ≡ true → file_fault bytes ≡ None
-unfolding file_fault
-no_fault bytes whole long form has = rw (eq-eqb _ _ whole, le-leb _ _ long, eq-eqb _ _ form, has) refl
+pub length-file_of : (pages : ℕ) (words : List ℕ) → length (file_of pages words) ≡ 16 + 8 * length words
+length-file_of pages words = length-file_with FILE_FORM (omega arith) pages words
+
+no_fault : (form : ℕ) (bytes : List ℕ) → length bytes % 8 ≡ 0 → 16 ≤ length bytes → file_number bytes 0 ≡ form → has_pages (file_number bytes 1) ≡ true → file_fault_with form bytes ≡ None
+unfolding file_fault_with
+no_fault form bytes whole long first has = rw (eq-eqb _ _ whole, le-leb _ _ long, eq-eqb _ _ first, has) refl
 
 pub has_pages-fits : (pages : ℕ) → has_pages pages ≡ true → pages < 2 ^ 64
 has_pages-fits pages has = below pages (leb-true pages MOST_PAGES (and_parts (nat_le LEAST_PAGES pages) (nat_le pages MOST_PAGES) has).1)
@@ -125,10 +131,13 @@ has_pages-fits pages has = below pages (leb-true pages MOST_PAGES (and_parts (na
     below n most = omega arith
 
 -- a file has no fault
+pub file_fault_with-none : (form : ℕ) → form < 2 ^ 64 → (pages : ℕ) (words : List ℕ) → has_pages pages ≡ true → file_fault_with form (file_with form pages words) ≡ None
+file_fault_with-none form form_fits pages words has =
+    let size = length-file_with form form_fits pages words in
+    no_fault form (file_with form pages words) (omega arith) (omega arith) (file_number-0 form form_fits pages words) (ap has_pages (file_number-1 form form_fits pages words (has_pages-fits pages has)) ∙ has)
+
 pub file_fault-none : (pages : ℕ) (words : List ℕ) → has_pages pages ≡ true → file_fault (file_of pages words) ≡ None
-file_fault-none pages words has =
-    let size = length-file_of pages words in
-    no_fault (file_of pages words) (omega arith) (omega arith) (file_number-0 pages words) (ap has_pages (file_number-1 pages words (has_pages-fits pages has)) ∙ has)
+file_fault-none pages words has = file_fault_with-none FILE_FORM (omega arith) pages words has
 
 -- what is read of a file is the log that it is the file of
 pub only_log : (bytes : List ℕ) (r : Result LogFile LogFault) → IfOk r (λ log. bytes ≡ file_of log.pages log.words) → IfOk r (λ log. has_pages log.pages ≡ true)

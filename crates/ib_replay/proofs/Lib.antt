@@ -3,3 +3,4 @@ pub mod TreeSteps
 pub mod ReplayLaws
 pub mod OnlyLog
 pub mod OneFault
+pub mod OldLogLaws

@@ -20,18 +20,25 @@ AreWords words = All (λ word. word < 2 ^ 64) words
 abbrev pub word_bytes : List ℕ → List ℕ
 word_bytes words = flat_map (big_bytes 8) words
 
--- the file's form, the pages, and the words of the entries
-unfoldable pub file_of : ℕ → List ℕ → List ℕ
-file_of pages words = word_bytes (FILE_FORM ∷ pages ∷ words)
+-- a file's form, the pages, and the words of the entries
+unfoldable pub file_with : ℕ → ℕ → List ℕ → List ℕ
+file_with form pages words = word_bytes (form ∷ pages ∷ words)
+
+-- a file of the form that is written today
+abbrev pub file_of : ℕ → List ℕ → List ℕ
+file_of pages words = file_with FILE_FORM pages words
 
 -- number i of a file
 abbrev pub file_number : List ℕ → ℕ → ℕ
 file_number bytes i = big_number 8 (drop (8 * i) bytes)
 
--- the first fault of a file
-unfoldable pub file_fault : List ℕ → Option LogFault
-file_fault bytes =
+-- the first fault of a file of a form
+unfoldable pub file_fault_with : ℕ → List ℕ → Option LogFault
+file_fault_with form bytes =
     unless (length bytes % 8 == 0) (OddLength (length bytes))
     or unless (nat_le 16 (length bytes)) (Short 0)
-    or unless (file_number bytes 0 == FILE_FORM) (BadFile 0 (file_number bytes 0))
+    or unless (file_number bytes 0 == form) (BadFile 0 (file_number bytes 0))
     or unless (has_pages (file_number bytes 1)) (BadFile 1 (file_number bytes 1))
+
+abbrev pub file_fault : List ℕ → Option LogFault
+file_fault bytes = file_fault_with FILE_FORM bytes

@@ -1,4 +1,5 @@
 pub mod Files
 pub mod Replays
 pub mod RawLogs
+pub mod OldLogs
 pub mod TreeSteps

@@ -3,7 +3,8 @@
 ghost use Rattle.std.specs.Prelude.{◌≡◌, ◌+◌, ◌*◌, ◌%◌, ℕ, List, None, Err, true, length, IfOk, IfErr, OnOk, MatchResult};
 ghost use Rattle.ib_map.specs.Space.{has_pages};
 ghost use Rattle.ib_logrec.specs.Grammar.{IsFault};
-ghost use Rattle.ib_replay.specs.Files.{LogFile, AreWords, word_bytes, file_of, file_fault};
+ghost use Rattle.ib_replay.specs.Files.{LogFile, AreWords, word_bytes, file_with, file_of, file_fault, file_fault_with};
+ghost use Rattle.ib_replay.specs.OldLogs.{old_file_of, old_file_fault};
 
 use byteorder::{BigEndian, ByteOrder};
 use ib_logrec::LogFault;
@@ -16,6 +17,11 @@ use std::marker::Model;
 pub const FILE_FORM: u64 = 0x4942_4c4f_4735_3732;
 
 const _: () = prove!(FILE_FORM == 0x4942_4c4f_4735_3732);
+
+/// What a log file of version 1 begins with: the same text, and the digit 1.
+pub const OLD_FILE_FORM: u64 = 0x4942_4c4f_4735_3731;
+
+const _: () = prove!(OLD_FILE_FORM == 0x4942_4c4f_4735_3731);
 
 /// A log as a file has it: the number of pages of its space, and its words.
 #[derive(Debug, Drop)]
@@ -33,6 +39,14 @@ impl Model for RawLog {
 }
 
 impl RawLog {
+    /// A log of so many pages and these words. It takes no memory.
+    pub fn new(pages: u32, words: Vec<u64>) -> RawLog
+        ensures log { result ≡ record { pages = pages; words = words.items } }
+        ensures fits { AreWords words.items }
+    {
+        RawLog { pages, words }
+    }
+
     /// How many pages the space has.
     pub fn pages(&self) -> u32
         ensures { result ≡ self.now.pages }
@@ -66,18 +80,30 @@ pub fn read_log(alloc: Global, bytes: &[u8]) -> Result<RawLog, LogFault>
     ensures fault { IfErr result (IsFault (file_fault bytes.now)) }
     ensures memory { result ≡ Err LogFault.OutOfMemory → file_fault bytes.now ≡ None }
 {
-    log_of(alloc, bytes)
+    log_of(alloc, FILE_FORM, bytes)
 }
 
-// The log of a file, or its first fault.
-#[tactic(auto, unfolding(crate::specs::Files::file_fault))]
-fn log_of(alloc: Global, bytes: &[u8]) -> Result<RawLog, LogFault>
-    ensures found { IfOk result (λ log. bytes.now ≡ file_of log.pages log.words) }
+// The log of a file of version 1, or its first fault.
+pub(crate) fn read_old_log(alloc: Global, bytes: &[u8]) -> Result<RawLog, LogFault>
+    ensures found { IfOk result (λ log. bytes.now ≡ old_file_of log.pages log.words) }
     ensures pages { IfOk result (λ log. has_pages log.pages ≡ true) }
     ensures fits { IfOk result (λ log. AreWords log.words) }
-    ensures no_fault { OnOk result (file_fault bytes.now ≡ None) }
-    ensures fault { IfErr result (IsFault (file_fault bytes.now)) }
-    ensures memory { result ≡ Err LogFault.OutOfMemory → file_fault bytes.now ≡ None }
+    ensures fault { IfErr result (IsFault (old_file_fault bytes.now)) }
+    ensures memory { result ≡ Err LogFault.OutOfMemory → old_file_fault bytes.now ≡ None }
+    ensures no_fault { OnOk result (old_file_fault bytes.now ≡ None) }
+{
+    log_of(alloc, OLD_FILE_FORM, bytes)
+}
+
+// The log of a file that begins with this form, or its first fault.
+#[tactic(auto, unfolding(crate::specs::Files::file_fault_with))]
+fn log_of(alloc: Global, form: u64, bytes: &[u8]) -> Result<RawLog, LogFault>
+    ensures found { IfOk result (λ log. bytes.now ≡ file_with form log.pages log.words) }
+    ensures pages { IfOk result (λ log. has_pages log.pages ≡ true) }
+    ensures fits { IfOk result (λ log. AreWords log.words) }
+    ensures no_fault { OnOk result (file_fault_with form bytes.now ≡ None) }
+    ensures fault { IfErr result (IsFault (file_fault_with form bytes.now)) }
+    ensures memory { result ≡ Err LogFault.OutOfMemory → file_fault_with form bytes.now ≡ None }
 {
     if bytes.len() % 8 != 0 {
         return Err(LogFault::OddLength { bytes: bytes.len() });
@@ -85,9 +111,9 @@ fn log_of(alloc: Global, bytes: &[u8]) -> Result<RawLog, LogFault>
     if bytes.len() < 16 {
         return Err(LogFault::Short { place: 0 });
     }
-    let form = BigEndian::read_u64(bytes);
-    if form != FILE_FORM {
-        return Err(LogFault::BadFile { at: 0, word: form });
+    let first = BigEndian::read_u64(bytes);
+    if first != form {
+        return Err(LogFault::BadFile { at: 0, word: first });
     }
     let pages = BigEndian::read_u64(&bytes[8..]);
     if !is_space(pages) {
@@ -119,7 +145,7 @@ fn words_of(alloc: Global, bytes: &[u8]) -> Result<Vec<u64>, AllocError>
 }
 
 /// Writes the file of a log of so many pages and these words.
-#[tactic(auto, unfolding(crate::specs::Files::file_of))]
+#[tactic(auto, unfolding(crate::specs::Files::file_with))]
 pub fn write_log(pages: u32, words: &[u64], out: &mut [u8])
     requires { length out.old ≡ 16 + 8 * length words.now }
     ensures { out.new ≡ file_of pages words.now }

@@ -2,7 +2,9 @@
 use Rattle.std.specs.Prelude.{ℕ, List, ◌++◌, codes, decimal}
 use Rattle.ib_logrec.specs.declared.entry.Entry.{Entry}
 use Rattle.ib_logrec.specs.declared.fault.LogFault.{LogFault}
-use Rattle.ib_logrec.specs.declared.fault.LogFault.TheVariants.{Short, BadHead, BadWrite, Outside, OddLength, BadFile, Unlawful, OutOfMemory}
+use Rattle.ib_logrec.specs.declared.fault.LogFault.TheVariants.{Short, BadHead, BadWrite, Outside, OddLength, BadFile, Unlawful, CannotPlan, OutOfMemory}
+use Rattle.ib_logrec.specs.declared.fault.FullKind.{FullKind}
+use Rattle.ib_logrec.specs.declared.fault.FullKind.TheVariants.{High, Space}
 use Rattle.ib_logrec.specs.declared.fault.UnlawfulKind.{UnlawfulKind}
 use Rattle.ib_logrec.specs.declared.fault.UnlawfulKind.TheVariants.{Number, Change, Tree}
 use Rattle.ib_logrec.specs.Log.{history_of, map_of}
@@ -17,6 +19,10 @@ unlawful_text Number = codes " number"
 unlawful_text Change = codes " change"
 unlawful_text Tree = codes " tree"
 
+abbrev pub full_text : FullKind → List ℕ
+full_text High = codes " high"
+full_text Space = codes " space"
+
 -- a place, and the word that is wrong there
 abbrev pub word_text : ℕ → ℕ → List ℕ
 word_text place word = decimal place ++ codes " word " ++ decimal word
@@ -30,6 +36,7 @@ log_fault_text (BadWrite place word) = codes "write at " ++ word_text place word
 log_fault_text (Outside place word) = codes "outside at " ++ word_text place word
 log_fault_text (BadFile at word) = codes "file at " ++ word_text at word
 log_fault_text (Unlawful place kind) = codes "unlawful at " ++ decimal place ++ unlawful_text kind
+log_fault_text (CannotPlan place why) = codes "cannot plan at " ++ decimal place ++ full_text why
 log_fault_text OutOfMemory = codes "out of memory"
 
 -- the line that tells a fault

@@ -4,10 +4,10 @@ ghost use Rattle.std.specs.Prelude.{◌≡◌, ◌++◌, [], codes, decimal};
 ghost use Rattle.std.specs.Io.KnownBytes.{Appends};
 ghost use Rattle.ib_io.specs.Told.{IsWritten, TellsFault, ends};
 ghost use Rattle.ib_io.specs.Writer.{Puts};
-ghost use Rattle.ib_replay_form.specs.Replaying.{bad_log_line, log_fault_text, unlawful_text, word_text};
+ghost use Rattle.ib_replay_form.specs.Replaying.{bad_log_line, full_text, log_fault_text, unlawful_text, word_text};
 
 use ib_io::{Printed, Sink, Status, Writer, tell};
-use ib_logrec::{LogFault, UnlawfulKind};
+use ib_logrec::{FullKind, LogFault, UnlawfulKind};
 
 // A place, and the word that is wrong there.
 fn print_word<K: Sink>(writer: &mut Writer<'_, K>, what: &[u8], place: u32, word: u64)
@@ -33,6 +33,22 @@ fn print_unlawful<K: Sink>(writer: &mut Writer<'_, K>, place: u32, kind: Unlawfu
     writer.text(unlawful_word(kind));
 }
 
+fn full_word(why: FullKind) -> &'static [u8]
+    ensures { result.now ≡ full_text why }
+{
+    match why {
+        FullKind::High => b" high",
+        FullKind::Space => b" space",
+    }
+}
+
+fn print_full<K: Sink>(writer: &mut Writer<'_, K>, place: u32, why: FullKind)
+    ensures puts { Puts K.written K.faults writer.old writer.new (codes "cannot plan at " ++ decimal place ++ full_text why) }
+{
+    writer.word_and_number(b"cannot plan at ", u64::from(place));
+    writer.text(full_word(why));
+}
+
 fn print_fault<K: Sink>(writer: &mut Writer<'_, K>, fault: LogFault)
     ensures puts { Puts K.written K.faults writer.old writer.new (log_fault_text fault) }
 {
@@ -44,6 +60,7 @@ fn print_fault<K: Sink>(writer: &mut Writer<'_, K>, fault: LogFault)
         LogFault::Outside { place, word } => print_word(writer, b"outside at ", place, word),
         LogFault::BadFile { at, word } => print_word(writer, b"file at ", at, word),
         LogFault::Unlawful { place, kind } => print_unlawful(writer, place, kind),
+        LogFault::CannotPlan { place, why } => print_full(writer, place, why),
         LogFault::OutOfMemory => writer.text(b"out of memory"),
     }
 }

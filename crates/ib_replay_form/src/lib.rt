@@ -1,10 +1,12 @@
-//! The form `replay`: raw logs replayed, what is printed of one, and how a bad one is told.
+//! The forms `replay` and `upgrade`: raw logs replayed, what is printed of one, logs of version 1 brought over, and how a bad
+//! log is told.
 #![tactic(auto)]
 
 mod answer;
 mod bad_log;
 mod laws;
+mod log_file;
 mod replaying;
 
-pub use answer::answer_log;
-pub use laws::log_law;
+pub use answer::{answer_log, answer_upgrade};
+pub use laws::{log_law, upgrade_law};

@@ -1,4 +1,5 @@
-//! Raw logs, as tests: entries decoded and written again, and logs replayed, each fault of them told at its place.
+//! Raw logs, as tests: entries decoded and written again, logs replayed, each fault of them told at its place, and logs of
+//! version 1 brought over.
 #![tactic(auto)]
 
 #[cfg(test)]
@@ -7,6 +8,8 @@ mod entries;
 mod files;
 #[cfg(test)]
 mod logs;
+#[cfg(test)]
+mod old_logs;
 #[cfg(test)]
 mod trees;
 #[cfg(test)]

@@ -1,6 +1,6 @@
 -- A scan by several calls: the chunks of each stand behind those before, and it takes few grants.
 use Rattle.std.specs.List.{AllByRecursion}
-use Rattle.std.proofs.Common.{◌≡◌, inl, inr, ℕ, ◌+◌, ◌*◌, ◌≤◌, ◌^◌, List, [], ◌∷◌, ◌++◌, take, drop, length, max, refl, sym, ap, subst, ◌∙◌, arith, append_assoc, length-append, take-append-drop}
+use Rattle.std.proofs.Common.{◌≡◌, true, false, is_ok, IfOk, IfErr, Result, Ok, Err, inl, inr, ℕ, ◌+◌, ◌*◌, ◌≤◌, ◌^◌, List, [], ◌∷◌, ◌++◌, take, drop, length, max, None, refl, sym, ap, subst, ◌∙◌, arith, append_assoc, length-append, take-append-drop}
 use Rattle.std.proofs.lemmas.List.{length-take-le}
 use Rattle.std.proofs.lemmas.List.Sums.{sum_by-cons}
 use Rattle.ib_map.specs.Keys.{MapKey, rank}
@@ -24,12 +24,22 @@ use Rattle.ib_rule.specs.Pass.{PassState}
 use Rattle.ib_rule.specs.Views.{total}
 use Rattle.ib_cursor.specs.Going.{IsKnown, WentOn}
 use Rattle.ib_cursor.proofs.LatchingLaws.{went_both, added_both}
+use Rattle.ib_scan.specs.declared.stored.Stored.{Stored}
 use Rattle.ib_scan.specs.Scanning.{HasGone, HasScanned, HasStopped}
 use Rattle.ib_scan.proofs.FrontLaws.{front_longer, front_lower, whole_lower}
 use Rattle.ib_runs.specs.Sessions.{most_scan_grants}
 use Rattle.ib_runs.specs.Steps.{KeptLaws, HasReadChunks, HasReadTo, HasReadAll, IsSoFar}
 use Rattle.ib_runs.proofs.ChunkLaws.{pages_short, chunk_short}
 use Rattle.ib_runs.proofs.EndLaws.{front_few}
+
+-- what is said of the value of a result, or of its error
+pub ok_value : {A B : Type 0} (P : A → Type 0) (r : Result A B) → is_ok r ≡ true → IfOk r P → (x : A) × P x
+ok_value P (Ok x) is h = (x, h)
+ok_value P (Err e) is h = absurd cc
+
+pub err_value : {A B : Type 0} (P : B → Type 0) (r : Result A B) → is_ok r ≡ false → IfErr r P → (e : B) × P e
+err_value P (Ok x) is h = absurd cc
+err_value P (Err e) is h = (e, h)
 
 -- chunks in front of others
 front-join : (opening : ℕ → ℕ) (log : List Entry) (high low mid : MapKey) (floor between : ℕ) (xs ys : List Span) (next : MapKey) (last : ℕ) → AreFront opening log 1 low high floor xs mid between
@@ -116,9 +126,9 @@ module _ (sizes : Sizes) (laws : KeptLaws sizes) where
 
     module _ (old : HeldChunks) (p : PassState) where
       -- the first call of a scan
-      read-first : (next : MapKey) (now new : HeldChunks) (r : PassState) → spans_of now.list now.pairs ≡ spans_of old.list old.pairs → now.chunk_room ≡ 64 → 4096 ≤ now.pair_room
+      read-first : (next : MapKey) (now new : HeldChunks) (r : PassState) → p.view.grants.s + 2 ≤ r.view.grants.s → spans_of now.list now.pairs ≡ spans_of old.list old.pairs → now.chunk_room ≡ 64 → 4096 ≤ now.pair_room
           → HasStopped sizes (IsKeptLog sizes.pages) start 1 low high next now new p r → HasReadTo sizes low high next old new p r
-      read-first next now new r none room pairs h = record {
+      read-first next now new r two none room pairs h = record {
         read = record {
           spans = h.gone.spans;
           more = h.gone.appends.spans_are ∙ ap (λ xs. xs ++ h.gone.spans) none;
@@ -131,13 +141,13 @@ module _ (sizes : Sizes) (laws : KeptLaws sizes) where
         last = h.last;
         chunks = h.chunks;
         within = h.within;
-        least = let a = h.gone.least in let b = h.gone.sx in let c = h.gone.x in omega arith;
+        least = let b = h.gone.sx in let c = h.gone.x in omega arith;
         grants = let a = all-used low next now new p r room pairs h in let b = call-grants now new p r room h.gone in omega arith;
       }
 
-      all-first : (answer : Record) (now new : HeldChunks) (r : PassState) → spans_of now.list now.pairs ≡ spans_of old.list old.pairs → now.chunk_room ≡ 64
+      all-first : (answer : Record) (now new : HeldChunks) (r : PassState) → p.view.grants.s + 2 ≤ r.view.grants.s → spans_of now.list now.pairs ≡ spans_of old.list old.pairs → now.chunk_room ≡ 64
           → HasScanned sizes (IsKeptLog sizes.pages) start 1 low high answer now new p r → HasReadAll sizes low high old new p r
-      all-first answer now new r none room h = record {
+      all-first answer now new r two none room h = record {
         read = record {
           spans = h.gone.spans;
           more = h.gone.appends.spans_are ∙ ap (λ xs. xs ++ h.gone.spans) none;
@@ -149,7 +159,7 @@ module _ (sizes : Sizes) (laws : KeptLaws sizes) where
         };
         ascends = le;
         chunks = h.chunks;
-        least = let a = h.gone.least in let b = h.gone.sx in let c = h.gone.x in omega arith;
+        least = let b = h.gone.sx in let c = h.gone.x in omega arith;
         grants = let b = call-grants now new p r room h.gone in omega arith;
       }
 
@@ -221,25 +231,26 @@ module _ (sizes : Sizes) (laws : KeptLaws sizes) where
       }
 
       -- one more call that had no room for all
-      pub so_far_more : (mid next : MapKey) (cur now new : HeldChunks) (q r : PassState) → IsSoFar sizes low high mid old cur p q → IsReserved cur now
-          → HasStopped sizes (IsKeptLog sizes.pages) start 1 mid high next now new q r → IsSoFar sizes low high next old new p r
-      so_far_more mid next cur now new q r (inl a) reserved h =
-          inr (read-first next now new r (rw (reserved.list, reserved.pairs) a.none) reserved.chunk_room reserved.pair_room
-          (subst (λ (s : PassState). HasStopped sizes (IsKeptLog sizes.pages) start 1 low high next now new s r) a.same (subst (λ k. HasStopped sizes (IsKeptLog sizes.pages) start 1 k high next now new q r) a.at h)))
-      so_far_more mid next cur now new q r (inr a) reserved h = inr (read-more mid next cur now new q r a (rw (reserved.list, reserved.pairs) refl) reserved.chunk_room reserved.pair_room h)
+      pub so_far_more : (stored left : Stored) (next : MapKey) (cur now new : HeldChunks) (q r : PassState) → IsSoFar sizes low high stored old cur p q → IsReserved cur now → (stored.position ≡ None → q.view.grants.s + 2 ≤ r.view.grants.s)
+          → HasStopped sizes (IsKeptLog sizes.pages) start 1 stored.next high next now new q r → left.next ≡ next → IsSoFar sizes low high left old new p r
+      so_far_more stored left next cur now new q r (inl a) reserved two h is =
+          inr (subst (λ k. HasReadTo sizes low high k old new p r) (sym is) (read-first next now new r (subst (λ (s : PassState). s.view.grants.s + 2 ≤ r.view.grants.s) a.same (two a.unkept)) (rw (reserved.list, reserved.pairs) a.none) reserved.chunk_room reserved.pair_room
+          (subst (λ (s : PassState). HasStopped sizes (IsKeptLog sizes.pages) start 1 low high next now new s r) a.same (subst (λ k. HasStopped sizes (IsKeptLog sizes.pages) start 1 k high next now new q r) a.at h))))
+      so_far_more stored left next cur now new q r (inr a) reserved two h is =
+          inr (subst (λ k. HasReadTo sizes low high k old new p r) (sym is) (read-more stored.next next cur now new q r a (rw (reserved.list, reserved.pairs) refl) reserved.chunk_room reserved.pair_room h))
 
       -- .. or that read all that was left
-      pub so_far_all : (mid : MapKey) (answer : Record) (cur now new : HeldChunks) (q r : PassState) → IsSoFar sizes low high mid old cur p q → IsReserved cur now
-          → HasScanned sizes (IsKeptLog sizes.pages) start 1 mid high answer now new q r → HasReadAll sizes low high old new p r
-      so_far_all mid answer cur now new q r (inl a) reserved h =
-          all-first answer now new r (rw (reserved.list, reserved.pairs) a.none) reserved.chunk_room
+      pub so_far_all : (stored : Stored) (answer : Record) (cur now new : HeldChunks) (q r : PassState) → IsSoFar sizes low high stored old cur p q → IsReserved cur now → (stored.position ≡ None → q.view.grants.s + 2 ≤ r.view.grants.s)
+          → HasScanned sizes (IsKeptLog sizes.pages) start 1 stored.next high answer now new q r → HasReadAll sizes low high old new p r
+      so_far_all stored answer cur now new q r (inl a) reserved two h =
+          all-first answer now new r (subst (λ (s : PassState). s.view.grants.s + 2 ≤ r.view.grants.s) a.same (two a.unkept)) (rw (reserved.list, reserved.pairs) a.none) reserved.chunk_room
           (subst (λ (s : PassState). HasScanned sizes (IsKeptLog sizes.pages) start 1 low high answer now new s r) a.same (subst (λ k. HasScanned sizes (IsKeptLog sizes.pages) start 1 k high answer now new q r) a.at h))
-      so_far_all mid answer cur now new q r (inr a) reserved h = all-more mid answer cur now new q r a (rw (reserved.list, reserved.pairs) refl) reserved.chunk_room h
+      so_far_all stored answer cur now new q r (inr a) reserved two h = all-more stored.next answer cur now new q r a (rw (reserved.list, reserved.pairs) refl) reserved.chunk_room h
 
       -- the next call may take its grants
-      pub so_far_room : (mid : MapKey) (cur now : HeldChunks) (q : PassState) → IsSoFar sizes low high mid old cur p q → now.chunk_room ≡ 64 → total p.view.grants + most_scan_grants ≤ 2 ^ 52 → total q.view.grants + 8192 * now.chunk_room + 8192 ≤ 2 ^ 52
-      so_far_room mid cur now q (inl a) room most = let e = ap (λ (s : PassState). total s.view.grants) a.same in omega arith
-      so_far_room mid cur now q (inr a) room most =
-          let b = front_few start q.view.memory.seen (content_at q.view.memory.seen a.read.known.legal) high low a.read.first a.read.spans mid a.last le a.chunks in
+      pub so_far_room : (stored : Stored) (cur now : HeldChunks) (q : PassState) → IsSoFar sizes low high stored old cur p q → now.chunk_room ≡ 64 → total p.view.grants + most_scan_grants ≤ 2 ^ 52 → total q.view.grants + 8192 * now.chunk_room + 8192 ≤ 2 ^ 52
+      so_far_room stored cur now q (inl a) room most = let e = ap (λ (s : PassState). total s.view.grants) a.same in omega arith
+      so_far_room stored cur now q (inr a) room most =
+          let b = front_few start q.view.memory.seen (content_at q.view.memory.seen a.read.known.legal) high low a.read.first a.read.spans stored.next a.last le a.chunks in
           let c = few_seen q a.read.known in
           let d = a.grants in omega arith

@@ -1,5 +1,5 @@
 -- The steps of a session's run.
-use Rattle.std.specs.Prelude.{◌≡◌, ◌⊎◌, ℕ, ◌+◌, ◌*◌, ◌<◌, ◌≤◌, List, [], ◌∷◌, ◌++◌, length}
+use Rattle.std.specs.Prelude.{◌≡◌, ◌⊎◌, ℕ, ◌+◌, ◌*◌, ◌<◌, ◌≤◌, List, [], ◌∷◌, ◌++◌, length, None}
 use Rattle.std.specs.List.{AllByRecursion, filter_map}
 use Rattle.ib_map.specs.Keys.{MapKey, rank}
 use Rattle.ib_map.specs.Chunks.{HeldChunks, spans_of}
@@ -22,6 +22,7 @@ use Rattle.ib_rule.specs.Pass.{PassState, IsAtRest}
 use Rattle.ib_rule.specs.Space.{SpaceState}
 use Rattle.ib_rule.specs.Views.{total}
 use Rattle.ib_cursor.specs.Going.{IsKnown, WentOn}
+use Rattle.ib_scan.specs.declared.stored.Stored.{Stored}
 use Rattle.ib_runs.specs.declared.session.TheConstants.{SCAN_CHUNKS}
 use Rattle.ib_runs.specs.Answers.{KeptAnswers, IsWhole, answers_of}
 use Rattle.ib_runs.specs.Sessions.{index_space, changes_in, places_in, IsEmptyScan, IsRead, least_grants, most_grants, most_scan_grants}
@@ -68,14 +69,15 @@ pub record HasReadTo (sizes : Sizes) (low high next : MapKey) (old new : HeldChu
   pub least : total p.view.grants + 2 ≤ total q.view.grants
   pub grants : total q.view.grants ≤ total p.view.grants + 8320 * length read.spans
 
--- .. or nothing was read yet
-pub record IsAtStart (low next : MapKey) (old new : HeldChunks) (p q : PassState) : Type 0 where
+-- .. or nothing was read yet, and no position is kept
+pub record IsAtStart (low : MapKey) (stored : Stored) (old new : HeldChunks) (p q : PassState) : Type 0 where
   pub same : q ≡ p
-  pub at : next ≡ low
+  pub at : stored.next ≡ low
+  pub unkept : stored.position ≡ None
   pub none : spans_of new.list new.pairs ≡ spans_of old.list old.pairs
 
-abbrev pub IsSoFar : Sizes → MapKey → MapKey → MapKey → HeldChunks → HeldChunks → PassState → PassState → Type 0
-IsSoFar sizes low high next old new p q = IsAtStart low next old new p q ⊎ HasReadTo sizes low high next old new p q
+abbrev pub IsSoFar : Sizes → MapKey → MapKey → Stored → HeldChunks → HeldChunks → PassState → PassState → Type 0
+IsSoFar sizes low high stored old new p q = IsAtStart low stored old new p q ⊎ HasReadTo sizes low high stored.next old new p q
 
 -- .. or all was
 pub record HasReadAll (sizes : Sizes) (low high : MapKey) (old new : HeldChunks) (p q : PassState) : Type 0 where

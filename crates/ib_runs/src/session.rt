@@ -13,7 +13,7 @@ use ib_index::Index;
 use ib_map::{Call, Chunks, Key, OutOfMemory, Record, Reply, is_below};
 use ib_planned_log::KeptLaw;
 use ib_rule::Pass;
-use ib_scan::scan;
+use ib_scan::{Stored, scan_on};
 use ib_tree::Trees;
 use std::sync::Wait;
 
@@ -36,7 +36,8 @@ fn facts_of_kept_logs(index: &Index)
     let _ = sizes.log_words();
 }
 
-// Appends the chunks from `low` to `high`, by as many calls as it takes: each begins where the one before had no room.
+// Appends the chunks from `low` to `high`, by as many calls as it takes: each goes on where the one before had no room,
+// from the leaf that gave the last chunk.
 // From a key to a lower one there is none, and nothing is looked at.
 fn read_all<R: Wait>(
     rt: &R,
@@ -54,12 +55,11 @@ fn read_all<R: Wait>(
         return Ok(());
     }
     facts_of_kept_logs(index);
-    let mut next = low;
+    let mut stored = Stored::new(low, high);
     loop {
         chunks.reserve(SCAN_CHUNKS, SCAN_PAIRS)?;
-        match scan(rt, index.latches(), pass, next, high, chunks) {
-            Ok(_) => return Ok(()),
-            Err(more) => next = more.next,
+        if scan_on(rt, index.latches(), pass, &mut stored, chunks).is_ok() {
+            return Ok(());
         }
     }
 }
@@ -120,8 +120,8 @@ fn answer<R: Wait>(
 
 /// Answers the commands of a session, one after another, with the gate before each and after the last, where the
 /// session holds nothing. Each call is one on the shared index, and a scan takes as many as its chunks need, each with
-/// room for `SCAN_CHUNKS` chunks and `SCAN_PAIRS` pairs: it goes on where the last one had no room (row0sel,
-/// `row_search_mvcc`). No answer is older than what its own call found, and no two calls share a look at the log's end.
+/// room for `SCAN_CHUNKS` chunks and `SCAN_PAIRS` pairs: it goes on where the last one had no room, from the leaf that
+/// is kept (row0sel, `row_search_mvcc`). No answer is older than what its own call found, and no two calls share a look at the log's end.
 /// All together take no more grants than nine for each lookup, 128 for each change and what a scan may take for each
 /// scan, so no call is refused for their count; and where there is no change, no fewer than two for each lookup and each
 /// scan, but a scan from a key down to a lower one.

@@ -1,20 +1,21 @@
 -- A chunk, read off the leaf that gives it.
 use Rattle.std.specs.List.{AllByRecursion}
-use Rattle.std.proofs.Common.{◌≡◌, ◌≢◌, ◌⊎◌, inl, inr, ℕ, ◌+◌, ◌<◌, ◌≤◌, List, [], ◌∷◌, ◌++◌, refl, sym, ap, subst, ◌∙◌, arith, append-nil}
+use Rattle.std.proofs.Common.{◌≡◌, ◌≢◌, ◌⊎◌, inl, inr, ℕ, ◌+◌, ◌<◌, ◌≤◌, List, [], ◌∷◌, ◌++◌, refl, sym, ap, subst, ◌∙◌, arith, append-nil, append_assoc}
+use Rattle.std.proofs.lemmas.Bool.{cases_lt}
 use Rattle.ib_map.specs.Keys.{MapKey, rank, end_rank}
-use Rattle.ib_map.specs.Pairs.{Rises, cut}
+use Rattle.ib_map.specs.Pairs.{Pairs, Rises, cut}
 use Rattle.ib_map.proofs.CutLaws.{cut-append, cut-above}
 use Rattle.ib_page.specs.Image.{next_of, records_of}
 use Rattle.ib_walk.specs.Pages.{PageMemory}
 use Rattle.ib_walk.specs.Walk.{Visit, counts_page, sum_of, records_along, first_page, IsLeafAt, IsTiled}
-use Rattle.ib_walk.specs.Trees.{height_of, IsTreeOf}
+use Rattle.ib_walk.specs.Trees.{content_of, height_of, leaves_of, IsTreeOf}
 use Rattle.ib_walk.specs.Chunk.{IsLastKey, AreBelow, EndsAt, IsChunk}
 use Rattle.ib_walk.proofs.MeetLaws.{counts_page-own}
-use Rattle.ib_walk.proofs.SearchLaws.{IsTiled-right, Rises-records_along}
+use Rattle.ib_walk.proofs.SearchLaws.{AllByRecursion-at, IsTiled-right, Rises-records_along}
 use Rattle.ib_walk.proofs.TreeLaws.{IsTiled-leaves}
-use Rattle.ib_walk.proofs.WalkLaws.{AllByRecursion-right, records_along-append, sum_of-append}
+use Rattle.ib_walk.proofs.WalkLaws.{AllByRecursion-append, AllByRecursion-right, records_along-append, sum_of-append}
 use Rattle.ib_scan.specs.Walked.{ReadLeaf, EndsBy}
-use Rattle.ib_scan.proofs.KeyLaws.{last_between, cut_below}
+use Rattle.ib_scan.proofs.KeyLaws.{last_below, last_between, cut_below}
 use Rattle.ib_scan.proofs.LatchingLaws.{AreMetOnce, Stands, IsSameLeaf, link_behind, stands_leaf}
 
 -- leaves whose keys are below the start have nothing of the chunk
@@ -103,3 +104,32 @@ module _ (pages : ℕ) (m : PageMemory) (root : ℕ) (t : IsTreeOf m (height_of 
   pub chunk_leaf : (e : EndsBy start high end last.image) → (chunk_read e).leaf.page ≡ last.page
   unfolding chunk_read
   chunk_leaf e = s.here
+
+-- some records have a last key
+last-key : (xs : Pairs) → (xs ≡ []) ⊎ ((key : MapKey) × IsLastKey xs key)
+last-key [] = inl refl
+last-key (x ∷ xs) = elim (last-key xs) [
+  | inl none ↦ inr (x.0, ([], x.1, ap (λ (ps : Pairs). x ∷ ps) none))
+  | inr some ↦ inr (some.0, (x ∷ some.1.0, some.1.1, ap (λ (ps : Pairs). x ∷ ps) some.1.2))
+]
+
+-- a chunk begins at any key
+pub some_chunk : (m : PageMemory) (root : ℕ) → IsTreeOf m (height_of m root) root → (start high : MapKey) (front : List Visit) (v : Visit) (vs : List Visit) → leaves_of m root ≡ front ++ v ∷ vs
+    → AllByRecursion (λ w. AreBelow start (m w.page).records) front → (end : MapKey) × IsChunk m root start high end (cut (content_of m root) start end)
+some_chunk m root t start high front v [] is below =
+    (high, record { front = front; leaf = v; back = []; at = record { leaves = is; passed = below; stops = inl refl }; ends = refl; holds = refl })
+some_chunk m root t start high front v (x ∷ xs) is below = elim (last-key (m v.page).records) [
+  | inl none ↦
+      some_chunk m root t start high (front ++ v ∷ []) x xs (is ∙ sym (append_assoc front (v ∷ []) (x ∷ xs)))
+      (AllByRecursion-append (λ (w : Visit). AreBelow start (m w.page).records) front (v ∷ []) below (subst (AreBelow start) (sym none) tt, tt))
+  | inr last ↦ elim (cases_lt (rank last.0) (rank start)) [
+    | inl lt ↦
+        let leaf = AllByRecursion-at (IsLeafAt m) front v (x ∷ xs) (subst (AllByRecursion (IsLeafAt m)) is t.tree.leaves) in
+        some_chunk m root t start high (front ++ v ∷ []) x xs (is ∙ sym (append_assoc front (v ∷ []) (x ∷ xs)))
+        (AllByRecursion-append (λ (w : Visit). AreBelow start (m w.page).records) front (v ∷ []) below (last_below v.low (m v.page).records v.high last.0 start leaf.within last.1 lt, tt))
+    | inr ge ↦ elim (cases_lt (rank last.0) (rank high)) [
+      | inl lt ↦ (last.0, record { front = front; leaf = v; back = x ∷ xs; at = record { leaves = is; passed = below; stops = inr (last.0, last.1, omega arith) }; ends = (last.0, last.1, inr (lt, refl)); holds = refl })
+      | inr up ↦ (high, record { front = front; leaf = v; back = x ∷ xs; at = record { leaves = is; passed = below; stops = inr (last.0, last.1, omega arith) }; ends = (last.0, last.1, inl (omega arith, refl)); holds = refl })
+    ]
+  ]
+]

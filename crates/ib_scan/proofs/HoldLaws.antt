@@ -14,9 +14,9 @@ use Rattle.ib_scan.specs.Scanning.{AreHeld, IsGivenBy, IsHeldTo}
 use Rattle.ib_scan.specs.Steps.{HasLast}
 
 -- the same words are the same page
-same-page : (opening : ℕ → ℕ) (es fs : List Entry) (page : ℕ) → image_of (memory_after opening es) page ≡ image_of (memory_after opening fs) page → pages_after opening es page ≡ pages_after opening fs page
+pub same_page : (opening : ℕ → ℕ) (es fs : List Entry) (page : ℕ) → image_of (memory_after opening es) page ≡ image_of (memory_after opening fs) page → pages_after opening es page ≡ pages_after opening fs page
 unfolding pages_of
-same-page opening es fs page same = ap (λ words. state_of (page_of words)) same
+same_page opening es fs page same = ap (λ words. state_of (page_of words)) same
 
 module _ (opening : ℕ → ℕ) (root : ℕ) (high : MapKey) where
   -- in a log that becomes longer
@@ -56,5 +56,5 @@ module _ (opening : ℕ → ℕ) (root : ℕ) (high : MapKey) where
         given = subst (λ es. IsGivenBy opening es root leaf high l.last) (sym own) l.given;
         from = let a = l.within in let b = length-append log more in omega arith;
         within = omega arith;
-        same = same-page opening (take (length all) all) (take l.last.place all) leaf now;
+        same = same_page opening (take (length all) all) (take l.last.place all) leaf now;
       }))

@@ -1,6 +1,6 @@
 -- The leaves that a scan holds stand one behind another in the tree.
 use Rattle.std.specs.List.{AllByRecursion}
-use Rattle.std.proofs.Common.{◌≡◌, ◌≢◌, inl, inr, ℕ, zero, suc, ◌+◌, ◌<◌, ◌≤◌, List, [], ◌∷◌, ◌++◌, map, length, refl, sym, ap, subst, ◌∙◌, arith, append_assoc, append-nil, length-append}
+use Rattle.std.proofs.Common.{◌≡◌, ◌≢◌, inl, inr, ℕ, zero, suc, ◌+◌, ◌<◌, ◌≤◌, List, [], ◌∷◌, ◌++◌, Some, map, length, slice_get, refl, sym, ap, subst, ◌∙◌, arith, append_assoc, append-nil, length-append}
 use Rattle.std.proofs.lemmas.List.{map-append, length-map}
 use Rattle.std.proofs.lemmas.Bool.{cases_eq}
 use Rattle.ib_map.specs.Keys.{MapKey, rank, end_rank}
@@ -18,6 +18,7 @@ use Rattle.ib_walk.proofs.WalkLaws.{AllByRecursion-append, AllByRecursion-left, 
 use Rattle.ib_cursor.specs.Grants.{Grant, page_grant, IsAway}
 use Rattle.ib_cursor.proofs.NextLaws.{leaf-met, linked-at}
 use Rattle.ib_scan.specs.Walked.{ReadLeaf, first_read, ArePassed, leaf_grants}
+use Rattle.ib_scan.specs.Leaves.{IsBehind, leaf_pages}
 use Rattle.ib_scan.specs.Steps.{AreApart}
 use Rattle.ib_scan.proofs.KeyLaws.{rises_below}
 
@@ -101,6 +102,44 @@ tiled-below m low (v ∷ vs) high start leaves tiles le = (
   let up = Rises-le v.high (records_along m vs) high (Rises-records_along m v.high vs high leaves.1 tiles.1) in rises_below v.low (m v.page).records v.high start (omega arith) leaves.0.within,
   tiled-below m v.high vs high start leaves.1 tiles.1 le,
 )
+
+-- the first element behind others
+slice_get-seam : (xs : List ℕ) (y : ℕ) (ys : List ℕ) (i : ℕ) → i ≡ length xs → slice_get (xs ++ y ∷ ys) i ≡ Some y
+slice_get-seam [] y ys zero e = refl
+slice_get-seam [] y ys (suc i) e = absurd (omega arith)
+slice_get-seam (x ∷ xs) y ys zero e = absurd (omega arith)
+slice_get-seam (x ∷ xs) y ys (suc i) e = slice_get-seam xs y ys i (omega arith)
+
+-- the first of the leaves that are held is the first of those that the walk meets
+first-page : (ps : List ReadLeaf) (last : ReadLeaf) (passed : List Visit) (v : Visit) (vs : List Visit) → leaf_grants ps ≡ map grant_at passed → v.page ≡ last.page
+    → (tail : List ℕ) × (map (λ (w : Visit). w.page) (passed ++ v ∷ vs) ≡ (first_read ps last).page ∷ tail)
+first-page [] last [] v vs e here = (map (λ (w : Visit). w.page) vs, ap (λ n. n ∷ map (λ (w : Visit). w.page) vs) here)
+first-page [] last (w ∷ ws) v vs e here = absurd cc
+first-page (p ∷ ps) last [] v vs e here = absurd cc
+first-page (p ∷ ps) last (w ∷ ws) v vs e here =
+    let grants : page_grant p.page S ≡ page_grant w.page S = cc in
+    let latches = ap (λ (g : Grant). g.latch) grants in
+    let same : w.page ≡ p.page = omega arith in
+    (map (λ (u : Visit). u.page) (ws ++ v ∷ vs), ap (λ n. n ∷ map (λ (u : Visit). u.page) (ws ++ v ∷ vs)) same)
+
+-- the last of the leaves that are held is so many leaves behind the first one
+pub stands_behind : (m : PageMemory) (root : ℕ) (start : MapKey) (ps : List ReadLeaf) (last : ReadLeaf) → Stands m root start ps last.page → IsBehind m root (first_read ps last).page last.page (length ps)
+stands_behind m root start ps last s =
+    let page = λ (v : Visit). v.page in
+    let first = first-page ps last s.passed s.visit s.behind s.grants s.here in
+    let all : leaf_pages m root ≡ map page s.before ++ (first_read ps last).page ∷ first.0 =
+    ap (map page) (s.is ∙ append_assoc s.before s.passed (s.visit ∷ s.behind)) ∙ (map-append page s.before (s.passed ++ s.visit ∷ s.behind) ∙ ap (λ xs. map page s.before ++ xs) first.1) in
+    let to : leaf_pages m root ≡ map page (s.before ++ s.passed) ++ last.page ∷ map page s.behind =
+    ap (map page) s.is ∙ (map-append page (s.before ++ s.passed) (s.visit ∷ s.behind) ∙ ap (λ n. map page (s.before ++ s.passed) ++ n ∷ map page s.behind) s.here) in
+    let same : length ps ≡ length s.passed = sym (length-map ps (λ (q : ReadLeaf). page_grant q.page S)) ∙ (ap length s.grants ∙ length-map s.passed grant_at) in
+    let before = length-map s.before page in
+    let both = length-map (s.before ++ s.passed) page in
+    let sum = length-append s.before s.passed in
+    record {
+      index = length s.before;
+      from_there = ap (λ xs. slice_get xs (length s.before)) all ∙ slice_get-seam (map page s.before) (first_read ps last).page first.0 (length s.before) (sym before);
+      to_there = ap (λ xs. slice_get xs (length s.before + length ps)) to ∙ slice_get-seam (map page (s.before ++ s.passed)) last.page (map page s.behind) (length s.before + length ps) (omega arith);
+    }
 
 -- what the image of a leaf says, the memory says
 pub record IsSameLeaf (m : PageMemory) (p : ReadLeaf) : Type 0 where

@@ -4,7 +4,9 @@ pub mod ChunkLaws
 pub mod WalkedLaws
 pub mod FrontLaws
 pub mod HoldLaws
+pub mod GoesLaws
 pub mod PassLaws
 pub mod LeaveLaws
 pub mod LoopLaws
+pub mod KeptLaws
 pub mod WholeLaws

@@ -1,9 +1,9 @@
 -- From leaf to leaf, and from chunk to chunk.
 use Rattle.std.specs.List.{AllByRecursion}
 use Rattle.std.specs.Prelude.{is_some}
-use Rattle.std.proofs.Common.{Option, None, true, ◌≡◌, ◌⊎◌, inl, inr, ℕ, ◌+◌, ◌<◌, ◌≤◌, ◌^◌, List, [], ◌∷◌, ◌++◌, take, Some, length, refl, sym, ap, subst, ◌∙◌, arith, length-append}
+use Rattle.std.proofs.Common.{Option, None, true, ◌≡◌, ◌⊎◌, inl, inr, ℕ, ◌+◌, ◌<◌, ◌≤◌, ◌^◌, List, [], ◌∷◌, ◌++◌, take, Some, length, refl, sym, ap, subst, ◌∙◌, arith, append-nil, length-append}
 use Rattle.std.proofs.Math.Seq.{take-length}
-use Rattle.std.proofs.lemmas.List.{length-map}
+use Rattle.std.proofs.lemmas.List.{length-map, take-append-le}
 use Rattle.ib_map.specs.Keys.{MapKey, rank, end_rank, key_after}
 use Rattle.ib_map.specs.Pairs.{cut}
 use Rattle.ib_heap.proofs.CopyLaws.{length-cut}
@@ -19,6 +19,7 @@ use Rattle.ib_page.specs.Page.{page_in}
 use Rattle.ib_heap.proofs.FormLaws.{tree_in}
 use Rattle.ib_logrec.specs.declared.entry.Entry.{Entry}
 use Rattle.ib_logrec.specs.Log.{memory_after}
+use Rattle.ib_walk.specs.Trees.{content_of}
 use Rattle.ib_walk.specs.Words.{image_of}
 use Rattle.ib_rule.specs.declared.looks.Grants.{Grants}
 use Rattle.ib_rule.specs.Pass.{PassState}
@@ -31,16 +32,21 @@ use Rattle.ib_cursor.specs.Grants.{Grant, page_grant, HasGrants}
 use Rattle.ib_cursor.specs.Going.{IsKnown, WentOn}
 use Rattle.ib_cursor.proofs.LatchingLaws.{went_beside, went_both, went_none, known_beside, seen_longer}
 use Rattle.ib_cursor.specs.Laws.{Laws}
+use Rattle.ib_cursor.specs.declared.position.Position.{Position}
 use Rattle.ib_scan.specs.declared.walk.Found.{Found}
+use Rattle.ib_scan.specs.Leaves.{IsBehind, GoesTo, GoesOver, GoesToNext}
+use Rattle.ib_scan.specs.Stored.{IsKept, GaveLast}
 use Rattle.ib_scan.specs.Walked.{ReadLeaf, first_read, leaf_grants, IsSkipped, EndsBy, IsWalked}
 use Rattle.ib_scan.specs.Scanning.{Appends, AreHeld, IsGivenBy}
 use Rattle.ib_scan.specs.Steps.{MayPass, HasPassed, IsOnLeaf, IsAlong, HasReachedEnd, HasFront, HasSomeFront, IsAside, HasLast, IsScannedTo, HasRun, HasRunToEnd, HasRunToStop, loaded_as}
 use Rattle.ib_scan.proofs.FrontLaws.{front_longer, front_push, appends_more}
 use Rattle.ib_scan.proofs.HoldLaws.{held_on, held_push}
+use Rattle.ib_scan.proofs.GoesLaws.{over_longer, over_push}
+use Rattle.ib_scan.proofs.KeptLaws.{kept_longer}
 use Rattle.ib_scan.proofs.LeaveLaws.{beside_aside}
 use Rattle.ib_scan.proofs.PassLaws.{first_push, loaded_there}
 use Rattle.ib_scan.proofs.LatchingLaws.{held_apart}
-use Rattle.ib_scan.proofs.WalkedLaws.{tree_at_log, tree_is, leaves_met, walked_stands, walked_tree, walked_chunk, walked_leaf, walked_begins, walked_on}
+use Rattle.ib_scan.proofs.WalkedLaws.{tree_at_log, tree_is, leaves_met, walked_stands, walked_tree, walked_chunk, walked_leaf, walked_some, walked_behind, walked_begins, walked_on}
 
 -- the first leaf of a work set
 abbrev leaf-in : List WorkPage → ReadLeaf
@@ -126,9 +132,70 @@ module _ (sizes : Sizes) (roots : ℕ) (lawful : List Entry → Type 0) (opening
     abbrev pub some_front : HasSomeFront passed q
     some_front = record { leaf = leaf; image = a.last.image; front = subst (λ k. HasFront passed k a.last.image q) a.here front_at }
 
-  module _ (root leaf : ℕ) (low start high : MapKey) (out0 out : HeldChunks) (p0 p : PassState) (i : IsScannedTo sizes lawful opening roots root leaf low start high out0 out p0 p) where
+  module _ (root begun leaf : ℕ) (low start high : MapKey) (out0 out : HeldChunks) (p0 p : PassState) (i : IsScannedTo sizes lawful opening roots root begun leaf low start high out0 out p0 p) where
     abbrev pub on_leaf : IsOnLeaf sizes lawful opening roots leaf start p
     on_leaf = record { root = root; image = i.image; scans = i.scans; room = let r = i.room in omega arith }
+
+    -- the leaf that is kept gave the last chunk, or it is the first one
+    kept-of : (more : List Entry) (kept : Position) → kept.page ≡ leaf → kept.place ≡ length p.view.memory.seen
+        → ((i.up_to.spans ≡ []) × (kept.page ≡ begun) × (kept.place ≡ length p0.view.memory.seen)) ⊎ GaveLast opening (p.view.memory.seen ++ more) root kept.page high i.up_to.spans
+    kept-of more kept page place = elim i.on [
+      | inr l ↦ inr (record {
+        before = l.before;
+        last = l.last;
+        are = l.are;
+        given = subst (λ es. IsGivenBy opening es root kept.page high l.last) (sym (take-append-le l.last.place p.view.memory.seen more l.within))
+            (subst (λ n. IsGivenBy opening (take l.last.place p.view.memory.seen) root n high l.last) (sym page) l.given);
+      })
+      | inl none ↦ elim i.up_to.first [
+        | inl same ↦
+            let o = subst (λ xs. GoesOver opening p.view.memory.seen root high begun xs leaf i.up_to.count) none i.up_to.over in
+            inl (none, page ∙ o.0, place ∙ ap length same.3)
+        | inr lt ↦
+            let f = subst (λ xs. AreFront opening p.view.memory.seen root low high (length p0.view.memory.seen) xs start i.up_to.last) none i.up_to.chunks in
+            absurd (let e = ap rank f.0 in omega arith)
+      ]
+    ]
+
+    -- no chunk place is spare
+    pub full : out.chunk_room ≡ 0 → (kept : Position) → IsKept lawful opening roots root start p.view.memory.seen kept → kept.page ≡ leaf → kept.place ≡ length p.view.memory.seen
+        → HasRunToStop sizes lawful opening roots root begun low high (record { next = start; kept = kept }) out0 out p0 p
+    full none kept keeps page place =
+        let some = walked_some sizes.pages roots lawful opening laws root p.view.memory.seen i.scans.known.legal start [] (record { page = leaf; image = i.image }) i.scans.walked high in
+        let same = append-nil p.view.memory.seen in
+        let appends = i.up_to.appends.chunk_room in
+        let s = i.up_to.s in
+        record {
+          spans = i.up_to.spans;
+          run = record {
+            appends = i.up_to.appends;
+            short = i.up_to.short;
+            went = i.up_to.went;
+            known = i.up_to.known;
+            least = let a = i.up_to.taken in omega arith;
+            s = omega arith;
+            sx = i.up_to.sx;
+            x = i.up_to.x;
+            leaf = leaf;
+            image = i.image;
+            front = record { front = []; size = refl; grants = i.scans.grants; apart = (tt, tt); watched = i.scans.here; work = i.scans.work };
+          };
+          last = i.up_to.last;
+          chunks = i.up_to.chunks;
+          held = subst (λ es. AreHeld opening es root high i.up_to.spans (length es)) same
+              (held_on opening root high p.view.memory.seen [] leaf i.image i.up_to.spans i.on (subst (λ es. i.image ≡ image_of (memory_after opening es) leaf) (sym same) i.scans.walked.image));
+          within = i.up_to.within;
+          from = elim i.up_to.first [ inl at ↦ let e = ap rank at.1 in omega arith | inr lt ↦ omega arith ];
+          to = i.up_to.to;
+          none = λ e. elim i.up_to.first [ inl at ↦ at.0 | inr lt ↦ absurd (let z = ap rank e in omega arith) ];
+          tight = record { end = some.0; pairs = cut (content_of (pages_after opening p.view.memory.seen) root) start some.0; chunk = some.1; none = inl none };
+          ahead = λ a b. elim i.up_to.first [ inl at ↦ absurd (let c = ap (λ (o : HeldChunks). o.chunk_room) at.2 in omega arith) | inr lt ↦ lt ];
+          count = i.up_to.count;
+          over = inl (none, record { last = leaf; over = i.up_to.over });
+          taken = i.up_to.taken;
+          keeps = keeps;
+          of = subst (λ es. ((i.up_to.spans ≡ []) × (kept.page ≡ begun) × (kept.place ≡ length p0.view.memory.seen)) ⊎ GaveLast opening es root kept.page high i.up_to.spans) same (kept-of [] kept page place);
+        }
 
     module _ (found : Found) (q : PassState) (reached : HasReachedEnd sizes lawful opening roots root start high found p q) where
       abbrev image : List ℕ
@@ -170,6 +237,46 @@ module _ (sizes : Sizes) (roots : ℕ) (lawful : List Entry → Type 0) (opening
         chunk = subst (λ es. IsChunk (pages_after opening es) root start high found.end (cut (records_of image) start found.end)) (sym (take-length q.view.memory.seen)) chunk;
       }
 
+      -- it went over so many leaves, to the one that gives the chunk
+      steps : IsBehind (pages_after opening q.view.memory.seen) root leaf found.leaf found.passed
+      steps =
+          let walked = walked_behind sizes.pages roots lawful opening laws root q.view.memory.seen legal start reached.along.ps reached.along.last reached.along.scans.walked in
+          let counted = subst (λ n. IsBehind (pages_after opening q.view.memory.seen) root (first_read reached.along.ps reached.along.last).page reached.along.last.page n) reached.along.count walked in
+          let here = subst (λ n. IsBehind (pages_after opening q.view.memory.seen) root (first_read reached.along.ps reached.along.last).page n found.passed) reached.along.here counted in
+          subst (λ (f : ReadLeaf). IsBehind (pages_after opening q.view.memory.seen) root f.page found.leaf found.passed) first-is here
+
+      over : GoesOver opening q.view.memory.seen root high begun i.up_to.spans leaf i.up_to.count
+      over = subst (λ es. GoesOver opening es root high begun i.up_to.spans leaf i.up_to.count) (sym reached.along.went.seen)
+          (over_longer opening root high p.view.memory.seen reached.along.went.more begun i.up_to.spans leaf i.up_to.count i.up_to.over)
+
+      one-more : GoesTo opening q.view.memory.seen root high leaf span_read found.leaf found.passed
+      one-more = record {
+        within = omega arith;
+        given = given;
+        behind = subst (λ es. IsBehind (pages_after opening es) root leaf found.leaf found.passed) (sym (take-length q.view.memory.seen)) steps;
+      }
+
+      all-over : GoesOver opening q.view.memory.seen root high begun (i.up_to.spans ++ span_read ∷ []) found.leaf (i.up_to.count + found.passed)
+      all-over = over_push opening root high q.view.memory.seen begun i.up_to.spans leaf i.up_to.count span_read found.leaf found.passed over one-more
+
+      -- .. and where the chunk does not fit, to the leaf of the next chunk
+      over-next : GoesToNext opening q.view.memory.seen root start high begun i.up_to.spans (i.up_to.count + found.passed)
+      unfolding chunk
+      over-next = record {
+        last = leaf;
+        before = i.up_to.count;
+        over = over;
+        behind = found.passed;
+        further = record {
+          end = found.end;
+          pairs = cut (records_of image) start found.end;
+          chunk = chunk;
+          behind = subst (λ n. IsBehind (pages_after opening q.view.memory.seen) root leaf n found.passed)
+              (sym (walked_leaf sizes.pages roots lawful opening laws root q.view.memory.seen legal start reached.along.ps reached.along.last reached.along.scans.walked high found.end reached.ends ∙ reached.along.here)) steps;
+        };
+        sum = refl;
+      }
+
       before : AreFront opening q.view.memory.seen root low high (length p0.view.memory.seen) i.up_to.spans start i.up_to.last
       before = subst (λ es. AreFront opening es root low high (length p0.view.memory.seen) i.up_to.spans start i.up_to.last) (sym reached.along.went.seen)
           (front_longer opening root high p.view.memory.seen reached.along.went.more low (length p0.view.memory.seen) i.up_to.spans start i.up_to.last i.up_to.chunks)
@@ -196,7 +303,7 @@ module _ (sizes : Sizes) (roots : ℕ) (lawful : List Entry → Type 0) (opening
               short = short;
               went = went;
               known = known;
-              least = let a = i.up_to.least in omega arith;
+              least = let a = i.up_to.taken in omega arith;
               s = omega arith;
               sx = omega arith;
               x = omega arith;
@@ -205,9 +312,17 @@ module _ (sizes : Sizes) (roots : ℕ) (lawful : List Entry → Type 0) (opening
               front = f;
             }
 
-        -- the chunk does not fit
-        pub halted : (out.chunk_room ≡ 0) ⊎ (out.pair_room < length span_read.pairs) → length span_read.pairs ≤ MOST_RECORDS → HasRunToStop sizes lawful opening root low high start out0 out p0 r
-        halted none most = record {
+        -- so many grants of S were taken
+        grants-are : r.view.grants.s ≡ p0.view.grants.s + (i.up_to.count + found.passed)
+        grants-are = let gs = ap (λ (g : Grants). g.s) aside.grants in let cs = reached.along.s in let is = i.up_to.taken in omega arith
+
+        log-is : r.view.memory.seen ≡ p.view.memory.seen ++ reached.along.went.more
+        log-is = aside.seen ∙ reached.along.went.seen
+
+        -- the chunk has too many pairs
+        pub halted : 0 < out.chunk_room → (kept : Position) → IsKept lawful opening roots root start p.view.memory.seen kept → kept.page ≡ leaf → kept.place ≡ length p.view.memory.seen
+            → (out.chunk_room ≡ 0) ⊎ (out.pair_room < length span_read.pairs) → length span_read.pairs ≤ MOST_RECORDS → HasRunToStop sizes lawful opening roots root begun low high (record { next = start; kept = kept }) out0 out p0 r
+        halted some kept keeps page place none most = record {
           spans = i.up_to.spans;
           run = run out i.up_to.spans i.up_to.appends (omega arith) i.up_to.short;
           last = i.up_to.last;
@@ -230,6 +345,11 @@ module _ (sizes : Sizes) (roots : ℕ) (lawful : List Entry → Type 0) (opening
               | inr lt ↦ absurd (omega arith)
             ]
           ];
+          count = i.up_to.count + found.passed;
+          over = inr (some, subst (λ es. GoesToNext opening es root start high begun i.up_to.spans (i.up_to.count + found.passed)) (sym aside.seen) over-next);
+          taken = grants-are;
+          keeps = subst (λ es. IsKept lawful opening roots root start es kept) (sym log-is) (kept_longer lawful opening roots root start p.view.memory.seen reached.along.went.more kept keeps);
+          of = subst (λ es. ((i.up_to.spans ≡ []) × (kept.page ≡ begun) × (kept.place ≡ length p0.view.memory.seen)) ⊎ GaveLast opening es root kept.page high i.up_to.spans) (sym log-is) (kept-of reached.along.went.more kept page place);
         }
 
         module _ (new : HeldChunks) (put : Appends out new (span_read ∷ [])) (most : length span_read.pairs ≤ MOST_RECORDS) where
@@ -240,7 +360,7 @@ module _ (sizes : Sizes) (roots : ℕ) (lawful : List Entry → Type 0) (opening
           all-short = AllByRecursion-append (λ (span : Span). length span.pairs ≤ MOST_RECORDS) i.up_to.spans (span_read ∷ []) i.up_to.short (most, tt)
 
           -- .. and is the last one
-          pub ended : found.end ≡ high → HasRunToEnd sizes lawful opening root low high out0 new p0 r
+          pub ended : found.end ≡ high → HasRunToEnd sizes lawful opening root begun low high out0 new p0 r
           ended to = record {
             spans = i.up_to.spans ++ span_read ∷ [];
             run = run new (i.up_to.spans ++ span_read ∷ []) all-appends (let room = put.chunk_room in omega arith) all-short;
@@ -257,6 +377,9 @@ module _ (sizes : Sizes) (roots : ℕ) (lawful : List Entry → Type 0) (opening
             });
             held = subst (λ es. AreHeld opening es root high (i.up_to.spans ++ span_read ∷ []) (length es)) (sym aside.seen)
                 (held_push opening root high q.view.memory.seen i.up_to.spans span_read (length q.view.memory.seen) held (record { leaf = found.leaf; given = given; from = omega arith; within = omega arith; same = refl }));
+            count = i.up_to.count + found.passed;
+            over = record { last = found.leaf; over = subst (λ es. GoesOver opening es root high begun (i.up_to.spans ++ span_read ∷ []) found.leaf (i.up_to.count + found.passed)) (sym aside.seen) all-over };
+            taken = grants-are;
           }
 
           -- .. or the next one begins behind the last key of the leaf, which is that of the chunk
@@ -271,7 +394,7 @@ module _ (sizes : Sizes) (roots : ℕ) (lawful : List Entry → Type 0) (opening
             | inr c ↦ record { last = subst (IsLastKey (records_of image)) (sym c.1) b.1.is_last; from = let e : rank found.end ≡ rank b.0 = ap rank c.1 in let f = b.1.from in omega arith }
           ]
 
-          pub again : (next : MapKey) → key_after found.end ≡ Some next → rank found.end < rank high → IsScannedTo sizes lawful opening roots root found.leaf low next high out0 new p0 r
+          pub again : (next : MapKey) → key_after found.end ≡ Some next → rank found.end < rank high → IsScannedTo sizes lawful opening roots root begun found.leaf low next high out0 new p0 r
           again next after lt =
               let key = on-key lt reached.ends in
               let up = after-above found.end next after in
@@ -288,7 +411,9 @@ module _ (sizes : Sizes) (roots : ℕ) (lawful : List Entry → Type 0) (opening
                   short = all-short;
                   went = went;
                   known = known;
-                  least = let a = i.up_to.least in omega arith;
+                  count = i.up_to.count + found.passed;
+                  over = subst (λ es. GoesOver opening es root high begun (i.up_to.spans ++ span_read ∷ []) found.leaf (i.up_to.count + found.passed)) (sym aside.seen) all-over;
+                  taken = grants-are;
                   s = omega arith;
                   sx = omega arith;
                   x = omega arith;

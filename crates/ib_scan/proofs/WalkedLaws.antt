@@ -1,6 +1,6 @@
 -- What a scan keeps stays while the log grows, and says where it stands in each log.
 use Rattle.std.specs.List.{AllByRecursion}
-use Rattle.std.proofs.Common.{◌≡◌, ℕ, ◌<◌, ◌≤◌, false, List, [], ◌∷◌, ◌++◌, sym, ap, subst, ◌∙◌, arith}
+use Rattle.std.proofs.Common.{◌≡◌, ℕ, ◌<◌, ◌≤◌, false, List, [], ◌∷◌, ◌++◌, length, sym, ap, subst, ◌∙◌, arith}
 use Rattle.ib_map.specs.Keys.{MapKey, rank, end_rank}
 use Rattle.ib_map.specs.Pairs.{cut}
 use Rattle.ib_map.specs.Writes.{touches}
@@ -9,7 +9,7 @@ use Rattle.ib_logrec.specs.declared.entry.Entry.{Entry}
 use Rattle.ib_logrec.specs.Log.{memory_after}
 use Rattle.ib_walk.specs.Pages.{Tree, PageMemory}
 use Rattle.ib_walk.specs.Walk.{counts_visit}
-use Rattle.ib_walk.specs.Trees.{height_of, weight_of, IsTreeOf}
+use Rattle.ib_walk.specs.Trees.{content_of, height_of, weight_of, IsTreeOf}
 use Rattle.ib_walk.specs.Search.{leaf_for}
 use Rattle.ib_walk.specs.Words.{image_of, bits_of}
 use Rattle.ib_walk.specs.Chunk.{IsLastKey, IsChunk}
@@ -22,10 +22,11 @@ use Rattle.ib_cursor.proofs.NextLaws.{leaf-counts}
 use Rattle.ib_cursor.proofs.PageLaws.{tree_image}
 use Rattle.ib_cursor.proofs.StepLaws.{image_stays}
 use Rattle.ib_cursor.proofs.OnPathLaws.{met_on-path}
+use Rattle.ib_scan.specs.Leaves.{IsBehind}
 use Rattle.ib_scan.specs.Walked.{ReadLeaf, first_read, EndsBy, IsReadOf, IsWalked}
-use Rattle.ib_scan.proofs.ChunkLaws.{chunk_leaf, chunk_read}
+use Rattle.ib_scan.proofs.ChunkLaws.{chunk_leaf, chunk_read, some_chunk}
 use Rattle.ib_scan.proofs.KeyLaws.{last_between}
-use Rattle.ib_scan.proofs.LatchingLaws.{AreMetOnce, met_once, Stands, IsSameLeaf, stands_at, stands_kind, stands_leaf}
+use Rattle.ib_scan.proofs.LatchingLaws.{AreMetOnce, met_once, Stands, IsSameLeaf, stands_at, stands_behind, stands_kind, stands_leaf}
 
 -- entries write no word of the page
 abbrev pub AreCalm : List Entry → ℕ → Type 0
@@ -89,6 +90,14 @@ module _ (pages roots : ℕ) (lawful : List Entry → Type 0) (opening : ℕ →
       pub walked_leaf : (high end : MapKey) (e : EndsBy start high end last.image) → (walked_chunk high end e).leaf.page ≡ last.page
       unfolding walked_chunk
       walked_leaf high end e = chunk_leaf pages tree_at_log root (tree_is w.met.0 w.met.1) (leaves_met w.met.0 w.met.1) start high end ps last walked_stands walked_same e
+
+      -- a chunk begins at the start, in some leaf
+      pub walked_some : (high : MapKey) → (end : MapKey) × IsChunk tree_at_log root start high end (cut (content_of tree_at_log root) start end)
+      walked_some high = some_chunk tree_at_log root (tree_is w.met.0 w.met.1) start high (walked_stands.before ++ walked_stands.passed) walked_stands.visit walked_stands.behind walked_stands.is walked_stands.below
+
+      -- the leaf on which the scan stands is so many leaves behind the first one that is held
+      pub walked_behind : IsBehind tree_at_log root (first_read ps last).page last.page (length ps)
+      walked_behind = stands_behind tree_at_log root start ps last walked_stands
 
       -- the first of the leaves is as it was read
       pub walked_begins : IsReadOf opening log (first_read ps last)

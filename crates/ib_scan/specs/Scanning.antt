@@ -47,7 +47,7 @@ abbrev pub AreHeld : (ℕ → ℕ) → List Entry → ℕ → MapKey → List Sp
 AreHeld opening log root high [] end = Unit {0}
 AreHeld opening log root high (span ∷ spans) end = IsHeldTo opening log root high span (first_span_place spans end) × AreHeld opening log root high spans end
 
--- how a scan went: it changed nothing but what is seen and the grants of S that were ever taken, two more at least, and 8,192 at most for each chunk that was appended, and 8,192; `first` is the first end of the log that it found
+-- how a scan went: it changed nothing but what is seen and the grants of S that were ever taken, one more at least, and 8,192 at most for each chunk that was appended, and 8,192; `first` is the first end of the log that it found
 pub record HasGone (sizes : Sizes) (lawful : List Entry → Type 0) (out new : HeldChunks) (p q : PassState) : Type 0 where
   pub spans : List Span
   pub appends : Appends out new spans
@@ -57,7 +57,7 @@ pub record HasGone (sizes : Sizes) (lawful : List Entry → Type 0) (out new : H
   pub rest : List ℕ
   pub looks : went.added ≡ first ∷ rest
   pub known : IsKnown sizes lawful q
-  pub least : p.view.grants.s + 2 ≤ q.view.grants.s
+  pub least : p.view.grants.s + 1 ≤ q.view.grants.s
   pub s : q.view.grants.s ≤ p.view.grants.s + 8192 * length spans + 8192
   pub sx : q.view.grants.sx ≡ p.view.grants.sx
   pub x : q.view.grants.x ≡ p.view.grants.x

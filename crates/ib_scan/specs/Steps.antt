@@ -19,7 +19,10 @@ use Rattle.ib_rule.specs.Views.{is_watched, with_grant}
 use Rattle.ib_cursor.specs.Grants.{Grant, page_grant, HasGrants, IsAway}
 use Rattle.ib_cursor.specs.Going.{IsKnown, WentOn}
 use Rattle.ib_scan.specs.declared.walk.Found.{Found}
+use Rattle.ib_scan.specs.declared.walk.Stop.{Stop}
+use Rattle.ib_scan.specs.Leaves.{GoesOver, GoesToLast, GoesToStop}
 use Rattle.ib_scan.specs.Scanning.{Appends, AreHeld, HasNoRoom, IsGivenBy}
+use Rattle.ib_scan.specs.Stored.{IsKept, GaveLast}
 use Rattle.ib_scan.specs.Walked.{ReadLeaf, first_read, IsSkipped, EndsBy, IsScanning}
 
 -- the leaf on which a scan stands may be passed over: the next one is what its link names
@@ -102,14 +105,31 @@ pub record IsAside (p q : PassState) : Type 0 where
   pub ends : q.view.memory.ends ≡ p.view.memory.ends
   pub grants : q.view.grants ≡ p.view.grants
 
--- how far a scan of the tree has come, from where it stood on the leaf of `low`: chunks are appended up to what is before `start`
-pub record IsUpTo (sizes : Sizes) (lawful : List Entry → Type 0) (opening : ℕ → ℕ) (root : ℕ) (low start high : MapKey) (out new : HeldChunks) (p q : PassState) : Type 0 where
+-- a scan was begun, from where the pass had this state: it stands on a leaf from which it goes on at a key, and few grants of S were taken
+pub record HasBegun (sizes : Sizes) (lawful : List Entry → Type 0) (opening : ℕ → ℕ) (roots root : ℕ) (start : MapKey) (leaf : ℕ) (p q : PassState) : Type 0 where
+  pub image : List ℕ
+  pub scans : IsScanning sizes lawful opening roots root start [] (record { page = leaf; image = image }) q
+  pub went : WentOn p q
+  pub looked : 0 < length went.added
+  pub least : p.view.grants.s + 1 ≤ q.view.grants.s
+  pub s : q.view.grants.s ≤ p.view.grants.s + 10
+  pub sx : q.view.grants.sx ≡ p.view.grants.sx
+  pub x : q.view.grants.x ≡ p.view.grants.x
+
+-- two grants of S at least were taken
+pub record TookTwo (p q : PassState) : Type 0 where
+  pub s : p.view.grants.s + 2 ≤ q.view.grants.s
+
+-- how far a scan of the tree has come, from where it stood on its first leaf: chunks are appended up to what is before `start`, and one grant of S was taken of each leaf behind that one, up to the leaf on which it stands
+pub record IsUpTo (sizes : Sizes) (lawful : List Entry → Type 0) (opening : ℕ → ℕ) (root begun leaf : ℕ) (low start high : MapKey) (out new : HeldChunks) (p q : PassState) : Type 0 where
   pub spans : List Span
   pub appends : Appends out new spans
   pub short : AllByRecursion (λ span. length span.pairs ≤ MOST_RECORDS) spans
   pub went : WentOn p q
   pub known : IsKnown sizes lawful q
-  pub least : p.view.grants.s ≤ q.view.grants.s
+  pub count : ℕ
+  pub over : GoesOver opening q.view.memory.seen root high begun spans leaf count
+  pub taken : q.view.grants.s ≡ p.view.grants.s + count
   pub s : q.view.grants.s + 8192 * new.chunk_room ≤ p.view.grants.s + 8192 * out.chunk_room
   pub sx : q.view.grants.sx ≡ p.view.grants.sx
   pub x : q.view.grants.x ≡ p.view.grants.x
@@ -117,7 +137,7 @@ pub record IsUpTo (sizes : Sizes) (lawful : List Entry → Type 0) (opening : �
   pub chunks : AreFront opening q.view.memory.seen root low high (length p.view.memory.seen) spans start last
   pub within : last ≤ length q.view.memory.seen
   pub to : rank start ≤ rank high
-  pub first : ((spans ≡ []) × (start ≡ low) × (new ≡ out)) ⊎ (rank low < rank start)
+  pub first : ((spans ≡ []) × (start ≡ low) × (new ≡ out) × (q.view.memory.seen ≡ p.view.memory.seen)) ⊎ (rank low < rank start)
 
 -- the leaf with this image gave the last of these chunks, and all before it were held
 pub record HasLast (opening : ℕ → ℕ) (log : List Entry) (root leaf : ℕ) (image : List ℕ) (high : MapKey) (spans : List Span) : Type 0 where
@@ -130,12 +150,12 @@ pub record HasLast (opening : ℕ → ℕ) (log : List Entry) (root leaf : ℕ) 
   pub read : image ≡ image_of (memory_after opening (take last.place log)) leaf
 
 -- .. and it stands on this leaf, which gave the last chunk if there is one
-pub record IsScannedTo (sizes : Sizes) (lawful : List Entry → Type 0) (opening : ℕ → ℕ) (roots root leaf : ℕ) (low start high : MapKey) (out new : HeldChunks) (p q : PassState) : Type 0 where
-  pub up_to : IsUpTo sizes lawful opening root low start high out new p q
+pub record IsScannedTo (sizes : Sizes) (lawful : List Entry → Type 0) (opening : ℕ → ℕ) (roots root begun leaf : ℕ) (low start high : MapKey) (out new : HeldChunks) (p q : PassState) : Type 0 where
+  pub up_to : IsUpTo sizes lawful opening root begun leaf low start high out new p q
   pub image : List ℕ
   pub scans : IsScanning sizes lawful opening roots root start [] (record { page = leaf; image = image }) q
   pub on : (up_to.spans ≡ []) ⊎ HasLast opening q.view.memory.seen root leaf image high up_to.spans
-  pub room : HasGrantsLeft (8192 * new.chunk_room + 8183) q.view
+  pub room : HasGrantsLeft (8192 * new.chunk_room + 8182) q.view
 
 -- how the loop went: the chunks are appended, few grants more were taken for each, and one leaf alone is held
 pub record HasRun (sizes : Sizes) (lawful : List Entry → Type 0) (out new : HeldChunks) (spans : List Span) (p q : PassState) : Type 0 where
@@ -144,30 +164,38 @@ pub record HasRun (sizes : Sizes) (lawful : List Entry → Type 0) (out new : He
   pub went : WentOn p q
   pub known : IsKnown sizes lawful q
   pub least : p.view.grants.s ≤ q.view.grants.s
-  pub s : q.view.grants.s ≤ p.view.grants.s + 8192 * length spans + 8183
+  pub s : q.view.grants.s ≤ p.view.grants.s + 8192 * length spans + 8182
   pub sx : q.view.grants.sx ≡ p.view.grants.sx
   pub x : q.view.grants.x ≡ p.view.grants.x
   pub leaf : ℕ
   pub image : List ℕ
   pub front : HasFront 0 leaf image q
 
--- .. to the end
-pub record HasRunToEnd (sizes : Sizes) (lawful : List Entry → Type 0) (opening : ℕ → ℕ) (root : ℕ) (low high : MapKey) (out new : HeldChunks) (p q : PassState) : Type 0 where
+-- .. to the end, and one grant was taken of each leaf behind the first one up to the last
+pub record HasRunToEnd (sizes : Sizes) (lawful : List Entry → Type 0) (opening : ℕ → ℕ) (root begun : ℕ) (low high : MapKey) (out new : HeldChunks) (p q : PassState) : Type 0 where
   pub spans : List Span
   pub run : HasRun sizes lawful out new spans p q
   pub chunks : AreWhole opening q.view.memory.seen root low high (length p.view.memory.seen) spans (length q.view.memory.seen)
   pub held : AreHeld opening q.view.memory.seen root high spans (length q.view.memory.seen)
+  pub count : ℕ
+  pub over : GoesToLast opening q.view.memory.seen root high begun spans count
+  pub taken : q.view.grants.s ≡ p.view.grants.s + count
 
--- .. or up to a chunk that does not fit
-pub record HasRunToStop (sizes : Sizes) (lawful : List Entry → Type 0) (opening : ℕ → ℕ) (root : ℕ) (low high next : MapKey) (out new : HeldChunks) (p q : PassState) : Type 0 where
+-- .. or up to a chunk that does not fit: then a position is kept of the leaf that gave the last chunk, or where there was none of the first leaf
+pub record HasRunToStop (sizes : Sizes) (lawful : List Entry → Type 0) (opening : ℕ → ℕ) (roots root begun : ℕ) (low high : MapKey) (stop : Stop) (out new : HeldChunks) (p q : PassState) : Type 0 where
   pub spans : List Span
   pub run : HasRun sizes lawful out new spans p q
   pub last : ℕ
-  pub chunks : AreFront opening q.view.memory.seen root low high (length p.view.memory.seen) spans next last
+  pub chunks : AreFront opening q.view.memory.seen root low high (length p.view.memory.seen) spans stop.next last
   pub held : AreHeld opening q.view.memory.seen root high spans (length q.view.memory.seen)
   pub within : last ≤ length q.view.memory.seen
-  pub from : rank low ≤ rank next
-  pub to : rank next ≤ rank high
-  pub none : next ≡ low → spans ≡ []
-  pub tight : HasNoRoom opening q.view.memory.seen root next high new
-  pub ahead : 1 ≤ out.chunk_room → MOST_RECORDS ≤ out.pair_room → rank low < rank next
+  pub from : rank low ≤ rank stop.next
+  pub to : rank stop.next ≤ rank high
+  pub none : stop.next ≡ low → spans ≡ []
+  pub tight : HasNoRoom opening q.view.memory.seen root stop.next high new
+  pub ahead : 1 ≤ out.chunk_room → MOST_RECORDS ≤ out.pair_room → rank low < rank stop.next
+  pub count : ℕ
+  pub over : GoesToStop opening q.view.memory.seen root stop.next high begun spans new count
+  pub taken : q.view.grants.s ≡ p.view.grants.s + count
+  pub keeps : IsKept lawful opening roots root stop.next q.view.memory.seen stop.kept
+  pub of : ((spans ≡ []) × (stop.kept.page ≡ begun) × (stop.kept.place ≡ length p.view.memory.seen)) ⊎ GaveLast opening q.view.memory.seen root stop.kept.page high spans

@@ -1,6 +1,6 @@
 //! Scans.
 
-ghost use Rattle.std.specs.Prelude.{◌≡◌, ◌≤◌, ◌<◌, [], length, Ok, IfErr, IfOk, MatchOption};
+ghost use Rattle.std.specs.Prelude.{◌≡◌, ◌≤◌, ◌<◌, ◌+◌, [], length, Ok, IfErr, IfOk, MatchOption};
 ghost use Rattle.ib_map.specs.Keys.{rank};
 ghost use Rattle.ib_logrec.specs.Log.{by_place};
 ghost use Rattle.ib_rule.specs.Pass.{IsAtRest};
@@ -8,9 +8,10 @@ ghost use Rattle.ib_rule.specs.Under.{under};
 ghost use Rattle.ib_cursor.specs.OnPath.{IsRoot, IsSought};
 ghost use Rattle.ib_scan.specs.Scanning.{HasScanned, HasStopped};
 ghost use Rattle.ib_scan.specs.Scans.{FitsSeen, HasAll, MayScan, scan_answer};
+ghost use Rattle.ib_scan.specs.Steps.{TookTwo};
 
 use crate::more::More;
-use crate::walk::{Sought, facts_of_trees, scan_from};
+use crate::walk::{Sought, Stop, facts_of_trees, scan_from};
 use ib_cursor::{Search, descend_at};
 use ib_latch::{Latches, Parkers};
 use ib_map::{Call, Chunks, Key, Record, Reply, is_below};
@@ -19,14 +20,14 @@ use ib_rule::Pass;
 use ib_tree::Trees;
 use std::sync::Wait;
 
-// All chunks, or the key at which the first one begins that found no room.
+// All chunks, or as many as found room.
 fn read_chunks<L: Trees, R: Wait>(
     rt: &R,
     latches: &Latches<L, Parkers>,
     pass: &mut Pass,
     sought: Sought,
     out: &mut Chunks,
-) -> Option<Key>
+) -> Option<Stop>
     requires may { MayScan latches.now out.old pass.old }
     requires sought { IsSought L.ROOTS sought.root sought.low }
     requires ascends { rank sought.low ≤ rank sought.high }
@@ -34,8 +35,9 @@ fn read_chunks<L: Trees, R: Wait>(
     ensures scanned { MatchOption result
         (under L.Law latches.now HasAll sought.root sought.low sought.high
         out.old out.new pass.old pass.new)
-        (λ next. under L.Law latches.now HasStopped sought.root sought.low sought.high next
+        (λ stop. under L.Law latches.now HasStopped sought.root sought.low sought.high stop.next
         out.old out.new pass.old pass.new) }
+    ensures least { TookTwo pass.old pass.new }
 {
     let mut mtr = Mtr::start(latches, pass);
     facts_of_trees(&mtr);
@@ -55,7 +57,8 @@ fn read_chunks<L: Trees, R: Wait>(
 /// `btr_pcur_move_to_next_page`). The record's place is the last chunk's.
 ///
 /// `More` exactly where the next chunk finds no chunk place spare, or fewer pair places than it has pairs:
-/// the chunks before it were appended. Either way nothing is held at the end.
+/// the chunks before it were appended. Where no chunk place is spare no further leaf is taken. Either way nothing is
+/// held at the end.
 ///
 /// ```
 /// if pass.may_scan(chunks.room().0) {
@@ -81,6 +84,7 @@ pub fn scan_at<L: Trees, R: Wait>(
         HasScanned root low high answer out.old out.new pass.old pass.new) }
     ensures stopped { rank low ≤ rank high → IfErr result (λ more. under L.Law latches.now
         HasStopped root low high more.next out.old out.new pass.old pass.new) }
+    ensures least { rank low ≤ rank high → pass.old.view.grants.s + 2 ≤ pass.new.view.grants.s }
     ensures none { rank high < rank low → result ≡ Ok
         (scan_answer low high 0 0 (length pass.old.view.memory.seen)) }
     ensures same { rank high < rank low → pass.new ≡ pass.old }
@@ -92,7 +96,7 @@ pub fn scan_at<L: Trees, R: Wait>(
     let before = out.room();
     let sought = Sought { root, low, high };
     match read_chunks(rt, latches, pass, sought, out) {
-        Some(next) => Err(More { next }),
+        Some(stop) => Err(More { next: stop.next }),
         None => {
             let left = out.room();
             let chunks = (before.0 - left.0) as u32;
@@ -129,6 +133,7 @@ pub fn scan<L: Trees, R: Wait>(
         (by_place L.opening latches.now.sizes.pages) answer h.gone.spans pass.old pass.new) }
     ensures stopped { rank low ≤ rank high → IfErr result (λ more. under L.Law latches.now
         HasStopped 1 low high more.next out.old out.new pass.old pass.new) }
+    ensures least { rank low ≤ rank high → pass.old.view.grants.s + 2 ≤ pass.new.view.grants.s }
     ensures none { rank high < rank low → result ≡ Ok
         (scan_answer low high 0 0 (length pass.old.view.memory.seen)) }
     ensures fits_none { rank high < rank low → IfOk result (λ answer. FitsSeen latches.now.sizes
@@ -143,7 +148,7 @@ pub fn scan<L: Trees, R: Wait>(
 }
 
 // A record of a scan with so many chunks and pairs.
-fn answer(low: Key, high: Key, chunks: u32, pairs: u32, place: u32) -> Record
+pub(crate) fn answer(low: Key, high: Key, chunks: u32, pairs: u32, place: u32) -> Record
     ensures { result ≡ scan_answer low high chunks pairs place }
 {
     Record {

@@ -9,7 +9,7 @@ ghost use Rattle.ib_cursor.specs.Laws.{Laws};
 ghost use Rattle.ib_scan.specs.Steps.{HasReachedEnd, HasRunToEnd, HasFront, HasRunToStop, HasPassed, HasSomeFront, IsAside, IsOnLeaf, IsScannedTo, MayPass};
 
 use crate::part::{Part, part_of, put};
-use ib_cursor::{read, take};
+use ib_cursor::{Position, read, store, take};
 use ib_latch::{Parkers, Sleep};
 use ib_levels::{Latch, Level, Mode};
 use ib_logrec::Law;
@@ -32,6 +32,14 @@ struct Found {
     leaf: u32,
     end: Key,
     passed: usize,
+}
+
+// Where a scan stopped: at the key at which the first chunk begins that found no room. The leaf that gave the
+// chunk before it is kept, or where there was none the leaf on which the scan began.
+#[derive(Clone, Copy)]
+pub(crate) struct Stop {
+    pub(crate) next: Key,
+    pub(crate) kept: Position,
 }
 
 // The trees of the space obey their law.
@@ -113,35 +121,42 @@ fn leave_front<L: Law, S: Sleep>(mtr: &mut Mtr<'_, L, S>, count: usize)
     }
 }
 
-// Reads chunk after chunk, from the leaf of `low` on. None where all were appended, else the key at
-// which the first one begins that found no room. One leaf alone is held at the end.
+// Reads chunk after chunk, from the leaf of `low` on. None where all were appended, else where it stopped. It goes
+// to no further leaf where no chunk place is spare. One leaf alone is held at the end.
 pub(crate) fn scan_from<L: Trees, R: Wait>(
     rt: &R,
     mtr: &mut Mtr<'_, L, Parkers>,
     sought: Sought,
     first: u32,
     out: &mut Chunks,
-) -> Option<Key>
+) -> Option<Stop>
     requires mtr { IsMtr mtr.old.latches.now mtr.old.pass.now }
-    requires begins { under L.Law mtr.old.latches.now IsScannedTo L.ROOTS sought.root first
+    requires begins { under L.Law mtr.old.latches.now IsScannedTo L.ROOTS sought.root first first
         sought.low sought.low sought.high out.old out.old mtr.old.pass.now mtr.old.pass.now }
     ensures still { IsStillMtr mtr.old mtr.new }
     ensures scanned { MatchOption result
-        (under L.Law mtr.old.latches.now HasRunToEnd sought.root sought.low sought.high
+        (under L.Law mtr.old.latches.now HasRunToEnd sought.root first sought.low sought.high
         out.old out.new mtr.old.pass.now mtr.new.pass.now)
-        (λ next. under L.Law mtr.old.latches.now HasRunToStop sought.root sought.low sought.high
-        next out.old out.new mtr.old.pass.now mtr.new.pass.now) }
+        (λ stop. under L.Law mtr.old.latches.now HasRunToStop L.ROOTS sought.root first sought.low
+        sought.high stop out.old out.new mtr.old.pass.now mtr.new.pass.now) }
 {
     facts_of_trees(mtr);
     let mut leaf = first;
     let mut start = sought.low;
     loop {
+        let stop = Stop {
+            next: start,
+            kept: store(mtr, leaf),
+        };
+        if out.room().0 == 0 {
+            return Some(stop);
+        }
         let found = reach_end(rt, mtr, leaf, start, sought.high);
         let place = mtr.place();
         let fits = put(mtr, found.leaf, start, found.end, place, out);
         leave_front(mtr, found.passed);
         if !fits {
-            return Some(start);
+            return Some(stop);
         }
         if is_same(found.end, sought.high) {
             return None;

@@ -9,12 +9,13 @@ use Rattle.ib_io.specs.declared.line_kind.LineKind.{LineKind}
 use Rattle.ib_io.specs.declared.read.TheConstants.{INPUT_BYTES}
 use Rattle.ib_io.specs.declared.status.Status.{Status}
 use Rattle.ib_io.specs.declared.status.Status.TheVariants.{Done, ReadFault, WriteFault, Memory}
-use Rattle.ib_replay_form.specs.Answers.{AnswersLog}
+use Rattle.ib_replay_form.specs.Answers.{AnswersLog, AnswersUpgrade}
+use Rattle.ib_replay.proofs.OldLogLaws.{brought-no_fault}
 use Rattle.ib_replay.proofs.OneFault.{raw_log-no_fault}
 use Rattle.ib_tool.specs.Answers.{AnswersInput, HasGood, IsCutOff, IsGoodInput, IsOwedAt, IsServed, IsSilent, IsSilentAt, MayLackInput, Owes, OwesInput}
 use Rattle.ib_tool.specs.Words.{form_of, reads}
 use Rattle.ib_tool.specs.declared.form.Form.{Form}
-use Rattle.ib_tool.specs.declared.form.Form.TheVariants.{Run, Raw, Latch, Replay, Gen}
+use Rattle.ib_tool.specs.declared.form.Form.TheVariants.{Run, Raw, Latch, Replay, Upgrade, Gen}
 
 -- where want of memory may come anywhere
 pub told_anywhere : (owes : Ending → Type 0) (written now : Option (List ℕ)) (status : Status) → Told owes IsOutOfMemory written now status → Told owes (IsOutOfMemoryWhere (Unit {0})) written now status
@@ -33,6 +34,7 @@ told_reading Run old new is written now status told = told
 told_reading Raw old new is written now status told = told
 told_reading Latch old new is written now status told = told
 told_reading Replay old new is written now status told = told
+told_reading Upgrade old new is written now status told = told
 told_reading (Gen load) old new is written now status told = absurd (cc)
 
 -- .. and of one that reads nothing
@@ -44,6 +46,7 @@ told_alone Run old new is keeps written now status told = absurd (cc)
 told_alone Raw old new is keeps written now status told = absurd (cc)
 told_alone Latch old new is keeps written now status told = absurd (cc)
 told_alone Replay old new is keeps written now status told = absurd (cc)
+told_alone Upgrade old new is keeps written now status told = absurd (cc)
 
 -- what is told where the words are a form
 pub told_form : (words : List (List ℕ)) (form : Form) (old new : Option (List ℕ)) → form_of words ≡ Some form → (written now : Option (List ℕ)) (status : Status)
@@ -56,11 +59,16 @@ done_log : (input : List ℕ) (e : Ending) → IsGoodInput Replay input → Answ
 done_log input e good (inl owed) = ap (λ x. x.status) owed.3
 done_log input e good (inr owed) = absurd (raw_log-no_fault input good.0 good.1 owed.0 good.2 owed.1)
 
+done_upgrade : (input : List ℕ) (e : Ending) → IsGoodInput Upgrade input → AnswersUpgrade input e → e.status ≡ Done
+done_upgrade input e good (inl owed) = ap (λ x. x.status) owed.3
+done_upgrade input e good (inr owed) = absurd (brought-no_fault input good.0 good.1 owed.0 good.2 owed.1)
+
 done_input : (form : Form) (input : List ℕ) (e : Ending) → IsGoodInput form input → AnswersInput form input e → e.status ≡ Done
 done_input Run input e good owed = done_lines _ _ e good owed
 done_input Raw input e good owed = done_lines _ _ e good owed
 done_input Latch input e good owed = done_lines _ _ e good owed
 done_input Replay input e good owed = done_log input e good owed
+done_input Upgrade input e good owed = done_upgrade input e good owed
 done_input (Gen load) input e good owed = owed.0
 
 done_read : (form : Form) (left new : Option (List ℕ)) (e : Ending) → HasGood form left → OwesInput form left new e → e.status ≡ Done
@@ -75,6 +83,7 @@ done_at Run left new e served owed = done_read Run left new e served owed
 done_at Raw left new e served owed = done_read Raw left new e served owed
 done_at Latch left new e served owed = done_read Latch left new e served owed
 done_at Replay left new e served owed = done_read Replay left new e served owed
+done_at Upgrade left new e served owed = done_read Upgrade left new e served owed
 done_at (Gen load) left new e served owed = owed.1.0
 
 done_words : (words : List (List ℕ)) (left new : Option (List ℕ)) (form : Form) (e : Ending) → form_of words ≡ Some form → IsServed form left → Owes words left new e → e.status ≡ Done
@@ -91,6 +100,7 @@ silences-at Run old new s calm = cut-off old new s calm
 silences-at Raw old new s calm = cut-off old new s calm
 silences-at Latch old new s calm = cut-off old new s calm
 silences-at Replay old new s calm = cut-off old new s calm
+silences-at Upgrade old new s calm = cut-off old new s calm
 silences-at (Gen load) old new s calm = inr calm
 
 -- a form that gets what it needs is answered
@@ -112,6 +122,8 @@ no_fault Raw input e owed is = no_fault-lines _ _ e owed is
 no_fault Latch input e owed is = no_fault-lines _ _ e owed is
 no_fault Replay input e (inl owed) is = let told = ap (λ x. x.status) owed.3 in absurd (cc)
 no_fault Replay input e (inr owed) is = let told = ap (λ x. x.status) owed.2 in absurd (cc)
+no_fault Upgrade input e (inl owed) is = let told = ap (λ x. x.status) owed.3 in absurd (cc)
+no_fault Upgrade input e (inr owed) is = let told = ap (λ x. x.status) owed.2 in absurd (cc)
 no_fault (Gen load) input e owed is = let told = owed.0 in absurd (cc)
 
 pub told-no_fault : (form : Form) (input : List ℕ) (written now : Option (List ℕ)) (status : Status) → Told (AnswersInput form input) (IsOutOfMemoryWhere (MayLackInput form input)) written now status → status ≡ ReadFault → ⊥

@@ -12,13 +12,14 @@ use Rattle.ib_script.specs.Script.{ScriptValue, IsScript, first_fault, reading_o
 use Rattle.ib_latch_form.specs.Answers.{AnswersEvents}
 use Rattle.ib_latch_form.specs.Events.{event_fault}
 use Rattle.ib_logrec.specs.declared.entry.Entry.{Entry}
-use Rattle.ib_replay_form.specs.Answers.{AnswersLog}
+use Rattle.ib_replay_form.specs.Answers.{AnswersLog, AnswersUpgrade}
 use Rattle.ib_replay.specs.Files.{file_fault}
+use Rattle.ib_replay.specs.OldLogs.{IsBroughtOver, old_file_fault}
 use Rattle.ib_replay.specs.RawLogs.{IsRawLog}
 use Rattle.ib_tool.specs.Texts.{IsCountText, IsWrittenRun}
 use Rattle.ib_tool.specs.Words.{form_of, usage_line, too_large_line}
 use Rattle.ib_tool.specs.declared.form.Form.{Form}
-use Rattle.ib_tool.specs.declared.form.Form.TheVariants.{Run, Raw, Latch, Replay, Gen}
+use Rattle.ib_tool.specs.declared.form.Form.TheVariants.{Run, Raw, Latch, Replay, Upgrade, Gen}
 use Rattle.ib_tool.specs.declared.shape.Shape.{Shape}
 use Rattle.ib_tool.specs.declared.shape.Shape.TheVariants.{Text, File}
 
@@ -36,6 +37,7 @@ AnswersInput Run input e = AnswersScript Text input e
 AnswersInput Raw input e = AnswersScript File input e
 AnswersInput Latch input e = AnswersEvents input e
 AnswersInput Replay input e = AnswersLog input e
+AnswersInput Upgrade input e = AnswersUpgrade input e
 AnswersInput (Gen load) input e = (e.status ≡ Done) × IsCountText load e.text
 
 -- memory may be wanting for an input: of lines where none is bad, of a log where the file itself has no fault
@@ -44,6 +46,7 @@ MayLackInput Run input = first_fault (readings_by reading_of input) ≡ None
 MayLackInput Raw input = first_fault (readings_by reading_of input) ≡ None
 MayLackInput Latch input = event_fault input ≡ None
 MayLackInput Replay input = file_fault input ≡ None
+MayLackInput Upgrade input = old_file_fault input ≡ None
 MayLackInput (Gen load) input = Unit {0}
 
 -- The ending that is owed by a form that reads: that more was read than the limit, or an answer to an input that was read to its end.
@@ -76,12 +79,13 @@ IsSilentAt form old new status = IsCutOff old new status
 abbrev pub IsSilent : List (List ℕ) → Option (List ℕ) → Option (List ℕ) → Status → Type 0
 IsSilent words old new status = (form : Form) × (form_of words ≡ Some form) × IsSilentAt form old new status
 
--- nothing is wrong with the input: each line is good, or the bytes are the file of a lawful log
+-- nothing is wrong with the input: each line is good, or the bytes are the file of a lawful log, or of an old one that can be brought over
 abbrev pub IsGoodInput : Form → List ℕ → Type 0
 IsGoodInput Run input = first_fault (readings_by reading_of input) ≡ None
 IsGoodInput Raw input = first_fault (readings_by reading_of input) ≡ None
 IsGoodInput Latch input = event_fault input ≡ None
 IsGoodInput Replay input = (pages : ℕ) × (log : List Entry) × IsRawLog input pages log
+IsGoodInput Upgrade input = (pages : ℕ) × (words : List ℕ) × IsBroughtOver input pages words
 IsGoodInput (Gen load) input = Unit {0}
 
 -- all that a source has left is known, not too long, and good

@@ -3,7 +3,7 @@ use Rattle.std.specs.Prelude.{◌≡◌, ℕ, List, [], ◌∷◌, Bool, true, f
 use Rattle.ib_io.specs.Numbers.{number_of}
 use Rattle.ib_script.specs.Loads.{is_load}
 use Rattle.ib_tool.specs.declared.form.Form.{Form}
-use Rattle.ib_tool.specs.declared.form.Form.TheVariants.{Run, Raw, Latch, Replay, Gen}
+use Rattle.ib_tool.specs.declared.form.Form.TheVariants.{Run, Raw, Latch, Replay, Upgrade, Gen}
 
 -- a form of one word
 abbrev pub form_named : List ℕ → Option Form
@@ -12,6 +12,7 @@ form_named word =
     else if bytes_eq word (codes "raw") then Some Raw
     else if bytes_eq word (codes "latch") then Some Latch
     else if bytes_eq word (codes "replay") then Some Replay
+    else if bytes_eq word (codes "upgrade") then Some Upgrade
     else None
 
 -- generating from these numbers, where a script may be
@@ -37,6 +38,7 @@ abbrev pub reads : Form → Bool
 reads (Gen load) = false
 reads _ = true
 
+-- it does not name `upgrade`
 abbrev pub usage_line : List ℕ
 usage_line = codes "usage: ib_tool run | raw | latch | replay | gen N SEED SESSIONS\n"
 

@@ -17,7 +17,7 @@ use crate::shape::Shape;
 use ib_io::{INPUT_BYTES, Sink, Status, refuse, tell};
 use ib_latch_form::answer_events;
 use ib_replay::write_log;
-use ib_replay_form::answer_log;
+use ib_replay_form::{answer_log, answer_upgrade};
 use ib_runs::{Gate, Ran, run_script};
 use ib_script::{Load, PlainLines, Script, generate, read_script};
 use std::alloc::{AllocError, Global};
@@ -132,6 +132,7 @@ pub fn answer<K: Sink, G: Gate + Sync, R: Threads + Wait + Sync>(
         Form::Raw => answer_script(rt, alloc, Shape::File, input, sink, gate),
         Form::Latch => answer_events(alloc, input, sink),
         Form::Replay => answer_log(alloc, input, sink),
+        Form::Upgrade => answer_upgrade(alloc, input, sink),
         Form::Gen { load } => answer_load(rt, alloc, load, sink, gate),
     }
 }

@@ -18,6 +18,8 @@ pub enum Form {
     Latch,
     /// A raw log's changes, one after another.
     Replay,
+    /// A log of version 1, brought over to the version of today.
+    Upgrade,
     /// A script that is generated, and how often each reply came.
     Gen { load: Load },
 }
@@ -42,6 +44,8 @@ fn form_named(word: &[u8]) -> Option<Form>
         Some(Form::Latch)
     } else if word == b"replay".as_slice() {
         Some(Form::Replay)
+    } else if word == b"upgrade".as_slice() {
+        Some(Form::Upgrade)
     } else {
         None
     }

@@ -1,5 +1,6 @@
 //! The program `ib_tool`: scripts of inserts, deletes, lookups and scans, whose sessions run beside each other on one shared
-//! index, events of the latch machine, and raw logs, from the bytes that are read to the bytes that are written.
+//! index, events of the latch machine, raw logs, and logs of version 1, from the bytes that are read to the bytes that are
+//! written.
 #![tactic(auto)]
 
 mod answer;

@@ -14,6 +14,7 @@ mod lines;
 mod replays;
 mod rows;
 mod sides;
+mod upgrades;
 
 // Runs the words on an input that comes in pieces of 1,000 bytes, into a sink that takes 1,000 bytes a call.
 fn told(
@@ -107,4 +108,14 @@ fn refused_among(
     )?;
     refused_lines(rt, alloc, form, &[good, b"\n#\n", bad, b"\n"], 3, kind)?;
     refused_lines(rt, alloc, form, &[good, b"\n\n", bad], 3, kind)
+}
+
+// The file of a log of this form, so many pages and these words, the highest byte of each number first.
+fn log_file(alloc: Global, form: &[u8], pages: u64, words: &[u64]) -> Result<Vec<u8>, Fail> {
+    let mut bytes = Vec::from_slice(alloc, form)?;
+    bytes.extend_from_slice(&pages.to_be_bytes())?;
+    for word in words {
+        bytes.extend_from_slice(&word.to_be_bytes())?;
+    }
+    Ok(bytes)
 }

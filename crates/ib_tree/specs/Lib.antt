@@ -6,3 +6,4 @@ pub mod WholeTest
 pub mod Roots
 pub mod Scans
 pub mod Fits
+pub mod Clocks

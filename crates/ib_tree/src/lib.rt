@@ -2,11 +2,13 @@
 //! the content of its trees.
 #![tactic(auto)]
 
+mod clocks;
 mod content;
 mod laws;
 mod tree_law;
 mod whole;
 
+pub use clocks::Clocks;
 pub use content::content_of;
 pub use laws::{entry_law, fits_law, patch_law, refusal_law};
 pub use tree_law::{TreeLaw, Trees};

@@ -77,12 +77,7 @@ fn changed(changes: &[(usize, u64)]) -> [u64; 46] {
 
 // The file of a log, the highest byte of each number first.
 fn file(alloc: Global, pages: u64, words: &[u64]) -> Result<Vec<u8>, Fail> {
-    let mut bytes = Vec::from_slice(alloc, b"IBLOG572")?;
-    bytes.extend_from_slice(&pages.to_be_bytes())?;
-    for word in words {
-        bytes.extend_from_slice(&word.to_be_bytes())?;
-    }
-    Ok(bytes)
+    log_file(alloc, b"IBLOG572", pages, words)
 }
 
 fn replayed(

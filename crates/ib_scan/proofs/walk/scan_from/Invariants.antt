@@ -10,7 +10,7 @@ invariant-loop-sought g l = record {
   mtr : IsMtr l.mtr.latches.now l.mtr.pass.now;
   latches : l.mtr.latches ≡ l.fn.mtr.latches;
   pass : l.mtr.pass.ghost_name ≡ l.fn.mtr.pass.ghost_name;
-  to : IsScannedTo l.fn.mtr.latches.now.sizes (g.L.Law.lawful l.fn.mtr.latches.now.sizes.pages) (by_place g.L.Law.opening l.fn.mtr.latches.now.sizes.pages) g.L.Trees.ROOTS l.sought.root l.leaf
+  to : IsScannedTo l.fn.mtr.latches.now.sizes (g.L.Law.lawful l.fn.mtr.latches.now.sizes.pages) (by_place g.L.Law.opening l.fn.mtr.latches.now.sizes.pages) g.L.Trees.ROOTS l.sought.root l.first l.leaf
       l.sought.low l.start l.sought.high l.fn.out l.out l.fn.mtr.pass.now l.mtr.pass.now;
 }
 

@@ -1,0 +1,4 @@
+pub mod OldHeadLaws
+pub mod OldEntryLaws
+pub mod OldReadLaws
+mod OldSpelled

@@ -1,0 +1,3 @@
+pub mod OldHeads
+pub mod OldEntries
+pub mod OldGrammar

@@ -1,0 +1,4 @@
+pub mod Full
+pub mod Copies
+pub mod Changes
+pub mod Steps

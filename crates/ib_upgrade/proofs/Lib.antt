@@ -1,0 +1,4 @@
+mod FaultLaws
+mod UpgradeLaws
+pub mod SamePlans
+pub mod OneOldFault
