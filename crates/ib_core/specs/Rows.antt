@@ -33,6 +33,11 @@ pub record HasMoved (l : ℕ) (w : ℤ) (a : Actor) (w' : ℤ) (a' : Actor) : Ty
   pub weighs : SameSum l w (session_of a) w' (session_of a')
   pub capacity : vec_capacity a.held ≤ vec_capacity a'.held
 
+-- a session in the middle of nothing may give a grant of the latch back
+pub record MayGive (l : ℕ) (w : ℤ) (a : Actor) : Type 0 where
+  pub can : CanStep l w (session_of a)
+  pub free : a.phase ≡ Free
+
 -- an event may come, in any phase: besides, no generation leaves the numbers of 64 bits
 pub record MayTurn (event : Event) (w : ℤ) (m : Marks) (a : Actor) : Type 0 where
   pub can : CanStep (latch_of event) w (session_of a)
@@ -45,6 +50,11 @@ pub record HasTurned (event : Event) (w : ℤ) (m : Marks) (a : Actor) (answer :
   pub responds : answered answer (session_of a') ≡ response_of w m event (session_of a)
   pub marks : m' ≡ marks_after a.phase event m
   pub moves : HasMoved (latch_of event) w a w' a'
+
+-- the answer, and the session after it, are this response, and the word moves with what the session takes off it
+pub record HasStepped (l : ℕ) (w : ℤ) (a : Actor) (answer : Answer) (w' : ℤ) (a' : Actor) (response : Response) : Type 0 where
+  pub responds : answered answer (session_of a') ≡ response
+  pub moves : HasMoved l w a w' a'
 
 -- the answer, and the session after it, are this response, and what the session holds is not touched
 pub record HasResponded (a : Actor) (answer : Answer) (a' : Actor) (response : Response) : Type 0 where

@@ -2,14 +2,11 @@
 
 ghost use Rattle.std.specs.Prelude.{◌≡◌, ◌^◌, ◌<◌, ◌≤◌, vec_capacity};
 ghost use Rattle.ib_levels.specs.Holding.{on};
-ghost use Rattle.ib_core.specs.declared.phase.Phase.TheVariants.{Free};
 ghost use Rattle.ib_core.specs.Actor.{session_of};
-ghost use Rattle.ib_core.specs.Member.{CanStep};
-ghost use Rattle.ib_core.specs.Rows.{HasMoved};
+ghost use Rattle.ib_core.specs.Rows.{HasStepped, MayGive};
 ghost use Rattle.ib_core.specs.Sessions.{claims, grants, holdings};
 ghost use Rattle.ib_core.specs.Takings.{count_of, given_back, giving_s, giving_sx, giving_x};
 ghost use Rattle.ib_core.specs.HeldAt.{IsHeldAt};
-ghost use Rattle.ib_core.specs.Responses.{answered};
 
 use crate::actor::Actor;
 use crate::event::{Answer, Refusal};
@@ -43,11 +40,9 @@ impl Actor {
     // `rw_lock_s_unlock_func`).
     #[inline(always)]
     pub(crate) fn give_s(&mut self, word: &mut LockWord, latch: Latch) -> Answer
-        requires can { CanStep latch.0 word.old.0 (session_of self.old) }
-        requires free { self.old.phase ≡ Free }
-        ensures responds { answered result (session_of self.new)
-            ≡ giving_s latch.0 word.old.0 (session_of self.old) }
-        ensures moves { HasMoved latch.0 word.old.0 self.old word.new.0 self.new }
+        requires { MayGive latch.0 word.old.0 self.old }
+        ensures { HasStepped latch.0 word.old.0 self.old result word.new.0 self.new
+            (giving_s latch.0 word.old.0 (session_of self.old)) }
     {
         let mine = self.found(latch);
         if mine.s == 0 {
@@ -65,11 +60,9 @@ impl Actor {
     // (WL#6363, `rw_lock_sx_unlock_func`).
     #[inline(always)]
     pub(crate) fn give_sx(&mut self, word: &mut LockWord, latch: Latch) -> Answer
-        requires can { CanStep latch.0 word.old.0 (session_of self.old) }
-        requires free { self.old.phase ≡ Free }
-        ensures responds { answered result (session_of self.new)
-            ≡ giving_sx latch.0 (session_of self.old) }
-        ensures moves { HasMoved latch.0 word.old.0 self.old word.new.0 self.new }
+        requires { MayGive latch.0 word.old.0 self.old }
+        ensures { HasStepped latch.0 word.old.0 self.old result word.new.0 self.new
+            (giving_sx latch.0 (session_of self.old)) }
     {
         let mine = self.found(latch);
         if mine.sx == 0 {
@@ -89,11 +82,9 @@ impl Actor {
     // `rw_lock_x_unlock_func`).
     #[inline(always)]
     pub(crate) fn give_x(&mut self, word: &mut LockWord, latch: Latch) -> Answer
-        requires can { CanStep latch.0 word.old.0 (session_of self.old) }
-        requires free { self.old.phase ≡ Free }
-        ensures responds { answered result (session_of self.new)
-            ≡ giving_x latch.0 (session_of self.old) }
-        ensures moves { HasMoved latch.0 word.old.0 self.old word.new.0 self.new }
+        requires { MayGive latch.0 word.old.0 self.old }
+        ensures { HasStepped latch.0 word.old.0 self.old result word.new.0 self.new
+            (giving_x latch.0 (session_of self.old)) }
     {
         let mine = self.found(latch);
         if mine.x == 0 {

@@ -3,9 +3,9 @@
 ghost use Rattle.std.specs.Prelude.{◌≡◌, ◌+◌, ◌<◌, ◌≤◌, ◌^◌};
 ghost use Rattle.ib_core.specs.Actor.{HasRoom, session_of};
 ghost use Rattle.ib_core.specs.Member.{CanStep};
-ghost use Rattle.ib_core.specs.Rows.{HasMoved, HasResponded, HasTurned, MayBegin, MayTurn};
+ghost use Rattle.ib_core.specs.Rows.{HasResponded, HasStepped, HasTurned, MayBegin, MayTurn};
 ghost use Rattle.ib_core.specs.Sessions.{holdings};
-ghost use Rattle.ib_core.specs.Responses.{answered, latch_of};
+ghost use Rattle.ib_core.specs.Responses.{latch_of};
 ghost use Rattle.ib_core.specs.Table.{armed_row, asleep_row, checked_row, clear_marks, flag_marks, flagged_row, free_row, next_armed_row, next_row, next_waits_row, owes_clear_row, owes_look_row, owes_raise_row, raised_by};
 
 use crate::actor::Actor;
@@ -103,9 +103,8 @@ impl Actor {
     #[inline(always)]
     fn when_free(&mut self, word: &mut LockWord, generation: u64, event: Event) -> Answer
         requires { MayBegin (latch_of event) word.old.0 self.old }
-        ensures responds { answered result (session_of self.new)
-            ≡ free_row word.old.0 generation event (session_of self.old) }
-        ensures moves { HasMoved (latch_of event) word.old.0 self.old word.new.0 self.new }
+        ensures { HasStepped (latch_of event) word.old.0 self.old result word.new.0 self.new
+            (free_row word.old.0 generation event (session_of self.old)) }
     {
         match event {
             Event::S { latch, level } => self.take_s(word, Latch(latch), level),
@@ -160,9 +159,8 @@ impl Actor {
         requires can { CanStep (latch_of event) word.old.0 (session_of self.old) }
         requires none { holdings (latch_of event) (session_of self.old) ≡ 0 }
         requires room { HasRoom (latch_of event) self.old }
-        ensures responds { answered result (session_of self.new)
-            ≡ flagged_row mode level generation word.old.0 event (session_of self.old) }
-        ensures moves { HasMoved (latch_of event) word.old.0 self.old word.new.0 self.new }
+        ensures { HasStepped (latch_of event) word.old.0 self.old result word.new.0 self.new
+            (flagged_row mode level generation word.old.0 event (session_of self.old)) }
     {
         match event {
             Event::Again { latch } => {

@@ -6,10 +6,9 @@ ghost use Rattle.ib_core.specs.declared.event.Refusal.TheVariants.{Against as Ag
 ghost use Rattle.ib_core.specs.declared.phase.Phase.TheVariants.{Free};
 ghost use Rattle.ib_core.specs.Actor.{session_of};
 ghost use Rattle.ib_core.specs.Member.{CanStep};
-ghost use Rattle.ib_core.specs.Rows.{HasMoved, MayBegin};
+ghost use Rattle.ib_core.specs.Rows.{HasStepped, MayBegin};
 ghost use Rattle.ib_core.specs.Sessions.{sx_grants, x_grants};
 ghost use Rattle.ib_core.specs.Takings.{taking_s, taking_sx, taking_x, upgrade};
-ghost use Rattle.ib_core.specs.Responses.{answered};
 
 use crate::actor::Actor;
 use crate::event::{Answer, Refusal};
@@ -34,9 +33,8 @@ impl Actor {
     // S, where the session holds nothing on the latch (sync0rw, `rw_lock_s_lock_low`).
     pub(crate) fn take_s(&mut self, word: &mut LockWord, latch: Latch, level: Level) -> Answer
         requires { MayBegin latch.0 word.old.0 self.old }
-        ensures responds { answered result (session_of self.new)
-            ≡ taking_s latch.0 level word.old.0 (session_of self.old) }
-        ensures moves { HasMoved latch.0 word.old.0 self.old word.new.0 self.new }
+        ensures { HasStepped latch.0 word.old.0 self.old result word.new.0 self.new
+            (taking_s latch.0 level word.old.0 (session_of self.old)) }
     {
         if self.holds(latch) {
             return Answer::Refused(Refusal::HeldAlready);
@@ -51,9 +49,8 @@ impl Actor {
     // (WL#6363, `rw_lock_sx_lock_low`).
     pub(crate) fn take_sx(&mut self, word: &mut LockWord, latch: Latch, level: Level) -> Answer
         requires { MayBegin latch.0 word.old.0 self.old }
-        ensures responds { answered result (session_of self.new)
-            ≡ taking_sx latch.0 level word.old.0 (session_of self.old) }
-        ensures moves { HasMoved latch.0 word.old.0 self.old word.new.0 self.new }
+        ensures { HasStepped latch.0 word.old.0 self.old result word.new.0 self.new
+            (taking_sx latch.0 level word.old.0 (session_of self.old)) }
     {
         let mine = self.grants(latch);
         if mine.s > 0 {
@@ -76,9 +73,8 @@ impl Actor {
     // does a newcomer where nobody has SX or X (sync0rw, `rw_lock_x_lock_low`).
     pub(crate) fn take_x(&mut self, word: &mut LockWord, latch: Latch, level: Level) -> Answer
         requires { MayBegin latch.0 word.old.0 self.old }
-        ensures responds { answered result (session_of self.new)
-            ≡ taking_x latch.0 level word.old.0 (session_of self.old) }
-        ensures moves { HasMoved latch.0 word.old.0 self.old word.new.0 self.new }
+        ensures { HasStepped latch.0 word.old.0 self.old result word.new.0 self.new
+            (taking_x latch.0 level word.old.0 (session_of self.old)) }
     {
         let mine = self.grants(latch);
         if mine.s > 0 {
@@ -104,9 +100,8 @@ impl Actor {
         requires free { self.old.phase ≡ Free }
         requires owner { 0 < sx_grants latch.0 (session_of self.old) }
         requires first { x_grants latch.0 (session_of self.old) ≡ 0 }
-        ensures responds { answered result (session_of self.new)
-            ≡ upgrade latch.0 level word.old.0 self.old.held.items }
-        ensures moves { HasMoved latch.0 word.old.0 self.old word.new.0 self.new }
+        ensures { HasStepped latch.0 word.old.0 self.old result word.new.0 self.new
+            (upgrade latch.0 level word.old.0 self.old.held.items) }
     {
         let Some(after) = upgrade_x(*word) else {
             return Answer::Busy { word: *word };

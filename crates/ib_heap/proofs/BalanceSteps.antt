@@ -6,7 +6,7 @@ use Rattle.ib_map.specs.Keys.{MapKey}
 use Rattle.ib_map.specs.Pairs.{without, value_at, index_of}
 use Rattle.ib_map.specs.declared.TheConstants.{PAGE_WORDS}
 use Rattle.ib_heap.specs.Page.{Page, PageValue}
-use Rattle.ib_heap.specs.Heap.{Node, Heap, first_of, owners, times, offsets_of, records_in, used_offsets, page_with, nodes_of, read_heap}
+use Rattle.ib_heap.specs.Heap.{Node, Heap, first_of, owners, times, offsets_of, records_in, used_offsets, page_with, nodes_of, read_heap, is_shaped}
 use Rattle.ib_heap.specs.Form.{page_of}
 use Rattle.ib_heap.specs.Image.{value_with_records, records_of}
 use Rattle.ib_heap.specs.Put.{owner_from, owned_by}
@@ -14,20 +14,18 @@ use Rattle.ib_heap.specs.Take.{unlink_node, unlink_last, unlink_in, balance, bal
 use Rattle.ib_heap.specs.Kept.{IsKept}
 use Rattle.ib_heap.specs.Steps.{IsOffsetOfKey, IsLent, IsSlotJoined}
 use Rattle.ib_heap.proofs.KeptLaws.{kept-fixed, kept-offset, kept-far}
-use Rattle.ib_heap.specs.Shape.{is_shaped}
 use Rattle.ib_heap.specs.Page.PageValue.{Tree}
-use Rattle.ib_heap.proofs.HeapLaws.{Chained, Owned, Directory, AreOffsets, AreOffsets-left, IsHeap, page-from, heap-read}
+use Rattle.ib_heap.proofs.HeapLaws.{Chained, Owned, Directory, AreOffsets, AreOffsets-left, IsHeap, page-from, heap-read, Shaped, Shaped-Decides}
 use Rattle.ib_heap.proofs.SeekLaws.{Known, directory-at, directory-few, header_owned, node-word, first-in}
 use Rattle.ib_heap.proofs.PutLaws.{owner-in, times-drop, Apart, first-member, apart-next, times-apart}
 use Rattle.ib_heap.proofs.PutShape.{Low, low-member}
-use Rattle.ib_heap.proofs.ShapeLaws.{Shaped, heap-shaped, Offsets, offsets-known}
+use Rattle.ib_heap.proofs.ShapeLaws.{Offsets, offsets-known}
 use Rattle.ib_heap.proofs.PutPage.{middle-apart, OwnerWord, owner-word}
 use Rattle.ib_heap.proofs.CountLaws.{Under, under-unlink, owned-balance}
 use Rattle.ib_heap.proofs.UnlinkLaws.{At, SetAt}
 use Rattle.ib_heap.proofs.BalanceLaws.{balance-well, offsets-balance, lend-some, chain-lend, chain-join, slots-lend, slots-join, GoneAt}
 use Rattle.ib_heap.proofs.RemoveShape.{directory-set, directory-gone, other-page, other-shaped}
 use Rattle.ib_heap.proofs.SlotLaws.{count, owner-count, owner-skip, count-step, count-le, Stand, stand, UnlinkSlot, unlink-slot}
-use Rattle.ib_heap.proofs.ShapedDecides.{Shaped-Decides}
 use Rattle.ib_heap.proofs.UnlinkSteps.{lt, slot-is, apart, slot-range, used-unlink}
 
 module _ (ws w0 : List ℕ) (key : MapKey) (slot before at : ℕ) (kn : Known ws) (st : IsOffsetOfKey ws key slot before at) (found : value_at key (records_of ws) ≢ None)
@@ -108,13 +106,13 @@ module _ (ws w0 : List ℕ) (key : MapKey) (slot before at : ℕ) (kn : Known ws
   wanted = ap (λ (v : PageValue). value_with_records (without key (records_of ws)) v) (page-from ws (read_heap ws) kn.is)
 
   pub well-page : Owned 0 ys yl → page_of w0 ≡ value_with_records (without key (records_of ws)) (page_of ws)
-  well-page owned = page-from w0 h1 (heap-shaped w0 h1 sh owned) ∙ (ap (λ (q : Page). Tree q) pg ∙ sym wanted)
+  well-page owned = page-from w0 h1 (record { shape = sh; owned = owned }) ∙ (ap (λ (q : Page). Tree q) pg ∙ sym wanted)
 
   abbrev mk : List Node → ℕ → Heap
   mk ns n = record { nodes = ns; last = n; free = h1.free }
 
   pub well-heap : Owned 0 ys yl → read_heap w0 ≡ remove_in k (read_heap ws)
-  well-heap owned = let s = balance-well 0 ys yl owned in heap-read w0 h1 (heap-shaped w0 h1 sh owned) ∙ (ap (λ (ns : List Node). mk ns yl) (sym s.0) ∙ ap (λ (n : ℕ). mk (balance ys yl) n) (sym s.1))
+  well-heap owned = let s = balance-well 0 ys yl owned in heap-read w0 h1 (record { shape = sh; owned = owned }) ∙ (ap (λ (ns : List Node). mk ns yl) (sym s.0) ∙ ap (λ (n : ℕ). mk (balance ys yl) n) (sym s.1))
 
   kept-here : (i : ℕ) → IsKept (used_offsets (read_heap ws)) i → IsKept (used_offsets h1) i
   kept-here i kept = subst (λ (n : ℕ). IsKept n i) (sym (used-unlink ws key slot before at kn st found)) kept
@@ -271,7 +269,7 @@ module _ (ws w0 : List ℕ) (key : MapKey) (slot before at : ℕ) (kn : Known ws
             let e = u.other 7 (λ z. absurd (omega arith)) (λ z. absurd (omega arith)) (λ z. absurd (omega arith)) (λ z. absurd (omega arith)) in omega arith
 
         heap1 : IsHeap w1 (remove_in k (read_heap ws))
-        heap1 = heap-shaped w1 (remove_in k (read_heap ws)) (other-shaped w0 w1 h1 (balance ys yl) (balance_last ys yl) sh (offsets-balance ys yl) size2 other1 chained1 directory1 top1) (owned-balance 0 ys yl under1)
+        heap1 = record { shape = other-shaped w0 w1 h1 (balance ys yl) (balance_last ys yl) sh (offsets-balance ys yl) size2 other1 chained1 directory1 top1; owned = owned-balance 0 ys yl under1 }
 
         pub lend-page : page_of w1 ≡ value_with_records (without key (records_of ws)) (page_of ws)
         lend-page = page-from w1 (remove_in k (read_heap ws)) heap1 ∙ (ap (λ (q : Page). Tree q) (other-page w0 w1 h1 (balance ys yl) (balance_last ys yl) sh (offsets-balance ys yl) size2 other1 ∙ pg) ∙ sym wanted)
@@ -337,7 +335,7 @@ module _ (ws w0 : List ℕ) (key : MapKey) (slot before at : ℕ) (kn : Known ws
         top3 = let l1 = gone1.long in let t0 = sh.top in let e = u.top in omega arith
 
         heap3 : IsHeap w1 (remove_in k (read_heap ws))
-        heap3 = heap-shaped w1 (remove_in k (read_heap ws)) (other-shaped w0 w1 h1 (balance ys yl) (balance_last ys yl) sh (offsets-balance ys yl) size3 other3 chained3 directory3 top3) (owned-balance 0 ys yl under1)
+        heap3 = record { shape = other-shaped w0 w1 h1 (balance ys yl) (balance_last ys yl) sh (offsets-balance ys yl) size3 other3 chained3 directory3 top3; owned = owned-balance 0 ys yl under1 }
 
         pub join-page : page_of w1 ≡ value_with_records (without key (records_of ws)) (page_of ws)
         join-page = page-from w1 (remove_in k (read_heap ws)) heap3 ∙ (ap (λ (q : Page). Tree q) (other-page w0 w1 h1 (balance ys yl) (balance_last ys yl) sh (offsets-balance ys yl) size3 other3 ∙ pg) ∙ sym wanted)

@@ -20,21 +20,23 @@ empty_words level clock = set (set (set (set (set (set (set (set (replicate PAGE
 empty-is : (level clock : ℕ) → level ≤ MOST_LEVEL → IsHeap (empty_words level clock) empty_heap
 unfolding K.end_rank
 empty-is level clock le = record {
-  size = refl;
-  kind = refl;
-  count = refl;
-  fits = record { level = le; prev = omega arith; next = omega arith; no_prev = λ h. refl; no_next = λ h. refl; few = omega arith; ascends = omega arith };
-  front = refl;
-  top = refl;
-  few = omega arith;
-  start = refl;
-  chained = refl;
-  freed = tt;
+  shape = record {
+    size = refl;
+    kind = refl;
+    count = refl;
+    fits = record { level = le; prev = omega arith; next = omega arith; no_prev = λ h. refl; no_next = λ h. refl; few = omega arith; ascends = omega arith };
+    front = refl;
+    top = refl;
+    few = omega arith;
+    start = refl;
+    chained = refl;
+    freed = tt;
+    directory = (refl, (refl, (refl, (refl, (refl, (refl, (refl, (refl, (refl, (refl, refl))))))))));
+    offsets = tt;
+    once = tt;
+    keyed = refl;
+  };
   owned = (refl, omega arith);
-  directory = (refl, (refl, (refl, (refl, (refl, (refl, (refl, (refl, (refl, (refl, refl))))))))));
-  offsets = tt;
-  once = tt;
-  keyed = refl;
 }
 
 pub empty-page : (level clock : ℕ) → level ≤ MOST_LEVEL → page_of (empty_words level clock) ≡ Tree (record { level = level; prev = 0; next = 0; clock = clock; records = [] })

@@ -36,7 +36,7 @@ pub data Kinds (ws : List ℕ) : Type 0 where
 pub kinds_of : (ws : List ℕ) → Kinds ws
 unfolding page_of
 kinds_of ws = elim (cases_Bool (is_heap ws (read_heap ws))) [
-  | inl good ↦ tree (let k = (IsHeap-Decides ws (read_heap ws)).0 good in record { page = page_with ws (records_in ws (nodes_of ws)); holds = page-from ws (read_heap ws) k; fits = k.fits; is = k })
+  | inl good ↦ tree (let k = (IsHeap-Decides ws (read_heap ws)).0 good in record { page = page_with ws (records_in ws (nodes_of ws)); holds = page-from ws (read_heap ws) k; fits = k.shape.fits; is = k })
   | inr none ↦ elim (cases_Bool (bytes_eq ws (free_page_words (get_or ws 5 0)))) [
     | inl is_free ↦ free (record {
       clock = get_or ws 5 0;
@@ -79,7 +79,7 @@ length-free ws h = ap length h.words ∙ omega (arith, length-zeros (PAGE_WORDS 
 
 pub length-formed : (ws : List ℕ) → HoldsPage (page_of ws) → length ws ≡ PAGE_WORDS
 length-formed ws holds = elim (kinds_of ws) [
-  | tree h ↦ h.is.size
+  | tree h ↦ h.is.shape.size
   | free h ↦ length-free ws h
   | neither is ↦ absurd (subst HoldsPage is holds)
 ]
@@ -103,15 +103,15 @@ header_read-tree ws is =
     let at : page_in (page_of ws) ≡ here = ap page_in (page-from ws (read_heap ws) is) in
     record {
       level = ap (λ (q : Page). q.level) (sym at);
-      count = is.count ∙ (sym (length-records ws (nodes_of ws)) ∙ ap (λ (q : Page). length q.records) (sym at));
+      count = is.shape.count ∙ (sym (length-records ws (nodes_of ws)) ∙ ap (λ (q : Page). length q.records) (sym at));
       prev = ap (λ (q : Page). q.prev) (sym at);
       next = ap (λ (q : Page). q.next) (sym at);
       clock = ap (λ (q : Page). q.clock) (sym at);
-      low = subst (λ (q : Page). q.level ≤ MOST_LEVEL) (sym at) is.fits.level;
-      prev_fits = subst (λ (q : Page). q.prev < 2 ^ 32) (sym at) is.fits.prev;
-      next_fits = subst (λ (q : Page). q.next < 2 ^ 32) (sym at) is.fits.next;
-      few = subst (λ (q : Page). length q.records ≤ MOST_RECORDS) (sym at) is.fits.few;
-      size = is.size;
+      low = subst (λ (q : Page). q.level ≤ MOST_LEVEL) (sym at) is.shape.fits.level;
+      prev_fits = subst (λ (q : Page). q.prev < 2 ^ 32) (sym at) is.shape.fits.prev;
+      next_fits = subst (λ (q : Page). q.next < 2 ^ 32) (sym at) is.shape.fits.next;
+      few = subst (λ (q : Page). length q.records ≤ MOST_RECORDS) (sym at) is.shape.fits.few;
+      size = is.shape.size;
     }
 
 header-free_page_words : (clock : ℕ) → (get_or (free_page_words clock) 1 0 ≡ 0) × (get_or (free_page_words clock) 2 0 ≡ 0)
@@ -156,7 +156,7 @@ first-free_page_words clock = refl
 
 pub kind_read : (ws : List ℕ) → HoldsPage (page_of ws) → (HoldsTree (page_of ws) × (get_or ws 0 0 ≡ 1)) ⊎ (HasFree ws × (get_or ws 0 0 ≡ 0))
 kind_read ws holds = elim (kinds_of ws) [
-  | tree h ↦ inl (subst HoldsTree (sym h.holds) tt, h.is.kind)
+  | tree h ↦ inl (subst HoldsTree (sym h.holds) tt, h.is.shape.kind)
   | free h ↦ inr (h, ap (λ (xs : List ℕ). get_or xs 0 0) h.words ∙ first-free_page_words h.clock)
   | neither is ↦ absurd (subst HoldsPage is holds)
 ]
@@ -177,7 +177,7 @@ formed-free ws is = subst HoldsPage (sym (ap page_of is ∙ page_of-free_page_wo
 
 pub free-formed : (ws : List ℕ) → get_or ws 0 0 ≢ 1 → HoldsPage (page_of ws) → ws ≡ free_page_words (get_or ws 5 0)
 free-formed ws other holds = elim (kinds_of ws) [
-  | tree h ↦ absurd (other h.is.kind)
+  | tree h ↦ absurd (other h.is.shape.kind)
   | free h ↦ (let clock : h.clock ≡ get_or ws 5 0 = sym (ap (λ (xs : List ℕ). get_or xs 5 0) h.words ∙ (header-free_page_words h.clock).4) in h.words ∙ ap free_page_words clock)
   | neither is ↦ absurd (subst HoldsPage is holds)
 ]

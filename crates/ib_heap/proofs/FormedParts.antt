@@ -38,51 +38,51 @@ module _ (ws : List ℕ) (k : IsHeap ws (read_heap ws)) where
   h = read_heap ws
 
   low : first_of h.nodes < 256
-  low = elim (first-in (used_offsets h) h.nodes 0 k.few (AreOffsets-left _ _ _ k.offsets) (omega arith)) [ inl e ↦ (let f = e.0 in omega arith) | inr e ↦ (let f = e.1.0 in omega arith) ]
+  low = elim (first-in (used_offsets h) h.nodes 0 k.shape.few (AreOffsets-left _ _ _ k.shape.offsets) (omega arith)) [ inl e ↦ (let f = e.0 in omega arith) | inr e ↦ (let f = e.1.0 in omega arith) ]
 
   pub header-of : HasHeader ws
   header-of =
-      let t = k.top in let c = k.count in let f = k.few in let s = k.start in let l = low in let w = last-word ws h.nodes h.last k.chained in
-      (k.kind, (omega arith, (omega arith, (omega arith, (omega arith, (omega arith, (omega arith, (omega arith, k.directory.0))))))))
+      let t = k.shape.top in let c = k.shape.count in let f = k.shape.few in let s = k.shape.start in let l = low in let w = last-word ws h.nodes h.last k.shape.chained in
+      (k.shape.kind, (omega arith, (omega arith, (omega arith, (omega arith, (omega arith, (omega arith, (omega arith, k.shape.directory.0))))))))
 
   used-is : used_offsets h ≡ (get_or ws 7 0 % 256 - 20) / 4
-  used-is = let t = k.top in let f = k.few in omega arith
+  used-is = let t = k.shape.top in let f = k.shape.few in omega arith
 
   pub end-of : end_from ws (get_or ws 2 0) (get_or ws 18 0 % 256) ≡ 19
-  end-of = chained-end ws (get_or ws 2 0) (get_or ws 18 0 % 256) h.last k.chained (let s = k.start in let l = low in omega arith)
+  end-of = chained-end ws (get_or ws 2 0) (get_or ws 18 0 % 256) h.last k.shape.chained (let s = k.shape.start in let l = low in omega arith)
 
   pub list-of : free_end ws ((get_or ws 7 0 % 256 - 20) / 4 - get_or ws 2 0) (get_or ws 6 0) ≡ 0
-  list-of = freed-end ws ((get_or ws 7 0 % 256 - 20) / 4 - get_or ws 2 0) (get_or ws 6 0) k.freed k.front
+  list-of = freed-end ws ((get_or ws 7 0 % 256 - 20) / 4 - get_or ws 2 0) (get_or ws 6 0) k.shape.freed k.shape.front
 
   pub owned-of : is_owned 0 h.nodes h.last ≡ true
   owned-of = (Owned-Decides 0 h.nodes h.last).1 k.owned
 
   pub directory-of : is_directory ws 9 9 (owners h.nodes) ≡ true
-  directory-of = (Directory-Decides ws 9 9 (owners h.nodes)).1 k.directory.1
+  directory-of = (Directory-Decides ws 9 9 (owners h.nodes)).1 k.shape.directory.1
 
   pub limits-of : HasLimits (get_or ws 1 0) (get_or ws 3 0) (get_or ws 4 0)
-  limits-of = let f = k.fits in (f.level, f.prev, f.next, elim (cases_eq (get_or ws 1 0) 0) [ inl e ↦ inl e | inr ne ↦ inr (f.no_prev (omega (arith, ne)), f.no_next (omega (arith, ne))) ])
+  limits-of = let f = k.shape.fits in (f.level, f.prev, f.next, elim (cases_eq (get_or ws 1 0) 0) [ inl e ↦ inl e | inr ne ↦ inr (f.no_prev (omega (arith, ne)), f.no_next (omega (arith, ne))) ])
 
   pub slots-of : HasSlots ws
   slots-of =
-      let t = k.top in let f = k.few in
-      let d = directory-few ws 10 8 (18 ∷ owners h.nodes) k.directory in
+      let t = k.shape.top in let f = k.shape.few in
+      let d = directory-few ws 10 8 (18 ∷ owners h.nodes) k.shape.directory in
       let s = owners-some h.nodes in
       let e : get_or ws 7 0 / 256 ≡ 1 + length (owners h.nodes) = omega arith in
-      (omega arith, (omega arith, ap (λ i. get_or ws i 0) (let g : 7 + get_or ws 7 0 / 256 ≡ 8 + length (owners h.nodes) = omega arith in g) ∙ (directory-at ws 10 8 (18 ∷ owners h.nodes) (length (owners h.nodes)) k.directory (omega arith) ∙ owner-last 18 h.nodes)))
+      (omega arith, (omega arith, ap (λ i. get_or ws i 0) (let g : 7 + get_or ws 7 0 / 256 ≡ 8 + length (owners h.nodes) = omega arith in g) ∙ (directory-at ws 10 8 (18 ∷ owners h.nodes) (length (owners h.nodes)) k.shape.directory (omega arith) ∙ owner-last 18 h.nodes)))
 
   pub rises-of : rises 0 (records_in ws h.nodes) end_rank ≡ true
-  rises-of = (rises-Decides 0 (records_in ws h.nodes) end_rank).1 k.fits.ascends
+  rises-of = (rises-Decides 0 (records_in ws h.nodes) end_rank).1 k.shape.fits.ascends
 
   holds-of : chain_holds ws (get_or ws 2 0) (first_step ws) ≡ true
-  holds-of = and_from _ _ (eq-eqb _ _ end-of) (and_from _ _ owned-of (and_from _ _ directory-of (and_from _ _ k.keyed rises-of)))
+  holds-of = and_from _ _ (eq-eqb _ _ end-of) (and_from _ _ owned-of (and_from _ _ directory-of (and_from _ _ k.shape.keyed rises-of)))
 
   new-of : (met : List ℕ) → IsUnmet met → are_new ((get_or ws 7 0 % 256 - 20) / 4) met (offsets_of h.nodes ++ h.free) ≡ true
   new-of met unmet =
-      let few : used_offsets h ≤ 35 = k.few in
+      let few : used_offsets h ≤ 35 = k.shape.few in
       subst (λ (n : ℕ). are_new n met (offsets_of h.nodes ++ h.free) ≡ true) used-is
-      (few-new (used_offsets h) met (offsets_of h.nodes ++ h.free) few unmet.size k.offsets
-      (λ r lt. let z = unmet.none r (omega arith) in let o = once-few (used_offsets h) (offsets_of h.nodes ++ h.free) k.once r lt in omega arith))
+      (few-new (used_offsets h) met (offsets_of h.nodes ++ h.free) few unmet.size k.shape.offsets
+      (λ r lt. let z = unmet.none r (omega arith) in let o = once-few (used_offsets h) (offsets_of h.nodes ++ h.free) k.shape.once r lt in omega arith))
 
   new-parts : (met : List ℕ) → IsUnmet met → (are_new ((get_or ws 7 0 % 256 - 20) / 4) met (offsets_of h.nodes) ≡ true) × (are_new ((get_or ws 7 0 % 256 - 20) / 4) (met_with met (offsets_of h.nodes)) h.free ≡ true)
   new-parts met unmet = and_parts (are_new ((get_or ws 7 0 % 256 - 20) / 4) met (offsets_of h.nodes)) (are_new ((get_or ws 7 0 % 256 - 20) / 4) (met_with met (offsets_of h.nodes)) h.free)
@@ -139,19 +139,21 @@ formed-from ws met unmet size hd lm sl chain rest =
     let lr = length-records ws g.nodes in
     let st = ch.1 in
     record {
-      size = size;
-      kind = hd.0;
-      count = sym ln;
-      fits = record { level = lm.0; prev = lm.1; next = lm.2; no_prev = λ p. elim lm.3 [ inl z ↦ absurd (omega arith) | inr z ↦ z.0 ]; no_next = λ p. elim lm.3 [ inl z ↦ absurd (omega arith) | inr z ↦ z.1 ]; few = omega arith; ascends = (rises-Decides 0 (records_in ws g.nodes) end_rank).0 c3.1 };
-      front = fr.1;
-      top = omega arith;
-      few = omega arith;
-      start = omega arith;
-      chained = ch.0;
-      freed = fr.0;
+      shape = record {
+        size = size;
+        kind = hd.0;
+        count = sym ln;
+        fits = record { level = lm.0; prev = lm.1; next = lm.2; no_prev = λ p. elim lm.3 [ inl z ↦ absurd (omega arith) | inr z ↦ z.0 ]; no_next = λ p. elim lm.3 [ inl z ↦ absurd (omega arith) | inr z ↦ z.1 ]; few = omega arith; ascends = (rises-Decides 0 (records_in ws g.nodes) end_rank).0 c3.1 };
+        front = fr.1;
+        top = omega arith;
+        few = omega arith;
+        start = omega arith;
+        chained = ch.0;
+        freed = fr.0;
+        directory = dir;
+        offsets = subst (λ (n : ℕ). AreOffsets n (offsets_of g.nodes ++ g.free)) us pl;
+        once = subst (λ (n : ℕ). EachOnce n (offsets_of g.nodes ++ g.free)) us once;
+        keyed = c3.0;
+      };
       owned = (Owned-Decides 0 g.nodes g.last).0 c1.0;
-      directory = dir;
-      offsets = subst (λ (n : ℕ). AreOffsets n (offsets_of g.nodes ++ g.free)) us pl;
-      once = subst (λ (n : ℕ). EachOnce n (offsets_of g.nodes ++ g.free)) us once;
-      keyed = c3.0;
     }

@@ -34,7 +34,7 @@ module _ (ws vs : List ℕ) (h : Heap) (is : IsHeap ws h) (size : length vs ≡ 
   ])
 
   known : Offsets h
-  known = offsets-known h is.offsets is.once
+  known = offsets-known h is.shape.offsets is.shape.once
 
   same-records : (q : ℕ) → 0 < times q (offsets_of h.nodes) → SameRecord ws vs q
   same-records q m = let l = known.apart.above q m in record { first = far (q + 1) (inl (omega arith)); second = far (q + 2) (inl (omega arith)); value = far (q + 3) (inl (omega arith)) }
@@ -44,21 +44,23 @@ module _ (ws vs : List ℕ) (h : Heap) (is : IsHeap ws h) (size : length vs ≡ 
 
   pub header-heap : IsPage (page_with vs (records_in ws h.nodes)) → IsHeap vs h
   header-heap fits = record {
-    size = size;
-    kind = far 0 (inr (inl refl)) ∙ is.kind;
-    count = far 2 (inr (inr refl)) ∙ is.count;
-    fits = subst (λ (rs : Pairs). IsPage (page_with vs rs)) (sym records) fits;
-    front = far 6 (inl (omega arith)) ∙ is.front;
-    top = far 7 (inl (omega arith)) ∙ is.top;
-    few = is.few;
-    start = far 18 (inl (omega arith)) ∙ is.start;
-    chained = chain-same ws vs h.nodes h.last is.chained (λ q m. far q (inl (elim m [ inl l ↦ (let g = known.apart.above q l in omega arith) | inr e ↦ omega arith ])));
-    freed = freed-same ws vs h.free is.freed (λ q m. far q (inl (let p = known.offset q (omega arith) in let a = p.is in omega arith)));
+    shape = record {
+      size = size;
+      kind = far 0 (inr (inl refl)) ∙ is.shape.kind;
+      count = far 2 (inr (inr refl)) ∙ is.shape.count;
+      fits = subst (λ (rs : Pairs). IsPage (page_with vs rs)) (sym records) fits;
+      front = far 6 (inl (omega arith)) ∙ is.shape.front;
+      top = far 7 (inl (omega arith)) ∙ is.shape.top;
+      few = is.shape.few;
+      start = far 18 (inl (omega arith)) ∙ is.shape.start;
+      chained = chain-same ws vs h.nodes h.last is.shape.chained (λ q m. far q (inl (elim m [ inl l ↦ (let g = known.apart.above q l in omega arith) | inr e ↦ omega arith ])));
+      freed = freed-same ws vs h.free is.shape.freed (λ q m. far q (inl (let p = known.offset q (omega arith) in let a = p.is in omega arith)));
+      directory = directory-same ws vs 10 8 (18 ∷ owners h.nodes) is.shape.directory (λ j a b. far j (inl (omega arith)));
+      offsets = is.shape.offsets;
+      once = is.shape.once;
+      keyed = keys-same ws vs h.nodes same-records ∙ is.shape.keyed;
+    };
     owned = is.owned;
-    directory = directory-same ws vs 10 8 (18 ∷ owners h.nodes) is.directory (λ j a b. far j (inl (omega arith)));
-    offsets = is.offsets;
-    once = is.once;
-    keyed = keys-same ws vs h.nodes same-records ∙ is.keyed;
   }
 
   pub header-page : IsPage (page_with vs (records_in ws h.nodes)) → page_of vs ≡ Tree (page_with vs (records_in ws h.nodes))
@@ -85,10 +87,10 @@ pub links-set : (ws : List ℕ) (prev next : ℕ) → HoldsTree (page_of ws) →
     → Headered ws (set (set ws 3 prev) 4 next) (with_links prev next (page_of ws))
 links-set ws prev next holds p n no_prev no_next =
     let h = heap_in ws holds in
-    let size = h.is.size in
+    let size = h.is.shape.size in
     let vs = set (set ws 3 prev) 4 next in
     let level : level_of ws ≡ get_or ws 1 0 = ap (λ v. (page_in v).level) h.holds in
-    let f = h.is.fits in
+    let f = h.is.shape.fits in
     let first : get_or vs 3 0 ≡ prev = get_or-set_other (set ws 3 prev) 4 3 next 0 (λ e. omega arith) ∙ get_or-set_same ws 3 prev 0 (omega arith) in
     let second : get_or vs 4 0 ≡ next = get_or-set_same (set ws 3 prev) 4 next 0 (simp length-set (omega arith)) in
     let other : (i : ℕ) → i ≢ 3 → i ≢ 4 → get_or vs i 0 ≡ get_or ws i 0 = λ i a b. get_or-set_other (set ws 3 prev) 4 i next 0 b ∙ get_or-set_other ws 3 i prev 0 a in
@@ -100,11 +102,11 @@ links-set ws prev next holds p n no_prev no_next =
 pub level-set : (ws : List ℕ) (level : ℕ) → HoldsTree (page_of ws) → level ≤ MOST_LEVEL → (0 < level → prev_of ws ≡ 0) → (0 < level → next_of ws ≡ 0) → Headered ws (set ws 1 level) (with_level level (page_of ws))
 level-set ws level holds low no_prev no_next =
     let h = heap_in ws holds in
-    let size = h.is.size in
+    let size = h.is.shape.size in
     let vs = set ws 1 level in
     let prev : prev_of ws ≡ get_or ws 3 0 = ap (λ v. (page_in v).prev) h.holds in
     let next : next_of ws ≡ get_or ws 4 0 = ap (λ v. (page_in v).next) h.holds in
-    let f = h.is.fits in
+    let f = h.is.shape.fits in
     let other : (i : ℕ) → i ≢ 1 → get_or vs i 0 ≡ get_or ws i 0 = λ i a. get_or-set_other ws 1 i level 0 a in
     let made = headered ws vs level (get_or ws 3 0) (get_or ws 4 0) (get_or ws 5 0) h (simp length-set (omega arith)) (λ i no. other i (λ e. no (inl e)))
     (get_or-set_same ws 1 level 0 (omega arith)) (other 3 (λ e. omega arith)) (other 4 (λ e. omega arith)) (other 5 (λ e. omega arith))
@@ -113,9 +115,9 @@ level-set ws level holds low no_prev no_next =
 
 clock-tree : (ws : List ℕ) (clock : ℕ) → HasHeap ws → Headered ws (set ws 5 clock) (value_with_clock clock (page_of ws))
 clock-tree ws clock h =
-    let size = h.is.size in
+    let size = h.is.shape.size in
     let vs = set ws 5 clock in
-    let f = h.is.fits in
+    let f = h.is.shape.fits in
     let other : (i : ℕ) → i ≢ 5 → get_or vs i 0 ≡ get_or ws i 0 = λ i a. get_or-set_other ws 5 i clock 0 a in
     let made = headered ws vs (get_or ws 1 0) (get_or ws 3 0) (get_or ws 4 0) clock h (simp length-set (omega arith)) (λ i no. other i (λ e. no (inr (inr (inr e)))))
     (other 1 (λ e. omega arith)) (other 3 (λ e. omega arith)) (other 4 (λ e. omega arith)) (get_or-set_same ws 5 clock 0 (omega arith))

@@ -7,7 +7,7 @@ use Rattle.std.proofs.lemmas.Bool.Decides.{Decides-and, Decides-like, Decides-eq
 use Rattle.ib_map.specs.declared.TheConstants.{PAGE_WORDS}
 use Rattle.ib_heap.specs.Words.{free_page_words}
 use Rattle.ib_heap.specs.Page.{IsPage, HoldsTree}
-use Rattle.ib_heap.specs.Heap.{Node, Heap, first_of, first_free, is_chained, is_freed, is_owned, owners, is_directory, times, is_offset, are_offsets, each_once, offsets_of, records_in, used_offsets, page_with, is_heap, chain_from, free_from, read_heap, are_keys}
+use Rattle.ib_heap.specs.Heap.{Node, Heap, first_of, first_free, is_chained, is_freed, is_owned, owners, is_directory, times, is_offset, are_offsets, each_once, offsets_of, records_in, used_offsets, page_with, is_shaped, is_heap, chain_from, free_from, read_heap, are_keys}
 use Rattle.ib_heap.specs.Form.{page_of}
 use Rattle.ib_heap.specs.Page.PageValue.{Tree}
 use Rattle.ib_heap.proofs.PageLaws.{Decides-leb, Decides-ltb, counts_page-Decides}
@@ -91,8 +91,8 @@ pub EachOnce-Decides : (n : ℕ) (ps : List ℕ) → Decides (each_once n ps) (E
 EachOnce-Decides zero ps = (λ h. tt, λ h. refl)
 EachOnce-Decides (suc n) ps = Decides-and _ _ (Decides-eqb _ _) (EachOnce-Decides n ps)
 
--- words that are a page with this heap
-pub record IsHeap (ws : List ℕ) (h : Heap) : Type 0 where
+-- what a page in heap form is, but for how many records each slot owns
+pub record Shaped (ws : List ℕ) (h : Heap) : Type 0 where
   pub size : length ws ≡ PAGE_WORDS
   pub kind : get_or ws 0 0 ≡ 1
   pub count : get_or ws 2 0 ≡ length h.nodes
@@ -103,14 +103,13 @@ pub record IsHeap (ws : List ℕ) (h : Heap) : Type 0 where
   pub start : get_or ws 18 0 ≡ 256 + first_of h.nodes
   pub chained : Chained ws h.nodes h.last
   pub freed : Freed ws h.free
-  pub owned : Owned 0 h.nodes h.last
   pub directory : Directory ws 10 8 (18 ∷ owners h.nodes)
   pub offsets : AreOffsets (used_offsets h) (offsets_of h.nodes ++ h.free)
   pub once : EachOnce (used_offsets h) (offsets_of h.nodes ++ h.free)
   pub keyed : are_keys ws h.nodes ≡ true
 
-pub IsHeap-Decides : (ws : List ℕ) (h : Heap) → Decides (is_heap ws h) (IsHeap ws h)
-IsHeap-Decides ws h = Decides-like (is_heap ws h)
+pub Shaped-Decides : (ws : List ℕ) (h : Heap) → Decides (is_shaped ws h) (Shaped ws h)
+Shaped-Decides ws h = Decides-like (is_shaped ws h)
     (λ k. record {
       size = k.0;
       kind = k.1.0;
@@ -122,18 +121,25 @@ IsHeap-Decides ws h = Decides-like (is_heap ws h)
       start = k.1.1.1.1.1.1.1.0;
       chained = k.1.1.1.1.1.1.1.1.0;
       freed = k.1.1.1.1.1.1.1.1.1.0;
-      owned = k.1.1.1.1.1.1.1.1.1.1.0;
-      directory = k.1.1.1.1.1.1.1.1.1.1.1.0;
-      offsets = k.1.1.1.1.1.1.1.1.1.1.1.1.0;
-      once = k.1.1.1.1.1.1.1.1.1.1.1.1.1.0;
-      keyed = k.1.1.1.1.1.1.1.1.1.1.1.1.1.1;
+      directory = k.1.1.1.1.1.1.1.1.1.1.0;
+      offsets = k.1.1.1.1.1.1.1.1.1.1.1.0;
+      once = k.1.1.1.1.1.1.1.1.1.1.1.1.0;
+      keyed = k.1.1.1.1.1.1.1.1.1.1.1.1.1;
     })
-    (λ k. (k.size, (k.kind, (k.count, (k.fits, (k.front, (k.top, (k.few, (k.start, (k.chained, (k.freed, (k.owned, (k.directory, (k.offsets, (k.once, k.keyed)))))))))))))))
+    (λ k. (k.size, (k.kind, (k.count, (k.fits, (k.front, (k.top, (k.few, (k.start, (k.chained, (k.freed, (k.directory, (k.offsets, (k.once, k.keyed))))))))))))))
     (Decides-and _ _ (Decides-eqb _ _) (Decides-and _ _ (Decides-eqb _ _) (Decides-and _ _ (Decides-eqb _ _) (Decides-and _ _ (counts_page-Decides _)
     (Decides-and _ _ (Decides-eqb _ _) (Decides-and _ _ (Decides-eqb _ _) (Decides-and _ _ (Decides-leb _ _) (Decides-and _ _ (Decides-eqb _ _)
-    (Decides-and _ _ (Chained-Decides ws h.nodes h.last) (Decides-and _ _ (Freed-Decides ws h.free) (Decides-and _ _ (Owned-Decides 0 h.nodes h.last)
+    (Decides-and _ _ (Chained-Decides ws h.nodes h.last) (Decides-and _ _ (Freed-Decides ws h.free)
     (Decides-and _ _ (Directory-Decides ws 10 8 (18 ∷ owners h.nodes)) (Decides-and _ _ (AreOffsets-Decides _ _) (Decides-and _ _ (EachOnce-Decides _ _)
-    (λ yes. yes, λ yes. yes)))))))))))))))
+    (λ yes. yes, λ yes. yes))))))))))))))
+
+-- words that are a page with this heap
+pub record IsHeap (ws : List ℕ) (h : Heap) : Type 0 where
+  pub shape : Shaped ws h
+  pub owned : Owned 0 h.nodes h.last
+
+pub IsHeap-Decides : (ws : List ℕ) (h : Heap) → Decides (is_heap ws h) (IsHeap ws h)
+IsHeap-Decides ws h = Decides-like (is_heap ws h) (λ k. record { shape = k.0; owned = k.1 }) (λ k. (k.shape, k.owned)) (Decides-and _ _ (Shaped-Decides ws h) (Owned-Decides 0 h.nodes h.last))
 
 -- offsets of two lists
 pub AreOffsets-left : (n : ℕ) (ps qs : List ℕ) → AreOffsets n (ps ++ qs) → AreOffsets n ps
@@ -171,19 +177,19 @@ free-read ws (p ∷ ps) h = ap (λ k. p ∷ free_from ws (length ps) k) h.0 ∙ 
 
 pub heap-read : (ws : List ℕ) (h : Heap) → IsHeap ws h → read_heap ws ≡ h
 heap-read ws h k =
-    let few = k.few in
-    let top = k.top in
-    let count = k.count in
-    let start = k.start in
-    let nodes_offsets = AreOffsets-left (used_offsets h) (offsets_of h.nodes) h.free k.offsets in
+    let few = k.shape.few in
+    let top = k.shape.top in
+    let count = k.shape.count in
+    let start = k.shape.start in
+    let nodes_offsets = AreOffsets-left (used_offsets h) (offsets_of h.nodes) h.free k.shape.offsets in
     let low = first-low (used_offsets h) h.nodes few nodes_offsets in
     let first : get_or ws 18 0 % 256 ≡ first_of h.nodes = omega arith in
     let nodes : chain_from ws (get_or ws 2 0) (get_or ws 18 0 % 256) ≡ h.nodes =
-    ap (λ n. chain_from ws n (get_or ws 18 0 % 256)) count ∙ (ap (λ n. chain_from ws (length h.nodes) n) first ∙ chain-read ws (used_offsets h) h.nodes h.last few nodes_offsets k.chained) in
-    let last : get_or ws 19 0 / 256 ≡ h.last = let e = last-word ws h.nodes h.last k.chained in omega arith in
+    ap (λ n. chain_from ws n (get_or ws 18 0 % 256)) count ∙ (ap (λ n. chain_from ws (length h.nodes) n) first ∙ chain-read ws (used_offsets h) h.nodes h.last few nodes_offsets k.shape.chained) in
+    let last : get_or ws 19 0 / 256 ≡ h.last = let e = last-word ws h.nodes h.last k.shape.chained in omega arith in
     let long : (get_or ws 7 0 % 256 - 20) / 4 - get_or ws 2 0 ≡ length h.free = omega arith in
     let free : free_from ws ((get_or ws 7 0 % 256 - 20) / 4 - get_or ws 2 0) (get_or ws 6 0) ≡ h.free =
-    ap (λ n. free_from ws n (get_or ws 6 0)) long ∙ (ap (λ n. free_from ws (length h.free) n) k.front ∙ free-read ws h.free k.freed) in
+    ap (λ n. free_from ws n (get_or ws 6 0)) long ∙ (ap (λ n. free_from ws (length h.free) n) k.shape.front ∙ free-read ws h.free k.shape.freed) in
     ap (λ (xs : List Node). let g : Heap = record { nodes = xs; last = get_or ws 19 0 / 256; free = free_from ws ((get_or ws 7 0 % 256 - 20) / 4 - get_or ws 2 0) (get_or ws 6 0) } in g) nodes
     ∙ (ap (λ (n : ℕ). let g : Heap = record { nodes = h.nodes; last = n; free = free_from ws ((get_or ws 7 0 % 256 - 20) / 4 - get_or ws 2 0) (get_or ws 6 0) } in g) last
     ∙ ap (λ (ps : List ℕ). let g : Heap = record { nodes = h.nodes; last = h.last; free = ps } in g) free)

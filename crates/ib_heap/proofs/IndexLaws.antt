@@ -41,8 +41,8 @@ index-step ws j kn lt =
     let le = up_to-le j xs in
     let within : InSlot j (up_to j xs) xs = (omega arith, (inl (omega arith), omega arith)) in
     let slots = kn.slots in
-    let offset : get_or ws (8 + suc j) 0 ≡ owner_from (drop (up_to j xs) xs) = directory-at ws 10 8 (18 ∷ owners xs) (suc j) kn.is.directory (omega arith) ∙ owner-slot 18 j (up_to j xs) xs within le in
-    let o = owner-word ws (used_offsets (read_heap ws)) (up_to j xs) xs last kn.few kn.offsets kn.is.chained le in
+    let offset : get_or ws (8 + suc j) 0 ≡ owner_from (drop (up_to j xs) xs) = directory-at ws 10 8 (18 ∷ owners xs) (suc j) kn.is.shape.directory (omega arith) ∙ owner-slot 18 j (up_to j xs) xs within le in
+    let o = owner-word ws (used_offsets (read_heap ws)) (up_to j xs) xs last kn.few kn.offsets kn.is.shape.chained le in
     let i = o.is in let l = o.low in
     let word : get_or ws (get_or ws (8 + suc j) 0) 0 ≡ get_or ws (owner_from (drop (up_to j xs) xs)) 0 = ap (λ n. get_or ws n 0) offset in
     omega arith

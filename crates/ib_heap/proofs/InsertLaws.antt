@@ -15,7 +15,8 @@ use Rattle.ib_heap.proofs.SeekLaws.{Known, known}
 use Rattle.ib_heap.proofs.PutPage.{owner_is, shaped1, page1, over1, within, within1, wanted, k_le, owner-drop, own-apart, kept1, heap1, Steps}
 use Rattle.ib_heap.proofs.PutLaws.{OverAt}
 use Rattle.ib_heap.proofs.SplitLaws.{InSlot}
-use Rattle.ib_heap.proofs.ShapeLaws.{Shaped, Gives, Written}
+use Rattle.ib_heap.proofs.HeapLaws.{Shaped}
+use Rattle.ib_heap.proofs.ShapeLaws.{Gives, Written}
 use Rattle.ib_heap.proofs.SplitPage.{used-split}
 use Rattle.ib_heap.proofs.PutSteps.{gv, before-range, owner-range, apart-all, at-le, before-low, owner-low, count-low, written, plain, full-nine, walked, top-is, room, two-apart, middle-low, split-done, split-heap-is, split-kept, plain-heap, plain-read}
 use Rattle.ib_heap.proofs.PutHeap.{put-in-split}

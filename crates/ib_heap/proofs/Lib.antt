@@ -4,6 +4,8 @@ pub mod HeapLaws
 mod WorkedRows
 pub mod SeekLaws
 pub mod FindLaws
+pub mod WithinLaws
+pub mod StandingLaws
 pub mod OrderLaws
 pub mod FormLaws
 pub mod FreeLaws
@@ -30,7 +32,6 @@ pub mod UnlinkLaws
 pub mod BalanceLaws
 pub mod RemoveShape
 pub mod SlotLaws
-pub mod ShapedDecides
 pub mod KeptLaws
 pub mod UnlinkSteps
 pub mod BalanceSteps

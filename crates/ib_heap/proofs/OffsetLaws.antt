@@ -37,7 +37,7 @@ top-offset n nodes last [] p offsets at is = record { offset = is; front = refl;
 top-offset n nodes last (q ∷ qs) p offsets at is = absurd (let a = offsets.0.is in let b : q ≡ 0 = at in omega arith)
 
 pub known-free : (ws : List ℕ) → Known ws → (get_or ws 6 0 ≡ 0 → ⊥) → FreeOffset ws (read_heap ws) (get_or ws 6 0)
-known-free ws k some = free-offset ws (nodes_of ws) (read_heap ws).last (read_heap ws).free _ k.is.freed (AreOffsets-right _ _ _ k.is.offsets) k.few k.is.front some
+known-free ws k some = free-offset ws (nodes_of ws) (read_heap ws).last (read_heap ws).free _ k.is.shape.freed (AreOffsets-right _ _ _ k.is.shape.offsets) k.few k.is.shape.front some
 
 pub known-top : (ws : List ℕ) → Known ws → get_or ws 6 0 ≡ 0 → TopOffset (read_heap ws) (get_or ws 7 0 % 256)
-known-top ws k none = top-offset _ (nodes_of ws) (read_heap ws).last (read_heap ws).free _ (AreOffsets-right _ _ _ k.is.offsets) (sym k.is.front ∙ none) (let t = k.is.top in let f = k.few in omega arith)
+known-top ws k none = top-offset _ (nodes_of ws) (read_heap ws).last (read_heap ws).free _ (AreOffsets-right _ _ _ k.is.shape.offsets) (sym k.is.shape.front ∙ none) (let t = k.is.shape.top in let f = k.few in omega arith)

@@ -11,14 +11,14 @@ use Rattle.ib_heap.specs.Image.{value_with_records, records_of}
 use Rattle.ib_heap.specs.Put.{owned_by, owner_from, own_one_more, put_node, put_last, rest_of}
 use Rattle.ib_heap.specs.Page.PageValue.{Tree}
 use Rattle.ib_heap.specs.Steps.{IsOffsetOfKey}
-use Rattle.ib_heap.proofs.HeapLaws.{Chained, Owned, AreOffsets, AreOffsets-left, IsOffset, page-from}
+use Rattle.ib_heap.proofs.HeapLaws.{Chained, Owned, AreOffsets, AreOffsets-left, IsOffset, page-from, Shaped}
 use Rattle.ib_heap.proofs.SeekLaws.{Known, directory-at, owner-at, link-at, last-first, last-in, first-in}
 use Rattle.ib_heap.proofs.PutLaws.{one-same, OverAt, Over, over-put, over_at-room, owner-in, times-drop, Apart, apart-owner, apart-rest, owners-put, length-put, times-put, times-apart}
 use Rattle.ib_heap.specs.Kept.{IsKept, IsOutside}
 use Rattle.ib_heap.proofs.KeptLaws.{kept-fixed, kept-offset, outside-other}
 use Rattle.ib_heap.proofs.SplitLaws.{InSlot, owner-slot, slot-put}
 use Rattle.ib_heap.proofs.SplitShape.{Group, group}
-use Rattle.ib_heap.proofs.ShapeLaws.{Shaped, heap-shaped, offsets-known, Gives, Written, put_heap}
+use Rattle.ib_heap.proofs.ShapeLaws.{offsets-known, Gives, Written, put_heap}
 use Rattle.ib_heap.proofs.PutShape.{NewOffset, new-offset, before-in, put-shaped, put-page, low-node}
 
 -- the slot of an offset, by its number
@@ -149,15 +149,15 @@ module _ (ws : List ℕ) (key : MapKey) (slot before at p : ℕ) (kn : Known ws)
   within = in-slot slot k nodes st.some st.in_range st.low st.high
 
   pub apart : Apart nodes
-  apart = (offsets-known (read_heap ws) kn.is.offsets kn.is.once).apart
+  apart = (offsets-known (read_heap ws) kn.is.shape.offsets kn.is.shape.once).apart
 
   new : NewOffset (read_heap ws) p (rest_of (read_heap ws).free)
-  new = new-offset (read_heap ws) p (rest_of (read_heap ws).free) (offsets-known (read_heap ws) kn.is.offsets kn.is.once) kn.few gives
+  new = new-offset (read_heap ws) p (rest_of (read_heap ws).free) (offsets-known (read_heap ws) kn.is.shape.offsets kn.is.shape.once) kn.few gives
 
   pub owner_is : owner ≡ owner_from (drop k nodes)
   owner_is =
       let s = kn.slots in let r = st.in_range in let z = st.some in
-      directory-at ws 10 8 (18 ∷ owners nodes) slot kn.is.directory (omega arith)
+      directory-at ws 10 8 (18 ∷ owners nodes) slot kn.is.shape.directory (omega arith)
       ∙ (ap (λ i. get_or (18 ∷ owners nodes) i 0) (let e : slot ≡ suc (slot - 1) = omega arith in e) ∙ owner-slot 18 (slot - 1) k nodes within k_le)
 
   p_offset : IsOffset (length nodes + 1 + length (rest_of (read_heap ws).free)) p
@@ -188,11 +188,11 @@ module _ (ws : List ℕ) (key : MapKey) (slot before at p : ℕ) (kn : Known ws)
   two z = neighbours-apart k nodes apart k_le (sym st.before_is ∙ (z ∙ owner_is))
 
   start_word : HeaderWord (get_or ws 18 0) (first_of nodes) 8
-  start_word = let s = kn.is.start in record { owned = 1; is = omega arith; few = omega arith }
+  start_word = let s = kn.is.shape.start in record { owned = 1; is = omega arith; few = omega arith }
 
   pub before_header : HeaderWord (get_or ws before 0) at 8
   before_header =
-      let h = before-word ws 18 0 k nodes (read_heap ws).last start_word kn.is.chained kn.is.owned k_le in
+      let h = before-word ws 18 0 k nodes (read_heap ws).last start_word kn.is.shape.chained kn.is.owned k_le in
       let i = h.is in
       record { owned = h.owned; is = ap (λ n. get_or ws n 0) st.before_is ∙ (h.is ∙ ap (λ n. h.owned * 256 + n) (sym st.at_is)); few = h.few }
 
@@ -201,7 +201,7 @@ module _ (ws : List ℕ) (key : MapKey) (slot before at p : ℕ) (kn : Known ws)
 
   pub owner_header : get_or ws owner 0 < 65536
   owner_header =
-      let o = owner-word ws (used_offsets (read_heap ws)) k nodes (read_heap ws).last kn.few kn.offsets kn.is.chained k_le in
+      let o = owner-word ws (used_offsets (read_heap ws)) k nodes (read_heap ws).last kn.few kn.offsets kn.is.shape.chained k_le in
       let f = owned-few 0 k nodes (read_heap ws).last kn.is.owned in
       let i = o.is in let l = o.low in
       let e : get_or ws owner 0 ≡ get_or ws (owner_from (drop k nodes)) 0 = ap (λ n. get_or ws n 0) owner_is in omega arith
@@ -268,7 +268,7 @@ module _ (ws : List ℕ) (key : MapKey) (slot before at p : ℕ) (kn : Known ws)
     done_plain room =
         let o = owner1 in let i = o.is in let l = o.low in
         let owned : Owned 0 nodes1 last1 = over_at-room k 0 nodes1 last1 over1 (omega arith) in
-        page-from vs heap1 (heap-shaped vs heap1 shaped1 owned) ∙ (ap (λ (q : Page). Tree q) page1 ∙ sym wanted)
+        page-from vs heap1 (record { shape = shaped1; owned = owned }) ∙ (ap (λ (q : Page). Tree q) page1 ∙ sym wanted)
 
     pub nine : (get_or vs owner 0 / 256 ≤ 8 → ⊥) → owned_by (drop k nodes1) last1 ≡ 9
     nine full =
@@ -302,7 +302,7 @@ module _ (ws : List ℕ) (key : MapKey) (slot before at p : ℕ) (kn : Known ws)
     pub first_is : get_or ws (8 + (slot - 1)) 0 ≡ last_from 18 (take (up_to (slot - 1) nodes1) nodes1)
     first_is =
         let s = kn.slots in let r = st.in_range in let z = st.some in
-        directory-at ws 10 8 (18 ∷ owners nodes) (slot - 1) kn.is.directory (omega arith)
+        directory-at ws 10 8 (18 ∷ owners nodes) (slot - 1) kn.is.shape.directory (omega arith)
         ∙ (ap (λ (os : List ℕ). get_or (18 ∷ os) (slot - 1) 0) (sym (owners-put k p nodes k_le)) ∙ owner-at 18 nodes1 (slot - 1) (let b = within1.1.1 in omega arith))
 
     -- four steps from the slot before

@@ -9,11 +9,11 @@ use Rattle.ib_map.proofs.IndexLaws.{insert-index}
 use Rattle.ib_heap.specs.Page.{Page, IsPage}
 use Rattle.ib_heap.specs.Heap.{Node, Heap, first_of, owners, times, offsets_of, records_in, used_offsets, page_with, last_from, nodes_of, read_heap}
 use Rattle.ib_heap.specs.Put.{owner_from, put_node, put_last}
-use Rattle.ib_heap.proofs.HeapLaws.{Chained, Freed, Directory, IsOffset, AreOffsets, EachOnce, IsHeap}
+use Rattle.ib_heap.proofs.HeapLaws.{Chained, Freed, Directory, IsOffset, AreOffsets, EachOnce, IsHeap, Shaped}
 use Rattle.ib_heap.proofs.SeekLaws.{length-records, Known}
 use Rattle.ib_heap.proofs.KeptLaws.{outside-other}
 use Rattle.ib_heap.proofs.PutLaws.{one, one-same, one-other, owners-put, length-put, times-put, times-append, first-put, owner-in, times-drop, last-member, SameAt, chain-put, times-apart}
-use Rattle.ib_heap.proofs.ShapeLaws.{Shaped, Offsets, offsets-known, offsets-from, once-from, freed-same, directory-same, records-put, keys-put, SameRecord, Gives, Written, put_heap, same-page}
+use Rattle.ib_heap.proofs.ShapeLaws.{Offsets, offsets-known, offsets-from, once-from, freed-same, directory-same, records-put, keys-put, SameRecord, Gives, Written, put_heap, same-page}
 
 -- what is known of the offset that a record takes
 pub record NewOffset (h : Heap) (p : ℕ) (free : List ℕ) : Type 0 where
@@ -93,7 +93,7 @@ low-member h known few q m = let pl = known.offset q m in let b = pl.below in re
 
 -- the same of an image of a page
 pub low-node : (ws : List ℕ) → Known ws → (q : ℕ) → 0 < times q (offsets_of (nodes_of ws)) → Low q
-low-node ws kn q m = low-member (read_heap ws) (offsets-known (read_heap ws) kn.is.offsets kn.is.once) kn.few q (omega arith)
+low-node ws kn q m = low-member (read_heap ws) (offsets-known (read_heap ws) kn.is.shape.offsets kn.is.shape.once) kn.few q (omega arith)
 
 -- a word that is the header of no record offset
 abbrev pub Off : ℕ → Type 0
@@ -125,10 +125,10 @@ module _ (ws vs : List ℕ) (h : Heap) (k p : ℕ) (key : MapKey) (value : ℕ) 
   owner = owner_from (drop k h.nodes)
 
   known : Offsets h
-  known = offsets-known h is.offsets is.once
+  known = offsets-known h is.shape.offsets is.shape.once
 
   new : NewOffset h p free
-  new = new-offset h p free known is.few gives
+  new = new-offset h p free known is.shape.few gives
 
   n_few : length h.nodes + 1 + length free ≤ 35
   n_few = new.few lt
@@ -143,10 +143,10 @@ module _ (ws vs : List ℕ) (h : Heap) (k p : ℕ) (key : MapKey) (value : ℕ) 
   owner_is = elim (owner-in (drop k h.nodes)) [ inl e ↦ inl e | inr m ↦ inr (let t = times-drop k owner h.nodes in omega arith) ]
 
   before_low : (before ≡ 18) ⊎ Low before
-  before_low = elim b_in [ inl e ↦ inl e.1 | inr m ↦ inr (low-member h known is.few before (let t = m.1 in omega arith)) ]
+  before_low = elim b_in [ inl e ↦ inl e.1 | inr m ↦ inr (low-member h known is.shape.few before (let t = m.1 in omega arith)) ]
 
   owner_low : (owner ≡ 19) ⊎ Low owner
-  owner_low = elim owner_is [ inl e ↦ inl e | inr m ↦ inr (low-member h known is.few owner (omega arith)) ]
+  owner_low = elim owner_is [ inl e ↦ inl e | inr m ↦ inr (low-member h known is.shape.few owner (omega arith)) ]
 
   not_before : (i : ℕ) → Off i → i ≢ 18 → i ≢ before
   not_before i off ne = elim before_low [ inl e ↦ (λ z. ne (z ∙ e)) | inr l ↦ off-low i before off l ]
@@ -167,7 +167,7 @@ module _ (ws vs : List ℕ) (h : Heap) (k p : ℕ) (key : MapKey) (value : ℕ) 
   -- the word of a key or a value
   kept_word : (q i : ℕ) → 0 < times q (offsets_of h.nodes) → q < i → i ≤ q + 3 → get_or vs i 0 ≡ get_or ws i 0
   kept_word q i m low high =
-      let l = low-member h known is.few q (omega arith) in let a = l.is in let b = l.below in
+      let l = low-member h known is.shape.few q (omega arith) in let a = l.is in let b = l.below in
       let pl = p_low in let pa = pl.is in
       let ne = not_new q m in
       let off : Off i = inr (inr (λ r z. absurd (omega arith))) in
@@ -193,7 +193,7 @@ module _ (ws vs : List ℕ) (h : Heap) (k p : ℕ) (key : MapKey) (value : ℕ) 
 
   new_fits : value_at key (records_in ws h.nodes) ≡ None → rank key < end_rank → IsPage (page_with ws (put key value (records_in ws h.nodes)))
   new_fits none in_range =
-      let f = is.fits in let long = length-records ws h.nodes in let longer = length-put-pairs key value (records_in ws h.nodes) in
+      let f = is.shape.fits in let long = length-records ws h.nodes in let longer = length-put-pairs key value (records_in ws h.nodes) in
       record { level = f.level; prev = f.prev; next = f.next; no_prev = f.no_prev; no_next = f.no_next; few = omega arith; ascends = Rises-put key value 0 (records_in ws h.nodes) end_rank f.ascends (omega arith) in_range none }
 
   times_new : (q : ℕ) → times q (offsets_of (put_node k p h.nodes) ++ free) ≡ one p q + times q (offsets_of h.nodes) + times q free
@@ -205,15 +205,15 @@ module _ (ws vs : List ℕ) (h : Heap) (k p : ℕ) (key : MapKey) (value : ℕ) 
   same_at : SameAt ws vs h.nodes before owner
   same_at q m nb nw =
       let pl = p_low in let pa = pl.is in
-      w.other q (λ z. elim m [ inl n ↦ absurd (let l = low-member h known is.few q (omega arith) in let a = l.is in omega arith) | inr e ↦ absurd (omega arith) ]) (λ z. elim m [ inl n ↦ absurd (let l = low-member h known is.few q (omega arith) in let a = l.is in omega arith) | inr e ↦ absurd (omega arith) ])
-      (λ z. elim m [ inl n ↦ absurd (let l = low-member h known is.few q (omega arith) in let a = l.is in omega arith) | inr e ↦ absurd (omega arith) ])
-      (elim m [ inl n ↦ (let l = low-member h known is.few q (omega arith) in outside-other p q q _ _ pa l.is (not_new q n) (omega arith) (omega arith)) | inr e ↦ inl (omega arith) ]) nb nw
+      w.other q (λ z. elim m [ inl n ↦ absurd (let l = low-member h known is.shape.few q (omega arith) in let a = l.is in omega arith) | inr e ↦ absurd (omega arith) ]) (λ z. elim m [ inl n ↦ absurd (let l = low-member h known is.shape.few q (omega arith) in let a = l.is in omega arith) | inr e ↦ absurd (omega arith) ])
+      (λ z. elim m [ inl n ↦ absurd (let l = low-member h known is.shape.few q (omega arith) in let a = l.is in omega arith) | inr e ↦ absurd (omega arith) ])
+      (elim m [ inl n ↦ (let l = low-member h known is.shape.few q (omega arith) in outside-other p q q _ _ pa l.is (not_new q n) (omega arith) (omega arith)) | inr e ↦ inl (omega arith) ]) nb nw
 
   new_chained : Chained vs (put_node k p h.nodes) (put_last k h.nodes h.last)
-  new_chained = chain-put ws vs 18 k p h.nodes h.last le is.chained known.apart (inl refl) w.offset_word w.link w.raised same_at
+  new_chained = chain-put ws vs 18 k p h.nodes h.last le is.shape.chained known.apart (inl refl) w.offset_word w.link w.raised same_at
 
   old_freed : Freed ws free
-  old_freed = elim gives [ inl e ↦ (subst (λ (ps : List ℕ). Freed ws ps) e is.freed).1 | inr e ↦ subst (λ (ps : List ℕ). Freed ws ps) (sym e.1.1) tt ]
+  old_freed = elim gives [ inl e ↦ (subst (λ (ps : List ℕ). Freed ws ps) e is.shape.freed).1 | inr e ↦ subst (λ (ps : List ℕ). Freed ws ps) (sym e.1.1) tt ]
 
   not_member : (q o : ℕ) → 0 < times q free → 0 < times o (offsets_of h.nodes) → q ≢ o
   not_member q o m mo z = absurd (let t = subst (λ (x : ℕ). 0 < times x (offsets_of h.nodes)) (sym z) mo in let f = new.was_free q in let u = known.once q in omega arith)
@@ -221,7 +221,7 @@ module _ (ws vs : List ℕ) (h : Heap) (k p : ℕ) (key : MapKey) (value : ℕ) 
   free_word : (q : ℕ) → 0 < times q free → get_or vs q 0 ≡ get_or ws q 0
   free_word q m =
       let in_free = new.was_free q in
-      let l = low-member h known is.few q (omega arith) in let a = l.is in
+      let l = low-member h known is.shape.few q (omega arith) in let a = l.is in
       let pl = p_low in let pa = pl.is in
       w.other q (λ z. absurd (omega arith)) (λ z. absurd (omega arith)) (λ z. absurd (omega arith))
       (outside-other p q q _ _ pa a (λ z. times-apart p q free new.not_free m (sym z)) (omega arith) (omega arith))
@@ -233,7 +233,7 @@ module _ (ws vs : List ℕ) (h : Heap) (k p : ℕ) (key : MapKey) (value : ℕ) 
     where
       go : (j : ℕ) → k ≡ j → get_or vs 18 0 ≡ 256 + first_of (put_node k p h.nodes)
       go zero e =
-          let s = is.start in
+          let s = is.shape.start in
           let l = subst (λ (j : ℕ). get_or vs (last_from 18 (take j h.nodes)) 0 + first_of (drop j h.nodes) ≡ get_or ws (last_from 18 (take j h.nodes)) 0 + p) e w.link in
           let m : get_or vs 18 0 + first_of h.nodes ≡ get_or ws 18 0 + p = l in
           let n : get_or vs 18 0 ≡ 256 + p = omega arith in
@@ -241,21 +241,21 @@ module _ (ws vs : List ℕ) (h : Heap) (k p : ℕ) (key : MapKey) (value : ℕ) 
       go (suc j) e =
           let pl = p_low in let pa = pl.is in
           let same : get_or vs 18 0 ≡ get_or ws 18 0 = w.other 18 (λ z. absurd (omega arith)) (λ z. absurd (omega arith)) (λ z. absurd (omega arith)) (inl (omega arith))
-          (elim b_in [ inl f ↦ (λ z. absurd (let g = f.0 in omega arith)) | inr f ↦ (λ z. absurd (let g = low-member h known is.few before (let t = f.1 in omega arith) in let y = g.is in omega arith)) ])
+          (elim b_in [ inl f ↦ (λ z. absurd (let g = f.0 in omega arith)) | inr f ↦ (λ z. absurd (let g = low-member h known is.shape.few before (let t = f.1 in omega arith) in let y = g.is in omega arith)) ])
           (not_owner 18 (inl (omega arith)) (λ z. absurd (omega arith))) in
-          subst (λ (i : ℕ). get_or vs 18 0 ≡ 256 + first_of (put_node i p h.nodes)) (sym e) (same ∙ (is.start ∙ ap (λ n. 256 + n) (sym (first-put j p h.nodes))))
+          subst (λ (i : ℕ). get_or vs 18 0 ≡ 256 + first_of (put_node i p h.nodes)) (sym e) (same ∙ (is.shape.start ∙ ap (λ n. 256 + n) (sym (first-put j p h.nodes))))
 
   new_count : get_or vs 2 0 ≡ length (put_node k p h.nodes)
-  new_count = let longer = length-put k p h.nodes le in let a = w.count in let b = is.count in omega arith
+  new_count = let longer = length-put k p h.nodes le in let a = w.count in let b = is.shape.count in omega arith
 
   new_top : get_or vs 7 0 ≡ (1 + length (owners (put_node k p h.nodes))) * 256 + (20 + 4 * used_offsets (put_heap k p free h))
   new_top =
-      let longer = used_is in let a = w.top in let b = is.top in let m = new.more in
+      let longer = used_is in let a = w.top in let b = is.shape.top in let m = new.more in
       let owners_long : length (owners (put_node k p h.nodes)) ≡ length (owners h.nodes) = ap length (owners-put k p h.nodes le) in omega arith
 
   new_directory : Directory vs 10 8 (18 ∷ owners (put_node k p h.nodes))
   new_directory = subst (λ (os : List ℕ). Directory vs 10 8 (18 ∷ os)) (sym (owners-put k p h.nodes le))
-      (directory-same ws vs 10 8 (18 ∷ owners h.nodes) is.directory (λ j a b. far_word j (λ z. absurd (omega arith)) (λ z. absurd (omega arith)) (λ z. absurd (omega arith)) (inl (omega arith))))
+      (directory-same ws vs 10 8 (18 ∷ owners h.nodes) is.shape.directory (λ j a b. far_word j (λ z. absurd (omega arith)) (λ z. absurd (omega arith)) (λ z. absurd (omega arith)) (inl (omega arith))))
 
   new_offsets : AreOffsets (used_offsets (put_heap k p free h)) (offsets_of (put_node k p h.nodes) ++ free)
   new_offsets = offsets-from (used_offsets (put_heap k p free h)) (offsets_of (put_node k p h.nodes) ++ free) (λ q m. wider _ _ q (new.offset q (let t = times_new q in omega arith)) (let u = used_is in omega arith))
@@ -266,7 +266,7 @@ module _ (ws vs : List ℕ) (h : Heap) (k p : ℕ) (key : MapKey) (value : ℕ) 
   pub put-shaped : k ≡ index_of key (records_in ws h.nodes) → value_at key (records_in ws h.nodes) ≡ None → rank key < end_rank → Shaped vs (put_heap k p free h)
   put-shaped at none in_range = record {
     size = w.size;
-    kind = same_header 0 (inl (omega arith)) ∙ is.kind;
+    kind = same_header 0 (inl (omega arith)) ∙ is.shape.kind;
     count = new_count;
     fits = subst (λ (q : Page). IsPage q) (sym (put-page at)) (new_fits none in_range);
     front = w.front;
@@ -278,5 +278,5 @@ module _ (ws vs : List ℕ) (h : Heap) (k p : ℕ) (key : MapKey) (value : ℕ) 
     directory = new_directory;
     offsets = new_offsets;
     once = new_once;
-    keyed = keys-put ws vs k p h.nodes le kept_words w.is_key is.keyed;
+    keyed = keys-put ws vs k p h.nodes le kept_words w.is_key is.shape.keyed;
   }

@@ -14,13 +14,13 @@ use Rattle.ib_heap.specs.Steps.{IsOffsetOfKey, IsOffsetTaken, IsLinkedIn, IsSlot
 use Rattle.ib_heap.proofs.KeptLaws.{kept-offset, kept-far}
 use Rattle.ib_heap.specs.Page.PageValue.{Tree}
 use Rattle.ib_heap.proofs.PutHeap.{put-in-plain}
-use Rattle.ib_heap.proofs.HeapLaws.{Owned, page-from, heap-read, AreOffsets-left}
+use Rattle.ib_heap.proofs.HeapLaws.{Owned, page-from, heap-read, AreOffsets-left, Shaped}
 use Rattle.ib_heap.proofs.SeekLaws.{Known, directory-at, first-in, node-word}
 use Rattle.ib_heap.proofs.PutLaws.{over_at-room, OverAt, times-append, first-member}
 use Rattle.ib_heap.proofs.SplitLaws.{InSlot, split-owned}
 use Rattle.ib_heap.proofs.SplitShape.{Group, group, slots-room}
 use Rattle.ib_heap.proofs.SplitPage.{SplitWords, split_heap, split-page, split-shaped}
-use Rattle.ib_heap.proofs.ShapeLaws.{Shaped, heap-shaped, Offsets, offsets-known, Gives, Written}
+use Rattle.ib_heap.proofs.ShapeLaws.{Offsets, offsets-known, Gives, Written}
 use Rattle.ib_heap.proofs.PutPage.{done_plain, k, nodes1, last1, owner_is, before_facts, owner_facts, two, before_header, at_low, owner_header, heap1, shaped1, over1, owner1, nine, Steps, steps, middle-apart}
 
 gives-from : (ns : List Node) (last : ℕ) (free : List ℕ) (p : ℕ) → p ≡ offset_for (record { nodes = ns; last = last; free = free }) → Gives (record { nodes = ns; last = last; free = free }) p (rest_of free)
@@ -62,7 +62,7 @@ module _ (ws w1 : List ℕ) (key : MapKey) (slot before at p : ℕ) (kn : Known 
   owner-low = let s = owner-same in let l = owner_header ws key slot before at p kn st few gv in omega arith
 
   pub count-low : get_or w1 2 0 < 65536
-  count-low = let c = kn.is.count in let o = tk.other 2 (λ z. absurd (omega arith)) (λ z. absurd (omega arith)) in omega arith
+  count-low = let c = kn.is.shape.count in let o = tk.other 2 (λ z. absurd (omega arith)) (λ z. absurd (omega arith)) in omega arith
 
   module _ (vs : List ℕ) (value : ℕ) (lk : IsLinkedIn w1 vs before at own p key value) (absent : value_at key (records_of ws) ≡ None) (in_range : rank key < end_rank) where
     pub written : Written ws vs (read_heap ws) (index_of key (records_of ws)) p key value (rest_of (read_heap ws).free)
@@ -71,7 +71,7 @@ module _ (ws w1 : List ℕ) (key : MapKey) (slot before at p : ℕ) (kn : Known 
         let bs = before-same in let os = owner-same in
         let pl = tk.low in
         record {
-          size = lk.size ∙ (tk.size ∙ kn.is.size);
+          size = lk.size ∙ (tk.size ∙ kn.is.shape.size);
           offset_word = lk.offset_word ∙ st.at_is;
           key_word = lk.key_word;
           is_key = lk.is_key;
@@ -94,7 +94,7 @@ module _ (ws w1 : List ℕ) (key : MapKey) (slot before at p : ℕ) (kn : Known 
         let ov = over1 ws key slot before at p kn st few gv vs value written absent in_range in
         let sh = shaped1 ws key slot before at p kn st few gv vs value written absent in_range in
         let owned : Owned 0 (nodes1 ws key slot before at p kn st few gv) (last1 ws key slot before at p kn st few gv) = over_at-room (index_of key (records_of ws)) 0 (nodes1 ws key slot before at p kn st few gv) (last1 ws key slot before at p kn st few gv) ov (omega arith) in
-        heap-read vs (heap1 ws key slot before at p kn st few gv vs value written absent in_range) (heap-shaped vs (heap1 ws key slot before at p kn st few gv vs value written absent in_range) sh owned)
+        heap-read vs (heap1 ws key slot before at p kn st few gv vs value written absent in_range) (record { shape = sh; owned = owned })
 
     pub plain-heap : get_or vs own 0 / 256 ≤ 8 → read_heap vs ≡ put_in (index_of key (records_of ws)) (read_heap ws)
     plain-heap room =
@@ -173,7 +173,7 @@ module _ (vs : List ℕ) (h : Heap) (kk slot own middle : ℕ) (sh : Shaped vs h
       let few1 : length h.nodes ≤ 35 = let f = sh.few in omega arith in
       let shaped2 = split-shaped vs v2 h (slot - 1) kk sh over nn within sw few1 in
       let owned2 : Owned 0 (give_slot tt1 h.nodes) (give_slot_last tt1 h.nodes h.last) = split-owned (slot - 1) kk 0 h.nodes h.last (λ z. refl) over nn within in
-      page-from v2 (split_heap tt1 h) (heap-shaped v2 (split_heap tt1 h) shaped2 owned2) ∙ ap (λ (q : Page). Tree q) (split-page vs v2 h (slot - 1) kk sh over nn within sw few1)
+      page-from v2 (split_heap tt1 h) (record { shape = shaped2; owned = owned2 }) ∙ ap (λ (q : Page). Tree q) (split-page vs v2 h (slot - 1) kk sh over nn within sw few1)
 
   pub split-heap-is : (v2 : List ℕ) → IsSlotSplit vs v2 slot middle own → 18 ≤ own → 18 ≤ middle → read_heap v2 ≡ split_heap tt1 h
   split-heap-is v2 sc ol ml =
@@ -195,4 +195,4 @@ module _ (vs : List ℕ) (h : Heap) (kk slot own middle : ℕ) (sh : Shaped vs h
       let few1 : length h.nodes ≤ 35 = let f = sh.few in omega arith in
       let shaped2 = split-shaped vs v2 h (slot - 1) kk sh over nn within sw few1 in
       let owned2 : Owned 0 (give_slot tt1 h.nodes) (give_slot_last tt1 h.nodes h.last) = split-owned (slot - 1) kk 0 h.nodes h.last (λ z. refl) over nn within in
-      heap-read v2 (split_heap tt1 h) (heap-shaped v2 (split_heap tt1 h) shaped2 owned2)
+      heap-read v2 (split_heap tt1 h) (record { shape = shaped2; owned = owned2 })

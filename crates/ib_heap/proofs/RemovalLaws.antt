@@ -3,11 +3,10 @@ use Rattle.std.proofs.Common.{◌≡◌, ◌≢◌, ℕ, ◌+◌, ◌/◌, ◌%�
 use Rattle.ib_map.specs.Keys.{MapKey}
 use Rattle.ib_map.specs.Pairs.{without, value_at, index_of}
 use Rattle.ib_heap.specs.Page.{HoldsTree}
-use Rattle.ib_heap.specs.Heap.{nodes_of, read_heap, used_offsets, records_in, page_with}
+use Rattle.ib_heap.specs.Heap.{nodes_of, read_heap, used_offsets, records_in, page_with, is_shaped}
 use Rattle.ib_heap.specs.Form.{page_of}
 use Rattle.ib_heap.specs.Image.{records_of, value_with_records}
 use Rattle.ib_heap.specs.Take.{unlink_node, unlink_in, remove_in}
-use Rattle.ib_heap.specs.Shape.{is_shaped}
 use Rattle.ib_heap.specs.Kept.{IsKept}
 use Rattle.ib_heap.specs.Steps.{IsOffsetOfKey, IsHeader, CanUnlink, IsLinkedPast, CanHandOver, IsHandedOver, CanGiveBack, IsGivenBack, CanLend, IsLent, CanJoin, IsSlotJoined}
 use Rattle.ib_heap.proofs.SeekLaws.{Known, known}

@@ -9,13 +9,13 @@ use Rattle.ib_map.specs.declared.TheConstants.{PAGE_WORDS}
 use Rattle.ib_heap.specs.Page.{Page, IsPage}
 use Rattle.ib_heap.specs.Heap.{Node, Heap, first_of, owners, times, offsets_of, records_in, used_offsets, page_with}
 use Rattle.ib_heap.specs.Take.{unlink_node, unlink_last}
-use Rattle.ib_heap.proofs.HeapLaws.{Chained, Directory, IsOffset, AreOffsets, EachOnce, IsHeap}
+use Rattle.ib_heap.proofs.HeapLaws.{Chained, Directory, IsOffset, AreOffsets, EachOnce, IsHeap, Shaped}
 use Rattle.ib_heap.proofs.SeekLaws.{directory-at, directory-few, length-offsets}
 use Rattle.ib_heap.proofs.PutLaws.{times-append}
 use Rattle.ib_heap.proofs.SplitLaws.{first-offsets}
 use Rattle.ib_heap.proofs.SplitShape.{directory-from}
 use Rattle.ib_heap.proofs.PutShape.{low-member, off-none, kept-pair}
-use Rattle.ib_heap.proofs.ShapeLaws.{Shaped, Offsets, offsets-known, offsets-from, once-from, freed-same, records-same, records-offsets, same-page, SameRecord, keys-same, keys-offsets}
+use Rattle.ib_heap.proofs.ShapeLaws.{Offsets, offsets-known, offsets-from, once-from, freed-same, records-same, records-offsets, same-page, SameRecord, keys-same, keys-offsets}
 use Rattle.ib_heap.proofs.UnlinkLaws.{length-unlink, times-unlink, records-unlink, SetAt, keys-unlink}
 use Rattle.ib_heap.proofs.BalanceLaws.{GoneAt}
 
@@ -104,16 +104,16 @@ module _ (ws vs : List ℕ) (h : Heap) (k : ℕ) (key : MapKey) (value : ℕ) (i
   at = first_of (drop k h.nodes)
 
   known_before : Offsets h
-  known_before = offsets-known h is.offsets is.once
+  known_before = offsets-known h is.shape.offsets is.shape.once
 
   kept_header : (i : ℕ) → i < 8 → i ≢ 2 → i ≢ 6 → get_or vs i 0 ≡ get_or ws i 0
-  kept_header i l two six = w.other i two six (inl l) (off-none h known_before is.few i (inl (omega arith))) (λ z. absurd (omega arith))
+  kept_header i l two six = w.other i two six (inl l) (off-none h known_before is.shape.few i (inl (omega arith))) (λ z. absurd (omega arith))
 
   times_in : (q : ℕ) → times q (offsets_of (unlink_node k h.nodes)) ≤ times q (offsets_of h.nodes)
   times_in q = let t = times-unlink k q h.nodes lt in omega arith
 
   same-records : (q : ℕ) → 0 < times q (offsets_of (unlink_node k h.nodes)) → SameRecord ws vs q
-  same-records q m = let t = times_in q in kept-pair ws vs h known_before is.few (λ i high off. w.other i (λ z. absurd (omega arith)) (λ z. absurd (omega arith)) (inr (omega arith)) (off-none h known_before is.few i off) (λ z. absurd (omega arith))) q (omega arith)
+  same-records q m = let t = times_in q in kept-pair ws vs h known_before is.shape.few (λ i high off. w.other i (λ z. absurd (omega arith)) (λ z. absurd (omega arith)) (inr (omega arith)) (off-none h known_before is.shape.few i off) (λ z. absurd (omega arith))) q (omega arith)
 
   pub unlink-records : records_in vs (unlink_node k h.nodes) ≡ without key (records_in ws h.nodes)
   unlink-records = records-same ws vs (unlink_node k h.nodes) same-records ∙ (records-unlink ws k h.nodes lt ∙ gone)
@@ -125,7 +125,7 @@ module _ (ws vs : List ℕ) (h : Heap) (k : ℕ) (key : MapKey) (value : ℕ) (i
 
   unlink_fits : IsPage (page_with ws (without key (records_in ws h.nodes)))
   unlink_fits =
-      let f = is.fits in let few = f.few in let longer = length-without key value (records_in ws h.nodes) found in
+      let f = is.shape.fits in let few = f.few in let longer = length-without key value (records_in ws h.nodes) found in
       record { level = f.level; prev = f.prev; next = f.next; no_prev = f.no_prev; no_next = f.no_next; few = omega arith; ascends = Rises-without key 0 (records_in ws h.nodes) end_rank f.ascends }
 
   times_new : (q : ℕ) → times q (offsets_of (unlink_node k h.nodes) ++ (at ∷ h.free)) ≡ times q (offsets_of h.nodes) + times q h.free
@@ -136,15 +136,15 @@ module _ (ws vs : List ℕ) (h : Heap) (k : ℕ) (key : MapKey) (value : ℕ) (i
 
   kept_free : (q : ℕ) → 0 < times q h.free → get_or vs q 0 ≡ get_or ws q 0
   kept_free q m =
-      let l = low-member h known_before is.few q (omega arith) in let a = l.is in let o = known_before.once q in
+      let l = low-member h known_before is.shape.few q (omega arith) in let a = l.is in let o = known_before.once q in
       w.other q (λ z. absurd (omega arith)) (λ z. absurd (omega arith)) (inr (omega arith)) (omega arith) (λ z. absurd (omega arith))
 
   pub unlink-shaped : Chained vs (unlink_node k h.nodes) (unlink_last k h.nodes h.last) → Directory vs 10 8 (18 ∷ owners (unlink_node k h.nodes)) → length (owners (unlink_node k h.nodes)) ≡ length (owners h.nodes) → Shaped vs unlink_heap
   unlink-shaped chained directory slots =
-      let lo = length-unlink k h.nodes lt in let u = used_is in let few = is.few in let c = is.count in let wc = w.count in let t = is.top in let ht = kept_header 7 (omega arith) (λ z. absurd (omega arith)) (λ z. absurd (omega arith)) in
+      let lo = length-unlink k h.nodes lt in let u = used_is in let few = is.shape.few in let c = is.shape.count in let wc = w.count in let t = is.shape.top in let ht = kept_header 7 (omega arith) (λ z. absurd (omega arith)) (λ z. absurd (omega arith)) in
       record {
         size = w.size;
-        kind = kept_header 0 (omega arith) (λ z. absurd (omega arith)) (λ z. absurd (omega arith)) ∙ is.kind;
+        kind = kept_header 0 (omega arith) (λ z. absurd (omega arith)) (λ z. absurd (omega arith)) ∙ is.shape.kind;
         count = omega arith;
         fits = subst (λ (q : Page). IsPage q) (sym unlink-page) unlink_fits;
         front = w.front;
@@ -152,9 +152,9 @@ module _ (ws vs : List ℕ) (h : Heap) (k : ℕ) (key : MapKey) (value : ℕ) (i
         few = omega arith;
         start = w.start;
         chained = chained;
-        freed = (w.freed ∙ is.front, freed-same ws vs h.free is.freed kept_free);
+        freed = (w.freed ∙ is.shape.front, freed-same ws vs h.free is.shape.freed kept_free);
         directory = directory;
         offsets = offsets-from (used_offsets unlink_heap) (offsets_of (unlink_node k h.nodes) ++ (at ∷ h.free)) (λ q m. subst (λ (n : ℕ). IsOffset n q) (sym used_is) (known_before.offset q (let t1 = times_new q in omega arith)));
         once = once-from (used_offsets unlink_heap) (offsets_of (unlink_node k h.nodes) ++ (at ∷ h.free)) (λ r m. let t1 = times_new (20 + 4 * r) in let e = known_before.each r (omega arith) in omega arith);
-        keyed = keys-same ws vs (unlink_node k h.nodes) same-records ∙ keys-unlink ws k h.nodes is.keyed;
+        keyed = keys-same ws vs (unlink_node k h.nodes) same-records ∙ keys-unlink ws k h.nodes is.shape.keyed;
       }

@@ -153,13 +153,13 @@ known ws holds =
     record {
       is = k.is;
       records = same;
-      offsets = AreOffsets-left _ _ _ k.is.offsets;
-      few = k.is.few;
-      slots = let few = directory-few ws 10 8 (18 ∷ owners (nodes_of ws)) k.is.directory in omega arith;
+      offsets = AreOffsets-left _ _ _ k.is.shape.offsets;
+      few = k.is.shape.few;
+      slots = let few = directory-few ws 10 8 (18 ∷ owners (nodes_of ws)) k.is.shape.directory in omega arith;
       some = owners-some (nodes_of ws);
-      size = k.is.size;
+      size = k.is.shape.size;
       long = ap length same ∙ length-records ws (nodes_of ws);
-      rises = subst (λ (rs : Pairs). Rises 0 rs end_rank) (sym same) k.is.fits.ascends;
+      rises = subst (λ (rs : Pairs). Rises 0 rs end_rank) (sym same) k.is.shape.fits.ascends;
     }
 
 pub last-in : (n p : ℕ) (xs : List Node) (k : ℕ) → n ≤ 35 → AreOffsets n (offsets_of xs) → k ≤ length xs → ((k ≡ 0) × (last_from p (take k xs) ≡ p)) ⊎ ((20 ≤ last_from p (take k xs)) × (last_from p (take k xs) ≤ 156))
@@ -179,7 +179,7 @@ keyed-first ws (x ∷ xs) zero are lt = (and_parts (is_key_at ws x.offset) (are_
 keyed-first ws (x ∷ xs) (suc k) are lt = keyed-first ws xs k (and_parts (is_key_at ws x.offset) (are_keys ws xs) are).1 (omega arith)
 
 pub keyed-at : (ws : List ℕ) (k offset : ℕ) → Known ws → k < length (nodes_of ws) → offset ≡ first_of (drop k (nodes_of ws)) → is_key_at ws offset ≡ true
-keyed-at ws k offset kn lt at = ap (λ i. is_key_at ws i) at ∙ keyed-first ws (nodes_of ws) k kn.is.keyed lt
+keyed-at ws k offset kn lt at = ap (λ i. is_key_at ws i) at ∙ keyed-first ws (nodes_of ws) k kn.is.shape.keyed lt
 
 -- the owner of a slot is the last record up to it
 pub slot-offset : (ws : List ℕ) (slot offset : ℕ) → 0 < slot → slot < length (owners (nodes_of ws)) → offset ≡ last_from 18 (take (up_to slot (nodes_of ws)) (nodes_of ws))
@@ -201,7 +201,7 @@ pub record OwnerIs (ws : List ℕ) (slot offset : ℕ) : Type 0 where
 pub owner-is : (ws : List ℕ) (slot : ℕ) → Known ws → slot ≤ length (owners (nodes_of ws)) → OwnerIs ws slot (get_or ws (8 + slot) 0)
 owner-is ws slot k le =
     let slots = k.slots in
-    let word : get_or ws (8 + slot) 0 ≡ get_or (18 ∷ owners (nodes_of ws)) slot 0 = directory-at ws 10 8 (18 ∷ owners (nodes_of ws)) slot k.is.directory (omega arith) in
+    let word : get_or ws (8 + slot) 0 ≡ get_or (18 ∷ owners (nodes_of ws)) slot 0 = directory-at ws 10 8 (18 ∷ owners (nodes_of ws)) slot k.is.shape.directory (omega arith) in
     elim (cases_lt slot (length (owners (nodes_of ws)))) [
       | inl lt ↦
           let offset : get_or ws (8 + slot) 0 ≡ last_from 18 (take (up_to slot (nodes_of ws)) (nodes_of ws)) = word ∙ owner-at 18 (nodes_of ws) slot lt in
@@ -219,9 +219,9 @@ owner-is ws slot k le =
 -- where the chain goes on behind its first k records
 pub next-is : (ws : List ℕ) (k offset : ℕ) → Known ws → k ≤ length (nodes_of ws) → offset ≡ last_from 18 (take k (nodes_of ws)) → get_or ws offset 0 % 256 ≡ first_of (drop k (nodes_of ws))
 next-is ws k offset kn le at =
-    let start = kn.is.start in
+    let start = kn.is.shape.start in
     let low : first_of (nodes_of ws) < 256 = elim (first-in (used_offsets (read_heap ws)) (nodes_of ws) 0 kn.few kn.offsets (omega arith)) [ inl e ↦ (let f = e.0 in omega arith) | inr e ↦ (let f = e.1.0 in omega arith) ] in
-    ap (λ i. get_or ws i 0 % 256) at ∙ link-at ws (used_offsets (read_heap ws)) 18 (nodes_of ws) (read_heap ws).last k kn.few kn.offsets (omega arith) kn.is.chained le
+    ap (λ i. get_or ws i 0 % 256) at ∙ link-at ws (used_offsets (read_heap ws)) 18 (nodes_of ws) (read_heap ws).last k kn.few kn.offsets (omega arith) kn.is.shape.chained le
 
 -- the record at an offset of the chain
 pub record-is : (ws : List ℕ) (k offset : ℕ) → Known ws → k < length (nodes_of ws) → offset ≡ first_of (drop k (nodes_of ws)) → slice_get (records_of ws) k ≡ Some (key_at ws offset, get_or ws (offset + 3) 0)

@@ -1,4 +1,4 @@
--- What a page in heap form is but for how many records each slot owns, and how that is kept.
+-- How what a page in heap form is, but for how many records each slot owns, is kept.
 use Rattle.std.proofs.Common.{◌≡◌, ℕ, zero, suc, ◌+◌, ◌-◌, ◌*◌, ◌<◌, ◌≤◌, ◌≢◌, ◌⊎◌, [], ◌∷◌, ◌++◌, ◌∙◌, List, length, take, drop, get_or, refl, ap, arith, inl, inr, subst, Bool, true, ◌&&◌}
 use Rattle.std.specs.List.{insert}
 use Rattle.std.proofs.lemmas.Bool.{cases_eq, cases_lt, and_parts, and_from}
@@ -6,34 +6,12 @@ use Rattle.ib_map.specs.KeyWords.{is_key_words}
 use Rattle.ib_map.specs.Keys.{MapKey, key_in}
 use Rattle.ib_map.specs.Pairs.{Pairs}
 use Rattle.ib_map.specs.declared.TheConstants.{PAGE_WORDS}
-use Rattle.ib_heap.specs.Page.{IsPage, Page}
-use Rattle.ib_heap.specs.Heap.{key_at, Node, Heap, first_of, first_free, owners, times, offsets_of, records_in, used_offsets, page_with, last_from, are_keys, is_key_at}
+use Rattle.ib_heap.specs.Page.{Page}
+use Rattle.ib_heap.specs.Heap.{key_at, Node, Heap, first_of, first_free, times, offsets_of, records_in, used_offsets, page_with, last_from, are_keys, is_key_at}
 use Rattle.ib_heap.specs.Kept.{IsOutside}
 use Rattle.ib_heap.specs.Put.{owner_from, own_one_more, put_node, put_last}
-use Rattle.ib_heap.proofs.HeapLaws.{Chained, Freed, Owned, Directory, IsOffset, AreOffsets, EachOnce, IsHeap}
+use Rattle.ib_heap.proofs.HeapLaws.{Freed, Directory, IsOffset, AreOffsets, EachOnce}
 use Rattle.ib_heap.proofs.PutLaws.{one-same, one-other, offsets-own_one_more, times-append, Apart}
-
-pub record Shaped (ws : List ℕ) (h : Heap) : Type 0 where
-  pub size : length ws ≡ PAGE_WORDS
-  pub kind : get_or ws 0 0 ≡ 1
-  pub count : get_or ws 2 0 ≡ length h.nodes
-  pub fits : IsPage (page_with ws (records_in ws h.nodes))
-  pub front : get_or ws 6 0 ≡ first_free h.free
-  pub top : get_or ws 7 0 ≡ (1 + length (owners h.nodes)) * 256 + (20 + 4 * used_offsets h)
-  pub few : used_offsets h ≤ 35
-  pub start : get_or ws 18 0 ≡ 256 + first_of h.nodes
-  pub chained : Chained ws h.nodes h.last
-  pub freed : Freed ws h.free
-  pub directory : Directory ws 10 8 (18 ∷ owners h.nodes)
-  pub offsets : AreOffsets (used_offsets h) (offsets_of h.nodes ++ h.free)
-  pub once : EachOnce (used_offsets h) (offsets_of h.nodes ++ h.free)
-  pub keyed : are_keys ws h.nodes ≡ true
-
-pub shaped : (ws : List ℕ) (h : Heap) → IsHeap ws h → Shaped ws h
-shaped ws h k = record { size = k.size; kind = k.kind; count = k.count; fits = k.fits; front = k.front; top = k.top; few = k.few; start = k.start; chained = k.chained; freed = k.freed; directory = k.directory; offsets = k.offsets; once = k.once; keyed = k.keyed }
-
-pub heap-shaped : (ws : List ℕ) (h : Heap) → Shaped ws h → Owned 0 h.nodes h.last → IsHeap ws h
-heap-shaped ws h k owned = record { size = k.size; kind = k.kind; count = k.count; fits = k.fits; front = k.front; top = k.top; few = k.few; start = k.start; chained = k.chained; freed = k.freed; owned = owned; directory = k.directory; offsets = k.offsets; once = k.once; keyed = k.keyed }
 
 -- offsets, by what stands in a list
 pub offset-member : (n : ℕ) (ps : List ℕ) (q : ℕ) → AreOffsets n ps → 0 < times q ps → IsOffset n q

@@ -6,12 +6,12 @@ use Rattle.ib_map.specs.declared.TheConstants.{PAGE_WORDS}
 use Rattle.ib_heap.specs.Page.{Page, IsPage}
 use Rattle.ib_heap.specs.Heap.{Node, Heap, first_of, owners, times, offsets_of, records_in, used_offsets, page_with, up_to}
 use Rattle.ib_heap.specs.Put.{owned_by, owner_from, give_slot, give_slot_last}
-use Rattle.ib_heap.proofs.HeapLaws.{Directory, AreOffsets, EachOnce}
+use Rattle.ib_heap.proofs.HeapLaws.{Directory, AreOffsets, EachOnce, Shaped}
 use Rattle.ib_heap.proofs.PutLaws.{OverAt, owner-in, times-drop, SameAt, first-member}
 use Rattle.ib_heap.proofs.SplitLaws.{InSlot, offsets-give_slot, first-offsets}
 use Rattle.ib_heap.proofs.SplitShape.{Group, group, slots-room, chain-give_slot, directory-insert}
 use Rattle.ib_heap.proofs.PutShape.{Low, low-member, Off, off-low, kept-pair}
-use Rattle.ib_heap.proofs.ShapeLaws.{Shaped, Offsets, offsets-known, freed-same, records-same, records-offsets, same-page, keys-same, keys-offsets}
+use Rattle.ib_heap.proofs.ShapeLaws.{Offsets, offsets-known, freed-same, records-same, records-offsets, same-page, keys-same, keys-offsets}
 use Rattle.ib_heap.proofs.SeekLaws.{length-offsets}
 
 -- what was written for a split

@@ -6,15 +6,14 @@ use Rattle.std.proofs.lemmas.Option.{slice_get_past}
 use Rattle.ib_map.specs.Keys.{MapKey, rank, end_rank}
 use Rattle.ib_map.specs.Pairs.{Pairs, without, value_at, index_of}
 use Rattle.ib_map.proofs.IndexLaws.{value_at-index, remove-index}
-use Rattle.ib_heap.specs.Heap.{key_at, Node, first_of, owners, times, offsets_of, records_in, used_offsets, page_with, last_from, nodes_of, read_heap}
+use Rattle.ib_heap.specs.Heap.{key_at, Node, first_of, owners, times, offsets_of, records_in, used_offsets, page_with, last_from, nodes_of, read_heap, is_shaped}
 use Rattle.ib_heap.specs.Image.{records_of}
 use Rattle.ib_heap.specs.Put.{owner_from}
 use Rattle.ib_heap.specs.Take.{unlink_node, unlink_last, unlink_in, own_one_fewer}
 use Rattle.ib_heap.specs.Kept.{IsKept}
 use Rattle.ib_heap.specs.Steps.{IsOffsetOfKey, IsLinkedPast, IsHandedOver, IsGivenBack}
 use Rattle.ib_heap.proofs.KeptLaws.{kept-fixed, kept-offset}
-use Rattle.ib_heap.specs.Shape.{is_shaped}
-use Rattle.ib_heap.proofs.HeapLaws.{Chained, Directory}
+use Rattle.ib_heap.proofs.HeapLaws.{Chained, Directory, Shaped-Decides}
 use Rattle.ib_heap.proofs.SeekLaws.{Known, directory-at, first-in, last-first, record-is, header_owned, node-word}
 use Rattle.ib_heap.proofs.PutLaws.{owner-in, times-drop, Apart, first-member, apart-next, times-apart}
 use Rattle.ib_heap.proofs.SplitLaws.{first-offsets}
@@ -26,7 +25,6 @@ use Rattle.ib_heap.proofs.CountLaws.{offsets-own_one_fewer}
 use Rattle.ib_heap.proofs.UnlinkLaws.{At, first-unlink, chain-unlink, chain-unlink-owner, owners-unlink, owners-unlink-owner, SetAt, length-unlink}
 use Rattle.ib_heap.proofs.RemoveShape.{directory-set, UnlinkWords, unlink-shaped, unlink-page}
 use Rattle.ib_heap.proofs.SlotLaws.{count, owner-count, owner-skip, owner-here, owner-before, first-none}
-use Rattle.ib_heap.proofs.ShapedDecides.{Shaped-Decides}
 
 unlink-zero : (xs : List Node) → 0 < length xs → first_of (unlink_node 0 xs) ≡ first_of (drop 1 xs)
 unlink-zero [] lt = absurd (omega arith)
@@ -77,7 +75,7 @@ module _ (ws : List ℕ) (key : MapKey) (slot before at : ℕ) (kn : Known ws) (
   k_le = let a = lt in omega arith
 
   offsets : Offsets (read_heap ws)
-  offsets = offsets-known (read_heap ws) kn.is.offsets kn.is.once
+  offsets = offsets-known (read_heap ws) kn.is.shape.offsets kn.is.shape.once
 
   pub apart : Apart nodes
   apart = offsets.apart
@@ -88,7 +86,7 @@ module _ (ws : List ℕ) (key : MapKey) (slot before at : ℕ) (kn : Known ws) (
   own-is : own ≡ owner_from (drop k nodes)
   own-is =
       let s = kn.slots in let r = st.in_range in
-      directory-at ws 10 8 (18 ∷ owners nodes) slot kn.is.directory (omega arith)
+      directory-at ws 10 8 (18 ∷ owners nodes) slot kn.is.shape.directory (omega arith)
       ∙ (ap (λ i. get_or (18 ∷ owners nodes) i 0) (sym slot-is) ∙ owner-count 18 k nodes k_le)
 
   at-in : 0 < times at (offsets_of nodes)
@@ -116,15 +114,15 @@ module _ (ws : List ℕ) (key : MapKey) (slot before at : ℕ) (kn : Known ws) (
   next-low = elim (first-in (used_offsets (read_heap ws)) nodes (suc k) kn.few kn.offsets (let a = lt in omega arith)) [ inl z ↦ (let y = z.0 in omega arith) | inr z ↦ (let y = z.1.0 in omega arith) ]
 
   at-word : get_or ws at 0 ≡ header_owned (drop k nodes) * 256 + first_of (drop (suc k) nodes)
-  at-word = ap (λ n. get_or ws n 0) st.at_is ∙ node-word ws k nodes l lt kn.is.chained
+  at-word = ap (λ n. get_or ws n 0) st.at_is ∙ node-word ws k nodes l lt kn.is.shape.chained
 
   next-is : get_or ws at 0 % 256 ≡ first_of (drop (suc k) nodes)
   next-is = let a = at-word in let b = next-low in omega arith
 
   before-header : HeaderWord (get_or ws before 0) at 8
   before-header =
-      let s = kn.is.start in
-      let h = before-word ws 18 0 k nodes l (record { owned = 1; is = omega arith; few = omega arith }) kn.is.chained kn.is.owned k_le in
+      let s = kn.is.shape.start in
+      let h = before-word ws 18 0 k nodes l (record { owned = 1; is = omega arith; few = omega arith }) kn.is.shape.chained kn.is.owned k_le in
       record { owned = h.owned; is = ap (λ n. get_or ws n 0) st.before_is ∙ (h.is ∙ ap (λ n. h.owned * 256 + n) (sym st.at_is)); few = h.few }
 
   pub at-le : at ≤ get_or ws before 0
@@ -135,7 +133,7 @@ module _ (ws : List ℕ) (key : MapKey) (slot before at : ℕ) (kn : Known ws) (
 
   pub own-word : 256 ≤ get_or ws own 0
   own-word =
-      let o = owner-word ws (used_offsets (read_heap ws)) k nodes l kn.few kn.offsets kn.is.chained k_le in
+      let o = owner-word ws (used_offsets (read_heap ws)) k nodes l kn.few kn.offsets kn.is.shape.chained k_le in
       let s = owned-some 0 k nodes l kn.is.owned in
       let i = o.is in
       let e : get_or ws own 0 ≡ get_or ws (owner_from (drop k nodes)) 0 = ap (λ n. get_or ws n 0) own-is in omega arith
@@ -144,7 +142,7 @@ module _ (ws : List ℕ) (key : MapKey) (slot before at : ℕ) (kn : Known ws) (
   two z = neighbours-apart k nodes apart k_le (sym st.before_is ∙ (z ∙ own-is))
 
   pub count-some : 0 < get_or ws 2 0
-  count-some = let c = kn.is.count in let a = lt in omega arith
+  count-some = let c = kn.is.shape.count in let a = lt in omega arith
 
   pub plain : (at ≡ own → ⊥) → header_owned (drop k nodes) ≡ 0
   plain ne = elim (cases_eq (header_owned (drop k nodes)) 0) [
@@ -217,7 +215,7 @@ module _ (ws : List ℕ) (key : MapKey) (slot before at : ℕ) (kn : Known ws) (
       where
         go : (j : ℕ) → k ≡ j → get_or w2 18 0 ≡ 256 + first_of (unlink_node k nodes)
         go zero e =
-            let s = kn.is.start in
+            let s = kn.is.shape.start in
             let bi : before ≡ 18 = elim before-cases [ inl f ↦ f.1 | inr m ↦ absurd (let x = m.0 in omega arith) ] in
             let l1 : get_or w2 18 0 + at ≡ get_or ws 18 0 + first_of (drop (suc k) nodes) = subst (λ (b : ℕ). get_or w2 b 0 + at ≡ get_or ws b 0 + first_of (drop (suc k) nodes)) bi link-now in
             let a0 : at ≡ first_of nodes = st.at_is ∙ ap (λ n. first_of (drop n nodes)) e in
@@ -227,13 +225,13 @@ module _ (ws : List ℕ) (key : MapKey) (slot before at : ℕ) (kn : Known ws) (
             let nb : 18 ≢ before = elim before-cases [ inl f ↦ (λ z. absurd (let x = f.0 in omega arith)) | inr m ↦ (λ z. absurd (let w = low-node ws kn before m.1 in let a = w.is in omega arith)) ] in
             let a = at-range.0 in let o = own-range.0 in
             both 18 (λ z. absurd (omega arith)) (λ z. absurd (omega arith)) (λ z. absurd (omega arith)) nb (λ z. absurd (omega arith))
-            ∙ (kn.is.start ∙ (ap (λ n. 256 + n) (sym (first-unlink j nodes)) ∙ ap (λ n. 256 + first_of (unlink_node n nodes)) (sym e)))
+            ∙ (kn.is.shape.start ∙ (ap (λ n. 256 + n) (sym (first-unlink j nodes)) ∙ ap (λ n. 256 + first_of (unlink_node n nodes)) (sym e)))
 
     unlink-words : UnlinkWords ws w2 (read_heap ws) k
     unlink-words =
         let s2 = small 2 (omega arith) in let s6 = small 6 (omega arith) in
         record {
-          size = g.size ∙ (u.size ∙ kn.is.size);
+          size = g.size ∙ (u.size ∙ kn.is.shape.size);
           count = (let c = g.count in let o = u.other 2 s2.1.0 s2.1.1 in omega arith);
           front = g.front ∙ st.at_is;
           freed = ap (λ n. get_or w2 n 0) (sym st.at_is) ∙ (g.freed ∙ u.other 6 s6.1.0 s6.1.1);
@@ -244,7 +242,7 @@ module _ (ws : List ℕ) (key : MapKey) (slot before at : ℕ) (kn : Known ws) (
         }
 
     chained-now : Chained w2 (unlink_node k nodes) (unlink_last k nodes l)
-    chained-now = chain-unlink ws w2 18 k nodes l lt kn.is.chained apart none
+    chained-now = chain-unlink ws w2 18 k nodes l lt kn.is.shape.chained apart none
         (subst (λ (b : ℕ). get_or w2 b 0 + first_of (drop k nodes) ≡ get_or ws b 0 + first_of (drop (suc k) nodes)) st.before_is (subst (λ (a : ℕ). get_or w2 before 0 + a ≡ get_or ws before 0 + first_of (drop (suc k) nodes)) st.at_is link-now))
         (subst (λ (o : ℕ). get_or w2 o 0 + 256 ≡ get_or ws o 0) own-next (let a = own-two in let b = u.lowered in omega arith))
         (λ q m na nb no. let h = at-high q m in both q (λ z. absurd (omega arith)) (λ z. absurd (omega arith)) (not-first q na) (λ z. nb (z ∙ st.before_is)) (λ z. no (z ∙ own-next)))
@@ -255,7 +253,7 @@ module _ (ws : List ℕ) (key : MapKey) (slot before at : ℕ) (kn : Known ws) (
 
     directory-now : Directory w2 10 8 (18 ∷ owners (unlink_node k nodes))
     directory-now = subst (λ (os : List ℕ). Directory w2 10 8 (18 ∷ os)) (sym slots-now)
-        (directory-same ws w2 10 8 (18 ∷ owners nodes) kn.is.directory (λ j a b. let s = small j (omega arith) in both j (λ z. absurd (omega arith)) (λ z. absurd (omega arith)) s.0 s.1.0 s.1.1))
+        (directory-same ws w2 10 8 (18 ∷ owners nodes) kn.is.shape.directory (λ j a b. let s = small j (omega arith) in both j (λ z. absurd (omega arith)) (λ z. absurd (omega arith)) s.0 s.1.0 s.1.1))
 
     pub plain-shaped : is_shaped w2 (unlink_in k (read_heap ws)) ≡ true
     plain-shaped = (Shaped-Decides w2 (unlink_in k (read_heap ws))).1
@@ -311,13 +309,13 @@ module _ (ws : List ℕ) (key : MapKey) (slot before at : ℕ) (kn : Known ws) (
       start2 =
           let h = before-high in let a = at-range.0 in let s = slot-range in
           both2 18 (λ z. absurd (omega arith)) (λ z. absurd (omega arith)) (λ z. absurd (omega arith)) (λ z. absurd (omega arith)) (λ z. absurd (omega arith))
-          ∙ (kn.is.start ∙ (ap (λ n. 256 + n) (sym (first-unlink j nodes)) ∙ ap (λ n. 256 + first_of (unlink_node n nodes)) (sym kj)))
+          ∙ (kn.is.shape.start ∙ (ap (λ n. 256 + n) (sym (first-unlink j nodes)) ∙ ap (λ n. 256 + first_of (unlink_node n nodes)) (sym kj)))
 
       words2 : UnlinkWords ws w2 (read_heap ws) k
       words2 =
           let h = before-high in let sl = slot-range in
           record {
-            size = g.size ∙ (u.size ∙ kn.is.size);
+            size = g.size ∙ (u.size ∙ kn.is.shape.size);
             count = (let c = g.count in let o = u.other 2 (λ z. absurd (omega arith)) (λ z. absurd (omega arith)) in omega arith);
             front = g.front ∙ st.at_is;
             freed = ap (λ n. get_or w2 n 0) (sym st.at_is) ∙ (g.freed ∙ u.other 6 (λ z. absurd (omega arith)) (λ z. absurd (omega arith)));
@@ -326,7 +324,7 @@ module _ (ws : List ℕ) (key : MapKey) (slot before at : ℕ) (kn : Known ws) (
           }
 
       chained2 : Chained w2 (unlink_node k nodes) (unlink_last k nodes l)
-      chained2 = subst (λ (n : ℕ). Chained w2 (unlink_node n nodes) (unlink_last n nodes l)) (sym kj) (chain-unlink-owner ws w2 j nodes l lt-j kn.is.chained apart some-j word2
+      chained2 = subst (λ (n : ℕ). Chained w2 (unlink_node n nodes) (unlink_last n nodes l)) (sym kj) (chain-unlink-owner ws w2 j nodes l lt-j kn.is.shape.chained apart some-j word2
           (λ q m na nb. let h = at-high q m in let s = slot-range in both2 q (λ z. absurd (omega arith)) (λ z. absurd (omega arith)) (λ z. na (z ∙ at-j)) (λ z. nb (z ∙ before-j)) (λ z. absurd (omega arith))))
 
       set2 : SetAt (slot - 1) (first_of (drop j nodes)) (owners nodes) (owners (unlink_node k nodes))
@@ -336,7 +334,7 @@ module _ (ws : List ℕ) (key : MapKey) (slot before at : ℕ) (kn : Known ws) (
       directory2 : Directory w2 10 8 (18 ∷ owners (unlink_node k nodes))
       directory2 =
           let p = st.some in let h = before-high in let a = at-range.0 in let s = slot-range in
-          directory-set ws w2 (slot - 1) (first_of (drop j nodes)) (owners nodes) (owners (unlink_node k nodes)) kn.is.directory set2
+          directory-set ws w2 (slot - 1) (first_of (drop j nodes)) (owners nodes) (owners (unlink_node k nodes)) kn.is.shape.directory set2
           (λ m ne l1. both2 (8 + m) (λ z. absurd (omega arith)) (λ z. absurd (omega arith)) (λ z. absurd (omega arith)) (λ z. absurd (omega arith)) (λ z. ne (omega arith)))
           (ap (λ n. get_or w2 n 0) (let e : 8 + suc (slot - 1) ≡ 8 + slot = omega arith in e) ∙ (g.other (8 + slot) (λ z. absurd (omega arith)) (λ z. absurd (omega arith)) (λ z. absurd (omega arith)) ∙ (u.here ∙ before-j)))
 

@@ -107,9 +107,9 @@ used_offsets h = length h.nodes + length h.free
 abbrev pub page_with : List ℕ → Pairs → Page
 page_with ws records = record { level = slice_index ws LEVEL; prev = slice_index ws PREV; next = slice_index ws NEXT; clock = slice_index ws CLOCK; records = records }
 
--- the words are a page with this heap
-abbrev pub is_heap : List ℕ → Heap → Bool
-is_heap ws h =
+-- all that is asked of a heap, but for the counts of the slots: what a removal leaves before it balances
+abbrev pub is_shaped : List ℕ → Heap → Bool
+is_shaped ws h =
     (length ws == PAGE_WORDS)
     && ((slice_index ws KIND == TREE)
     && ((slice_index ws COUNT == length h.nodes)
@@ -120,11 +120,14 @@ is_heap ws h =
     && ((slice_index ws INFIMUM == OWNED_UNIT + first_of h.nodes)
     && (is_chained ws h.nodes h.last
     && (is_freed ws h.free
-    && (is_owned 0 h.nodes h.last
     && (is_directory ws MOST_SLOTS DIRECTORY (INFIMUM ∷ owners h.nodes)
     && (are_offsets (used_offsets h) (offsets_of h.nodes ++ h.free)
     && (each_once (used_offsets h) (offsets_of h.nodes ++ h.free)
-    && are_keys ws h.nodes)))))))))))))
+    && are_keys ws h.nodes))))))))))))
+
+-- the words are a page with this heap
+abbrev pub is_heap : List ℕ → Heap → Bool
+is_heap ws h = is_shaped ws h && is_owned 0 h.nodes h.last
 
 -- the n records of the chain from an offset on
 abbrev pub chain_from : List ℕ → ℕ → ℕ → List Node

@@ -9,9 +9,9 @@ pub mod Take
 pub mod Kept
 pub mod Steps
 pub mod Filled
-pub mod Shape
 pub mod Walks
 pub mod Source
 pub mod Found
+pub mod Standing
 pub mod Changes
 pub mod Laws

@@ -181,6 +181,19 @@ pub fn level_in<W: PageWords>(page: &mut W) -> u32
     page.word(LEVEL) as u32
 }
 
+/// Whether a page is one of the tree, over a source of its words, of which one is read. Asked of words that
+/// `is_formed` takes.
+pub fn is_tree_in<W: PageWords>(page: &mut W) -> bool
+    requires can { W.can_read page.old }
+    requires formed { IsFormed (W.words page.old) }
+    ensures tree { IsTrue result ↔ IsTreePage (W.words page.old) }
+    ensures same { W.words page.new ≡ W.words page.old }
+    ensures can { W.can_read page.new }
+    ensures read { W.has_read page.old page.new }
+{
+    page.word(KIND) == TREE
+}
+
 /// Sets both links of a leaf: the numbers of the leaves before and behind it, 0 for none
 /// (`btr_page_set_prev`, `btr_page_set_next`). A node has no links, so there both must be 0. No record moves.
 pub fn set_links(words: &mut [u64], prev: u32, next: u32)

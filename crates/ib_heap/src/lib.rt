@@ -16,8 +16,8 @@ mod words;
 
 pub use fault::PageFault;
 pub use form::{
-    clock, count, empty_leaf_word, empty_page, is_tree, level, level_in, next, prev, set_clock,
-    set_level, set_links,
+    clock, count, empty_leaf_word, empty_page, is_tree, is_tree_in, level, level_in, next, prev,
+    set_clock, set_level, set_links,
 };
 pub use formed::is_formed;
 pub use insert::put;
@@ -25,7 +25,7 @@ pub use laws::heap_law;
 pub use page::{are_zeros, free_page};
 pub use rebuild::{append, move_tail, reorganize};
 pub use remove::take;
-pub use search::{child_in, find, get, get_in, route, route_to};
+pub use search::{KeyStanding, child_in, find, get, get_in, route, route_to, standing_in};
 pub use walk::{copy_between, record_at};
 pub use words::PageWords;
 

@@ -4,9 +4,8 @@ ghost use Rattle.std.specs.Prelude.{◌≡◌, ◌≢◌, true, ◌+◌, ◌-◌
 ghost use Rattle.ib_map.specs.Pairs.{without, value_at, index_of};
 ghost use Rattle.ib_heap.specs.Form.{page_of};
 ghost use Rattle.ib_heap.specs.Image.{IsTreePage, records_of, value_with_records};
-ghost use Rattle.ib_heap.specs.Heap.{nodes_of, read_heap, used_offsets, records_in, page_with};
+ghost use Rattle.ib_heap.specs.Heap.{nodes_of, read_heap, used_offsets, records_in, page_with, is_shaped};
 ghost use Rattle.ib_heap.specs.Take.{unlink_node, unlink_in, remove_in};
-ghost use Rattle.ib_heap.specs.Shape.{is_shaped};
 ghost use Rattle.ib_heap.specs.Changes.{HasRemoved};
 ghost use Rattle.ib_heap.specs.Kept.{IsKept};
 ghost use Rattle.ib_heap.specs.Steps.{IsOffsetOfKey, CanUnlink, IsLinkedPast, CanHandOver, IsHandedOver, CanGiveBack, IsGivenBack, CanLend, IsLent, CanJoin, IsSlotJoined};

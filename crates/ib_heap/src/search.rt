@@ -1,12 +1,14 @@
 //! The search for a key: by the directory to a slot, and along the chain from there (`page_cur_search_with_match`).
 
-ghost use Rattle.std.specs.Prelude.{◌≡◌, ◌≢◌, ◌+◌, ◌-◌, ◌<◌, ◌≤◌, ◌⊎◌, length, take, drop, slice_get, slice_index, IsTrue, false, IsSomeAnd, Some};
+ghost use Rattle.std.specs.Prelude.{◌≡◌, ◌≢◌, ◌+◌, ◌-◌, ◌<◌, ◌≤◌, ◌⊎◌, ◌↔◌, length, take, drop, slice_get, slice_index, IsTrue, false, IsSomeAnd, Some};
 ghost use Rattle.ib_map.specs.Keys.{rank};
 ghost use Rattle.ib_map.specs.Pairs.{value_at, index_of, index_after};
 ghost use Rattle.ib_heap.specs.Image.{IsTreePage, records_of};
 ghost use Rattle.std.specs.declared.cmp.Ordering.TheVariants.{Greater};
 ghost use Rattle.ib_heap.specs.Order.{IsOrder};
 ghost use Rattle.ib_heap.specs.Found.{IsFound, IsRouted};
+ghost use Rattle.ib_heap.specs.Standing.{IsWithin, standing_of};
+ghost use Rattle.ib_heap.specs.declared.search.KeyStanding.TheVariants.{Outside};
 ghost use Rattle.ib_heap.specs.Source.{IsStillSource, IsTreeSource};
 ghost use Rattle.ib_heap.specs.Heap.{key_at, is_key_at, nodes_of, owners, up_to, last_from, first_of};
 
@@ -130,6 +132,38 @@ pub fn get_in<W: PageWords>(page: &mut W, key: Key) -> Option<u64>
         return Some(value_word(page, cursor.at));
     }
     None
+}
+
+/// Where a key stands beside the records of a page.
+#[derive(Clone, Copy, Debug, PartialEq, Eq)]
+pub enum KeyStanding {
+    /// Below the first of them or above the last, or the page has none.
+    Outside,
+    /// Among them, without a record of its own.
+    Between,
+    /// With a record of its own, which has this value.
+    Found(u64),
+}
+
+/// Where a key stands beside the records, by the search of `get_in`: what a guess at the key's page is tested by
+/// (`btr_search_check_guess`).
+pub fn standing_in<W: PageWords>(page: &mut W, key: Key) -> KeyStanding
+    requires can { W.can_read page.old }
+    requires tree { IsTreePage (W.words page.old) }
+    ensures standing { result ≡ standing_of key (records_of (W.words page.old)) }
+    ensures within { (result ≢ Outside) ↔ IsWithin key (records_of (W.words page.old)) }
+    ensures same { W.words page.new ≡ W.words page.old }
+    ensures can { W.can_read page.new }
+    ensures read { W.has_read page.old page.new }
+{
+    let cursor = seek(page, key);
+    if cursor.found {
+        return KeyStanding::Found(value_word(page, cursor.at));
+    }
+    if cursor.before == INFIMUM || cursor.at == SUPREMUM {
+        return KeyStanding::Outside;
+    }
+    KeyStanding::Between
 }
 
 /// Where the last record stands whose key is not above this one, among the records in their order: in a node,

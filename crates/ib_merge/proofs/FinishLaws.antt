@@ -15,7 +15,7 @@ use Rattle.ib_plans.specs.Marks.{untouched}
 use Rattle.ib_plans.specs.Moves.{HasMoved}
 use Rattle.ib_plans.specs.Merge.{first_child}
 use Rattle.ib_plans.specs.Split.{with_records}
-use Rattle.ib_plans.specs.Agreement.{SetsBits, IsThere, state_or_free, memory_in, reads_of, Agrees, IsPlanned, HasBits, bits_in, taken_bits, with_bits, space_ticks}
+use Rattle.ib_plans.specs.Agreement.{IsClimbed, SetsBits, IsThere, state_or_free, memory_in, reads_of, Agrees, IsPlanned, HasBits, bits_in, taken_bits, with_bits, space_ticks}
 use Rattle.ib_plans.proofs.EditLaws.{changed_of-same, changed_of-other, reads_of-changed}
 use Rattle.ib_merge.specs.Deletes.{CanDelete, IsDeleteClimbed, IsDeleteClimbedForAll, MayGivePages, AreTaken}
 use Rattle.ib_merge.proofs.AtLaws.{mark-skip}
@@ -90,8 +90,11 @@ leaf-frees_none m bits key root zero some level z =
 
 module _ (path : List ℕ) (key : MapKey) (old : List WorkPage) (can : CanDelete path key old) (freed : List ℕ) (mid : List WorkPage) (climbed : IsDeleteClimbedForAll path key freed old mid) where
   -- for the one memory
-  c : IsDeleteClimbed freed can.memory (planned_delete can.memory can.bits key can.root).memory (planned_delete can.memory can.bits key can.root).bits can.bits (planned_delete can.memory can.bits key can.root).touched (planned_delete can.memory can.bits key can.root).moves old mid
-  c = climbed can.pages can.roots can.root can.memory can.bits can.agrees
+  all : IsDeleteClimbed freed can.memory (planned_delete can.memory can.bits key can.root).memory (planned_delete can.memory can.bits key can.root).bits can.bits (planned_delete can.memory can.bits key can.root).touched (planned_delete can.memory can.bits key can.root).moves old mid
+  all = climbed can.pages can.roots can.root can.memory can.bits can.agrees
+
+  c : IsClimbed 0 freed can.memory (planned_delete can.memory can.bits key can.root).memory (planned_delete can.memory can.bits key can.root).bits can.bits (planned_delete can.memory can.bits key can.root).touched (planned_delete can.memory can.bits key can.root).moves old mid
+  c = all.climbed
 
   deep : freed ≢ [] → 1 < length path
   deep some = elim (cases_lt 1 (length path)) [
@@ -112,7 +115,7 @@ module _ (path : List ℕ) (key : MapKey) (old : List WorkPage) (can : CanDelete
     taken = subst (λ (o : Option (List ℕ)). IfSome o (λ image. AreTaken (taken_bits image) freed)) (sym c.space)
         (some-if (changed_of 0 old) (λ image. AreTaken (taken_bits image) freed) (λ image is.
         let h = if-some (changed_of 0 old) (HasBits can.pages can.bits) image is can.agrees.space in
-        AreTaken-more freed can.bits (taken_bits image) (λ page lt set. in-taken can.pages image page (λ z. set (h.1 page ∙ z))) c.taken));
+        AreTaken-more freed can.bits (taken_bits image) (λ page lt set. in-taken can.pages image page (λ z. set (h.1 page ∙ z))) all.taken));
     clock = subst (λ (o : Option (List ℕ)). IfSome o (λ image. space_clock_of image < 2 ^ 63)) (sym c.space) can.clocks.1;
   }
 
@@ -134,8 +137,8 @@ module _ (path : List ℕ) (key : MapKey) (old : List WorkPage) (can : CanDelete
       abbrev u : Shrinkage
       u = planned_delete m bits key root
 
-      k : IsDeleteClimbed freed m u.memory u.bits bits u.touched u.moves old mid
-      k = climbed pages roots root m bits a
+      k : IsClimbed 0 freed m u.memory u.bits bits u.touched u.moves old mid
+      k = (climbed pages roots root m bits a).climbed
 
       planned-none : freed ≡ [] → IsPlanned pages m u.memory u.bits u.touched u.moves old new
       planned-none e =

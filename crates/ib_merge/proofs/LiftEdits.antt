@@ -17,7 +17,7 @@ use Rattle.ib_plans.specs.Delete.{Shrinkage, lift_single, lifted}
 use Rattle.ib_plans.specs.Marks.{mark, ticked, with_bit, with_clock}
 use Rattle.ib_plans.specs.Moves.{Move, Fills, Frees, unmoved, with_move, HasMoved}
 use Rattle.ib_plans.specs.Merge.{first_child, freed_page, lift_page, lowered}
-use Rattle.ib_plans.specs.Agreement.{IsThere, state_or_free, memory_in, Agrees}
+use Rattle.ib_plans.specs.Agreement.{IsClimbed, IsThere, state_or_free, memory_in, Agrees}
 use Rattle.ib_plans.proofs.ClockLaws.{ticked-alike}
 use Rattle.ib_plans.proofs.DeleteLaws.{IsDeletedBelow}
 use Rattle.ib_plans.proofs.MoveLaws.{with_move-own, with_move-other, filled-any, freed-any}
@@ -34,7 +34,7 @@ use Rattle.ib_merge.proofs.OnPathLaws.{there-reads}
 -- what was come to, as the pages of the plan
 pub IsDeleteClimbed-at : (m : PageMemory) (bits : ℕ → ℕ) (height page : ℕ) (s : Shrinkage) (freed : List ℕ) (old new : List WorkPage) → IsAt m bits height page s freed old new
     → IsDeleteClimbed freed m s.memory s.bits bits s.touched s.moves old new
-IsDeleteClimbed-at m bits height page s freed old new x = record { reads = x.reads; there = x.there; same = x.same; moved = x.moved; kept = x.kept; space = x.space; bits_are = x.bits_are; taken = x.taken; zero = x.zero_is }
+IsDeleteClimbed-at m bits height page s freed old new x = record { climbed = record { reads = x.reads; there = x.there; same = x.same; moved = x.moved; kept = x.kept; space = x.space; bits_are = x.bits_are; zero = x.zero_is }; taken = x.taken }
 
 -- a list of one record
 pub one-record : (rs : Pairs) → length rs ≡ 1 → (y : MapKey × ℕ) × (rs ≡ y ∷ [])
@@ -221,8 +221,8 @@ module _ (pages roots root : ℕ) (key : MapKey) (path : List ℕ) (old : List W
           let not-root = mark-off root s.touched n not-child.1 in
           lifted-others root child mid new root-at child-at child-is.apart lift n not-root.0 not-child.0 ∙ x.kept n nz not-root.1
 
-      climbed : IsDeleteClimbed (freed ++ child ∷ []) m planned (with_bit child 0 s.bits) bits t-all m-all old new
-      climbed = record {
+      stays : IsClimbed 0 (freed ++ child ∷ []) m planned (with_bit child 0 s.bits) bits t-all m-all old new
+      stays = record {
         reads = lifted-reads root child mid new root-at child-at child-is.apart lift ∙ x.reads;
         there = λ n nz on. elim (mark-split 0 (mark child (mark root s.touched)) n on) [
           | inl e ↦ absurd (nz e)
@@ -239,9 +239,11 @@ module _ (pages roots root : ℕ) (key : MapKey) (path : List ℕ) (old : List W
         kept = kept-new;
         space = lifted-others root child mid new root-at child-at child-is.apart lift 0 (λ e. root-some (sym e)) (λ e. child-is.some (sym e)) ∙ x.space;
         bits_are = λ n. ap (λ k. cond (eqb n child) 0 k) (x.bits_are n) ∙ sym (ap (λ (f : ℕ → ℕ). f n) (with_bits-last freed child bits));
-        taken = AreTaken-last freed child bits x.taken (λ z. child-set (x.bits_are child ∙ z)) child-few;
         zero = mark-own 0 (mark child (mark root s.touched)) 0 refl ∙ sym (lt-ltb 0 (length (freed ++ child ∷ [])) (let l = length-append freed (child ∷ []) in omega arith));
       }
+
+      climbed : IsDeleteClimbed (freed ++ child ∷ []) m planned (with_bit child 0 s.bits) bits t-all m-all old new
+      climbed = record { climbed = stays; taken = AreTaken-last freed child bits x.taken (λ z. child-set (x.bits_are child ∙ z)) child-few }
 
     -- what a lift leaves
     pub IsDeleteClimbed-lift : (q : ℕ) (new : List WorkPage) → q ≡ first_child (memory_in mid root).records → IsLifted root q mid new

@@ -1,5 +1,5 @@
 -- What a planned delete asks of its work set, and what its steps do to it.
-use Rattle.std.specs.Prelude.{◌≡◌, ◌≢◌, ℕ, ◌+◌, ◌<◌, ◌≤◌, ◌^◌, ◌++◌, Bool, true, false, List, [], ◌∷◌, length, nat_lt, Option, Some, None, ◌⊎◌, IfSome, IsSomeAnd, MatchOption, slice_get, if◌then◌else◌}
+use Rattle.std.specs.Prelude.{◌≡◌, ◌≢◌, ℕ, ◌+◌, ◌<◌, ◌≤◌, ◌^◌, ◌++◌, Bool, List, [], ◌∷◌, length, Option, Some, None, ◌⊎◌, IfSome, IsSomeAnd, MatchOption, slice_get, if◌then◌else◌}
 use Rattle.std.specs.List.{All}
 use Rattle.ib_map.specs.Keys.{MapKey, rank, end_rank}
 use Rattle.ib_map.specs.Pairs.{Rises, without}
@@ -10,12 +10,12 @@ use Rattle.ib_page.specs.Image.{IsTreePage}
 use Rattle.ib_page.specs.Space.{space_clock_of}
 use Rattle.ib_page.specs.Work.{WorkPage, changed_of}
 use Rattle.ib_walk.specs.Pages.{PageState, PageMemory}
-use Rattle.ib_plans.specs.Marks.{ticked, with_bit}
+use Rattle.ib_plans.specs.Marks.{with_bit}
 use Rattle.ib_plans.specs.Moves.{Move, Takes, Fills, Frees, unmoved, with_move, HasMoved}
 use Rattle.ib_plans.specs.Split.{with_records, with_prev}
 use Rattle.ib_plans.specs.Merge.{Siblings, siblings_of, fit_one, freed_page, joined, lowered}
 use Rattle.ib_plans.specs.Delete.{planned_delete}
-use Rattle.ib_plans.specs.Agreement.{IsThere, memory_in, reads_of, Agrees, IsPlanned, Sets, tick, HasTreePages, MayTick, taken_bits, with_bits}
+use Rattle.ib_plans.specs.Agreement.{IsThere, memory_in, Agrees, IsPlanned, IsClimbed, Sets, tick, HasTreePages, MayTick, taken_bits}
 
 -- the pages beside the key's child under a node are there
 abbrev pub HasSiblings : MapKey → List WorkPage → ℕ → Type 0
@@ -151,17 +151,10 @@ pub record MayGivePages (pages : List ℕ) (work : List WorkPage) : Type 0 where
   pub taken : IfSome (changed_of 0 work) (λ image. AreTaken (taken_bits image) pages)
   pub clock : IfSome (changed_of 0 work) (λ image. space_clock_of image < 2 ^ 63)
 
--- the tree's pages are those of the plan, and their records stand as it moves them; page 0 and each page that is not touched is as it was; these pages were freed
+-- the plan but for page 0; these pages were freed, and had been taken
 pub record IsDeleteClimbed (freed : List ℕ) (memory planned : PageMemory) (bits before : ℕ → ℕ) (touched : ℕ → Bool) (moves : ℕ → Move) (old new : List WorkPage) : Type 0 where
-  pub reads : reads_of new ≡ reads_of old
-  pub there : (page : ℕ) → page ≢ 0 → touched page ≡ true → IsThere new page
-  pub same : (page : ℕ) → page ≢ 0 → IsThere new page → memory_in new page ≡ ticked memory touched planned page
-  pub moved : (page : ℕ) → page ≢ 0 → HasMoved (moves page) (changed_of page old) (changed_of page new)
-  pub kept : (page : ℕ) → page ≢ 0 → touched page ≡ false → changed_of page new ≡ changed_of page old
-  pub space : changed_of 0 new ≡ changed_of 0 old
-  pub bits_are : (page : ℕ) → bits page ≡ with_bits freed 0 before page
+  pub climbed : IsClimbed 0 freed memory planned bits before touched moves old new
   pub taken : AreTaken before freed
-  pub zero : touched 0 ≡ nat_lt 0 (length freed)
 
 -- .. for every memory whose pages these were
 abbrev pub IsDeleteClimbedForAll : List ℕ → MapKey → List ℕ → List WorkPage → List WorkPage → Type 0

@@ -9,7 +9,10 @@ mod space;
 mod words;
 mod work;
 
-pub use ib_heap::{MOST_LEVEL, MOST_RECORDS, PageFault, PageWords, child_in, get_in, level_in};
+pub use ib_heap::{
+    KeyStanding, MOST_LEVEL, MOST_RECORDS, PageFault, PageWords, child_in, get_in, is_tree_in,
+    level_in, standing_in,
+};
 pub use image::{Image, Kind};
 pub use laws::{page_law, work_law};
 pub use opening::{opening_image, opening_word};

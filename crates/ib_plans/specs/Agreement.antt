@@ -115,3 +115,14 @@ pub record SetsBits (bit : ℕ) (pages : List ℕ) (old new : List WorkPage) : T
   pub bits : (page : ℕ) → page < MAPPED_PAGES → taken_bits image page ≡ with_bits pages bit (taken_bits was) page
   pub clock : space_clock_of image ≡ space_clock_of was + 1
   pub behind : (i : ℕ) → 64 < i → slice_index image i ≡ slice_index was i
+
+-- a plan without page 0: the tree's pages are those of the plan, and their records stand as it moves them; page 0 and each page that is not touched is as it was; these pages have this bit in the plan, 1 where they were used and 0 where they were freed
+pub record IsClimbed (bit : ℕ) (pages : List ℕ) (memory planned : PageMemory) (bits before : ℕ → ℕ) (touched : ℕ → Bool) (moves : ℕ → Move) (old new : List WorkPage) : Type 0 where
+  pub reads : reads_of new ≡ reads_of old
+  pub there : (page : ℕ) → page ≢ 0 → touched page ≡ true → IsThere new page
+  pub same : (page : ℕ) → page ≢ 0 → IsThere new page → memory_in new page ≡ ticked memory touched planned page
+  pub moved : (page : ℕ) → page ≢ 0 → HasMoved (moves page) (changed_of page old) (changed_of page new)
+  pub kept : (page : ℕ) → page ≢ 0 → touched page ≡ false → changed_of page new ≡ changed_of page old
+  pub space : changed_of 0 new ≡ changed_of 0 old
+  pub bits_are : (page : ℕ) → bits page ≡ with_bits pages bit before page
+  pub zero : touched 0 ≡ nat_lt 0 (length pages)

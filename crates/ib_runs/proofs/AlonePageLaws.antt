@@ -39,7 +39,7 @@ pub record SaySame (pages : ℕ) (xs ys : List Entry) : Type 0 where
 -- words that say that page 1 is taken are no page of the tree, and no free page
 tree-untaken : (ws : List ℕ) → Kinds ws → is_taken ws 1 ≡ true → page_of ws ≡ Malformed
 unfolding free_page_words
-tree-untaken ws (tree h) taken = let clear : is_taken ws 1 ≡ false = ap (λ (word : ℕ). bit_at word 1 == 1) h.is.kind in absurd (cc)
+tree-untaken ws (tree h) taken = let clear : is_taken ws 1 ≡ false = ap (λ (word : ℕ). bit_at word 1 == 1) h.is.shape.kind in absurd (cc)
 tree-untaken ws (free h) taken = let clear : is_taken ws 1 ≡ false = ap (λ (xs : List ℕ). is_taken xs 1) h.words in absurd (cc)
 tree-untaken ws (neither is) taken = is
 

@@ -16,12 +16,12 @@ use Rattle.ib_walk.proofs.SearchLaws.{above, above-zero}
 use Rattle.ib_walk.proofs.TreeLaws.{value_at-content_of}
 use Rattle.ib_plans.specs.Insert.{AreFresh, first_fresh, other_fresh, insert_below, planned_insert}
 use Rattle.ib_plans.specs.Moves.{Puts, HasMoved}
-use Rattle.ib_plans.specs.Agreement.{IsThere, state_or_free, memory_in, Agrees, MayTick, last_of, Sets, tick}
+use Rattle.ib_plans.specs.Agreement.{IsClimbed, IsThere, state_or_free, memory_in, Agrees, MayTick, last_of, Sets, tick}
 use Rattle.ib_plans.proofs.ChosenLaws.{chosen-fresh, chosen-length}
 use Rattle.ib_plans.proofs.EditLaws.{IsSome-and}
 use Rattle.ib_plans.proofs.LevelLaws.{above-sum}
 use Rattle.ib_plans.proofs.PathLaws.{page_below-child}
-use Rattle.ib_split.specs.Inserts.{HasFresh, HasInsertImages, with_record, CanPut, CanSplit, IsSplit, CanRaise, IsRaised, IsInsertClimbed}
+use Rattle.ib_split.specs.Inserts.{HasFresh, HasInsertImages, with_record, CanPut, CanSplit, IsSplit, CanRaise, IsRaised}
 use Rattle.ib_split.proofs.OnPathLaws.{in-range, path-length, path-last, path-at, path-tree, path-same}
 use Rattle.ib_split.proofs.Pending.{IsPending, HasRoom, on-path, clean-here, kept-here, now, absent-here}
 use Rattle.ib_split.proofs.Putting.{put-climbed}
@@ -102,7 +102,7 @@ module _ (path fresh : List ℕ) (key : MapKey) (value : ℕ) (old : List WorkPa
 
       pub put-done : (length (memory_in work page).records == MOST_RECORDS) ≡ false → (new : List WorkPage) → Sets page (tick (with_record k v (memory_in work page))) work new
           → HasMoved (Puts k) (changed_of page work) (changed_of page new)
-          → let g = planned_insert m bits fresh key value root in IsInsertClimbed (take height fresh) m g.memory g.bits bits g.touched g.moves old new
+          → let g = planned_insert m bits fresh key value root in IsClimbed 1 (take height fresh) m g.memory g.bits bits g.touched g.moves old new
       put-done not_full new sets puts =
           put-climbed roots root key value fresh old m bits has-room height (length path - 1 - height) page tall at k v work p there-old
           (let n = not-most (length (memory_in work page).records) not_full in let e = ap (λ (q : PageState). length q.records) page-now in let s = (agrees.lawful.sound page some).short in omega (arith, n))
@@ -229,10 +229,10 @@ module _ (path fresh : List ℕ) (key : MapKey) (value : ℕ) (old : List WorkPa
         (can-raise roots root key value fresh old m bits has-room k v work pending-root full-root fits.low tree-root left-there right-there clocks.0 agrees.same)))
 
     pub raise-done : (new : List WorkPage) → IsRaised (get_or path 0 0) (get_or fresh (length path - 1) 0) (get_or fresh (length path - 1 + 1) 0) k v work new
-        → let g = planned_insert m bits fresh key value root in IsInsertClimbed (take (length path - 1 + 2) fresh) m g.memory g.bits bits g.touched g.moves old new
+        → let g = planned_insert m bits fresh key value root in IsClimbed 1 (take (length path - 1 + 2) fresh) m g.memory g.bits bits g.touched g.moves old new
     raise-done new is =
         let s = subst (λ b. IsRaised root (first_fresh (insert_below m bits fresh key value (height_of m root) root).fresh) b k v work new) (sym right-is)
         (subst (λ a. IsRaised root a (get_or fresh (length path - 1 + 1) 0) k v work new) (sym left-is)
         (subst (λ q. IsRaised q (get_or fresh (length path - 1) 0) (get_or fresh (length path - 1 + 1) 0) k v work new) root-is is)) in
         let c = raise-climbed roots root key value fresh old m bits has-room k v work pending-root full-root fits.low tree-root left-there right-there clocks.0 agrees.same new s in
-        subst (λ h. let g = planned_insert m bits fresh key value root in IsInsertClimbed (take (h + 2) fresh) m g.memory g.bits bits g.touched g.moves old new) (sym height-is) c
+        subst (λ h. let g = planned_insert m bits fresh key value root in IsClimbed 1 (take (h + 2) fresh) m g.memory g.bits bits g.touched g.moves old new) (sym height-is) c

@@ -12,9 +12,9 @@ use Rattle.ib_walk.proofs.ChoiceLaws.{cond-ne}
 use Rattle.ib_plans.specs.Marks.{with_bit}
 use Rattle.ib_plans.specs.Moves.{Move, HasMoved}
 use Rattle.ib_plans.specs.Insert.{AreFresh}
-use Rattle.ib_plans.specs.Agreement.{SetsBits, IsThere, state_or_free, reads_of, HasBits, IsPlanned, space_ticks, taken_bits, with_bits}
+use Rattle.ib_plans.specs.Agreement.{IsClimbed, SetsBits, IsThere, state_or_free, reads_of, HasBits, IsPlanned, space_ticks, taken_bits, with_bits}
 use Rattle.ib_plans.proofs.EditLaws.{changed_of-same, changed_of-other, reads_of-changed}
-use Rattle.ib_split.specs.Inserts.{IsInsertClimbed, MayTakePages}
+use Rattle.ib_split.specs.Inserts.{MayTakePages}
 use Rattle.ib_split.proofs.BitLaws.{SameBits, with_bits-same, AreFresh-same}
 
 -- the bits that a memory has are those of the space page
@@ -67,7 +67,7 @@ some-if : (P : List ℕ → Type 0) (o : Option (List ℕ)) (image : List ℕ) �
 some-if P o image is holds = let Q : Option (List ℕ) → Type 0 = λ q. IfSome q P in subst Q (sym is) holds
 
 module _ (pages : ℕ) (few : pages ≤ MAPPED_PAGES) (used : List ℕ) (m planned : PageMemory) (bits after : ℕ → ℕ) (touched : ℕ → Bool) (moves : ℕ → Move) (old mid : List WorkPage)
-    (climbed : IsInsertClimbed used m planned after bits touched moves old mid) (space : IfSome (changed_of 0 old) (HasBits pages bits)) (below : AllByRecursion (λ q. q < pages) used) where
+    (climbed : IsClimbed 1 used m planned after bits touched moves old mid) (space : IfSome (changed_of 0 old) (HasBits pages bits)) (below : AllByRecursion (λ q. q < pages) used) where
   -- no page was taken: page 0 is as it was
   module _ (none : length used ≡ 0) where
     off : touched 0 ≡ false

@@ -13,13 +13,13 @@ use Rattle.ib_walk.proofs.SearchLaws.{above}
 use Rattle.ib_plans.specs.Marks.{with_clock, ticked}
 use Rattle.ib_plans.specs.Insert.{Growth, insert_below, planned_insert}
 use Rattle.ib_plans.specs.Moves.{Move, Puts, HasMoved}
-use Rattle.ib_plans.specs.Agreement.{IsThere, memory_in, Sets, tick}
+use Rattle.ib_plans.specs.Agreement.{IsClimbed, IsThere, memory_in, Sets, tick}
 use Rattle.ib_plans.proofs.ClockLaws.{ticked-touched}
 use Rattle.ib_plans.proofs.EditLaws.{set-reads, set-same, set-others, set-other, set-there, set-was}
 use Rattle.ib_plans.proofs.MoveLaws.{with_move-own, with_move-other}
 use Rattle.ib_plans.proofs.NeedLaws.{IsCounted-need}
 use Rattle.ib_plans.proofs.SettledLaws.{planned_insert-short}
-use Rattle.ib_split.specs.Inserts.{with_record, IsInsertClimbed}
+use Rattle.ib_split.specs.Inserts.{with_record}
 use Rattle.ib_split.proofs.Pending.{IsPending, HasRoom, ticked-same, on-path, clean-here, kept-here, long-here, memory-other, now, length-here}
 
 module _ (roots root : ℕ) (key : MapKey) (value : ℕ) (fresh : List ℕ) (old : List WorkPage) (m : PageMemory) (bits : ℕ → ℕ) (x : HasRoom roots root key fresh m bits)
@@ -80,7 +80,7 @@ module _ (roots root : ℕ) (key : MapKey) (value : ℕ) (fresh : List ℕ) (old
         (subst (λ (o : Option (List ℕ)). HasMoved (p.moves n) (changed_of n old) o) (sym (set-others page (tick (with_record k v (memory_in work page))) work new sets n (λ e. ne (sym e)))) (p.moved n ns))
 
     -- so the work set has the pages of the plan
-    climbed : IsInsertClimbed (take height fresh) m g.memory g.bits bits g.touched g.moves old new
+    climbed : IsClimbed 1 (take height fresh) m g.memory g.bits bits g.touched g.moves old new
     climbed = record {
       reads = set-reads page (tick (with_record k v (memory_in work page))) work new sets ∙ p.reads;
       there = there-after;
@@ -101,5 +101,5 @@ module _ (roots root : ℕ) (key : MapKey) (value : ℕ) (fresh : List ℕ) (old
       zero = p.zero_is ∙ ap (nat_lt 0) (let t = length-take height fresh in let f = p.few in omega arith);
     }
 
-    pub put-climbed : let g = planned_insert m bits fresh key value root in IsInsertClimbed (take height fresh) m g.memory g.bits bits g.touched g.moves old new
-    put-climbed = subst (λ (g : Growth). IsInsertClimbed (take height fresh) m g.memory g.bits bits g.touched g.moves old new) (sym whole) climbed
+    pub put-climbed : let g = planned_insert m bits fresh key value root in IsClimbed 1 (take height fresh) m g.memory g.bits bits g.touched g.moves old new
+    put-climbed = subst (λ (g : Growth). IsClimbed 1 (take height fresh) m g.memory g.bits bits g.touched g.moves old new) (sym whole) climbed

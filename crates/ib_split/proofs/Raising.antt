@@ -18,7 +18,7 @@ use Rattle.ib_plans.specs.Marks.{mark, with_bit, with_clock, ticked}
 use Rattle.ib_plans.specs.Moves.{Move, Puts, Fills, unmoved, with_move, HasMoved}
 use Rattle.ib_plans.specs.Split.{with_records, raise_page, raised_left, raised_right, raised_root}
 use Rattle.ib_plans.specs.Insert.{Growth, AreFresh, first_fresh, other_fresh, insert_below, planned_insert, raised}
-use Rattle.ib_plans.specs.Agreement.{IsThere, state_or_free, memory_in, tick, with_bits}
+use Rattle.ib_plans.specs.Agreement.{IsClimbed, IsThere, state_or_free, memory_in, tick, with_bits}
 use Rattle.ib_plans.proofs.ClockLaws.{ticked-touched}
 use Rattle.ib_plans.proofs.EditLaws.{IsSome-and, set-reads, set-same, set-others, set-other, set-there, set-was}
 use Rattle.ib_plans.proofs.InsertLaws.{IsInsertedBelow, one_over}
@@ -29,7 +29,7 @@ use Rattle.ib_plans.proofs.NeedLaws.{IsCountedWhole, IsCountedWhole-need, full_r
 use Rattle.ib_plans.proofs.PageLaws.{mark-on, mark-own}
 use Rattle.ib_plans.proofs.PathLaws.{PathPage}
 use Rattle.ib_plans.proofs.PathListLaws.{pages_up, length-pages_up, path_of-pages}
-use Rattle.ib_split.specs.Inserts.{with_record, CanRaise, IsRaised, IsInsertClimbed}
+use Rattle.ib_split.specs.Inserts.{with_record, CanRaise, IsRaised}
 use Rattle.ib_split.proofs.Pending.{IsPending, HasRoom, ticked-same, below, on-path, clean-here, kept-here, long-here, memory-other, rest, now, absent-here, length-here}
 use Rattle.ib_split.proofs.Splitting.{first_fresh-drop, other_fresh-drop, with_bits-more, formed-kind}
 
@@ -352,7 +352,7 @@ module _ (roots root : ℕ) (key : MapKey) (value : ℕ) (fresh : List ℕ) (old
           let nb : n ≢ b = (λ e. let on = ap touched_after e ∙ on-right in cc) in
           after-other n nr na nb ∙ p.kept n ns (sym (touched-other n ns nr na nb) ∙ off)
 
-      climbed : IsInsertClimbed (take (height + 2) fresh) m pages_after (raised root g).bits bits touched_after moves_after old new
+      climbed : IsClimbed 1 (take (height + 2) fresh) m pages_after (raised root g).bits bits touched_after moves_after old new
       climbed = record {
         reads = set-reads b right-state is.two new is.at_right ∙ (set-reads a left-state is.one is.two is.at_left ∙ (set-reads root root-state work is.one is.at_root ∙ p.reads));
         there = there-after;
@@ -373,5 +373,5 @@ module _ (roots root : ℕ) (key : MapKey) (value : ℕ) (fresh : List ℕ) (old
           bits-path : (c d : ℕ → ℕ) → ((i : ℕ) → c i ≡ d i) → c ≡ d
           bits-path c d h j i = h i j
 
-      pub raise-climbed : let G = planned_insert m bits fresh key value root in IsInsertClimbed (take (height + 2) fresh) m G.memory G.bits bits G.touched G.moves old new
-      raise-climbed = subst (λ (G : Growth). IsInsertClimbed (take (height + 2) fresh) m G.memory G.bits bits G.touched G.moves old new) (sym whole) climbed
+      pub raise-climbed : let G = planned_insert m bits fresh key value root in IsClimbed 1 (take (height + 2) fresh) m G.memory G.bits bits G.touched G.moves old new
+      raise-climbed = subst (λ (G : Growth). IsClimbed 1 (take (height + 2) fresh) m G.memory G.bits bits G.touched G.moves old new) (sym whole) climbed

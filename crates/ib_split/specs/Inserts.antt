@@ -1,5 +1,5 @@
 -- What a planned insert asks of its work set, and what a split and a raise do to it.
-use Rattle.std.specs.Prelude.{◌≡◌, ◌≢◌, ℕ, ◌<◌, ◌≤◌, ◌^◌, Bool, true, false, List, length, take, nat_lt, None, IsSomeAnd, IfSome}
+use Rattle.std.specs.Prelude.{◌≡◌, ◌≢◌, ℕ, ◌<◌, ◌≤◌, ◌^◌, true, List, length, take, None, IsSomeAnd, IfSome}
 use Rattle.std.specs.List.{All}
 use Rattle.ib_map.specs.Keys.{MapKey}
 use Rattle.ib_map.specs.Pairs.{put, value_at}
@@ -12,9 +12,8 @@ use Rattle.ib_walk.specs.Trees.{height_of, most_height}
 use Rattle.ib_walk.specs.Full.{need_of, is_root_full, free_of, chosen}
 use Rattle.ib_plans.specs.Split.{with_records, with_prev, right_part, first_key, lower_half, upper_half, raised_left, raised_right, raised_root}
 use Rattle.ib_plans.specs.Insert.{planned_insert, AreFresh}
-use Rattle.ib_plans.specs.Marks.{ticked}
-use Rattle.ib_plans.specs.Moves.{Move, Fills, unmoved, with_move, HasMoved}
-use Rattle.ib_plans.specs.Agreement.{IsThere, memory_in, reads_of, Agrees, IsPlanned, Sets, tick, HasTreePages, MayTick, last_of, taken_bits, with_bits}
+use Rattle.ib_plans.specs.Moves.{Fills, unmoved, with_move, HasMoved}
+use Rattle.ib_plans.specs.Agreement.{IsThere, memory_in, Agrees, IsPlanned, IsClimbed, Sets, tick, HasTreePages, MayTick, last_of, taken_bits}
 
 -- the fresh pages are the lowest free ones, as many as the insert takes, and it raises no root that is as high as it may be
 pub record HasFresh (pages roots root : ℕ) (key : MapKey) (fresh : List ℕ) (memory : PageMemory) (bits : ℕ → ℕ) : Type 0 where
@@ -125,19 +124,8 @@ pub record MayTakePages (pages : List ℕ) (work : List WorkPage) : Type 0 where
   pub free : IfSome (changed_of 0 work) (λ image. AreFresh (taken_bits image) pages)
   pub clock : IfSome (changed_of 0 work) (λ image. space_clock_of image < 2 ^ 63)
 
--- the tree's pages are those of the plan, and their records stand as it moves them; page 0 and each page that is not touched is as it was; these fresh pages were used, and the plan has taken them
-pub record IsInsertClimbed (used : List ℕ) (memory planned : PageMemory) (bits before : ℕ → ℕ) (touched : ℕ → Bool) (moves : ℕ → Move) (old new : List WorkPage) : Type 0 where
-  pub reads : reads_of new ≡ reads_of old
-  pub there : (page : ℕ) → page ≢ 0 → touched page ≡ true → IsThere new page
-  pub same : (page : ℕ) → page ≢ 0 → IsThere new page → memory_in new page ≡ ticked memory touched planned page
-  pub moved : (page : ℕ) → page ≢ 0 → HasMoved (moves page) (changed_of page old) (changed_of page new)
-  pub kept : (page : ℕ) → page ≢ 0 → touched page ≡ false → changed_of page new ≡ changed_of page old
-  pub space : changed_of 0 new ≡ changed_of 0 old
-  pub bits_are : (page : ℕ) → bits page ≡ with_bits used 1 before page
-  pub zero : touched 0 ≡ nat_lt 0 (length used)
-
--- .. for every memory whose pages these were
+-- the plan of the insert but for page 0, with so many fresh pages used, for every memory whose pages these were
 abbrev pub IsInsertClimbedForAll : List ℕ → List ℕ → MapKey → ℕ → ℕ → List WorkPage → List WorkPage → Type 0
 IsInsertClimbedForAll path fresh key value used old new = (pages roots root : ℕ) (memory : PageMemory) (bits : ℕ → ℕ)
     → Agrees pages roots root key path old memory bits → HasFresh pages roots root key fresh memory bits
-    → let g = planned_insert memory bits fresh key value root in IsInsertClimbed (take used fresh) memory g.memory g.bits bits g.touched g.moves old new
+    → let g = planned_insert memory bits fresh key value root in IsClimbed 1 (take used fresh) memory g.memory g.bits bits g.touched g.moves old new

@@ -4,10 +4,10 @@ use Rattle.std.specs.declared.option.Option.{Option}
 use Rattle.std.specs.Io.KnownBytes.{Keeps}
 use Rattle.ib_io.specs.Input.{ReadsAll, ConsumesMore, ConsumesAtMost}
 use Rattle.ib_io.specs.Lines.{readings_by}
-use Rattle.ib_io.specs.Told.{Ending, OwesLines, ends}
+use Rattle.ib_io.specs.Told.{Ending, OwesLines, TellsFault, ends}
 use Rattle.ib_io.specs.declared.read.TheConstants.{INPUT_BYTES}
 use Rattle.ib_io.specs.declared.status.Status.{Status}
-use Rattle.ib_io.specs.declared.status.Status.TheVariants.{Done, Usage, ReadFault, Memory, TooLarge}
+use Rattle.ib_io.specs.declared.status.Status.TheVariants.{Done, Usage, ReadFault, WriteFault, Memory, TooLarge}
 use Rattle.ib_script.specs.Script.{ScriptValue, IsScript, first_fault, reading_of}
 use Rattle.ib_latch_form.specs.Answers.{AnswersEvents}
 use Rattle.ib_latch_form.specs.Events.{event_fault}
@@ -97,3 +97,8 @@ HasGood form (Some input) = (length input ≤ INPUT_BYTES) × IsGoodInput form i
 abbrev pub IsServed : Form → Option (List ℕ) → Type 0
 IsServed (Gen load) left = Unit {0}
 IsServed form left = HasGood form left
+
+-- a status tells a fault of the source, and one of the sink, only where that one's count of faults rose, and where it tells none the count stands
+pub record TellsFaults (status : Status) (reads reads_now writes writes_now : ℕ) : Type 0 where
+  pub read : TellsFault ReadFault status reads reads_now
+  pub write : TellsFault WriteFault status writes writes_now

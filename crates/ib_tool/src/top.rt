@@ -2,8 +2,8 @@
 
 ghost use Rattle.std.specs.Prelude.{◌≡◌, Some, map, string_bytes};
 ghost use Rattle.ib_io.specs.Faults.{Rose};
-ghost use Rattle.ib_tool.specs.Answers.{IsCutOff, IsOwedAt, IsServed, IsSilent, IsSilentAt, Owes, OwesInput};
-ghost use Rattle.ib_io.specs.Told.{IsComplete, TellsFault, Told};
+ghost use Rattle.ib_tool.specs.Answers.{IsCutOff, IsOwedAt, IsServed, IsSilent, IsSilentAt, Owes, OwesInput, TellsFaults};
+ghost use Rattle.ib_io.specs.Told.{IsComplete, Told};
 ghost use Rattle.ib_tool.specs.Words.{IsLawfulForm, form_of};
 ghost use Rattle.ib_tool.specs.declared.form.Form.{Form};
 
@@ -27,8 +27,7 @@ fn read_and_answer<S: Source, K: Sink, G: Gate + Sync, R: Threads + Wait + Sync>
 ) -> Status
     requires { IsLawfulForm form }
     ensures told { Told (OwesInput form (S.left source.old) (S.left source.new)) (IsCutOff (S.left source.old) (S.left source.new)) (K.written sink.old) (K.written sink.new) result }
-    ensures read { TellsFault Status.ReadFault result (S.faults source.old) (S.faults source.new) }
-    ensures write { TellsFault Status.WriteFault result (K.faults sink.old) (K.faults sink.new) }
+    ensures faults { TellsFaults result (S.faults source.old) (S.faults source.new) (K.faults sink.old) (K.faults sink.new) }
 {
     match read_all(alloc, source, INPUT_BYTES) {
         Ok(input) => answer(rt, alloc, form, &input, sink, gate),
@@ -49,8 +48,7 @@ fn act<S: Source, K: Sink, G: Gate + Sync, R: Threads + Wait + Sync>(
 ) -> Status
     requires { IsLawfulForm form }
     ensures told { Told (IsOwedAt form (S.left source.old) (S.left source.new)) (IsSilentAt form (S.left source.old) (S.left source.new)) (K.written sink.old) (K.written sink.new) result }
-    ensures read { TellsFault Status.ReadFault result (S.faults source.old) (S.faults source.new) }
-    ensures write { TellsFault Status.WriteFault result (K.faults sink.old) (K.faults sink.new) }
+    ensures faults { TellsFaults result (S.faults source.old) (S.faults source.new) (K.faults sink.old) (K.faults sink.new) }
 {
     if form.reads() {
         read_and_answer(rt, alloc, form, source, sink, gate)
@@ -70,8 +68,7 @@ fn dispatch<S: Source, K: Sink, G: Gate + Sync, R: Threads + Wait + Sync>(
 ) -> Status
     ensures told { Told (Owes (map (λ w. string_bytes w) words.now) (S.left source.old) (S.left source.new))
         (IsSilent (map (λ w. string_bytes w) words.now) (S.left source.old) (S.left source.new)) (K.written sink.old) (K.written sink.new) result }
-    ensures read { TellsFault Status.ReadFault result (S.faults source.old) (S.faults source.new) }
-    ensures write { TellsFault Status.WriteFault result (K.faults sink.old) (K.faults sink.new) }
+    ensures faults { TellsFaults result (S.faults source.old) (S.faults source.new) (K.faults sink.old) (K.faults sink.new) }
 {
     match form_of(words) {
         Some(form) => act(rt, alloc, form, source, sink, gate),
@@ -103,8 +100,7 @@ pub fn top<S: Source, K: Sink, G: Gate + Sync, R: Threads + Wait + Sync>(
         (IsSilent (map (λ w. string_bytes w) words.now) (S.left source.old) (S.left source.new)) (K.written sink.old) (K.written sink.new) result }
 
     // A fault is told only where that object's count rose in this call, and where none is told none came.
-    ensures read { TellsFault Status.ReadFault result (S.faults source.old) (S.faults source.new) }
-    ensures write { TellsFault Status.WriteFault result (K.faults sink.old) (K.faults sink.new) }
+    ensures faults { TellsFaults result (S.faults source.old) (S.faults source.new) (K.faults sink.old) (K.faults sink.new) }
 
     // A form that gets what it needs is answered and the whole output written, unless memory runs out or one side fails.
     ensures complete { (form : Form) → form_of (map (λ w. string_bytes w) words.now) ≡ Some form → IsServed form (S.left source.old) →

@@ -24,7 +24,7 @@ returns-then-first-ne0 c =
     record { offset = f.offset; low = f.low; high = f.high; front = c.write.ensures.here ∙ f.next; top = omega arith; other = λ i six seven. c.write.ensures.other i six; size = c.write.ensures.size }
 
 pub overflow_add-top : goal.overflow_add-top
-overflow_add-top c = let k = known _ c.requires.tree in let t = k.is.top in let f = k.few in let s = k.slots in omega arith
+overflow_add-top c = let k = known _ c.requires.tree in let t = k.is.shape.top in let f = k.few in let s = k.slots in omega arith
 
 pub write-requires-2 : goal.write-requires-2
 write-requires-2 c = let k = known _ c.requires.tree in let z = k.size in omega arith
@@ -32,7 +32,7 @@ write-requires-2 c = let k = known _ c.requires.tree in let z = k.size in omega 
 pub returns : goal.returns
 returns c =
     let k = known _ c.requires.tree in
-    let t = k.is.top in let f = k.few in let few = c.requires.few in
+    let t = k.is.shape.top in let f = k.few in let few = c.requires.few in
     let p = known-top _ k (let z = c.if-first-ne0.false in omega arith) in
     let n = p.none in let m = p.more in
     let here = c.write-2.ensures.here in

@@ -10,8 +10,8 @@ use Rattle.ib_walk.specs.Trees.{height_of}
 use Rattle.ib_walk.proofs.SearchLaws.{above-zero}
 use Rattle.ib_plans.specs.Insert.{planned_insert}
 use Rattle.ib_plans.specs.Moves.{Puts, HasMoved}
-use Rattle.ib_plans.specs.Agreement.{memory_in, Sets, tick}
-use Rattle.ib_split.specs.Inserts.{CanPut, with_record, IsInsertClimbed}
+use Rattle.ib_plans.specs.Agreement.{IsClimbed, memory_in, Sets, tick}
+use Rattle.ib_split.specs.Inserts.{CanPut, with_record}
 use Rattle.ib_split.proofs.OnPathLaws.{path-length, path-page, path-at}
 use Rattle.ib_split.proofs.Pending.{IsPending, IsPending-leaf}
 use Rattle.ib_split.proofs.Climbing.{tree-at, put-can, put-done, fresh-few, split-can, split-done, fresh-two, raise-can, raise-done}
@@ -100,7 +100,7 @@ returns-then-not-is_full-2-clause-climbed c pages roots root m bits agrees fits 
     let can = c.requires.can in
     let zero : length c.args.path.now - 1 - c.loop-used.used ≡ 0 = let f = c.loop-used-test.false in omega arith in
     let whole : c.loop-used.used ≡ length c.args.path.now - 1 = let f = c.loop-used-test.false in let t = c.loop-used.auto.used-end in omega arith in
-    subst (λ i. let g = planned_insert m bits c.args.fresh.now c.args.key c.args.value root in IsInsertClimbed (take i c.args.fresh.now) m g.memory g.bits bits g.touched g.moves c.args.work.now c.put_record-then-not-is_full-2.new.work) whole
+    subst (λ i. let g = planned_insert m bits c.args.fresh.now c.args.key c.args.value root in IsClimbed 1 (take i c.args.fresh.now) m g.memory g.bits bits g.touched g.moves c.args.work.now c.put_record-then-not-is_full-2.new.work) whole
     (put-done c.args.path.now c.args.fresh.now c.args.key c.args.value c.args.work.now can.images can.clocks c.requires.absent pages roots root m bits agrees fits
     c.loop-used.used (let s = c.requires.some in omega arith) c.loop-used.key c.loop-used.value c.loop-used.work (c.loop-used.invariant pages roots root m bits agrees fits)
     (subst (λ i. (length (memory_in c.loop-used.work (get_or c.args.path.now i 0)).records == MOST_RECORDS) ≡ false) (sym zero) (sym c.is_full-2.ensures ∙ c.if-not-is_full-2.true))
