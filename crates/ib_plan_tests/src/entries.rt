@@ -4,7 +4,8 @@ ghost use Rattle.std.specs.Prelude.{◌≡◌, ◌<◌, IsTrue};
 ghost use Rattle.ib_validate.specs.Positions.{positions_of};
 
 use crate::keys::key;
-use ib_map::{Key, LEAST_PAGES, PAGE_WORDS, PlainMap, Write};
+use ib_map::{Key, LEAST_PAGES, PAGE_WORDS, Write};
+use ib_sorted_map::SortedMap;
 use ib_validate::TreePages;
 use std::test::Fail;
 
@@ -75,7 +76,7 @@ fn first_record(clock: u64, key: u64, value: u64) -> [Write; 9] {
 }
 
 // Whether the pages are a tree after these writes, which are then settled.
-fn leaves_tree(pages: &mut TreePages, writes: &[Write], key: Key, map: &PlainMap) -> bool
+fn leaves_tree(pages: &mut TreePages, writes: &[Write], key: Key, map: &SortedMap) -> bool
     requires { positions_of pages.old.met_after ≡ positions_of pages.old.met_before }
     ensures { IsTrue result → positions_of pages.new.met_after ≡ positions_of pages.new.met_before }
 {
@@ -94,7 +95,7 @@ fn leaves_tree(pages: &mut TreePages, writes: &[Write], key: Key, map: &PlainMap
 #[test]
 fn an_insert_leaves_a_tree(rt: HostRuntime) -> Result<(), Fail> {
     let mut pages = TreePages::opening(rt.alloc(), 16)?;
-    let mut map = PlainMap::new(rt.alloc());
+    let mut map = SortedMap::new(rt.alloc());
     assert!(rt; leaves_tree(&mut pages, &[word(1, 5, 1)], key(7), &map));
     map.insert(key(7), 9)?;
     let insert = first_record(2, 7, 9);
@@ -105,7 +106,7 @@ fn an_insert_leaves_a_tree(rt: HostRuntime) -> Result<(), Fail> {
 #[test]
 fn another_value_leaves_none(rt: HostRuntime) -> Result<(), Fail> {
     let mut pages = TreePages::opening(rt.alloc(), 16)?;
-    let mut map = PlainMap::new(rt.alloc());
+    let mut map = SortedMap::new(rt.alloc());
     map.insert(key(7), 9)?;
     let insert = first_record(1, 7, 8);
     assert!(rt; !leaves_tree(&mut pages, &insert, key(7), &map));
@@ -115,7 +116,7 @@ fn another_value_leaves_none(rt: HostRuntime) -> Result<(), Fail> {
 #[test]
 fn a_bit_of_a_page_that_is_not_met_leaves_none(rt: HostRuntime) -> Result<(), Fail> {
     let mut pages = TreePages::opening(rt.alloc(), 16)?;
-    let map = PlainMap::new(rt.alloc());
+    let map = SortedMap::new(rt.alloc());
     let bits = Write { place: 0, value: 7 };
     assert!(rt; !leaves_tree(&mut pages, &[bits, word(1, 5, 1)], key(7), &map));
     Ok(())
@@ -124,7 +125,7 @@ fn a_bit_of_a_page_that_is_not_met_leaves_none(rt: HostRuntime) -> Result<(), Fa
 #[test]
 fn a_raised_root_leaves_a_tree(rt: HostRuntime) -> Result<(), Fail> {
     let mut pages = TreePages::opening(rt.alloc(), 16)?;
-    let mut map = PlainMap::new(rt.alloc());
+    let mut map = SortedMap::new(rt.alloc());
     map.insert(key(3), 0)?;
     map.insert(key(7), 0)?;
     assert!(rt; leaves_tree(&mut pages, &raised_root(2), key(7), &map));
@@ -158,7 +159,7 @@ fn a_raised_root_leaves_a_tree(rt: HostRuntime) -> Result<(), Fail> {
 #[test]
 fn a_link_that_does_not_lead_back_leaves_none(rt: HostRuntime) -> Result<(), Fail> {
     let mut pages = TreePages::opening(rt.alloc(), 16)?;
-    let mut map = PlainMap::new(rt.alloc());
+    let mut map = SortedMap::new(rt.alloc());
     map.insert(key(3), 0)?;
     map.insert(key(7), 0)?;
     assert!(rt; !leaves_tree(&mut pages, &raised_root(0), key(7), &map));

@@ -1,7 +1,8 @@
-//! The plain map, and the chunks of a scan.
+//! The plain map, the sorted map, and the chunks of a scan.
 
 use crate::keys::key;
 use ib_map::{Chunk, Chunks, MapFault, PlainMap};
+use ib_sorted_map::SortedMap;
 use std::test::Fail;
 
 #[test]
@@ -14,6 +15,27 @@ fn refuses_what_is_there_and_what_is_not(rt: HostRuntime) -> Result<(), Fail> {
     assert_eq!(rt; map.get(key(1)), Some(2));
     assert_eq!(rt; map.delete(key(1))?, 2);
     assert!(rt; map.is_empty());
+    Ok(())
+}
+
+#[test]
+fn a_sorted_map_is_the_plain_one(rt: HostRuntime) -> Result<(), Fail> {
+    let mut map = SortedMap::new(rt.alloc());
+    for number in 0..40 {
+        map.insert(key(number * 7 % 40), number)?;
+    }
+    assert!(rt; matches!(map.insert(key(3), 2), Err(MapFault::Duplicate)));
+    assert_eq!(rt; map.delete(key(7))?, 1);
+    assert!(rt; matches!(map.delete(key(7)), Err(MapFault::Missing)));
+    assert_eq!(rt; map.get(key(14)), Some(2));
+    assert_eq!(rt; map.range(key(6), key(8)).count(), 2);
+    assert_eq!(rt; map.range(key(8), key(6)).count(), 0);
+    let plain = map.to_plain(rt.alloc())?;
+    assert_eq!(rt; plain.len(), 39);
+    assert_eq!(rt;
+        plain.range(key(6), key(8)),
+        [(key(6), 18), (key(8), 24)].as_slice()
+    );
     Ok(())
 }
 

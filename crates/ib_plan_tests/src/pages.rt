@@ -18,7 +18,7 @@ ghost use Rattle.ib_plan_tests.specs.Reads.{IsReadFrom};
 use ib_map::{Key, PAGE_WORDS, is_below};
 use ib_merge::{Beside, records_beside};
 use ib_page::{Image, Kind, MOST_WORK_PAGES, Path, WorkSet};
-use ib_validate::reading;
+use ib_validate::{Page, reading};
 use std::process::Abort;
 
 // Clocks below this may tick.
@@ -53,7 +53,7 @@ pub(crate) fn path_to(rt: &impl Abort, memory: &[Image], root: u32, key: Key) ->
 {
     let mut path = Path::new();
     let mut page = root;
-    for _level in 0..reading::level(image_at(rt, memory, root)) {
+    for _level in 0..reading::level(&Page::test(image_at(rt, memory, root))) {
         path.push(page);
         page = child_at(rt, memory, page, key);
     }
@@ -200,7 +200,7 @@ pub(crate) fn next_of(work: &WorkSet, page: u32) -> u32
     ensures { result ≡ (memory_in work.now page).next }
 {
     match work.image(page) {
-        Some(image) => reading::next(image),
+        Some(image) => reading::next(&Page::test(image)),
         None => 0,
     }
 }

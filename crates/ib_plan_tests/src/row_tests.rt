@@ -11,7 +11,7 @@ use ib_map::{Key, OutOfMemory};
 use ib_page::{Image, MOST_LEVEL, MOST_PATH, MOST_RECORDS, Path, WorkSet, opening_image};
 use ib_plans::TreeFault;
 use ib_split::{choose_pages, pages_needed};
-use ib_validate::reading;
+use ib_validate::{Page, reading};
 use std::alloc::Global;
 use std::process::Abort;
 use std::test::Fail;
@@ -30,12 +30,12 @@ fn two_leaves(rt: &impl Abort, alloc: Global) -> Result<Trial, OutOfMemory> {
 fn has_keys(image: &Image, first: u64, count: usize) -> bool
     requires { first + count < 2 ^ 32 }
 {
-    if reading::count(image) != count {
+    if reading::count(&Page::test(image)) != count {
         return false;
     }
     for place in 0..count {
         let number = first + place as u64;
-        if reading::record_at(image, place) != (key(number), number) {
+        if reading::record_at(&Page::test(image), place) != (key(number), number) {
             return false;
         }
     }
@@ -62,9 +62,9 @@ fn inserts_of_1_to_36(rt: HostRuntime) -> Result<(), Fail> {
         }
     );
     let root = trial.page(&rt, 1);
-    assert!(rt; reading::count(root) == 2);
-    assert_eq!(rt; reading::record_at(root, 0), (Key::least(), 2));
-    assert_eq!(rt; reading::record_at(root, 1), (key(19), 3));
+    assert!(rt; reading::count(&Page::test(root)) == 2);
+    assert_eq!(rt; reading::record_at(&Page::test(root), 0), (Key::least(), 2));
+    assert_eq!(rt; reading::record_at(&Page::test(root), 1), (key(19), 3));
     assert!(rt; has_keys(trial.page(&rt, 2), 1, 18));
     assert_eq!(rt; links(trial.page(&rt, 2)), Some((0, 3)));
     assert!(rt; has_keys(trial.page(&rt, 3), 19, 18));

@@ -8,7 +8,7 @@ use ib_map::{Key, LEAST_PAGES, MOST_PAGES, OutOfMemory, PlainMap};
 use ib_page::{Image, SpaceImage, WorkSet, opening_image};
 use ib_plans::TreeFault;
 use ib_tree::{check_tree, content_of};
-use ib_validate::reading;
+use ib_validate::{Page, reading};
 use std::alloc::Global;
 use std::process::Abort;
 
@@ -88,8 +88,8 @@ impl Trial {
     pub(crate) fn shape(&self, rt: &impl Abort) -> Shape {
         assert!(rt; has_pages(&self.memory));
         Shape {
-            level: reading::level(&self.memory[1]),
-            root: reading::count(&self.memory[1]),
+            level: reading::level(&Page::test(&self.memory[1])),
+            root: reading::count(&Page::test(&self.memory[1])),
             free: SpaceImage::from_image(&self.memory[0]).free_count(self.memory.len() as u32),
         }
     }

@@ -17,6 +17,7 @@ ghost use Rattle.ib_replay.specs.TreeSteps.{AreTreePages, IsNext};
 use crate::memory::Memory;
 use ib_logrec::{Entry, LogFault, MOST_SESSIONS, UnlawfulKind, decode_at};
 use ib_map::{Change, Key, MapFault, PlainMap};
+use ib_sorted_map::SortedMap;
 use ib_validate::TreePages;
 use std::alloc::{AllocError, Global};
 
@@ -67,7 +68,7 @@ fn put_entries(alloc: Global, pages: u32, words: &[u64]) -> Result<Replayed, Log
     ensures fault { IfErr result (IsReplayFault pages words.now) }
 {
     let mut tree = TreePages::opening(alloc, pages)?;
-    let mut map = PlainMap::new(alloc);
+    let mut map = SortedMap::new(alloc);
     let mut counts = [0; COUNTS];
     let mut entries = Vec::new(alloc);
     let mut place = 0;
@@ -86,13 +87,13 @@ fn put_entries(alloc: Global, pages: u32, words: &[u64]) -> Result<Replayed, Log
     Ok(Replayed {
         memory: Memory::from_images(tree.into_images()),
         entries,
-        map,
+        map: map.to_plain(alloc)?,
     })
 }
 
 // Makes the change of an entry that begins at `place`. `counts` has the number of each session's entries.
 fn put_change(
-    map: &mut PlainMap,
+    map: &mut SortedMap,
     counts: &mut [u32],
     entry: &Entry,
     place: u32,
@@ -122,7 +123,7 @@ fn put_change(
 }
 
 // Stores what an entry writes, and tells whether its pages are one tree then that has what the map has.
-fn put_writes(tree: &mut TreePages, entry: &Entry, map: &PlainMap) -> bool
+fn put_writes(tree: &mut TreePages, entry: &Entry, map: &SortedMap) -> bool
     requires settled { IsSettled tree.old }
     requires places { All (λ w. w.place < length tree.old.before * PAGE_WORDS) entry.now.writes }
     ensures sound { (pages : ℕ) (log : List Entry) → IsNext pages log entry.now tree.old map.now → IsTrue result
@@ -148,7 +149,7 @@ fn changed_key(change: Change) -> Key
 }
 
 // Makes the change, and tells whether the map makes it.
-fn make(map: &mut PlainMap, change: Change) -> Result<bool, AllocError>
+fn make(map: &mut SortedMap, change: Change) -> Result<bool, AllocError>
     ensures made { IfOk result (λ made. made ≡ is_made (answer_of map.old change)) }
     ensures effect { OnOk result (map.new ≡ effect_of map.old change) }
 {

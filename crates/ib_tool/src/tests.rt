@@ -8,6 +8,7 @@ use std::test::Fail;
 use std::thread::Threads;
 
 mod events;
+mod full;
 mod gates;
 mod limits;
 mod lines;

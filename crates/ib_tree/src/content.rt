@@ -11,7 +11,7 @@ ghost use Rattle.ib_tree.specs.Roots.{HasRoot};
 
 use ib_map::{Key, OutOfMemory, PlainMap};
 use ib_page::Image;
-use ib_validate::reading;
+use ib_validate::{Page, reading};
 use std::alloc::{AllocError, Global};
 
 /// The content of the tree of a root, as a map: the records of its leaves, from the first one along the links. The
@@ -27,9 +27,9 @@ pub fn content_of(alloc: Global, memory: &[Image], root: u32) -> Result<PlainMap
         if page == 0 {
             return Ok(map);
         }
-        let leaf = image_at(memory, page);
-        insert_records(&mut map, leaf)?;
-        page = reading::next(leaf);
+        let leaf = page_at(memory, page);
+        insert_records(&mut map, &leaf)?;
+        page = reading::next(&leaf);
     }
     Ok(map)
 }
@@ -40,24 +40,25 @@ fn first_leaf(memory: &[Image], root: u32) -> u32
     ensures { result ≡ first_page (leaves_of (memory_of memory.now) root) 0 }
 {
     let mut page = root;
-    for _ in 0..reading::level(image_at(memory, root)) {
-        page = reading::record_at(image_at(memory, page), 0).1 as u32;
+    for _ in 0..reading::level(&page_at(memory, root)) {
+        page = reading::record_at(&page_at(memory, page), 0).1 as u32;
     }
     page
 }
 
-// The image of a page, which has all words, as each image has.
-fn image_at(memory: &[Image], page: u32) -> &Image
+// A page, by its image, which has all words, as each image has.
+fn page_at(memory: &[Image], page: u32) -> Page<'_>
     requires { page < length memory.now }
-    ensures { memory_of memory.now page ≡ state_of (page_of result.now) }
+    ensures { memory_of memory.now page ≡ state_of (page_of result) }
 {
     let image = &memory[page as usize];
+    // For the proof: an image has all words of a page.
     let _first = image.word(0);
-    image
+    Page::test(image)
 }
 
 // Inserts the records of a leaf, whose keys are above all of the map's.
-fn insert_records(map: &mut PlainMap, leaf: &Image) -> Result<(), OutOfMemory>
+fn insert_records(map: &mut PlainMap, leaf: &Page<'_>) -> Result<(), OutOfMemory>
     requires { Rises 0 (map.old ++ (state_of (page_of leaf.now)).records) end_rank }
     ensures { OnOk result (map.new ≡ map.old ++ (state_of (page_of leaf.now)).records) }
 {

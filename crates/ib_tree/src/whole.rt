@@ -10,11 +10,11 @@ ghost use Rattle.ib_validate.specs.PatchTest.{set_roots, visited};
 ghost use Rattle.ib_validate.specs.Positions.{is_good_at, marks_of, positions_of, IsStep};
 ghost use Rattle.ib_tree.specs.PageLists.{is_below, pages_below};
 ghost use Rattle.ib_tree.specs.Tests.{root_positions};
-ghost use Rattle.ib_tree.specs.WholeTest.{AreLow, PassesAllPages};
+ghost use Rattle.ib_tree.specs.WholeTest.{AreLow, MayVisitAll, PassesAllPages};
 
 use ib_map::{Key, LEAST_PAGES, MOST_PAGES, PAGE_WORDS};
 use ib_page::{Image, SpaceImage};
-use ib_validate::{PagePosition, all_pass, reading, space_page, visit_levels};
+use ib_validate::{PagePosition, Pages, all_pass, reading, space_page, test_all, visit_levels};
 
 // The most pages, as the length of a list.
 const MOST_LISTED: usize = MOST_PAGES as usize;
@@ -36,8 +36,11 @@ pub fn check_tree(memory: &[Image], roots: u32) -> bool
     let mut old = [None; MOST_LISTED];
     let mut table = [None; MOST_LISTED];
     let mut pages = [0; MOST_LISTED];
+    let mut forms = [false; MOST_LISTED];
     let written = [true; MOST_LISTED];
-    check_with(&mut old, &mut table, &mut pages, &written, memory, roots)
+    check_with(
+        &mut old, &mut table, &mut pages, &mut forms, &written, memory, roots,
+    )
 }
 
 // Checks a memory with lists that have room for each page: no page is met yet, and all are marked.
@@ -45,6 +48,7 @@ fn check_with(
     old: &mut [Option<PagePosition>],
     table: &mut [Option<PagePosition>],
     pages: &mut [u32],
+    forms: &mut [bool],
     written: &[bool],
     memory: &[Image],
     roots: u32,
@@ -56,6 +60,7 @@ fn check_with(
     requires old_room { length memory.now ≤ length old.old }
     requires table_room { length memory.now ≤ length table.old }
     requires page_room { length memory.now ≤ length pages.old }
+    requires form_room { length memory.now ≤ length forms.old }
     requires mark_room { length memory.now ≤ length written.now }
     requires numbered { length pages.old < 2 ^ 32 }
     requires unmet_before { (page : ℕ) → positions_of old.old page ≡ None }
@@ -67,9 +72,10 @@ fn check_with(
     meet_opening(old, roots);
     meet_opening(table, roots);
     list_pages(pages);
+    test_all(&mut forms[..count], memory);
     is_lawful(
         &mut table[..count],
-        memory,
+        &Pages::new(memory, &forms[..count]),
         &old[..count],
         &written[..count],
         &pages[..count],
@@ -81,7 +87,7 @@ fn check_with(
 // and listed.
 fn is_lawful(
     table: &mut [Option<PagePosition>],
-    memory: &[Image],
+    memory: &Pages<'_>,
     old: &[Option<PagePosition>],
     written: &[bool],
     pages: &[u32],
@@ -91,13 +97,7 @@ fn is_lawful(
     requires few { roots ≤ 2 }
     requires least { LEAST_PAGES ≤ length memory.now }
     requires most { length memory.now ≤ MOST_PAGES }
-    requires size { length table.old ≡ length memory.now }
-    requires old_size { length old.now ≡ length memory.now }
-    requires marks_size { length written.now ≡ length memory.now }
-    requires opening { positions_of old.now ≡ root_positions roots }
-    requires same { positions_of table.old ≡ root_positions roots }
-    requires marks { marks_of written.now ≡ is_below (length memory.now) }
-    requires pages { pages.now ≡ pages_below (length memory.now) }
+    requires may { MayVisitAll (length memory.now) roots table.old old.now written.now pages.now }
     ensures { IsTrue result ↔ IsLawfulMemory (length memory.now) roots (word_at memory.now) }
 {
     visit_all(table, memory, old, written, pages, roots)
@@ -107,20 +107,14 @@ fn is_lawful(
 // Visits all pages, from the roots down.
 fn visit_all(
     table: &mut [Option<PagePosition>],
-    memory: &[Image],
+    memory: &Pages<'_>,
     old: &[Option<PagePosition>],
     written: &[bool],
     pages: &[u32],
     roots: u32,
 ) -> bool
-    requires size { length table.old ≡ length memory.now }
-    requires old_size { length old.now ≡ length memory.now }
-    requires marks_size { length written.now ≡ length memory.now }
+    requires may { MayVisitAll (length memory.now) roots table.old old.now written.now pages.now }
     requires roots { roots < length memory.now }
-    requires opening { positions_of old.now ≡ root_positions roots }
-    requires same { positions_of table.old ≡ root_positions roots }
-    requires marks { marks_of written.now ≡ is_below (length memory.now) }
-    requires pages { pages.now ≡ pages_below (length memory.now) }
     ensures { IsStep (visited (is_below (length memory.now)) (opening_pages roots) (memory_of memory.now) (is_good_at (memory_of memory.now)) end_rank roots
         (pages_below (length memory.now)) (root_positions roots)) result (positions_of table.new) }
 {
@@ -130,7 +124,7 @@ fn visit_all(
 
 // Whether all pages pass what is asked of them where they are met, beside the visits.
 fn all_pages_pass(
-    memory: &[Image],
+    memory: &Pages<'_>,
     table: &[Option<PagePosition>],
     pages: &[u32],
     roots: u32,
@@ -150,15 +144,15 @@ fn all_pages_pass(
 }
 
 // Whether each root has a level that so many trees may have.
-fn are_low(memory: &[Image], roots: u32) -> bool
+fn are_low(memory: &Pages<'_>, roots: u32) -> bool
     requires some { 0 < roots }
     requires few { roots ≤ 2 }
     requires least { LEAST_PAGES ≤ length memory.now }
     ensures { IsTrue result ↔ AreLow memory.now roots }
 {
     roots == 1
-        || reading::level(&memory[1]) <= MOST_LEVEL_OF_TWO
-            && reading::level(&memory[2]) <= MOST_LEVEL_OF_TWO
+        || reading::level(&memory.page(1)) <= MOST_LEVEL_OF_TWO
+            && reading::level(&memory.page(2)) <= MOST_LEVEL_OF_TWO
 }
 
 // Each root is met as a leaf with all keys, as in a new space.
@@ -179,7 +173,7 @@ fn meet_opening(table: &mut [Option<PagePosition>], roots: u32)
 }
 
 // Each root is met with all keys at the height of its level.
-fn meet_roots(table: &mut [Option<PagePosition>], memory: &[Image], roots: u32)
+fn meet_roots(table: &mut [Option<PagePosition>], memory: &Pages<'_>, roots: u32)
     requires size { length table.old ≡ length memory.now }
     requires roots { roots < length memory.now }
     ensures { positions_of table.new ≡ set_roots (is_below (length memory.now)) (memory_of memory.now) end_rank roots (positions_of table.old) }
@@ -188,7 +182,7 @@ fn meet_roots(table: &mut [Option<PagePosition>], memory: &[Image], roots: u32)
         let root = roots - met;
         table[root as usize] = Some(PagePosition {
             tree: root,
-            height: reading::level(&memory[root as usize]),
+            height: reading::level(&memory.page(root as usize)),
             low: Key::least(),
             high: None,
         });

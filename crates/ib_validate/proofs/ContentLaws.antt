@@ -1,5 +1,5 @@
 -- The pairs of a range, and a page's records beside them one by one.
-use Rattle.std.proofs.Common.{◌≡◌, ◌↔◌, ℕ, zero, suc, ◌+◌, ◌<◌, ◌≤◌, Bool, true, false, IsTrue, cond, ◌&&◌, [], ◌∷◌, length, get_or, drop, drop-cons, drop_of_length-le, length-drop, add-one, Some, refl, sym, ap, ◌∙◌, arith, inl, inr, leb, ltb, nat_eq}
+use Rattle.std.proofs.Common.{◌≡◌, ◌↔◌, ℕ, zero, suc, ◌+◌, ◌<◌, ◌≤◌, Bool, true, false, IsTrue, cond, ◌&&◌, [], ◌∷◌, length, drop, drop_of_length-le, length-drop, Some, refl, sym, ap, ◌∙◌, arith, inl, inr, leb, ltb, nat_eq}
 use Rattle.std.specs.Prelude.{filter}
 use Rattle.std.specs.List.{slice_get}
 use Rattle.std.proofs.lemmas.Bool.{cases_Bool, cond-true, cond-false, lt-ltb, le-ltb, ltb-true, le-leb, eq-eqb, eqb-true}
@@ -30,22 +30,18 @@ slice_get-drop [] (suc i) x rest e = absurd (cc)
 slice_get-drop (y ∷ ys) zero x rest e = cc
 slice_get-drop (y ∷ ys) (suc i) x rest e = slice_get-drop ys i x rest e
 
-module _ (xs pairs : Pairs) (place i high : ℕ) (pair : MapKey × ℕ) (read : pair ≡ get_or pairs i pair) (A : Type 0) (lt : i < length pairs) (so_far : A ↔ (drop place xs ≡ pairs_inside high (drop i pairs))) where
-  next : drop i pairs ≡ pair ∷ drop (i + 1) pairs
-  next = drop-cons pairs i pair lt ∙ (ap (λ (x : MapKey × ℕ). x ∷ drop (suc i) pairs) (sym read) ∙ rw (add-one i) refl)
-
-  inside : rank pair.0 < high → pairs_inside high (drop i pairs) ≡ pair ∷ pairs_inside high (drop (i + 1) pairs)
+module _ (xs rest left : Pairs) (place high : ℕ) (pair : MapKey × ℕ) (next : rest ≡ pair ∷ left) (A : Type 0) (so_far : A ↔ (drop place xs ≡ pairs_inside high rest)) where
+  inside : rank pair.0 < high → pairs_inside high rest ≡ pair ∷ pairs_inside high left
   inside under = ap (pairs_inside high) next ∙ cond-true (ltb (rank pair.0) high) _ _ (lt-ltb (rank pair.0) high under)
 
   -- a pair outside is left out
-  pub pair-outside : high ≤ rank pair.0 → A ↔ (drop place xs ≡ pairs_inside high (drop (i + 1) pairs))
+  pub pair-outside : high ≤ rank pair.0 → A ↔ (drop place xs ≡ pairs_inside high left)
   pair-outside over =
-      let e : pairs_inside high (drop i pairs) ≡ pairs_inside high (drop (i + 1) pairs) =
-      ap (pairs_inside high) next ∙ cond-false (ltb (rank pair.0) high) _ _ (le-ltb (rank pair.0) high over) in
+      let e : pairs_inside high rest ≡ pairs_inside high left = ap (pairs_inside high) next ∙ cond-false (ltb (rank pair.0) high) _ _ (le-ltb (rank pair.0) high over) in
       (λ a. so_far.0 a ∙ e, λ h. so_far.1 (h ∙ sym e))
 
   -- a pair inside stands at the place, or the lists differ
-  pub pair-inside : rank pair.0 < high → slice_get xs place ≡ Some pair → A ↔ (drop (place + 1) xs ≡ pairs_inside high (drop (i + 1) pairs))
+  pub pair-inside : rank pair.0 < high → slice_get xs place ≡ Some pair → A ↔ (drop (place + 1) xs ≡ pairs_inside high left)
   pair-inside under at =
       let e = inside under in let f = drop-slice_get xs place pair at in
       (λ a. let whole = sym f ∙ (so_far.0 a ∙ e) in cc, λ h. so_far.1 (f ∙ (ap (λ zs. pair ∷ zs) h ∙ sym e)))
@@ -54,9 +50,9 @@ module _ (xs pairs : Pairs) (place i high : ℕ) (pair : MapKey × ℕ) (read : 
   pair-differs under other = (λ t. absurd (let x = t in cc), λ a. absurd (other (slice_get-drop xs place pair _ (so_far.0 a ∙ inside under))))
 
 -- behind the last pair no record may be left
-pub pairs-end : (xs pairs : Pairs) (place i high n : ℕ) (A : Type 0) → length pairs ≤ i → place ≤ length xs → n ≡ length xs → A ↔ (drop place xs ≡ pairs_inside high (drop i pairs)) → IsTrue (nat_eq place n) ↔ A
-pairs-end xs pairs place i high n A le far count so_far =
-    let e : pairs_inside high (drop i pairs) ≡ [] = ap (pairs_inside high) (drop_of_length-le pairs le) in (
+pub pairs-end : (xs rest : Pairs) (place high n : ℕ) (A : Type 0) → rest ≡ [] → place ≤ length xs → n ≡ length xs → A ↔ (drop place xs ≡ pairs_inside high rest) → IsTrue (nat_eq place n) ↔ A
+pairs-end xs rest place high n A none far count so_far =
+    let e : pairs_inside high rest ≡ [] = ap (pairs_inside high) none in (
       λ t. let same = eqb-true place n t in so_far.1 (drop_of_length-le xs (omega arith) ∙ sym e),
       λ a. let long = ap (length {A = MapKey × ℕ}) (so_far.0 a ∙ e) in let left = length-drop place xs in eq-eqb place n (omega arith),
     )

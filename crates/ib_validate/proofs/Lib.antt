@@ -13,3 +13,4 @@ pub mod PassLaws
 pub mod StoreLaws
 pub mod CopyLaws
 pub mod GoodLaws
+pub mod FormMarks

@@ -120,7 +120,7 @@ marked-counts w p (suc k) e lt = elim (cases_eq k p) [
 ]
 
 -- a page that is not listed is not written
-listed-else : (w : ℕ → Bool) (ps : List ℕ) (n p : ℕ) → IsListed w ps n → p < n → All (λ q. q ≢ p) ps → w p ≡ false
+pub listed-else : (w : ℕ → Bool) (ps : List ℕ) (n p : ℕ) → IsListed w ps n → p < n → All (λ q. q ≢ p) ps → w p ≡ false
 listed-else w ps n p h lt other = elim (cases_Bool (w p)) [
   | inr e ↦ e
   | inl e ↦ absurd (let a = h.all (counts_page p) 1 met in let b = list_over-other p ps other in let c = marked-counts w p n e lt in omega arith)

@@ -40,3 +40,8 @@ memory_of-same images others page same = pages_of-same (word_at others) (word_at
 pub memory_of-read : (images : List (List ℕ)) (page : ℕ) (image : List ℕ) → page < length images → image ≡ get_or images page image → length image ≡ PAGE_WORDS
     → memory_of images page ≡ state_of (page_of image)
 memory_of-read images page image within is whole = memory_of-at images page image within (sym (ap length is) ∙ whole) ∙ sym (ap (λ ws. state_of (page_of ws)) is)
+
+-- .. by its number
+pub memory_of-page : (images : List (List ℕ)) (page : ℕ) (image : List ℕ) → page < length images → image ≡ image_at images page → length image ≡ PAGE_WORDS
+    → memory_of images page ≡ state_of (page_of image)
+memory_of-page images page image within is whole = memory_of-read images page image within (is ∙ sym (get_or_default images page image [] within)) whole

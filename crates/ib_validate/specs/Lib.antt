@@ -6,3 +6,4 @@ pub mod PageTests
 pub mod Bits
 pub mod Contents
 pub mod TreeMemory
+pub mod Forms

@@ -8,10 +8,10 @@ ghost use Rattle.ib_validate.specs.PatchTest.{attach, is_none, same_position};
 ghost use Rattle.ib_validate.specs.Positions.{end_of, marks_of, position_if, position_in, positions_of, IsStep};
 
 use crate::children::child_at;
+use crate::pages::Page;
 use crate::position::{PagePosition, is_marked, is_met, position_at};
 use crate::reading;
 use ib_map::PAGE_WORDS;
-use ib_page::Image;
 
 // Whether a page was met at this position.
 fn was_at(old: Option<PagePosition>, position: PagePosition) -> bool
@@ -44,7 +44,7 @@ pub(crate) fn attach_children(
     table: &mut [Option<PagePosition>],
     old: &[Option<PagePosition>],
     written: &[bool],
-    node: &Image,
+    node: &Page<'_>,
     at: PagePosition,
 ) -> bool
     requires size { length table.old ≡ length old.now }

@@ -8,10 +8,10 @@ ghost use Rattle.ib_validate.specs.PatchTest.{all_back, are_back, back_at, is_no
 ghost use Rattle.ib_validate.specs.Positions.{end_of, marks_of, positions_of};
 
 use crate::children::child_at;
+use crate::pages::{Page, Pages};
 use crate::position::{PagePosition, is_marked, is_met, position_at};
 use crate::reading;
 use ib_map::{Key, PAGE_WORDS};
-use ib_page::Image;
 
 // Whether a page is written or met.
 fn is_back(table: &[Option<PagePosition>], written: &[bool], page: usize) -> bool
@@ -24,7 +24,7 @@ fn is_back(table: &[Option<PagePosition>], written: &[bool], page: usize) -> boo
 fn are_children_back(
     table: &[Option<PagePosition>],
     written: &[bool],
-    node: &Image,
+    node: &Page<'_>,
     high: Option<Key>,
 ) -> bool
     ensures back { result ≡ are_back (marks_of written.now) (children_of (state_of (page_of node.now)).records (end_of high)) (positions_of table.now) }
@@ -43,7 +43,7 @@ fn are_children_back(
 // Whether each child is that a page had, where it was met.
 fn is_page_back(
     table: &[Option<PagePosition>],
-    before: &[Image],
+    before: &Pages<'_>,
     old: &[Option<PagePosition>],
     written: &[bool],
     page: u32,
@@ -55,13 +55,14 @@ fn is_page_back(
     let Some(position) = position_at(old, page as usize) else {
         return true;
     };
-    position.height == 0 || are_children_back(table, written, &before[page as usize], position.high)
+    position.height == 0
+        || are_children_back(table, written, &before.page(page as usize), position.high)
 }
 
 // Whether each child is that these pages had.
 pub(crate) fn are_pages_back(
     table: &[Option<PagePosition>],
-    before: &[Image],
+    before: &Pages<'_>,
     old: &[Option<PagePosition>],
     written: &[bool],
     pages: &[u32],

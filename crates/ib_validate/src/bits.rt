@@ -4,6 +4,7 @@ ghost use Rattle.std.specs.Prelude.{◌≡◌, ◌<◌, ◌≤◌, ◌↔◌, �
 ghost use Rattle.ib_page.specs.Memory.{image_at};
 ghost use Rattle.ib_validate.specs.Bits.{KeepsBit, KeepsSpace, KeepsWord};
 
+use crate::pages::Pages;
 use crate::position::is_marked;
 use ib_map::{LEAST_PAGES, MOST_PAGES, PAGE_WORDS};
 use ib_page::{Image, MAPPED_PAGES, SpaceImage};
@@ -14,15 +15,12 @@ const BIT_WORDS: usize = 64;
 const WORD_BITS: usize = 64;
 
 /// The image of page 0, which has all words of a page.
-pub fn space_page(images: &[Image]) -> &Image
-    requires { 0 < length images.now }
-    ensures image { result.now ≡ image_at images.now 0 }
+pub fn space_page<'a>(pages: &Pages<'a>) -> &'a Image
+    requires { 0 < length pages.now }
+    ensures image { result.now ≡ image_at pages.now 0 }
     ensures size { length result.now ≡ PAGE_WORDS }
 {
-    let image = &images[0];
-    // For the proof: an image has all words of a page.
-    let _first = image.word(0);
-    image
+    pages.page(0).image()
 }
 
 // Whether a page that is there and not written keeps its bit.
@@ -65,7 +63,7 @@ fn keeps_bits(before: &Image, after: &Image, written: &[bool]) -> bool
 
 // Whether page 0, where it is written, is the space page of the space, at which pages that are not written keep
 // their bits.
-pub(crate) fn keeps_space(before: &[Image], after: &[Image], written: &[bool]) -> bool
+pub(crate) fn keeps_space(before: &Pages<'_>, after: &Pages<'_>, written: &[bool]) -> bool
     requires before { length before.now ≡ length written.now }
     requires after { length after.now ≡ length written.now }
     requires some { LEAST_PAGES ≤ length written.now }

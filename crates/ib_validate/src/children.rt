@@ -9,9 +9,9 @@ ghost use Rattle.ib_walk.specs.Words.{state_of};
 ghost use Rattle.ib_validate.specs.Children.{visit_of_child};
 ghost use Rattle.ib_validate.specs.Positions.{end_of};
 
+use crate::pages::Page;
 use crate::reading;
 use ib_map::Key;
-use ib_page::Image;
 
 // A child of a node: its page, and where its keys begin and end.
 #[derive(Clone, Copy)]
@@ -22,7 +22,7 @@ pub(crate) struct Child {
 }
 
 // A child of a node with `count` records whose keys are below `high`, by its place.
-pub(crate) fn child_at(node: &Image, count: usize, place: usize, high: Option<Key>) -> Child
+pub(crate) fn child_at(node: &Page<'_>, count: usize, place: usize, high: Option<Key>) -> Child
     requires tree { IsTreePage node.now }
     requires count { count ≡ length (state_of (page_of node.now)).records }
     requires in_range { place < length (state_of (page_of node.now)).records }
@@ -37,7 +37,7 @@ pub(crate) fn child_at(node: &Image, count: usize, place: usize, high: Option<Ke
 }
 
 // Where the keys of a child end: at the next child's, or with the node's.
-fn end_of_child(node: &Image, count: usize, place: usize, high: Option<Key>) -> Option<Key>
+fn end_of_child(node: &Page<'_>, count: usize, place: usize, high: Option<Key>) -> Option<Key>
     requires tree { IsTreePage node.now }
     requires count { count ≡ length (state_of (page_of node.now)).records }
     requires in_range { place < length (state_of (page_of node.now)).records }

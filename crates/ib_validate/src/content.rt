@@ -12,13 +12,14 @@ ghost use Rattle.ib_validate.specs.Patch.{slice, IsSliced};
 ghost use Rattle.ib_validate.specs.PatchTest.{fresh_of};
 ghost use Rattle.ib_validate.specs.Positions.{end_of, positions_of};
 
+use crate::pages::{Page, Pages};
 use crate::position::{PagePosition, ROOT, is_inside, position_at};
 use crate::reading;
-use ib_map::{Key, PAGE_WORDS, PlainMap, is_below, is_same};
-use ib_page::Image;
+use ib_map::{Key, PAGE_WORDS, is_below, is_same};
+use ib_sorted_map::{Between, SortedMap};
 
 // Whether a pair is the record at a place of a page, which has `count` records.
-fn is_record_at(image: &Image, count: usize, place: usize, pair: (Key, u64)) -> bool
+fn is_record_at(image: &Page<'_>, count: usize, place: usize, pair: (Key, u64)) -> bool
     requires count { count ≡ length (state_of (page_of image.now)).records }
     requires tree { 0 < count → IsTreePage image.now }
     ensures { IsTrue result ↔ (slice_get (state_of (page_of image.now)).records place ≡ Some pair) }
@@ -31,15 +32,15 @@ fn is_record_at(image: &Image, count: usize, place: usize, pair: (Key, u64)) -> 
 }
 
 // Whether a page has the pairs that lie inside of a range, and no others.
-fn has_pairs(image: &Image, pairs: &[(Key, u64)], high: Option<Key>) -> bool
-    ensures same { IsTrue result ↔ ((state_of (page_of image.now)).records ≡ pairs_inside (end_of high) pairs.now) }
+fn has_pairs(image: &Page<'_>, pairs: Between<'_>, high: Option<Key>) -> bool
+    ensures same { IsTrue result ↔ ((state_of (page_of image.now)).records ≡ pairs_inside (end_of high) pairs.entry) }
     ensures size { length image.now ≡ PAGE_WORDS }
 {
     let count = reading::count(image);
     let mut place = 0;
     for pair in pairs {
         if is_inside(pair.0, high) {
-            if !is_record_at(image, count, place, *pair) {
+            if !is_record_at(image, count, place, pair) {
                 return false;
             }
             place += 1;
@@ -49,7 +50,7 @@ fn has_pairs(image: &Image, pairs: &[(Key, u64)], high: Option<Key>) -> bool
 }
 
 // Whether a page has what the map has in this range.
-fn has_content(image: &Image, map: &PlainMap, low: Key, high: Option<Key>) -> bool
+fn has_content(image: &Page<'_>, map: &SortedMap, low: Key, high: Option<Key>) -> bool
     ensures same { IsTrue result ↔ ((state_of (page_of image.now)).records ≡ slice map.now (rank low) (end_of high)) }
     ensures size { length image.now ≡ PAGE_WORDS }
 {
@@ -65,9 +66,9 @@ fn is_leaf(at: PagePosition) -> bool
 
 // Whether a page, where it is met as a leaf, has what the map has in its range.
 fn has_its_content(
-    after: &[Image],
+    after: &Pages<'_>,
     table: &[Option<PagePosition>],
-    map: &PlainMap,
+    map: &SortedMap,
     page: u32,
 ) -> bool
     requires size { length after.now ≡ length table.now }
@@ -75,16 +76,16 @@ fn has_its_content(
     ensures { IsTrue result ↔ HasItsContent (memory_of after.now) map.now page (positions_of table.now page) }
 {
     match position_at(table, page as usize) {
-        Some(at) if is_leaf(at) => has_content(&after[page as usize], map, at.low, at.high),
+        Some(at) if is_leaf(at) => has_content(&after.page(page as usize), map, at.low, at.high),
         _ => true,
     }
 }
 
 // Whether each of these pages has.
 fn have_content(
-    after: &[Image],
+    after: &Pages<'_>,
     table: &[Option<PagePosition>],
-    map: &PlainMap,
+    map: &SortedMap,
     pages: &[u32],
 ) -> bool
     requires size { length after.now ≡ length table.now }
@@ -116,10 +117,10 @@ fn have_leaf_of(table: &[Option<PagePosition>], key: Key, pages: &[u32]) -> bool
 // Whether each of these pages that is met as a leaf has what the map has in its range, and one of them is the
 // leaf of this key.
 pub(crate) fn are_sliced(
-    after: &[Image],
+    after: &Pages<'_>,
     table: &[Option<PagePosition>],
     key: Key,
-    map: &PlainMap,
+    map: &SortedMap,
     pages: &[u32],
 ) -> bool
     requires size { length after.now ≡ length table.now }

@@ -8,13 +8,13 @@ ghost use Rattle.ib_validate.specs.PatchTest.{detach, detach_at, detach_pages};
 ghost use Rattle.ib_validate.specs.Positions.{end_of, positions_of};
 
 use crate::children::child_at;
+use crate::pages::{Page, Pages};
 use crate::position::{PagePosition, position_at};
 use crate::reading;
 use ib_map::{Key, PAGE_WORDS};
-use ib_page::Image;
 
 // The children of a node are met no more.
-fn detach_children(table: &mut [Option<PagePosition>], node: &Image, high: Option<Key>)
+fn detach_children(table: &mut [Option<PagePosition>], node: &Page<'_>, high: Option<Key>)
     ensures table { positions_of table.new ≡ detach (children_of (state_of (page_of node.now)).records (end_of high)) (positions_of table.old) }
     ensures size { length node.now ≡ PAGE_WORDS }
 {
@@ -30,7 +30,7 @@ fn detach_children(table: &mut [Option<PagePosition>], node: &Image, high: Optio
 // The children that a page had, where it was met, are met no more.
 fn detach_page(
     table: &mut [Option<PagePosition>],
-    before: &[Image],
+    before: &Pages<'_>,
     old: &[Option<PagePosition>],
     page: u32,
 )
@@ -40,7 +40,7 @@ fn detach_page(
 {
     if let Some(position) = position_at(old, page as usize) {
         if position.height > 0 {
-            detach_children(table, &before[page as usize], position.high);
+            detach_children(table, &before.page(page as usize), position.high);
         }
     }
 }
@@ -48,7 +48,7 @@ fn detach_page(
 // The children that these pages had are met no more.
 pub(crate) fn detach_pages(
     table: &mut [Option<PagePosition>],
-    before: &[Image],
+    before: &Pages<'_>,
     old: &[Option<PagePosition>],
     pages: &[u32],
 )

@@ -9,14 +9,14 @@ ghost use Rattle.ib_page.specs.Page.{rises};
 ghost use Rattle.ib_walk.specs.Words.{state_of};
 ghost use Rattle.ib_validate.specs.Positions.{end_of, is_good_page, starts};
 
+use crate::pages::Page;
 use crate::position::{PagePosition, begins_up_to, is_inside};
 use crate::reading;
 use ib_map::{PAGE_WORDS, is_below, is_same};
-use ib_page::Image;
 
 // Whether the page is one of a tree, of this height, with keys in this range: those of a node begin with the
 // lowest one.
-pub(crate) fn is_good(image: &Image, at: PagePosition) -> bool
+pub(crate) fn is_good(image: &Page<'_>, at: PagePosition) -> bool
     ensures good { result ≡ is_good_page (state_of (page_of image.now)) at.height (rank at.low) (end_of at.high) }
     ensures size { length image.now ≡ PAGE_WORDS }
 {
@@ -27,7 +27,7 @@ pub(crate) fn is_good(image: &Image, at: PagePosition) -> bool
 }
 
 // Whether the first key of a page is the lowest of its range.
-fn starts_at_low(image: &Image, at: PagePosition) -> bool
+fn starts_at_low(image: &Page<'_>, at: PagePosition) -> bool
     requires { IsTreePage image.now }
     ensures { result ≡ starts (state_of (page_of image.now)).records (rank at.low) }
 {
@@ -35,7 +35,7 @@ fn starts_at_low(image: &Image, at: PagePosition) -> bool
 }
 
 // Whether the keys of a page lie in its range. They ascend, so the first one and the last one tell.
-fn is_within(image: &Image, at: PagePosition) -> bool
+fn is_within(image: &Page<'_>, at: PagePosition) -> bool
     requires { IsTreePage image.now }
     ensures { result ≡ rises (rank at.low) (state_of (page_of image.now)).records (end_of at.high) }
 {

@@ -8,10 +8,10 @@ ghost use Rattle.ib_validate.specs.PageTests.{IsLeafBefore, IsLeafBehind, IsLink
 ghost use Rattle.ib_validate.specs.PatchTest.{IsLinkedBy};
 ghost use Rattle.ib_validate.specs.Positions.{position_in, positions_of};
 
+use crate::pages::Pages;
 use crate::position::{PagePosition, is_same_end, position_at};
 use crate::reading;
 use ib_map::{Key, is_same};
-use ib_page::Image;
 
 // Whether a leaf ends where another one begins.
 fn is_leaf_before(left: PagePosition, at: PagePosition) -> bool
@@ -29,7 +29,7 @@ fn is_leaf_behind(right: PagePosition, at: PagePosition) -> bool
 
 // Whether a leaf is linked with the one before it, or is the first one and has no such link.
 fn is_linked_left(
-    after: &[Image],
+    after: &Pages<'_>,
     table: &[Option<PagePosition>],
     page: u32,
     at: PagePosition,
@@ -38,19 +38,19 @@ fn is_linked_left(
     requires in_range { page < length table.now }
     ensures { IsTrue result ↔ IsLinkedLeft (memory_of after.now) (positions_of table.now) page (position_in at) }
 {
-    let prev = reading::prev(&after[page as usize]);
+    let prev = reading::prev(&after.page(page as usize));
     if is_same(at.low, Key::least()) {
         return prev == 0;
     }
     let Some(left) = position_at(table, prev as usize) else {
         return false;
     };
-    is_leaf_before(left, at) && reading::next(&after[prev as usize]) == page
+    is_leaf_before(left, at) && reading::next(&after.page(prev as usize)) == page
 }
 
 // Whether a leaf is linked with the one behind it, or is the last one and has no such link.
 fn is_linked_right(
-    after: &[Image],
+    after: &Pages<'_>,
     table: &[Option<PagePosition>],
     page: u32,
     at: PagePosition,
@@ -59,19 +59,19 @@ fn is_linked_right(
     requires in_range { page < length table.now }
     ensures { IsTrue result ↔ IsLinkedRight (memory_of after.now) end_rank (positions_of table.now) page (position_in at) }
 {
-    let next = reading::next(&after[page as usize]);
+    let next = reading::next(&after.page(page as usize));
     if is_same_end(at.high, None) {
         return next == 0;
     }
     let Some(right) = position_at(table, next as usize) else {
         return false;
     };
-    is_leaf_behind(right, at) && reading::prev(&after[next as usize]) == page
+    is_leaf_behind(right, at) && reading::prev(&after.page(next as usize)) == page
 }
 
 // Whether a leaf is linked with both neighbours, and they with it.
 pub(crate) fn is_linked(
-    after: &[Image],
+    after: &Pages<'_>,
     table: &[Option<PagePosition>],
     page: u32,
     at: PagePosition,

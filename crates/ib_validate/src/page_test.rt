@@ -13,16 +13,17 @@ ghost use Rattle.ib_validate.specs.Positions.{positions_of};
 
 use crate::bits::space_page;
 use crate::links::is_linked;
+use crate::pages::Pages;
 use crate::position::{PagePosition, is_met, position_at};
 use crate::reading;
-use ib_page::{Image, MAPPED_PAGES, MOST_RECORDS, SpaceImage};
+use ib_page::{MAPPED_PAGES, MOST_RECORDS, SpaceImage};
 
 // Whether a page is sound. Page 0 is another kind of page.
-fn is_sound_at(after: &[Image], page: u32) -> bool
+fn is_sound_at(after: &Pages<'_>, page: u32) -> bool
     requires { page < length after.now }
     ensures { IsTrue result ↔ (page ≢ 0 → IsSound MOST_RECORDS (memory_of after.now page)) }
 {
-    page == 0 || reading::is_sound(&after[page as usize])
+    page == 0 || reading::is_sound(&after.page(page as usize))
 }
 
 // Whether a page's bit is set exactly where it is met. Page 0 has its bit, and is not met.
@@ -38,15 +39,15 @@ fn has_its_bit(table: &[Option<PagePosition>], page: u32, is_taken: bool) -> boo
 }
 
 // Whether a page is free where its bit is not set.
-fn is_free_or_taken(after: &[Image], page: u32, is_taken: bool) -> bool
+fn is_free_or_taken(after: &Pages<'_>, page: u32, is_taken: bool) -> bool
     requires { page < length after.now }
     ensures { IsTrue result ↔ (bit_of is_taken ≡ 0 → (memory_of after.now page).kind ≡ Free) }
 {
-    is_taken || reading::is_free(&after[page as usize])
+    is_taken || reading::is_free(&after.page(page as usize))
 }
 
 // Whether a page, where it is met as a leaf, is linked with its neighbours.
-fn is_linked_where_met(after: &[Image], table: &[Option<PagePosition>], page: u32) -> bool
+fn is_linked_where_met(after: &Pages<'_>, table: &[Option<PagePosition>], page: u32) -> bool
     requires size { length after.now ≡ length table.now }
     requires in_range { page < length table.now }
     ensures { IsTrue result ↔ ((e : Position) → positions_of table.now page ≡ Some e → e.height ≡ 0 → IsLinkedBy (memory_of after.now) end_rank (positions_of table.now) page e) }
@@ -58,7 +59,7 @@ fn is_linked_where_met(after: &[Image], table: &[Option<PagePosition>], page: u3
 }
 
 // Whether a page passes, where page 0 is this space page.
-fn passes(after: &[Image], table: &[Option<PagePosition>], space: &SpaceImage, page: u32) -> bool
+fn passes(after: &Pages<'_>, table: &[Option<PagePosition>], space: &SpaceImage, page: u32) -> bool
     requires size { length after.now ≡ length table.now }
     requires in_range { page < length table.now }
     requires few { length table.now ≤ MAPPED_PAGES }
@@ -73,7 +74,7 @@ fn passes(after: &[Image], table: &[Option<PagePosition>], space: &SpaceImage, p
 
 /// Whether these pages pass by themselves, where `table` has where each page is met: each is sound, its bit is
 /// set exactly where it is met, and a leaf is linked with its neighbours (btr0btr, `btr_validate_level`).
-pub fn all_pass(after: &[Image], table: &[Option<PagePosition>], pages: &[u32]) -> bool
+pub fn all_pass(after: &Pages<'_>, table: &[Option<PagePosition>], pages: &[u32]) -> bool
     requires size { length after.now ≡ length table.now }
     requires some { 0 < length table.now }
     requires few { length table.now ≤ MAPPED_PAGES }

@@ -14,18 +14,19 @@ use crate::bits::keeps_space;
 use crate::content::are_sliced;
 use crate::detach::detach_pages;
 use crate::page_test::all_pass;
+use crate::pages::Pages;
 use crate::position::PagePosition;
 use crate::visit::{visit_levels, visit_root};
-use ib_map::{Key, LEAST_PAGES, MOST_PAGES, PAGE_WORDS, PlainMap};
-use ib_page::Image;
+use ib_map::{Key, LEAST_PAGES, MOST_PAGES, PAGE_WORDS};
+use ib_sorted_map::SortedMap;
 
 // Visits the pages that a patch writes. `table` has where each page is met before the patch, as `old` does, and
 // then where it is met after it. False where a page is met twice, or is no page of its height and range, or
 // where one that is not written is met elsewhere than before.
 fn visit_patch(
     table: &mut [Option<PagePosition>],
-    before: &[Image],
-    after: &[Image],
+    before: &Pages<'_>,
+    after: &Pages<'_>,
     old: &[Option<PagePosition>],
     written: &[bool],
     pages: &[u32],
@@ -49,13 +50,13 @@ fn visit_patch(
 
 // Whether the written pages pass what is asked of them where they are met, beside the visits.
 fn passes_at_all(
-    before: &[Image],
-    after: &[Image],
+    before: &Pages<'_>,
+    after: &Pages<'_>,
     table: &[Option<PagePosition>],
     written: &[bool],
     pages: &[u32],
     key: Key,
-    map: &PlainMap,
+    map: &SortedMap,
 ) -> bool
     requires some { LEAST_PAGES ≤ length table.now }
     requires few { length table.now ≤ MOST_PAGES }
@@ -76,13 +77,13 @@ fn passes_at_all(
 // where each page is met before the entry, as `old` does, and then where it is met after it.
 pub(crate) fn leaves_tree(
     table: &mut [Option<PagePosition>],
-    before: &[Image],
-    after: &[Image],
+    before: &Pages<'_>,
+    after: &Pages<'_>,
     old: &[Option<PagePosition>],
     written: &[bool],
     pages: &[u32],
     key: Key,
-    map: &PlainMap,
+    map: &SortedMap,
 ) -> bool
     requires memory { IsTreeMemory (record { before = before.now; after = after.now; met_before = old.now; met_after = table.old; written = written.now; pages = pages.now }) }
     requires same { positions_of table.old ≡ positions_of old.now }

@@ -8,84 +8,101 @@ ghost use Rattle.ib_walk.specs.Pages.{Free, IsSound};
 ghost use Rattle.ib_walk.specs.Words.{state_of};
 ghost use Rattle.ib_validate.specs.Positions.{is_tree_page};
 
+use crate::pages::Page;
 use ib_map::{Key, PAGE_WORDS};
-use ib_page::{Image, Kind, MOST_LEVEL, MOST_RECORDS};
+use ib_page::{Kind, MOST_LEVEL, MOST_RECORDS};
 
 // Whether the words can be read. They are all words of a page, whatever they are.
-fn is_formed(image: &Image) -> bool
-    ensures formed { IsTrue result ↔ IsFormed image.now }
-    ensures size { length image.now ≡ PAGE_WORDS }
+fn is_formed(page: &Page<'_>) -> bool
+    ensures formed { IsTrue result ↔ IsFormed page.now }
+    ensures size { length page.now ≡ PAGE_WORDS }
 {
     // For the proof: an image has all words of a page.
-    let _first = image.word(0);
-    image.is_formed()
+    let _image = page.image();
+    page.is_formed()
 }
 
 // Whether the page is one of a tree.
-pub(crate) fn is_tree(image: &Image) -> bool
-    ensures kind { result ≡ is_tree_page (state_of (page_of image.now)).kind }
-    ensures tree { IsTrue result → IsTreePage image.now }
-    ensures size { length image.now ≡ PAGE_WORDS }
+pub(crate) fn is_tree(page: &Page<'_>) -> bool
+    ensures kind { result ≡ is_tree_page (state_of (page_of page.now)).kind }
+    ensures tree { IsTrue result → IsTreePage page.now }
+    ensures size { length page.now ≡ PAGE_WORDS }
 {
-    is_formed(image) && image.kind() != Kind::Free
+    is_formed(page) && page.image().kind() != Kind::Free
 }
 
 /// The level of the page.
-pub fn level(image: &Image) -> u32
-    ensures level { result ≡ (state_of (page_of image.now)).level }
+pub fn level(page: &Page<'_>) -> u32
+    ensures level { result ≡ (state_of (page_of page.now)).level }
     ensures low { result ≤ MOST_LEVEL }
-    ensures size { length image.now ≡ PAGE_WORDS }
+    ensures size { length page.now ≡ PAGE_WORDS }
 {
-    if is_formed(image) { image.level() } else { 0 }
+    if is_formed(page) {
+        page.image().level()
+    } else {
+        0
+    }
 }
 
 // The leaf before the page, 0 for none.
-pub(crate) fn prev(image: &Image) -> u32
-    ensures prev { result ≡ (state_of (page_of image.now)).prev }
-    ensures size { length image.now ≡ PAGE_WORDS }
+pub(crate) fn prev(page: &Page<'_>) -> u32
+    ensures prev { result ≡ (state_of (page_of page.now)).prev }
+    ensures size { length page.now ≡ PAGE_WORDS }
 {
-    if is_formed(image) { image.prev() } else { 0 }
+    if is_formed(page) {
+        page.image().prev()
+    } else {
+        0
+    }
 }
 
 /// The leaf behind the page, 0 for none.
-pub fn next(image: &Image) -> u32
-    ensures next { result ≡ (state_of (page_of image.now)).next }
-    ensures size { length image.now ≡ PAGE_WORDS }
+pub fn next(page: &Page<'_>) -> u32
+    ensures next { result ≡ (state_of (page_of page.now)).next }
+    ensures size { length page.now ≡ PAGE_WORDS }
 {
-    if is_formed(image) { image.next() } else { 0 }
+    if is_formed(page) {
+        page.image().next()
+    } else {
+        0
+    }
 }
 
 /// How many records the page has.
-pub fn count(image: &Image) -> usize
-    ensures count { result ≡ length (state_of (page_of image.now)).records }
+pub fn count(page: &Page<'_>) -> usize
+    ensures count { result ≡ length (state_of (page_of page.now)).records }
     ensures few { result ≤ MOST_RECORDS }
-    ensures tree { 0 < result → IsTreePage image.now }
-    ensures size { length image.now ≡ PAGE_WORDS }
+    ensures tree { 0 < result → IsTreePage page.now }
+    ensures size { length page.now ≡ PAGE_WORDS }
 {
-    if is_formed(image) { image.len() } else { 0 }
+    if is_formed(page) {
+        page.image().len()
+    } else {
+        0
+    }
 }
 
 /// A record of the page, by its place in the order of keys.
-pub fn record_at(image: &Image, place: usize) -> (Key, u64)
-    requires tree { IsTreePage image.now }
-    requires in_range { place < length (state_of (page_of image.now)).records }
-    ensures { slice_get (state_of (page_of image.now)).records place ≡ Some result }
+pub fn record_at(page: &Page<'_>, place: usize) -> (Key, u64)
+    requires tree { IsTreePage page.now }
+    requires in_range { place < length (state_of (page_of page.now)).records }
+    ensures { slice_get (state_of (page_of page.now)).records place ≡ Some result }
 {
-    image.record_at(place)
+    page.image().record_at(place)
 }
 
 // Whether the page is free.
-pub(crate) fn is_free(image: &Image) -> bool
-    ensures free { IsTrue result ↔ ((state_of (page_of image.now)).kind ≡ Free) }
-    ensures size { length image.now ≡ PAGE_WORDS }
+pub(crate) fn is_free(page: &Page<'_>) -> bool
+    ensures free { IsTrue result ↔ ((state_of (page_of page.now)).kind ≡ Free) }
+    ensures size { length page.now ≡ PAGE_WORDS }
 {
-    is_formed(image) && image.kind() == Kind::Free
+    is_formed(page) && page.image().kind() == Kind::Free
 }
 
 // Whether the page is free, or one of a tree within its limits: what can be read is.
-pub(crate) fn is_sound(image: &Image) -> bool
-    ensures sound { IsTrue result ↔ IsSound MOST_RECORDS (state_of (page_of image.now)) }
-    ensures size { length image.now ≡ PAGE_WORDS }
+pub(crate) fn is_sound(page: &Page<'_>) -> bool
+    ensures sound { IsTrue result ↔ IsSound MOST_RECORDS (state_of (page_of page.now)) }
+    ensures size { length page.now ≡ PAGE_WORDS }
 {
-    is_formed(image)
+    is_formed(page)
 }

@@ -12,21 +12,27 @@ ghost use Rattle.ib_validate.specs.Positions.{marks_of, position_if, positions_o
 ghost use Rattle.ib_validate.specs.TreeMemory.{IsSettled, IsTreeMemory, IsTreePatch, opening_positions};
 
 use crate::copies::settle_pages;
+use crate::forms::{copy_forms, test_pages, tested};
 use crate::marks::mark_pages;
+use crate::pages::Pages;
 use crate::patch::leaves_tree;
 use crate::position::{PagePosition, ROOT};
 use crate::stores::store_words;
-use ib_map::{Key, PlainMap, Write};
+use ib_map::{Key, Write};
 use ib_page::{Image, opening_image};
+use ib_sorted_map::SortedMap;
 use std::alloc::{AllocError, Global};
 use std::marker::Model;
 
 /// The pages of a space before and after an entry of a log, where each is met in the tree, and which of them the
-/// entry writes. Between entries both are the same, and no page is marked.
+/// entry writes. Between entries both are the same, and no page is marked. Beside each image stands whether it can be
+/// read.
 #[derive(Drop)]
 pub struct TreePages {
     before: Vec<Image>,
     after: Vec<Image>,
+    forms_before: Vec<bool>,
+    forms_after: Vec<bool>,
     met_before: Vec<Option<PagePosition>>,
     met_after: Vec<Option<PagePosition>>,
     written: Vec<bool>,
@@ -36,6 +42,7 @@ pub struct TreePages {
 impl Model for TreePages {
     ghost use Rattle.std.specs.Prelude.{◌≤◌, length};
     ghost use Rattle.std.specs.Vec.{vec_capacity};
+    ghost use Rattle.ib_validate.specs.Forms.{AreForms};
     ghost use Rattle.ib_validate.specs.TreeMemory.{TreeMemory, IsTreeMemory};
 
     ghost Value = { TreeMemory };
@@ -59,6 +66,8 @@ impl Model for TreePages {
         pages = t.pages.items;
       });
       room : length t.before.items ≤ vec_capacity t.pages;
+      forms_before : AreForms t.before.items t.forms_before.items;
+      forms_after : AreForms t.after.items t.forms_after.items;
     } };
 }
 
@@ -71,9 +80,13 @@ impl TreePages {
         ensures images { IfOk result (λ t. t.before ≡ map opening_words (range_with_len 0 pages)) }
         ensures positions { IfOk result (λ t. positions_of t.met_before ≡ opening_positions) }
     {
+        let old = opening_images(alloc, pages)?;
+        let new = opening_images(alloc, pages)?;
         Ok(TreePages {
-            before: opening_images(alloc, pages)?,
-            after: opening_images(alloc, pages)?,
+            forms_before: tested(alloc, &old)?,
+            forms_after: tested(alloc, &new)?,
+            before: old,
+            after: new,
             met_before: opening_table(alloc, pages)?,
             met_after: opening_table(alloc, pages)?,
             written: vec![in alloc; false; pages as usize]?,
@@ -107,6 +120,7 @@ impl TreePages {
     {
         mark_pages(&mut self.written, &mut self.pages, writes);
         store_words(&mut self.after, writes);
+        test_pages(&mut self.forms_after, &self.after, &self.pages);
     }
 
     /// Takes the pages after an entry, and where they are met, for those before the next one. Of the pages that
@@ -125,6 +139,12 @@ impl TreePages {
             &mut self.written,
             &self.pages,
         );
+        copy_forms(
+            &mut self.forms_before,
+            &self.forms_after,
+            &self.after,
+            &self.pages,
+        );
         self.pages.clear();
     }
 
@@ -132,7 +152,7 @@ impl TreePages {
     /// the pages before it did, of a map that differs in this key alone. It looks at the pages that the entry
     /// writes, their children and their neighbours, and at no others. Where it says no, what is kept of where
     /// pages are met after the entry is of no use.
-    pub fn is_tree(&mut self, key: Key, map: &PlainMap) -> bool
+    pub fn is_tree(&mut self, key: Key, map: &SortedMap) -> bool
         requires { positions_of self.old.met_after ≡ positions_of self.old.met_before }
         ensures sound { IsTrue result → IsTreePatch self.old (positions_of self.new.met_after) key map.now }
         ensures complete { (table : Positions) → IsTreePatch self.old table key map.now → IsTrue result }
@@ -142,8 +162,8 @@ impl TreePages {
     {
         leaves_tree(
             &mut self.met_after,
-            &self.before,
-            &self.after,
+            &Pages::new(&self.before, &self.forms_before),
+            &Pages::new(&self.after, &self.forms_after),
             &self.met_before,
             &self.written,
             &self.pages,

@@ -9,15 +9,16 @@ ghost use Rattle.ib_validate.specs.Positions.{is_good_at, marks_of, positions_of
 
 use crate::attach::attach_children;
 use crate::good::is_good;
+use crate::pages::Pages;
 use crate::position::{PagePosition, ROOT, is_marked, position_at};
 use crate::reading;
 use ib_map::Key;
-use ib_page::{Image, MOST_LEVEL};
+use ib_page::MOST_LEVEL;
 
 // A page, where it is met at this height: it must be good there, and its children are met.
 fn visit_page(
     table: &mut [Option<PagePosition>],
-    after: &[Image],
+    after: &Pages<'_>,
     old: &[Option<PagePosition>],
     written: &[bool],
     page: u32,
@@ -35,17 +36,17 @@ fn visit_page(
     if position.height != height {
         return true;
     }
-    let image = &after[page as usize];
-    if !is_good(image, position) {
+    let image = after.page(page as usize);
+    if !is_good(&image, position) {
         return false;
     }
-    height == 0 || attach_children(table, old, written, image, position)
+    height == 0 || attach_children(table, old, written, &image, position)
 }
 
 // Those of these pages that are met at this height.
 fn visit_level(
     table: &mut [Option<PagePosition>],
-    after: &[Image],
+    after: &Pages<'_>,
     old: &[Option<PagePosition>],
     written: &[bool],
     pages: &[u32],
@@ -71,7 +72,7 @@ fn visit_level(
 /// is no leaf or node of its height and range (btr0btr, `btr_validate_level`).
 pub fn visit_levels(
     table: &mut [Option<PagePosition>],
-    after: &[Image],
+    after: &Pages<'_>,
     old: &[Option<PagePosition>],
     written: &[bool],
     pages: &[u32],
@@ -91,7 +92,7 @@ pub fn visit_levels(
 }
 
 // The root, where it is written, is met with all keys at the height of its new level.
-pub(crate) fn visit_root(table: &mut [Option<PagePosition>], after: &[Image], written: &[bool])
+pub(crate) fn visit_root(table: &mut [Option<PagePosition>], after: &Pages<'_>, written: &[bool])
     requires root { 1 < length table.old }
     requires images { length after.now ≡ length table.old }
     ensures { positions_of table.new ≡ set_roots (marks_of written.now) (memory_of after.now) end_rank 1 (positions_of table.old) }
@@ -99,7 +100,7 @@ pub(crate) fn visit_root(table: &mut [Option<PagePosition>], after: &[Image], wr
     if is_marked(written, ROOT as usize) {
         table[ROOT as usize] = Some(PagePosition {
             tree: ROOT,
-            height: reading::level(&after[ROOT as usize]),
+            height: reading::level(&after.page(ROOT as usize)),
             low: Key::least(),
             high: None,
         });

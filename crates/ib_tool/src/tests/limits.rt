@@ -86,3 +86,34 @@ fn a_million_events(rt: HostRuntime) -> Result<(), Fail> {
         b"script: line 1000001: many\n",
     )
 }
+
+// The inserts of 20,000 keys, and then the delete and the insert of the first of them in turn, 40,000 of both.
+fn many_changes(alloc: Global) -> Result<Vec<u8>, Fail> {
+    let mut script = Vec::from_slice(alloc, b"space 4096 16777216\n")?;
+    for number in 1..20_001u32 {
+        script.extend_from_slice(format!(in alloc; "insert k{number:05} {number}\n")?.as_bytes())?;
+    }
+    for _ in 0..20_000 {
+        script.extend_from_slice(b"delete k00001\ninsert k00001 1\n")?;
+    }
+    Ok(script)
+}
+
+// A log of 60,000 entries is written, and its file replayed.
+#[test]
+fn a_long_log_is_replayed(rt: HostRuntime) -> Result<(), Fail> {
+    let alloc = rt.alloc();
+    let (written, file) = told(&rt, alloc, &["raw"], &many_changes(alloc)?)?;
+    assert_eq!(rt; written, Status::Done);
+    let (replayed, text) = told(&rt, alloc, &["replay"], file.bytes())?;
+    assert_eq!(rt; replayed, Status::Done);
+    assert!(rt;
+        text.bytes()
+            .starts_with(b"log 60000\n1 1 insert k00001 1\n")
+    );
+    // The map's part ends the text: 20,000 lines of 8 bytes and the digits of a value.
+    let digits = 9 + 2 * 90 + 3 * 900 + 4 * 9_000 + 5 * 10_001;
+    let map = text.bytes().len() - (10 + 20_000 * 8 + digits);
+    assert!(rt; text.bytes()[map..].starts_with(b"map 20000\nk00001 1\nk00002 2\n"));
+    Ok(())
+}

@@ -7,7 +7,7 @@ use Rattle.ib_walk.specs.Words.{memory_of}
 use Rattle.ib_validate.specs.declared.position.PagePosition.{PagePosition}
 use Rattle.ib_validate.specs.PatchTest.{set_at, root_at, set_roots}
 use Rattle.ib_validate.specs.Positions.{position_in, positions_of}
-use Rattle.ib_validate.proofs.MemoryLaws.{memory_of-read}
+use Rattle.ib_validate.proofs.MemoryLaws.{memory_of-page}
 use Rattle.ib_validate.proofs.PositionLaws.{positions_of-set}
 use Rattle.ib_tree.specs.PageLists.{is_below}
 use Rattle.ib_tree.proofs.whole.meet_roots.Goals as goal
@@ -24,7 +24,7 @@ loop-met-preserved c =
     let n = length c.args.memory.now in
     let m = memory_of c.args.memory.now in
     let before = positions_of c.loop-met.table in
-    let page = memory_of-read c.args.memory.now root c.index-memory-root.result (omega arith) c.index-memory-root.is c.level.ensures.size in
+    let page = memory_of-page c.args.memory.now root c.page.result (omega arith) c.page.ensures c.level.ensures.size in
     let level : c.level.result ≡ (m root).level = c.level.ensures.level ∙ ap (λ (p : PageState). p.level) (sym page) in
     let low = ap rank c.least.ensures ∙ rank-least in
     let position : PagePosition = record { tree = root; height = c.level.result; low = c.least.result; high = None } in

@@ -4,14 +4,14 @@ use Rattle.ib_walk.specs.Words.{memory_of}
 use Rattle.ib_validate.specs.PatchTest.{Position}
 use Rattle.ib_validate.specs.Contents.{HasItsContent}
 use Rattle.ib_validate.specs.Positions.{position_if}
-use Rattle.ib_validate.proofs.MemoryLaws.{memory_of-read}
+use Rattle.ib_validate.proofs.MemoryLaws.{memory_of-page}
 use Rattle.ib_validate.proofs.content.has_its_content.Goals as goal
 
 pub returns-in-Some : goal.returns-in-Some
 returns-in-Some c =
     let lt = c.requires.in_range in
     let size = c.requires.size in
-    let page = ap (λ (p : PageState). p.records) (memory_of-read c.args.after.now c.args.page c.index-after-page.result (omega arith) c.index-after-page.is c.has_content.ensures.size) in
+    let page = ap (λ (p : PageState). p.records) (memory_of-page c.args.after.now c.args.page c.page.result (omega arith) c.page.ensures c.has_content.ensures.size) in
     let there = sym c.position_at.ensures ∙ ap position_if c.in-Some.is in
     let leaf = c.is_leaf.ensures.0 c.if-is_leaf.true in
     let P : Option Position → Type 0 = λ o. HasItsContent (memory_of c.args.after.now) c.args.map.now c.args.page o in

@@ -5,7 +5,7 @@ use Rattle.ib_walk.specs.Walk.{children_of}
 use Rattle.ib_walk.specs.Words.{memory_of}
 use Rattle.ib_validate.specs.PatchTest.{Position, Positions, attach, visit_of}
 use Rattle.ib_validate.specs.Positions.{IsStep, end_of, is_good_at, is_good_page, marks_of, position_if, position_in, positions_of}
-use Rattle.ib_validate.proofs.MemoryLaws.{memory_of-read}
+use Rattle.ib_validate.proofs.MemoryLaws.{memory_of-page}
 use Rattle.ib_validate.proofs.StepLaws.{visit_at-bad, visit_at-leaf, visit_at-node, step-by}
 use Rattle.ib_validate.proofs.visit.visit_page.Goals as goal
 
@@ -22,7 +22,7 @@ returns-then-not-is_good c =
     let lt = c.requires.in_range in
     let size = c.requires.images in
     let m = memory_of c.args.after.now in
-    let page = memory_of-read c.args.after.now c.args.page c.index-after-page.result (omega arith) c.index-after-page.is c.is_good.ensures.size in
+    let page = memory_of-page c.args.after.now c.args.page c.page-image.result (omega arith) c.page-image.ensures c.is_good.ensures.size in
     visit_at-bad (marks_of c.args.written.now) (positions_of c.args.old.now) m (is_good_at m) c.args.height c.args.page (positions_of c.args.table.now) (positions_of c.args.table.now c.args.page) (position_in c.in-Some.position)
     (sym c.position_at.ensures ∙ ap position_if c.in-Some.is) c.if-position-height.false
     (good-read m c.args.height c.args.page _ (position_in c.in-Some.position) c.is_good.result false page c.if-position-height.false c.is_good.ensures.good c.if-not-is_good.true)
@@ -32,7 +32,7 @@ returns-then-height-eq0 c =
     let lt = c.requires.in_range in
     let size = c.requires.images in
     let m = memory_of c.args.after.now in
-    let page = memory_of-read c.args.after.now c.args.page c.index-after-page.result (omega arith) c.index-after-page.is c.is_good.ensures.size in
+    let page = memory_of-page c.args.after.now c.args.page c.page-image.result (omega arith) c.page-image.ensures c.is_good.ensures.size in
     step-some _ (nat_eq c.args.height 0) (positions_of c.args.table.now)
     (visit_at-leaf (marks_of c.args.written.now) (positions_of c.args.old.now) m (is_good_at m) c.args.height c.args.page (positions_of c.args.table.now) (positions_of c.args.table.now c.args.page) (position_in c.in-Some.position)
     (sym c.position_at.ensures ∙ ap position_if c.in-Some.is) c.if-position-height.false
@@ -47,7 +47,7 @@ returns-else-height-eq0 c =
     let node = c.if-height-eq0.false in
     let height = c.if-position-height.false in
     let m = memory_of c.args.after.now in
-    let page = memory_of-read c.args.after.now c.args.page c.index-after-page.result (omega arith) c.index-after-page.is c.is_good.ensures.size in
+    let page = memory_of-page c.args.after.now c.args.page c.page-image.result (omega arith) c.page-image.ensures c.is_good.ensures.size in
     step-by _ _ c.attach_children.result (positions_of c.attach_children.new.table)
     (visit_at-node (marks_of c.args.written.now) (positions_of c.args.old.now) m (is_good_at m) c.args.height c.args.page (positions_of c.args.table.now) (positions_of c.args.table.now c.args.page) (position_in c.in-Some.position)
     (sym c.position_at.ensures ∙ ap position_if c.in-Some.is) height

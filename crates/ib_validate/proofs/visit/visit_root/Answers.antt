@@ -7,7 +7,7 @@ use Rattle.ib_walk.specs.Words.{memory_of}
 use Rattle.ib_validate.specs.declared.position.PagePosition.{PagePosition}
 use Rattle.ib_validate.specs.PatchTest.{set_at, root_at}
 use Rattle.ib_validate.specs.Positions.{marks_of, position_in, positions_of}
-use Rattle.ib_validate.proofs.MemoryLaws.{memory_of-read}
+use Rattle.ib_validate.proofs.MemoryLaws.{memory_of-page}
 use Rattle.ib_validate.proofs.PositionLaws.{positions_of-set}
 use Rattle.ib_validate.proofs.visit.visit_root.Goals as goal
 
@@ -15,7 +15,7 @@ pub returns-then-is_marked : goal.returns-then-is_marked
 returns-then-is_marked c =
     let lt = c.requires.root in
     let size = c.requires.images in
-    let page = memory_of-read c.args.after.now 1 c.index-after.result (omega arith) c.index-after.is c.level.ensures.size in
+    let page = memory_of-page c.args.after.now 1 c.page.result (omega arith) c.page.ensures c.level.ensures.size in
     let level : c.level.result ≡ (memory_of c.args.after.now 1).level = c.level.ensures.level ∙ ap (λ (p : PageState). p.level) (sym page) in
     let low = ap rank c.least.ensures ∙ rank-least in
     let position : PagePosition = record { tree = 1; height = c.level.result; low = c.least.result; high = None } in

@@ -1,7 +1,10 @@
-use Rattle.std.proofs.Common.{◌≡◌, ◌∙◌, ◌++◌, ℕ, List, Bool, Option, sym, ap, arith, length, take, drop}
+use Rattle.std.proofs.Common.{◌≡◌, ◌≢◌, ◌∙◌, ◌++◌, ℕ, List, Bool, Option, sym, ap, subst, arith, length, take, drop, All}
 use Rattle.ib_validate.specs.declared.position.PagePosition.{PagePosition}
+use Rattle.ib_page.specs.Memory.{image_at}
+use Rattle.ib_validate.specs.Forms.{AreForms}
 use Rattle.ib_validate.specs.Positions.{marks_of}
-use Rattle.ib_validate.proofs.ListedLaws.{settled-memory, written-back}
+use Rattle.ib_validate.proofs.FormMarks.{still-right}
+use Rattle.ib_validate.proofs.ListedLaws.{listed-within, settled-memory, unlisted, written-back}
 use Rattle.ib_validate.proofs.tree_pages.TreePages.settle.Goals as goal
 
 pub invariant_of-self : goal.invariant_of-self
@@ -25,4 +28,24 @@ invariant_of-self c =
           (omega (arith, size, kept.some, kept.after)) (omega (arith, size, kept.few, kept.after))
           (λ page. ap (λ (bs : List Bool). marks_of bs page) marks ∙ c.settle_pages.ensures.marks page) c.clear.ensures.items;
       room = omega (arith, size, kept.after, c.self.invariant.room, c.clear.ensures.capacity);
+      forms_before =
+          let copied : take c.self.inside.forms_before.len (c.copy_forms.new.to ++ drop (length c.copy_forms.new.to) c.self.inside.forms_before.items) ≡ c.copy_forms.new.to =
+          written-back _ c.self.inside.forms_before.items c.self.inside.forms_before.len (omega (arith, c.copy_forms.auto.to, c.deref_mut-4.ensures.len, c.self.inside.forms_before.ok)) in
+          let settled : List (List ℕ) = take c.self.inside.before.len (c.settle_pages.new.before ++ drop (length c.settle_pages.new.before) c.self.inside.before.items) in
+          subst (λ (ms : List Bool). AreForms settled ms) (sym copied)
+          (subst (λ (m : List (List ℕ)). AreForms m c.copy_forms.new.to) (c.deref-5.ensures.value ∙ sym same) c.copy_forms.ensures);
+      forms_after = c.self.invariant.forms_after;
     }
+
+pub copy_forms-requires-clause-in_range : goal.copy_forms-requires-clause-in_range
+copy_forms-requires-clause-in_range c =
+    let kept = c.self.invariant.kept in
+    listed-within _ kept c.deref-6.result.now (length c.deref-5.result.now) c.deref-6.ensures.value (ap (length {A = List ℕ}) c.deref-5.ensures.value ∙ kept.after)
+
+pub copy_forms-requires-clause-others : goal.copy_forms-requires-clause-others
+copy_forms-requires-clause-others c = λ page lt none.
+    let kept = c.self.invariant.kept in
+    let off = unlisted _ kept page (subst (λ (ps : List ℕ). All (λ p. p ≢ page) ps) c.deref-6.ensures.value none) in
+    let size = ap (length {A = List ℕ}) c.deref-5.ensures.value ∙ kept.after in
+    still-right c.self.inside.before.items c.deref-5.result.now c.self.inside.forms_before.items c.deref_mut-4.result.now page
+    (ap (λ (m : List (List ℕ)). image_at m page) c.deref-5.ensures.value ∙ kept.same page off) c.deref_mut-4.ensures.value (c.self.invariant.forms_before.right page (omega arith))
