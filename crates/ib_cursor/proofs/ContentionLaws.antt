@@ -26,7 +26,7 @@ use Rattle.ib_cursor.specs.Grants.{Grant, index_grant, page_grant, HasGrants, Ha
 use Rattle.ib_cursor.specs.Going.{HasSeen}
 use Rattle.ib_cursor.specs.Descent.{IsDown}
 use Rattle.ib_cursor.specs.Contention.{fault_on, refused_latch, WasBusy, WasRaced, WasRefused, IsRefusedTry, IsStopped, IsContended}
-use Rattle.ib_cursor.proofs.LatchingLaws.{seen_after, IsBeside, went_beside, went_both, known_beside, beside_taken, looked_first, looked_then}
+use Rattle.ib_cursor.proofs.LatchingLaws.{seen_after, IsBeside, went_beside, went_both, known_beside, beside_taken, looked_first, looked_then, some_end}
 use Rattle.ib_cursor.proofs.GrantLaws.{grants_more, given, grants_left}
 
 -- what the looks of a refused try were
@@ -80,7 +80,7 @@ refused_try-loads : (sizes : Sizes) (lawful : List Entry → Type 0) (l : ℕ) (
 refused_try-loads sizes lawful l f p q loaded v = record {
   seen = record {
     went = record { table = v.seen.went.table; sizes = v.seen.went.sizes; number = v.seen.went.number; own = v.seen.went.own; more = v.seen.went.more; seen = v.seen.went.seen; added = v.seen.went.added; ends = v.seen.went.ends; bounds = v.seen.went.bounds };
-    looked = v.seen.looked;
+    one = v.seen.one;
     known = v.seen.known;
     steady = v.seen.steady;
     watched = v.seen.watched;
@@ -107,7 +107,7 @@ module _ (sizes : Sizes) (lawful : List Entry → Type 0) (opening : ℕ → ℕ
       let gs : q.view.grants.s ≡ p.view.grants.s = ap (λ (g : Grants). g.s) v.grants in
       record {
         went = v.seen.went;
-        looked = v.seen.looked;
+        looked = some_end v.seen.one;
         known = v.seen.known;
         grants = refused_try-grants sizes lawful 1 f [] p q has v;
         work = v.work ∙ none;
@@ -131,7 +131,7 @@ module _ (sizes : Sizes) (lawful : List Entry → Type 0) (opening : ℕ → ℕ
       let gs : s.view.grants.s ≡ p.view.grants.s + 1 = ap (λ (g : Grants). g.s) same in
       record {
         went = went_both p r s to_r (went_beside r s gave.beside);
-        looked = looked_first p r s to_r (went_beside r s gave.beside) (looked_then p q r (went_beside p q b) stop.refused_try.seen.went stop.refused_try.seen.looked);
+        looked = looked_first p r s to_r (went_beside r s gave.beside) (looked_then p q r (went_beside p q b) stop.refused_try.seen.went (some_end stop.refused_try.seen.one));
         known = known_beside sizes lawful r s gave.beside stop.refused_try.seen.known;
         grants = grants_left [] index_grant [] r s held tt tt release;
         work = gave.work (stop.refused_try.work ∙ (ap (λ (r : PassState). r.work) taken.pass ∙ none));

@@ -24,7 +24,7 @@ use Rattle.ib_cursor.specs.Going.{WentOn, HasSeen}
 use Rattle.ib_cursor.specs.Modes.{mode_by}
 use Rattle.ib_cursor.specs.Descent.{IsAt, IsDown, WasRaised, one_if, HasPage, HasReached, HasDescended}
 use Rattle.ib_cursor.proofs.OnPathLaws.{leaf_on-path}
-use Rattle.ib_cursor.proofs.LatchingLaws.{went_beside, went_both, known_beside, beside_taken, looked_first, looked_then}
+use Rattle.ib_cursor.proofs.LatchingLaws.{went_beside, went_both, known_beside, beside_taken, looked_first, looked_then, some_end}
 use Rattle.ib_cursor.proofs.GrantLaws.{HasGiven, last_held, given, grants_left}
 use Rattle.ib_cursor.specs.Laws.{Laws}
 use Rattle.ib_cursor.proofs.LogLaws.{IsPathImage, path_image, path_stays}
@@ -143,7 +143,7 @@ down_root sizes lawful opening root key exclusive level p q r node low taken see
       shared = λ e. refl;
       alone = λ e z. absurd (let n = node e in omega arith);
       went = went_both p q r (went_beside p q (beside_taken index_grant p q taken)) seen.went;
-      looked = looked_then p q r (went_beside p q (beside_taken index_grant p q taken)) seen.went seen.looked;
+      looked = looked_then p q r (went_beside p q (beside_taken index_grant p q taken)) seen.went (some_end seen.one);
       short = omega arith;
       sx = sx;
       finds = λ e. (omega arith, x);
@@ -177,7 +177,7 @@ down_again sizes lawful opening root key first level p q r s t leaf low taken se
       shared = λ e. absurd (cc);
       alone = λ e z. refl;
       went = went_both p s t to_s again.went;
-      looked = looked_then p s t to_s again.went again.looked;
+      looked = looked_then p s t to_s again.went (some_end again.one);
       short = omega arith;
       sx = gsx;
       finds = λ e. absurd (cc);

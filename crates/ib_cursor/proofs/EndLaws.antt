@@ -35,7 +35,7 @@ use Rattle.ib_cursor.proofs.OnPathLaws.{met_on-path, page_on-path, child_on-path
 use Rattle.ib_cursor.proofs.NextLaws.{leaf-met}
 use Rattle.ib_cursor.proofs.LogLaws.{tree_of-log, bit_inside, path_image}
 use Rattle.ib_cursor.proofs.ShapeLaws.{HasLinks, single_links}
-use Rattle.ib_cursor.proofs.LatchingLaws.{went_both, looked_first}
+use Rattle.ib_cursor.proofs.LatchingLaws.{went_both, looked_first, some_end}
 use Rattle.ib_cursor.proofs.GrantLaws.{grants_more}
 use Rattle.ib_cursor.proofs.ClaimLaws.{keeps_both}
 use Rattle.ib_cursor.proofs.LinkReadLaws.{keeps_on_path}
@@ -229,7 +229,7 @@ module _ (sizes : Sizes) (roots : ℕ) (lawful : List Entry → Type 0) (opening
             count = more.holds.count;
             read = all-read (IsHeldPage opening u) (IsAsRead opening u.view.memory.seen) u.work (λ w h. h.read) more.holds.read;
             went = went_both p q u latched.seen.went later;
-            looked = looked_first p q u latched.seen.went later latched.seen.looked;
+            looked = looked_first p q u latched.seen.went later (some_end latched.seen.one);
             known = more.holds.known;
             s = omega arith;
             sx = omega arith;

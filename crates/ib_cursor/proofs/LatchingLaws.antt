@@ -128,7 +128,7 @@ seen_by sizes lawful opening p q role look =
         ends = ap (λ (r : PassState). r.view.memory.ends) is;
         bounds = ((let e = ap length look.looked.longer in let l = length-append p.view.memory.seen look.looked.others in omega arith, omega arith), tt);
       };
-      looked = omega arith;
+      one = refl;
       known = record {
         legal = look.looked.legal;
         room = look.looked.room;
@@ -148,7 +148,7 @@ latched_by sizes lawful g p q r t s memo session grants work =
     record {
       seen = record {
         went = went_both p q r (went_beside p q b) s.went;
-        looked = s.looked;
+        one = s.one;
         known = s.known;
         steady = λ page watched. s.steady page (subst (λ (m : Knowledge). is_watched (page + 2) m.since ≡ true) (sym t.taken.memory) watched);
         watched = s.watched;
@@ -177,7 +177,7 @@ seen_loaded sizes lawful opening page p q role load =
         ends = ap (λ (r : PassState). r.view.memory.ends) is;
         bounds = ((let e = ap length load.looked.longer in let l = length-append p.view.memory.seen load.looked.others in omega arith, omega arith), tt);
       };
-      looked = omega arith;
+      one = refl;
       known = record {
         legal = load.looked.legal;
         room = load.looked.room;
@@ -187,6 +187,10 @@ seen_loaded sizes lawful opening page p q role load =
       watched = λ l held. subst (λ (r : PassState). is_watched l r.view.memory.since ≡ true) (sym is)
           (watched_after q.view.memory.seen (with_page_loaded page load.image p.view) l (subst (λ (r : PassState). 0 < holdings l r.view.session) is held));
     }
+
+-- a look adds an end
+pub some_end : {ends : List ℕ} {end : ℕ} → ends ≡ end ∷ [] → 0 < length ends
+some_end one = let some = ap length one in omega arith
 
 -- looks on the path
 pub added_both : (p q r : PassState) (a : WentOn p q) (b : WentOn q r) → (went_both p q r a b).added ≡ a.added ++ b.added
@@ -206,7 +210,7 @@ pub seen_after : (sizes : Sizes) (lawful : List Entry → Type 0) (p q r : PassS
 unfolding went_both went_beside
 seen_after sizes lawful p q r b memory s = record {
   went = went_both p q r (went_beside p q b) s.went;
-  looked = s.looked;
+  one = s.one;
   known = s.known;
   steady = λ page watched. s.steady page (subst (λ (m : Knowledge). is_watched (page + 2) m.since ≡ true) (sym memory) watched);
   watched = s.watched;

@@ -21,3 +21,4 @@ pub mod LevelLaws
 pub mod TakenLaws
 pub mod ChildLaws
 pub mod PositionLaws
+pub mod GuessLaws

@@ -43,7 +43,7 @@ use Rattle.ib_cursor.specs.Laws.{Laws}
 use Rattle.ib_cursor.specs.Nexts.{HoldsLeaf}
 use Rattle.ib_cursor.specs.Positions.{HasLoadedAlone, HasMoved, HasStayed, IsPosition, LoadedLeaf}
 use Rattle.ib_cursor.proofs.GrantLaws.{HasGiven, away-none, given, grants_left, grants_more, last_held, released_is}
-use Rattle.ib_cursor.proofs.LatchingLaws.{beside_taken, looked_then, went_beside, went_both}
+use Rattle.ib_cursor.proofs.LatchingLaws.{beside_taken, seen_after, went_beside, went_both}
 use Rattle.ib_cursor.proofs.LogLaws.{bit_inside, range_stays}
 use Rattle.ib_cursor.proofs.NextLaws.{there_in}
 
@@ -82,7 +82,7 @@ module _ (lawful : List Entry → Type 0) (opening : ℕ → ℕ) (begins : (xs 
 -- a page of lawful memory
 module _ (pages roots : ℕ) (lawful : List Entry → Type 0) (opening : ℕ → ℕ) (laws : Laws pages roots lawful opening) (log : List Entry) (legal : lawful log) where
   -- but page 0 it is one of the tree, or free
-  page_formed : (page : ℕ) → page ≢ 0 → IsFormed (image_of (memory_after opening log) page)
+  pub page_formed : (page : ℕ) → page ≢ 0 → IsFormed (image_of (memory_after opening log) page)
   page_formed page some =
       formed-sound (image_of (memory_after opening log) page) (subst (IsSound MOST_RECORDS) (pages_of-image (memory_after opening log) page) ((laws.memory log legal).law.sound page some))
 
@@ -157,17 +157,17 @@ pub loaded_alone : (sizes : Sizes) (lawful : List Entry → Type 0) (opening : �
     → s.memo ≡ q.memo → s.view.session ≡ q.view.session → s.view.grants ≡ q.view.grants → HasPage opening page q s → HasLoadedAlone sizes lawful opening page p s
 loaded_alone sizes lawful opening page p q s idle none taken seen memo session grants loaded =
     let has = grants_more [] (page_grant page S) p s idle (memo ∙ ap (λ (u : PassState). u.memo) taken.pass) (session ∙ taken.taken.session) in
-    let beside = went_beside p q (beside_taken (page_grant page S) p q taken) in
+    let after = seen_after sizes lawful p q s (beside_taken (page_grant page S) p q taken) taken.taken.memory seen in
     record {
       held = has;
-      watched = seen.watched (page + 2) (last_held [] (page_grant page S) s has);
+      watched = after.watched (page + 2) (last_held [] (page_grant page S) s has);
       image = loaded.image;
       work = loaded.work ∙ ap (with_read page loaded.image) (ap (λ (u : PassState). u.work) taken.pass ∙ none);
       size = loaded.size;
       is_page = loaded.is_page;
-      known = seen.known;
-      went = went_both p q s beside seen.went;
-      looked = looked_then p q s beside seen.went seen.looked;
+      known = after.known;
+      went = after.went;
+      one = after.one;
       grants = grants ∙ taken.taken.grants;
     }
 
@@ -268,7 +268,7 @@ module _ (sizes : Sizes) (roots : ℕ) (lawful : List Entry → Type 0) (opening
               met = subst (λ log. HasRange roots (pages_after opening log) at.page stored.range) both-are now;
             };
             went = a.went;
-            looked = a.looked;
+            one = a.one;
             grants = a.grants;
           }
 

@@ -39,7 +39,7 @@ beside_read p q read = subst (IsBeside p) (sym read.same) (record { table = refl
 seen-loads : (sizes : Sizes) (lawful : List Entry → Type 0) (p q : PassState) (loaded : List Loaded) → HasSeen sizes lawful p q → HasSeen sizes lawful p (with_view q (with_loads loaded q.view))
 seen-loads sizes lawful p q loaded s = record {
   went = record { table = s.went.table; sizes = s.went.sizes; number = s.went.number; own = s.went.own; more = s.went.more; seen = s.went.seen; added = s.went.added; ends = s.went.ends; bounds = s.went.bounds };
-  looked = s.looked;
+  one = s.one;
   known = record { legal = s.known.legal; room = s.known.room; mine = s.known.mine };
   steady = s.steady;
   watched = s.watched;

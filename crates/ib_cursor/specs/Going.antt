@@ -30,10 +30,10 @@ pub record WentOn (p q : PassState) : Type 0 where
   pub ends : q.view.memory.ends ≡ p.view.memory.ends ++ added
   pub bounds : AllByRecursion (λ n. (length p.view.memory.seen ≤ n) × (n ≤ length q.view.memory.seen)) added
 
--- a look at the log's end: the entries first seen write no page whose latch was watched, and each latch that is held is watched from then on
+-- one look at the log's end, and all in front of it is seen: the entries first seen write no page whose latch was watched, and each latch that is held is watched from then on
 pub record HasSeen (sizes : Sizes) (lawful : List Entry → Type 0) (p q : PassState) : Type 0 where
   pub went : WentOn p q
-  pub looked : 0 < length went.added
+  pub one : went.added ≡ length q.view.memory.seen ∷ []
   pub known : IsKnown sizes lawful q
   pub steady : (page : ℕ) → is_watched (page + 2) p.view.memory.since ≡ true → AllByRecursion (λ e. touches page e.writes ≡ false) went.more
   pub watched : (l : ℕ) → 0 < holdings l q.view.session → is_watched l q.view.memory.since ≡ true

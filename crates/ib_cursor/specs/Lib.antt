@@ -14,3 +14,4 @@ pub mod Shapes
 pub mod Takings
 pub mod Rows
 pub mod Positions
+pub mod Guesses

@@ -41,7 +41,7 @@ pub record IsPosition (lawful : List Entry → Type 0) (opening : ℕ → ℕ) (
   pub met : HasRange roots (pages_after opening (take at.place seen)) at.page range
   pub clock : at.clock ≡ (pages_after opening (take at.place seen) at.page).clock
 
--- a page was taken in S and loaded, as it is after all seen: it alone is held and loaded, and one grant was added
+-- a page was taken in S and loaded, as it is after all seen: it alone is held and loaded, one grant was added, and the log's end was looked at once
 pub record HasLoadedAlone (sizes : Sizes) (lawful : List Entry → Type 0) (opening : ℕ → ℕ) (page : ℕ) (p q : PassState) : Type 0 where
   pub held : HasGrants (page_grant page S ∷ []) q
   pub watched : is_watched (page + 2) q.view.memory.since ≡ true
@@ -51,17 +51,17 @@ pub record HasLoadedAlone (sizes : Sizes) (lawful : List Entry → Type 0) (open
   pub is_page : IsPageAfter opening q.view.memory.seen page image
   pub known : IsKnown sizes lawful q
   pub went : WentOn p q
-  pub looked : 0 < length went.added
+  pub one : went.added ≡ length q.view.memory.seen ∷ []
   pub grants : q.view.grants ≡ with_grant (Some S) p.view.grants
 
--- the clock is as it was stored, so the page was not written since: it is held in S and loaded, with the range that it had, and one grant was added
+-- the clock is as it was stored, so the page was not written since: it is held in S and loaded, with the range that it had, one grant was added, and the log's end was looked at once
 pub record HasStayed (sizes : Sizes) (lawful : List Entry → Type 0) (opening : ℕ → ℕ) (roots : ℕ) (at : Position) (range : PageRange) (p q : PassState) : Type 0 where
   pub clock : (pages_after opening q.view.memory.seen at.page).clock ≡ at.clock
   pub unwritten : AllByRecursion (λ e. touches at.page e.writes ≡ false) (drop at.place q.view.memory.seen)
   pub image : List ℕ
   pub holds : HoldsLeaf sizes lawful opening roots [] at.page image range q
   pub went : WentOn p q
-  pub looked : 0 < length went.added
+  pub one : went.added ≡ length q.view.memory.seen ∷ []
   pub grants : q.view.grants ≡ with_grant (Some S) p.view.grants
 
 -- the clock is higher, so the page was written: after one grant of S on it, which was given back, the key's leaf was descended to

@@ -5,26 +5,28 @@ ghost use Rattle.std.proofs.Common.{◌∙◌};
 ghost use Rattle.ib_map.specs.Keys.{rank};
 ghost use Rattle.ib_map.specs.Pairs.{value_at};
 ghost use Rattle.ib_logrec.specs.Log.{by_place, memory_after};
-ghost use Rattle.ib_page.specs.Image.{IsTreePage, level_of, records_of};
+ghost use Rattle.ib_page.specs.Form.{page_of};
+ghost use Rattle.ib_page.specs.Image.{IsFormed, IsTreePage, level_of, records_of};
 ghost use Rattle.ib_heap.specs.declared.TheConstants.{MOST_LEVEL};
 ghost use Rattle.ib_walk.specs.Search.{child_for};
-ghost use Rattle.ib_walk.specs.Words.{image_of};
+ghost use Rattle.ib_walk.specs.Words.{image_of, state_of};
 ghost use Rattle.ib_mtr.specs.Mtr.{IsStillMtr};
+ghost use Rattle.ib_cursor.specs.Guesses.{leaf_standing};
 ghost use Rattle.ib_cursor.specs.Reading.{CanRead, HasReadHeld, HasReadWords, read_more, read_none};
-ghost use Rattle.ib_cursor.specs.Spaces.{words_under};
+ghost use Rattle.ib_cursor.specs.Spaces.{pages_under, words_under};
 
 use ib_latch::Sleep;
 use ib_logrec::Law;
 use ib_map::Key;
 use ib_mtr::Mtr;
-use ib_page::{PageWords, child_in, get_in, level_in};
+use ib_page::{KeyStanding, PageWords, child_in, get_in, is_tree_in, level_in, standing_in};
 
 // A page of which the mini-transaction holds the latch, with a look at the log's end since. It is not
 // loaded: its words are read one by one, where they lie.
 #[derive(Drop)]
-struct HeldPage<'m, 'a, L: Law, S: Sleep> {
-    mtr: &'m mut Mtr<'a, L, S>,
-    page: u32,
+pub(crate) struct HeldPage<'m, 'a, L: Law, S: Sleep> {
+    pub(crate) mtr: &'m mut Mtr<'a, L, S>,
+    pub(crate) page: u32,
 }
 
 impl<'m, 'a, L: Law, S: Sleep> PageWords for HeldPage<'m, 'a, L, S> {
@@ -41,6 +43,21 @@ impl<'m, 'a, L: Law, S: Sleep> PageWords for HeldPage<'m, 'a, L, S> {
     ghost read_none = { λ h. (refl, refl, refl, refl, read_none h.mtr.now.pass.now) };
 
     ghost read_more = { λ h k l one two. (two.0 ∙ one.0, two.1 ∙ one.1, two.2 ∙ one.2, two.3 ∙ one.3, read_more h.mtr.now.pass.now k.mtr.now.pass.now l.mtr.now.pass.now one.4 two.4) };
+}
+
+// Where a key stands on a page, over a source of its words, if that is a leaf.
+fn leaf_standing_in<W: PageWords>(page: &mut W, key: Key) -> Option<KeyStanding>
+    requires can { W.can_read page.old }
+    requires formed { IsFormed (W.words page.old) }
+    ensures standing { result ≡ leaf_standing key (state_of (page_of (W.words page.old))) }
+    ensures same { W.words page.new ≡ W.words page.old }
+    ensures can { W.can_read page.new }
+    ensures read { W.has_read page.old page.new }
+{
+    if !is_tree_in(page) || level_in(page) > 0 {
+        return None;
+    }
+    Some(standing_in(page, key))
 }
 
 impl<'m, 'a, L: Law, S: Sleep> HeldPage<'m, 'a, L, S> {
@@ -88,6 +105,19 @@ impl<'m, 'a, L: Law, S: Sleep> HeldPage<'m, 'a, L, S> {
         ensures read { HasReadHeld self.old.mtr self.new.mtr }
     {
         get_in(self, key)
+    }
+
+    // Where the key stands on the page, if that is a leaf.
+    pub(crate) fn leaf_standing(&mut self, key: Key) -> Option<KeyStanding>
+        requires can { CanRead self.old.mtr.now.latches.now self.old.page
+            self.old.mtr.now.pass.now }
+        requires formed { IsFormed (words_under L.Law self.old.mtr.now.latches.now
+            self.old.mtr.now.pass.now self.old.page) }
+        ensures standing { result ≡ leaf_standing key (pages_under L.Law
+            self.old.mtr.now.latches.now self.old.mtr.now.pass.now self.old.page) }
+        ensures read { HasReadHeld self.old.mtr self.new.mtr }
+    {
+        leaf_standing_in(self, key)
     }
 }
 

@@ -5,6 +5,7 @@
 mod claim;
 mod descent;
 mod fault;
+mod guess;
 mod held_page;
 mod latch_page;
 mod lookup;
@@ -17,8 +18,9 @@ mod siblings;
 pub use claim::descend_to_insert;
 pub use descent::{descend, descend_at, descend_nowait};
 pub use fault::NowaitFault;
+pub use guess::{key_standing, latch_guess};
 pub use latch_page::{read, take};
-pub use lookup::{find, find_nowait};
+pub use lookup::{FoundLeaf, find, find_leaf, find_nowait};
 pub use next::next_leaf;
 pub use position::{Position, Restored, restore, store};
 pub use search::Search;

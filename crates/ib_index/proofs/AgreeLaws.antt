@@ -37,7 +37,7 @@ use Rattle.ib_cursor.proofs.ShapeLaws.{single_path}
 use Rattle.ib_cursor.proofs.StepLaws.{image_stays}
 use Rattle.ib_cursor.proofs.EndLaws.{all-read}
 use Rattle.ib_index.specs.Grows.{HoldsPath}
-use Rattle.ib_index.proofs.LeafStays.{kept-laws}
+use Rattle.ib_leaf.proofs.LeafStays.{kept-laws}
 
 -- kept logs keep the laws of the shapes of trees
 pub kept-shapes : (pages : ℕ) → has_pages pages ≡ true → ShapeLaws pages 1 (IsKeptLog pages) (by_place opening pages)

@@ -19,11 +19,13 @@ use Rattle.ib_cursor.specs.Descent.{one_if}
 use Rattle.ib_cursor.specs.Going.{WentOn}
 use Rattle.ib_cursor.specs.Spaces.{space_of}
 use Rattle.ib_cursor.proofs.LatchingLaws.{seen_longer}
-use Rattle.ib_index.specs.Calls.{HasCalled, MakesOwn}
+use Rattle.ib_leaf.specs.Calls.{HasCalled, MakesOwn}
 use Rattle.ib_index.specs.Changes.{TakesFewUnless}
 use Rattle.ib_index.specs.Grows.{TakesAtMost}
-use Rattle.ib_index.specs.Leaf.{AddsFewX, HasLeaf, NeedsTree, TakesFew, TakesFor, reaches_log}
-use Rattle.ib_index.proofs.CallLaws.{bounds-wider}
+use Rattle.ib_leaf.specs.Ends.{reaches_log}
+use Rattle.ib_leaf.specs.Leaf.{HasLeaf}
+use Rattle.ib_index.specs.Leaf.{AddsFewX, NeedsTree, TakesFew, TakesFor}
+use Rattle.ib_leaf.proofs.CallLaws.{bounds-wider}
 
 -- whether an answer to this call fits has nothing to do with what its session had seen
 abbrev pub IsFreeOfReach : Call → Type 0
@@ -56,10 +58,10 @@ one-most false = omega arith
 module _ (sizes : Sizes) (lawful : List Entry → Type 0) (opens : ℕ → ℕ) (why : ℕ → PageState → Type 0) (key : MapKey) (p q r : PassState) where
   pub called-again : (call : Call) (answer : Record) → IsFreeOfReach call → NeedsTree sizes why key p q → HasCalled sizes lawful opens call answer q r → HasCalled sizes lawful opens call answer p r
   called-again call answer free needs called =
-      go needs.went.added needs.went.ends needs.went.bounds needs.looked
+      go needs.stopped.went.added needs.stopped.went.ends needs.stopped.went.bounds needs.stopped.looked
     where
       went : WentOn p q
-      went = needs.went
+      went = needs.stopped.went
 
       go : (added : List ℕ) → q.view.memory.ends ≡ p.view.memory.ends ++ added → AllByRecursion (λ n. (length p.view.memory.seen ≤ n) × (n ≤ length q.view.memory.seen)) added → 0 < length added
           → HasCalled sizes lawful opens call answer p r
@@ -101,7 +103,7 @@ module _ (sizes : Sizes) (lawful : List Entry → Type 0) (opens : ℕ → ℕ) 
   few-again reply needs few most more longer = record {
     few = inr (record {
       place = length q.view.memory.seen;
-      from = seen_longer p q needs.went;
+      from = seen_longer p q needs.stopped.went;
       to = let a = ap length longer in let b = length-append q.view.memory.seen more in omega arith;
       was = subst (HasLeaf sizes why key) (sym (ap (take (length q.view.memory.seen)) longer ∙ take_at q.view.memory.seen more (length q.view.memory.seen) refl)) needs.needs;
     });

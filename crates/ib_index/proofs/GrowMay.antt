@@ -22,7 +22,7 @@ use Rattle.ib_mtr.specs.Mtr.{with_work}
 use Rattle.ib_cursor.specs.Claims.{claim_grant}
 use Rattle.ib_cursor.specs.Grants.{Grant}
 use Rattle.ib_index.specs.Grows.{IsFreshForAll, IsGrowing, held_grant, most_held}
-use Rattle.ib_index.specs.Leaf.{IsSeated}
+use Rattle.ib_leaf.specs.Leaf.{IsSeated}
 use Rattle.ib_planned_change.proofs.ChangeLaws.{insert-planned}
 use Rattle.ib_index.proofs.PathMay.{may-commit}
 

@@ -1,6 +1,6 @@
 -- The parts of a whole insert that changes the tree's structure.
-use Rattle.std.specs.Prelude.{IsSome, is_some}
-use Rattle.std.proofs.Common.{◌≡◌, ℕ, true, false, List, Option, Some, None, refl, sym, ap, subst, ◌∙◌}
+use Rattle.std.specs.Prelude.{IsSome}
+use Rattle.std.proofs.Common.{◌≡◌, ℕ, List, None, sym, ap, subst, ◌∙◌}
 use Rattle.ib_map.specs.Keys.{MapKey}
 use Rattle.ib_map.specs.Pairs.{value_at}
 use Rattle.ib_layout.specs.Geometry.{Sizes}
@@ -11,7 +11,7 @@ use Rattle.ib_mtr.specs.Mtr.{started}
 use Rattle.ib_tree.specs.TreeLog.{opening}
 use Rattle.ib_logrec.specs.Log.{by_place, memory_after}
 use Rattle.ib_index.specs.Grows.{HasClaimedPath, HoldsAllPages, NeedsPages}
-use Rattle.ib_index.specs.Leaf.{IsSeated}
+use Rattle.ib_leaf.specs.Leaf.{IsSeated}
 use Rattle.ib_index.proofs.AgreeLaws.{agrees-now}
 use Rattle.ib_split.specs.Inserts.{CanInsert}
 use Rattle.ib_walk.specs.Words.{bits_of}
@@ -32,14 +32,6 @@ path-started sizes key path p q h = record {
   claims = h.claims;
   grants = h.grants;
 }
-
-pub some-value : (o : Option ℕ) → is_some o ≡ true → (v : ℕ) × (o ≡ Some v)
-some-value None is = absurd (let z : false ≡ true = is in cc)
-some-value (Some v) is = (v, refl)
-
-pub no-value : (o : Option ℕ) → is_some o ≡ false → o ≡ None
-no-value None is = refl
-no-value (Some v) is = absurd (let z : true ≡ false = is in cc)
 
 -- the value in the leaf stays behind pages that are loaded
 pub value-kept : (key : MapKey) (n : ℕ) (old new : List WorkPage) → changed_of n new ≡ changed_of n old → value_at key (memory_in new n).records ≡ value_at key (memory_in old n).records

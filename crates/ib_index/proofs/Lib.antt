@@ -1,11 +1,7 @@
-mod CallLaws
 mod ChangeLaws
 pub mod LookupLaws
-mod LeafStays
-mod LeafCommits
-mod CallEnds
 mod EndLaws
-mod LeafCalls
+mod LeafTries
 mod AgreeLaws
 mod GrowLaws
 mod ClaimedLaws

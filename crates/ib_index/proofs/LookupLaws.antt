@@ -37,8 +37,8 @@ use Rattle.ib_cursor.proofs.LogLaws.{tree_of-log, path_stays, path_image}
 use Rattle.ib_cursor.proofs.StepLaws.{image_stays}
 use Rattle.ib_cursor.proofs.DownLaws.{leaf_path, leaf_image}
 use Rattle.ib_cursor.proofs.OnPathLaws.{leaf_on-path}
-use Rattle.ib_index.specs.Calls.{HasCalled}
-use Rattle.ib_index.proofs.CallLaws.{called-from, read-end, read-known}
+use Rattle.ib_leaf.specs.Calls.{HasCalled}
+use Rattle.ib_leaf.proofs.CallLaws.{called-from, read-end, read-known}
 use Rattle.ib_index.specs.Lookups.{HasLookedUp}
 
 pub lookup-made : (v : Option ℕ) → is_made (lookup_answer v) ≡ false

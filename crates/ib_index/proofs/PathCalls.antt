@@ -21,9 +21,9 @@ use Rattle.ib_rule.specs.Stores.{IsLook}
 use Rattle.ib_mtr.specs.Commits.{HasCommitted, HasRead, IsFull}
 use Rattle.ib_mtr.specs.Mtr.{with_work}
 use Rattle.ib_cursor.specs.Going.{WentOn}
-use Rattle.ib_index.specs.Leaf.{IsSeated}
+use Rattle.ib_leaf.specs.Leaf.{IsSeated}
 use Rattle.ib_index.specs.Grows.{IsGrowing}
-use Rattle.ib_index.proofs.CallEnds.{log-f, log-r, looked-c, looked-f, map-c, map-r}
+use Rattle.ib_leaf.proofs.CallEnds.{log-f, log-r, looked-c, looked-f, map-c, map-r}
 use Rattle.ib_index.proofs.PathMay.{agrees-then, value-then}
 
 module _ (sizes : Sizes) (key : MapKey) (path : List ℕ) (held : List (ℕ × Level)) (p q : PassState) (went : WentOn p q) (looked : 0 < length went.added) (can : IsGrowing sizes key path held q) (seated : IsSeated sizes q) where

@@ -5,7 +5,7 @@ use Rattle.std.proofs.Common.{◌≤◌, ◌≡◌, inl, inr, ℕ, ◌+◌, ◌<
 use Rattle.std.proofs.lemmas.Bool.{cases_eq}
 use Rattle.std.proofs.lemmas.List.{length-map}
 use Rattle.ib_map.specs.Keys.{MapKey}
-use Rattle.ib_map.specs.Map.{answer_of, is_made, key_of}
+use Rattle.ib_map.specs.Map.{answer_of, is_made}
 use Rattle.ib_map.specs.Pairs.{value_at}
 use Rattle.ib_map.specs.Writes.{touches}
 use Rattle.ib_map.specs.declared.call.Change.{Change}
@@ -42,11 +42,11 @@ use Rattle.ib_cursor.specs.Claims.{claim_grant}
 use Rattle.ib_cursor.specs.Grants.{Grant, IsAway, hold_of}
 use Rattle.ib_cursor.proofs.EndLaws.{loaded_some}
 use Rattle.ib_cursor.proofs.GrantLaws.{away-none, can_wish, hold-latch, may_grow}
-use Rattle.ib_index.specs.Leaf.{IsSeated}
+use Rattle.ib_leaf.specs.Leaf.{IsSeated}
 use Rattle.ib_index.specs.Grows.{IsGrowing, held_grant, most_held, pages_held}
 use Rattle.ib_index.proofs.AgreeLaws.{agrees, images-before, images-now, still-in}
 use Rattle.ib_planned_change.proofs.PlanCommits.{IsPlannedChange, entry-kept}
-use Rattle.ib_index.proofs.LeafCommits.{own-behind}
+use Rattle.ib_leaf.proofs.LeafCommits.{own-behind}
 use Rattle.ib_planned_change.proofs.WorkLaws.{count-same, none-same, pages-same, reads-same}
 
 -- X is held on each of the pages

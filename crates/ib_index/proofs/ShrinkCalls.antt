@@ -18,11 +18,11 @@ use Rattle.ib_rule.specs.Pass.{PassState}
 use Rattle.ib_mtr.specs.Commits.{HasCommitted, HasRead, IsFull}
 use Rattle.ib_mtr.specs.Mtr.{with_work}
 use Rattle.ib_cursor.specs.Going.{WentOn}
-use Rattle.ib_index.specs.Calls.{HasCalled}
-use Rattle.ib_index.specs.Leaf.{IsSeated}
+use Rattle.ib_leaf.specs.Calls.{HasCalled}
+use Rattle.ib_leaf.specs.Leaf.{IsSeated}
 use Rattle.ib_index.specs.Grows.{IsGrowing}
-use Rattle.ib_index.proofs.EndLaws.{CommitAnswered}
-use Rattle.ib_index.proofs.CallEnds.{called-committed, called-full, called-read, entry-c, log-full, within-c, within-f, within-r}
+use Rattle.ib_leaf.proofs.CommitLaws.{CommitAnswered}
+use Rattle.ib_leaf.proofs.CallEnds.{called-committed, called-full, called-read, entry-c, log-full, within-c, within-f, within-r}
 use Rattle.ib_index.proofs.PathCalls.{value-c, value-f, value-r, value_there}
 
 module _ (sizes : Sizes) (key : MapKey) (path : List ℕ) (held : List (ℕ × Level)) (p q : PassState) (went : WentOn p q) (looked : 0 < length went.added) (can : IsGrowing sizes key path held q) (seated : IsSeated sizes q) where

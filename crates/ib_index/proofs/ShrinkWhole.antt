@@ -27,7 +27,7 @@ use Rattle.ib_cursor.specs.Going.{WentOn}
 use Rattle.ib_cursor.specs.Grants.{Grant}
 use Rattle.ib_cursor.proofs.LatchingLaws.{looked_first, went_both}
 use Rattle.ib_index.specs.Grows.{HasGrown, IsGrowing, held_grant, most_held, space_pages, tree_pages}
-use Rattle.ib_index.specs.Leaf.{IsSeated}
+use Rattle.ib_leaf.specs.Leaf.{IsSeated}
 use Rattle.ib_index.specs.Shrinks.{HasChildren, HasClaimedSiblings, HasWithNext}
 use Rattle.ib_index.proofs.AgreeLaws.{agrees-now}
 use Rattle.ib_index.proofs.FreshLaws.{follow-log, length-all}

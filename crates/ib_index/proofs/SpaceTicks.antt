@@ -21,7 +21,7 @@ use Rattle.ib_planned_log.specs.LeafChange.{kept_pages}
 use Rattle.ib_planned_log.proofs.ClockLaws.{clock-le, space_clock-le}
 use Rattle.ib_rule.specs.Pass.{PassState}
 use Rattle.ib_index.specs.Grows.{HoldsPath}
-use Rattle.ib_index.specs.Leaf.{IsSeated}
+use Rattle.ib_leaf.specs.Leaf.{IsSeated}
 use Rattle.ib_index.proofs.AgreeLaws.{agrees-now, still-in, images-now}
 use Rattle.ib_index.proofs.FreshLaws.{bits-same}
 

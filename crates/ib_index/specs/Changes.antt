@@ -6,7 +6,8 @@ use Rattle.ib_layout.specs.Geometry.{Sizes}
 use Rattle.ib_walk.specs.Pages.{PageState}
 use Rattle.ib_rule.specs.Pass.{PassState}
 use Rattle.ib_rule.specs.Views.{total}
-use Rattle.ib_index.specs.Leaf.{HasLeaf, TakesFor}
+use Rattle.ib_leaf.specs.Leaf.{HasLeaf}
+use Rattle.ib_index.specs.Leaf.{TakesFor}
 
 -- after a place of the call the key's leaf was one of this kind
 pub record WasLeaf (sizes : Sizes) (why : ℕ → PageState → Type 0) (key : MapKey) (p q : PassState) : Type 0 where

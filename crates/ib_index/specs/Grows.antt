@@ -33,7 +33,7 @@ use Rattle.ib_cursor.specs.Going.{IsKnown, WentOn}
 use Rattle.ib_cursor.specs.Grants.{Grant, HasGrants}
 use Rattle.ib_cursor.specs.Shapes.{is_claimed}
 use Rattle.ib_cursor.specs.Takings.{IsHeldPage, is_loaded}
-use Rattle.ib_index.specs.Calls.{HasCalled}
+use Rattle.ib_leaf.specs.Calls.{HasCalled}
 
 -- the session stands on the key's path: the index is claimed, each page of the work set is watched and as it was read, and the path is the key's in the tree after all seen
 pub record HoldsPath (sizes : Sizes) (key : MapKey) (path : List ℕ) (p : PassState) : Type 0 where

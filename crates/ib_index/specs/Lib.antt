@@ -1,5 +1,3 @@
-pub mod Under
-pub mod Calls
 pub mod Lookups
 pub mod Leaf
 pub mod Grows

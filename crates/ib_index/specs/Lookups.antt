@@ -6,7 +6,7 @@ use Rattle.ib_map.specs.declared.call.Record.{Record}
 use Rattle.ib_layout.specs.Geometry.{Sizes}
 use Rattle.ib_logrec.specs.declared.entry.Entry.{Entry}
 use Rattle.ib_rule.specs.Pass.{PassState}
-use Rattle.ib_index.specs.Calls.{HasCalled}
+use Rattle.ib_leaf.specs.Calls.{HasCalled}
 
 -- a lookup was answered: from two to nine grants of S were taken, for the index and each page of the key's path, and no other
 pub record HasLookedUp (sizes : Sizes) (lawful : List Entry → Type 0) (opening : ℕ → ℕ) (key : MapKey) (answer : Record) (p q : PassState) : Type 0 where

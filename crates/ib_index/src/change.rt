@@ -2,10 +2,10 @@
 
 ghost use Rattle.ib_map.specs.declared.call.Call.TheVariants.{Delete, Insert};
 ghost use Rattle.ib_rule.specs.Pass.{IsAtRest};
-ghost use Rattle.ib_index.specs.Calls.{HasCalled, MayCall};
+ghost use Rattle.ib_leaf.specs.Calls.{HasCalled, MayCall};
 ghost use Rattle.ib_index.specs.Changes.{TakesFewUnless};
-ghost use Rattle.ib_index.specs.Leaf.{IsFullFor, IsShortFor};
-ghost use Rattle.ib_index.specs.Under.{under_plans};
+ghost use Rattle.ib_leaf.specs.Leaf.{IsFullFor, IsShortFor};
+ghost use Rattle.ib_leaf.specs.Under.{under_plans};
 
 use crate::leaf::{optimistic_delete, optimistic_insert};
 use crate::pessimistic_delete::pessimistic_delete;

@@ -10,11 +10,11 @@ ghost use Rattle.ib_planned_log.specs.Kept.{IsKeptLog};
 ghost use Rattle.ib_tree.specs.TreeLog.{opening};
 ghost use Rattle.ib_cursor.specs.Contention.{IsContended};
 ghost use Rattle.ib_map.specs.declared.call.Call.TheVariants.{Delete, Insert};
-ghost use Rattle.ib_index.specs.Calls.{HasCalled, MayCall};
+ghost use Rattle.ib_leaf.specs.Calls.{HasCalled, MayCall};
 ghost use Rattle.ib_index.specs.Changes.{TakesFewUnless};
-ghost use Rattle.ib_index.specs.Leaf.{IsFullFor, IsShortFor};
+ghost use Rattle.ib_leaf.specs.Leaf.{IsFullFor, IsShortFor};
 ghost use Rattle.ib_index.specs.Lookups.{HasLookedUp};
-ghost use Rattle.ib_index.specs.Under.{under_plans};
+ghost use Rattle.ib_leaf.specs.Under.{under_plans};
 
 use crate::{change, lookup, nowait};
 use ib_cursor::NowaitFault;

@@ -6,7 +6,7 @@ ghost use Rattle.ib_rule.specs.Pass.{IsAtRest, PassState};
 ghost use Rattle.ib_rule.specs.Under.{under};
 ghost use Rattle.ib_mtr.specs.Mtr.{IsMtr};
 ghost use Rattle.ib_cursor.specs.Descent.{HasFound};
-ghost use Rattle.ib_index.specs.Calls.{MayCall};
+ghost use Rattle.ib_leaf.specs.Calls.{MayCall};
 ghost use Rattle.ib_index.specs.Lookups.{HasLookedUp};
 
 use ib_cursor::find;

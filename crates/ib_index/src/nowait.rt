@@ -5,7 +5,7 @@ ghost use Rattle.ib_heap.specs.declared.TheConstants.{MOST_LEVEL};
 ghost use Rattle.ib_rule.specs.Pass.{IsAtRest};
 ghost use Rattle.ib_rule.specs.Under.{under};
 ghost use Rattle.ib_cursor.specs.Contention.{IsContended};
-ghost use Rattle.ib_index.specs.Calls.{MayCall};
+ghost use Rattle.ib_leaf.specs.Calls.{MayCall};
 ghost use Rattle.ib_index.specs.Lookups.{HasLookedUp};
 
 use crate::lookup::look_up;

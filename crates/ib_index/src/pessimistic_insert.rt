@@ -20,12 +20,11 @@ ghost use Rattle.ib_rule.specs.Pass.{IsAtRest, PassState};
 ghost use Rattle.ib_mtr.specs.Mtr.{IsMtr, IsStillMtr, with_work};
 ghost use Rattle.ib_cursor.specs.Descent.{MayDescend};
 ghost use Rattle.ib_map.specs.declared.call.Call.TheVariants.{Insert as InsertCall};
-ghost use Rattle.ib_index.specs.Leaf.{IsSeated};
 ghost use Rattle.ib_index.specs.Grows.{HasChangedTree, HasClaimedPath, HasGrown, HasTakenNew, HoldsAllPages, IsChosen, IsGrowing, IsLacking, IsShort, MayChangeTree, NeedsPages, pages_held, space_pages, tree_pages};
 
-use crate::leaf::{ROOT, Work, changed};
 use ib_cursor::{descend_to_insert, read, take};
 use ib_latch::{Latches, Parkers};
+use ib_leaf::{ROOT, Work, changed, facts_of_session};
 use ib_levels::{Latch, Level, Mode};
 use ib_map::{Call, Change, Key, Record, Reply};
 use ib_mtr::Mtr;
@@ -35,17 +34,6 @@ use ib_plans::TreeFault;
 use ib_rule::Pass;
 use ib_split::{choose_pages, pages_needed, plan_insert};
 use std::sync::Wait;
-
-// What the session and its space are told to be by their own types.
-pub(crate) fn facts_of_session(mtr: &Work<'_>)
-    requires mtr { IsMtr mtr.now.latches.now mtr.now.pass.now }
-    ensures { IsSeated mtr.now.latches.now.sizes mtr.now.pass.now }
-{
-    let geometry = mtr.geometry();
-    let _ = (geometry.pages(), geometry.log_words());
-    let pass = mtr.pass();
-    let _ = (pass.number(), pass.made(), pass.used());
-}
 
 // Claims the key's path: the index is claimed, and the pages of the path and the leaves beside the
 // key's leaf are held in X, and loaded.

@@ -6,6 +6,8 @@ mod cursor;
 #[cfg(test)]
 mod grown;
 #[cfg(test)]
+mod guesses;
+#[cfg(test)]
 mod leaves;
 #[cfg(test)]
 mod lookups;

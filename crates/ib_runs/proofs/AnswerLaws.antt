@@ -46,7 +46,7 @@ use Rattle.ib_rule.specs.Pass.{PassState}
 use Rattle.ib_rule.specs.Views.{total}
 use Rattle.ib_cursor.specs.Going.{IsKnown}
 use Rattle.ib_cursor.proofs.LatchingLaws.{bounds-append}
-use Rattle.ib_index.specs.Calls.{HasCalled, MakesOwn}
+use Rattle.ib_leaf.specs.Calls.{HasCalled, MakesOwn}
 use Rattle.ib_index.proofs.LookupLaws.{lookup-made}
 use Rattle.ib_runs.specs.Answers.{KeptAnswers, answers_of}
 use Rattle.ib_runs.specs.Sessions.{AreBehind, AreFew, EachIsBehind, HasAnswered, IsBehind, IsRead, changes_in, index_space, least_grants, most_grants, most_scan_grants}

@@ -32,7 +32,7 @@ use Rattle.ib_cursor.specs.Going.{WentOn}
 use Rattle.ib_cursor.specs.Descent.{HasDescended}
 use Rattle.ib_cursor.specs.declared.position.Position.{Position}
 use Rattle.ib_cursor.specs.Positions.{HasMoved, HasStayed}
-use Rattle.ib_cursor.proofs.LatchingLaws.{IsBeside, went_beside, went_both, went_none, added_both, known_beside, looked_then, seen_longer}
+use Rattle.ib_cursor.proofs.LatchingLaws.{IsBeside, went_beside, went_both, went_none, added_both, known_beside, looked_then, seen_longer, some_end}
 use Rattle.ib_cursor.proofs.StepLaws.{image_stays}
 use Rattle.ib_cursor.specs.Laws.{Laws}
 use Rattle.ib_scan.specs.Scanning.{AreHeld, HasGone, HasScanned, HasStopped, HasNoRoom}
@@ -99,7 +99,7 @@ begun_same sizes roots lawful opening root next at p q k h =
         };
       };
       went = h.went;
-      looked = h.looked;
+      looked = some_end h.one;
       least = omega arith;
       s = omega arith;
       sx = ap (λ (g : Grants). g.sx) h.grants;

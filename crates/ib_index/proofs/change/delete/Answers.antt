@@ -5,7 +5,7 @@ use Rattle.ib_tree.specs.TreeLog.{opening}
 use Rattle.ib_planned_log.specs.Kept.{IsKeptLog}
 use Rattle.ib_rule.specs.Pass.{PassState}
 use Rattle.ib_layout.specs.Geometry.{Sizes}
-use Rattle.ib_index.specs.Leaf.{IsShortFor}
+use Rattle.ib_leaf.specs.Leaf.{IsShortFor}
 use Rattle.ib_index.proofs.ChangeLaws.{called-again, few-again}
 use Rattle.ib_index.proofs.change.delete.Goals as goal
 

@@ -1,16 +1,11 @@
 -- The descent ends at the leaf, and the session fits its space.
-use Rattle.std.proofs.Common.{◌≡◌, ℕ, ◌≤◌, ◌∙◌, true, length, ap, subst, arith}
-use Rattle.std.proofs.lemmas.Bool.Decides.{nat_tests}
-use Rattle.ib_layout.specs.Geometry.{Sizes, has_log}
-use Rattle.ib_rule.specs.declared.view.Role.TheVariants.{Session}
+use Rattle.std.proofs.Common.{◌≡◌, ap, subst}
+use Rattle.ib_layout.specs.Geometry.{Sizes}
 use Rattle.ib_rule.specs.Pass.{PassState}
 use Rattle.ib_cursor.proofs.DownLaws.{last_of_path}
-use Rattle.ib_cursor.proofs.PageLaws.{has_told}
-use Rattle.ib_index.proofs.LeafCalls.{reached}
+use Rattle.ib_leaf.specs.Leaf.{IsSeated}
+use Rattle.ib_index.proofs.LeafTries.{reached}
 use Rattle.ib_index.proofs.leaf.descend_to_leaf.Goals as goal
-
-log-few : (n : ℕ) → has_log n ≡ true → n ≤ 16777216
-log-few n has = grind (arith, nat_tests, has)
 
 pub returns-clause-reached : goal.returns-clause-reached
 returns-clause-reached g c =
@@ -18,22 +13,6 @@ returns-clause-reached g c =
     let q : PassState = c.descend-path.new.mtr.pass.now in
     let d = c.descend-path.ensures.descended in
     let same : c.descend-path.new.mtr.latches.now.sizes ≡ sizes = ap (λ m. m.now.sizes) c.descend-path.ensures.still.latches in
-    let size : c.geometry-geometry.result ≡ sizes = c.geometry-geometry.ensures ∙ same in
-    let own : q.sizes ≡ sizes = c.descend-path.ensures.still.mtr.own.sizes ∙ same in
-    let here : c.pass-pass.result.now ≡ q = c.pass-pass.ensures in
-    let few = log-few c.log_words.result c.log_words.ensures.in_range in
-    let words : c.log_words.result ≡ sizes.log_words = c.log_words.ensures.words ∙ ap (λ (s : Sizes). s.log_words) size in
-    let kept : c.pass-pass.result.now.sizes.log_words ≡ sizes.log_words = ap (λ (r : PassState). r.sizes.log_words) here ∙ ap (λ (s : Sizes). s.log_words) own in
-    let seen : length c.pass-pass.result.now.view.memory.seen ≡ length q.view.memory.seen = ap (λ (r : PassState). length r.view.memory.seen) here in
-    let mine : length c.pass-pass.result.now.view.memory.own ≡ length q.view.memory.own = ap (λ (r : PassState). length r.view.memory.own) here in
-    let number : c.pass-pass.result.now.number ≡ q.number = ap (λ (r : PassState). r.number) here in
-    let n = c.number.ensures in let m = c.made.ensures in let u = c.used.ensures in
     reached sizes c.args.key c.descend-path.result c.unwrap.result c.args.mtr.now.pass.now q d
     (last_of_path c.last.result c.unwrap.result c.descend-path.result d.reached.front d.reached.leaf d.reached.ends c.last.ensures.last c.unwrap.ensures)
-    (record {
-      fits = has_told size c.pages.ensures.pages c.pages.ensures.in_range;
-      role = subst (λ (r : PassState). r.view.role ≡ Session r.number) here n.session;
-      number = (let a = n.number in let b = n.least in omega arith, let a = n.number in let b = n.most in omega arith);
-      made = let a = m.made in let b = m.seen in omega arith;
-      few = let a = u.entries in let b = u.room in omega arith;
-    })
+    (subst (λ (s : Sizes). IsSeated s q) same c.facts_of_session.ensures)

@@ -12,9 +12,10 @@ use Rattle.ib_rule.specs.Views.{total}
 use Rattle.ib_mtr.specs.Commits.{HasRead, MayCommit}
 use Rattle.ib_mtr.specs.Mtr.{with_work}
 use Rattle.ib_index.specs.Grows.{HasChangedTree, IsGrowing, tree_pages}
-use Rattle.ib_index.specs.Leaf.{IsSeated}
+use Rattle.ib_leaf.specs.Leaf.{IsSeated}
 use Rattle.ib_index.specs.Shrinks.{HasClaimedSiblings}
-use Rattle.ib_index.proofs.EndLaws.{CommitAnswered, changed-ended, changed-read, commit-answered}
+use Rattle.ib_leaf.proofs.CommitLaws.{CommitAnswered, commit-answered}
+use Rattle.ib_index.proofs.EndLaws.{changed-ended, changed-read}
 use Rattle.ib_index.proofs.ShrinkCalls.{called-missing, called-shrunk}
 use Rattle.ib_index.proofs.ShrinkMay.{may-shrink}
 use Rattle.ib_index.proofs.ShrinkWhole.{IsReadyToShrink, ready-to-shrink, siblings-started}

@@ -17,13 +17,15 @@ use Rattle.ib_rule.specs.Views.{total}
 use Rattle.ib_mtr.specs.Commits.{HasRead, MayCommit}
 use Rattle.ib_mtr.specs.Mtr.{with_work}
 use Rattle.ib_cursor.proofs.LatchingLaws.{looked_first, went_both}
-use Rattle.ib_index.specs.Leaf.{IsSeated}
+use Rattle.ib_leaf.specs.Leaf.{IsSeated}
 use Rattle.ib_index.specs.Grows.{HasChangedTree, HasClaimedPath, IsShort, NeedsPages, tree_pages}
 use Rattle.ib_index.proofs.SpaceTicks.{may-tick}
-use Rattle.ib_index.proofs.EndLaws.{CommitAnswered, changed-ended, changed-read, commit-answered}
+use Rattle.ib_leaf.proofs.OptionLaws.{no-value, some-value}
+use Rattle.ib_leaf.proofs.CommitLaws.{CommitAnswered, commit-answered}
+use Rattle.ib_index.proofs.EndLaws.{changed-ended, changed-read}
 use Rattle.ib_index.proofs.GrowMay.{may-grow}
 use Rattle.ib_index.proofs.GrowCalls.{called-duplicate, called-ended, called-high, called-short}
-use Rattle.ib_index.proofs.GrowWhole.{IsReadyToGrow, can-insert, no-value, ready-to-grow, some-value, value-kept, path-started}
+use Rattle.ib_index.proofs.GrowWhole.{IsReadyToGrow, can-insert, ready-to-grow, value-kept, path-started}
 use Rattle.ib_index.proofs.pessimistic_insert.pessimistic_insert.Given.{Over}
 use Rattle.ib_index.proofs.pessimistic_insert.pessimistic_insert.Goals.{After-facts_of_session-2, After-claim_path-path}
 use Rattle.ib_index.proofs.pessimistic_insert.pessimistic_insert.Goals as goal

@@ -1,0 +1,10 @@
+mod Resting
+mod Rules
+mod RightLaws
+mod LogLaws
+mod EndLaws
+mod LookupLaws
+mod GuessLaws
+mod DescentLaws
+mod GotLaws
+mod TryLaws

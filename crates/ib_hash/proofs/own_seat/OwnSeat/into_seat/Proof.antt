@@ -1,0 +1,25 @@
+-- The seat comes out of the struct.
+use Rattle.atomic_table.proofs.Names.{◌≡◌, List, [], ◌∷◌, refl, Val, SProp, emp, ‵, raw, ◌⊛◌, ◌$◌, ◌∵◌, !, qed, by, move, keep, drop, split, fsplit, fsplit3, fjoin, fpick, use0, rewrite, stop, fld, of_opd, returns, enter, alloc_all, pass_all, free_all, look_at, get, get_in, sets, sub, whole, tables, yes, owns, types_at, plain, nothing, alive, Stays, stay_dropped, walk_of, fact, fact_i, Is, shows, peeks}
+use Rattle.atomic_table.proofs.Walks.{proved, leaves}
+use Rattle.atomic_table.proofs.Fields.{token_val}
+use Rattle.ib_hash.proofs.Resting.{Goes-blank, Sr, Rr, rest_val, seat_told, rest_told}
+use Rattle.ib_hash.specs.contracts.own_seat.OwnSeat.into_seat.{ended, clauses}
+use Rattle.ib_hash.specs.contracts.own_seat.OwnSeat.into_seat.Key.{name as #self}
+use Rattle.ib_hash.proofs.own_seat.OwnSeat.into_seat.Statement.{statement}
+use Rattle.ib_hash.proofs.own_seat.OwnSeat.into_seat.Code as code
+
+pub into_seat_spec : {M : Type 1} → statement M
+into_seat_spec 𝓤 𝓛 𝓜 𝓡 wired =
+    let H = 𝓛.H in let 𝓣 = tables 𝓤 H 𝓜 𝓡 𝓡.env in let En = ended in let c = clauses 𝓛 𝓜.mem 𝓡.returns in let fn = code.function in
+    let hs : Stays En.signature.params En.kept = (stay_dropped (plain (λ _. Rr)) yes, tt) in
+    proved 𝓛 En hs c 𝓜 𝓡 (Goes-blank 𝓛 0 (plain (λ _. Rr)) yes (λ κs x f. tt), tt) #self fn (code.unfolded 𝓤 H 𝓜 𝓡 wired)
+    (λ κs. ((λ _. rest_val ∷ []), tt)) (λ κs. ((λ x vs so. rest_told x vs so), tt)) (λ κs qs bounds a gh are.
+    let x : Sr.Denot = a.0.seat in let v : Val = token_val in let u : Val = rest_val in
+    let y : (walk_of 𝓛 En hs c).Ghost = ((κs, qs, bounds, a, (u ∷ [], tt)), gh) in let Post : Val → SProp 𝓤 = (walk_of 𝓛 En hs c).post y in
+    qed 𝓛 ((raw (alive 𝓛 En.signature κs qs) ⊛ ‵ (owns (types_at En.signature.params κs) a y.0.4)) ∷ raw ((c κs a).requires gh) ∷ []) ∵
+    split ! $ move ! (1 ∷ []) $ fsplit ! $ fsplit ! $ fpick ! (λ vss. fsplit3 ! $ drop ! $ peeks ! Sr (Is Sr) (shows 𝓛 Sr) x vss.0 (λ so.
+    rewrite ! 0 (λ (ws : List Val). ‵ (Sr.own_val x ws)) (seat_told x vss.0 so) refl $ keep ! (0 ∷ 4 ∷ []) $
+    enter ! 𝓣.C 𝓣.Λ fn (u ∷ []) Post $ alloc_all ! (λ l. pass_all ! refl ((tt, ((tt, tt), tt)), tt) $
+    sets ! (of_opd ! (get_in ! (fld ! refl (stop !)) (sub ! 0 refl (whole !)))) refl (tt, (tt, tt)) $ sets ! (of_opd ! (get ! refl)) refl (tt, (tt, tt)) $
+    use0 𝓛 (raw (fact 𝓤 (x ≡ x))) (fact_i 𝓤 (x ≡ x) (emp 𝓤) refl) $ nothing ! $ nothing ! $ fjoin ! $
+    returns ! (look_at ! 0 refl) $ free_all ! refl $ keep ! (3 ∷ 0 ∷ 2 ∷ 1 ∷ []) $ by ! (leaves 𝓛 En hs c y v x ((tt, tt), tt) (tt, tt))))))

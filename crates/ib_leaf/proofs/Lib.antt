@@ -1,0 +1,9 @@
+pub mod CallLaws
+pub mod CallEnds
+pub mod CommitLaws
+pub mod OptionLaws
+pub mod LeafStays
+pub mod LeafCommits
+mod LeafCalls
+mod LeafEnds
+pub mod LeafLaws

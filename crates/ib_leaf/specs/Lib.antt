@@ -1,0 +1,4 @@
+pub mod Under
+pub mod Calls
+pub mod Leaf
+pub mod Ends
