@@ -24,7 +24,7 @@ PARTS = (
     ("searches where pages lie", r"ib_heap::(search|directory|words)|held_page|order_by_(first|second)"),
     ("pages loaded", r"read_page|load"),
     ("commits", r"commits::Mtr\+L"),
-    ("records put in, taken out, looked at", r"ib_heap|ib_page|index::leaf|ib_index::(grow|shrink)|ib_split|ib_merge|ib_plans"),
+    ("records put in, taken out, looked at", r"ib_heap|ib_page|ib_leaf|index::leaf|ib_index::(grow|shrink)|ib_split|ib_merge|ib_plans"),
     ("opening, closing, the map read off", r"run_in|run_script|mem(set|move|cpy)|decode|PlainMap|ib_validate|ib_tree|chunks_from|ib_map|move_within"),
     ("latches, their turns, the memo, the way down", r"ib_core|ib_latch|ib_rule|ib_mtr|ib_cursor|ib_index|ib_runs::session|ForeverIterator"),
 )
