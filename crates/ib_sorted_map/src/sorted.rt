@@ -3,6 +3,7 @@
 ghost use Rattle.std.specs.Prelude.{◌≡◌, ◌≢◌, ◌↔◌, [], Some, None, length, IsTrue, IsSome, IsNone, OnOk, OnErr, IfOk, IfErr};
 ghost use Rattle.ib_map.specs.Pairs.{put, without, value_at, cut};
 ghost use Rattle.ib_map.specs.Map.{IsMap};
+ghost use Rattle.ib_map.specs.Changes.{HasInserted, HasDeleted};
 
 use crate::between::Between;
 use crate::ordered_key::OrderedKey;
@@ -60,12 +61,7 @@ impl SortedMap {
 
     /// Puts a pair in. Refused as `Duplicate` exactly where the key is there.
     pub fn insert(&mut self, key: Key, value: u64) -> Result<(), MapFault>
-        ensures inserted { OnOk result (self.new ≡ put key value self.old) }
-        ensures absent { OnOk result (value_at key self.old ≡ None) }
-        ensures duplicate { (result ≡ Err MapFault.Duplicate) ↔ IsSome (value_at key self.old) }
-        ensures never_missing { result ≢ Err MapFault.Missing }
-        ensures unchanged { OnErr result (self.new ≡ self.old) }
-        ensures ascends { IsMap self.new }
+        ensures { HasInserted self.old self.new key value result }
     {
         let key = OrderedKey::new(key);
         if self.pairs.contains_key(&key) {
@@ -80,12 +76,7 @@ impl SortedMap {
     /// Takes a key out, and gives its value. Refused as `Missing` exactly where the key is not there,
     /// and for no other reason.
     pub fn delete(&mut self, key: Key) -> Result<u64, MapFault>
-        ensures value { IfOk result (λ value. value_at key self.old ≡ Some value) }
-        ensures deleted { OnOk result (self.new ≡ without key self.old) }
-        ensures missing { (result ≡ Err MapFault.Missing) ↔ IsNone (value_at key self.old) }
-        ensures only_missing { IfErr result (λ fault. fault ≡ MapFault.Missing) }
-        ensures unchanged { OnErr result (self.new ≡ self.old) }
-        ensures ascends { IsMap self.new }
+        ensures { HasDeleted self.old self.new key result }
     {
         match self.pairs.remove(&OrderedKey::new(key)) {
             Some(value) => Ok(value),

@@ -18,18 +18,37 @@ invariant_of-self c =
     (λ ok. Rises-insert c.args.key c.args.value 0 c.self.inside.pairs.items end_rank c.in-Err.index c.self.invariant (omega arith) (rank-lt_end c.args.key) search.absent search.index)
     (λ err. c.self.invariant))
 
-pub returns-in-Ok-clause-duplicate : goal.returns-in-Ok-clause-duplicate
-returns-in-Ok-clause-duplicate c =
+pub returns-in-Ok : goal.returns-in-Ok
+returns-in-Ok c =
     let found = rw c.deref.ensures.value at c.in-Ok.ensures.value in
-    (λ _. rw (← c.self.view_is) (is_some-found c.args.key c.self.inside.pairs.items c.in-Ok.field-0 found), λ _. refl)
+    record {
+      inserted = tt;
+      absent = tt;
+      duplicate = (λ _. rw (← c.self.view_is) (is_some-found c.args.key c.self.inside.pairs.items c.in-Ok.field-0 found), λ _. refl);
+      never_missing = λ missing. cc;
+      unchanged = search;
+      ascends = rw (← c.self.view_is) c.self.invariant;
+    }
 
-pub returns-after-insert-clause-inserted : goal.returns-after-insert-clause-inserted
-returns-after-insert-clause-inserted c =
-    let search = rw c.deref.ensures.value at c.in-Err.ensures in
+pub returns-after-insert : goal.returns-after-insert
+returns-after-insert c =
+    let there = rw c.deref.ensures.value at c.in-Err.ensures in
+    let absent = rw c.self.view_is at there.absent in
     elim c.match-insert.branch [
-      | in-Ok-insert w ↦ rw (w.result-is, w.in-Ok-insert.ensures.items, ← c.self.view_is) (insert-index c.args.key c.args.value c.self.inside.pairs.items c.in-Err.index search.index)
-      | in-Err-insert w ↦ rw w.result-is tt
+      | in-Ok-insert w ↦ rw w.result-is (record {
+        inserted = rw (w.in-Ok-insert.ensures.items, ← c.self.view_is) (insert-index c.args.key c.args.value c.self.inside.pairs.items c.in-Err.index there.index);
+        absent = absent;
+        duplicate = (λ duplicate. cc, λ some. let no = rw absent at some in cc);
+        never_missing = λ missing. cc;
+        unchanged = tt;
+        ascends = invariant_of-self c;
+      })
+      | in-Err-insert w ↦ rw w.result-is (record {
+        inserted = tt;
+        absent = tt;
+        duplicate = (λ duplicate. cc, λ some. let no = rw absent at some in cc);
+        never_missing = λ missing. cc;
+        unchanged = search;
+        ascends = invariant_of-self c;
+      })
     ]
-
-pub returns-after-insert-clause-ascends : goal.returns-after-insert-clause-ascends
-returns-after-insert-clause-ascends c = invariant_of-self c
