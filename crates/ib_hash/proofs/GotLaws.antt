@@ -1,76 +1,27 @@
 -- A lookup by a guess, and a descent where there is none or it is wrong: both are one call.
 use Rattle.std.specs.List.{AllByRecursion}
 use Rattle.std.specs.Prelude.{MatchOption}
-use Rattle.std.proofs.Common.{◌≡◌, inl, inr, ℕ, ◌≤◌, true, List, [], ◌∷◌, ◌++◌, length, take, drop, Option, Some, None, refl, sym, ap, subst, ◌∙◌, arith, append_assoc, length-append}
+use Rattle.std.proofs.Common.{◌≡◌, inl, inr, ℕ, ◌≤◌, true, List, ◌∷◌, length, take, drop, Option, Some, None, refl, sym, ap, subst, ◌∙◌, arith}
 use Rattle.std.proofs.lemmas.List.{take-append-drop, take-append-le}
 use Rattle.ib_map.specs.Keys.{MapKey}
-use Rattle.ib_map.specs.Map.{is_made}
-use Rattle.ib_map.specs.Replies.{FitsCall, full_record}
 use Rattle.ib_map.specs.Space.{has_pages}
 use Rattle.ib_map.specs.declared.call.Call.TheVariants.{Get}
 use Rattle.ib_map.specs.declared.call.Record.{Record}
 use Rattle.ib_layout.specs.Geometry.{Sizes}
 use Rattle.ib_logrec.specs.declared.entry.Entry.{Entry}
-use Rattle.ib_logrec.specs.Log.{by_place, history_of}
-use Rattle.ib_tree.specs.Fits.{FitsLog, TreeSpace}
+use Rattle.ib_logrec.specs.Log.{by_place}
 use Rattle.ib_tree.specs.TreeLog.{opening}
 use Rattle.ib_planned_log.specs.Kept.{IsKeptLog}
 use Rattle.ib_planned_log.specs.KeptLog.{IsKeptLog-front}
 use Rattle.ib_rule.specs.Conditions.{HasGrantsLeft}
 use Rattle.ib_rule.specs.declared.looks.Grants.{Grants}
 use Rattle.ib_rule.specs.Pass.{PassState}
-use Rattle.ib_cursor.specs.Going.{WentOn}
-use Rattle.ib_cursor.specs.Spaces.{space_of}
-use Rattle.ib_cursor.proofs.LatchingLaws.{bounds-append, seen_longer}
-use Rattle.ib_leaf.specs.Calls.{HasCalled, MakesOwn}
-use Rattle.ib_leaf.proofs.CallLaws.{bounds-wider}
+use Rattle.ib_leaf.proofs.AfterLaws.{called-after_looks}
 use Rattle.ib_hash.specs.Lookups.{HasGot, HasLookedByDescent, HasLookedByGuess, HasMissed, HasNotLooked}
 use Rattle.ib_hash.specs.Pass.{GuessPassState, looked_at, stored_at}
 use Rattle.ib_hash.specs.Right.{IsRightAfter}
 use Rattle.ib_hash.specs.Slots.{slot_for}
 use Rattle.ib_hash.proofs.LogLaws.{guess-none}
-
--- the answer to a lookup fits whatever its session had seen
-get-anew : (space : TreeSpace) (log : List Entry) (session one other : ℕ) (answer : Record) (key : MapKey) → answer.call ≡ Get key → FitsLog space log session one (full_record answer []) → FitsLog space log session other (full_record answer [])
-get-anew space log session one other answer key is fits = record {
-  map = (
-    fits.map.0,
-    subst (λ c. FitsCall (history_of log) session other c answer.reply answer.place []) (sym is) (subst (λ c. FitsCall (history_of log) session one c answer.reply answer.place []) is fits.map.1),
-  );
-  tree = fits.tree;
-}
-
-bounds-lower : (ns : List ℕ) (low floor most : ℕ) → floor ≤ low → AllByRecursion (λ n. (low ≤ n) × (n ≤ most)) ns → AllByRecursion (λ n. (floor ≤ n) × (n ≤ most)) ns
-bounds-lower [] low floor most le e = tt
-bounds-lower (n ∷ ns) low floor most le e = ((let h = e.0.0 in omega arith, e.0.1), bounds-lower ns low floor most le e.1)
-
--- a lookup behind looks that changed nothing is one from where they began on, with their first end
-called-behind : (sizes : Sizes) (lawful : List Entry → Type 0) (opens : ℕ → ℕ) (key : MapKey) (answer : Record) (p q r : PassState) (went : WentOn p q) (n : ℕ) (ns : List ℕ) → went.added ≡ n ∷ ns
-    → HasCalled sizes lawful opens (Get key) answer q r → (h : HasCalled sizes lawful opens (Get key) answer p r) × (h.first ≡ n)
-called-behind sizes lawful opens key answer p q r went n ns is called =
-    let longer = seen_longer p q went in let from = called.from in
-    let more = ap length called.seen in let sum = length-append q.view.memory.seen called.more in
-    let bounds : AllByRecursion (λ k. (length p.view.memory.seen ≤ k) × (k ≤ length q.view.memory.seen)) (n ∷ ns) = subst (AllByRecursion (λ k. (length p.view.memory.seen ≤ k) × (k ≤ length q.view.memory.seen))) is went.bounds in
-    let whole : HasCalled sizes lawful opens (Get key) answer p r = record {
-      table = called.table ∙ went.table;
-      sizes_are = called.sizes_are ∙ went.sizes;
-      number = called.number ∙ went.number;
-      more = went.more ++ called.more;
-      seen = called.seen ∙ (ap (λ xs. xs ++ called.more) went.seen ∙ append_assoc p.view.memory.seen went.more called.more);
-      known = called.known;
-      first = n;
-      rest = ns ++ called.first ∷ called.rest;
-      ends = called.ends ∙ (ap (λ xs. xs ++ called.first ∷ called.rest) (went.ends ∙ ap (λ (xs : List ℕ). p.view.memory.ends ++ xs) is) ∙ append_assoc p.view.memory.ends (n ∷ ns) (called.first ∷ called.rest));
-      bounds = bounds-append (λ k. (length p.view.memory.seen ≤ k) × (k ≤ length r.view.memory.seen)) (n ∷ ns) (called.first ∷ called.rest)
-          (bounds-wider (n ∷ ns) (length p.view.memory.seen) (length q.view.memory.seen) (length r.view.memory.seen) (omega arith) bounds)
-          (bounds-lower (called.first ∷ called.rest) (length q.view.memory.seen) (length p.view.memory.seen) (length r.view.memory.seen) longer called.bounds);
-      call_is = called.call_is;
-      from = omega arith;
-      looked = let b = bounds.0.1 in omega arith;
-      reach = called.reach;
-      fits = get-anew (space_of sizes opens) r.view.memory.seen r.number (length q.view.memory.seen) (length p.view.memory.seen) answer key called.call_is called.fits;
-      own = subst (λ o. MakesOwn (is_made answer.reply) r.view.memory.seen o r.view.memory.own) went.own called.own;
-    } in (whole, refl)
 
 module _ (sizes : Sizes) (key : MapKey) (guess leaf : ℕ) (answer : Record) (gp : GuessPassState) (p q : PassState) where
   abbrev start : ℕ → ℕ
@@ -93,6 +44,7 @@ module _ (sizes : Sizes) (key : MapKey) (guess leaf : ℕ) (answer : Record) (gp
         guess = guess;
         by = inr (record {
           wrong = λ right. guess-none sizes fits front legal key (subst (λ (n : ℕ). IsRightAfter sizes front n key) none right);
+          least = looked.least;
           s = let s = looked.s in omega arith;
           sx = looked.sx;
           x = looked.x;
@@ -103,7 +55,7 @@ module _ (sizes : Sizes) (key : MapKey) (guess leaf : ℕ) (answer : Record) (gp
   -- the guess is wrong
   got-wrong : (o : PassState) → HasMissed sizes key guess p o → HasLookedByDescent sizes (IsKeptLog sizes.pages) start key leaf answer o q → HasGot sizes (IsKeptLog sizes.pages) start key answer gp (stored_at (slot_for key) leaf found) p q
   got-wrong o missed looked =
-      let whole = called-behind sizes (IsKeptLog sizes.pages) start key answer p o q missed.stopped.went missed.first missed.rest missed.added looked.called in
+      let whole = called-after_looks sizes (IsKeptLog sizes.pages) start (Get key) answer p o q (λ h session one other reply place fits. fits) missed.stopped.went missed.first missed.rest missed.added looked.called in
       let within : AllByRecursion (λ k. (length p.view.memory.seen ≤ k) × (k ≤ length o.view.memory.seen)) (missed.first ∷ missed.rest) =
       subst (AllByRecursion (λ k. (length p.view.memory.seen ≤ k) × (k ≤ length o.view.memory.seen))) missed.added missed.stopped.went.bounds in
       let front : take missed.first q.view.memory.seen ≡ take missed.first o.view.memory.seen =
@@ -114,6 +66,7 @@ module _ (sizes : Sizes) (key : MapKey) (guess leaf : ℕ) (answer : Record) (gp
         guess = guess;
         by = inr (record {
           wrong = λ right. missed.wrong (subst (λ (log : List Entry). IsRightAfter sizes log guess key) same right);
+          least = let one = ap (λ (g : Grants). g.s) missed.grants in let least = looked.least in omega arith;
           s = let one = ap (λ (g : Grants). g.s) missed.grants in let s = looked.s in omega arith;
           sx = looked.sx ∙ ap (λ (g : Grants). g.sx) missed.grants;
           x = looked.x ∙ ap (λ (g : Grants). g.x) missed.grants;

@@ -1,4 +1,5 @@
 pub mod CallLaws
+pub mod AfterLaws
 pub mod CallEnds
 pub mod CommitLaws
 pub mod OptionLaws

@@ -6,14 +6,15 @@ use Rattle.ib_planned_log.specs.Kept.{IsKeptLog}
 use Rattle.ib_rule.specs.Pass.{PassState}
 use Rattle.ib_layout.specs.Geometry.{Sizes}
 use Rattle.ib_leaf.specs.Leaf.{IsShortFor}
-use Rattle.ib_index.proofs.ChangeLaws.{called-again, few-again}
+use Rattle.ib_leaf.proofs.AfterLaws.{called-after_stop}
+use Rattle.ib_index.proofs.ChangeLaws.{few-again}
 use Rattle.ib_index.proofs.change.delete.Goals as goal
 
 pub returns-in-None-clause-called : goal.returns-in-None-clause-called
 returns-in-None-clause-called g c =
     let sizes : Sizes = c.args.latches.now.sizes in let p : PassState = c.args.pass.now in let q : PassState = c.optimistic_delete.new.pass in let r : PassState = c.pessimistic_delete.new.pass in
-    called-again sizes (IsKeptLog sizes.pages) (by_place opening sizes.pages) (IsShortFor c.args.key) c.args.key p q r (Delete c.args.key) c.pessimistic_delete.result
-    (λ h session one other reply place fits. fits) c.in-None.ensures.tried.called c.pessimistic_delete.ensures.changed.called
+    called-after_stop sizes (IsKeptLog sizes.pages) (by_place opening sizes.pages) (Delete c.args.key) c.pessimistic_delete.result p q r
+    (λ h session one other reply place fits. fits) c.in-None.ensures.tried.called.stopped c.pessimistic_delete.ensures.changed.called
 
 pub returns-in-None-clause-grants : goal.returns-in-None-clause-grants
 returns-in-None-clause-grants g c =

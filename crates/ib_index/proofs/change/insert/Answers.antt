@@ -6,14 +6,15 @@ use Rattle.ib_planned_log.specs.Kept.{IsKeptLog}
 use Rattle.ib_rule.specs.Pass.{PassState}
 use Rattle.ib_layout.specs.Geometry.{Sizes}
 use Rattle.ib_leaf.specs.Leaf.{IsFullFor}
-use Rattle.ib_index.proofs.ChangeLaws.{called-again, few-again}
+use Rattle.ib_leaf.proofs.AfterLaws.{called-after_stop}
+use Rattle.ib_index.proofs.ChangeLaws.{few-again}
 use Rattle.ib_index.proofs.change.insert.Goals as goal
 
 pub returns-in-None-clause-called : goal.returns-in-None-clause-called
 returns-in-None-clause-called g c =
     let sizes : Sizes = c.args.latches.now.sizes in let p : PassState = c.args.pass.now in let q : PassState = c.optimistic_insert.new.pass in let r : PassState = c.pessimistic_insert.new.pass in
-    called-again sizes (IsKeptLog sizes.pages) (by_place opening sizes.pages) (IsFullFor c.args.key) c.args.key p q r (Insert c.args.key c.args.value) c.pessimistic_insert.result
-    (λ h session one other reply place fits. fits) c.in-None.ensures.tried.called c.pessimistic_insert.ensures.changed.called
+    called-after_stop sizes (IsKeptLog sizes.pages) (by_place opening sizes.pages) (Insert c.args.key c.args.value) c.pessimistic_insert.result p q r
+    (λ h session one other reply place fits. fits) c.in-None.ensures.tried.called.stopped c.pessimistic_insert.ensures.changed.called
 
 pub returns-in-None-clause-grants : goal.returns-in-None-clause-grants
 returns-in-None-clause-grants g c =
