@@ -1,5 +1,5 @@
 -- A lookup by a descent.
-use Rattle.std.proofs.Common.{◌≡◌, ℕ, ◌+◌, ◌<◌, ◌≤◌, true, Option, refl, sym, ap, subst, ◌∙◌, arith}
+use Rattle.std.proofs.Common.{◌≡◌, ℕ, ◌+◌, ◌<◌, ◌≤◌, true, [], ◌∷◌, Option, length, length-append, refl, sym, ap, subst, ◌∙◌, arith}
 use Rattle.ib_map.specs.Keys.{MapKey}
 use Rattle.ib_map.specs.Map.{lookup_answer}
 use Rattle.ib_map.specs.Space.{has_pages}
@@ -43,10 +43,12 @@ module _ (sizes : Sizes) (fits : has_pages sizes.pages ≡ true) (key : MapKey) 
       let same : leaf ≡ found.reached.leaf = is ∙ sym found.reached.is_leaf in
       let end = read.ended.grants in
       let f = found.reached.finds refl in let f0 = f.0 in let s : q.view.grants.s ≤ p.view.grants.s + 9 = found.reached.s in let t = ap (λ (g : Grants). g.s) end in
+      let l = ap length found.reached.ends in let m = length-append found.reached.front (found.reached.leaf ∷ []) in let more : q.view.grants.s ≡ p.view.grants.s + 1 + length found.path = f0 in
       record {
         called = called-get sizes fits key found.reached.leaf p q went found.reached.looked role found.reached.watched found.reached.is_leaf place r read value reply said found.is_value;
         there = subst (λ (n : ℕ). n < sizes.pages) (sym same) inside;
         is_leaf = same ∙ leaf-r sizes fits key found.reached.leaf p q went found.reached.looked role found.reached.watched found.reached.is_leaf place r read;
+        least = omega arith;
         s = omega arith;
         sx = ap (λ (g : Grants). g.sx) end ∙ found.reached.sx;
         x = ap (λ (g : Grants). g.x) end ∙ f.1;

@@ -50,6 +50,7 @@ pub record HasLookedByDescent (sizes : Sizes) (lawful : List Entry → Type 0) (
   pub called : HasCalled sizes lawful opening (Get key) answer p q
   pub there : leaf < sizes.pages
   pub is_leaf : leaf ≡ leaf_after sizes.pages q.view.memory.seen key
+  pub least : p.view.grants.s + 2 ≤ q.view.grants.s
   pub s : q.view.grants.s ≤ p.view.grants.s + 9
   pub sx : q.view.grants.sx ≡ p.view.grants.sx
   pub x : q.view.grants.x ≡ p.view.grants.x
@@ -60,9 +61,10 @@ pub record GotByGuess (sizes : Sizes) (key : MapKey) (guess first : ℕ) (gp hp 
   pub grants : q.view.grants ≡ with_grant (Some S) p.view.grants
   pub steps : hp ≡ looked_at (slot_for key) guess gp
 
--- it is not right there: at most ten grants of S were added, and the leaf of the key stored, in the tree after all seen
+-- it is not right there: from two to ten grants of S were added, and the leaf of the key stored, in the tree after all seen
 pub record GotByDescent (sizes : Sizes) (key : MapKey) (guess first : ℕ) (gp hp : GuessPassState) (p q : PassState) : Type 0 where
   pub wrong : IsRightAfter sizes (take first q.view.memory.seen) guess key → ⊥
+  pub least : p.view.grants.s + 2 ≤ q.view.grants.s
   pub s : q.view.grants.s ≤ p.view.grants.s + 10
   pub sx : q.view.grants.sx ≡ p.view.grants.sx
   pub x : q.view.grants.x ≡ p.view.grants.x

@@ -6,14 +6,17 @@ ghost use Rattle.ib_rule.specs.Views.{nothing_seen, no_grants};
 ghost use Rattle.ib_script.specs.Script.{IsSmall};
 
 use crate::space::key;
+use ib_hash::Guesses;
 use ib_index::Index;
 use ib_layout::Geometry;
 use ib_map::{Call, Key, Record, Reply};
 use ib_rule::Pass;
-use ib_runs::{OpenGate, SessionOut, run_script, run_session};
+use ib_runs::{Access, Descents, OpenGate, SessionOut, run_script, run_session};
 use ib_script::{PlainLines, Script, read_script};
 use std::alloc::Global;
 use std::process::Abort;
+use std::sync::Wait;
+use std::thread::Threads;
 
 fn come(rt: &impl Abort, alloc: Global, index: &mut Index) -> Pass
     ensures rest { IsAtRest index.new result }
@@ -51,6 +54,8 @@ fn a_session_sees_its_own_changes(rt: HostRuntime) {
     };
     run_session(
         &rt,
+        &Descents,
+        &mut (),
         &index,
         &mut pass,
         &[insert, get, delete, get, back],
@@ -86,15 +91,15 @@ fn script(rt: &impl Abort, alloc: Global, text: &[u8]) -> Script
     }
 }
 
-#[test]
-fn sessions_share_an_index(rt: HostRuntime) {
+// Two sessions on one index, whose calls reach their leaves as `A` says.
+fn check_shared<A: Access + Sync, R: Abort + Threads + Wait + Sync>(rt: &R, alloc: Global) {
     let text = b"space 16 16384\ninsert 1 10\nsession 3\ninsert 3 30\nscan 3 3\n";
-    let script = script(&rt, rt.alloc(), text);
-    let ran = run_script(&rt, rt.alloc(), &script, &OpenGate).expect(&rt, "there is memory");
+    let script = script(rt, alloc, text);
+    let ran = run_script::<A, _, _>(rt, alloc, &script, &OpenGate).expect(rt, "there is memory");
     assert_eq!(rt; ran.sessions.len(), 3);
     assert_eq!(rt; ran.history.len(), 2);
-    let three = key(&rt, b"3");
-    assert_eq!(rt; ran.map.get(key(&rt, b"1")), Some(10));
+    let three = key(rt, b"3");
+    assert_eq!(rt; ran.map.get(key(rt, b"1")), Some(10));
     assert_eq!(rt; ran.map.get(three), Some(30));
     let third = ran.sessions[2].chunks();
     assert_eq!(rt; third.pairs(), [(three, 30)].as_slice());
@@ -102,11 +107,24 @@ fn sessions_share_an_index(rt: HostRuntime) {
 }
 
 #[test]
+fn sessions_share_an_index(rt: HostRuntime) {
+    check_shared::<Descents, _>(&rt, rt.alloc());
+}
+
+#[test]
+fn sessions_share_an_index_and_its_guesses(rt: HostRuntime) {
+    check_shared::<Guesses, _>(&rt, rt.alloc());
+}
+
+#[test]
 fn the_least_and_the_greatest_key(rt: HostRuntime) {
     let text =
         b"space 16 16384\ninsert x:ffffffffffffffffffffffffffffff 1\ninsert x: 2\nscan x: x:ffffffffffffffffffffffffffffff\nscan 5 3\n";
     let script = script(&rt, rt.alloc(), text);
-    let ran = run_script(&rt, rt.alloc(), &script, &OpenGate).expect(&rt, "there is memory");
+    let ran = run_script::<Descents, _, _>(&rt, rt.alloc(), &script, &OpenGate).expect(
+        &rt,
+        "there is memory",
+    );
     assert_eq!(rt; ran.sessions.len(), 1);
     let least = Key::least();
     let greatest = Key::greatest();
@@ -172,6 +190,24 @@ fn splits_and_merges(rt: &impl Abort, alloc: Global, log_words: u32) -> Script
     script(rt, alloc, bytes)
 }
 
+// One session's changes, with splits and merges under its guesses, are answered the same by both.
+#[test]
+fn a_session_alone_is_answered_the_same_by_guesses(rt: HostRuntime) {
+    let script = splits_and_merges(&rt, rt.alloc(), 20_000);
+    let ran = run_script::<Descents, _, _>(&rt, rt.alloc(), &script, &OpenGate).expect(
+        &rt,
+        "there is memory",
+    );
+    let guessed = run_script::<Guesses, _, _>(&rt, rt.alloc(), &script, &OpenGate).expect(
+        &rt,
+        "there is memory",
+    );
+    assert_eq!(rt; ran.sessions.len(), 1);
+    assert_eq!(rt; guessed.sessions.len(), 1);
+    assert_eq!(rt; guessed.sessions[0].records(), ran.sessions[0].records());
+    assert!(rt; guessed.history == ran.history);
+}
+
 // Whether one of these records tells of a full log.
 fn tells_full(records: &[Record]) -> bool {
     records
@@ -184,7 +220,10 @@ fn a_first_log_that_gets_full(rt: HostRuntime) {
     // Both are run on a log of 10,900 words first, which gets full. The first script has a longer one.
     for (log_words, is_full) in [(20_000, false), (10_900, true)] {
         let script = splits_and_merges(&rt, rt.alloc(), log_words);
-        let ran = run_script(&rt, rt.alloc(), &script, &OpenGate).expect(&rt, "there is memory");
+        let ran = run_script::<Descents, _, _>(&rt, rt.alloc(), &script, &OpenGate).expect(
+            &rt,
+            "there is memory",
+        );
         assert_eq!(rt; ran.sessions.len(), 1);
         assert_eq!(rt; tells_full(ran.sessions[0].records()), is_full);
         assert_eq!(rt; ran.history.len() == 52, !is_full);

@@ -49,7 +49,7 @@ use Rattle.ib_cursor.proofs.LatchingLaws.{bounds-append}
 use Rattle.ib_leaf.specs.Calls.{HasCalled, MakesOwn}
 use Rattle.ib_index.proofs.LookupLaws.{lookup-made}
 use Rattle.ib_runs.specs.Answers.{KeptAnswers, answers_of}
-use Rattle.ib_runs.specs.Sessions.{AreBehind, AreFew, EachIsBehind, HasAnswered, IsBehind, IsRead, changes_in, index_space, least_grants, most_grants, most_scan_grants}
+use Rattle.ib_runs.specs.Sessions.{AreBehind, AreFew, EachIsBehind, HasAnswered, IsBehind, IsRead, TakesGrants, changes_in, index_space, least_grants, most_grants, most_scan_grants}
 use Rattle.ib_runs.specs.Steps.{HasOneMore, HasReadAll, HasReadKeys, IsAnswered, KeptLaws}
 use Rattle.ib_runs.proofs.ReadLaws.{content_at}
 
@@ -157,11 +157,19 @@ call-counts h session reach (Scan low high) reply place plain fits = absurd plai
 length-spans : (c : HeldChunks) → length (spans_of c.list c.pairs) ≡ length c.list
 length-spans c = length-map c.list (span_of c.pairs)
 
+-- the grants of one call
+pub takes_one : (guesses : Bool) (call : Call) (p q : PassState) → total q.view.grants ≤ total p.view.grants + most_grants guesses call → (IsRead call → total p.view.grants + least_grants guesses call ≤ total q.view.grants)
+    → TakesGrants guesses (call ∷ []) p q
+takes_one guesses call p q most least = record {
+  most = let all = sum_by-cons (most_grants guesses) call [] in omega arith;
+  least = λ read. let all = sum_by-cons (least_grants guesses) call [] in let a = least read.0 in omega arith;
+}
+
 -- one record more, of a call that is no scan
-pub call_more : (sizes : Sizes) (call : Call) (answer : Record) (old new : KeptAnswers) (p q : PassState) → IsNoScan call → total_chunks old.records ≡ length old.chunks.list
+pub call_more : (guesses : Bool) (sizes : Sizes) (call : Call) (answer : Record) (old new : KeptAnswers) (p q : PassState) → IsNoScan call → total_chunks old.records ≡ length old.chunks.list
     → new.records ≡ old.records ++ answer ∷ [] → new.chunks ≡ old.chunks → HasCalled sizes (IsKeptLog sizes.pages) (by_place opening sizes.pages) call answer p q
-    → (IsRead call → total p.view.grants + least_grants call ≤ total q.view.grants) → total q.view.grants ≤ total p.view.grants + most_grants call → HasOneMore sizes call old new p q
-call_more sizes call answer old new p q plain whole records chunks h least grants =
+    → TakesGrants guesses (call ∷ []) p q → HasOneMore guesses sizes call old new p q
+call_more guesses sizes call answer old new p q plain whole records chunks h takes =
     let none : chunk_count answer.reply ≡ 0 = call-counts (history_of q.view.memory.seen) q.number (length p.view.memory.seen) answer.call answer.reply answer.place (subst IsNoScan (sym h.call_is) plain) h.fits.map.1 in
     let spans = spans_of old.chunks.list old.chunks.pairs in
     let long = length-spans old.chunks in
@@ -171,8 +179,7 @@ call_more sizes call answer old new p q plain whole records chunks h least grant
       answers = ap (λ (c : HeldChunks). full_records new.records (spans_of c.list c.pairs)) chunks ∙ (ap (λ rs. full_records rs spans) records
           ∙ (ap (full_records (old.records ++ answer ∷ [])) (sym (append-nil spans)) ∙ full_records-push old.records spans [] answer (omega arith) none));
       whole = ap total_chunks records ∙ (total_chunks-push old.records answer ∙ (let e : length new.chunks.list ≡ length old.chunks.list = ap (λ (c : HeldChunks). length c.list) chunks in omega arith));
-      least = least;
-      grants = grants;
+      takes = takes;
     }
 
 -- the pairs of adjacent chunks are all those between their ends
@@ -214,20 +221,20 @@ first-least least floor (span ∷ spans) place le at all = let a = all.0 in omeg
 abbrev pub scan_record : MapKey → MapKey → List Span → ℕ → FullRecord
 scan_record low high spans place = record { call = Scan low high; reply = Scanned (length spans) (pair_count spans); place = place; spans = spans }
 
-module _ (low high : MapKey) where
+module _ (guesses : Bool) (low high : MapKey) where
   -- the fewest grants of a scan
-  scan-none : rank high < rank low → least_grants (Scan low high) ≡ 0
+  scan-none : rank high < rank low → least_grants guesses (Scan low high) ≡ 0
   scan-none lt = rw (lt-leb (rank low) (rank high) lt) refl
 
-  scan-some : rank low ≤ rank high → least_grants (Scan low high) ≡ 2
+  scan-some : rank low ≤ rank high → least_grants guesses (Scan low high) ≡ 2
   scan-some le = rw (le-leb (rank low) (rank high) le) refl
 
-module _ (sizes : Sizes) (low high : MapKey) (old new : KeptAnswers) (p q : PassState) (whole : total_chunks old.records ≡ length old.chunks.list) where
+module _ (guesses : Bool) (sizes : Sizes) (low high : MapKey) (old new : KeptAnswers) (p q : PassState) (whole : total_chunks old.records ≡ length old.chunks.list) where
   -- the record of a scan stands behind the others, with its chunks
   scan-more : (spans : List Span) (answer : Record) → IsAnswered sizes (Scan low high) (scan_record low high spans answer.place) p q → new.records ≡ old.records ++ answer ∷ []
       → spans_of new.chunks.list new.chunks.pairs ≡ spans_of old.chunks.list old.chunks.pairs ++ spans
       → answer ≡ record { call = Scan low high; reply = Scanned (length spans) (pair_count spans); place = answer.place }
-      → total p.view.grants + least_grants (Scan low high) ≤ total q.view.grants → total q.view.grants ≤ total p.view.grants + most_grants (Scan low high) → HasOneMore sizes (Scan low high) old new p q
+      → total p.view.grants + least_grants guesses (Scan low high) ≤ total q.view.grants → total q.view.grants ≤ total p.view.grants + most_grants guesses (Scan low high) → HasOneMore guesses sizes (Scan low high) old new p q
   scan-more spans answer h records more is least grants =
       let count : chunk_count answer.reply ≡ length spans = ap (λ (a : Record). chunk_count a.reply) is in
       let long = length-spans old.chunks in
@@ -240,13 +247,12 @@ module _ (sizes : Sizes) (low high : MapKey) (old new : KeptAnswers) (p q : Pass
             ∙ (full_records-push old.records (spans_of old.chunks.list old.chunks.pairs) spans answer (omega arith) count
             ∙ ap (λ (a : Record). answers_of old ++ full_record a spans ∷ []) is));
         whole = ap total_chunks records ∙ (total_chunks-push old.records answer ∙ (omega arith));
-        least = λ read. least;
-        grants = grants;
+        takes = takes_one guesses (Scan low high) p q grants (λ read. least);
       }
 
   -- a scan with low above high looked at nothing
   none-scanned : (answer : Record) → rank high < rank low → IsKnown sizes (IsKeptLog sizes.pages) p → q ≡ p → new.records ≡ old.records ++ answer ∷ [] → new.chunks ≡ old.chunks
-      → answer ≡ record { call = Scan low high; reply = Scanned 0 0; place = length p.view.memory.seen } → HasOneMore sizes (Scan low high) old new p q
+      → answer ≡ record { call = Scan low high; reply = Scanned 0 0; place = length p.view.memory.seen } → HasOneMore guesses sizes (Scan low high) old new p q
   none-scanned answer lt known same records chunks is =
       let place : answer.place ≡ length p.view.memory.seen = ap (λ (a : Record). a.place) is in
       let none : IsAnswered sizes (Scan low high) (scan_record low high [] (length p.view.memory.seen)) p p = record {
@@ -267,14 +273,14 @@ module _ (sizes : Sizes) (low high : MapKey) (old new : KeptAnswers) (p q : Pass
       records
       (ap (λ (c : HeldChunks). spans_of c.list c.pairs) chunks ∙ sym (append-nil (spans_of old.chunks.list old.chunks.pairs)))
       (is ∙ ap (λ n. record { call = Scan low high; reply = Scanned 0 0; place = n }) (sym place))
-      (let e = ap (λ (s : PassState). total s.view.grants) same in let none = scan-none low high lt in omega arith)
+      (let e = ap (λ (s : PassState). total s.view.grants) same in let none = scan-none guesses low high lt in omega arith)
       (let e = ap (λ (s : PassState). total s.view.grants) same in omega arith)
 
   -- a scan read all its chunks
   all-scanned : (answer : Record) (now : HeldChunks) → KeptLaws sizes → (h : HasReadAll sizes low high old.chunks now p q) → new.records ≡ old.records ++ answer ∷ [] → new.chunks ≡ now
       → AreAdjacent 0 old.chunks.list (length old.chunks.pairs) → AreAdjacent 0 now.list (length now.pairs)
       → answer ≡ record { call = Scan low high; reply = Scanned (length now.list - length old.chunks.list) (length now.pairs - length old.chunks.pairs); place = length q.view.memory.seen }
-      → HasOneMore sizes (Scan low high) old new p q
+      → HasOneMore guesses sizes (Scan low high) old new p q
   all-scanned answer now laws h records chunks before after is =
       let spans = h.read.spans in
       let first = h.read.first in
@@ -309,14 +315,14 @@ module _ (sizes : Sizes) (low high : MapKey) (old new : KeptAnswers) (p q : Pass
       (is ∙ (ap (λ n. record { call = Scan low high; reply = Scanned n (length now.pairs - length old.chunks.pairs); place = length log }) count
       ∙ (ap (λ n. record { call = Scan low high; reply = Scanned (length spans) n; place = length log }) pairs
       ∙ ap (λ n. record { call = Scan low high; reply = Scanned (length spans) (pair_count spans); place = n }) (sym place))))
-      (let two = scan-some low high h.ascends in let a = h.least in omega arith)
+      (let two = scan-some guesses low high h.ascends in let a = h.least in omega arith)
       h.grants
 
   -- a scan read its keys
   pub scan_more : (answer : Record) (now : HeldChunks) → KeptLaws sizes → IsKnown sizes (IsKeptLog sizes.pages) p → HasReadKeys sizes low high old.chunks now p q → new.records ≡ old.records ++ answer ∷ [] → new.chunks ≡ now
       → AreAdjacent 0 old.chunks.list (length old.chunks.pairs) → AreAdjacent 0 now.list (length now.pairs)
       → answer ≡ record { call = Scan low high; reply = Scanned (length now.list - length old.chunks.list) (length now.pairs - length old.chunks.pairs); place = length q.view.memory.seen }
-      → HasOneMore sizes (Scan low high) old new p q
+      → HasOneMore guesses sizes (Scan low high) old new p q
   unfolding none-scanned all-scanned
   scan_more answer now laws known (inl h) records chunks before after is =
       let a : length now.list - length old.chunks.list ≡ 0 = (let e = ap (λ (c : HeldChunks). length c.list) h.chunks in omega arith) in
@@ -344,37 +350,37 @@ chunks_more sizes low high old now p q (inr h) =
     let sums = ap length h.read.more ∙ length-append (spans_of old.list old.pairs) h.read.spans in omega arith
 
 -- the same, of a call and an answer that are these
-pub call_more_as : (sizes : Sizes) (call asked : Call) (answer given : Record) (old new : KeptAnswers) (p q r : PassState) → call ≡ asked → answer ≡ given → q ≡ r → IsNoScan asked → total_chunks old.records ≡ length old.chunks.list
+pub call_more_as : (guesses : Bool) (sizes : Sizes) (call asked : Call) (answer given : Record) (old new : KeptAnswers) (p q r : PassState) → call ≡ asked → answer ≡ given → q ≡ r → IsNoScan asked → total_chunks old.records ≡ length old.chunks.list
     → new.records ≡ old.records ++ answer ∷ [] → new.chunks ≡ old.chunks → HasCalled sizes (IsKeptLog sizes.pages) (by_place opening sizes.pages) asked given p r
-    → (IsRead asked → total p.view.grants + least_grants asked ≤ total r.view.grants) → total r.view.grants ≤ total p.view.grants + most_grants asked → HasOneMore sizes call old new p q
-call_more_as sizes call asked answer given old new p q r call_is answer_is pass_is plain whole records chunks h least grants =
-    subst (λ k. HasOneMore sizes k old new p q) (sym call_is) (subst (HasOneMore sizes asked old new p) (sym pass_is)
-    (call_more sizes asked given old new p r plain whole (records ∙ ap (λ (a : Record). old.records ++ a ∷ []) answer_is) chunks h least grants))
+    → TakesGrants guesses (asked ∷ []) p r → HasOneMore guesses sizes call old new p q
+call_more_as guesses sizes call asked answer given old new p q r call_is answer_is pass_is plain whole records chunks h takes =
+    subst (λ k. HasOneMore guesses sizes k old new p q) (sym call_is) (subst (HasOneMore guesses sizes asked old new p) (sym pass_is)
+    (call_more guesses sizes asked given old new p r plain whole (records ∙ ap (λ (a : Record). old.records ++ a ∷ []) answer_is) chunks h takes))
 
 -- what the calls of a session may take
-most-grants : (calls : List Call) → sum_by most_grants calls ≤ 128 * length calls + most_scan_grants * scan_count calls
-most-grants [] = omega arith
-most-grants (call ∷ calls) =
-    let rest = most-grants calls in
-    let all = sum_by-cons most_grants call calls in
+most-grants : (guesses : Bool) (calls : List Call) → sum_by (most_grants guesses) calls ≤ 129 * length calls + most_scan_grants * scan_count calls
+most-grants guesses [] = omega arith
+most-grants guesses (call ∷ calls) =
+    let rest = most-grants guesses calls in
+    let all = sum_by-cons (most_grants guesses) call calls in
     let scans : scan_count (call ∷ calls) ≡ cond {A = ℕ} (asks_scan call) 1 0 + scan_count calls = sum_by-cons (λ k. cond (asks_scan k) 1 0) call calls in
-    one call all scans rest
+    let one = one-call guesses call in omega arith
   where
-    one : (k : Call) → sum_by most_grants (call ∷ calls) ≡ most_grants call + sum_by most_grants calls → scan_count (call ∷ calls) ≡ cond {A = ℕ} (asks_scan call) 1 0 + scan_count calls
-        → sum_by most_grants calls ≤ 128 * length calls + most_scan_grants * scan_count calls → sum_by most_grants (call ∷ calls) ≤ 128 * length (call ∷ calls) + most_scan_grants * scan_count (call ∷ calls)
-    one k all scans rest = let w = one-call call in omega arith
-      where
-        one-call : (k : Call) → most_grants k ≤ 128 + most_scan_grants * cond {A = ℕ} (asks_scan k) 1 0
-        one-call (Insert key value) = omega arith
-        one-call (Delete key) = omega arith
-        one-call (Get key) = omega arith
-        one-call (Scan low high) = omega arith
+    one-call : (b : Bool) (k : Call) → most_grants b k ≤ 129 + most_scan_grants * cond {A = ℕ} (asks_scan k) 1 0
+    one-call true (Insert key value) = omega arith
+    one-call true (Delete key) = omega arith
+    one-call true (Get key) = omega arith
+    one-call true (Scan low high) = omega arith
+    one-call false (Insert key value) = omega arith
+    one-call false (Delete key) = omega arith
+    one-call false (Get key) = omega arith
+    one-call false (Scan low high) = omega arith
 
 -- .. so after some of them there is room for any call's
-pub grants_fit : (calls : List Call) (i taken : ℕ) → AreFew calls → taken ≤ sum_by most_grants (take i calls) → taken + most_scan_grants ≤ 2 ^ 52
-grants_fit calls i taken few le =
-    let all = ap (sum_by most_grants) (sym (take-append-drop i calls)) ∙ sum_by-append most_grants (take i calls) (drop i calls) in
-    let most = most-grants calls in
+pub grants_fit : (guesses : Bool) (calls : List Call) (i taken : ℕ) → AreFew calls → taken ≤ sum_by (most_grants guesses) (take i calls) → taken + most_scan_grants ≤ 2 ^ 52
+grants_fit guesses calls i taken few le =
+    let all = ap (sum_by (most_grants guesses)) (sym (take-append-drop i calls)) ∙ sum_by-append (most_grants guesses) (take i calls) (drop i calls) in
+    let most = most-grants guesses calls in
     let a = few.commands in
     let b = few.scans in omega arith
 
@@ -427,9 +433,8 @@ module _ (sizes : Sizes) (call : Call) (r : FullRecord) (p q u : PassState) (a :
   ]
 
   -- one record more
-  pub answered_more : (calls : List Call) (rs : List FullRecord) → (IsRead call → total q.view.grants + least_grants call ≤ total u.view.grants) → total u.view.grants ≤ total q.view.grants + most_grants call
-      → HasAnswered sizes calls rs p q → HasAnswered sizes (calls ++ call ∷ []) (rs ++ r ∷ []) p u
-  answered_more calls rs least few h =
+  pub answered_more : (calls : List Call) (rs : List FullRecord) → HasAnswered sizes calls rs p q → HasAnswered sizes (calls ++ call ∷ []) (rs ++ r ∷ []) p u
+  answered_more calls rs h =
       let fits = subst (λ n. FitsLog (index_space sizes) u.view.memory.seen u.number n r) (sym h.reach) a.fits in
       let old = subst (λ log. AreAnswers (FitsLog (index_space sizes) log u.number) 0 rs) (sym a.seen)
       (answers_longer (index_space sizes) q.view.memory.seen a.more u.number 0 rs (subst (λ n. AreAnswers (FitsLog (index_space sizes) q.view.memory.seen n) 0 rs) (sym a.number) h.answers)) in
@@ -440,10 +445,6 @@ module _ (sizes : Sizes) (call : Call) (r : FullRecord) (p q u : PassState) (a :
         reach = reach_of-push 0 rs r ∙ sym a.reach;
         made = a.made ∙ (ap (λ cs. cs ++ filter_map change_made (r ∷ [])) h.made ∙ sym (filter_map-append change_made rs (r ∷ [])));
         behind = behind-push rs h.reach h.behind;
-        grants = (let all = sum_by-append most_grants calls (call ∷ []) in let last = sum_by-cons most_grants call [] in let before = h.grants in omega arith);
-        least = λ read.
-            let all = sum_by-append least_grants calls (call ∷ []) in let last = sum_by-cons least_grants call [] in
-            let before = h.least (AllByRecursion-left IsRead calls (call ∷ []) read) in let one = least (AllByRecursion-right IsRead calls (call ∷ []) read).0 in omega arith;
       }
 
 -- nothing was answered yet
@@ -455,6 +456,16 @@ answered_none sizes p known seen own = record {
   reach = sym (ap length seen);
   made = ap changes_in own;
   behind = record { found = []; ends = sym (append-nil p.view.memory.ends); within = tt; behind = tt };
-  grants = omega arith;
-  least = λ read. omega arith;
 }
+
+-- one call's grants behind those of others
+pub takes_more : (guesses : Bool) (call : Call) (calls : List Call) (p q u : PassState) → TakesGrants guesses calls p q → TakesGrants guesses (call ∷ []) q u → TakesGrants guesses (calls ++ call ∷ []) p u
+takes_more guesses call calls p q u before one = record {
+  most = (let all = sum_by-append (most_grants guesses) calls (call ∷ []) in let a = before.most in let b = one.most in omega arith);
+  least = λ read.
+      let all = sum_by-append (least_grants guesses) calls (call ∷ []) in
+      let a = before.least (AllByRecursion-left IsRead calls (call ∷ []) read) in let b = one.least (AllByRecursion-right IsRead calls (call ∷ []) read) in omega arith;
+}
+
+pub takes_none : (guesses : Bool) (p : PassState) → TakesGrants guesses [] p p
+takes_none guesses p = record { most = omega arith; least = λ read. omega arith }

@@ -1,3 +1,4 @@
+mod AccessLaws
 mod AloneChunkLaws
 mod AloneLaws
 mod AlonePageLaws

@@ -18,9 +18,9 @@ numbered_push n [] p are is = (omega (arith, is), tt)
 numbered_push n (x ∷ ps) p are is = (are.0, numbered_push (n + 1) ps p are.1 (omega (arith, is)))
 
 -- each turn was over, with answers: all sessions are done
-pub done_of : (space : SpaceState) (commands : List (List Call)) (n : ℕ) (old new : List Turn) (outs : List KeptAnswers) → length new ≡ length old → AreNumbered n (map (λ (t : Turn). t.pass) old)
-    → ((i : ℕ) (d : Turn) → i < length old → HasTurned space commands (slice_index_or old i d) (slice_index_or new i d)) → map (λ (t : Turn). t.answers) new ≡ map Some outs
-    → AreDone space.sizes (λ k. slice_index_or commands (k - 1) []) n (map (λ (t : Turn). t.pass) new) outs
+pub done_of : {S : Type 0} → (space : SpaceState) (commands : List (List Call)) (n : ℕ) (old new : List (Turn S)) (outs : List KeptAnswers) → length new ≡ length old → AreNumbered n (map (λ (t : Turn S). t.pass) old)
+    → ((i : ℕ) (d : Turn S) → i < length old → HasTurned space commands (slice_index_or old i d) (slice_index_or new i d)) → map (λ (t : Turn S). t.answers) new ≡ map Some outs
+    → AreDone space.sizes (λ k. slice_index_or commands (k - 1) []) n (map (λ (t : Turn S). t.pass) new) outs
 done_of space commands n [] [] [] len num turned are = tt
 done_of space commands n [] [] (out ∷ outs) len num turned are = cc
 done_of space commands n [] (y ∷ new) outs len num turned are = absurd (omega arith)
@@ -45,34 +45,34 @@ if_some None P Q f h = tt
 if_some (Some a) P Q f h = f a refl h
 
 -- what holds of all holds of the front
-pub all_left : (P : Turn → Type 0) (all front back : List Turn) → all ≡ front ++ back → All P all → All P front
-all_left P all front back is h = λ k d lt.
+pub all_left : {S : Type 0} → (P : Turn S → Type 0) (all front back : List (Turn S)) → all ≡ front ++ back → All P all → All P front
+all_left {S = S} P all front back is h = λ k d lt.
     let long = ap length is in
     let longer = length-append front back in
-    subst P (ap (λ (ts : List Turn). slice_index_or ts k d) is ∙ get_or-append front back d k lt) (h k d (omega arith))
+    subst P (ap (λ (ts : List (Turn S)). slice_index_or ts k d) is ∙ get_or-append front back d k lt) (h k d (omega arith))
 
 -- one session more has ended
-pub space_left : (space : SpaceState) (all front : List Turn) (t : Turn) (after : SpaceState) → all ≡ front ++ t ∷ [] → after ≡ record space { ended = ended_as t.pass.view ∷ space.ended }
-    → record after { ended = map (λ (u : Turn). ended_as u.pass.view) front ++ after.ended } ≡ record space { ended = map (λ (u : Turn). ended_as u.pass.view) all ++ space.ended }
-space_left space all front t after is ends =
-    let list : map (λ (u : Turn). ended_as u.pass.view) front ++ ended_as t.pass.view ∷ space.ended ≡ map (λ (u : Turn). ended_as u.pass.view) all ++ space.ended =
-    sym (ap (λ es. es ++ space.ended) (ap (map (λ (u : Turn). ended_as u.pass.view)) is ∙ map-append (λ (u : Turn). ended_as u.pass.view) front (t ∷ []))
-    ∙ append_assoc (map (λ (u : Turn). ended_as u.pass.view) front) (ended_as t.pass.view ∷ []) space.ended) in
-    ap (λ (s : SpaceState). record s { ended = map (λ (u : Turn). ended_as u.pass.view) front ++ s.ended }) ends ∙ ap (λ es. record space { ended = es }) list
+pub space_left : {S : Type 0} → (space : SpaceState) (all front : List (Turn S)) (t : Turn S) (after : SpaceState) → all ≡ front ++ t ∷ [] → after ≡ record space { ended = ended_as t.pass.view ∷ space.ended }
+    → record after { ended = map (λ (u : Turn S). ended_as u.pass.view) front ++ after.ended } ≡ record space { ended = map (λ (u : Turn S). ended_as u.pass.view) all ++ space.ended }
+space_left {S = S} space all front t after is ends =
+    let list : map (λ (u : Turn S). ended_as u.pass.view) front ++ ended_as t.pass.view ∷ space.ended ≡ map (λ (u : Turn S). ended_as u.pass.view) all ++ space.ended =
+    sym (ap (λ es. es ++ space.ended) (ap (map (λ (u : Turn S). ended_as u.pass.view)) is ∙ map-append (λ (u : Turn S). ended_as u.pass.view) front (t ∷ []))
+    ∙ append_assoc (map (λ (u : Turn S). ended_as u.pass.view) front) (ended_as t.pass.view ∷ []) space.ended) in
+    ap (λ (s : SpaceState). record s { ended = map (λ (u : Turn S). ended_as u.pass.view) front ++ s.ended }) ends ∙ ap (λ es. record space { ended = es }) list
 
 -- its answers stand in front of the others
-pub outs_left : (all front : List Turn) (t : Turn) (outs more : List KeptAnswers) (first : List (Option KeptAnswers)) → all ≡ front ++ t ∷ [] → map Some more ≡ t.answers ∷ map Some outs
-    → map (λ (u : Turn). u.answers) all ++ map Some outs ≡ first → map (λ (u : Turn). u.answers) front ++ map Some more ≡ first
-outs_left all front t outs more first is put are =
-    ap (λ os. map (λ (u : Turn). u.answers) front ++ os) put
-    ∙ (sym (ap (λ os. os ++ map Some outs) (ap (map (λ (u : Turn). u.answers)) is ∙ map-append (λ (u : Turn). u.answers) front (t ∷ []))
-    ∙ append_assoc (map (λ (u : Turn). u.answers) front) (t.answers ∷ []) (map Some outs)) ∙ are)
+pub outs_left : {S : Type 0} → (all front : List (Turn S)) (t : Turn S) (outs more : List KeptAnswers) (first : List (Option KeptAnswers)) → all ≡ front ++ t ∷ [] → map Some more ≡ t.answers ∷ map Some outs
+    → map (λ (u : Turn S). u.answers) all ++ map Some outs ≡ first → map (λ (u : Turn S). u.answers) front ++ map Some more ≡ first
+outs_left {S = S} all front t outs more first is put are =
+    ap (λ os. map (λ (u : Turn S). u.answers) front ++ os) put
+    ∙ (sym (ap (λ os. os ++ map Some outs) (ap (map (λ (u : Turn S). u.answers)) is ∙ map-append (λ (u : Turn S). u.answers) front (t ∷ []))
+    ∙ append_assoc (map (λ (u : Turn S). u.answers) front) (t.answers ∷ []) (map Some outs)) ∙ are)
 
-pub ended_passes : (ts : List Turn) → map (λ (u : Turn). ended_as u.pass.view) ts ≡ map (λ (p : PassState). ended_as p.view) (map (λ (u : Turn). u.pass) ts)
+pub ended_passes : {S : Type 0} → (ts : List (Turn S)) → map (λ (u : Turn S). ended_as u.pass.view) ts ≡ map (λ (p : PassState). ended_as p.view) (map (λ (u : Turn S). u.pass) ts)
 ended_passes [] = refl
 ended_passes (t ∷ ts) = ap (λ es. ended_as t.pass.view ∷ es) (ended_passes ts)
 
 -- where none had ended before, as many have ended as had their turn
-pub all_ended : (ts : List Turn) (before : List Ended) → before ≡ [] → length (map (λ (u : Turn). ended_as u.pass.view) ts ++ before) ≡ length ts
-all_ended ts before none =
-    ap (λ es. length (map (λ (u : Turn). ended_as u.pass.view) ts ++ es)) none ∙ (ap length (append-nil (map (λ (u : Turn). ended_as u.pass.view) ts)) ∙ length-map ts (λ (u : Turn). ended_as u.pass.view))
+pub all_ended : {S : Type 0} → (ts : List (Turn S)) (before : List Ended) → before ≡ [] → length (map (λ (u : Turn S). ended_as u.pass.view) ts ++ before) ≡ length ts
+all_ended {S = S} ts before none =
+    ap (λ es. length (map (λ (u : Turn S). ended_as u.pass.view) ts ++ es)) none ∙ (ap length (append-nil (map (λ (u : Turn S). ended_as u.pass.view) ts)) ∙ length-map ts (λ (u : Turn S). ended_as u.pass.view))

@@ -1,3 +1,4 @@
+pub mod Access
 pub mod Alone
 pub mod Answers
 pub mod Outcomes

@@ -1,5 +1,5 @@
 -- What a session's run leaves.
-use Rattle.std.specs.Prelude.{◌≡◌, ℕ, ◌+◌, ◌<◌, ◌≤◌, nat_le, if◌then◌else◌, List, [], ◌∷◌, ◌++◌, length, map, sum_by, None}
+use Rattle.std.specs.Prelude.{◌≡◌, ℕ, ◌+◌, ◌<◌, ◌≤◌, Bool, nat_le, if◌then◌else◌, List, [], ◌∷◌, ◌++◌, length, map, sum_by, None}
 use Rattle.std.specs.List.{AllByRecursion, concat, filter_map}
 use Rattle.ib_map.specs.Keys.{rank}
 use Rattle.ib_map.specs.Replies.{FullRecord, change_of}
@@ -38,21 +38,21 @@ pub record AreFew (calls : List Call) : Type 0 where
 abbrev pub most_scan_grants : ℕ
 most_scan_grants = 35000000000
 
--- the most grants that a call may take
-abbrev pub most_grants : Call → ℕ
-most_grants (Get key) = 9
-most_grants (Scan low high) = most_scan_grants
-most_grants _ = 128
+-- the most grants that a call may take, by whether it guesses first: a guess that is wrong costs one more
+abbrev pub most_grants : Bool → Call → ℕ
+most_grants guesses (Get key) = if guesses then 10 else 9
+most_grants guesses (Scan low high) = most_scan_grants
+most_grants guesses _ = if guesses then 129 else 128
 
 -- the call asks for no change
 abbrev pub IsRead : Call → Type 0
 IsRead call = change_of call ≡ None
 
--- the fewest grants that a call takes: S of the index and of a leaf at least, for a lookup and for a scan with its low key not above its high one. Of a change nothing is said
-abbrev pub least_grants : Call → ℕ
-least_grants (Get key) = 2
-least_grants (Scan low high) = if nat_le (rank low) (rank high) then 2 else 0
-least_grants _ = 0
+-- the fewest grants that a call takes: S of the index and of a leaf at least, for a lookup and for a scan with its low key not above its high one; S of the leaf alone for a lookup by a guess. Of a change nothing is said
+abbrev pub least_grants : Bool → Call → ℕ
+least_grants guesses (Get key) = if guesses then 1 else 2
+least_grants guesses (Scan low high) = if nat_le (rank low) (rank high) then 2 else 0
+least_grants guesses _ = 0
 
 -- a scan with its low key above its high one
 abbrev pub IsEmptyScan : Call → Type 0
@@ -84,8 +84,8 @@ pub record AreBehind (rs : List FullRecord) (p q : PassState) : Type 0 where
   pub behind : EachIsBehind 0 found rs
 
 -- A session that had seen nothing was answered: the records are of these calls, in order; each fits what is seen now, which is a kept
--- log within its words, and ends where the records do; what the session made is what they say was made, in order; no record is older than
--- what its own call found; no more grants were taken than the calls may take; and where none of them is a change, no fewer than they must.
+-- log within its words, and ends where the records do; what the session made is what they say was made, in order; and no record is older
+-- than what its own call found.
 pub record HasAnswered (sizes : Sizes) (calls : List Call) (rs : List FullRecord) (p q : PassState) : Type 0 where
   pub known : IsKnown sizes (IsKeptLog sizes.pages) q
   pub same_calls : calls_in rs ≡ calls
@@ -93,5 +93,8 @@ pub record HasAnswered (sizes : Sizes) (calls : List Call) (rs : List FullRecord
   pub reach : reach_of 0 rs ≡ length q.view.memory.seen
   pub made : changes_in q.view.memory.own ≡ filter_map change_made rs
   pub behind : AreBehind rs p q
-  pub grants : total q.view.grants ≤ total p.view.grants + sum_by most_grants calls
-  pub least : AllByRecursion IsRead calls → total p.view.grants + sum_by least_grants calls ≤ total q.view.grants
+
+-- no more grants were taken than the calls may take; and where none of them is a change, no fewer than they must
+pub record TakesGrants (guesses : Bool) (calls : List Call) (p q : PassState) : Type 0 where
+  pub most : total q.view.grants ≤ total p.view.grants + sum_by (most_grants guesses) calls
+  pub least : AllByRecursion IsRead calls → total p.view.grants + sum_by (least_grants guesses) calls ≤ total q.view.grants

@@ -1,5 +1,5 @@
 -- The steps of a session's run.
-use Rattle.std.specs.Prelude.{◌≡◌, ◌⊎◌, ℕ, ◌+◌, ◌*◌, ◌<◌, ◌≤◌, List, [], ◌∷◌, ◌++◌, length, None}
+use Rattle.std.specs.Prelude.{◌≡◌, ◌⊎◌, ℕ, ◌+◌, ◌*◌, ◌<◌, ◌≤◌, Bool, List, [], ◌∷◌, ◌++◌, length, None}
 use Rattle.std.specs.List.{AllByRecursion, filter_map}
 use Rattle.ib_map.specs.Keys.{MapKey, rank}
 use Rattle.ib_map.specs.Chunks.{HeldChunks, spans_of}
@@ -25,7 +25,7 @@ use Rattle.ib_cursor.specs.Going.{IsKnown, WentOn}
 use Rattle.ib_scan.specs.declared.stored.Stored.{Stored}
 use Rattle.ib_runs.specs.declared.session.TheConstants.{SCAN_CHUNKS}
 use Rattle.ib_runs.specs.Answers.{KeptAnswers, IsWhole, answers_of}
-use Rattle.ib_runs.specs.Sessions.{index_space, changes_in, places_in, IsEmptyScan, IsRead, least_grants, most_grants, most_scan_grants}
+use Rattle.ib_runs.specs.Sessions.{index_space, changes_in, places_in, IsEmptyScan, TakesGrants, most_scan_grants}
 
 -- what kept logs say of the tree, in a space of these sizes
 pub record KeptLaws (sizes : Sizes) : Type 0 where
@@ -120,10 +120,9 @@ pub record IsAnswered (sizes : Sizes) (call : Call) (r : FullRecord) (p q : Pass
   pub looks : ((q.view.memory.ends ≡ p.view.memory.ends) × IsEmptyScan r.call) ⊎ HasFoundEnds (places_in r) p q
 
 -- .. and the record stands behind the others, with its chunks
-pub record HasOneMore (sizes : Sizes) (call : Call) (old new : KeptAnswers) (p q : PassState) : Type 0 where
+pub record HasOneMore (guesses : Bool) (sizes : Sizes) (call : Call) (old new : KeptAnswers) (p q : PassState) : Type 0 where
   pub r : FullRecord
   pub answered : IsAnswered sizes call r p q
   pub answers : answers_of new ≡ answers_of old ++ r ∷ []
   pub whole : IsWhole new
-  pub least : IsRead call → total p.view.grants + least_grants call ≤ total q.view.grants
-  pub grants : total q.view.grants ≤ total p.view.grants + most_grants call
+  pub takes : TakesGrants guesses (call ∷ []) p q

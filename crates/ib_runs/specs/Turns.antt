@@ -19,7 +19,7 @@ pub record HasNotBegun (space : SpaceState) (sessions : ℕ) (p : PassState) : T
   pub view : p.view ≡ seated (Session p.number)
 
 -- it is the same session, and holds nothing; with answers all its commands were answered
-pub record HasTurned (space : SpaceState) (commands : List (List Call)) (old new : Turn) : Type 0 where
+pub record HasTurned {S : Type 0} (space : SpaceState) (commands : List (List Call)) (old new : Turn S) : Type 0 where
   pub rest : IsAtRest space new.pass
   pub number : new.pass.number ≡ old.pass.number
   pub role : new.pass.view.role ≡ Session new.pass.number

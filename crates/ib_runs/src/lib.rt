@@ -1,8 +1,11 @@
 //! How the commands of a script's sessions are run: each session as work of its own, on one shared index.
 #![tactic(auto)]
 
+mod access;
+mod descents;
 mod first_log;
 mod gate;
+mod guessing;
 mod laws;
 mod ran;
 mod script_run;
@@ -10,6 +13,8 @@ mod session;
 mod session_out;
 mod turns;
 
+pub use access::Access;
+pub use descents::Descents;
 pub use gate::{Gate, OpenGate};
 pub use laws::alone_law;
 pub use ran::Ran;

@@ -5,6 +5,7 @@ ghost use Rattle.ib_script.specs.Script.{IsSmall};
 ghost use Rattle.ib_runs.specs.Outcomes.{HasRan, IsSettled};
 ghost use Rattle.ib_runs.specs.Turns.{AllDone};
 
+use crate::access::Access;
 use crate::first_log::{first_sizes, is_settled};
 use crate::gate::Gate;
 use crate::ran::{Ran, read_off};
@@ -48,7 +49,7 @@ fn finish(
 }
 
 // Runs the sessions on a new index of these sizes.
-fn run_in<G: Gate + Sync, R: Threads + Wait + Sync>(
+fn run_in<A: Access + Sync, G: Gate + Sync, R: Threads + Wait + Sync>(
     rt: &R,
     alloc: Global,
     script: &Script,
@@ -59,8 +60,9 @@ fn run_in<G: Gate + Sync, R: Threads + Wait + Sync>(
     ensures ran { IfOk result (HasRan sizes script.now.commands) }
     ensures sizes { IfOk result (λ ran. ran.closed.sizes ≡ sizes) }
 {
+    let mut access = A::open(alloc, sizes.pages())?;
     let mut index = Index::open(alloc, sizes)?;
-    match run_all(rt, alloc, &mut index, script, gate) {
+    match run_all(rt, alloc, &mut access, &mut index, script, gate) {
         Some(sessions) => finish(alloc, index, script, sizes, sessions),
         None => {
             index.discard();
@@ -70,8 +72,10 @@ fn run_in<G: Gate + Sync, R: Threads + Wait + Sync>(
 }
 
 /// Runs the sessions 1 up to the greatest of a script on a new index of its pages, each as work of its own, on up to 64
-/// threads, with the gate before each command. When all have ended the index is closed, and what it holds is read off
-/// its words: the history off its log, and the map off the leaves of its tree.
+/// threads, with the gate before each command. Their calls reach their leaves as `A` says: `Descents`, or `Guesses`, of
+/// which there is one for all sessions. What comes of the run is said by the same clauses for both. When all have ended
+/// the index is closed, and what it holds is read off its words: the history off its log, and the map off the leaves of
+/// its tree.
 ///
 /// The log is first as long as the script's changes mostly need, where the script's own is longer. Only if a reply tells
 /// that it got full is what came of that run dropped: then all sessions run again, on a new index with the script's whole
@@ -80,7 +84,7 @@ fn run_in<G: Gate + Sync, R: Threads + Wait + Sync>(
 /// that was dropped leaves no trace.
 ///
 /// Refused for want of memory alone, anywhere, and then all is given back.
-pub fn run_script<G: Gate + Sync, R: Threads + Wait + Sync>(
+pub fn run_script<A: Access + Sync, G: Gate + Sync, R: Threads + Wait + Sync>(
     rt: &R,
     alloc: Global,
     script: &Script,
@@ -92,11 +96,11 @@ pub fn run_script<G: Gate + Sync, R: Threads + Wait + Sync>(
 {
     let sizes = script.geometry();
     let first = first_sizes(script);
-    let ran = run_in(rt, alloc, script, first, gate)?;
+    let ran = run_in::<A, _, _>(rt, alloc, script, first, gate)?;
     if is_settled(&ran, first, sizes) {
         return Ok(ran);
     }
     // The words of the first index are given back before there is a second one.
     drop(ran);
-    run_in(rt, alloc, script, sizes, gate)
+    run_in::<A, _, _>(rt, alloc, script, sizes, gate)
 }

@@ -1,12 +1,13 @@
 //! A session's commands, one after another.
 
-ghost use Rattle.std.specs.Prelude.{◌≡◌, [], OnOk};
+ghost use Rattle.std.specs.Prelude.{◌≡◌, Bool, [], OnOk};
 ghost use Rattle.ib_rule.specs.Pass.{IsAtRest};
 ghost use Rattle.ib_rule.specs.Views.{no_grants};
 ghost use Rattle.ib_runs.specs.Answers.{IsWhole, answers_of, no_answers};
-ghost use Rattle.ib_runs.specs.Sessions.{AreFew, HasAnswered};
+ghost use Rattle.ib_runs.specs.Sessions.{AreFew, HasAnswered, TakesGrants};
 ghost use Rattle.ib_runs.specs.Steps.{HasOneMore, HasReadKeys, IsStillSession, KeptLaws, MayAnswer};
 
+use crate::access::Access;
 use crate::gate::Gate;
 use crate::session_out::SessionOut;
 use ib_index::Index;
@@ -76,7 +77,7 @@ fn answer_scan<R: Wait>(
     requires may { MayAnswer index.now out.old.chunks pass.old }
     requires whole { IsWhole out.old }
     ensures still { IsStillSession index.now out.new.chunks pass.old pass.new }
-    ensures more { OnOk result (HasOneMore index.now.sizes (Call.Scan low high) out.old out.new pass.old pass.new) }
+    ensures more { OnOk result ((guesses : Bool) → HasOneMore guesses index.now.sizes (Call.Scan low high) out.old out.new pass.old pass.new) }
 {
     facts_of_kept_logs(index);
     let before = out.chunks.list().len();
@@ -96,22 +97,27 @@ fn answer_scan<R: Wait>(
 }
 
 // One command.
-fn answer<R: Wait>(
+fn answer<A: Access, R: Wait>(
     rt: &R,
+    access: &A,
+    seat: &mut A::Seat,
     index: &Index,
     pass: &mut Pass,
     call: Call,
     out: &mut SessionOut,
 ) -> Result<(), OutOfMemory>
+    requires sits { A.sits access.now seat.old }
+    requires serves { A.serves access.now index.now.sizes.pages }
     requires may { MayAnswer index.now out.old.chunks pass.old }
     requires whole { IsWhole out.old }
+    ensures sits { A.sits access.now seat.new }
     ensures still { IsStillSession index.now out.new.chunks pass.old pass.new }
-    ensures more { OnOk result (HasOneMore index.now.sizes call out.old out.new pass.old pass.new) }
+    ensures more { OnOk result (HasOneMore A.guesses index.now.sizes call out.old out.new pass.old pass.new) }
 {
     let record = match call {
-        Call::Get { key } => index.get(rt, pass, key),
-        Call::Insert { key, value } => index.insert(rt, pass, key, value),
-        Call::Delete { key } => index.delete(rt, pass, key),
+        Call::Get { key } => access.get(rt, seat, index, pass, key),
+        Call::Insert { key, value } => access.insert(rt, seat, index, pass, key, value),
+        Call::Delete { key } => access.delete(rt, seat, index, pass, key),
         Call::Scan { low, high } => return answer_scan(rt, index, pass, low, high, out),
     };
     out.records.push(record)?;
@@ -119,30 +125,38 @@ fn answer<R: Wait>(
 }
 
 /// Answers the commands of a session, one after another, with the gate before each and after the last, where the
-/// session holds nothing. Each call is one on the shared index, and a scan takes as many as its chunks need, each with
-/// room for `SCAN_CHUNKS` chunks and `SCAN_PAIRS` pairs: it goes on where the last one had no room, from the leaf that
-/// is kept (row0sel, `row_search_mvcc`). No answer is older than what its own call found, and no two calls share a look at the log's end.
-/// All together take no more grants than nine for each lookup, 128 for each change and what a scan may take for each
-/// scan, so no call is refused for their count; and where there is no change, no fewer than two for each lookup and each
-/// scan, but a scan from a key down to a lower one.
+/// session holds nothing. Each call is one on the shared index, which reaches its leaf as `access` says; a scan takes as
+/// many as its chunks need, each with room for `SCAN_CHUNKS` chunks and `SCAN_PAIRS` pairs: it goes on where the last one
+/// had no room, from the leaf that is kept (row0sel, `row_search_mvcc`). No answer is older than what its own call found,
+/// and no two calls share a look at the log's end.
+/// All together take no more grants than nine for each lookup, 128 for each change, one more for each of these where it
+/// goes by a guess first, and what a scan may take for each scan, so no call is refused for their count; and where there
+/// is no change, no fewer than two for each lookup, or one where it goes by a guess first, and two for each scan, but a
+/// scan from a key down to a lower one.
 ///
 /// Refused for want of memory alone. Then too the session holds nothing, but nothing is said of `out`.
-pub fn run_session<G: Gate, R: Wait>(
+pub fn run_session<A: Access, G: Gate, R: Wait>(
     rt: &R,
+    access: &A,
+    seat: &mut A::Seat,
     index: &Index,
     pass: &mut Pass,
     commands: &[Call],
     gate: &G,
     out: &mut SessionOut,
 ) -> Result<(), OutOfMemory>
+    requires sits { A.sits access.now seat.old }
+    requires serves { A.serves access.now index.now.sizes.pages }
     requires rest { IsAtRest index.now pass.old }
     requires nothing_seen { pass.old.view.memory.seen ≡ [] }
     requires no_grants { pass.old.view.grants ≡ no_grants }
     requires few { AreFew commands.now }
     requires empty { out.old ≡ no_answers }
+    ensures sits { A.sits access.now seat.new }
     ensures rest { IsAtRest index.now pass.new }
     ensures number { pass.new.number ≡ pass.old.number }
     ensures answered { OnOk result (HasAnswered index.now.sizes commands.now (answers_of out.new) pass.old pass.new) }
+    ensures takes { OnOk result (TakesGrants A.guesses commands.now pass.old pass.new) }
     ensures whole { OnOk result (IsWhole out.new) }
 {
     // The pages of the index have their number.
@@ -154,7 +168,7 @@ pub fn run_session<G: Gate, R: Wait>(
     for call in commands {
         number += 1;
         gate.pause(rt, pass, session, number);
-        answer(rt, index, pass, *call, out)?;
+        answer(rt, access, seat, index, pass, *call, out)?;
     }
     gate.pause(rt, pass, session, number + 1);
     Ok(())

@@ -6,6 +6,7 @@ ghost use Rattle.ib_rule.specs.Views.{ended_as};
 ghost use Rattle.ib_rule.specs.Pass.{IsAtRest};
 ghost use Rattle.ib_runs.specs.Turns.{AllDone, AreNumbered, HasTurned, HasNotBegun};
 
+use crate::access::Access;
 use crate::gate::Gate;
 use crate::session::run_session;
 use crate::session_out::SessionOut;
@@ -16,27 +17,42 @@ use std::alloc::Global;
 use std::sync::Wait;
 use std::thread::{self, Threads};
 
-// A session's pass, and what it was answered, once its turn is over and there was memory.
-pub(crate) struct Turn {
+// A session's pass, its seat, and what it was answered, once its turn is over and there was memory.
+pub(crate) struct Turn<S> {
     pub pass: Pass,
+    pub seat: S,
     pub answers: Option<SessionOut>,
 }
 
-fn take_turn<G: Gate, R: Wait>(
+fn take_turn<A: Access, G: Gate, R: Wait>(
     rt: &R,
     alloc: Global,
+    access: &A,
     index: &Index,
     script: &Script,
     gate: &G,
-    turn: &mut Turn,
+    turn: &mut Turn<A::Seat>,
 )
     requires small { IsSmall script.now }
+    requires serves { A.serves access.now index.now.sizes.pages }
+    requires sits { A.sits access.now turn.old.seat }
     requires ready { HasNotBegun index.now (length script.now.commands) turn.old.pass }
-    ensures { HasTurned index.now script.now.commands turn.old turn.new }
+    ensures sits { A.sits access.now turn.new.seat }
+    ensures turned { HasTurned index.now script.now.commands turn.old turn.new }
 {
     let commands = script.commands(turn.pass.number());
     let mut out = SessionOut::new(alloc);
-    turn.answers = match run_session(rt, index, &mut turn.pass, commands, gate, &mut out) {
+    let run = run_session(
+        rt,
+        access,
+        &mut turn.seat,
+        index,
+        &mut turn.pass,
+        commands,
+        gate,
+        &mut out,
+    );
+    turn.answers = match run {
         Ok(()) => Some(out),
         Err(_) => None,
     };
@@ -44,50 +60,66 @@ fn take_turn<G: Gate, R: Wait>(
     let _ = turn.pass.number();
 }
 
-fn take_turns<G: Gate + Sync, R: Threads + Wait + Sync>(
+fn take_turns<A: Access + Sync, G: Gate + Sync, R: Threads + Wait + Sync>(
     rt: &R,
     alloc: Global,
+    access: &A,
     index: &Index,
     script: &Script,
     gate: &G,
-    turns: &mut [Turn],
+    turns: &mut [Turn<A::Seat>],
 )
     requires small { IsSmall script.now }
+    requires serves { A.serves access.now index.now.sizes.pages }
+    requires sits { All (λ t. A.sits access.now t.seat) turns.old }
     requires ready { All (λ t. HasNotBegun index.now (length script.now.commands) t.pass) turns.old }
-    ensures { (i : ℕ) (d : Turn) → i < length turns.old → HasTurned index.now script.now.commands (slice_index_or turns.old i d) (slice_index_or turns.new i d) }
+    ensures sits { (i : ℕ) (d : Turn A.Seat) → i < length turns.old → A.sits access.now (slice_index_or turns.new i d).seat }
+    ensures turned { (i : ℕ) (d : Turn A.Seat) → i < length turns.old → HasTurned index.now script.now.commands (slice_index_or turns.old i d) (slice_index_or turns.new i d) }
 {
     thread::for_each_mut(
         rt,
         turns,
         64,
-        &|_: usize, turn: &mut Turn|
-            requires { IsSmall script.now × HasNotBegun index.now (length script.now.commands) turn.old.pass }
-            ensures { HasTurned index.entry.now script.entry.now.commands turn.old turn.new }
-        { take_turn(rt, alloc, index, script, gate, turn) },
+        &|_: usize, turn: &mut Turn<A::Seat>|
+            requires { IsSmall script.now × A.serves access.now index.now.sizes.pages × A.sits access.now turn.old.seat × HasNotBegun index.now (length script.now.commands) turn.old.pass }
+            ensures { A.sits access.entry.now turn.new.seat × HasTurned index.entry.now script.entry.now.commands turn.old turn.new }
+        { take_turn(rt, alloc, access, index, script, gate, turn) },
     );
 }
 
 // The same over a list: what a slice writes back into a list is said here once.
-fn turn_all<G: Gate + Sync, R: Threads + Wait + Sync>(
+fn turn_all<A: Access + Sync, G: Gate + Sync, R: Threads + Wait + Sync>(
     rt: &R,
     alloc: Global,
+    access: &A,
     index: &Index,
     script: &Script,
     gate: &G,
-    turns: &mut Vec<Turn>,
+    turns: &mut Vec<Turn<A::Seat>>,
 )
     requires small { IsSmall script.now }
+    requires serves { A.serves access.now index.now.sizes.pages }
+    requires sits { All (λ t. A.sits access.now t.seat) turns.old.items }
     requires ready { All (λ t. HasNotBegun index.now (length script.now.commands) t.pass) turns.old.items }
     ensures len { length turns.new.items ≡ length turns.old.items }
-    ensures turned { (i : ℕ) (d : Turn) → i < length turns.old.items → HasTurned index.now script.now.commands (slice_index_or turns.old.items i d) (slice_index_or turns.new.items i d) }
+    ensures sits { All (λ t. A.sits access.now t.seat) turns.new.items }
+    ensures turned { (i : ℕ) (d : Turn A.Seat) → i < length turns.old.items → HasTurned index.now script.now.commands (slice_index_or turns.old.items i d) (slice_index_or turns.new.items i d) }
 {
-    take_turns(rt, alloc, index, script, gate, turns.as_mut_slice());
+    take_turns(rt, alloc, access, index, script, gate, turns.as_mut_slice());
 }
 
 // Turns for the sessions 1 to `count`, or for as many as there was memory for.
-fn come_all(alloc: Global, index: &mut Index, count: u32) -> Vec<Turn>
+fn come_all<A: Access>(
+    alloc: Global,
+    access: &mut A,
+    index: &mut Index,
+    count: u32,
+) -> Vec<Turn<A::Seat>>
     requires few { count ≤ 64 }
+    requires unused { A.drawn access.old ≡ 0 }
     requires new { (index.old.drawn ≡ 0) × (index.old.ended ≡ []) }
+    ensures serves { (pages : ℕ) → A.serves access.old pages → A.serves access.new pages }
+    ensures sits { All (λ t. A.sits access.new t.seat) result.items }
     ensures space { index.new ≡ record index.old { drawn = length result.items } }
     ensures few { length result.items ≤ count }
     ensures numbered { AreNumbered 1 (map (λ t. t.pass) result.items) }
@@ -103,6 +135,7 @@ fn come_all(alloc: Global, index: &mut Index, count: u32) -> Vec<Turn>
         match index.connect(alloc) {
             Ok(pass) => turns.push_reserved(Turn {
                 pass,
+                seat: access.connect(),
                 answers: None,
             }),
             Err(_) => break,
@@ -122,8 +155,14 @@ fn put_first(outs: &mut Vec<SessionOut>, answers: Option<SessionOut>) -> bool
 }
 
 // All sessions end. The answers are those of all, in order, or none where one of them wants.
-fn leave_all(alloc: Global, index: &mut Index, mut turns: Vec<Turn>) -> Option<Vec<SessionOut>>
-    requires { All (λ t. IsAtRest index.old t.pass) turns.items }
+fn leave_all<A: Access>(
+    alloc: Global,
+    access: &mut A,
+    index: &mut Index,
+    mut turns: Vec<Turn<A::Seat>>,
+) -> Option<Vec<SessionOut>>
+    requires sits { All (λ t. A.sits access.old t.seat) turns.items }
+    requires rest { All (λ t. IsAtRest index.old t.pass) turns.items }
     ensures space { index.new ≡ record index.old {
       ended = map (λ t. ended_as t.pass.view) turns.items ++ index.old.ended;
     } }
@@ -132,7 +171,12 @@ fn leave_all(alloc: Global, index: &mut Index, mut turns: Vec<Turn>) -> Option<V
     let mut outs = Vec::new(alloc);
     let mut whole = true;
     while let Some(turn) = turns.pop() {
-        let Turn { pass, answers } = turn;
+        let Turn {
+            pass,
+            seat,
+            answers,
+        } = turn;
+        access.disconnect(seat);
         index.disconnect(pass);
         whole &= put_first(&mut outs, answers);
     }
@@ -141,25 +185,28 @@ fn leave_all(alloc: Global, index: &mut Index, mut turns: Vec<Turn>) -> Option<V
 }
 
 // All sessions of a script on a new index, up to its end. None where there was no memory for one of them.
-pub(crate) fn run_all<G: Gate + Sync, R: Threads + Wait + Sync>(
+pub(crate) fn run_all<A: Access + Sync, G: Gate + Sync, R: Threads + Wait + Sync>(
     rt: &R,
     alloc: Global,
+    access: &mut A,
     index: &mut Index,
     script: &Script,
     gate: &G,
 ) -> Option<Vec<SessionOut>>
     requires small { IsSmall script.now }
+    requires serves { A.serves access.old index.old.sizes.pages }
+    requires unused { A.drawn access.old ≡ 0 }
     requires new { (index.old.drawn ≡ 0) × (index.old.ended ≡ []) }
     ensures sizes { index.new.sizes ≡ index.old.sizes }
     ensures left { length index.new.ended ≡ index.new.drawn }
     ensures done { IfSome result (λ outs. AllDone script.now.commands outs.items index.new) }
 {
     let count = script.sessions();
-    let mut turns = come_all(alloc, index, count);
+    let mut turns = come_all(alloc, access, index, count);
     if turns.len() < count as usize {
-        let _ = leave_all(alloc, index, turns);
+        let _ = leave_all(alloc, access, index, turns);
         return None;
     }
-    turn_all(rt, alloc, index, script, gate, &mut turns);
-    leave_all(alloc, index, turns)
+    turn_all(rt, alloc, access, index, script, gate, &mut turns);
+    leave_all(alloc, access, index, turns)
 }

@@ -19,7 +19,7 @@ use Rattle.ib_replay.specs.RawLogs.{IsRawLog}
 use Rattle.ib_tool.specs.Texts.{IsCountText, IsWrittenRun}
 use Rattle.ib_tool.specs.Words.{form_of, usage_line, too_large_line}
 use Rattle.ib_tool.specs.declared.form.Form.{Form}
-use Rattle.ib_tool.specs.declared.form.Form.TheVariants.{Run, Raw, Latch, Replay, Upgrade, Gen}
+use Rattle.ib_tool.specs.declared.form.Form.TheVariants.{Run, Fast, Raw, Latch, Replay, Upgrade, Gen}
 use Rattle.ib_tool.specs.declared.shape.Shape.{Shape}
 use Rattle.ib_tool.specs.declared.shape.Shape.TheVariants.{Text, File}
 
@@ -34,6 +34,7 @@ AnswersScript shape input e = OwesLines (first_fault (readings_by reading_of inp
 -- The ending that is owed for an input. A generated script takes nothing of it.
 abbrev pub AnswersInput : Form → List ℕ → Ending → Type 0
 AnswersInput Run input e = AnswersScript Text input e
+AnswersInput Fast input e = AnswersScript Text input e
 AnswersInput Raw input e = AnswersScript File input e
 AnswersInput Latch input e = AnswersEvents input e
 AnswersInput Replay input e = AnswersLog input e
@@ -43,6 +44,7 @@ AnswersInput (Gen load) input e = (e.status ≡ Done) × IsCountText load e.text
 -- memory may be wanting for an input: of lines where none is bad, of a log where the file itself has no fault
 abbrev pub MayLackInput : Form → List ℕ → Type 0
 MayLackInput Run input = first_fault (readings_by reading_of input) ≡ None
+MayLackInput Fast input = first_fault (readings_by reading_of input) ≡ None
 MayLackInput Raw input = first_fault (readings_by reading_of input) ≡ None
 MayLackInput Latch input = event_fault input ≡ None
 MayLackInput Replay input = file_fault input ≡ None
@@ -82,6 +84,7 @@ IsSilent words old new status = (form : Form) × (form_of words ≡ Some form) �
 -- nothing is wrong with the input: each line is good, or the bytes are the file of a lawful log, or of an old one that can be brought over
 abbrev pub IsGoodInput : Form → List ℕ → Type 0
 IsGoodInput Run input = first_fault (readings_by reading_of input) ≡ None
+IsGoodInput Fast input = first_fault (readings_by reading_of input) ≡ None
 IsGoodInput Raw input = first_fault (readings_by reading_of input) ≡ None
 IsGoodInput Latch input = event_fault input ≡ None
 IsGoodInput Replay input = (pages : ℕ) × (log : List Entry) × IsRawLog input pages log

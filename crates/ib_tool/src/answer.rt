@@ -14,11 +14,12 @@ ghost use Rattle.ib_tool.specs.Words.{IsLawfulForm};
 use crate::form::Form;
 use crate::print::{Bytes, CountText, RunText};
 use crate::shape::Shape;
+use ib_hash::Guesses;
 use ib_io::{INPUT_BYTES, Sink, Status, refuse, tell};
 use ib_latch_form::answer_events;
 use ib_replay::write_log;
 use ib_replay_form::{answer_log, answer_upgrade};
-use ib_runs::{Gate, Ran, run_script};
+use ib_runs::{Access, Descents, Gate, Ran, run_script};
 use ib_script::{Load, PlainLines, Script, generate, read_script};
 use std::alloc::{AllocError, Global};
 use std::sync::Wait;
@@ -52,7 +53,7 @@ fn write_file<K: Sink>(alloc: Global, script: &Script, ran: &Ran, sink: &mut K) 
 }
 
 // Runs a script, and writes what is asked of the run.
-fn run<K: Sink, G: Gate + Sync, R: Threads + Wait + Sync>(
+fn run<A: Access + Sync, K: Sink, G: Gate + Sync, R: Threads + Wait + Sync>(
     rt: &R,
     alloc: Global,
     shape: Shape,
@@ -64,7 +65,7 @@ fn run<K: Sink, G: Gate + Sync, R: Threads + Wait + Sync>(
     ensures told { Told (λ e. (e.status ≡ Status.Done) × IsWrittenRun shape script.now e.text) IsOutOfMemory (K.written sink.old) (K.written sink.new) result }
     ensures write { TellsFault Status.WriteFault result (K.faults sink.old) (K.faults sink.new) }
 {
-    let Ok(ran) = run_script(rt, alloc, script, gate) else {
+    let Ok(ran) = run_script::<A, _, _>(rt, alloc, script, gate) else {
         return Status::Memory;
     };
     match shape {
@@ -74,7 +75,7 @@ fn run<K: Sink, G: Gate + Sync, R: Threads + Wait + Sync>(
 }
 
 // Answers a script that was read: runs it, or tells where it is refused and why. Memory may be wanting only where no line is bad.
-fn answer_script<K: Sink, G: Gate + Sync, R: Threads + Wait + Sync>(
+fn answer_script<A: Access + Sync, K: Sink, G: Gate + Sync, R: Threads + Wait + Sync>(
     rt: &R,
     alloc: Global,
     shape: Shape,
@@ -87,7 +88,7 @@ fn answer_script<K: Sink, G: Gate + Sync, R: Threads + Wait + Sync>(
     ensures write { TellsFault Status.WriteFault result (K.faults sink.old) (K.faults sink.new) }
 {
     match read_script::<PlainLines>(alloc, input) {
-        Ok(script) => run(rt, alloc, shape, &script, sink, gate),
+        Ok(script) => run::<A, _, _, _>(rt, alloc, shape, &script, sink, gate),
         Err(fault) => refuse(sink, fault),
     }
 }
@@ -107,7 +108,7 @@ fn answer_load<K: Sink, G: Gate + Sync, R: Threads + Wait + Sync>(
     let Ok(script) = generate(alloc, load) else {
         return Status::Memory;
     };
-    match run_script(rt, alloc, &script, gate) {
+    match run_script::<Descents, _, _>(rt, alloc, &script, gate) {
         Ok(ran) => tell(sink, CountText { ran }, Status::Done),
         Err(_) => Status::Memory,
     }
@@ -128,8 +129,9 @@ pub fn answer<K: Sink, G: Gate + Sync, R: Threads + Wait + Sync>(
     ensures write { TellsFault Status.WriteFault result (K.faults sink.old) (K.faults sink.new) }
 {
     match form {
-        Form::Run => answer_script(rt, alloc, Shape::Text, input, sink, gate),
-        Form::Raw => answer_script(rt, alloc, Shape::File, input, sink, gate),
+        Form::Run => answer_script::<Descents, _, _, _>(rt, alloc, Shape::Text, input, sink, gate),
+        Form::Fast => answer_script::<Guesses, _, _, _>(rt, alloc, Shape::Text, input, sink, gate),
+        Form::Raw => answer_script::<Descents, _, _, _>(rt, alloc, Shape::File, input, sink, gate),
         Form::Latch => answer_events(alloc, input, sink),
         Form::Replay => answer_log(alloc, input, sink),
         Form::Upgrade => answer_upgrade(alloc, input, sink),

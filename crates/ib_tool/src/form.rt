@@ -12,7 +12,9 @@ use ib_script::Load;
 pub enum Form {
     /// A script's sessions beside each other on one index: what each was answered, the log and the map.
     Run,
-    /// The same sessions, and the file of the log alone.
+    /// The same, and each call goes by a guess of its key's leaf first.
+    Fast,
+    /// The sessions of `run`, and the file of the log alone.
     Raw,
     /// Events on the latch machine of one thread.
     Latch,
@@ -38,6 +40,8 @@ fn form_named(word: &[u8]) -> Option<Form>
 {
     if word == b"run".as_slice() {
         Some(Form::Run)
+    } else if word == b"fast".as_slice() {
+        Some(Form::Fast)
     } else if word == b"raw".as_slice() {
         Some(Form::Raw)
     } else if word == b"latch".as_slice() {

@@ -61,7 +61,7 @@ fn check_form(
     check_words(rt, alloc, &[form], input, status, text)
 }
 
-// The status and the text that `run` gives for this script.
+// The status and the text that `run` gives for this script, and `fast` too.
 fn check(
     rt: &(impl Abort + Threads + Wait + Sync),
     alloc: Global,
@@ -69,7 +69,8 @@ fn check(
     status: Status,
     text: &[u8],
 ) -> Result<(), Fail> {
-    check_form(rt, alloc, "run", script, status, text)
+    check_form(rt, alloc, "run", script, status, text)?;
+    check_form(rt, alloc, "fast", script, status, text)
 }
 
 // The lines, each part as it is, are refused by a form at this line, for this reason.

@@ -48,18 +48,21 @@ impl Gate for Notes {
     }
 }
 
-#[test]
-fn one_session_between_the_calls_of_another(rt: HostRuntime) -> Result<(), Fail> {
-    let alloc = rt.alloc();
+// A session's one call between those of another, by this form.
+fn check_between(
+    rt: &(impl Abort + Threads + Wait + Sync),
+    alloc: Global,
+    form: &str,
+) -> Result<(), Fail> {
     let gate = Notes {
         first: [OnceLock::new(), OnceLock::new(), OnceLock::new()],
         second: [OnceLock::new(), OnceLock::new()],
     };
     let input = b"session 1\ninsert 7 1\nget 7\nsession 2\ndelete 7\n";
-    let words = vec![in alloc; String::from_str(alloc, "run")?]?;
+    let words = vec![in alloc; String::from_str(alloc, form)?]?;
     let mut source = MemorySource::new(Vec::from_slice(alloc, input)?, 1000, Vec::new(alloc));
     let mut sink = MemorySink::new(alloc, 1000, Vec::new(alloc));
-    let status = top(&rt, alloc, &words, &mut source, &mut sink, &gate);
+    let status = top(rt, alloc, &words, &mut source, &mut sink, &gate);
     assert_eq!(rt; status, Status::Done);
     assert_eq!(rt;
         sink.bytes(),
@@ -70,4 +73,14 @@ fn one_session_between_the_calls_of_another(rt: HostRuntime) -> Result<(), Fail>
     assert_eq!(rt; gate.second[1].get(), Some(&(2, 1, 2)));
     assert_eq!(rt; gate.first[2].get(), Some(&(1, 1, 2)));
     Ok(())
+}
+
+#[test]
+fn one_session_between_the_calls_of_another(rt: HostRuntime) -> Result<(), Fail> {
+    check_between(&rt, rt.alloc(), "run")
+}
+
+#[test]
+fn one_session_between_the_calls_of_another_by_guesses(rt: HostRuntime) -> Result<(), Fail> {
+    check_between(&rt, rt.alloc(), "fast")
 }

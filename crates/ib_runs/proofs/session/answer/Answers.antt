@@ -1,4 +1,4 @@
-use Rattle.std.proofs.Common.{arith, refl, subst, sym}
+use Rattle.std.proofs.Common.{refl, subst, sym}
 use Rattle.ib_map.specs.declared.call.Call.TheVariants.{Insert, Delete, Get}
 use Rattle.ib_layout.specs.Geometry.{Sizes}
 use Rattle.ib_runs.specs.Answers.{KeptAnswers, IsWhole}
@@ -9,25 +9,23 @@ use Rattle.ib_runs.proofs.session.answer.Goals.{in-Get, in-Insert, in-Delete}
 
 pub returns-clause-more : goal.returns-clause-more
 returns-clause-more g c =
+    let guesses = g.A.Access.guesses in
     let sizes : Sizes = c.args.index.now.sizes in
     let old : KeptAnswers = record { records = c.out.inside.records.items; chunks = c.out.inside.chunks } in
     let new : KeptAnswers = record { records = c.push.new.self.items; chunks = c.out.inside.chunks } in
     let whole = subst IsWhole (sym c.out.view_is) c.requires.whole in
-    subst (λ (o : KeptAnswers). HasOneMore sizes c.args.call o new c.args.pass.now c.match-call.pass) c.out.view_is
+    subst (λ (o : KeptAnswers). HasOneMore guesses sizes c.args.call o new c.args.pass.now c.match-call.pass) c.out.view_is
     (elim c.match-call.branch [
       | in-Get w ↦
-          let h = w.get-record.ensures.looked_up in
-          let s = h.most in let sx = h.sx in let x = h.x in
-          call_more_as sizes c.args.call (Get w.in-Get.key) c.match-call.record w.get-record.result old new c.args.pass.now c.match-call.pass w.get-record.new.pass w.in-Get.is w.record-is w.pass-is tt whole
-          c.in_ok-push.ensures.items refl h.called (λ read. let least = h.least in omega arith) (omega arith)
+          let h = w.get-record.ensures in
+          call_more_as guesses sizes c.args.call (Get w.in-Get.key) c.match-call.record w.get-record.result old new c.args.pass.now c.match-call.pass w.get-record.new.pass w.in-Get.is w.record-is w.pass-is tt whole
+          c.in_ok-push.ensures.items refl h.called h.takes
       | in-Insert w ↦
           let h = w.insert-record.ensures in
-          let few = h.grants.all in
-          call_more_as sizes c.args.call (Insert w.in-Insert.key w.in-Insert.value) c.match-call.record w.insert-record.result old new c.args.pass.now c.match-call.pass w.insert-record.new.pass w.in-Insert.is w.record-is w.pass-is tt whole
-          c.in_ok-push.ensures.items refl h.called (λ read. absurd (cc)) (omega arith)
+          call_more_as guesses sizes c.args.call (Insert w.in-Insert.key w.in-Insert.value) c.match-call.record w.insert-record.result old new c.args.pass.now c.match-call.pass w.insert-record.new.pass w.in-Insert.is w.record-is w.pass-is tt whole
+          c.in_ok-push.ensures.items refl h.called h.takes
       | in-Delete w ↦
           let h = w.delete-record.ensures in
-          let few = h.grants.all in
-          call_more_as sizes c.args.call (Delete w.in-Delete.key) c.match-call.record w.delete-record.result old new c.args.pass.now c.match-call.pass w.delete-record.new.pass w.in-Delete.is w.record-is w.pass-is tt whole
-          c.in_ok-push.ensures.items refl h.called (λ read. absurd (cc)) (omega arith)
+          call_more_as guesses sizes c.args.call (Delete w.in-Delete.key) c.match-call.record w.delete-record.result old new c.args.pass.now c.match-call.pass w.delete-record.new.pass w.in-Delete.is w.record-is w.pass-is tt whole
+          c.in_ok-push.ensures.items refl h.called h.takes
     ])

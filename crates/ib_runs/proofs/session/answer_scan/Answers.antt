@@ -30,8 +30,8 @@ returns-clause-more g c =
     ∙ (ap (λ n. record { call = Scan c.args.low c.args.high; reply = Scanned (length c.read_all.new.chunks.list - length c.out.inside.chunks.list) n; place = c.place.result }) y
     ∙ ap (λ n. record { call = Scan c.args.low c.args.high; reply = Scanned (length c.read_all.new.chunks.list - length c.out.inside.chunks.list) (length c.read_all.new.chunks.pairs - length c.out.inside.chunks.pairs); place = n }) c.place.ensures) in
     let whole = subst IsWhole (sym c.out.view_is) c.requires.whole in
-    subst (λ (o : KeptAnswers). HasOneMore sizes (Scan c.args.low c.args.high) o new c.args.pass.now c.read_all.new.pass) c.out.view_is
-    (scan_more sizes c.args.low c.args.high old new c.args.pass.now c.read_all.new.pass whole answer c.read_all.new.chunks c.facts_of_kept_logs.ensures c.requires.may.known c.in_ok-read_all.ensures.read
+    λ guesses. subst (λ (o : KeptAnswers). HasOneMore guesses sizes (Scan c.args.low c.args.high) o new c.args.pass.now c.read_all.new.pass) c.out.view_is
+    (scan_more guesses sizes c.args.low c.args.high old new c.args.pass.now c.read_all.new.pass whole answer c.read_all.new.chunks c.facts_of_kept_logs.ensures c.requires.may.known c.in_ok-read_all.ensures.read
     c.in_ok-push.ensures.items refl c.list-before.ensures.adjacent c.list.ensures.adjacent is)
 
 pub overflow_sub-list : goal.overflow_sub-list

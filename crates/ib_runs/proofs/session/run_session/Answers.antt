@@ -6,9 +6,9 @@ use Rattle.ib_map.specs.declared.call.Call.{Call}
 use Rattle.ib_layout.specs.Geometry.{Sizes}
 use Rattle.ib_rule.specs.Views.{total}
 use Rattle.ib_runs.specs.Answers.{KeptAnswers, answers_of}
-use Rattle.ib_runs.specs.Sessions.{HasAnswered}
+use Rattle.ib_runs.specs.Sessions.{HasAnswered, TakesGrants}
 use Rattle.ib_runs.specs.Steps.{HasOneMore}
-use Rattle.ib_runs.proofs.AnswerLaws.{answered_more, answered_none, grants_fit, known_none}
+use Rattle.ib_runs.proofs.AnswerLaws.{answered_more, answered_none, grants_fit, known_none, takes_more, takes_none}
 use Rattle.ib_runs.proofs.session.run_session.Goals as goal
 
 pub loop-call-init : goal.loop-call-init
@@ -18,22 +18,24 @@ loop-call-init g c =
     let made : own ≡ [] = nil_from_length own (let e = ap length c.requires.nothing_seen in let n = c.made.ensures.made in let s = c.made.ensures.seen in omega arith) in
     let known = known_none sizes c.args.pass.now c.requires.nothing_seen made in
     record {
+      sits = c.requires.sits;
       rest = c.requires.rest;
       same = refl;
       answered = subst (λ (o : KeptAnswers). HasAnswered sizes [] (answers_of o) c.args.pass.now c.args.pass.now) (sym c.requires.empty) (answered_none sizes c.args.pass.now known c.requires.nothing_seen made);
+      takes = takes_none g.A.Access.guesses c.args.pass.now;
       whole = subst (λ (o : KeptAnswers). total_chunks o.records ≡ length o.chunks.list) (sym c.requires.empty) refl;
       room = let e = ap (λ (o : KeptAnswers). o.chunks.chunk_room) c.requires.empty in omega arith;
       number = refl;
     }
 
 pub answer-requires-clause-may : goal.answer-requires-clause-may
-answer-requires-clause-may g c =
+answer-requires-clause-may g c = λ κs live.
     let i = c.loop-call.invariant in
-    let taken = i.answered.grants in let none = ap total c.requires.no_grants in
+    let taken = i.takes.most in let none = ap total c.requires.no_grants in
     record {
       rest = i.rest;
       known = i.answered.known;
-      few = grants_fit c.args.commands.now c.loop-call.call-index (total c.loop-call.pass.view.grants) c.requires.few (omega arith);
+      few = grants_fit g.A.Access.guesses c.args.commands.now c.loop-call.call-index (total c.loop-call.pass.view.grants) c.requires.few (omega arith);
       room = i.room;
     }
 
@@ -45,15 +47,19 @@ loop-call-preserved g c =
     let at = c.loop-call.call-index in
     let item : Call = c.call-item.result in
     let call : Call = get_or calls at item in
-    let a : HasOneMore sizes call c.loop-call.out c.answer.new.out c.loop-call.pass c.answer.new.pass =
-    subst (λ (it : Call). HasOneMore sizes it c.loop-call.out c.answer.new.out c.loop-call.pass c.answer.new.pass) c.call-item.is c.in_ok-answer.ensures.more in
-    let more = answered_more sizes call a.r c.args.pass.now c.loop-call.pass c.answer.new.pass a.answered (take at calls) (answers_of c.loop-call.out) a.least a.grants i.answered in
+    let guesses = g.A.Access.guesses in
+    let a : HasOneMore guesses sizes call c.loop-call.out c.answer.new.out c.loop-call.pass c.answer.new.pass =
+    subst (λ (it : Call). HasOneMore guesses sizes it c.loop-call.out c.answer.new.out c.loop-call.pass c.answer.new.pass) c.call-item.is c.in_ok-answer.ensures.more in
+    let more = answered_more sizes call a.r c.args.pass.now c.loop-call.pass c.answer.new.pass a.answered (take at calls) (answers_of c.loop-call.out) i.answered in
+    let takes = takes_more guesses call (take at calls) c.args.pass.now c.loop-call.pass c.answer.new.pass i.takes a.takes in
     let next : take at calls ++ call ∷ [] ≡ take (at + 1) calls = sym (take_more calls at item c.loop-call-test.true) in
     record {
+      sits = c.answer.ensures.sits;
       rest = c.answer.ensures.still.rest;
       same = c.answer.ensures.still.number ∙ i.same;
       answered = subst (λ (rs : List FullRecord). HasAnswered sizes (take (at + 1) calls) rs c.args.pass.now c.answer.new.pass) (sym a.answers)
           (subst (λ (ks : List Call). HasAnswered sizes ks (answers_of c.loop-call.out ++ a.r ∷ []) c.args.pass.now c.answer.new.pass) next more);
+      takes = subst (λ (ks : List Call). TakesGrants guesses ks c.args.pass.now c.answer.new.pass) next takes;
       whole = a.whole;
       room = c.answer.ensures.still.room;
       number = let n = i.number in omega arith;

@@ -5,7 +5,8 @@ use Rattle.ib_rule.specs.Pass.{IsAtRest}
 use Rattle.ib_runs.proofs.turns.leave_all.Given as goal
 
 abbrev pub invariant-loop-turn : goal.invariant-loop-turn
-invariant-loop-turn l = record {
+invariant-loop-turn g l = record {
+  sits : All (λ t. g.A.Access.sits l.access t.seat) l.turns.items;
   table : l.index.table ≡ l.initial.index.table;
   sizes : l.index.sizes ≡ l.initial.index.sizes;
   space : record l.index { ended = map (λ t. ended_as t.pass.view) l.turns.items ++ l.index.ended }
@@ -15,4 +16,4 @@ invariant-loop-turn l = record {
 }
 
 abbrev pub decreases-loop-turn : goal.decreases-loop-turn
-decreases-loop-turn l = vec_len l.turns
+decreases-loop-turn g l = vec_len l.turns

@@ -15,20 +15,21 @@ returns-clause-done g c =
     let start : SpaceState = c.args.index.now in
     let space : SpaceState = c.come_all-turns.new.index in
     let opened = c.come_all-turns.ensures.space in
-    let old : List Turn = c.come_all-turns.result.items in
-    let new : List Turn = c.turn_all.new.turns.items in
+    let A = g.A.Access in
+    let old : List (Turn g.row.A-Seat.Denot) = c.come_all-turns.result.items in
+    let new : List (Turn g.row.A-Seat.Denot) = c.turn_all.new.turns.items in
     let commands = c.args.script.now.commands in
     let len : length new ≡ length old = c.turn_all.ensures.len in
     let many : length old ≡ length commands = let f = c.come_all-turns.ensures.few in let b = c.if-len-count.false in let l = c.len.ensures in let s = c.sessions-count.ensures.sessions in omega arith in
-    let wide = length-map new (λ (t : Turn). t.pass) in
-    let passes : List PassState = map (λ (t : Turn). t.pass) new in
-    if_some c.leave_all-2.result (λ (outs : Vec KeptAnswers Global). map (λ (t : Turn). t.answers) new ≡ map Some outs.items) (λ (outs : Vec KeptAnswers Global). AllDone commands outs.items c.leave_all-2.new.index)
+    let wide = length-map new (λ (t : Turn g.row.A-Seat.Denot). t.pass) in
+    let passes : List PassState = map (λ (t : Turn g.row.A-Seat.Denot). t.pass) new in
+    if_some c.leave_all-2.result (λ (outs : Vec KeptAnswers Global). map (λ (t : Turn g.row.A-Seat.Denot). t.answers) new ≡ map Some outs.items) (λ (outs : Vec KeptAnswers Global). AllDone commands outs.items c.leave_all-2.new.index)
     (λ outs is e. subst (AllDone commands outs.items) (sym c.leave_all-2.ensures.space) (record {
       passes = passes;
       count = wide ∙ (len ∙ many);
       done = done_of space commands 1 old new outs.items len c.come_all-turns.ensures.numbered c.turn_all.ensures.turned e;
       drawn = ap (λ (s : SpaceState). s.drawn) opened ∙ sym (wide ∙ len);
-      ended = ap (λ (es : List Ended). map (λ (t : Turn). ended_as t.pass.view) new ++ es) (ap (λ (s : SpaceState). s.ended) opened ∙ c.requires.new.1) ∙ (append-nil (map (λ (t : Turn). ended_as t.pass.view) new) ∙ ended_passes new);
+      ended = ap (λ (es : List Ended). map (λ (t : Turn g.row.A-Seat.Denot). ended_as t.pass.view) new ++ es) (ap (λ (s : SpaceState). s.ended) opened ∙ c.requires.new.1) ∙ (append-nil (map (λ (t : Turn g.row.A-Seat.Denot). ended_as t.pass.view) new) ∙ ended_passes new);
     })) c.leave_all-2.ensures.all
 
 pub returns-clause-left : goal.returns-clause-left
