@@ -4,17 +4,20 @@
 Logs are written by the program itself (`raw`, of scripts that split, raise, merge and lift) and by tree_logs.py. Each is spoiled once to
 four times: a bit or a byte changed, bytes cut out, put in or doubled, two words exchanged, a word replaced by 0, by the greatest, by another
 word of the file or by one more, a count of writes out of range, the tail of another log behind the front of one. Scripts and events are
-spoiled by bytes and by lines. Every input must be answered as the model answers it, and within a second.
-Words: how many inputs (20,000 if none; a half are logs, a quarter scripts, a quarter events), a seed (83), and how many processes (4).
-It prints how many inputs of each form were taken and refused, and the longest time. At the first difference it prints what differs and
-the file with the input, and ends with the status 1. It takes some minutes for 20,000 inputs on four processors.
+spoiled by bytes and by lines. Every input must be answered as the model answers it, and within a second of processor time.
+Words: how many inputs (20,000 if none; a half are logs, a quarter scripts, by `run` and by `fast` in turn, a quarter events), a seed
+(83), and how many processes (4). It prints how many inputs of each form were taken and refused, the longest time, and the most processor
+time and memory that an input took for each of its bytes, over what its form takes for an input with no command in the largest space; an
+input of less than a kilobyte counts as one. At the first difference it prints what differs and the file with the input, and ends with
+the status 1. It takes some two minutes for 20,000 inputs on four processors. GNU's `time` must be there.
 """
 
+import os
 import random
+import struct
 import subprocess
 import sys
 import tempfile
-import time
 from collections import Counter
 from multiprocessing import Pool
 
@@ -28,16 +31,33 @@ GREATEST = 2**64 - 1
 SECONDS = 1.0
 
 
+# What the program reads for a form: no command, in the largest space. Its time and memory are those that do not hang on the length.
+LARGEST = {
+    "run": b"space 4096 16777216\n",
+    "fast": b"space 4096 16777216\n",
+    "replay": b"IBLOG572" + (4096).to_bytes(8, "big"),
+    "latch": b"",
+}
+
+
 def measured(form, data):
-    """The status, the output and the seconds of the program for this input."""
-    with tempfile.TemporaryFile() as source, tempfile.TemporaryFile() as sink:
+    """The status, the output, and the processor seconds and the bytes of memory of the program for this input.
+
+    GNU's `time` starts the program: what the system counts of one that this process starts has this process's own memory in it."""
+    with tempfile.TemporaryFile() as source, tempfile.TemporaryFile() as sink, tempfile.NamedTemporaryFile() as note:
         source.write(data)
         source.seek(0)
-        start = time.monotonic()
-        status = subprocess.run([PROGRAM, form], stdin=source, stdout=sink, check=False).returncode
-        seconds = time.monotonic() - start
+        program = subprocess.Popen(["/usr/bin/time", "-q", "-f", "%M", "-o", note.name, "timeout", "60", PROGRAM, form], stdin=source, stdout=sink)
+        _, status, used = os.wait4(program.pid, 0)
+        program.returncode = os.waitstatus_to_exitcode(status)
         sink.seek(0)
-        return status, sink.read(), seconds
+        return program.returncode, sink.read(), (used.ru_utime + used.ru_stime, 1024 * int(note.read()))
+
+
+def least_of(form):
+    """The least processor time and memory of a form, of five calls."""
+    calls = [measured(form, LARGEST[form])[2] for _ in range(5)]
+    return tuple(map(min, zip(*calls)))
 
 
 def falling_script(dice):
@@ -64,11 +84,11 @@ def lawful_logs(dice, count):
 
 
 def words_in(data):
-    return [int.from_bytes(data[at : at + 8], "big") for at in range(0, len(data) - 7, 8)]
+    return list(struct.unpack_from(f">{len(data) // 8}Q", data))
 
 
 def bytes_of(words):
-    return b"".join((word & GREATEST).to_bytes(8, "big") for word in words)
+    return struct.pack(f">{len(words)}Q", *(word & GREATEST for word in words))
 
 
 def heads_in(words):
@@ -154,7 +174,7 @@ def is_told_full(text):
 
 def why_differs(form, data, status, found):
     """Why this answer is not the model's; None where it is."""
-    if form == "run":
+    if form in ("run", "fast"):
         wanted, text = run(data)
         if wanted == 0 and status == 0:
             try:
@@ -169,25 +189,28 @@ def why_differs(form, data, status, found):
 
 
 def tried(work):
-    """What came of so many inputs by this seed: counts, and the longest seconds."""
+    """What came of so many inputs by this seed: counts, the longest time, and the most time and memory for a byte of each form."""
     seed, count = work
     dice = random.Random(seed)
-    logs, counts, longest = lawful_logs(dice, 12), Counter(), 0.0
+    logs, counts, longest, most = lawful_logs(dice, 12), Counter(), 0.0, {}
+    least = {form: least_of(form) for form in LARGEST}
     for turn in range(count):
-        form = ("replay", "run", "replay", "latch")[turn % 4]
-        data = spoiled_log(dice, logs) if form == "replay" else spoiled_lines(dice, (some_script if form == "run" else some_events)(dice))
-        status, found, seconds = measured(form, data)
+        form = ("replay", "run", "replay", "latch", "replay", "fast", "replay", "latch")[turn % 8]
+        data = spoiled_log(dice, logs) if form == "replay" else spoiled_lines(dice, (some_events if form == "latch" else some_script)(dice))
+        status, found, used = measured(form, data)
         why = why_differs(form, data, status, found)
-        if why is None and seconds > SECONDS:
-            status, found, seconds = measured(form, data)
-            why = f"it takes {seconds:.1f} seconds" if seconds > SECONDS else None
+        if why is None and used[0] > SECONDS:
+            status, found, used = measured(form, data)
+            why = f"it takes {used[0]:.1f} seconds" if used[0] > SECONDS else None
         if why is not None:
             with tempfile.NamedTemporaryFile(prefix="input-", delete=False) as file:
                 file.write(data)
             return f"{form} < {file.name}: {why}"
         counts[form, status] += 1
-        longest = max(longest, seconds)
-    return counts, longest
+        longest = max(longest, used[0])
+        for_byte = [(more - base) / max(len(data), 1024) for more, base in zip(used, least[form])]
+        most[form] = [max(pair) for pair in zip(most.get(form, for_byte), for_byte)]
+    return counts, longest, most
 
 
 def main():
@@ -197,7 +220,7 @@ def main():
     built()
     portion = 1_000
     works = [(seed * 1_000_003 + turn, min(portion, count - turn * portion)) for turn in range((count + portion - 1) // portion)]
-    counts, longest = Counter(), 0.0
+    counts, longest, most = Counter(), 0.0, {}
     with Pool(workers) as pool:
         for came in pool.imap_unordered(tried, works):
             if isinstance(came, str):
@@ -206,10 +229,14 @@ def main():
                 return 1
             counts.update(came[0])
             longest = max(longest, came[1])
-    for form in ("replay", "run", "latch"):
+            for form, for_byte in came[2].items():
+                most[form] = [max(pair) for pair in zip(most.get(form, for_byte), for_byte)]
+    for form in LARGEST:
         by_status = {status: number for (of, status), number in counts.items() if of == form}
         told = ", ".join(f"{number} with status {status}" for status, number in sorted(by_status.items()))
         print(f"{form}: {sum(by_status.values())} inputs, {told}: the same")
+        if form in most:
+            print(f"  at most {most[form][0] * 1e6:.1f} microseconds and {most[form][1]:.0f} bytes of memory for a byte of an input")
     print(f"the longest took {longest:.3f} s")
     return 0
 

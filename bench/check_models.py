@@ -12,8 +12,10 @@ status 1. It takes some ten seconds for 100 inputs, and some minutes for 2,000.
 """
 
 import random
+import struct
 import sys
 import tempfile
+from functools import lru_cache
 
 import heaps
 import keys
@@ -413,12 +415,13 @@ def must(holds, why):
         raise NoTree(why)
 
 
+@lru_cache(4096)
 def records_of(words):
-    """The records of a page of the tree, whose words must be in its form."""
+    """The records of a page of the tree, whose words, a tuple, must be in its form."""
     kind, level, _, prev, behind = words[:5]
     must(kind == 1 and level <= 7, "head")
     must(prev < 2**32 and behind < 2**32 and (level == 0 or prev == behind == 0), "links")
-    records = heaps.records(words)
+    records = heaps.records(list(words))
     must(all(one[0] < two[0] for one, two in zip(records, records[1:])), "order of keys")
     return records
 
@@ -426,7 +429,7 @@ def records_of(words):
 def tree_of(pages, count):
     """Where each page is met, as a level and the ends of its keys, and the records of the leaves; all pages but these are free."""
     must(not any(pages[0][65:]), "space page")
-    bits = {page for page in range(64 * 64) if pages[0][page // 64] >> page % 64 & 1}
+    bits = {64 * at + bit for at, word in enumerate(pages[0][:64]) if word for bit in range(64) if word >> bit & 1}
     met, content = {}, []
     visits, level = [(1, keys.LEAST, keys.END)], pages[1][1]
     while visits:
@@ -434,7 +437,7 @@ def tree_of(pages, count):
         for i, (page, low, high) in enumerate(visits):
             must(page not in met and page in pages, "a page met twice, or none")
             words = pages[page]
-            records = records_of(words)
+            records = records_of(tuple(words))
             firsts = [key for key, _ in records]
             must(words[1] == level and all(low <= key < high for key in firsts), "level or range")
             met[page] = (level, low, high)
@@ -466,7 +469,7 @@ def is_tree_behind(met, pages, count, pairs, writes):
 def replay(data):
     if len(data) % 8:
         return 7, f"bad log: odd length {len(data)}\n"
-    words = [int.from_bytes(data[i : i + 8], "big") for i in range(0, len(data), 8)]
+    words = list(struct.unpack(f">{len(data) // 8}Q", data))
     if len(words) < 2:
         return 7, "bad log: short at 0\n"
     if words[0] != FORM:

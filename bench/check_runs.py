@@ -1,10 +1,11 @@
 #!/usr/bin/env python3
 """Runs scripts of several sessions, each a thread of its own, and judges every reply of every run by judge.py.
 
-The scripts are made here, of seven kinds in turn: on keys that all sessions share, on keys of a session's own, on few keys, in small
-spaces and with small logs that fill up, with scans over leaves that change, and with trees that grow and then are emptied. They have
-2 to 64 sessions. Keys have 0 to 15 bytes, and many begin alike (keys.py).
-Words: how many commands in all (100,000 if none), a seed (57), and how many commands a script has (20,000).
+The scripts are made here, of eight kinds in turn: on keys that all sessions share, on keys of a session's own, on few keys, in small
+spaces and with small logs that fill up, with scans over leaves that change, with trees that grow and then are emptied, and with trees
+of a few leaves that come and go, so that guesses are often stale. They have 2 to 64 sessions. Keys have 0 to 15 bytes, and many begin alike (keys.py).
+Words: how many commands in all (100,000 if none), a seed (57), how many commands a script has (20,000), and the form that runs them:
+`run`, `fast`, or `both` (if none), each in turn for a round of the kinds.
 It prints how many runs of each kind it judged. At the first difference it prints what differs and the folder with the script and the
 output, and ends with the status 1. A run that does not end in five minutes hangs, and is told in the same way. It takes some five
 seconds for 100,000 commands.
@@ -24,8 +25,9 @@ from judge import Wrong, judge
 from program import answer, built
 
 # How many keys the scripts of a kind have; the sessions of `own` have 2,000 each.
-KEYS = {"shared": 4_000, "own": 128_000, "hot": 60, "small space": 700, "small log": 4_000, "scans": 1_500, "falling": 4_000}
+KEYS = {"shared": 4_000, "own": 128_000, "hot": 60, "small space": 700, "small log": 4_000, "scans": 1_500, "falling": 4_000, "waves": 240}
 KINDS = tuple(KEYS)
+FORMS = {"run": ("run",), "fast": ("fast",), "both": ("run", "fast")}
 
 
 @cache
@@ -54,7 +56,7 @@ def command(kind, dice, session, done):
     """A command of a session: at first more keys come in than go out, then the other way round."""
     place = place_of(kind, dice, session)
     key = keys.text(in_order(kind)[place])
-    rises = done < 0.5 if kind == "falling" else done < 0.8
+    rises = {"falling": done < 0.5, "waves": int(done * 40) % 2 == 0}.get(kind, done < 0.8)
     turn = dice.random()
     if turn < (0.5 if rises else 0.1):
         return f"insert {key} {dice.randrange(1_000_000)}"
@@ -91,9 +93,9 @@ def keep(script, text, why):
     sys.exit(1)
 
 
-def run(script):
+def run(form, script):
     try:
-        status, text = answer(["run"], script.encode())
+        status, text = answer([form], script.encode())
     except subprocess.TimeoutExpired:
         keep(script, "", "a run hangs")
     if status != 0:
@@ -102,23 +104,25 @@ def run(script):
 
 
 def main():
-    words = [int(word) for word in sys.argv[1:]] + [100_000, 57, 20_000][len(sys.argv) - 1 :]
-    total, seed, count = words
+    words = sys.argv[1:] + ["100000", "57", "20000", "both"][len(sys.argv) - 1 :]
+    total, seed, count = (int(word) for word in words[:3])
+    forms = FORMS[words[3]]
     built()
     dice = random.Random(seed)
     start, commands, entries, seen = time.monotonic(), 0, 0, Counter()
     while commands < total:
         kind = KINDS[seen.total() % len(KINDS)]
         script = script_of(kind, dice, count)
-        text = run(script)
+        form = forms[seen.total() // len(KINDS) % len(forms)]
+        text = run(form, script)
         try:
             entries += judge(script, text)
         except Wrong as wrong:
-            keep(script, text, f"{kind}: {wrong}")
+            keep(script, text, f"{form}, {kind}: {wrong}")
         seen[kind] += 1
         commands += count
     kinds = ", ".join(f"{runs} {kind}" for kind, runs in seen.items())
-    print(f"{commands} commands in {seen.total()} runs ({kinds}), {entries} entries, no difference; {time.monotonic() - start:.0f} s")
+    print(f"{commands} commands in {seen.total()} runs of {words[3]} ({kinds}), {entries} entries, no difference; {time.monotonic() - start:.0f} s")
 
 
 if __name__ == "__main__":

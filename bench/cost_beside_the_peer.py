@@ -2,12 +2,12 @@
 """Times the program beside its peer: the same job in plain Rust, unproved (peer/README.md).
 
 Both run the same scripts in turn, which peer/workload.py makes: loads, lookups and mixed commands, of 20,000 and 200,000 commands, in
-one, two and four sessions. The peer prints how long it opened, ran and printed. Ours is timed from outside: its run phase is its wall
-time less that of a script of the same sessions with one lookup each. Of one session the best time counts, of more the median. Peak
-memory is that of the process.
+one, two and four sessions. The peer prints how long it opened, ran and printed. Ours is timed from outside, by `run` and by `fast`: its
+run phase is its wall time less that of a script of the same sessions with one lookup each. Of one session the best time counts, of more
+the median. Peak memory is that of the process.
 Words: the peer's program, as peer/build.sh builds it, how often each script is run (5 if none), and how many commands the scripts have
 (20,000 and 200,000; each number is a row).
-It prints for each script the run phase, the whole, and the peak, ours beside the peer's. It takes some minutes.
+It prints for each script the run phase, the whole, and the peak, each of `run`, of `fast` and of the peer. It takes some minutes.
 """
 
 import os
@@ -21,6 +21,7 @@ import time
 from program import PROGRAM, WORKLOAD, built
 
 KINDS = ("fill", "read", "mixed")
+FORMS = ("run", "fast")
 COUNTS = [20_000, 200_000]
 SESSIONS = (1, 2, 4)
 
@@ -49,17 +50,24 @@ def figure(times, sessions):
 
 
 def measure(peer, script, bare, sessions, times):
-    ours, theirs, opening, runs = [], [], [], []
+    """The run phase and the whole of both forms and of the peer, in turn, and the peaks."""
+    whole, opening, runs = {form: [] for form in (*FORMS, peer)}, {form: [] for form in FORMS}, []
+    peaks = {}
     for _ in range(times):
-        seconds, our_peak = timed([PROGRAM, "run"], script)
-        ours.append(seconds)
-        opening.append(timed([PROGRAM, "run"], bare)[0])
-        seconds, their_peak = timed([peer, "--engine", "coupled-log"], script)
-        theirs.append(seconds)
+        for form in FORMS:
+            seconds, peaks[form] = timed([PROGRAM, form], script)
+            whole[form].append(seconds)
+            opening[form].append(timed([PROGRAM, form], bare)[0])
+        seconds, peaks[peer] = timed([peer, "--engine", "coupled-log"], script)
+        whole[peer].append(seconds)
         runs.append(run_of(peer, script))
-    whole, other = figure(ours, sessions), figure(theirs, sessions)
-    run, other_run = whole - figure(opening, sessions), figure(runs, sessions)
-    return f"run {run * 1e3:8.1f} ms beside {other_run * 1e3:7.1f}: {other_run / run:5.2f}   whole {whole * 1e3:8.1f} ms beside {other * 1e3:7.1f}: {whole / other:5.2f}   peak {our_peak:4.0f} MB beside {their_peak:4.0f}"
+    ends = {form: figure(times, sessions) for form, times in whole.items()}
+    ran = {form: ends[form] - figure(opening[form], sessions) for form in FORMS}
+    ran[peer] = figure(runs, sessions)
+    return "; ".join(
+        f"{what} {', '.join(f'{table[form] * unit:.{digits}f}' for form in (*FORMS, peer))}"
+        for what, table, unit, digits in (("run phase (ms)", ran, 1e3, 1), ("whole (ms)", ends, 1e3, 1), ("peak (MB)", peaks, 1, 0))
+    )
 
 
 def main():
