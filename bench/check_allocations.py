@@ -14,7 +14,7 @@ import sys
 import tempfile
 
 from judge import Wrong, judge
-from program import PROGRAM, built
+from program import PROGRAM, TOP, built
 
 LIBRARY = r"""
 #define _GNU_SOURCE
@@ -67,9 +67,17 @@ void *realloc(void *old, size_t size) {
 ONE = b"space 64 65536\ninsert 1 10\ninsert x: 20\nget 1\ndelete x:\ninsert x:00ff 30\nscan x: 9\nscan 9 0\n"
 TWO = b"space 64 200000\nsession 1\n" + b"".join(b"insert %d 1\ninsert x:%016x 2\n" % (key, key) for key in range(30)) + b"scan x: 99\nsession 2\nscan 0 99\ndelete 5\nget 7\nsession 4\nget 1\n"
 
+
+def example(name):
+    with open(os.path.join(TOP, "examples", name), "rb") as file:
+        return file.read()
+
+
 ROWS = (
     (["run"], ONE),
     (["run"], TWO),
+    (["fast"], ONE),
+    (["fast"], TWO),
     (["raw"], ONE),
     (["raw"], TWO),
     (["gen", "300", "7", "3"], b""),
@@ -78,6 +86,8 @@ ROWS = (
     (["run"], b"insert 1 10\nget x:31\n"),
     (["latch"], b"1 x 0 4\n2 arm 0 s 4\n1 ux 0\n"),
     (["latch"], b"1 x 0 4\n1 ux\n"),
+    (["replay"], example("insert.log")),
+    (["upgrade"], example("old.log")),
 )
 
 
@@ -91,7 +101,7 @@ def is_right(words, data, whole, found):
     """Whether an ending without a refusal is one that the program may have."""
     if data != TWO:
         return found == whole
-    if words == ["run"]:
+    if words in (["run"], ["fast"]):
         try:
             judge(data.decode(), found[1].decode())
         except Wrong:
