@@ -1,10 +1,10 @@
 #!/usr/bin/env python3
 """Times the program beside its peer: the same job in plain Rust, unproved (peer/README.md).
 
-Both run the same scripts in turn, which peer/workload.py makes: loads, lookups and mixed commands, of 20,000 and 200,000 commands, in
-one, two and four sessions. The peer prints how long it opened, ran and printed. Ours is timed from outside, by `run` and by `fast`: its
-run phase is its wall time less that of a script of the same sessions with one lookup each. Of one session the best time counts, of more
-the median. Peak memory is that of the process.
+Both run the same scripts in turn, which peer/workload.py makes: loads, lookups on many keys and on few, and mixed commands, of 20,000
+and 200,000 commands, in one, two and four sessions. The peer prints how long it opened, ran and printed. Ours is timed from outside, by
+`run` and by `fast`: its run phase is its wall time less that of a script of the same sessions with one lookup each. Of one session the
+best time counts, of more the median. Peak memory is that of the process.
 Words: the peer's program, as peer/build.sh builds it, how often each script is run (5 if none), and how many commands the scripts have
 (20,000 and 200,000; each number is a row).
 It prints for each script the run phase, the whole, and the peak, each of `run`, of `fast` and of the peer. It takes some minutes.
@@ -20,7 +20,7 @@ import time
 
 from program import PROGRAM, WORKLOAD, built
 
-KINDS = ("fill", "read", "mixed")
+KINDS = ("fill", "read", "hot", "mixed")
 FORMS = ("run", "fast")
 COUNTS = [20_000, 200_000]
 SESSIONS = (1, 2, 4)
