@@ -16,13 +16,13 @@ use Rattle.ib_replay.proofs.FileLaws.{file_fault-none, file_of-one, has_pages-fi
 use Rattle.ib_replay.proofs.OnlyLog.{same_rest, no_fault_behind, not_first_fault, log_words-one}
 
 -- a log goes on behind a front of it, whose rest of words begins with those of the next entry
-record GoesOn (pages : ℕ) (front : List Entry) (rest : List ℕ) (log : List Entry) : Type 0 where
-  entry : Entry
-  more : List Entry
-  tail : List ℕ
-  parts : log ≡ front ++ entry ∷ more
-  spelled : rest ≡ words_of_entry entry ++ tail
-  is : IsInGrammar pages entry
+pub record GoesOn (pages : ℕ) (front : List Entry) (rest : List ℕ) (log : List Entry) : Type 0 where
+  pub entry : Entry
+  pub more : List Entry
+  pub tail : List ℕ
+  pub parts : log ≡ front ++ entry ∷ more
+  pub spelled : rest ≡ words_of_entry entry ++ tail
+  pub is : IsInGrammar pages entry
 
 GoesOn-behind : (pages : ℕ) (f g : Entry) (front log : List Entry) (rest : List ℕ) → g ≡ f → GoesOn pages front rest log → GoesOn pages (f ∷ front) rest (g ∷ log)
 GoesOn-behind pages f g front log rest same on = record {
@@ -35,7 +35,7 @@ GoesOn-behind pages f g front log rest same on = record {
 }
 
 -- two logs at the front of the same words are the same, or one goes on where the other ends
-fronts : (pages : ℕ) (xs ys : List Entry) (r s : List ℕ) → AreInGrammar pages xs → AreInGrammar pages ys → log_words xs ++ r ≡ log_words ys ++ s
+pub fronts : (pages : ℕ) (xs ys : List Entry) (r s : List ℕ) → AreInGrammar pages xs → AreInGrammar pages ys → log_words xs ++ r ≡ log_words ys ++ s
     → ((xs ≡ ys) × (r ≡ s)) ⊎ (GoesOn pages xs r ys ⊎ GoesOn pages ys s xs)
 fronts pages [] [] r s x_is y_is same = inl (refl, same)
 fronts pages [] (y ∷ ys) r s x_is y_is same =

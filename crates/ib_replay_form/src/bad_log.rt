@@ -49,7 +49,8 @@ fn print_full<K: Sink>(writer: &mut Writer<'_, K>, place: u32, why: FullKind)
     writer.text(full_word(why));
 }
 
-fn print_fault<K: Sink>(writer: &mut Writer<'_, K>, fault: LogFault)
+/// A fault of a log, as it stands behind `bad log: `.
+pub fn print_fault<K: Sink>(writer: &mut Writer<'_, K>, fault: LogFault)
     ensures puts { Puts K.written K.faults writer.old writer.new (log_fault_text fault) }
 {
     match fault {

@@ -9,4 +9,5 @@ mod log_file;
 mod replaying;
 
 pub use answer::{answer_log, answer_upgrade};
+pub use bad_log::print_fault;
 pub use laws::{log_law, upgrade_law};

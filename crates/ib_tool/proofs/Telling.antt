@@ -12,10 +12,11 @@ use Rattle.ib_io.specs.declared.status.Status.TheVariants.{Done, ReadFault, Writ
 use Rattle.ib_replay_form.specs.Answers.{AnswersLog, AnswersUpgrade}
 use Rattle.ib_replay.proofs.OldLogLaws.{brought-no_fault}
 use Rattle.ib_replay.proofs.OneFault.{raw_log-no_fault}
+use Rattle.ib_image_form.proofs.RestoredLaws.{owed-one}
 use Rattle.ib_tool.specs.Answers.{AnswersInput, HasGood, IsCutOff, IsGoodInput, IsOwedAt, IsServed, IsSilent, IsSilentAt, MayLackInput, Owes, OwesInput}
 use Rattle.ib_tool.specs.Words.{form_of, reads}
 use Rattle.ib_tool.specs.declared.form.Form.{Form}
-use Rattle.ib_tool.specs.declared.form.Form.TheVariants.{Run, Fast, Raw, Latch, Replay, Upgrade, Gen}
+use Rattle.ib_tool.specs.declared.form.Form.TheVariants.{Run, Fast, Raw, Latch, Replay, Upgrade, Restore, Gen}
 
 -- where want of memory may come anywhere
 pub told_anywhere : (owes : Ending → Type 0) (written now : Option (List ℕ)) (status : Status) → Told owes IsOutOfMemory written now status → Told owes (IsOutOfMemoryWhere (Unit {0})) written now status
@@ -36,6 +37,7 @@ told_reading Raw old new is written now status told = told
 told_reading Latch old new is written now status told = told
 told_reading Replay old new is written now status told = told
 told_reading Upgrade old new is written now status told = told
+told_reading Restore old new is written now status told = told
 told_reading (Gen load) old new is written now status told = absurd (cc)
 
 -- .. and of one that reads nothing
@@ -49,6 +51,7 @@ told_alone Raw old new is keeps written now status told = absurd (cc)
 told_alone Latch old new is keeps written now status told = absurd (cc)
 told_alone Replay old new is keeps written now status told = absurd (cc)
 told_alone Upgrade old new is keeps written now status told = absurd (cc)
+told_alone Restore old new is keeps written now status told = absurd (cc)
 
 -- what is told where the words are a form
 pub told_form : (words : List (List ℕ)) (form : Form) (old new : Option (List ℕ)) → form_of words ≡ Some form → (written now : Option (List ℕ)) (status : Status)
@@ -72,6 +75,7 @@ done_input Raw input e good owed = done_lines _ _ e good owed
 done_input Latch input e good owed = done_lines _ _ e good owed
 done_input Replay input e good owed = done_log input e good owed
 done_input Upgrade input e good owed = done_upgrade input e good owed
+done_input Restore input e good owed = ap (λ x. x.status) (owed-one input good.0 good.1 e good.2 good.3 owed)
 done_input (Gen load) input e good owed = owed.0
 
 done_read : (form : Form) (left new : Option (List ℕ)) (e : Ending) → HasGood form left → OwesInput form left new e → e.status ≡ Done
@@ -88,6 +92,7 @@ done_at Raw left new e served owed = done_read Raw left new e served owed
 done_at Latch left new e served owed = done_read Latch left new e served owed
 done_at Replay left new e served owed = done_read Replay left new e served owed
 done_at Upgrade left new e served owed = done_read Upgrade left new e served owed
+done_at Restore left new e served owed = done_read Restore left new e served owed
 done_at (Gen load) left new e served owed = owed.1.0
 
 done_words : (words : List (List ℕ)) (left new : Option (List ℕ)) (form : Form) (e : Ending) → form_of words ≡ Some form → IsServed form left → Owes words left new e → e.status ≡ Done
@@ -106,6 +111,7 @@ silences-at Raw old new s calm = cut-off old new s calm
 silences-at Latch old new s calm = cut-off old new s calm
 silences-at Replay old new s calm = cut-off old new s calm
 silences-at Upgrade old new s calm = cut-off old new s calm
+silences-at Restore old new s calm = cut-off old new s calm
 silences-at (Gen load) old new s calm = inr calm
 
 -- a form that gets what it needs is answered
@@ -130,6 +136,8 @@ no_fault Replay input e (inl owed) is = let told = ap (λ x. x.status) owed.3 in
 no_fault Replay input e (inr owed) is = let told = ap (λ x. x.status) owed.2 in absurd (cc)
 no_fault Upgrade input e (inl owed) is = let told = ap (λ x. x.status) owed.3 in absurd (cc)
 no_fault Upgrade input e (inr owed) is = let told = ap (λ x. x.status) owed.2 in absurd (cc)
+no_fault Restore input e (inl owed) is = let told = ap (λ x. x.status) owed.4 in absurd (cc)
+no_fault Restore input e (inr owed) is = let told = ap (λ x. x.status) owed.2 in absurd (cc)
 no_fault (Gen load) input e owed is = let told = owed.0 in absurd (cc)
 
 pub told-no_fault : (form : Form) (input : List ℕ) (written now : Option (List ℕ)) (status : Status) → Told (AnswersInput form input) (IsOutOfMemoryWhere (MayLackInput form input)) written now status → status ≡ ReadFault → ⊥

@@ -16,10 +16,16 @@ use Rattle.ib_replay_form.specs.Answers.{AnswersLog, AnswersUpgrade}
 use Rattle.ib_replay.specs.Files.{file_fault}
 use Rattle.ib_replay.specs.OldLogs.{IsBroughtOver, old_file_fault}
 use Rattle.ib_replay.specs.RawLogs.{IsRawLog}
+use Rattle.ib_walk.specs.Words.{IsLawfulMemory}
+use Rattle.ib_image.specs.Copies.{restored}
+use Rattle.ib_image.specs.ImageFaults.{front_fault}
+use Rattle.ib_image.specs.Restored.{IsImageFile}
+use Rattle.ib_image.specs.declared.copy.CopiedPage.{CopiedPage}
+use Rattle.ib_image_form.specs.Answers.{AnswersImage}
 use Rattle.ib_tool.specs.Texts.{IsCountText, IsWrittenRun}
 use Rattle.ib_tool.specs.Words.{form_of, usage_line, too_large_line}
 use Rattle.ib_tool.specs.declared.form.Form.{Form}
-use Rattle.ib_tool.specs.declared.form.Form.TheVariants.{Run, Fast, Raw, Latch, Replay, Upgrade, Gen}
+use Rattle.ib_tool.specs.declared.form.Form.TheVariants.{Run, Fast, Raw, Latch, Replay, Upgrade, Restore, Gen}
 use Rattle.ib_tool.specs.declared.shape.Shape.{Shape}
 use Rattle.ib_tool.specs.declared.shape.Shape.TheVariants.{Text, File}
 
@@ -39,6 +45,7 @@ AnswersInput Raw input e = AnswersScript File input e
 AnswersInput Latch input e = AnswersEvents input e
 AnswersInput Replay input e = AnswersLog input e
 AnswersInput Upgrade input e = AnswersUpgrade input e
+AnswersInput Restore input e = AnswersImage input e
 AnswersInput (Gen load) input e = (e.status ≡ Done) × IsCountText load e.text
 
 -- memory may be wanting for an input: of lines where none is bad, of a log where the file itself has no fault
@@ -49,6 +56,7 @@ MayLackInput Raw input = first_fault (readings_by reading_of input) ≡ None
 MayLackInput Latch input = event_fault input ≡ None
 MayLackInput Replay input = file_fault input ≡ None
 MayLackInput Upgrade input = old_file_fault input ≡ None
+MayLackInput Restore input = front_fault input ≡ None
 MayLackInput (Gen load) input = Unit {0}
 
 -- The ending that is owed by a form that reads: that more was read than the limit, or an answer to an input that was read to its end.
@@ -89,6 +97,7 @@ IsGoodInput Raw input = first_fault (readings_by reading_of input) ≡ None
 IsGoodInput Latch input = event_fault input ≡ None
 IsGoodInput Replay input = (pages : ℕ) × (log : List Entry) × IsRawLog input pages log
 IsGoodInput Upgrade input = (pages : ℕ) × (words : List ℕ) × IsBroughtOver input pages words
+IsGoodInput Restore input = (copy : List CopiedPage) × (tail : List Entry) × IsImageFile input copy tail × IsLawfulMemory (length copy) 1 (restored copy tail)
 IsGoodInput (Gen load) input = Unit {0}
 
 -- all that a source has left is known, not too long, and good

@@ -3,7 +3,7 @@ use Rattle.std.specs.Prelude.{◌≡◌, ℕ, List, [], ◌∷◌, Bool, true, f
 use Rattle.ib_io.specs.Numbers.{number_of}
 use Rattle.ib_script.specs.Loads.{is_load}
 use Rattle.ib_tool.specs.declared.form.Form.{Form}
-use Rattle.ib_tool.specs.declared.form.Form.TheVariants.{Run, Fast, Raw, Latch, Replay, Upgrade, Gen}
+use Rattle.ib_tool.specs.declared.form.Form.TheVariants.{Run, Fast, Raw, Latch, Replay, Upgrade, Restore, Gen}
 
 -- a form of one word
 abbrev pub form_named : List ℕ → Option Form
@@ -14,6 +14,7 @@ form_named word =
     else if bytes_eq word (codes "latch") then Some Latch
     else if bytes_eq word (codes "replay") then Some Replay
     else if bytes_eq word (codes "upgrade") then Some Upgrade
+    else if bytes_eq word (codes "restore") then Some Restore
     else None
 
 -- generating from these numbers, where a script may be
@@ -39,7 +40,7 @@ abbrev pub reads : Form → Bool
 reads (Gen load) = false
 reads _ = true
 
--- it names neither `fast` nor `upgrade`
+-- it names none of `fast`, `upgrade` and `restore`
 abbrev pub usage_line : List ℕ
 usage_line = codes "usage: ib_tool run | raw | latch | replay | gen N SEED SESSIONS\n"
 

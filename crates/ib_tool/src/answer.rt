@@ -15,6 +15,7 @@ use crate::form::Form;
 use crate::print::{Bytes, CountText, RunText};
 use crate::shape::Shape;
 use ib_hash::Guesses;
+use ib_image_form::answer_image;
 use ib_io::{INPUT_BYTES, Sink, Status, refuse, tell};
 use ib_latch_form::answer_events;
 use ib_replay::write_log;
@@ -135,6 +136,7 @@ pub fn answer<K: Sink, G: Gate + Sync, R: Threads + Wait + Sync>(
         Form::Latch => answer_events(alloc, input, sink),
         Form::Replay => answer_log(alloc, input, sink),
         Form::Upgrade => answer_upgrade(alloc, input, sink),
+        Form::Restore => answer_image(alloc, input, sink),
         Form::Gen { load } => answer_load(rt, alloc, load, sink, gate),
     }
 }

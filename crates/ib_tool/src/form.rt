@@ -22,6 +22,8 @@ pub enum Form {
     Replay,
     /// A log of version 1, brought over to the version of today.
     Upgrade,
+    /// An image file, and the map that it restores.
+    Restore,
     /// A script that is generated, and how often each reply came.
     Gen { load: Load },
 }
@@ -50,6 +52,8 @@ fn form_named(word: &[u8]) -> Option<Form>
         Some(Form::Replay)
     } else if word == b"upgrade".as_slice() {
         Some(Form::Upgrade)
+    } else if word == b"restore".as_slice() {
+        Some(Form::Restore)
     } else {
         None
     }

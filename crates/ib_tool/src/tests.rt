@@ -10,6 +10,7 @@ use std::thread::Threads;
 mod events;
 mod full;
 mod gates;
+mod images;
 mod limits;
 mod lines;
 mod replays;

@@ -5,14 +5,14 @@ ghost use Rattle.std.specs.Prelude.{◌<◌};
 use super::*;
 
 // The first words of the keys `10`, `11` and `12`. The second one is 2, since they have two bytes.
-const TEN: u64 = 0x3130_0000_0000_0000;
+pub(crate) const TEN: u64 = 0x3130_0000_0000_0000;
 
 const ELEVEN: u64 = 0x3131_0000_0000_0000;
 
 const TWELVE: u64 = 0x3132_0000_0000_0000;
 
 // Session 1 inserts 10 with 100 and then 11 with 110, on page 1.
-const LOG: [u64; 46] = [
+pub(crate) const LOG: [u64; 46] = [
     0x1_0001_0009,
     1,
     TEN,

@@ -1,0 +1,10 @@
+pub mod CopyLaws
+pub mod OnePageLaws
+pub mod CopyingLaws
+pub mod WriteLaws
+pub mod TailLaws
+pub mod ApplyLaws
+pub mod ParsedLaws
+pub mod RestoreLaws
+pub mod OneImage
+pub mod LogCopyLaws

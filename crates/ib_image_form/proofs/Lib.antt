@@ -1,0 +1,2 @@
+pub mod RestoredLaws
+mod Refusals

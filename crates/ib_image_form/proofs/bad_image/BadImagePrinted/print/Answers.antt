@@ -1,0 +1,5 @@
+use Rattle.ib_io.proofs.Writing.{puts_on}
+use Rattle.ib_image_form.proofs.bad_image.BadImagePrinted.print.Goals as goal
+
+pub returns : goal.returns
+returns g c = record { puts = puts_on (puts_on c.text.ensures.puts c.print_fault.ensures.puts) c.byte.ensures.puts }

@@ -1,0 +1,33 @@
+//! What is printed of an image file: the map that it restores.
+
+ghost use Rattle.std.specs.Prelude.{◌≡◌};
+ghost use Rattle.ib_io.specs.Told.{IsWritten, TellsFault, ends};
+ghost use Rattle.ib_text.specs.Output.{map_text};
+
+use ib_image::Restored;
+use ib_io::{Printed, Sink, Status, Writer, tell};
+use ib_text::{all_pairs, print_map};
+
+// What an image file restores. Its text is the map.
+#[derive(Drop)]
+struct MapText {
+    restored: Restored,
+}
+
+impl Printed for MapText {
+    ghost use Rattle.ib_text.specs.Output.{map_text};
+
+    ghost text = { λ t. map_text t.restored.map };
+
+    fn print<K: Sink>(self, writer: &mut Writer<'_, K>) {
+        print_map(writer, all_pairs(self.restored.map()));
+    }
+}
+
+/// Writes the map of what was restored.
+pub fn show<K: Sink>(sink: &mut K, restored: Restored) -> Status
+    ensures told { IsWritten (ends Status.Done (map_text restored.map)) (K.written sink.old) (K.written sink.new) result }
+    ensures write { TellsFault Status.WriteFault result (K.faults sink.old) (K.faults sink.new) }
+{
+    tell(sink, MapText { restored }, Status::Done)
+}
