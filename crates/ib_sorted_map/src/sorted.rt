@@ -1,7 +1,7 @@
 //! The sorted map as a search tree.
 
-ghost use Rattle.std.specs.Prelude.{◌≡◌, ◌≢◌, ◌↔◌, [], Some, None, length, IsTrue, IsSome, IsNone, OnOk, OnErr, IfOk, IfErr};
-ghost use Rattle.ib_map.specs.Pairs.{put, without, value_at, cut};
+ghost use Rattle.std.specs.Prelude.{◌≡◌, [], Some, None, length, OnOk, IfOk};
+ghost use Rattle.ib_map.specs.Pairs.{put, value_at, cut};
 ghost use Rattle.ib_map.specs.Map.{IsMap};
 ghost use Rattle.ib_map.specs.Changes.{HasInserted, HasDeleted};
 
