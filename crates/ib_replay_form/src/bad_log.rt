@@ -1,9 +1,9 @@
 //! The line that tells why a raw log is refused.
 
-ghost use Rattle.std.specs.Prelude.{◌≡◌, ◌++◌, [], codes, decimal};
-ghost use Rattle.std.specs.Io.KnownBytes.{Appends};
-ghost use Rattle.ib_io.specs.Told.{IsWritten, TellsFault, ends};
+ghost use Rattle.std.specs.Prelude.{◌≡◌, ◌++◌, codes, decimal};
+ghost use Rattle.ib_io.specs.Told.{IsOutOfMemoryWhere, TellsFault, Told};
 ghost use Rattle.ib_io.specs.Writer.{Puts};
+ghost use Rattle.ib_replay_form.specs.Answers.{OwesLogFault};
 ghost use Rattle.ib_replay_form.specs.Replaying.{bad_log_line, full_text, log_fault_text, unlawful_text, word_text};
 
 use ib_io::{Printed, Sink, Status, Writer, tell};
@@ -86,8 +86,7 @@ impl Printed for BadLog {
 
 /// Writes where a raw log is refused, and why; want of memory is no fault of a log.
 pub fn refuse<K: Sink>(sink: &mut K, fault: LogFault) -> Status
-    ensures told { (fault ≡ LogFault.OutOfMemory → ⊥) → IsWritten (ends Status.BadLog (bad_log_line fault)) (K.written sink.old) (K.written sink.new) result }
-    ensures memory { fault ≡ LogFault.OutOfMemory → (result ≡ Status.Memory) × Appends (K.written sink.old) (K.written sink.new) [] }
+    ensures told { Told (OwesLogFault fault) (IsOutOfMemoryWhere (fault ≡ LogFault.OutOfMemory)) (K.written sink.old) (K.written sink.new) result }
     ensures write { TellsFault Status.WriteFault result (K.faults sink.old) (K.faults sink.new) }
 {
     match fault {

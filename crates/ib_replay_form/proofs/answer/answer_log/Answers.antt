@@ -18,5 +18,5 @@ returns-in-Ok-clause-told g c =
 pub returns-in-Err-clause-told : goal.returns-in-Err-clause-told
 returns-in-Err-clause-told g c =
     let input = c.args.input.now in
-    told_refused c.in-Err.fault (IsRawFault input) (AnswersLog input) (file_fault input ≡ None) (λ fault found. inr (fault, found, refl))
-    _ _ _ c.in-Err.ensures.fault (λ is. c.in-Err.ensures.memory (ap Err is)) c.refuse.ensures.told c.refuse.ensures.memory
+    told_refused (IsRawFault input) (AnswersLog input) (file_fault input ≡ None) (λ fault found. inr (fault, found, refl))
+    c.in-Err.fault _ _ _ c.in-Err.ensures.fault (λ is. c.in-Err.ensures.memory (ap Err is)) c.refuse.ensures.told
