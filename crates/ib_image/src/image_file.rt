@@ -8,6 +8,7 @@ ghost use Rattle.ib_image.specs.Copies.{first_place};
 ghost use Rattle.ib_image.specs.ImageFiles.{image_bytes, image_numbers, number_of, page_numbers};
 
 use crate::copy::{CopiedPage, FuzzyCopy};
+use crate::front::number_of;
 use byteorder::{BigEndian, ByteOrder};
 use ib_map::PAGE_WORDS;
 use ib_page::Image;
@@ -72,12 +73,25 @@ fn write_head(pages: u64, first: u64, out: &mut [u8])
     BigEndian::write_u64(&mut out[16..], first);
 }
 
+/// How many bytes the image file of a copy has, with these words as its tail.
+///
+/// ```
+/// let mut out = vec![in alloc; 0; image_len(&copy, tail)]?;
+/// ```
+pub fn image_len(copy: &FuzzyCopy, tail: &[u64]) -> usize
+    requires { length tail.now < 2 ^ 32 }
+    ensures { result ≡ 8 * (number_of (length copy.now.pages) + length tail.now) }
+{
+    8 * (number_of(copy.pages.len()) + tail.len())
+}
+
 /// Writes the image file of a copy and the words of its tail: the text `IBIMG572`, the number of pages, the place of
 /// page 0, each page's place and words, and the words of the tail. Those are the words of the log from the copy's
 /// `tail_word` on. It takes no memory.
 ///
 /// ```
 /// let tail = &closed.log()[copy.tail_word() as usize..];
+/// let mut out = vec![in alloc; 0; image_len(&copy, tail)]?;
 /// write_image(&copy, tail, &mut out);
 /// ```
 pub fn write_image(copy: &FuzzyCopy, tail: &[u64], out: &mut [u8])

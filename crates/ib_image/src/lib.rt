@@ -18,7 +18,7 @@ mod tail;
 pub use copy::{CopiedPage, FuzzyCopy};
 pub use copying::copy_all;
 pub use fault::ImageFault;
-pub use image_file::{IMAGE_FORM, write_image};
+pub use image_file::{IMAGE_FORM, image_len, write_image};
 pub use laws::{copy_law, file_law};
 pub use reading::restore;
 pub use restored::Restored;

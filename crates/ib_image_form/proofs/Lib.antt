@@ -1,2 +1,2 @@
 pub mod RestoredLaws
-mod Refusals
+mod CopyLaws

@@ -1,2 +1,3 @@
 pub mod Restoring
 pub mod Answers
+pub mod Copying

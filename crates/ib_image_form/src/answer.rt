@@ -5,10 +5,10 @@ ghost use Rattle.ib_io.specs.Told.{IsOutOfMemoryWhere, TellsFault, Told};
 ghost use Rattle.ib_image.specs.ImageFaults.{front_fault};
 ghost use Rattle.ib_image_form.specs.Answers.{AnswersImage};
 
-use crate::bad_image::refuse;
+use crate::bad_image::BadImage;
 use crate::restored_map::show;
-use ib_image::restore;
-use ib_io::{INPUT_BYTES, Sink, Status};
+use ib_image::{ImageFault, restore};
+use ib_io::{INPUT_BYTES, Sink, Status, tell};
 use std::alloc::Global;
 
 /// Answers an image file that was read: writes the map that it restores, or tells where it is refused and why. Memory may
@@ -20,6 +20,9 @@ pub fn answer_image<K: Sink>(alloc: Global, input: &[u8], sink: &mut K) -> Statu
 {
     match restore(alloc, input) {
         Ok(restored) => show(sink, restored),
-        Err(fault) => refuse(sink, fault),
+        Err(fault) => match fault {
+            ImageFault::OutOfMemory => Status::Memory,
+            _ => tell(sink, BadImage { fault }, Status::BadLog),
+        },
     }
 }

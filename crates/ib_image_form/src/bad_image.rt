@@ -1,14 +1,12 @@
 //! The line that tells why an image file is refused.
 
-ghost use Rattle.std.specs.Prelude.{◌≡◌, ◌++◌, [], codes};
-ghost use Rattle.std.specs.Io.KnownBytes.{Appends};
-ghost use Rattle.ib_io.specs.Told.{IsWritten, TellsFault, ends};
+ghost use Rattle.std.specs.Prelude.{◌++◌, codes};
 ghost use Rattle.ib_io.specs.Writer.{Puts};
 ghost use Rattle.ib_replay_form.specs.Replaying.{log_fault_text};
-ghost use Rattle.ib_image_form.specs.Restoring.{bad_image_line, image_fault_text};
+ghost use Rattle.ib_image_form.specs.Restoring.{image_fault_text};
 
 use ib_image::ImageFault;
-use ib_io::{Printed, Sink, Status, Writer, tell};
+use ib_io::{Printed, Sink, Writer};
 use ib_logrec::LogFault;
 use ib_replay_form::print_fault as print_log_fault;
 
@@ -38,10 +36,10 @@ fn print_fault<K: Sink>(writer: &mut Writer<'_, K>, fault: ImageFault)
     }
 }
 
-// Why an image file is refused. Its text is `bad image: ` and the fault.
+/// Why an image file is refused. Its text is `bad image: ` and the fault.
 #[derive(Drop)]
-struct BadImage {
-    fault: ImageFault,
+pub struct BadImage {
+    pub fault: ImageFault,
 }
 
 impl Printed for BadImage {
@@ -53,17 +51,5 @@ impl Printed for BadImage {
         writer.text(b"bad image: ");
         print_fault(writer, self.fault);
         writer.byte(b'\n');
-    }
-}
-
-/// Writes where an image file is refused, and why; want of memory is no fault of the file.
-pub fn refuse<K: Sink>(sink: &mut K, fault: ImageFault) -> Status
-    ensures told { (fault ≡ ImageFault.OutOfMemory → ⊥) → IsWritten (ends Status.BadLog (bad_image_line fault)) (K.written sink.old) (K.written sink.new) result }
-    ensures memory { fault ≡ ImageFault.OutOfMemory → (result ≡ Status.Memory) × Appends (K.written sink.old) (K.written sink.new) [] }
-    ensures write { TellsFault Status.WriteFault result (K.faults sink.old) (K.faults sink.new) }
-{
-    match fault {
-        ImageFault::OutOfMemory => Status::Memory,
-        _ => tell(sink, BadImage { fault }, Status::BadLog),
     }
 }

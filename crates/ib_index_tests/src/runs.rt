@@ -11,7 +11,7 @@ use ib_index::Index;
 use ib_layout::Geometry;
 use ib_map::{Call, Key, Record, Reply};
 use ib_rule::Pass;
-use ib_runs::{Access, Descents, OpenGate, SessionOut, run_script, run_session};
+use ib_runs::{Access, Descents, Nobody, OpenGate, SessionOut, run_script, run_session};
 use ib_script::{PlainLines, Script, read_script};
 use std::alloc::Global;
 use std::process::Abort;
@@ -95,7 +95,10 @@ fn script(rt: &impl Abort, alloc: Global, text: &[u8]) -> Script
 fn check_shared<A: Access + Sync, R: Abort + Threads + Wait + Sync>(rt: &R, alloc: Global) {
     let text = b"space 16 16384\ninsert 1 10\nsession 3\ninsert 3 30\nscan 3 3\n";
     let script = script(rt, alloc, text);
-    let ran = run_script::<A, _, _>(rt, alloc, &script, &OpenGate).expect(rt, "there is memory");
+    let ran = run_script::<A, _, _, _>(rt, alloc, &script, &mut Nobody, &OpenGate).expect(
+        rt,
+        "there is memory",
+    );
     assert_eq!(rt; ran.sessions.len(), 3);
     assert_eq!(rt; ran.history.len(), 2);
     let three = key(rt, b"3");
@@ -121,10 +124,13 @@ fn the_least_and_the_greatest_key(rt: HostRuntime) {
     let text =
         b"space 16 16384\ninsert x:ffffffffffffffffffffffffffffff 1\ninsert x: 2\nscan x: x:ffffffffffffffffffffffffffffff\nscan 5 3\n";
     let script = script(&rt, rt.alloc(), text);
-    let ran = run_script::<Descents, _, _>(&rt, rt.alloc(), &script, &OpenGate).expect(
+    let ran = run_script::<Descents, _, _, _>(
         &rt,
-        "there is memory",
-    );
+        rt.alloc(),
+        &script,
+        &mut Nobody,
+        &OpenGate,
+    ).expect(&rt, "there is memory");
     assert_eq!(rt; ran.sessions.len(), 1);
     let least = Key::least();
     let greatest = Key::greatest();
@@ -194,14 +200,20 @@ fn splits_and_merges(rt: &impl Abort, alloc: Global, log_words: u32) -> Script
 #[test]
 fn a_session_alone_is_answered_the_same_by_guesses(rt: HostRuntime) {
     let script = splits_and_merges(&rt, rt.alloc(), 20_000);
-    let ran = run_script::<Descents, _, _>(&rt, rt.alloc(), &script, &OpenGate).expect(
+    let ran = run_script::<Descents, _, _, _>(
         &rt,
-        "there is memory",
-    );
-    let guessed = run_script::<Guesses, _, _>(&rt, rt.alloc(), &script, &OpenGate).expect(
+        rt.alloc(),
+        &script,
+        &mut Nobody,
+        &OpenGate,
+    ).expect(&rt, "there is memory");
+    let guessed = run_script::<Guesses, _, _, _>(
         &rt,
-        "there is memory",
-    );
+        rt.alloc(),
+        &script,
+        &mut Nobody,
+        &OpenGate,
+    ).expect(&rt, "there is memory");
     assert_eq!(rt; ran.sessions.len(), 1);
     assert_eq!(rt; guessed.sessions.len(), 1);
     assert_eq!(rt; guessed.sessions[0].records(), ran.sessions[0].records());
@@ -220,10 +232,13 @@ fn a_first_log_that_gets_full(rt: HostRuntime) {
     // Both are run on a log of 10,900 words first, which gets full. The first script has a longer one.
     for (log_words, is_full) in [(20_000, false), (10_900, true)] {
         let script = splits_and_merges(&rt, rt.alloc(), log_words);
-        let ran = run_script::<Descents, _, _>(&rt, rt.alloc(), &script, &OpenGate).expect(
+        let ran = run_script::<Descents, _, _, _>(
             &rt,
-            "there is memory",
-        );
+            rt.alloc(),
+            &script,
+            &mut Nobody,
+            &OpenGate,
+        ).expect(&rt, "there is memory");
         assert_eq!(rt; ran.sessions.len(), 1);
         assert_eq!(rt; tells_full(ran.sessions[0].records()), is_full);
         assert_eq!(rt; ran.history.len() == 52, !is_full);

@@ -1,6 +1,6 @@
 -- Runs in which no reply tells of a full log: how they are told apart, and that they could have come of a longer log.
 use Rattle.std.specs.List.{AllByRecursion, list_any}
-use Rattle.std.proofs.Common.{◌≡◌, ◌∙◌, ◌↔◌, ℕ, zero, suc, ◌≤◌, false, List, [], ◌∷◌, map, drop, get_or, refl, subst, arith}
+use Rattle.std.proofs.Common.{◌≡◌, ◌∙◌, ◌↔◌, ℕ, zero, suc, ◌≤◌, false, List, [], ◌∷◌, map, drop, get_or, refl, ap, subst, arith}
 use Rattle.ib_map.specs.FullRecords.{chunk_count, full_records}
 use Rattle.ib_map.specs.Keys.{MapKey}
 use Rattle.ib_map.specs.Replies.{FullRecord, Span}
@@ -108,17 +108,26 @@ module _ (small big : Sizes) (same : small.pages ≡ big.pages) (longer : small.
     };
   }
 
-  -- so is what came of a script's run
-  pub ran_wider : (ran : Ran) → AreNeverFull (map answers_of ran.sessions.items) → HasRan small commands ran → HasRan big commands ran
-  ran_wider ran room h = record {
-    log = h.log;
-    outcome = outcome_wider (map answers_of ran.sessions.items) h.log room h.outcome;
-    pages_are = h.pages_are ∙ same;
-    words = h.words;
-    read_off = record {
-      history_is = h.read_off.history_is;
-      walked = subst (λ (n : ℕ). ran.map ≡ content_of (pages_after (by_place opening n) h.log) 1) same h.read_off.walked;
-      map_is = h.read_off.map_is;
-    };
-    whole = h.whole;
-  }
+  -- so is what came of a script's run, of the same log
+  pub ran_wider : (ran : Ran) → AreNeverFull (map answers_of ran.sessions.items) → (h : HasRan small commands ran) → (wider : HasRan big commands ran) × (wider.log ≡ h.log)
+  ran_wider ran room h = (
+    record {
+      log = h.log;
+      outcome = outcome_wider (map answers_of ran.sessions.items) h.log room h.outcome;
+      pages_are = h.pages_are ∙ same;
+      words = h.words;
+      read_off = record {
+        history_is = h.read_off.history_is;
+        walked = subst (λ (n : ℕ). ran.map ≡ content_of (pages_after (by_place opening n) h.log) 1) same h.read_off.walked;
+        map_is = h.read_off.map_is;
+      };
+      whole = h.whole;
+    },
+    refl,
+  )
+
+  -- .. where the logs are as long
+  pub ran_same : (ran : Ran) → small.log_words ≡ big.log_words → (h : HasRan small commands ran) → (wider : HasRan big commands ran) × (wider.log ≡ h.log)
+  ran_same ran long h =
+      let one : small ≡ big = ap (λ n. record { pages = n; log_words = small.log_words }) same ∙ ap (λ n. record { pages = big.pages; log_words = n }) long in
+      subst (λ (k : Sizes). (wider : HasRan k commands ran) × (wider.log ≡ h.log)) one (h, refl)

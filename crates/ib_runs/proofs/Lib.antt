@@ -8,6 +8,7 @@ mod AnswerLaws
 mod ChunkLaws
 mod EndLaws
 mod FullLogLaws
+mod GuestLaws
 mod OutcomeLaws
 mod ReadLaws
 mod ReadOffLaws

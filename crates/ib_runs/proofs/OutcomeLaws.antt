@@ -1,6 +1,6 @@
 -- From all sessions' turns, and the log that the closed space keeps, to one legal run.
 use Rattle.std.specs.List.{AllByRecursion}
-use Rattle.std.proofs.Common.{◌≡◌, inl, inr, ℕ, ◌+◌, ◌-◌, ◌<◌, zero, suc, true, false, List, [], ◌∷◌, ◌++◌, map, filter, length, eqb, cond, refl, sym, ap, subst, ◌∙◌, arith, append_assoc, length-append, length-drop, drop}
+use Rattle.std.proofs.Common.{◌≡◌, inl, inr, ℕ, ◌+◌, ◌-◌, ◌<◌, ◌≤◌, zero, suc, true, false, List, [], ◌∷◌, ◌++◌, map, filter, length, eqb, cond, refl, sym, ap, subst, ◌∙◌, arith, append_assoc, length-append, length-drop, drop}
 use Rattle.std.specs.Prelude.{slice_index_or}
 use Rattle.std.proofs.lemmas.Bool.{cases_lt, ne_eqb}
 use Rattle.std.proofs.lemmas.List.{length-map, length-take-le}
@@ -28,9 +28,11 @@ use Rattle.ib_rule.specs.Space.{SpaceState}
 use Rattle.ib_rule.specs.Views.{ended_as}
 use Rattle.ib_rule.specs.declared.view.Ended.{Ended}
 use Rattle.ib_runs.specs.Answers.{KeptAnswers, IsWhole, answers_of, calls_in}
+use Rattle.ib_runs.specs.Guests.{AreGuests}
 use Rattle.ib_runs.specs.Sessions.{HasAnswered, changes_in, index_space}
 use Rattle.ib_runs.specs.Turns.{AllDone, AreDone}
 use Rattle.ib_runs.specs.Outcomes.{HasLog, IsOutcome}
+use Rattle.ib_runs.proofs.TurnLaws.{ended-parts}
 
 -- a session's changes in a log's history are those of its entries
 changes-entries : (n : ℕ) (log : List Entry) → changes_of n (history_of log) ≡ changes_in (entries_of n log)
@@ -95,6 +97,15 @@ module _ (sizes : Sizes) (log : List Entry) where
       (subst (λ ls. AreDone sizes (λ k. slice_index_or ls (k - 1) []) (n + 1) qs outs) (sym (append_assoc before (calls ∷ []) rest)) done.1) in
       ap (λ x. x ∷ map calls_in (map answers_of outs)) (done.0.answered.same_calls ∙ here) ∙ ap (λ x. calls ∷ x) others
 
+  -- who stands beside the sessions has no entry in the log
+  guests-none : (first : ℕ) (qs : List PassState) → AreGuests first qs → AllByRecursion (EndedFact log) (map (λ (q : PassState). ended_as q.view) qs) → (i : ℕ) → i < length qs → entries_of (first + i) log ≡ []
+  guests-none first [] are ended i lt = absurd (omega arith)
+  guests-none first (q ∷ qs) are ended zero lt =
+      let number : session_number_of q.view.role ≡ first + 0 = ap session_number_of are.0.role ∙ omega arith in
+      subst (λ k. entries_of k log ≡ []) number (ended.0.1 ∙ are.0.unchanged)
+  guests-none first (q ∷ qs) are ended (suc i) lt =
+      subst (λ k. entries_of k log ≡ []) (omega arith) (guests-none (first + 1) qs are.1 ended.1 i (omega arith))
+
   -- all sessions against the log that the closed space keeps
   pub outcome_of : (space : SpaceState) (words : List ℕ) (commands : List (List Call)) (outs : List KeptAnswers) → space.sizes ≡ sizes → AllDone commands outs space → (c : IsClosed IsKeptLog opening sizes words space.ended) → c.log ≡ log
       → used_in words ≡ used log → IsOutcome sizes commands (map answers_of outs) log
@@ -111,14 +122,24 @@ module _ (sizes : Sizes) (log : List Entry) where
       kept : IsKeptLog sizes.pages log
       kept = subst (IsKeptLog sizes.pages) log_is c.legal
 
-      ended : AllByRecursion (EndedFact log) (map (λ (q : PassState). ended_as q.view) all.passes)
-      ended = subst (λ es. AllByRecursion (EndedFact es) (map (λ (q : PassState). ended_as q.view) all.passes)) log_is (subst (AllByRecursion (EndedFact c.log)) all.ended c.sessions)
+      ended : AllByRecursion (EndedFact log) (map (λ (q : PassState). ended_as q.view) all.passes) × AllByRecursion (EndedFact log) (map (λ (q : PassState). ended_as q.view) all.guests)
+      ended = ended-parts log all.passes all.guests (subst (λ es. AllByRecursion (EndedFact es) (map (λ (q : PassState). ended_as q.view) (all.passes ++ all.guests))) log_is (subst (AllByRecursion (EndedFact c.log)) all.ended c.sessions))
 
       others : (n : ℕ) → length space.ended < n → entries_of n log ≡ []
       others n lt = ap (entries_of n) (sym log_is) ∙ c.others n lt
 
-      many : length space.ended ≡ length outs
-      many = ap length all.ended ∙ (length-map all.passes (λ (q : PassState). ended_as q.view) ∙ done-length (λ n. slice_index_or commands (n - 1) []) 1 all.passes outs done)
+      sat : length all.passes ≡ length outs
+      sat = done-length (λ n. slice_index_or commands (n - 1) []) 1 all.passes outs done
+
+      many : length space.ended ≡ length outs + length all.guests
+      many = ap length all.ended ∙ (length-map (all.passes ++ all.guests) (λ (q : PassState). ended_as q.view) ∙ (length-append all.passes all.guests ∙ ap (λ n. n + length all.guests) sat))
+
+      -- a session that is none of those has no entry
+      none-behind : (n : ℕ) → length outs ≤ n → entries_of (suc n) log ≡ []
+      none-behind n le = elim (cases_lt n (length outs + length all.guests)) [
+        | inl lt ↦ subst (λ k. entries_of k log ≡ []) (let s = sat in omega arith) (guests-none (length all.passes + 1) all.guests all.beside ended.1 (n - length outs) (omega arith))
+        | inr far ↦ others (suc n) (let m = many in omega arith)
+      ]
 
       nobody : (n : ℕ) → entries_of n log ≡ [] → IsLegal n []
       nobody n none = record { answers = tt; changes = changes-entries n log ∙ ap changes_in none }
@@ -129,8 +150,8 @@ module _ (sizes : Sizes) (log : List Entry) where
       go : (session : ℕ) → IsLegal session (run_of (map answers_of outs) session)
       go zero = nobody 0 (entries-none sizes.pages log (subst (AreInGrammar sizes.pages) log_is c.grammar))
       go (suc n) = elim (cases_lt n (length outs)) [
-        | inl lt ↦ subst (λ k. IsLegal k (slice_index_or (map answers_of outs) n [])) (omega arith) (legal-done (λ n. slice_index_or commands (n - 1) []) 1 all.passes outs done ended n lt)
-        | inr le ↦ subst (IsLegal (suc n)) (sym (get_or-eq_default (map answers_of outs) [] (let w = wide in omega arith))) (nobody (suc n) (others (suc n) (let m = many in omega arith)))
+        | inl lt ↦ subst (λ k. IsLegal k (slice_index_or (map answers_of outs) n [])) (omega arith) (legal-done (λ n. slice_index_or commands (n - 1) []) 1 all.passes outs done ended.0 n lt)
+        | inr le ↦ subst (IsLegal (suc n)) (sym (get_or-eq_default (map answers_of outs) [] (let w = wide in omega arith))) (nobody (suc n) (none-behind n le))
       ]
 
   -- its log has as many words as its end says

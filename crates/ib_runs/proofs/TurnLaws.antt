@@ -2,8 +2,11 @@
 use Rattle.std.proofs.Common.{◌≡◌, ℕ, ◌+◌, ◌-◌, ◌<◌, suc, List, [], ◌∷◌, ◌++◌, Option, Some, None, All, map, length, refl, sym, ap, subst, ◌∙◌, arith, append_assoc, append-nil, length-append}
 use Rattle.std.proofs.lemmas.List.{length-map, map-append}
 use Rattle.std.proofs.Math.ListN.{get_or-append}
+use Rattle.std.specs.List.{AllByRecursion}
 use Rattle.std.specs.Prelude.{IfSome, slice_index_or}
 use Rattle.ib_map.specs.declared.call.Call.{Call}
+use Rattle.ib_logrec.specs.declared.entry.Entry.{Entry}
+use Rattle.ib_rule.specs.Memory.{EndedFact}
 use Rattle.ib_rule.specs.Pass.{PassState}
 use Rattle.ib_rule.specs.Space.{SpaceState}
 use Rattle.ib_rule.specs.Views.{ended_as}
@@ -71,6 +74,21 @@ outs_left {S = S} all front t outs more first is put are =
 pub ended_passes : {S : Type 0} → (ts : List (Turn S)) → map (λ (u : Turn S). ended_as u.pass.view) ts ≡ map (λ (p : PassState). ended_as p.view) (map (λ (u : Turn S). u.pass) ts)
 ended_passes [] = refl
 ended_passes (t ∷ ts) = ap (λ es. ended_as t.pass.view ∷ es) (ended_passes ts)
+
+-- all that have ended: those that had their turn, and those beside them
+pub all_gone : {S : Type 0} → (ts : List (Turn S)) (qs : List PassState) (before : List Ended) → before ≡ []
+    → map (λ (u : Turn S). ended_as u.pass.view) ts ++ (map (λ (p : PassState). ended_as p.view) qs ++ before) ≡ map (λ (p : PassState). ended_as p.view) (map (λ (u : Turn S). u.pass) ts ++ qs)
+all_gone {S = S} ts qs before none =
+    ap (λ es. map (λ (u : Turn S). ended_as u.pass.view) ts ++ (map (λ (p : PassState). ended_as p.view) qs ++ es)) none
+    ∙ (ap (λ es. map (λ (u : Turn S). ended_as u.pass.view) ts ++ es) (append-nil (map (λ (p : PassState). ended_as p.view) qs))
+    ∙ (ap (λ es. es ++ map (λ (p : PassState). ended_as p.view) qs) (ended_passes ts)
+    ∙ sym (map-append (λ (p : PassState). ended_as p.view) (map (λ (u : Turn S). u.pass) ts) qs)))
+
+-- what is true of all of them is true of both
+pub ended-parts : (log : List Entry) (ps qs : List PassState) → AllByRecursion (EndedFact log) (map (λ (q : PassState). ended_as q.view) (ps ++ qs))
+    → AllByRecursion (EndedFact log) (map (λ (q : PassState). ended_as q.view) ps) × AllByRecursion (EndedFact log) (map (λ (q : PassState). ended_as q.view) qs)
+ended-parts log [] qs all = (tt, all)
+ended-parts log (p ∷ ps) qs all = let rest = ended-parts log ps qs all.1 in ((all.0, rest.0), rest.1)
 
 -- where none had ended before, as many have ended as had their turn
 pub all_ended : {S : Type 0} → (ts : List (Turn S)) (before : List Ended) → before ≡ [] → length (map (λ (u : Turn S). ended_as u.pass.view) ts ++ before) ≡ length ts

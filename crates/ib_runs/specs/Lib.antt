@@ -1,6 +1,7 @@
 pub mod Access
 pub mod Alone
 pub mod Answers
+pub mod Guests
 pub mod Outcomes
 pub mod Sessions
 pub mod Steps

@@ -52,6 +52,11 @@ pub record HasRan (sizes : Sizes) (commands : List (List Call)) (ran : Ran) : Ty
   pub read_off : IsReadOff sizes log ran.history.items ran.map
   pub whole : AllByRecursion IsWhole ran.sessions.items
 
+-- .. and what stands beside the run holds of that log
+pub record HasRanBeside (holds : List Entry → Type 0) (sizes : Sizes) (commands : List (List Call)) (ran : Ran) : Type 0 where
+  pub ran_is : HasRan sizes commands ran
+  pub beside : holds ran_is.log
+
 -- the log that a run was made on is the script's own, or a shorter one that no reply tells to have got full
 pub record IsSettled (sizes : Sizes) (ran : Ran) : Type 0 where
   pub within : ran.closed.sizes.log_words ≤ sizes.log_words

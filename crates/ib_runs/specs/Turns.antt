@@ -1,14 +1,16 @@
 -- The turns of all sessions.
-use Rattle.std.specs.Prelude.{◌≡◌, ℕ, ◌+◌, ◌-◌, ◌≤◌, ⊤, List, [], ◌∷◌, length, map, IfSome, slice_index_or}
+use Rattle.std.specs.Prelude.{◌≡◌, ℕ, ◌+◌, ◌-◌, ◌<◌, ◌≤◌, ⊤, All, List, [], ◌∷◌, ◌++◌, length, map, IfSome, slice_index_or}
 use Rattle.ib_map.specs.declared.call.Call.{Call}
 use Rattle.ib_layout.specs.Geometry.{Sizes}
 use Rattle.ib_rule.specs.declared.view.Role.TheVariants.{Session}
 use Rattle.ib_rule.specs.Pass.{PassState}
 use Rattle.ib_rule.specs.Space.{SpaceState}
 use Rattle.ib_rule.specs.Views.{ended_as, seated}
+use Rattle.ib_script.specs.Script.{IsSmall, ScriptValue}
 use Rattle.ib_runs.specs.declared.turns.Turn.{Turn}
 use Rattle.ib_runs.specs.Answers.{KeptAnswers, IsWhole, answers_of}
 use Rattle.ib_rule.specs.Pass.{IsAtRest}
+use Rattle.ib_runs.specs.Guests.{AreGuests}
 use Rattle.ib_runs.specs.Sessions.{HasAnswered}
 
 -- a session that has done nothing yet, one of so many
@@ -24,6 +26,19 @@ pub record HasTurned {S : Type 0} (space : SpaceState) (commands : List (List Ca
   pub number : new.pass.number ≡ old.pass.number
   pub role : new.pass.view.role ≡ Session new.pass.number
   pub answered : IfSome new.answers (λ out. IsWhole out × HasAnswered space.sizes (slice_index_or commands (old.pass.number - 1) []) (answers_of out) old.pass new.pass)
+
+-- a script's sessions may have their turns on a space: they have done nothing yet, and each has a seat of what serves the space
+pub record MayTurn {S : Type 0} (sits : S → Type 0) (serves : Type 0) (space : SpaceState) (script : ScriptValue) (turns : List (Turn S)) : Type 0 where
+  pub small : IsSmall script
+  pub served : serves
+  pub seated : All (λ t. sits t.seat) turns
+  pub ready : All (λ t. HasNotBegun space (length script.commands) t.pass) turns
+
+-- .. and afterwards each has had its own
+pub record HaveTurned {S : Type 0} (sits : S → Type 0) (space : SpaceState) (commands : List (List Call)) (old new : List (Turn S)) : Type 0 where
+  pub len : length new ≡ length old
+  pub seated : All (λ t. sits t.seat) new
+  pub turned : (i : ℕ) (d : Turn S) → i < length old → HasTurned space commands (slice_index_or old i d) (slice_index_or new i d)
 
 -- the numbers go up from n
 abbrev pub AreNumbered : ℕ → List PassState → Type 0
@@ -45,10 +60,12 @@ AreDone sizes commands n [] (out ∷ outs) = ⊥
 AreDone sizes commands n (q ∷ qs) [] = ⊥
 AreDone sizes commands n (q ∷ qs) (out ∷ outs) = IsDone sizes (commands n) n out q × AreDone sizes commands (n + 1) qs outs
 
--- the sessions of a space, of which there are as many as lists of commands, have all had their turn, and have ended
+-- the sessions of a space, of which there are as many as lists of commands, have all had their turn, and have ended, and so have those beside them
 pub record AllDone (commands : List (List Call)) (outs : List KeptAnswers) (space : SpaceState) : Type 0 where
   pub passes : List PassState
+  pub guests : List PassState
   pub count : length passes ≡ length commands
   pub done : AreDone space.sizes (λ n. slice_index_or commands (n - 1) []) 1 passes outs
-  pub drawn : space.drawn ≡ length passes
-  pub ended : space.ended ≡ map (λ p. ended_as p.view) passes
+  pub beside : AreGuests (length passes + 1) guests
+  pub drawn : space.drawn ≡ length passes + length guests
+  pub ended : space.ended ≡ map (λ p. ended_as p.view) (passes ++ guests)

@@ -74,7 +74,8 @@ pub(crate) fn met_full_log(sessions: &[SessionOut]) -> bool
 pub(crate) fn is_settled(ran: &Ran, first: Geometry, sizes: Geometry) -> bool
     requires pages { first.pages ≡ sizes.pages }
     requires log { first.log_words ≤ sizes.log_words }
-    ensures settled { result ≡ true → (commands : List (List Call)) → HasRan first commands ran.now → HasRan sizes commands ran.now }
+    ensures settled { result ≡ true → (commands : List (List Call)) (of_first : HasRan first commands ran.now)
+        → (ran_is : HasRan sizes commands ran.now) × (ran_is.log ≡ of_first.log) }
     ensures told { result ≡ true → (first.log_words ≡ sizes.log_words) ⊎ AreNeverFull (map answers_of ran.now.sessions.items) }
     ensures again { result ≡ false → (first.log_words < sizes.log_words) × (AreNeverFull (map answers_of ran.now.sessions.items) → ⊥) }
 {

@@ -2,6 +2,7 @@
 #![tactic(auto)]
 
 mod access;
+mod beside;
 mod descents;
 mod first_log;
 mod gate;
@@ -14,6 +15,7 @@ mod session_out;
 mod turns;
 
 pub use access::Access;
+pub use beside::{Beside, Nobody};
 pub use descents::Descents;
 pub use gate::{Gate, OpenGate};
 pub use laws::alone_law;

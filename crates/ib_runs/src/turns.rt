@@ -1,12 +1,17 @@
 //! The turns of all sessions: each comes, has its commands answered beside all others, and goes.
 
-ghost use Rattle.std.specs.Prelude.{◌≡◌, ◌≤◌, ◌<◌, ◌+◌, ◌∷◌, ◌++◌, ℕ, [], All, IfSome, Some, true, length, map, slice_index_or};
+ghost use Rattle.std.specs.Prelude.{◌≡◌, ◌≤◌, ◌<◌, ◌+◌, ◌∷◌, ◌++◌, ℕ, [], All, IfSome, List, Some, true, length, map, slice_index_or};
+ghost use Rattle.std.specs.List.{AllByRecursion};
 ghost use Rattle.ib_script.specs.Script.{IsSmall};
+ghost use Rattle.ib_logrec.specs.declared.entry.Entry.{Entry};
+ghost use Rattle.ib_rule.specs.Memory.{EndedFact};
 ghost use Rattle.ib_rule.specs.Views.{ended_as};
 ghost use Rattle.ib_rule.specs.Pass.{IsAtRest};
-ghost use Rattle.ib_runs.specs.Turns.{AllDone, AreNumbered, HasTurned, HasNotBegun};
+ghost use Rattle.ib_runs.specs.Guests.{HaveWorked, MayWork};
+ghost use Rattle.ib_runs.specs.Turns.{AllDone, AreNumbered, HasNotBegun, HasTurned, HaveTurned, MayTurn};
 
 use crate::access::Access;
+use crate::beside::Beside;
 use crate::gate::Gate;
 use crate::session::run_session;
 use crate::session_out::SessionOut;
@@ -15,7 +20,7 @@ use ib_rule::Pass;
 use ib_script::Script;
 use std::alloc::Global;
 use std::sync::Wait;
-use std::thread::{self, Threads};
+use std::thread::{self, Threads, join_mut};
 
 // A session's pass, its seat, and what it was answered, once its turn is over and there was memory.
 pub(crate) struct Turn<S> {
@@ -97,15 +102,44 @@ fn turn_all<A: Access + Sync, G: Gate + Sync, R: Threads + Wait + Sync>(
     gate: &G,
     turns: &mut Vec<Turn<A::Seat>>,
 )
-    requires small { IsSmall script.now }
-    requires serves { A.serves access.now index.now.sizes.pages }
-    requires sits { All (λ t. A.sits access.now t.seat) turns.old.items }
-    requires ready { All (λ t. HasNotBegun index.now (length script.now.commands) t.pass) turns.old.items }
-    ensures len { length turns.new.items ≡ length turns.old.items }
-    ensures sits { All (λ t. A.sits access.now t.seat) turns.new.items }
-    ensures turned { (i : ℕ) (d : Turn A.Seat) → i < length turns.old.items → HasTurned index.now script.now.commands (slice_index_or turns.old.items i d) (slice_index_or turns.new.items i d) }
+    requires { MayTurn (A.sits access.now) (A.serves access.now index.now.sizes.pages) index.now script.now turns.old.items }
+    ensures { HaveTurned (A.sits access.now) index.now script.now.commands turns.old.items turns.new.items }
 {
     take_turns(rt, alloc, access, index, script, gate, turns.as_mut_slice());
+}
+
+// The turns of all sessions, while whoever stands beside them works.
+fn turn_beside<A: Access + Sync, B: Beside, G: Gate + Sync, R: Threads + Wait + Sync>(
+    rt: &R,
+    alloc: Global,
+    access: &A,
+    index: &Index,
+    script: &Script,
+    gate: &G,
+    beside: &mut B,
+    guest: &mut B::Guest,
+    turns: &mut Vec<Turn<A::Seat>>,
+)
+    requires turns { MayTurn (A.sits access.now) (A.serves access.now index.now.sizes.pages) index.now script.now turns.old.items }
+    requires guests { MayWork (B.serves beside.old index.now.sizes.pages) index.now (B.passes guest.old) }
+    ensures turns { HaveTurned (A.sits access.now) index.now script.now.commands turns.old.items turns.new.items }
+    ensures guests { HaveWorked (B.serves beside.old) (B.serves beside.new) (B.holds beside.new index.now.sizes.pages) index.now (B.passes guest.old) (B.passes guest.new) }
+{
+    if !beside.is_there() {
+        turn_all(rt, alloc, access, index, script, gate, turns);
+        return;
+    }
+    join_mut(
+        rt,
+        &mut ||
+            requires { MayWork (B.serves beside.now index.now.sizes.pages) index.now (B.passes guest.now) }
+            ensures { HaveWorked (B.serves beside.entry.now) (B.serves beside.exit.now) (B.holds beside.exit.now index.entry.now.sizes.pages) index.entry.now (B.passes guest.entry.now) (B.passes guest.exit.now) }
+        { beside.work(rt, index, guest, gate) },
+        &mut ||
+            requires { MayTurn (A.sits access.now) (A.serves access.now index.now.sizes.pages) index.now script.now turns.now.items }
+            ensures { HaveTurned (A.sits access.entry.now) index.entry.now script.entry.now.commands turns.entry.now.items turns.exit.now.items }
+        { turn_all(rt, alloc, access, index, script, gate, turns) },
+    );
 }
 
 // Turns for the sessions 1 to `count`, or for as many as there was memory for.
@@ -184,22 +218,27 @@ fn leave_all<A: Access>(
     if whole { Some(outs) } else { None }
 }
 
-// All sessions of a script on a new index, up to its end. None where there was no memory for one of them.
-pub(crate) fn run_all<A: Access + Sync, G: Gate + Sync, R: Threads + Wait + Sync>(
+// All sessions of a script on a new index, up to its end, and whoever works beside them. None where there was no memory for
+// one of them.
+pub(crate) fn run_all<A: Access + Sync, B: Beside, G: Gate + Sync, R: Threads + Wait + Sync>(
     rt: &R,
     alloc: Global,
     access: &mut A,
+    beside: &mut B,
     index: &mut Index,
     script: &Script,
     gate: &G,
 ) -> Option<Vec<SessionOut>>
     requires small { IsSmall script.now }
-    requires serves { A.serves access.old index.old.sizes.pages }
+    requires serves { A.serves access.old index.old.sizes.pages × B.serves beside.old index.old.sizes.pages }
     requires unused { A.drawn access.old ≡ 0 }
     requires new { (index.old.drawn ≡ 0) × (index.old.ended ≡ []) }
     ensures sizes { index.new.sizes ≡ index.old.sizes }
     ensures left { length index.new.ended ≡ index.new.drawn }
+    ensures serves { (pages : ℕ) → B.serves beside.old pages → B.serves beside.new pages }
     ensures done { IfSome result (λ outs. AllDone script.now.commands outs.items index.new) }
+    ensures holds { IfSome result (λ _. (log : List Entry) → AllByRecursion (EndedFact log) index.new.ended
+        → B.holds beside.new index.old.sizes.pages log) }
 {
     let count = script.sessions();
     let mut turns = come_all(alloc, access, index, count);
@@ -207,6 +246,13 @@ pub(crate) fn run_all<A: Access + Sync, G: Gate + Sync, R: Threads + Wait + Sync
         let _ = leave_all(alloc, access, index, turns);
         return None;
     }
-    turn_all(rt, alloc, access, index, script, gate, &mut turns);
+    let Ok(mut guest) = beside.connect(alloc, index) else {
+        let _ = leave_all(alloc, access, index, turns);
+        return None;
+    };
+    turn_beside(
+        rt, alloc, access, index, script, gate, beside, &mut guest, &mut turns,
+    );
+    B::disconnect(index, guest);
     leave_all(alloc, access, index, turns)
 }

@@ -16,7 +16,7 @@ use Rattle.ib_image_form.proofs.RestoredLaws.{owed-one}
 use Rattle.ib_tool.specs.Answers.{AnswersInput, HasGood, IsCutOff, IsGoodInput, IsOwedAt, IsServed, IsSilent, IsSilentAt, MayLackInput, Owes, OwesInput}
 use Rattle.ib_tool.specs.Words.{form_of, reads}
 use Rattle.ib_tool.specs.declared.form.Form.{Form}
-use Rattle.ib_tool.specs.declared.form.Form.TheVariants.{Run, Fast, Raw, Latch, Replay, Upgrade, Restore, Gen}
+use Rattle.ib_tool.specs.declared.form.Form.TheVariants.{Run, Fast, Raw, Image, Latch, Replay, Upgrade, Restore, Gen}
 
 -- where want of memory may come anywhere
 pub told_anywhere : (owes : Ending → Type 0) (written now : Option (List ℕ)) (status : Status) → Told owes IsOutOfMemory written now status → Told owes (IsOutOfMemoryWhere (Unit {0})) written now status
@@ -34,6 +34,7 @@ pub told_reading : (form : Form) (old new : Option (List ℕ)) → reads form �
 told_reading Run old new is written now status told = told
 told_reading Fast old new is written now status told = told
 told_reading Raw old new is written now status told = told
+told_reading Image old new is written now status told = told
 told_reading Latch old new is written now status told = told
 told_reading Replay old new is written now status told = told
 told_reading Upgrade old new is written now status told = told
@@ -48,6 +49,7 @@ told_alone (Gen load) old new is keeps written now status told =
 told_alone Run old new is keeps written now status told = absurd (cc)
 told_alone Fast old new is keeps written now status told = absurd (cc)
 told_alone Raw old new is keeps written now status told = absurd (cc)
+told_alone Image old new is keeps written now status told = absurd (cc)
 told_alone Latch old new is keeps written now status told = absurd (cc)
 told_alone Replay old new is keeps written now status told = absurd (cc)
 told_alone Upgrade old new is keeps written now status told = absurd (cc)
@@ -72,6 +74,7 @@ done_input : (form : Form) (input : List ℕ) (e : Ending) → IsGoodInput form 
 done_input Run input e good owed = done_lines _ _ e good owed
 done_input Fast input e good owed = done_lines _ _ e good owed
 done_input Raw input e good owed = done_lines _ _ e good owed
+done_input Image input e good owed = done_lines _ _ e good owed
 done_input Latch input e good owed = done_lines _ _ e good owed
 done_input Replay input e good owed = done_log input e good owed
 done_input Upgrade input e good owed = done_upgrade input e good owed
@@ -89,6 +92,7 @@ done_at : (form : Form) (left new : Option (List ℕ)) (e : Ending) → IsServed
 done_at Run left new e served owed = done_read Run left new e served owed
 done_at Fast left new e served owed = done_read Fast left new e served owed
 done_at Raw left new e served owed = done_read Raw left new e served owed
+done_at Image left new e served owed = done_read Image left new e served owed
 done_at Latch left new e served owed = done_read Latch left new e served owed
 done_at Replay left new e served owed = done_read Replay left new e served owed
 done_at Upgrade left new e served owed = done_read Upgrade left new e served owed
@@ -108,6 +112,7 @@ silences-at : (form : Form) (old new : Option (List ℕ)) (s : Status) → IsSil
 silences-at Run old new s calm = cut-off old new s calm
 silences-at Fast old new s calm = cut-off old new s calm
 silences-at Raw old new s calm = cut-off old new s calm
+silences-at Image old new s calm = cut-off old new s calm
 silences-at Latch old new s calm = cut-off old new s calm
 silences-at Replay old new s calm = cut-off old new s calm
 silences-at Upgrade old new s calm = cut-off old new s calm
@@ -131,6 +136,7 @@ no_fault : (form : Form) (input : List ℕ) (e : Ending) → AnswersInput form i
 no_fault Run input e owed is = no_fault-lines _ _ e owed is
 no_fault Fast input e owed is = no_fault-lines _ _ e owed is
 no_fault Raw input e owed is = no_fault-lines _ _ e owed is
+no_fault Image input e owed is = no_fault-lines _ _ e owed is
 no_fault Latch input e owed is = no_fault-lines _ _ e owed is
 no_fault Replay input e (inl owed) is = let told = ap (λ x. x.status) owed.3 in absurd (cc)
 no_fault Replay input e (inr owed) is = let told = ap (λ x. x.status) owed.2 in absurd (cc)

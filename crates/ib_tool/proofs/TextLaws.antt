@@ -1,7 +1,9 @@
 -- What a run of a script gives is one of its texts.
 use Rattle.std.proofs.Common.{◌≡◌, ◌∙◌, ◌<◌, ◌≤◌, ◌^◌, ℕ, List, ap, sym, subst, length, map, true, arith}
 use Rattle.ib_layout.specs.declared.geometry.TheConstants.{MOST_LOG_WORDS}
-use Rattle.ib_logrec.specs.Log.{history_of, log_words}
+use Rattle.ib_layout.specs.Geometry.{Sizes}
+use Rattle.ib_logrec.specs.declared.entry.Entry.{Entry}
+use Rattle.ib_logrec.specs.Log.{by_place, history_of, log_words, map_of}
 use Rattle.ib_map.specs.History.{History}
 use Rattle.ib_map.specs.Pairs.{Pairs}
 use Rattle.ib_map.specs.Space.{has_pages}
@@ -15,7 +17,14 @@ use Rattle.ib_script.specs.Script.{ScriptValue}
 use Rattle.ib_script.specs.declared.load.Load.{Load}
 use Rattle.ib_text.specs.Output.{output_of}
 use Rattle.ib_tool.specs.Counts.{counts_of}
-use Rattle.ib_tool.specs.Texts.{IsCountText, IsRawText, IsRunText}
+use Rattle.ib_tree.proofs.LogLaws.{content_of-after}
+use Rattle.ib_tree.proofs.OpeningLaws.{opens, opens-empty}
+use Rattle.ib_tree.specs.TreeLog.{IsTreeLog, opening}
+use Rattle.ib_tool.specs.Texts.{IsCountText, IsRawText, IsRunText, map_in}
+
+-- the pages after a lawful log hold its map
+pub map-walked : (sizes : Sizes) (log : List Entry) → has_pages sizes.pages ≡ true → IsTreeLog sizes.pages log → map_in sizes log ≡ map_of log
+map-walked sizes log has lawful = content_of-after sizes.pages 1 (by_place opening sizes.pages) (opens sizes.pages has) (opens-empty sizes.pages) log lawful
 
 module _ (script : ScriptValue) (ran : Ran) (h : HasRan script.sizes script.commands ran) where
   -- the text

@@ -25,9 +25,9 @@ use Rattle.ib_image_form.specs.Answers.{AnswersImage}
 use Rattle.ib_tool.specs.Texts.{IsCountText, IsWrittenRun}
 use Rattle.ib_tool.specs.Words.{form_of, usage_line, too_large_line}
 use Rattle.ib_tool.specs.declared.form.Form.{Form}
-use Rattle.ib_tool.specs.declared.form.Form.TheVariants.{Run, Fast, Raw, Latch, Replay, Upgrade, Restore, Gen}
+use Rattle.ib_tool.specs.declared.form.Form.TheVariants.{Run, Fast, Raw, Image, Latch, Replay, Upgrade, Restore, Gen}
 use Rattle.ib_tool.specs.declared.shape.Shape.{Shape}
-use Rattle.ib_tool.specs.declared.shape.Shape.TheVariants.{Text, File}
+use Rattle.ib_tool.specs.declared.shape.Shape.TheVariants.{Text, File, Image as ImageShape}
 
 -- what may be written for the lines of a script
 abbrev pub IsScriptText : Shape → List ℕ → List ℕ → Type 0
@@ -42,6 +42,7 @@ abbrev pub AnswersInput : Form → List ℕ → Ending → Type 0
 AnswersInput Run input e = AnswersScript Text input e
 AnswersInput Fast input e = AnswersScript Text input e
 AnswersInput Raw input e = AnswersScript File input e
+AnswersInput Image input e = AnswersScript ImageShape input e
 AnswersInput Latch input e = AnswersEvents input e
 AnswersInput Replay input e = AnswersLog input e
 AnswersInput Upgrade input e = AnswersUpgrade input e
@@ -53,6 +54,7 @@ abbrev pub MayLackInput : Form → List ℕ → Type 0
 MayLackInput Run input = first_fault (readings_by reading_of input) ≡ None
 MayLackInput Fast input = first_fault (readings_by reading_of input) ≡ None
 MayLackInput Raw input = first_fault (readings_by reading_of input) ≡ None
+MayLackInput Image input = first_fault (readings_by reading_of input) ≡ None
 MayLackInput Latch input = event_fault input ≡ None
 MayLackInput Replay input = file_fault input ≡ None
 MayLackInput Upgrade input = old_file_fault input ≡ None
@@ -94,6 +96,7 @@ abbrev pub IsGoodInput : Form → List ℕ → Type 0
 IsGoodInput Run input = first_fault (readings_by reading_of input) ≡ None
 IsGoodInput Fast input = first_fault (readings_by reading_of input) ≡ None
 IsGoodInput Raw input = first_fault (readings_by reading_of input) ≡ None
+IsGoodInput Image input = first_fault (readings_by reading_of input) ≡ None
 IsGoodInput Latch input = event_fault input ≡ None
 IsGoodInput Replay input = (pages : ℕ) × (log : List Entry) × IsRawLog input pages log
 IsGoodInput Upgrade input = (pages : ℕ) × (words : List ℕ) × IsBroughtOver input pages words

@@ -14,9 +14,10 @@ use Rattle.ib_text.specs.Output.{output_of}
 use Rattle.ib_tree.specs.Logs.{pages_after}
 use Rattle.ib_tree.specs.TreeLog.{opening}
 use Rattle.ib_walk.specs.Trees.{content_of}
+use Rattle.ib_image_form.specs.Copying.{IsImageOfRun}
 use Rattle.ib_tool.specs.Counts.{counts_of}
 use Rattle.ib_tool.specs.declared.shape.Shape.{Shape}
-use Rattle.ib_tool.specs.declared.shape.Shape.TheVariants.{Text, File}
+use Rattle.ib_tool.specs.declared.shape.Shape.TheVariants.{Text, File, Image}
 
 -- the map that the pages hold after a log: what a walk of the tree finds whose root is page 1
 abbrev pub map_in : Sizes → List Entry → Pairs
@@ -45,7 +46,8 @@ pub record IsCountText (load : Load) (text : List ℕ) : Type 0 where
   pub outcome : IsOutcome script.sizes script.commands runs log
   pub printed : text ≡ counts_of runs (map_in script.sizes log)
 
--- what is written of a run of a script: its text, or the file of its log
+-- what is written of a run of a script: its text, the file of its log, or the image file of a copy beside its sessions
 abbrev pub IsWrittenRun : Shape → ScriptValue → List ℕ → Type 0
 IsWrittenRun Text script text = IsRunText script text
 IsWrittenRun File script text = IsRawText script text
+IsWrittenRun Image script text = IsImageOfRun script text

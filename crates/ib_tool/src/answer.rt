@@ -4,7 +4,6 @@ ghost use Rattle.std.specs.Prelude.{◌≡◌, ◌<◌, ◌≤◌, ◌^◌, IfOk
 ghost use Rattle.ib_io.specs.Lines.{readings_by};
 ghost use Rattle.ib_io.specs.Told.{IsOutOfMemory, IsOutOfMemoryWhere, TellsFault, Told};
 ghost use Rattle.ib_replay.specs.Files.{AreWords, file_of};
-ghost use Rattle.ib_runs.specs.Outcomes.{HasRan};
 ghost use Rattle.ib_script.specs.Loads.{is_load};
 ghost use Rattle.ib_script.specs.Script.{IsSmall, first_fault, reading_of};
 ghost use Rattle.ib_tool.specs.Answers.{AnswersInput, AnswersScript, MayLackInput};
@@ -15,19 +14,20 @@ use crate::form::Form;
 use crate::print::{Bytes, CountText, RunText};
 use crate::shape::Shape;
 use ib_hash::Guesses;
-use ib_image_form::answer_image;
+use ib_image_form::{answer_image, image_of_run};
 use ib_io::{INPUT_BYTES, Sink, Status, refuse, tell};
 use ib_latch_form::answer_events;
+use ib_map::OutOfMemory;
 use ib_replay::write_log;
 use ib_replay_form::{answer_log, answer_upgrade};
-use ib_runs::{Access, Descents, Gate, Ran, run_script};
+use ib_runs::{Access, Descents, Gate, Nobody, run_script};
 use ib_script::{Load, PlainLines, Script, generate, read_script};
-use std::alloc::{AllocError, Global};
+use std::alloc::Global;
 use std::sync::Wait;
 use std::thread::Threads;
 
 // The file of a log of so many pages and these words.
-fn file_of(alloc: Global, pages: u32, words: &[u64]) -> Result<Vec<u8>, AllocError>
+fn file_of(alloc: Global, pages: u32, words: &[u64]) -> Result<Vec<u8>, OutOfMemory>
     requires { length words.now < 2 ^ 32 }
     ensures bytes { IfOk result (λ bytes. bytes.items ≡ file_of pages words.now) }
     // They are words of 64 bits, and so can be read again.
@@ -38,19 +38,21 @@ fn file_of(alloc: Global, pages: u32, words: &[u64]) -> Result<Vec<u8>, AllocErr
     Ok(bytes)
 }
 
-// Writes the file of the log of a run of a script.
-fn write_file<K: Sink>(alloc: Global, script: &Script, ran: &Ran, sink: &mut K) -> Status
-    requires { HasRan script.now.sizes script.now.commands ran.now }
-    ensures told { Told (λ e. (e.status ≡ Status.Done) × IsRawText script.now e.text) IsOutOfMemory (K.written sink.old) (K.written sink.new) result }
-    ensures write { TellsFault Status.WriteFault result (K.faults sink.old) (K.faults sink.new) }
+// Runs a script: the file of the log of the run.
+fn log_file_of_run<A: Access + Sync, G: Gate + Sync, R: Threads + Wait + Sync>(
+    rt: &R,
+    alloc: Global,
+    script: &Script,
+    gate: &G,
+) -> Result<Vec<u8>, OutOfMemory>
+    requires { IsSmall script.now }
+    ensures { IfOk result (λ bytes. IsRawText script.now bytes.items) }
 {
+    let ran = run_script::<A, _, _, _>(rt, alloc, script, &mut Nobody, gate)?;
     let geometry = script.geometry();
     // For the proof: a log has fewer words than 2^32.
     let _ = geometry.log_words();
-    match file_of(alloc, geometry.pages(), ran.closed.log()) {
-        Ok(bytes) => tell(sink, Bytes { bytes }, Status::Done),
-        Err(_) => Status::Memory,
-    }
+    file_of(alloc, geometry.pages(), ran.closed.log())
 }
 
 // Runs a script, and writes what is asked of the run.
@@ -66,12 +68,19 @@ fn run<A: Access + Sync, K: Sink, G: Gate + Sync, R: Threads + Wait + Sync>(
     ensures told { Told (λ e. (e.status ≡ Status.Done) × IsWrittenRun shape script.now e.text) IsOutOfMemory (K.written sink.old) (K.written sink.new) result }
     ensures write { TellsFault Status.WriteFault result (K.faults sink.old) (K.faults sink.new) }
 {
-    let Ok(ran) = run_script::<A, _, _>(rt, alloc, script, gate) else {
-        return Status::Memory;
-    };
     match shape {
-        Shape::Text => tell(sink, RunText { ran }, Status::Done),
-        Shape::File => write_file(alloc, script, &ran, sink),
+        Shape::Text => match run_script::<A, _, _, _>(rt, alloc, script, &mut Nobody, gate) {
+            Ok(ran) => tell(sink, RunText { ran }, Status::Done),
+            Err(_) => Status::Memory,
+        },
+        Shape::File => match log_file_of_run::<A, _, _>(rt, alloc, script, gate) {
+            Ok(bytes) => tell(sink, Bytes { bytes }, Status::Done),
+            Err(_) => Status::Memory,
+        },
+        Shape::Image => match image_of_run(rt, alloc, script, gate) {
+            Ok(bytes) => tell(sink, Bytes { bytes }, Status::Done),
+            Err(_) => Status::Memory,
+        },
     }
 }
 
@@ -109,7 +118,7 @@ fn answer_load<K: Sink, G: Gate + Sync, R: Threads + Wait + Sync>(
     let Ok(script) = generate(alloc, load) else {
         return Status::Memory;
     };
-    match run_script::<Descents, _, _>(rt, alloc, &script, gate) {
+    match run_script::<Descents, _, _, _>(rt, alloc, &script, &mut Nobody, gate) {
         Ok(ran) => tell(sink, CountText { ran }, Status::Done),
         Err(_) => Status::Memory,
     }
@@ -133,6 +142,9 @@ pub fn answer<K: Sink, G: Gate + Sync, R: Threads + Wait + Sync>(
         Form::Run => answer_script::<Descents, _, _, _>(rt, alloc, Shape::Text, input, sink, gate),
         Form::Fast => answer_script::<Guesses, _, _, _>(rt, alloc, Shape::Text, input, sink, gate),
         Form::Raw => answer_script::<Descents, _, _, _>(rt, alloc, Shape::File, input, sink, gate),
+        Form::Image => {
+            answer_script::<Descents, _, _, _>(rt, alloc, Shape::Image, input, sink, gate)
+        }
         Form::Latch => answer_events(alloc, input, sink),
         Form::Replay => answer_log(alloc, input, sink),
         Form::Upgrade => answer_upgrade(alloc, input, sink),

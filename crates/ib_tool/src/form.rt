@@ -16,6 +16,8 @@ pub enum Form {
     Fast,
     /// The sessions of `run`, and the file of the log alone.
     Raw,
+    /// The sessions of `run`, and one more that copies all pages beside them: the image file of the copy alone.
+    Image,
     /// Events on the latch machine of one thread.
     Latch,
     /// A raw log's changes, one after another.
@@ -46,6 +48,8 @@ fn form_named(word: &[u8]) -> Option<Form>
         Some(Form::Fast)
     } else if word == b"raw".as_slice() {
         Some(Form::Raw)
+    } else if word == b"image".as_slice() {
+        Some(Form::Image)
     } else if word == b"latch".as_slice() {
         Some(Form::Latch)
     } else if word == b"replay".as_slice() {

@@ -1,6 +1,6 @@
 //! The program `ib_tool`: scripts of inserts, deletes, lookups and scans, whose sessions run beside each other on one shared
-//! index, events of the latch machine, raw logs, and logs of version 1, from the bytes that are read to the bytes that are
-//! written.
+//! index, events of the latch machine, raw logs, logs of version 1, and image files, from the bytes that are read to the bytes
+//! that are written.
 #![tactic(auto)]
 
 mod answer;
@@ -20,7 +20,7 @@ pub use ib_io::{
     read_all,
 };
 pub use ib_runs::{Access, Descents, Gate, OpenGate, SessionOut, run_session};
-pub use laws::{raw_law, text_law};
+pub use laws::{raw_law, restored_law, text_law};
 pub use standard::{StdSink, StdSource};
 use std::process::ExitCode;
 pub use top::top;

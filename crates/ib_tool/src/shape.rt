@@ -7,4 +7,6 @@ pub enum Shape {
     Text,
     /// The file of the log.
     File,
+    /// The image file of a copy that is made beside the sessions.
+    Image,
 }

@@ -18,9 +18,10 @@ struct Notes {
     second: [OnceLock<Note>; 2],
 }
 
-fn await_note(note: &OnceLock<Note>) {
+/// Waits until it is set, or the limit of looks.
+pub fn await_set<T: Clone>(cell: &OnceLock<T>) {
     for _ in 0..MOST_LOOKS {
-        if note.get().is_some() {
+        if cell.get().is_some() {
             return;
         }
         thread::yield_now();
@@ -41,8 +42,8 @@ impl Gate for Notes {
         };
         let _ = place.try_set(note);
         match (session, call) {
-            (2, 1) => await_note(&self.first[1]),
-            (1, 2) => await_note(&self.second[1]),
+            (2, 1) => await_set(&self.first[1]),
+            (1, 2) => await_set(&self.second[1]),
             _ => {}
         }
     }

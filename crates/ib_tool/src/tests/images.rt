@@ -1,7 +1,10 @@
-//! `restore`: image files of a space with one insert, and each fault.
+//! `image` and `restore`: image files of a space with one insert, and each fault.
 
+use super::gates::await_set;
 use super::replays::{LOG, TEN};
 use super::*;
+use ib_rule::Pass;
+use std::sync::OnceLock;
 
 // The words of page 1 that are not 0, by their index: in a new space, and after session 1 has inserted 10 with 100.
 const NEW: [(usize, u64); 6] = [(0, 1), (7, 532), (8, 18), (9, 19), (18, 275), (19, 256)];
@@ -91,6 +94,78 @@ fn check_changed(
         *number = word;
     }
     check_image(rt, alloc, 16, &numbers, Status::BadLog, text)
+}
+
+// What has ended, of a script of one session and the session that copies beside it, which is number 2.
+#[derive(Drop)]
+struct Order {
+    copy_first: bool,
+    inserted: OnceLock<()>,
+    copied: OnceLock<()>,
+}
+
+// Holds session 1 until the copy has ended, or the copy until session 1 has.
+impl Gate for Order {
+    fn pause<R: Wait>(&self, _rt: &R, _pass: &Pass, session: u32, call: u32) {
+        match (session, call) {
+            (1, 1) if self.copy_first => await_set(&self.copied),
+            (2, 1) if !self.copy_first => await_set(&self.inserted),
+            (1, 2) => {
+                let _ = self.inserted.try_set(());
+            }
+            (2, 2) => {
+                let _ = self.copied.try_set(());
+            }
+            _ => {}
+        }
+    }
+}
+
+// The file that `image` writes of a script that inserts 10 with 100 into 16 pages, and what `restore` writes of that file.
+fn check_copy(
+    rt: &(impl Abort + Threads + Wait + Sync),
+    alloc: Global,
+    copy_first: bool,
+    numbers: &[u64],
+) -> Result<(), Fail> {
+    let gate = Order {
+        copy_first,
+        inserted: OnceLock::new(),
+        copied: OnceLock::new(),
+    };
+    let script = b"space 16 8196\ninsert 10 100\n";
+    let words = vec![in alloc; String::from_str(alloc, "image")?]?;
+    let mut source = MemorySource::new(Vec::from_slice(alloc, script)?, 1000, Vec::new(alloc));
+    let mut sink = MemorySink::new(alloc, 1000, Vec::new(alloc));
+    let status = top(rt, alloc, &words, &mut source, &mut sink, &gate);
+    assert_eq!(rt; status, Status::Done);
+    let bytes = log_file(alloc, b"IBIMG572", 16, numbers)?;
+    assert!(rt; sink.bytes() == bytes.as_slice());
+    assert!(rt; gate.copied.get().is_some());
+    check_form(rt, alloc, "restore", sink.bytes(), Status::Done, TEXT)
+}
+
+#[test]
+fn a_copy_after_the_session_has_ended(rt: HostRuntime) -> Result<(), Fail> {
+    check_copy(&rt, rt.alloc(), false, &copied_after(rt.alloc())?)
+}
+
+#[test]
+fn a_copy_before_the_session_begins(rt: HostRuntime) -> Result<(), Fail> {
+    check_copy(&rt, rt.alloc(), true, &copied_before(rt.alloc())?)
+}
+
+#[test]
+fn a_bad_script_is_no_image(rt: HostRuntime) -> Result<(), Fail> {
+    let text = b"script: line 2: word\n";
+    check_form(
+        &rt,
+        rt.alloc(),
+        "image",
+        b"get 1\nput 1 2\n",
+        Status::Script,
+        text,
+    )
 }
 
 #[test]

@@ -1,7 +1,7 @@
 use Rattle.std.proofs.Common.{◌≡◌, inr, ◌∙◌, Bool, true, false, List, map, not, refl, subst, sym, arith}
 use Rattle.ib_runs.specs.Alone.{AreNeverFull}
 use Rattle.ib_runs.specs.Answers.{KeptAnswers, answers_of}
-use Rattle.ib_runs.proofs.FullLogLaws.{ran_wider}
+use Rattle.ib_runs.proofs.FullLogLaws.{ran_same, ran_wider}
 use Rattle.ib_runs.proofs.first_log.is_settled.Goals as goal
 
 not-so : (b : Bool) → not b ≡ true → b ≡ false
@@ -11,6 +11,9 @@ not-so false is = refl
 is-so : (b : Bool) → not b ≡ false → b ≡ true
 is-so true is = refl
 is-so false is = absurd (cc)
+
+pub returns-then-log_words-clause-settled : goal.returns-then-log_words-clause-settled
+returns-then-log_words-clause-settled c = λ is commands h. ran_same c.args.first c.args.sizes c.requires.pages c.requires.log commands c.args.ran.now (omega arith) h
 
 pub returns-else-log_words-clause-settled : goal.returns-else-log_words-clause-settled
 returns-else-log_words-clause-settled c = λ is commands h.

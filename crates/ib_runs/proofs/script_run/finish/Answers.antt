@@ -8,10 +8,10 @@ use Rattle.ib_runs.proofs.OutcomeLaws.{done_whole, log_of, outcome_of, used_is}
 use Rattle.ib_runs.proofs.script_run.finish.Goals as goal
 
 pub returns-clause-sizes : goal.returns-clause-sizes
-returns-clause-sizes c = c.in-Ok.ensures.ok.0 ∙ c.requires.sizes
+returns-clause-sizes g c = c.in-Ok.ensures.ok.0 ∙ c.requires.sizes
 
 pub returns-clause-ran : goal.returns-clause-ran
-returns-clause-ran c =
+returns-clause-ran g c =
     let sizes : Sizes = c.args.sizes in
     let words = c.in-Ok.closed.words in
     let ok = c.in-Ok.ensures.ok in
@@ -20,10 +20,13 @@ returns-clause-ran c =
     let log = closed.log in
     let there = log_of sizes log words c.args.index.ended closed refl in
     record {
-      log = log;
-      outcome = outcome_of sizes log c.args.index words c.args.script.now.commands c.args.sessions.items c.requires.sizes c.requires.done closed refl (used_is sizes log words c.args.index.ended closed closed.logged);
-      pages_are = ap (λ (k : Sizes). k.pages) same;
-      words = subst (λ (k : Sizes). HasLog k words log) (sym same) there;
-      read_off = c.in_ok-history.ensures log there;
-      whole = done_whole c.args.index.sizes log _ 1 c.requires.done.passes c.args.sessions.items c.requires.done.done;
+      ran_is = record {
+        log = log;
+        outcome = outcome_of sizes log c.args.index words c.args.script.now.commands c.args.sessions.items c.requires.sizes c.requires.done closed refl (used_is sizes log words c.args.index.ended closed closed.logged);
+        pages_are = ap (λ (k : Sizes). k.pages) same;
+        words = subst (λ (k : Sizes). HasLog k words log) (sym same) there;
+        read_off = c.in_ok-history.ensures log there;
+        whole = done_whole c.args.index.sizes log _ 1 c.requires.done.passes c.args.sessions.items c.requires.done.done;
+      };
+      beside = c.requires.holds log closed.sessions;
     }

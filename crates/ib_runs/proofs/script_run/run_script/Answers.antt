@@ -1,16 +1,29 @@
 -- Which log was run on.
-use Rattle.std.proofs.Common.{◌≡◌, ◌⊎◌, ◌∙◌, ℕ, Result, Ok, Err, inl, map, ap, sym, subst, arith}
+use Rattle.std.proofs.Common.{◌≡◌, ◌⊎◌, ◌∙◌, ℕ, List, Result, Ok, Err, inl, map, ap, sym, subst, arith}
 use Rattle.std.specs.Prelude.{IfOk}
 use Rattle.ib_layout.specs.Geometry.{Sizes}
+use Rattle.ib_logrec.specs.declared.entry.Entry.{Entry}
 use Rattle.ib_runs.specs.Alone.{AreNeverFull}
 use Rattle.ib_runs.specs.Answers.{answers_of}
-use Rattle.ib_runs.specs.Outcomes.{IsSettled}
+use Rattle.ib_runs.specs.Outcomes.{HasRan, IsSettled}
 use Rattle.ib_runs.specs.declared.ran.Ran.{Ran}
 use Rattle.ib_runs.proofs.script_run.run_script.Goals as goal
 
 if-ok : {A B : Type 0} (P Q : A → Type 0) (r : Result A B) → ((x : A) → P x → Q x) → IfOk r P → IfOk r Q
 if-ok P Q (Ok x) f h = f x h
 if-ok P Q (Err e) f h = tt
+
+pub returns-then-is_settled-clause-ran : goal.returns-then-is_settled-clause-ran
+returns-then-is_settled-clause-ran g c =
+    let script = c.args.script.now in
+    let ran : Ran = c.in_ok-ran.ran in
+    let h = c.in_ok-ran.ensures.ran in
+    let wider = subst (λ (k : Sizes). (is : HasRan k script.commands ran) × (is.log ≡ h.ran_is.log)) c.geometry-sizes.ensures (c.is_settled.ensures.settled c.if-is_settled.true script.commands h.ran_is) in
+    record {
+      ran_is = wider.0;
+      beside = subst (λ (log : List Entry). g.B.Beside.holds c.run_in.new.beside script.sizes.pages log) (sym wider.1)
+          (subst (λ (n : ℕ). g.B.Beside.holds c.run_in.new.beside n h.ran_is.log) c.first_sizes-first.ensures.pages h.beside);
+    }
 
 pub returns-then-is_settled-clause-settled : goal.returns-then-is_settled-clause-settled
 returns-then-is_settled-clause-settled g c =

@@ -1,49 +1,62 @@
-use Rattle.std.proofs.Common.{◌≡◌, ◌∙◌, List, [], ◌++◌, Some, Vec, Global, map, length, ap, sym, subst, arith, append-nil}
+use Rattle.std.specs.List.{AllByRecursion}
+use Rattle.std.proofs.Common.{◌≡◌, ◌∙◌, ◌+◌, ℕ, List, [], ◌++◌, Some, Vec, Global, map, length, ap, refl, sym, subst, arith}
 use Rattle.std.proofs.lemmas.List.{length-map}
+use Rattle.ib_layout.specs.Geometry.{Sizes}
+use Rattle.ib_rule.specs.Memory.{EndedFact}
 use Rattle.ib_rule.specs.Pass.{PassState}
 use Rattle.ib_rule.specs.Space.{SpaceState}
 use Rattle.ib_rule.specs.Views.{ended_as}
 use Rattle.ib_rule.specs.declared.view.Ended.{Ended}
 use Rattle.ib_runs.specs.declared.turns.Turn.{Turn}
 use Rattle.ib_runs.specs.Answers.{KeptAnswers}
+use Rattle.ib_runs.specs.Guests.{AreGuests}
 use Rattle.ib_runs.specs.Turns.{AllDone}
-use Rattle.ib_runs.proofs.TurnLaws.{all_ended, done_of, ended_passes, if_some}
+use Rattle.ib_runs.proofs.TurnLaws.{all_gone, done_of, ended-parts, if_some}
 use Rattle.ib_runs.proofs.turns.run_all.Goals as goal
 
 pub returns-clause-done : goal.returns-clause-done
 returns-clause-done g c =
-    let start : SpaceState = c.args.index.now in
-    let space : SpaceState = c.come_all-turns.new.index in
-    let opened = c.come_all-turns.ensures.space in
-    let A = g.A.Access in
+    let opened : SpaceState = c.come_all-turns.new.index in
+    let joined : SpaceState = c.connect.new.index in
     let old : List (Turn g.row.A-Seat.Denot) = c.come_all-turns.result.items in
-    let new : List (Turn g.row.A-Seat.Denot) = c.turn_all.new.turns.items in
+    let new : List (Turn g.row.A-Seat.Denot) = c.turn_beside.new.turns.items in
+    let passes : List PassState = map (λ (t : Turn g.row.A-Seat.Denot). t.pass) new in
+    let guests : List PassState = g.B.Beside.passes c.turn_beside.new.guest in
     let commands = c.args.script.now.commands in
-    let len : length new ≡ length old = c.turn_all.ensures.len in
+    let turned = c.turn_beside.ensures.turns in
+    let worked = c.turn_beside.ensures.guests in
+    let first : opened.drawn ≡ length old = ap (λ (s : SpaceState). s.drawn) c.come_all-turns.ensures.space in
+    let next = ap (λ (s : SpaceState). s.drawn) c.in-Ok.ensures.space in
+    let none : joined.ended ≡ [] = ap (λ (s : SpaceState). s.ended) c.in-Ok.ensures.space ∙ (ap (λ (s : SpaceState). s.ended) c.come_all-turns.ensures.space ∙ c.requires.new.1) in
     let many : length old ≡ length commands = let f = c.come_all-turns.ensures.few in let b = c.if-len-count.false in let l = c.len.ensures in let s = c.sessions-count.ensures.sessions in omega arith in
     let wide = length-map new (λ (t : Turn g.row.A-Seat.Denot). t.pass) in
-    let passes : List PassState = map (λ (t : Turn g.row.A-Seat.Denot). t.pass) new in
+    let end : c.leave_all-2.new.index ≡ record joined { ended = map (λ (p : PassState). ended_as p.view) (passes ++ guests) } =
+    c.leave_all-2.ensures.space
+    ∙ (ap (λ (s : SpaceState). record s { ended = map (λ (t : Turn g.row.A-Seat.Denot). ended_as t.pass.view) new ++ s.ended }) c.disconnect.ensures.space
+    ∙ ap (λ (es : List Ended). record joined { ended = es }) (all_gone new guests joined.ended none)) in
     if_some c.leave_all-2.result (λ (outs : Vec KeptAnswers Global). map (λ (t : Turn g.row.A-Seat.Denot). t.answers) new ≡ map Some outs.items) (λ (outs : Vec KeptAnswers Global). AllDone commands outs.items c.leave_all-2.new.index)
-    (λ outs is e. subst (AllDone commands outs.items) (sym c.leave_all-2.ensures.space) (record {
+    (λ outs is e. subst (AllDone commands outs.items) (sym end) (record {
       passes = passes;
-      count = wide ∙ (len ∙ many);
-      done = done_of space commands 1 old new outs.items len c.come_all-turns.ensures.numbered c.turn_all.ensures.turned e;
-      drawn = ap (λ (s : SpaceState). s.drawn) opened ∙ sym (wide ∙ len);
-      ended = ap (λ (es : List Ended). map (λ (t : Turn g.row.A-Seat.Denot). ended_as t.pass.view) new ++ es) (ap (λ (s : SpaceState). s.ended) opened ∙ c.requires.new.1) ∙ (append-nil (map (λ (t : Turn g.row.A-Seat.Denot). ended_as t.pass.view) new) ∙ ended_passes new);
+      guests = guests;
+      count = wide ∙ (turned.len ∙ many);
+      done = done_of joined commands 1 old new outs.items turned.len c.come_all-turns.ensures.numbered turned.turned e;
+      beside = subst (λ (n : ℕ). AreGuests n guests) (let l = turned.len in omega arith) (worked.guests (opened.drawn + 1) c.in-Ok.ensures.new);
+      drawn = let l = turned.len in let n = worked.count in omega arith;
+      ended = refl;
     })) c.leave_all-2.ensures.all
 
-pub returns-clause-left : goal.returns-clause-left
-returns-clause-left g c =
-    let opened = c.come_all-turns.ensures.space in
-    let none : c.come_all-turns.new.index.ended ≡ [] = ap (λ (s : SpaceState). s.ended) opened ∙ c.requires.new.1 in
-    ap (λ (s : SpaceState). length s.ended) c.leave_all-2.ensures.space
-    ∙ (all_ended c.turn_all.new.turns.items c.come_all-turns.new.index.ended none
-    ∙ (c.turn_all.ensures.len ∙ sym (ap (λ (s : SpaceState). s.drawn) c.leave_all-2.ensures.space ∙ ap (λ (s : SpaceState). s.drawn) opened)))
-
-pub returns-then-len-count-clause-left : goal.returns-then-len-count-clause-left
-returns-then-len-count-clause-left g c =
-    let opened = c.come_all-turns.ensures.space in
-    let none : c.come_all-turns.new.index.ended ≡ [] = ap (λ (s : SpaceState). s.ended) opened ∙ c.requires.new.1 in
-    ap (λ (s : SpaceState). length s.ended) c.leave_all.ensures.space
-    ∙ (all_ended c.come_all-turns.result.items c.come_all-turns.new.index.ended none
-    ∙ sym (ap (λ (s : SpaceState). s.drawn) c.leave_all.ensures.space ∙ ap (λ (s : SpaceState). s.drawn) opened))
+pub returns-clause-holds : goal.returns-clause-holds
+returns-clause-holds g c =
+    let joined : SpaceState = c.connect.new.index in
+    let new : List (Turn g.row.A-Seat.Denot) = c.turn_beside.new.turns.items in
+    let guests : List PassState = g.B.Beside.passes c.turn_beside.new.guest in
+    let none : joined.ended ≡ [] = ap (λ (s : SpaceState). s.ended) c.in-Ok.ensures.space ∙ (ap (λ (s : SpaceState). s.ended) c.come_all-turns.ensures.space ∙ c.requires.new.1) in
+    let sizes : joined.sizes ≡ c.args.index.now.sizes = ap (λ (s : SpaceState). s.sizes) c.in-Ok.ensures.space ∙ ap (λ (s : SpaceState). s.sizes) c.come_all-turns.ensures.space in
+    let end : c.leave_all-2.new.index.ended ≡ map (λ (p : PassState). ended_as p.view) (map (λ (t : Turn g.row.A-Seat.Denot). t.pass) new ++ guests) =
+    ap (λ (s : SpaceState). s.ended) c.leave_all-2.ensures.space
+    ∙ (ap (λ (s : SpaceState). map (λ (t : Turn g.row.A-Seat.Denot). ended_as t.pass.view) new ++ s.ended) c.disconnect.ensures.space
+    ∙ all_gone new guests joined.ended none) in
+    if_some c.leave_all-2.result (λ (outs : Vec KeptAnswers Global). map (λ (t : Turn g.row.A-Seat.Denot). t.answers) new ≡ map Some outs.items) _
+    (λ outs is e log all. subst (λ (k : Sizes). g.B.Beside.holds c.turn_beside.new.beside k.pages log) sizes
+    (c.turn_beside.ensures.guests.brought log (ended-parts log (map (λ (t : Turn g.row.A-Seat.Denot). t.pass) new) guests (subst (AllByRecursion (EndedFact log)) end all)).1))
+    c.leave_all-2.ensures.all

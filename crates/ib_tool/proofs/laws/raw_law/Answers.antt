@@ -2,24 +2,16 @@
 use Rattle.std.proofs.Common.{◌≡◌, ◌∙◌, ℕ, List, ◌++◌, ap, append_assoc, sym}
 use Rattle.ib_io.specs.Told.{Ending, ends}
 use Rattle.ib_io.specs.declared.status.Status.TheVariants.{Done}
-use Rattle.ib_logrec.specs.Log.{by_place, history_of, map_of}
+use Rattle.ib_logrec.specs.Log.{history_of, map_of}
 use Rattle.ib_replay_form.specs.Replaying.{replay_output}
 use Rattle.ib_map.specs.Pairs.{Pairs}
 use Rattle.ib_script.specs.Script.{ScriptValue}
 use Rattle.ib_text.specs.Output.{log_text, map_text, output_of, sessions_from}
-use Rattle.ib_tree.proofs.LogLaws.{content_of-after}
-use Rattle.ib_tree.proofs.OpeningLaws.{opens, opens-empty}
-use Rattle.ib_tree.specs.TreeLog.{opening}
-use Rattle.ib_tool.specs.Texts.{IsRawText, IsRunText, map_in}
+use Rattle.ib_tool.specs.Texts.{IsRawText, IsRunText}
+use Rattle.ib_tool.proofs.TextLaws.{map-walked}
 use Rattle.ib_tool.proofs.laws.raw_law.Goals as goal
 
 module _ (script : ScriptValue) (bytes : List ℕ) (raw : IsRawText script bytes) where
-  map-walked : map_in script.sizes raw.log ≡ map_of raw.log
-  map-walked =
-      let written = raw.written in
-      let pages = script.sizes.pages in
-      content_of-after pages 1 (by_place opening pages) (opens pages written.space) (opens-empty pages) raw.log written.lawful
-
   run-end : (e : Ending) → e ≡ ends Done (replay_output raw.log) → (e.status ≡ Done) × IsRunText script (sessions_from 1 raw.runs ++ e.text)
   run-end e is = (
     ap (λ (it : Ending). it.status) is,
@@ -29,7 +21,7 @@ module _ (script : ScriptValue) (bytes : List ℕ) (raw : IsRawText script bytes
       outcome = raw.outcome;
       printed = ap (λ (it : Ending). sessions_from 1 raw.runs ++ it.text) is
           ∙ sym (append_assoc (sessions_from 1 raw.runs) (log_text (history_of raw.log)) (map_text (map_of raw.log)))
-          ∙ ap (λ (m : Pairs). output_of raw.runs (history_of raw.log) m) (sym map-walked);
+          ∙ ap (λ (m : Pairs). output_of raw.runs (history_of raw.log) m) (sym (let written = raw.written in map-walked script.sizes raw.log written.space written.lawful));
     },
   )
 
