@@ -3,7 +3,7 @@
 
 A small library is put in front of the C library's malloc and realloc. It is compiled here, with cc. It counts the calls that come from
 the program itself, and refuses one of them. Then the program must end with status 5 and have written nothing, or with what it writes
-otherwise. What is printed of several sessions is judged by judge.py. There are no words.
+otherwise. What is printed of several sessions is judged by judge.py, and image files by the model of check_models.py. There are no words.
 It prints for each input how many allocations were made to fail, and what came of them. The first other ending of an input is printed
 in place of that, and the status is then 1. It takes some seconds.
 """
@@ -13,8 +13,9 @@ import subprocess
 import sys
 import tempfile
 
+from check_models import restore
 from judge import Wrong, judge
-from program import PROGRAM, TOP, built
+from program import PROGRAM, TOP, answer, built
 
 LIBRARY = r"""
 #define _GNU_SOURCE
@@ -80,6 +81,8 @@ ROWS = (
     (["fast"], TWO),
     (["raw"], ONE),
     (["raw"], TWO),
+    (["image"], ONE),
+    (["image"], TWO),
     (["gen", "300", "7", "3"], b""),
     (["run"], b"insert 1\n"),
     (["run"], b"insert 1 10\ninsert 1\n"),
@@ -88,6 +91,8 @@ ROWS = (
     (["latch"], b"1 x 0 4\n1 ux\n"),
     (["replay"], example("insert.log")),
     (["upgrade"], example("old.log")),
+    # The form alone: its input is what `image` writes.
+    (["restore"], None),
 )
 
 
@@ -99,6 +104,9 @@ def end(library, words, data, failing):
 
 def is_right(words, data, whole, found):
     """Whether an ending without a refusal is one that the program may have."""
+    if words == ["image"]:
+        # Where the copy stands in the log hangs on the threads.
+        return found[0] == 0 and restore(found[1])[0] == 0 and (data == TWO or restore(found[1]) == restore(whole[1]))
     if data != TWO:
         return found == whole
     if words in (["run"], ["fast"]):
@@ -133,7 +141,8 @@ def main():
         with open(source, "w") as file:
             file.write(LIBRARY)
         subprocess.run(["cc", "-O1", "-shared", "-fPIC", "-o", library, source, "-ldl"], check=True)
-        return 0 if all([sweep(library, words, data) for words, data in ROWS]) else 1
+        image = answer(["image"], ONE)[1]
+        return 0 if all([sweep(library, words, image if data is None else data) for words, data in ROWS]) else 1
 
 
 if __name__ == "__main__":

@@ -1,19 +1,20 @@
 #!/usr/bin/env python3
-"""Spoils log files, scripts and events that are in order, and compares what the program answers with the models of check_models.py.
+"""Spoils log files, image files, scripts and events that are in order, and compares what the program answers with the models of check_models.py.
 
-Logs are written by the program itself (`raw`, of scripts that split, raise, merge and lift) and by tree_logs.py. Each is spoiled once to
-four times: a bit or a byte changed, bytes cut out, put in or doubled, two words exchanged, a word replaced by 0, by the greatest, by another
+Logs and image files are written by the program itself (`raw` and `image`, of scripts that split, raise, merge and lift), and logs by
+tree_logs.py too. Each is spoiled once to four times: a bit or a byte changed, bytes cut out, put in or doubled, two words exchanged, a word replaced by 0, by the greatest, by another
 word of the file or by one more, a count of writes out of range, the tail of another log behind the front of one. Scripts and events are
 spoiled by bytes and by lines. Every input must be answered as the model answers it, and within a second of processor time.
-Words: how many inputs (20,000 if none; a half are logs, a quarter scripts, by `run` and by `fast` in turn, a quarter events), a seed
-(83), and how many processes (4). It prints how many inputs of each form were taken and refused, the longest time, and the most processor
-time and memory that an input took for each of its bytes, over what its form takes for an input with no command in the largest space; an
-input of less than a kilobyte counts as one. At the first difference it prints what differs and the file with the input, and ends with
-the status 1. It takes some two minutes for 20,000 inputs on four processors. GNU's `time` must be there.
+Words: how many inputs (20,000 if none; of eight inputs three are logs, one an image file, two scripts, by `run` and by `fast` in turn,
+and two events), a seed (83), and how many processes (4). It prints how many inputs of each form were taken and refused, the longest time, and the most processor
+time and memory that one of every tenth input took for each of its bytes, over what its form takes for an input with no command in the
+largest space; an input of less than a kilobyte counts as one. At the first difference it prints what differs and the file with the input,
+and ends with the status 1. It takes less than a minute for 20,000 inputs on four idle processors. GNU's `time` must be there.
 """
 
 import os
 import random
+import signal
 import struct
 import subprocess
 import sys
@@ -22,7 +23,7 @@ from collections import Counter
 from multiprocessing import Pool
 
 import keys
-from check_models import latch, replay, run, some_events, some_script, some_tree
+from check_models import IMAGE, WORDS, latch, new_space, replay, restore, run, some_events, some_script, some_tree
 from judge import Wrong, commands_of, judge
 from program import PROGRAM, answer, built
 from tree_logs import HEAD, entry_words, file_of
@@ -30,12 +31,21 @@ from tree_logs import HEAD, entry_words, file_of
 GREATEST = 2**64 - 1
 SECONDS = 1.0
 
+# One input of so many is run once more for what it takes of time and memory.
+MEASURED = 10
 
-# What the program reads for a form: no command, in the largest space. Its time and memory are those that do not hang on the length.
+
+def bytes_of(words):
+    return struct.pack(f">{len(words)}Q", *(word & GREATEST for word in words))
+
+
+# What the program reads for a form: no command, in the largest space; an image file has all of its pages. Its time and memory are those
+# that do not hang on the length.
 LARGEST = {
     "run": b"space 4096 16777216\n",
     "fast": b"space 4096 16777216\n",
     "replay": b"IBLOG572" + (4096).to_bytes(8, "big"),
+    "restore": bytes_of([IMAGE, 16, 0] + [word for page in range(16) for word in [0, *new_space().get(page, [0] * WORDS)]]),
     "latch": b"",
 }
 
@@ -52,6 +62,27 @@ def measured(form, data):
         program.returncode = os.waitstatus_to_exitcode(status)
         sink.seek(0)
         return program.returncode, sink.read(), (used.ru_utime + used.ru_stime, 1024 * int(note.read()))
+
+
+def new_files():
+    """What the program reads, and what it writes, one input after another, in a process of its own."""
+    global SOURCE, SINK
+    SOURCE, SINK = os.memfd_create("source"), os.memfd_create("sink")
+
+
+def timed(form, data):
+    """The status, the output, and the processor seconds of the program for this input. It may take a minute."""
+    for file in (SOURCE, SINK):
+        os.ftruncate(file, 0)
+        os.lseek(file, 0, os.SEEK_SET)
+    os.pwrite(SOURCE, data, 0)
+    ends = [(os.POSIX_SPAWN_DUP2, SOURCE, 0), (os.POSIX_SPAWN_DUP2, SINK, 1)]
+    program = os.posix_spawn(PROGRAM, [PROGRAM, form], os.environ, file_actions=ends)
+    signal.signal(signal.SIGALRM, lambda *_: os.kill(program, signal.SIGKILL))
+    signal.alarm(60)
+    _, status, used = os.wait4(program, 0)
+    signal.alarm(0)
+    return os.waitstatus_to_exitcode(status), os.pread(SINK, os.fstat(SINK).st_size, 0), used.ru_utime + used.ru_stime
 
 
 def least_of(form):
@@ -83,21 +114,24 @@ def lawful_logs(dice, count):
     return [log for log in logs if len(log) > 16]
 
 
+def lawful_images(dice, count):
+    return [answer(["image"], falling_script(dice))[1] for _ in range(count)]
+
+
 def words_in(data):
     return list(struct.unpack_from(f">{len(data) // 8}Q", data))
 
 
-def bytes_of(words):
-    return struct.pack(f">{len(words)}Q", *(word & GREATEST for word in words))
-
-
 def heads_in(words):
-    """Where the entries of a log begin, as far as their counts tell."""
-    heads, at = [], 2
+    """Where the pages of an image file begin, and the entries of a log, as far as their counts tell."""
+    heads, at = [0], 2
+    if words[0] == IMAGE:
+        heads += [3 + page * (WORDS + 1) for page in range(min(words[1], 64))]
+        at = heads[-1] + WORDS + 1
     while at < len(words):
         heads.append(at)
         at += HEAD + 2 * (words[at] & 0xFFFF)
-    return heads
+    return [head for head in heads if head < len(words)]
 
 
 def spoiled_words(dice, data, other):
@@ -139,7 +173,7 @@ def spoiled_bytes(dice, data):
     return data[:at] + data[at : at + dice.choice([1, 8, 64])] + data[at:]
 
 
-def spoiled_log(dice, logs):
+def spoiled_file(dice, logs):
     data = dice.choice(logs)
     for _ in range(dice.choice([1, 1, 2, 4])):
         if len(data) < 24 or dice.randrange(4) == 0:
@@ -184,7 +218,7 @@ def why_differs(form, data, status, found):
             if len(commands_of(data.decode("latin-1"))[1]) > 1 or is_told_full(found):
                 return None
     else:
-        wanted, text = (replay if form == "replay" else latch)(data)
+        wanted, text = {"replay": replay, "restore": restore, "latch": latch}[form](data)
     return None if (status, found) == (wanted, text.encode()) else f"the program ends with {status}, the model with {wanted}"
 
 
@@ -192,24 +226,30 @@ def tried(work):
     """What came of so many inputs by this seed: counts, the longest time, and the most time and memory for a byte of each form."""
     seed, count = work
     dice = random.Random(seed)
-    logs, counts, longest, most = lawful_logs(dice, 12), Counter(), 0.0, {}
+    files = {"replay": lawful_logs(dice, 12), "restore": lawful_images(dice, 12)}
+    counts, longest, most = Counter(), 0.0, {}
     least = {form: least_of(form) for form in LARGEST}
     for turn in range(count):
-        form = ("replay", "run", "replay", "latch", "replay", "fast", "replay", "latch")[turn % 8]
-        data = spoiled_log(dice, logs) if form == "replay" else spoiled_lines(dice, (some_events if form == "latch" else some_script)(dice))
-        status, found, used = measured(form, data)
+        form = ("replay", "run", "restore", "latch", "replay", "fast", "replay", "latch")[turn % 8]
+        if form in files:
+            data = spoiled_file(dice, files[form])
+        else:
+            data = spoiled_lines(dice, (some_events if form == "latch" else some_script)(dice))
+        status, found, seconds = timed(form, data)
         why = why_differs(form, data, status, found)
-        if why is None and used[0] > SECONDS:
-            status, found, used = measured(form, data)
-            why = f"it takes {used[0]:.1f} seconds" if used[0] > SECONDS else None
+        if why is None and seconds > SECONDS:
+            seconds = timed(form, data)[2]
+            why = f"it takes {seconds:.1f} seconds" if seconds > SECONDS else None
         if why is not None:
             with tempfile.NamedTemporaryFile(prefix="input-", delete=False) as file:
                 file.write(data)
             return f"{form} < {file.name}: {why}"
         counts[form, status] += 1
-        longest = max(longest, used[0])
-        for_byte = [(more - base) / max(len(data), 1024) for more, base in zip(used, least[form])]
-        most[form] = [max(pair) for pair in zip(most.get(form, for_byte), for_byte)]
+        longest = max(longest, seconds)
+        if dice.randrange(MEASURED) == 0:
+            used = measured(form, data)[2]
+            for_byte = [(more - base) / max(len(data), 1024) for more, base in zip(used, least[form])]
+            most[form] = [max(pair) for pair in zip(most.get(form, for_byte), for_byte)]
     return counts, longest, most
 
 
@@ -218,10 +258,10 @@ def main():
     seed = int(sys.argv[2]) if len(sys.argv) > 2 else 83
     workers = int(sys.argv[3]) if len(sys.argv) > 3 else 4
     built()
-    portion = 1_000
+    portion = 4_000
     works = [(seed * 1_000_003 + turn, min(portion, count - turn * portion)) for turn in range((count + portion - 1) // portion)]
     counts, longest, most = Counter(), 0.0, {}
-    with Pool(workers) as pool:
+    with Pool(workers, new_files) as pool:
         for came in pool.imap_unordered(tried, works):
             if isinstance(came, str):
                 print(came)

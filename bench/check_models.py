@@ -3,10 +3,10 @@
 
 The proofs say that the program answers as the definitions do. This looks whether the definitions say what was meant. So the models
 stand apart from them: scripts on a dictionary, events on latches that keep who holds them, logs by their table, with a walk of the
-whole tree after each entry. Keys are spelled, ordered and kept as words by keys.py. A script of several sessions may print many
+whole tree after each entry, and image files by theirs. Keys are spelled, ordered and kept as words by keys.py. A script of several sessions may print many
 outputs, and so may one whose log or space gets full: these are judged by judge.py. What `raw` writes must replay. What `gen` counts
 must be what the sessions' keys give.
-Words: how many inputs of each form (2,000 if none; `gen` has a tenth of them), and a seed (57).
+Words: how many inputs of each form (2,000 if none; `restore` has a half of them, `gen` a tenth), and a seed (57).
 It prints a line for each form. At the first difference it prints what differs and the file with the input, and ends with the
 status 1. It takes some ten seconds for 100 inputs, and some minutes for 2,000.
 """
@@ -24,6 +24,7 @@ from program import answer, built
 from tree_logs import FORM, HEAD, WORDS, Tree, entry_words, file_of, new_space
 
 GREATEST = 2**64 - 1
+IMAGE = 0x4942494D47353732
 FULL = 0x2000_0000
 HALF = 0x1000_0000
 
@@ -117,9 +118,12 @@ def answered(pairs, log, made, session, word, values):
     return f"{asked}{reply} at {place}\n"
 
 
+def map_text(pairs):
+    return f"map {len(pairs)}\n" + "".join(f"{written(key)} {pairs[key]}\n" for key in sorted(pairs))
+
+
 def log_and_map(log, pairs):
-    shown = "".join(f"{written(key)} {pairs[key]}\n" for key in sorted(pairs))
-    return f"log {len(log)}\n{''.join(log)}map {len(pairs)}\n{shown}"
+    return f"log {len(log)}\n{''.join(log)}{map_text(pairs)}"
 
 
 def run(data):
@@ -508,6 +512,65 @@ def replay(data):
     return 0, log_and_map(log, pairs)
 
 
+# Image files.
+
+
+def entries_of(words, pages):
+    """The writes of each entry of a tail, or its first fault."""
+    entries, at = [], 0
+    while at < len(words):
+        fault, length = entry_fault(words, at, pages)
+        if fault:
+            return None, fault
+        entries.append(list(zip(words[at + HEAD : at + length : 2], words[at + HEAD + 1 : at + length : 2])))
+        at += length
+    return entries, None
+
+
+def front_fault(numbers):
+    """The first fault of the numbers in front of the pages."""
+    if len(numbers) < 3:
+        return f"short {len(numbers)}"
+    for at, good in enumerate((numbers[0] == IMAGE, 16 <= numbers[1] <= 4096, numbers[2] < 2**32)):
+        if not good:
+            return f"word at {at} {numbers[at]}"
+    return f"short {len(numbers)}" if len(numbers) < 3 + numbers[1] * (WORDS + 1) else None
+
+
+def restored(pages, places, first, entries):
+    """The pages with what the entries write on each from its own place on."""
+    for number, writes in enumerate(entries, first):
+        for place, word in writes:
+            if number >= places[place // WORDS]:
+                pages[place // WORDS][place % WORDS] = word
+    return pages
+
+
+def restore(data):
+    if len(data) % 8:
+        return 7, f"bad image: odd length {len(data)}\n"
+    numbers = list(struct.unpack(f">{len(data) // 8}Q", data))
+    fault = front_fault(numbers)
+    if fault:
+        return 7, f"bad image: {fault}\n"
+    count, first = numbers[1:3]
+    heads = [3 + page * (WORDS + 1) for page in range(count)]
+    entries, fault = entries_of(numbers[3 + count * (WORDS + 1) :], count)
+    if fault:
+        return 7, f"bad image: tail {fault}\n"
+    places = [numbers[at] for at in heads]
+    for page, (at, place) in enumerate(zip(heads, places)):
+        if not first <= place <= (first + len(entries) if page else first):
+            return 7, f"bad image: word at {at} {place}\n"
+    pages = restored({page: numbers[at + 1 : at + 1 + WORDS] for page, at in enumerate(heads)}, places, first, entries)
+    try:
+        met, content = tree_of(pages, count)
+        must(0 not in met, "page 0 in the tree")
+    except (NoTree, heaps.NoHeap):
+        return 7, "bad image: not a tree\n"
+    return 0, map_text(dict(content))
+
+
 # Random inputs.
 
 
@@ -695,6 +758,32 @@ def compare_scripts(dice, count):
     print(f"run, raw: {count} inputs, {refusals} of them refused; {alone} of one session the same, {full} with a full log or space, no difference")
 
 
+def some_image(dice):
+    """A copy of a log that is mostly lawful, each page at a place of its own, and its tail; at times a number is changed."""
+    count, made, words, entries = dice.choice([16, 17, 64]), {}, [], some_tree(dice, 16)
+    first = dice.randrange(len(entries) + 1)
+    places = [first]
+    for _ in range(count - 1):
+        places.append(dice.choice([places[-1], places[-1], dice.randrange(places[-1], len(entries) + 1)]))
+    pages, copied = {page: [0] * WORDS for page in range(count)} | new_space(), {}
+    for number, entry in enumerate([*entries, None]):
+        copied.update({page: list(pages[page]) for page in range(count) if places[page] == number})
+        if entry is not None:
+            for place, word in entry[-1]:
+                pages[place // WORDS][place % WORDS] = word
+            made[1] = made.get(1, 0) + 1
+            words.append(entry_words(1, made[1], *entry))
+    numbers = [IMAGE, count, first]
+    for page, place in enumerate(places):
+        numbers += [place, *copied[page]]
+    numbers += [word for entry in words[first:] for word in entry]
+    for _ in range(dice.choice([0, 0, 0, 1, 2])):
+        at = dice.choice([dice.randrange(len(numbers)), dice.randrange(3), 3 + dice.randrange(count) * (WORDS + 1), 3 + WORDS + 1 + dice.randrange(50)])
+        numbers[at] = dice.choice([0, 1, numbers[at] + 1, numbers[at] ^ 1 << dice.randrange(64), dice.choice(numbers), GREATEST]) & GREATEST
+    data = struct.pack(f">{len(numbers)}Q", *numbers)
+    return data[: dice.randrange(len(data) + 1)] if not dice.randrange(10) else data
+
+
 def some_load(dice):
     commands = dice.choice([1, 2, 7, dice.randrange(1, 400), dice.randrange(1, 3_000)])
     return commands, dice.choice([0, 1, 7, 2**32 - 1, dice.randrange(2**32)]), dice.choice([1, 2, 64, dice.randrange(1, 65)])
@@ -738,6 +827,7 @@ def main():
     compare_loads(dice, count // 10)
     compare("latch", latch, some_events, dice, count)
     compare("replay", replay, some_log, dice, count)
+    compare("restore", restore, some_image, dice, count // 2)
     return 0
 
 
