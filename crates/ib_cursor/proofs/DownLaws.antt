@@ -99,6 +99,7 @@ down_step sizes lawful opening root key exclusive b above page child level p q r
       went = went_both p q r down.went went;
       looked = looked_first p q r down.went went down.looked;
       short = let s = down.short in omega arith;
+      low = λ most no. let l = down.low most no in omega arith;
       sx = let t = down.sx in omega arith;
       finds = λ e. let f = down.finds e in let f0 = f.0 in let f1 = f.1 in let z : b ≡ false = none e in
           let s1 : one_if (not b) ≡ 1 = ap (λ (b : Bool). one_if (not b)) z in let x1 : one_if b ≡ 0 = ap one_if z in (omega arith, omega arith);
@@ -145,6 +146,7 @@ down_root sizes lawful opening root key exclusive level p q r node low taken see
       went = went_both p q r (went_beside p q (beside_taken index_grant p q taken)) seen.went;
       looked = looked_then p q r (went_beside p q (beside_taken index_grant p q taken)) seen.went (some_end seen.one);
       short = omega arith;
+      low = λ most no. let h = no r.view.memory.seen here.known.legal in let o = here.on_path.height in omega arith;
       sx = sx;
       finds = λ e. (omega arith, x);
       s = omega arith;
@@ -179,6 +181,7 @@ down_again sizes lawful opening root key first level p q r s t leaf low taken se
       went = went_both p s t to_s again.went;
       looked = looked_then p s t to_s again.went (some_end again.one);
       short = omega arith;
+      low = λ most no. let h = no t.view.memory.seen here.known.legal in let e = later in omega arith;
       sx = gsx;
       finds = λ e. absurd (cc);
       s = omega arith;
@@ -239,6 +242,7 @@ module _ (sizes : Sizes) (lawful : List Entry → Type 0) (opening : ℕ → ℕ
         sx = gsx ∙ down.sx;
         finds = λ e. let f = down.finds e in let f0 = f.0 in let f1 = f.1 in (omega arith, omega arith);
         s = let t = down.s in let h = down.short in omega arith;
+        low = λ most no. let t = down.s in let l = down.low most no in omega arith;
         changes = λ e.
             let t = down.changes e in
             let same : one_if (nat_lt 1 (length path)) ≡ one_if (nat_lt 0 above && (0 == 0)) = ap one_if (shift-lt above (length path) (omega arith) ∙ sym (and-true (nat_lt 0 above))) in omega arith;
@@ -284,6 +288,7 @@ module _ (sizes : Sizes) (roots : ℕ) (lawful : List Entry → Type 0) (opening
           sx = gsx ∙ reached.sx;
           finds = λ e. let f = reached.finds e in let f0 = f.0 in let f1 = f.1 in (omega arith, omega arith);
           s = let t = reached.s in omega arith;
+          low = λ most no. let t = reached.low most no in omega arith;
           changes = λ e. let t = reached.changes e in omega arith;
           x = λ e. elim (reached.x e) [
             | inl y ↦ inl (let y1 : q.view.grants.x ≡ p.view.grants.x + 1 = y in omega arith)

@@ -45,6 +45,7 @@ module _ (sizes : Sizes) (roots : ℕ) (lawful : List Entry → Type 0) (opening
       finds = reached.finds;
       changes = reached.changes;
       s = reached.s;
+      low = reached.low;
       x = reached.x;
     };
     work = none;

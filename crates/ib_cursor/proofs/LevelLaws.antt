@@ -19,7 +19,7 @@ use Rattle.ib_cursor.specs.Claims.{beside}
 use Rattle.ib_cursor.specs.Siblings.{with_siblings}
 use Rattle.ib_cursor.proofs.OnPathLaws.{root_on-path, child_on-path, page_on-path}
 use Rattle.ib_cursor.proofs.OnceLaws.{among_append}
-use Rattle.ib_cursor.proofs.RowLaws.{IsRowPage, siblings_once, siblings_row, child_among, behind_once, some_siblings}
+use Rattle.ib_cursor.proofs.RowLaws.{IsRowPage, siblings_met, siblings_once, siblings_row, child_among, behind_met, behind_once, some_siblings}
 
 -- lists of pages by their levels
 not-among : (m : PageMemory) (level page : ℕ) (ps : List ℕ) → (m page).level ≡ level → AllByRecursion (λ n. (m n).level < level) ps → is_listed ps page ≡ false
@@ -109,6 +109,19 @@ ends_of (x ∷ xs) = elim (ends_of xs) [
   | inr h ↦ inr (record { front = x ∷ h.front; last = h.last; is = ap (λ ps. x ∷ ps) h.is })
 ]
 
+-- pages of which none is met by a tree, and others that are
+pub apart_once : (m : PageMemory) (root pages : ℕ) (xs ys : List ℕ) → AreOnce xs pages → AllByRecursion (λ n. weight_of (counts_page n) m root ≡ 0) xs → AreOnce ys pages
+    → AllByRecursion (λ n. 1 ≤ weight_of (counts_page n) m root) ys → AreOnce (xs ++ ys) pages
+apart_once m root pages [] ys once none more met = more
+apart_once m root pages (x ∷ xs) ys once none more met =
+    (once.0, among_append xs ys x once.1 (not-met ys met), apart_once m root pages xs ys once.2 none.1 more met)
+  where
+    not-met : (ps : List ℕ) → AllByRecursion (λ n. 1 ≤ weight_of (counts_page n) m root) ps → is_listed ps x ≡ false
+    not-met [] met = refl
+    not-met (p ∷ ps) met =
+        let differ : (p == x) ≡ false = ne_eqb p x (λ e. let z = ap (λ n. weight_of (counts_page n) m root) e in let w = none.0 in let o = met.0 in omega arith) in
+        ap (λ t. t || is_listed ps x) differ ∙ not-met ps met.1
+
 module _ (pages : ℕ) (m : PageMemory) (bits : ℕ → ℕ) (roots : ℕ) (law : IsLawful m bits roots) (root : ℕ) (some : 0 < root) (le : root ≤ roots) (within : (n : ℕ) → 1 ≤ weight_of (counts_page n) m root → n < pages)
     (key : MapKey) (lt : rank key < end_rank) where
   tree : IsTreeOf m (height_of m root) root
@@ -150,6 +163,17 @@ module _ (pages : ℕ) (m : PageMemory) (bits : ℕ → ℕ) (roots : ℕ) (law 
       ap (λ n. with_siblings m key n ++ all) e ∙ sym (append_assoc (with_siblings m key x) (flat_map (with_siblings m key) xs) tail) in
       subst (λ ps. AreOnce ps pages × AllByRecursion (λ n. (m n).level < suc level) ps) same
       (level-once m level pages (with_siblings m key page) all here row r.0 r.1, level-low m level (with_siblings m key page) all row r.1)
+
+  -- they are all met by the tree
+  levels-met : (level page : ℕ) → IsOnPath m root key page level → (above : List ℕ) (node : ℕ) (rest : List ℕ) → path_down m key level page ≡ above ++ node ∷ rest
+      → AllByRecursion (λ n. 1 ≤ weight_of (counts_page n) m root) (flat_map (with_siblings m key) above)
+  levels-met level page o [] node rest is = tt
+  levels-met zero page o (x ∷ xs) node rest is = absurd (let a = ap length is in let b = length-append xs (node ∷ rest) in omega arith)
+  levels-met (suc level) page o (x ∷ xs) node rest is =
+      let e : page ≡ x = ap first-of is in
+      AllByRecursion-append (λ n. 1 ≤ weight_of (counts_page n) m root) (with_siblings m key x) (flat_map (with_siblings m key) xs)
+      (subst (λ n. AllByRecursion (λ k. 1 ≤ weight_of (counts_page k) m root) (with_siblings m key n)) e (siblings_met pages m bits roots law root some le within key lt page level o))
+      (levels-met level (child_for key 0 (m page).records) (child_on-path m root key page level o) xs node rest (ap others-of is))
 
   -- the nodes of a path are among them
   nodes-among : (level page : ℕ) → IsOnPath m root key page level → (above : List ℕ) (node : ℕ) (rest : List ℕ) → path_down m key level page ≡ above ++ node ∷ rest
@@ -196,6 +220,9 @@ module _ (pages : ℕ) (m : PageMemory) (bits : ℕ → ℕ) (roots : ℕ) (law 
     pub path_among : AllByRecursion (λ n. is_listed (root ∷ flat_map (with_siblings m key) above) n ≡ true) (above ++ node ∷ [])
     path_among = nodes-among (height_of m root) root (root_on-path m root key) above node rest down
 
+    pub rows_met : AllByRecursion (λ n. 1 ≤ weight_of (counts_page n) m root) (root ∷ flat_map (with_siblings m key) above)
+    rows_met = (root-met m root, levels-met (height_of m root) root (root_on-path m root key) above node rest down)
+
     pub node_kind : (m node).kind ≡ Tree
     node_kind = (page_on-path m root key node (length rest) tree lt on).kind
 
@@ -205,6 +232,9 @@ module _ (pages : ℕ) (m : PageMemory) (bits : ℕ → ℕ) (roots : ℕ) (law 
         let o = subst (IsOnPath m root key node) e on in
         under-root (with_siblings m key node) (siblings_once pages m bits roots law root some le within key lt node level o)
         (subst (λ l. AllByRecursion (λ n. (m n).level < l) (with_siblings m key node)) (sym e) (row-low m level (with_siblings m key node) (siblings_row pages m bits roots law root some le within key lt node level o)))
+
+    pub row_met : (level : ℕ) → length rest ≡ suc level → AllByRecursion (λ n. 1 ≤ weight_of (counts_page n) m root) (with_siblings m key node)
+    row_met level e = siblings_met pages m bits roots law root some le within key lt node level (subst (IsOnPath m root key node) e on)
 
   -- a root that is a leaf has no leaf behind it
   root-alone : height_of m root ≡ 0 → (m root).next ≡ 0
@@ -241,3 +271,19 @@ module _ (pages : ℕ) (m : PageMemory) (bits : ℕ → ℕ) (roots : ℕ) (law 
       where
         alone : height_of m root ≡ 0 → path ≡ [] ++ root ∷ []
         alone low = on_path ∙ ap (λ h. path_down m key h root) low
+
+    pub behind_all_met : AllByRecursion (λ n. 1 ≤ weight_of (counts_page n) m root) (beside (m (last_of (root ∷ flat_map (with_siblings m key) above))).next)
+    behind_all_met = elim (ends_of above) [
+      | inl none ↦
+          let low : height_of m root ≡ 0 = let a = ap length (sym on_path ∙ ends) in let b = length-path_down m key (height_of m root) root in let c = length-append above (leaf ∷ []) in let d = ap length none in omega arith in
+          subst (λ ps. AllByRecursion (λ n. 1 ≤ weight_of (counts_page n) m root) (beside (m (last_of (root ∷ flat_map (with_siblings m key) ps))).next)) (sym none)
+          (subst (λ k. AllByRecursion (λ n. 1 ≤ weight_of (counts_page n) m root) (beside k)) (sym (root-alone low)) tt)
+      | inr h ↦
+          let is : path ≡ h.front ++ h.last ∷ leaf ∷ [] = ends ∙ (ap (λ ps. ps ++ leaf ∷ []) h.is ∙ append_assoc h.front (h.last ∷ []) (leaf ∷ [])) in
+          let o = on path h.front h.last (leaf ∷ []) on_path is in
+          let same : (root ∷ flat_map (with_siblings m key) h.front) ++ with_siblings m key h.last ≡ root ∷ flat_map (with_siblings m key) above =
+          flat_map_more (with_siblings m key) (root ∷ []) h.front h.last ∙ ap (λ ps. root ∷ flat_map (with_siblings m key) ps) (sym h.is) in
+          let last : last_of (with_siblings m key h.last) ≡ last_of (root ∷ flat_map (with_siblings m key) above) =
+          sym (last_append (root ∷ flat_map (with_siblings m key) h.front) (with_siblings m key h.last) (some_siblings m key h.last)) ∙ ap last_of same in
+          subst (λ n. AllByRecursion (λ k. 1 ≤ weight_of (counts_page k) m root) (beside (m n).next)) last (behind_met pages m bits roots law root some le within key lt h.last 0 o refl)
+    ]

@@ -19,6 +19,8 @@ pub mod EndLaws
 pub mod RowLaws
 pub mod LevelLaws
 pub mod TakenLaws
+pub mod PathTakeLaws
 pub mod ChildLaws
 pub mod PositionLaws
 pub mod GuessLaws
+pub mod PairLaws

@@ -1,6 +1,7 @@
 -- A page of the path is looked at behind the claimed index, and given up again.
-use Rattle.std.proofs.Common.{◌≡◌, ℕ, zero, suc, ◌+◌, ◌<◌, ◌≤◌, true, List, [], ◌∷◌, Some, refl, sym, ap, subst, ◌∙◌, arith, eq-eqb}
+use Rattle.std.proofs.Common.{◌≡◌, ℕ, zero, suc, ◌+◌, ◌<◌, ◌≤◌, true, List, [], ◌∷◌, Option, Some, refl, sym, ap, subst, ◌∙◌, arith, eq-eqb}
 use Rattle.ib_map.specs.Keys.{MapKey, rank, end_rank}
+use Rattle.ib_map.specs.Pairs.{value_at}
 use Rattle.ib_levels.specs.declared.level.Level.TheVariants.{TreeNode}
 use Rattle.ib_levels.specs.declared.level.Mode.TheVariants.{S}
 use Rattle.ib_layout.specs.Geometry.{Sizes}
@@ -24,7 +25,7 @@ use Rattle.ib_cursor.specs.Claims.{claim_grant}
 use Rattle.ib_cursor.specs.Grants.{page_grant, HasGrants}
 use Rattle.ib_cursor.specs.Going.{IsKnown, HasLatched}
 use Rattle.ib_cursor.specs.Descent.{IsAt, HasPage}
-use Rattle.ib_cursor.specs.Shapes.{ShapeLaws, is_claimed, KeepsClaim, HasLookedOn, HasIndex, IsLink, NamesLink, HasReadLink}
+use Rattle.ib_cursor.specs.Shapes.{ShapeLaws, is_claimed, KeepsClaim, HasLookedOn, HasIndex, IsLink, NamesLink, HasReadLink, HasReadValue}
 use Rattle.ib_cursor.proofs.LogLaws.{IsPathImage, path_image, child_path}
 use Rattle.ib_cursor.proofs.ShapeLaws.{single_path}
 use Rattle.ib_cursor.proofs.LatchingLaws.{went_both, went_beside, known_beside}
@@ -112,6 +113,26 @@ module _ (sizes : Sizes) (roots : ℕ) (lawful : List Entry → Type 0) (opening
         names = record { child = λ _. is ∙ (ap (child_for key 0) (sym records) ∙ ap (λ (l : List Entry). child_for key 0 (pages_after opening l page).records) (sym b.seen)); left = λ z. absurd (omega arith) };
       }
 
+  -- the key's leaf, of which nothing is looked up but what it has of the key
+  pub leaf_linked : (leaf : ℕ) (p q : PassState) → IsAt sizes lawful opening root key (claim_grant ∷ []) leaf 0 S p → is_claimed p.view.memory.since ≡ true → HasReadWords p q
+      → NamesLink sizes lawful opening root key leaf 0 (pages_after opening q.view.memory.seen leaf).prev p q
+  leaf_linked leaf p q at claimed read =
+      let b = beside_read p q read in
+      let since : is_claimed q.view.memory.since ≡ true = ap (λ (r : PassState). is_claimed r.view.memory.since) read.same ∙ claimed in
+      record {
+        at = at_read sizes lawful opening root key (claim_grant ∷ []) leaf 0 S p q at read;
+        keeps = keeps_beside p q b.seen since;
+        went = went_beside p q b;
+        grants = ap (λ (r : PassState). r.view.grants) read.same;
+        names = record { child = λ up. absurd (omega arith); left = λ _. refl };
+      }
+
+  pub leaf_value : (leaf : ℕ) (value : Option ℕ) (p q : PassState) → IsAt sizes lawful opening root key (claim_grant ∷ []) leaf 0 S p → HasReadWords p q
+      → value ≡ value_at key (records_of (image_of (memory_after opening p.view.memory.seen) leaf)) → value ≡ value_at key (pages_after opening q.view.memory.seen leaf).records
+  leaf_value leaf value p q at read is =
+      let records = (page_image p.view.memory.seen leaf 0 at.known.legal at.on_path).image.records in
+      is ∙ (ap (value_at key) (sym records) ∙ ap (λ (l : List Entry). value_at key (pages_after opening l leaf).records) (sym (beside_read p q read).seen))
+
   pub child_small : (page level : ℕ) (p : PassState) → IsAt sizes lawful opening root key (claim_grant ∷ []) page level S p → 0 < level
       → child_for key 0 (records_of (image_of (memory_after opening p.view.memory.seen) page)) < sizes.pages
   child_small page zero p at up = absurd (omega arith)
@@ -161,3 +182,14 @@ module _ (sizes : Sizes) (roots : ℕ) (lawful : List Entry → Type 0) (opening
           on_path = subst (λ l. IsOnPath (pages_after opening l) root key page level) (sym gave.beside.seen) linked.at.on_path;
           names = subst (λ l. IsLink (pages_after opening l) key page level link) (sym gave.beside.seen) linked.names;
         }
+
+        pub value_read : (value : Option ℕ) → value ≡ value_at key (pages_after opening r.view.memory.seen page).records → HasReadValue sizes lawful opening key page value p s
+        value_read value is =
+            let l = link_read in
+            record {
+              index = l.index;
+              keeps = l.keeps;
+              went = l.went;
+              grants = l.grants;
+              value_is = is ∙ ap (λ (l : List Entry). value_at key (pages_after opening l page).records) (sym gave.beside.seen);
+            }

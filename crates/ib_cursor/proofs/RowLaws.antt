@@ -42,6 +42,14 @@ once-counted pages [] few inside = tt
 once-counted pages (v ∷ vs) few inside =
     (inside.0, none-counted v.page vs (let o = counts_page-own v.page 0 v refl in let f = few v.page in omega arith), once-counted pages vs (λ n. let f = few n in omega arith) inside.1)
 
+-- what a page is, that there is where its number is not 0
+pub beside_all : (P : ℕ → Type 0) (page : ℕ) → P page → AllByRecursion P (beside page)
+beside_all P page is = by_test (page == 0)
+  where
+    by_test : (t : Bool) → AllByRecursion P (cond t [] (page ∷ []))
+    by_test true = tt
+    by_test false = (is, tt)
+
 -- parts of such a list
 pub once_right : (xs ys : List ℕ) (pages : ℕ) → AreOnce (xs ++ ys) pages → AreOnce ys pages
 once_right [] ys pages o = o
@@ -200,6 +208,17 @@ module _ (pages : ℕ) (m : PageMemory) (bits : ℕ → ℕ) (roots : ℕ) (law 
   mids-are : pages_in mids ≡ with_siblings m key node
   mids-are = pages-children middle (first_rank siblings.behind place.visit.high) ∙ middle-pages trio.left trio.here trio.right
 
+  -- each of them is met by the tree
+  row-met : AllByRecursion (λ v. 1 ≤ weight_of (counts_page v.page) m root) (front ++ (mids ++ back))
+  row-met = row-each (λ n. 1 ≤ weight_of (counts_page n) m root) (front ++ (mids ++ back)) (λ n one. let a = row-le n in omega arith)
+
+  both-met : AllByRecursion (λ v. 1 ≤ weight_of (counts_page v.page) m root) (mids ++ back)
+  both-met = AllByRecursion-right (λ v. 1 ≤ weight_of (counts_page v.page) m root) front (mids ++ back) row-met
+
+  pub siblings_met : AllByRecursion (λ n. 1 ≤ weight_of (counts_page n) m root) (with_siblings m key node)
+  siblings_met = subst (AllByRecursion (λ n. 1 ≤ weight_of (counts_page n) m root)) mids-are
+      (row-pages (λ n. 1 ≤ weight_of (counts_page n) m root) mids (AllByRecursion-left (λ v. 1 ≤ weight_of (counts_page v.page) m root) mids back both-met))
+
   -- they are each there once, and are pages of the level below
   pub siblings_once : AreOnce (with_siblings m key node) pages
   siblings_once = subst (λ ps. AreOnce ps pages) mids-are (once_left (pages_in mids) (pages_in back) pages both-once)
@@ -240,3 +259,12 @@ module _ (pages : ℕ) (m : PageMemory) (bits : ℕ → ℕ) (roots : ℕ) (law 
           let one : beside v.page ≡ v.page ∷ [] = ap (λ b. cond b [] (v.page ∷ [])) (ne_eqb v.page 0 are.0.some) in
           subst (λ ps. AreOnce (with_siblings m key node ++ ps) pages × AllByRecursion (IsRowPage m level) ps) (sym one)
           (once_left (with_siblings m key node ++ v.page ∷ []) (pages_in vs) pages (subst (λ ps. AreOnce ps pages) (sym (append_assoc (with_siblings m key node) (v.page ∷ []) (pages_in vs))) once), (are.0, tt))
+
+  pub behind_met : level ≡ 0 → AllByRecursion (λ n. 1 ≤ weight_of (counts_page n) m root) (beside (m (last_of (with_siblings m key node))).next)
+  behind_met z =
+      subst (λ n. AllByRecursion (λ k. 1 ≤ weight_of (counts_page k) m root) (beside n)) (sym (next-is z))
+      (first back (AllByRecursion-right (λ v. 1 ≤ weight_of (counts_page v.page) m root) mids back both-met))
+    where
+      first : (vs : List Visit) → AllByRecursion (λ v. 1 ≤ weight_of (counts_page v.page) m root) vs → AllByRecursion (λ n. 1 ≤ weight_of (counts_page n) m root) (beside (first_page vs 0))
+      first [] are = tt
+      first (v ∷ vs) are = beside_all (λ n. 1 ≤ weight_of (counts_page n) m root) v.page are.0

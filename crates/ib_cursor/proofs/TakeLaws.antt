@@ -248,8 +248,8 @@ will_rest sizes lawful opening held one two p q w t = record {
 }
 
 -- the nodes of a path, by their places in it
-module _ (sizes : Sizes) (lawful : List Entry → Type 0) (opening : ℕ → ℕ) (front more path items : List ℕ) (leaf at : ℕ) (p q : PassState) (is : path ≡ front ++ leaf ∷ []) (same : items ≡ path) (upper : at + 1 < length items)
-    (will : WillTake sizes lawful opening [] (front ++ more) p) (taken : HasTakenMore sizes lawful opening [] (take at front) p q) where
+module _ (sizes : Sizes) (lawful : List Entry → Type 0) (opening : ℕ → ℕ) (held front more path items : List ℕ) (leaf at : ℕ) (p q : PassState) (is : path ≡ front ++ leaf ∷ []) (same : items ≡ path) (upper : at + 1 < length items)
+    (will : WillTake sizes lawful opening held (front ++ more) p) (taken : HasTakenMore sizes lawful opening held (take at front) p q) where
   within : at < length front
   within = let a = ap length same in let b = ap length is in let c = length-append front (leaf ∷ []) in omega arith
 
@@ -263,18 +263,18 @@ module _ (sizes : Sizes) (lawful : List Entry → Type 0) (opening : ℕ → ℕ
   whole = sym (append_assoc (take at front) (get_or items at 0 ∷ drop (at + 1) front) more)
       ∙ ap (λ ps. ps ++ more) (sym (append_assoc (take at front) (get_or items at 0 ∷ []) (drop (at + 1) front)) ∙ (ap (λ ps. ps ++ drop (at + 1) front) (sym one-more) ∙ take-append-drop (at + 1) front))
 
-  rest : WillTake sizes lawful opening (take at front) (get_or items at 0 ∷ drop (at + 1) front ++ more) q
-  rest = will_rest sizes lawful opening [] (take at front) (get_or items at 0 ∷ drop (at + 1) front ++ more) p q (subst (λ ps. WillTake sizes lawful opening [] ps p) (sym whole) will) taken
+  rest : WillTake sizes lawful opening (held ++ take at front) (get_or items at 0 ∷ drop (at + 1) front ++ more) q
+  rest = will_rest sizes lawful opening held (take at front) (get_or items at 0 ∷ drop (at + 1) front ++ more) p q (subst (λ ps. WillTake sizes lawful opening held ps p) (sym whole) will) taken
 
-  pub node_can : CanTakePage sizes lawful opening (take at front) (get_or items at 0) q × (get_or items at 0 < sizes.pages)
-  node_can = can_first sizes lawful opening (take at front) (get_or items at 0) (drop (at + 1) front ++ more) q rest
+  pub node_can : CanTakePage sizes lawful opening (held ++ take at front) (get_or items at 0) q × (get_or items at 0 < sizes.pages)
+  node_can = can_first sizes lawful opening (held ++ take at front) (get_or items at 0) (drop (at + 1) front ++ more) q rest
 
   pub node_room : total q.view.grants ≤ total p.view.grants + 24
-  node_room = let f = rest.few in let l = length-append (take at front) (get_or items at 0 ∷ drop (at + 1) front ++ more) in let a = taken.s in let b = taken.sx in let c = taken.x in omega arith
+  node_room = let f = rest.few in let k = length-append held (take at front) in let l = length-append (held ++ take at front) (get_or items at 0 ∷ drop (at + 1) front ++ more) in let a = taken.s in let b = taken.sx in let c = taken.x in omega arith
 
-  pub node_step : (r : PassState) → HasTakenPage sizes lawful opening (take at front) (get_or items at 0) q r → HasTakenMore sizes lawful opening [] (take (at + 1) front) p r
-  node_step r k = subst (λ ps. HasTakenMore sizes lawful opening [] ps p r) (sym one-more)
-      (more_both sizes lawful opening [] (take at front) (get_or items at 0 ∷ []) p q r taken (more_one sizes lawful opening (take at front) (get_or items at 0) q r k))
+  pub node_step : (r : PassState) → HasTakenPage sizes lawful opening (held ++ take at front) (get_or items at 0) q r → HasTakenMore sizes lawful opening held (take (at + 1) front) p r
+  node_step r k = subst (λ ps. HasTakenMore sizes lawful opening held ps p r) (sym one-more)
+      (more_both sizes lawful opening held (take at front) (get_or items at 0 ∷ []) p q r taken (more_one sizes lawful opening (held ++ take at front) (get_or items at 0) q r k))
 
 pub take_whole : (front : List ℕ) (at : ℕ) → at ≡ length front → take at front ≡ front
 take_whole front at e = ap (take at) (sym (append-nil front)) ∙ take_at front [] at (sym e)

@@ -14,7 +14,7 @@ use Rattle.ib_walk.specs.Search.{child_for}
 use Rattle.ib_walk.specs.Trees.{height_of, weight_of, IsLawful}
 use Rattle.ib_walk.specs.Walk.{counts_page}
 use Rattle.ib_walk.specs.Words.{bits_of}
-use Rattle.ib_walk.proofs.WalkLaws.{AllByRecursion-left}
+use Rattle.ib_walk.proofs.WalkLaws.{AllByRecursion-append, AllByRecursion-left}
 use Rattle.ib_plans.specs.Agreement.{last_of, path_down, path_of}
 use Rattle.ib_plans.proofs.MetLaws.{root-met}
 use Rattle.ib_tree.specs.Logs.{pages_after}
@@ -22,21 +22,26 @@ use Rattle.ib_tree.specs.PageLists.{is_listed, AreOnce}
 use Rattle.ib_cursor.specs.OnPath.{IsOnPath}
 use Rattle.ib_cursor.specs.Claims.{beside}
 use Rattle.ib_cursor.specs.Going.{IsKnown}
-use Rattle.ib_cursor.specs.Rows.{CanTakeRow, HasTakenRows}
+use Rattle.ib_cursor.specs.Rows.{CanTakeRow, HasTakenRows, MayTakeRows}
 use Rattle.ib_cursor.specs.Shapes.{ShapeLaws, HasIndex}
 use Rattle.ib_cursor.specs.Siblings.{IsPathWithSiblings, with_siblings}
 use Rattle.ib_cursor.specs.Takings.{AreSteady, CanTakePage, HasTakenMore, HasTakenPage, WillTake}
 use Rattle.ib_cursor.proofs.EndLaws.{holds_none, inside-met}
-use Rattle.ib_cursor.proofs.LevelLaws.{all_once, last_among, last_append, on, row_once, path_among}
+use Rattle.ib_cursor.proofs.LevelLaws.{all_once, among_right, apart_once, behind_all_met, last_among, last_append, on, row_met, row_once, rows_met, path_among}
+use Rattle.ib_cursor.proofs.ClaimLaws.{keeps_beside}
 use Rattle.ib_cursor.proofs.ReadLaws.{keeps_path}
 use Rattle.ib_cursor.proofs.RowLaws.{few_siblings, some_siblings}
 use Rattle.ib_cursor.proofs.TakeLaws.{IsRightLink, beside_few, more_both, more_one, right_link, steady_at}
 use Rattle.ib_cursor.proofs.OnPathLaws.{page_on-path}
+use Rattle.ib_cursor.proofs.OnceLaws.{once_here}
 
 -- a path begins with its root
 path-first : (m : PageMemory) (key : MapKey) (height page : ℕ) → (rest : List ℕ) × (path_down m key height page ≡ page ∷ rest)
 path-first m key zero page = ([], refl)
 path-first m key (suc height) page = (path_down m key height (child_for key 0 (m page).records), refl)
+
+pub path_some : (m : PageMemory) (key : MapKey) (root : ℕ) → 1 ≤ length (path_of m key root)
+path_some m key root = let first = path-first m key (height_of m root) root in let l = ap length first.1 in omega arith
 
 -- where nodes are the same, so are their rows
 rows-same : (m new : PageMemory) (key : MapKey) (ps : List ℕ) → AllByRecursion (λ n. new n ≡ m n) ps → flat_map (with_siblings new key) ps ≡ flat_map (with_siblings m key) ps
@@ -54,15 +59,28 @@ steady-all opening held p q steady [] among = tt
 steady-all opening held p q steady (n ∷ ns) among = (steady_at opening held p q steady n among.0, steady-all opening held p q steady ns among.1)
 
 module _ (sizes : Sizes) (roots : ℕ) (lawful : List Entry → Type 0) (opening : ℕ → ℕ) (shape : ShapeLaws sizes.pages roots lawful opening) (root : ℕ) (some : 0 < root) (le : root ≤ roots) (key : MapKey) (lt : rank key < end_rank) where
-  -- the root
-  pub root_can : (p : PassState) → HasIndex sizes lawful p → CanTakePage sizes lawful opening [] root p × (root < sizes.pages)
-  root_can p index = (
-    record { holds = holds_none sizes lawful opening p index; other = refl; few = omega arith },
-    inside-met sizes roots lawful opening shape root some le key lt p.view.memory.seen index.known.legal root (root-met (pages_after opening p.view.memory.seen) root),
-  )
+  -- where nothing is held but the index
+  pub rows_none : (path : List ℕ) (p : PassState) → length path ≤ 8 → HasIndex sizes lawful p → MayTakeRows sizes lawful opening root path [] p
+  rows_none path p short index = record { holds = holds_none sizes lawful opening p index; once = tt; apart = λ q known keeps. tt; few = omega arith }
 
-  pub rows_first : (path : List ℕ) (p q : PassState) → path ≡ path_of (pages_after opening p.view.memory.seen) key root → HasTakenPage sizes lawful opening [] root p q → HasTakenRows sizes lawful opening root key path 0 root p q
-  rows_first path p q on_path t =
+  -- the root
+  pub root_can : (path held : List ℕ) (p : PassState) → path ≡ path_of (pages_after opening p.view.memory.seen) key root → MayTakeRows sizes lawful opening root path held p → CanTakePage sizes lawful opening held root p × (root < sizes.pages)
+  root_can path held p on_path may =
+      let holds = may.holds in
+      let m : PageMemory = pages_after opening p.view.memory.seen in
+      let inside = inside-met sizes roots lawful opening shape root some le key lt p.view.memory.seen holds.known.legal root (root-met m root) in
+      let apart = may.apart p holds.known (keeps_beside p p refl holds.claimed) in (
+        record {
+          holds = holds;
+          other = (once_here held root [] sizes.pages (apart_once m root sizes.pages held (root ∷ []) may.once apart (inside, refl, tt) (root-met m root, tt))).0;
+          few = let f = may.few in let l = path_some m key root in let e = ap length on_path in omega arith;
+        },
+        inside,
+      )
+
+  pub rows_first : (path held : List ℕ) (p q : PassState) → path ≡ path_of (pages_after opening p.view.memory.seen) key root → HasTakenPage sizes lawful opening held root p q
+      → HasTakenRows sizes lawful opening held root key path 0 root p q
+  rows_first path held p q on_path t =
       let m : PageMemory = pages_after opening p.view.memory.seen in
       let first = path-first m key (height_of m root) root in
       record {
@@ -72,16 +90,20 @@ module _ (sizes : Sizes) (roots : ℕ) (lawful : List Entry → Type 0) (opening
         is = on_path ∙ first.1;
         many = refl;
         on_path = on_path ∙ sym (keeps_path sizes roots lawful opening shape root some le key lt p q t.holds.known t.keeps);
-        taken = more_one sizes lawful opening [] root p q t;
+        taken = more_one sizes lawful opening held root p q t;
         last_is = refl;
       }
 
-  module _ (path : List ℕ) (count last : ℕ) (p q : PassState) (short : length path ≤ 8) (rows : HasTakenRows sizes lawful opening root key path count last p q) where
+  module _ (path held : List ℕ) (count last : ℕ) (p q : PassState) (may : MayTakeRows sizes lawful opening root path held p) (rows : HasTakenRows sizes lawful opening held root key path count last p q) where
     abbrev m : PageMemory
     m = pages_after opening q.view.memory.seen
 
+    -- the rows that are taken, behind the pages that were held before
+    abbrev pub own_rows : List ℕ
+    own_rows = root ∷ flat_map (with_siblings m key) rows.above
+
     abbrev pub rows_held : List ℕ
-    rows_held = root ∷ flat_map (with_siblings m key) rows.above
+    rows_held = held ++ own_rows
 
     known : IsKnown sizes lawful q
     known = rows.taken.holds.known
@@ -93,16 +115,33 @@ module _ (sizes : Sizes) (roots : ℕ) (lawful : List Entry → Type 0) (opening
     within n met = inside-met sizes roots lawful opening shape root some le key lt q.view.memory.seen known.legal n met
 
     among : AllByRecursion (λ n. is_listed rows_held n ≡ true) (rows.above ++ rows.node ∷ [])
-    among = path_among sizes.pages m (bits_of sizes.pages (memory_after opening q.view.memory.seen)) roots law root some le within key lt path rows.above rows.node rows.rest rows.on_path rows.is
+    among = lifted (rows.above ++ rows.node ∷ []) (path_among sizes.pages m (bits_of sizes.pages (memory_after opening q.view.memory.seen)) roots law root some le within key lt path rows.above rows.node rows.rest rows.on_path rows.is)
+      where
+        lifted : (ps : List ℕ) → AllByRecursion (λ n. is_listed own_rows n ≡ true) ps → AllByRecursion (λ n. is_listed rows_held n ≡ true) ps
+        lifted [] all = tt
+        lifted (n ∷ ns) all = (among_right held own_rows n all.0, lifted ns all.1)
+
+    apart : AllByRecursion (λ n. weight_of (counts_page n) m root ≡ 0) held
+    apart = may.apart q known rows.taken.keeps
+
+    -- behind the pages that were held, rows of the tree are each there once
+    behind-held : (more : List ℕ) → AreOnce (own_rows ++ more) sizes.pages → AllByRecursion (λ n. 1 ≤ weight_of (counts_page n) m root) more → AreOnce (rows_held ++ more) sizes.pages
+    behind-held more once met =
+        let mine = rows_met sizes.pages m (bits_of sizes.pages (memory_after opening q.view.memory.seen)) roots law root some le within key lt path rows.above rows.node rows.rest rows.on_path rows.is in
+        subst (λ ps. AreOnce ps sizes.pages) (sym (append_assoc held own_rows more))
+        (apart_once m root sizes.pages held (own_rows ++ more) may.once apart once (AllByRecursion-append (λ n. 1 ≤ weight_of (counts_page n) m root) own_rows more mine met))
 
     many : length path ≡ count + 1 + length rows.rest
     many = let a = ap length rows.is in let b = length-append rows.above (rows.node ∷ rows.rest) in let c = rows.many in omega arith
 
-    few : length rows_held ≤ 1 + 3 * count
-    few = let a = rows-few m key rows.above in let b = rows.many in omega arith
+    few-own : length own_rows ≤ 1 + 3 * count
+    few-own = let a = rows-few m key rows.above in let b = rows.many in omega arith
+
+    few : length rows_held ≤ length held + 1 + 3 * count
+    few = let a = few-own in let b = length-append held own_rows in omega arith
 
     pub rows_room : total q.view.grants ≤ total p.view.grants + 22
-    rows_room = let a = rows.taken.s in let b = rows.taken.sx in let c = rows.taken.x in let d = few in let e = many in omega arith
+    rows_room = let a = rows.taken.s in let b = rows.taken.sx in let c = rows.taken.x in let d = few-own in let e = many in let f = may.few in omega arith
 
     -- the row below the next node
     module _ (up : count + 1 < length path) where
@@ -125,8 +164,10 @@ module _ (sizes : Sizes) (roots : ℕ) (lawful : List Entry → Type 0) (opening
           record {
             will = record {
               holds = rows.taken.holds;
-              once = row_once sizes.pages m (bits_of sizes.pages (memory_after opening q.view.memory.seen)) roots law root some le within key lt path rows.above rows.node rows.rest rows.on_path rows.is level.0 level.1;
-              few = let a = length-append rows_held (with_siblings m key rows.node) in let b = few_siblings m key rows.node in let c = few in omega arith;
+              once = behind-held (with_siblings m key rows.node)
+                  (row_once sizes.pages m (bits_of sizes.pages (memory_after opening q.view.memory.seen)) roots law root some le within key lt path rows.above rows.node rows.rest rows.on_path rows.is level.0 level.1)
+                  (row_met sizes.pages m (bits_of sizes.pages (memory_after opening q.view.memory.seen)) roots law root some le within key lt path rows.above rows.node rows.rest rows.on_path rows.is level.0 level.1);
+              few = let a = length-append rows_held (with_siblings m key rows.node) in let b = few_siblings m key rows.node in let c = few in let d = may.few in omega arith;
             };
             there = last-in rows.above rows.node among;
             kind = is.kind;
@@ -138,10 +179,10 @@ module _ (sizes : Sizes) (roots : ℕ) (lawful : List Entry → Type 0) (opening
           last-in (x ∷ xs) node a = last-in xs node a.1
 
       pub row_more : (t : PassState) (new : ℕ) → HasTakenMore sizes lawful opening rows_held (with_siblings m key rows.node) q t → new ≡ last_of (with_siblings m key rows.node)
-          → HasTakenRows sizes lawful opening root key path (count + 1) new p t
+          → HasTakenRows sizes lawful opening held root key path (count + 1) new p t
       row_more t new more is =
           let later : PageMemory = pages_after opening t.view.memory.seen in
-          let same : rows_held ++ with_siblings m key rows.node ≡ root ∷ flat_map (with_siblings later key) (rows.above ++ rows.node ∷ []) =
+          let same : own_rows ++ with_siblings m key rows.node ≡ root ∷ flat_map (with_siblings later key) (rows.above ++ rows.node ∷ []) =
           flat_map_more (with_siblings m key) (root ∷ []) rows.above rows.node
           ∙ ap (λ ps. root ∷ ps) (sym (rows-same m later key (rows.above ++ rows.node ∷ []) (steady-all opening rows_held q t more.steady (rows.above ++ rows.node ∷ []) among))) in
           let below = begins rows.rest (let e = level.1 in omega arith) in
@@ -152,8 +193,8 @@ module _ (sizes : Sizes) (roots : ℕ) (lawful : List Entry → Type 0) (opening
             is = rows.is ∙ (ap (λ ps. rows.above ++ rows.node ∷ ps) below.2 ∙ sym (append_assoc rows.above (rows.node ∷ []) (below.0 ∷ below.1)));
             many = let a = length-append rows.above (rows.node ∷ []) in let b = rows.many in omega arith;
             on_path = rows.on_path ∙ sym (keeps_path sizes roots lawful opening shape root some le key lt q t more.holds.known more.keeps);
-            taken = subst (λ ps. HasTakenMore sizes lawful opening [] ps p t) same (more_both sizes lawful opening [] rows_held (with_siblings m key rows.node) p q t rows.taken more);
-            last_is = is ∙ (sym (last_append rows_held (with_siblings m key rows.node) (some_siblings m key rows.node)) ∙ ap last_of same);
+            taken = subst (λ ps. HasTakenMore sizes lawful opening held ps p t) same (more_both sizes lawful opening held own_rows (with_siblings m key rows.node) p q t rows.taken more);
+            last_is = is ∙ (sym (last_append own_rows (with_siblings m key rows.node) (some_siblings m key rows.node)) ∙ ap last_of same);
           }
         where
           begins : (ps : List ℕ) → 0 < length ps → (x : ℕ) × (xs : List ℕ) × (ps ≡ x ∷ xs)
@@ -172,27 +213,31 @@ module _ (sizes : Sizes) (roots : ℕ) (lawful : List Entry → Type 0) (opening
       abbrev next : ℕ
       next = (m last).next
 
-      once : AreOnce (rows_held ++ beside (m (last_of rows_held)).next) sizes.pages × ((m (last_of rows_held)).kind ≡ Tree)
-      once = all_once sizes.pages m (bits_of sizes.pages (memory_after opening q.view.memory.seen)) roots law root some le within key lt path rows.above rows.node rows.on_path ends
+      own-once : AreOnce (own_rows ++ beside (m (last_of own_rows)).next) sizes.pages × ((m (last_of own_rows)).kind ≡ Tree)
+      own-once = all_once sizes.pages m (bits_of sizes.pages (memory_after opening q.view.memory.seen)) roots law root some le within key lt path rows.above rows.node rows.on_path ends
+
+      once : AreOnce (rows_held ++ beside (m (last_of own_rows)).next) sizes.pages
+      once = behind-held (beside (m (last_of own_rows)).next) own-once.0
+          (behind_all_met sizes.pages m (bits_of sizes.pages (memory_after opening q.view.memory.seen)) roots law root some le within key lt path rows.above rows.node rows.on_path ends)
 
       held-last : is_listed rows_held last ≡ true
-      held-last = subst (λ n. is_listed rows_held n ≡ true) (sym rows.last_is) (last_among rows_held (omega arith))
+      held-last = subst (λ n. is_listed rows_held n ≡ true) (sym rows.last_is) (among_right held own_rows (last_of own_rows) (last_among own_rows (omega arith)))
 
       pub behind_link : IsRightLink opening q last next
-      behind_link = right_link sizes lawful opening rows_held last next q rows.taken.holds held-last (subst (λ n. (m n).kind ≡ Tree) (sym rows.last_is) once.1) refl
+      behind_link = right_link sizes lawful opening rows_held last next q rows.taken.holds held-last (subst (λ n. (m n).kind ≡ Tree) (sym rows.last_is) own-once.1) refl
 
       pub behind_will : WillTake sizes lawful opening rows_held (beside next ++ []) q
       behind_will = subst (λ ps. WillTake sizes lawful opening rows_held ps q) (sym (append-nil (beside next))) (record {
         holds = rows.taken.holds;
-        once = subst (λ n. AreOnce (rows_held ++ beside (m n).next) sizes.pages) (sym rows.last_is) once.0;
-        few = let a = length-append rows_held (beside next) in let b = beside_few next in let c = few in omega arith;
+        once = subst (λ n. AreOnce (rows_held ++ beside (m n).next) sizes.pages) (sym rows.last_is) once;
+        few = let a = length-append rows_held (beside next) in let b = beside_few next in let c = few in let d = may.few in omega arith;
       })
 
       module _ (t : PassState) (more : HasTakenMore sizes lawful opening rows_held (beside next) q t) where
-        pub all_taken : HasTakenMore sizes lawful opening [] (rows_held ++ beside next) p t
-        all_taken = more_both sizes lawful opening [] rows_held (beside next) p q t rows.taken more
+        pub all_taken : HasTakenMore sizes lawful opening held (own_rows ++ beside next) p t
+        all_taken = more_both sizes lawful opening held own_rows (beside next) p q t rows.taken more
 
-        pub all_siblings : IsPathWithSiblings (pages_after opening t.view.memory.seen) root key path (rows_held ++ beside next)
+        pub all_siblings : IsPathWithSiblings (pages_after opening t.view.memory.seen) root key path (own_rows ++ beside next)
         all_siblings =
             let later : PageMemory = pages_after opening t.view.memory.seen in
             let nodes = AllByRecursion-left (λ n. later n ≡ m n) rows.above (rows.node ∷ []) (steady-all opening rows_held q t more.steady (rows.above ++ rows.node ∷ []) among) in
@@ -200,7 +245,7 @@ module _ (sizes : Sizes) (roots : ℕ) (lawful : List Entry → Type 0) (opening
               front = rows.above;
               leaf = rows.node;
               ends = ends;
-              levels = rows_held;
+              levels = own_rows;
               are = ap (λ ps. root ∷ ps) (sym (rows-same m later key rows.above nodes));
-              behind = ap (λ n. rows_held ++ beside n) (sym (ap (λ s. s.next) (steady_at opening rows_held q t more.steady last held-last)) ∙ ap (λ n. (later n).next) rows.last_is);
+              behind = ap (λ n. own_rows ++ beside n) (sym (ap (λ s. s.next) (steady_at opening rows_held q t more.steady last held-last)) ∙ ap (λ n. (later n).next) rows.last_is);
             }

@@ -59,6 +59,10 @@ one_if b = if b then 1 else 0
 abbrev pub AddsX : (ℕ → ℕ) → ℕ → ℕ → PassState → PassState → Type 0
 AddsX opening root level p q = (q.view.grants.x ≡ p.view.grants.x + one_if (level == 0)) ⊎ ((q.view.grants.x ≡ p.view.grants.x + 1 + one_if (level == 0)) × WasRaised opening root p.view.memory.seen q.view.memory.seen)
 
+-- behind no lawful log the tree of this root is higher than this
+abbrev pub IsNoHigher : (List Entry → Type 0) → (ℕ → ℕ) → ℕ → ℕ → Type 0
+IsNoHigher lawful opening root most = (log : List Entry) → lawful log → height_of (pages_after opening log) root ≤ most
+
 -- a descent has come to this page, with so many pages above it
 pub record IsDown (sizes : Sizes) (lawful : List Entry → Type 0) (opening : ℕ → ℕ) (root : ℕ) (key : MapKey) (front : List Grant) (exclusive : Bool) (above page level : ℕ) (p q : PassState) : Type 0 where
   pub mode : Mode
@@ -68,6 +72,7 @@ pub record IsDown (sizes : Sizes) (lawful : List Entry → Type 0) (opening : �
   pub went : WentOn p q
   pub looked : 0 < length went.added
   pub short : above + level ≤ MOST_LEVEL
+  pub low : (most : ℕ) → IsNoHigher lawful opening root most → above + level ≤ most
   pub sx : q.view.grants.sx ≡ p.view.grants.sx
   pub finds : exclusive ≡ false → (q.view.grants.s ≡ p.view.grants.s + 2 + above) × (q.view.grants.x ≡ p.view.grants.x)
   pub s : q.view.grants.s ≤ p.view.grants.s + 2 + above
@@ -96,6 +101,7 @@ pub record HasReached (sizes : Sizes) (lawful : List Entry → Type 0) (opening 
   pub sx : q.view.grants.sx ≡ p.view.grants.sx
   pub finds : exclusive ≡ false → (q.view.grants.s ≡ p.view.grants.s + 1 + length path) × (q.view.grants.x ≡ p.view.grants.x)
   pub s : q.view.grants.s ≤ p.view.grants.s + 9
+  pub low : (most : ℕ) → IsNoHigher lawful opening root most → q.view.grants.s ≤ p.view.grants.s + 2 + most
   pub changes : exclusive ≡ true → q.view.grants.s + one_if (nat_lt 1 (length path)) ≡ p.view.grants.s + 1 + length path
   pub x : exclusive ≡ true → (q.view.grants.x ≡ p.view.grants.x + 1) ⊎ ((q.view.grants.x ≡ p.view.grants.x + 2) × WasRaised opening root p.view.memory.seen q.view.memory.seen)
 

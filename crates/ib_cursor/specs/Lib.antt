@@ -15,3 +15,4 @@ pub mod Takings
 pub mod Rows
 pub mod Positions
 pub mod Guesses
+pub mod Pairs

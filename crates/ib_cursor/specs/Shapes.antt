@@ -1,7 +1,8 @@
 -- What lawful entries say of the shape of trees, and of those that a session may first see while it has the index in SX.
-use Rattle.std.specs.Prelude.{◌≡◌, ℕ, ◌+◌, ◌<◌, ◌≤◌, ◌==◌, ◌&&◌, ◌||◌, Bool, true, false, List, [], ◌∷◌, ◌++◌, length, Some}
+use Rattle.std.specs.Prelude.{◌≡◌, ℕ, ◌+◌, ◌<◌, ◌≤◌, ◌==◌, ◌&&◌, ◌||◌, Bool, true, false, List, [], ◌∷◌, ◌++◌, length, Option, Some}
 use Rattle.std.specs.List.{AllByRecursion}
 use Rattle.ib_map.specs.Keys.{MapKey}
+use Rattle.ib_map.specs.Pairs.{value_at}
 use Rattle.ib_map.specs.Writes.{touches, spans_pages}
 use Rattle.ib_levels.specs.declared.level.Mode.TheVariants.{S}
 use Rattle.ib_heap.specs.declared.TheConstants.{MOST_LEVEL}
@@ -78,6 +79,14 @@ pub record HasReadLink (sizes : Sizes) (lawful : List Entry → Type 0) (opening
   pub grants : q.view.grants ≡ with_grant (Some S) p.view.grants
   pub on_path : IsOnPath (pages_after opening q.view.memory.seen) root key page level
   pub names : IsLink (pages_after opening q.view.memory.seen) key page level link
+
+-- the key's leaf was looked at in S behind the claimed index, and given up again: this is what it has of the key
+pub record HasReadValue (sizes : Sizes) (lawful : List Entry → Type 0) (opening : ℕ → ℕ) (key : MapKey) (leaf : ℕ) (value : Option ℕ) (p q : PassState) : Type 0 where
+  pub index : HasIndex sizes lawful q
+  pub keeps : KeepsClaim p q
+  pub went : WentOn p q
+  pub grants : q.view.grants ≡ with_grant (Some S) p.view.grants
+  pub value_is : value ≡ value_at key (pages_after opening q.view.memory.seen leaf).records
 
 -- the path was read down to a page, with these pages above it
 pub record IsReading (sizes : Sizes) (lawful : List Entry → Type 0) (opening : ℕ → ℕ) (root : ℕ) (key : MapKey) (above : List ℕ) (page level link : ℕ) (p q : PassState) : Type 0 where

@@ -80,6 +80,14 @@ MayTakeFirst sizes lawful opening first p = (held : List ℕ) × (more : List �
 abbrev pub TakesFirst : Sizes → (List Entry → Type 0) → (ℕ → ℕ) → List ℕ → PassState → PassState → Type 0
 TakesFirst sizes lawful opening first p q = (held more : List ℕ) → WillTake sizes lawful opening held (first ++ more) p → HasTakenMore sizes lawful opening held first p q
 
+-- the pages of a path that was read may be taken behind those that are held, and on the leaf level those beside its leaf, from left to right: the leaf's link to the right stays as it is, as long as the index is claimed
+pub record MayTakePath (sizes : Sizes) (lawful : List Entry → Type 0) (opening : ℕ → ℕ) (held path : List ℕ) (leaf left : ℕ) (p : PassState) : Type 0 where
+  pub front : List ℕ
+  pub right : ℕ
+  pub ends : path ≡ front ++ leaf ∷ []
+  pub will : WillTake sizes lawful opening held (front ++ (beside left ++ leaf ∷ beside right)) p
+  pub names : (q : PassState) → IsKnown sizes lawful q → KeepsClaim p q → ((pages_after opening q.view.memory.seen leaf).kind ≡ Tree) × ((pages_after opening q.view.memory.seen leaf).next ≡ right)
+
 -- the leaf level may be taken: the leaf's link to the right stays as it is, as long as the index is claimed
 pub record MayTakeLeaves (sizes : Sizes) (lawful : List Entry → Type 0) (opening : ℕ → ℕ) (leaf left : ℕ) (p : PassState) : Type 0 where
   pub held : List ℕ

@@ -14,12 +14,12 @@ ghost use Rattle.ib_mtr.specs.Mtr.{IsMtr, IsStillMtr};
 ghost use Rattle.ib_cursor.specs.Claims.{HasClaimed, IsPathWithLeaves, beside, claim_grant};
 ghost use Rattle.ib_cursor.specs.Descent.{IsAt, MayDescend};
 ghost use Rattle.ib_cursor.specs.Going.{HasLatched};
-ghost use Rattle.ib_cursor.specs.Shapes.{HasIndex, HasReadLink, HasReadPath, NamesLink, ShapeLaws, is_claimed};
+ghost use Rattle.ib_cursor.specs.Shapes.{HasIndex, HasReadLink, HasReadPath, HasReadValue, NamesLink, ShapeLaws, is_claimed};
 ghost use Rattle.ib_cursor.specs.Spaces.{pages_under};
-ghost use Rattle.ib_cursor.specs.Takings.{CanTakePage, HasTakenMore, HasTakenPage, MayTakeFirst, MayTakeLeaves, TakesFirst, WillTake};
+ghost use Rattle.ib_cursor.specs.Takings.{CanTakePage, HasTakenMore, HasTakenPage, MayTakeFirst, MayTakeLeaves, MayTakePath, TakesFirst, WillTake};
 ghost use Rattle.ib_cursor.specs.OnPath.{IsOnPath, IsRoot, IsSought};
 
-use crate::held_page::{child_of, level_of};
+use crate::held_page::{child_of, level_of, value_of};
 use crate::latch_page::{latch_page, look, read, take};
 use crate::search::Sought;
 use ib_latch::{Parkers, Sleep};
@@ -44,9 +44,9 @@ pub(crate) fn facts_of_trees<L: Trees, S: Sleep>(mtr: &Mtr<'_, L, S>)
     let _ = mtr.geometry().pages();
 }
 
-// Claims the index: takes it in SX, and looks. Nothing is held before, and of what was known of the
-// index before nothing is left.
-pub(crate) fn claim_index<L: Law, R: Wait>(rt: &R, mtr: &mut Mtr<'_, L, Parkers>)
+/// Claims the index (`mtr_sx_lock` of the index before a search with `BTR_MODIFY_TREE`): takes it in SX, and looks. Nothing
+/// is held before, and of what was known of the index before nothing is left.
+pub fn claim_index<L: Law, R: Wait>(rt: &R, mtr: &mut Mtr<'_, L, Parkers>)
     requires mtr { IsMtr mtr.old.latches.now mtr.old.pass.now }
     requires memo { mtr.old.pass.now.memo ≡ [] }
     requires room { HasGrantLeft mtr.old.pass.now.view }
@@ -143,17 +143,17 @@ fn read_link<L: Trees, R: Wait>(
     Named { level, link }
 }
 
-// The path of a key, from the root to the leaf, its leaf, and the leaf before that, 0 for none.
+/// The path of a key, from the root to the leaf, its leaf, and the leaf before that, 0 for none.
 #[derive(Drop)]
-pub(crate) struct FoundPath {
-    pub(crate) path: Path,
-    leaf: u32,
-    left: u32,
+pub struct FoundPath {
+    pub path: Path,
+    pub leaf: u32,
+    pub left: u32,
 }
 
-// Reads the path page by page behind the claimed index, with no page held while the next is taken: the
-// claim keeps the path.
-pub(crate) fn read_path<L: Trees, R: Wait>(
+/// Reads the path of a key page by page behind the claimed index, with no page held while the next is taken: the
+/// claim keeps the path.
+pub fn read_path<L: Trees, R: Wait>(
     rt: &R,
     mtr: &mut Mtr<'_, L, Parkers>,
     sought: Sought,
@@ -185,6 +185,31 @@ pub(crate) fn read_path<L: Trees, R: Wait>(
         leaf: page,
         left: link,
     }
+}
+
+/// What the key's leaf has of it, looked up where it lies in S behind the claimed index; the leaf is given up again at
+/// once. None where the key is not there.
+pub fn read_value<L: Trees, R: Wait>(
+    rt: &R,
+    mtr: &mut Mtr<'_, L, Parkers>,
+    sought: Sought,
+    leaf: u32,
+) -> Option<u64>
+    requires mtr { IsMtr mtr.old.latches.now mtr.old.pass.now }
+    requires index { under_lawful L.Law mtr.old.latches.now HasIndex mtr.old.pass.now }
+    requires on_path { IsOnPath (pages_under L.Law mtr.old.latches.now mtr.old.pass.now)
+        sought.root sought.key leaf 0 }
+    requires room { HasGrantLeft mtr.old.pass.now.view }
+    requires sought { IsSought L.ROOTS sought.root sought.key }
+    ensures still { IsStillMtr mtr.old mtr.new }
+    ensures value_read { under L.Law mtr.old.latches.now HasReadValue sought.key leaf result
+        mtr.old.pass.now mtr.new.pass.now }
+{
+    facts_of_trees(mtr);
+    latch_page(rt, mtr, leaf, Mode::S);
+    let value = value_of(mtr, leaf, sought.key);
+    mtr.release_at(1);
+    value
 }
 
 // Takes a page in X behind the claimed index and the pages that are held already, and loads it.
@@ -220,17 +245,17 @@ pub(crate) fn take_beside<L: Law, R: Wait>(rt: &R, mtr: &mut Mtr<'_, L, Parkers>
     take_page(rt, mtr, page);
 }
 
-// Takes the nodes of the path, from the root down.
+// Takes the nodes of the path, from the root down, behind the pages that are held already.
 fn take_nodes<L: Law, R: Wait>(rt: &R, mtr: &mut Mtr<'_, L, Parkers>, path: &Path)
     requires mtr { IsMtr mtr.old.latches.now mtr.old.pass.now }
     requires room { HasGrantsLeft 32 mtr.old.pass.now.view }
-    requires ready { (front : List ℕ) × (more : List ℕ) × (leaf : ℕ)
-        × (path.now ≡ front ++ leaf ∷ []) × under L.Law mtr.old.latches.now WillTake []
+    requires ready { (held : List ℕ) × (front : List ℕ) × (more : List ℕ) × (leaf : ℕ)
+        × (path.now ≡ front ++ leaf ∷ []) × under L.Law mtr.old.latches.now WillTake held
         (front ++ more) mtr.old.pass.now }
     ensures still { IsStillMtr mtr.old mtr.new }
-    ensures taken { (front more : List ℕ) (leaf : ℕ) → path.now ≡ front ++ leaf ∷ []
-        → under L.Law mtr.old.latches.now WillTake [] (front ++ more) mtr.old.pass.now
-        → under L.Law mtr.old.latches.now HasTakenMore [] front mtr.old.pass.now
+    ensures taken { (held front more : List ℕ) (leaf : ℕ) → path.now ≡ front ++ leaf ∷ []
+        → under L.Law mtr.old.latches.now WillTake held (front ++ more) mtr.old.pass.now
+        → under L.Law mtr.old.latches.now HasTakenMore held front mtr.old.pass.now
         mtr.new.pass.now }
 {
     let pages = path.pages();
@@ -268,6 +293,24 @@ fn take_leaves<L: Law, R: Wait>(rt: &R, mtr: &mut Mtr<'_, L, Parkers>, leaf: u32
     take_page(rt, mtr, leaf);
     let right = right_of(mtr, leaf);
     take_beside(rt, mtr, right);
+}
+
+/// Takes the pages of a path that was read, behind the pages that are held already: its nodes from the root down, and on
+/// the leaf level from left to right the leaf before the key's leaf, that leaf, and the leaf behind it.
+pub fn take_path<L: Law, R: Wait>(rt: &R, mtr: &mut Mtr<'_, L, Parkers>, found: &FoundPath)
+    requires mtr { IsMtr mtr.old.latches.now mtr.old.pass.now }
+    requires room { HasGrantsLeft 48 mtr.old.pass.now.view }
+    requires ready { (held : List ℕ) × under L.Law mtr.old.latches.now MayTakePath held
+        found.now.path found.now.leaf found.now.left mtr.old.pass.now }
+    ensures still { IsStillMtr mtr.old mtr.new }
+    ensures taken { (held : List ℕ) (r : under L.Law mtr.old.latches.now MayTakePath held
+        found.now.path found.now.leaf found.now.left mtr.old.pass.now)
+        → under L.Law mtr.old.latches.now HasTakenMore held
+        (r.front ++ (beside found.now.left ++ found.now.leaf ∷ beside r.right)) mtr.old.pass.now
+        mtr.new.pass.now }
+{
+    take_nodes(rt, mtr, &found.path);
+    take_leaves(rt, mtr, found.leaf, found.left);
 }
 
 /// Descends to the leaf of a key for an insert that may change the tree's structure

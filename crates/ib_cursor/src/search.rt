@@ -28,9 +28,9 @@ impl Search {
     }
 }
 
-// The key that is sought, and the root of its tree.
+/// The key that is sought, and the root of its tree.
 #[derive(Clone, Copy)]
-pub(crate) struct Sought {
-    pub(crate) root: u32,
-    pub(crate) key: Key,
+pub struct Sought {
+    pub root: u32,
+    pub key: Key,
 }

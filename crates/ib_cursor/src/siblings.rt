@@ -2,7 +2,7 @@
 
 ghost use Rattle.std.specs.Prelude.{◌≡◌, ℕ, ◌<◌, ◌≤◌, ◌+◌, ◌-◌, ◌^◌, ◌∷◌, true, false, List, Some, length, slice_get, IsSomeAnd};
 ghost use Rattle.ib_map.specs.Keys.{rank};
-ghost use Rattle.ib_page.specs.Image.{IsTreePage, records_of};
+ghost use Rattle.ib_page.specs.Image.{IsFormed, IsTreePage, next_of, records_of};
 ghost use Rattle.ib_page.specs.Work.{changed_of};
 ghost use Rattle.ib_plans.specs.Agreement.{last_of, path_of};
 ghost use Rattle.ib_plans.specs.Merge.{siblings_of};
@@ -10,10 +10,10 @@ ghost use Rattle.ib_rule.specs.Conditions.{HasGrantLeft, HasGrantsLeft};
 ghost use Rattle.ib_rule.specs.Under.{under, under_lawful};
 ghost use Rattle.ib_rule.specs.Views.{is_watched};
 ghost use Rattle.ib_mtr.specs.Mtr.{IsMtr, IsStillMtr};
-ghost use Rattle.ib_cursor.specs.Claims.{HasClaimed};
+ghost use Rattle.ib_cursor.specs.Claims.{HasClaimed, beside};
 ghost use Rattle.ib_cursor.specs.Descent.{MayDescend};
-ghost use Rattle.ib_cursor.specs.Rows.{CanTakeRow, HasTakenRows};
-ghost use Rattle.ib_cursor.specs.Shapes.{HasIndex, is_claimed};
+ghost use Rattle.ib_cursor.specs.Rows.{CanTakeRow, HasTakenRows, MayTakeRows};
+ghost use Rattle.ib_cursor.specs.Shapes.{is_claimed};
 ghost use Rattle.ib_cursor.specs.Siblings.{IsPathWithSiblings, child_if, with_siblings};
 ghost use Rattle.ib_cursor.specs.Spaces.{pages_under};
 ghost use Rattle.ib_cursor.specs.Takings.{HasTakenMore, MayTakeFirst, TakesFirst};
@@ -93,23 +93,25 @@ fn take_row<L: Law, R: Wait>(rt: &R, mtr: &mut Mtr<'_, L, Parkers>, node: u32, k
     last_page(here, right)
 }
 
-// Takes the root and then, from the root down, the row below each node of the path. It answers the last
-// page that it took.
-fn take_rows<L: Trees, R: Wait>(
+/// Takes the root and then, from the root down, the row below each node of a path that was read, behind the pages of other
+/// trees that are held already. It answers the last page that it took.
+pub fn take_rows<L: Trees, R: Wait>(
     rt: &R,
     mtr: &mut Mtr<'_, L, Parkers>,
     path: &Path,
     sought: Sought,
 ) -> u32
     requires mtr { IsMtr mtr.old.latches.now mtr.old.pass.now }
-    requires index { under_lawful L.Law mtr.old.latches.now HasIndex mtr.old.pass.now }
+    requires ready { (held : List ℕ) × under L.Law mtr.old.latches.now MayTakeRows sought.root path.now
+        held mtr.old.pass.now }
     requires on_path { path.now ≡ path_of (pages_under L.Law mtr.old.latches.now mtr.old.pass.now)
         sought.key sought.root }
     requires room { HasGrantsLeft 32 mtr.old.pass.now.view }
     requires sought { IsSought L.ROOTS sought.root sought.key }
     ensures still { IsStillMtr mtr.old mtr.new }
-    ensures taken { under L.Law mtr.old.latches.now HasTakenRows sought.root sought.key path.now
-        (length path.now - 1) result mtr.old.pass.now mtr.new.pass.now }
+    ensures taken { (held : List ℕ) → under L.Law mtr.old.latches.now MayTakeRows sought.root path.now
+        held mtr.old.pass.now → under L.Law mtr.old.latches.now HasTakenRows held sought.root
+        sought.key path.now (length path.now - 1) result mtr.old.pass.now mtr.new.pass.now }
 {
     facts_of_trees(mtr);
     let pages = path.pages();
@@ -121,6 +123,23 @@ fn take_rows<L: Trees, R: Wait>(
         at += 1;
     }
     last
+}
+
+/// Takes the leaf behind a page that is held and loaded, by its link, where there is one.
+pub fn take_behind<L: Law, R: Wait>(rt: &R, mtr: &mut Mtr<'_, L, Parkers>, last: u32)
+    requires mtr { IsMtr mtr.old.latches.now mtr.old.pass.now }
+    requires loaded { (image : List ℕ) × (changed_of last mtr.old.pass.now.work ≡ Some image)
+        × IsFormed image }
+    requires room { HasGrantLeft mtr.old.pass.now.view }
+    requires ready { (image : List ℕ) → changed_of last mtr.old.pass.now.work ≡ Some image
+        → under L.Law mtr.old.latches.now MayTakeFirst (beside (next_of image)) mtr.old.pass.now }
+    ensures still { IsStillMtr mtr.old mtr.new }
+    ensures taken { (image : List ℕ) → changed_of last mtr.old.pass.now.work ≡ Some image
+        → under L.Law mtr.old.latches.now TakesFirst (beside (next_of image)) mtr.old.pass.now
+        mtr.new.pass.now }
+{
+    let behind = right_of(mtr, last);
+    take_beside(rt, mtr, behind);
 }
 
 /// Descends to the leaf of a key for a delete that may change the tree's structure
@@ -149,7 +168,6 @@ pub fn descend_to_delete<L: Trees, R: Wait>(
     let sought = Sought { root, key };
     let found = read_path(rt, mtr, sought);
     let last = take_rows(rt, mtr, &found.path, sought);
-    let behind = right_of(mtr, last);
-    take_beside(rt, mtr, behind);
+    take_behind(rt, mtr, last);
     found.path
 }

@@ -28,7 +28,7 @@ use Rattle.ib_mtr.specs.Mtr.{started}
 use Rattle.ib_cursor.specs.Guesses.{HasLatchedAlone, is_leaf, leaf_standing}
 use Rattle.ib_cursor.specs.Reading.{HasReadWords}
 use Rattle.ib_cursor.proofs.LatchingLaws.{seen_longer}
-use Rattle.ib_leaf.specs.Calls.{HasCalled}
+use Rattle.ib_leaf.specs.Calls.{HasCalled, tree_calls}
 use Rattle.ib_leaf.proofs.CallEnds.{known-r}
 use Rattle.ib_hash.specs.Lookups.{HasLookedByGuess, HasMissed, reply_for}
 use Rattle.ib_hash.specs.Right.{IsRightAfter, is_right}
@@ -135,7 +135,7 @@ module _ (sizes : Sizes) (fits : has_pages sizes.pages ≡ true) (key : MapKey) 
             bounds = ((omega arith, omega arith), ((omega arith, high), tt));
           };
           looked = omega arith;
-          known = known-r sizes p q at.went some-look role place r read;
+          known = known-r sizes (tree_calls sizes) p q at.went some-look role place r read;
         };
         first = length q.view.memory.seen;
         rest = place ∷ [];

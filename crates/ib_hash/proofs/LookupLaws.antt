@@ -29,7 +29,7 @@ use Rattle.ib_cursor.specs.Going.{WentOn}
 use Rattle.ib_cursor.specs.OnPath.{IsOnPath}
 use Rattle.ib_cursor.proofs.LogLaws.{path_stays}
 use Rattle.ib_cursor.proofs.OnPathLaws.{leaf_on-path}
-use Rattle.ib_leaf.specs.Calls.{HasCalled}
+use Rattle.ib_leaf.specs.Calls.{HasCalled, tree_calls}
 use Rattle.ib_leaf.proofs.CallEnds.{called-read, map-r, within-r}
 use Rattle.ib_leaf.proofs.LeafStays.{kept-laws}
 use Rattle.ib_hash.proofs.EndLaws.{calm-r, end-r, legal-r, page-r, seen-r}
@@ -75,6 +75,6 @@ module _ (sizes : Sizes) (fits : has_pages sizes.pages ≡ true) (key : MapKey) 
   pub called-get : (value : Option ℕ) (reply : Reply) → reply ≡ lookup_answer value → value ≡ value_at key (kept_pages sizes.pages q.view.memory.seen leaf).records
       → HasCalled sizes (IsKeptLog sizes.pages) start (Get key) (record { call = Get key; reply = reply; place = place }) p r
   called-get value reply is found =
-      let here : value ≡ value_at key (map_after (history_of r.view.memory.seen) place) = found ∙ (sym value-r ∙ ap (value_at key) (sym (map-r sizes p q went looked role place r read))) in
+      let here : value ≡ value_at key (map_after (history_of r.view.memory.seen) place) = found ∙ (sym value-r ∙ ap (value_at key) (sym (map-r sizes (tree_calls sizes) p q went looked role place r read))) in
       let said : reply ≡ lookup_of (map_after (history_of r.view.memory.seen) place) key = is ∙ ap lookup_answer here in
-      called-read sizes p q went looked role place r read (Get key) reply (ap is_made is ∙ lookup-made value) (record { map = (within-r sizes p q went looked role place r read, (said, refl)); tree = tt })
+      called-read sizes (tree_calls sizes) p q went looked role place r read (Get key) reply (ap is_made is ∙ lookup-made value) (record { map = (within-r sizes (tree_calls sizes) p q went looked role place r read, (said, refl)); tree = tt })

@@ -24,6 +24,7 @@ use Rattle.ib_cursor.specs.Grants.{HasGrants, page_grant}
 use Rattle.ib_cursor.specs.Guesses.{HasLatchedAlone, leaf_standing}
 use Rattle.ib_cursor.proofs.GrantLaws.{last_held}
 use Rattle.ib_cursor.proofs.LatchingLaws.{went_both, looked_then}
+use Rattle.ib_leaf.specs.Calls.{tree_calls}
 use Rattle.ib_leaf.specs.Ends.{HasLeftLeaf, grants_for, reaches_log}
 use Rattle.ib_leaf.specs.Leaf.{IsAtLeaf, IsSeated, WorksOnLeaf, leaf_page}
 use Rattle.ib_leaf.proofs.CallEnds.{known-r}
@@ -158,7 +159,7 @@ tried-wrong sizes key page some p q claimed place r read =
     record {
       some = some;
       is = refl;
-      stopped = record { went = went_both p q r claimed.went back; looked = looked_then p q r claimed.went back (omega arith); known = known-r sizes p q claimed.went claimed.looked claimed.seated.role place r read };
+      stopped = record { went = went_both p q r claimed.went back; looked = looked_then p q r claimed.went back (omega arith); known = known-r sizes (tree_calls sizes) p q claimed.went claimed.looked claimed.seated.role place r read };
       wrong = λ right.
           let was = guess-same sizes fits r.view.memory.seen q.view.memory.seen (legal-r sizes fits q place r read) claimed.known.legal page key some (sym (page-r sizes fits q place r read page claimed.watched)) right in
           let z : false ≡ true = claimed.told.1 was in cc;

@@ -77,24 +77,24 @@ module _ (pages : ℕ) (log : List Entry) (copy : List CopiedPage) (has : has_pa
   tail-grammar : AreInGrammar (length copy) (tail_of copy log)
   tail-grammar = subst (λ (n : ℕ). AreInGrammar n (tail_of copy log)) (sym is.size) (grammar-behind pages (first_place copy) log grammar)
 
-  words-are : (place : ℕ) → place < pages * PAGE_WORDS → restored copy (tail_of copy log) place ≡ memory_after opening_word log place
+  words-are : (place : ℕ) → place < pages * PAGE_WORDS → restored copy (tail_of copy log) place ≡ memory_after (opening_word 1) log place
   words-are place lt = copy_restores (by_place opening pages) pages log copy is place lt ∙ ap (λ (words : ℕ → ℕ). memory_after words log place) (by_place-opening pages)
 
-  opened : IsLawfulMemory pages 1 (memory_after opening_word log)
+  opened : IsLawfulMemory pages 1 (memory_after (opening_word 1) log)
   opened = subst (λ (words : ℕ → ℕ). IsLawfulMemory pages 1 (memory_after words log)) (by_place-opening pages) (IsLawfulMemory-after pages 1 (by_place opening pages) (opens pages has) (opens-empty pages) log lawful)
 
-  page-zero : image_of (restored copy (tail_of copy log)) 0 ≡ image_of (memory_after opening_word log) 0
+  page-zero : image_of (restored copy (tail_of copy log)) 0 ≡ image_of (memory_after (opening_word 1) log) 0
   page-zero =
       let some = some-pages pages has in
-      image_of-same (memory_after opening_word log) (restored copy (tail_of copy log)) 0 (λ index in-page. words-are (word_place 0 index) (omega arith))
+      image_of-same (memory_after (opening_word 1) log) (restored copy (tail_of copy log)) 0 (λ index in-page. words-are (word_place 0 index) (omega arith))
 
-  bits-are : (page : ℕ) → bits_of pages (restored copy (tail_of copy log)) page ≡ bits_of pages (memory_after opening_word log) page
+  bits-are : (page : ℕ) → bits_of pages (restored copy (tail_of copy log)) page ≡ bits_of pages (memory_after (opening_word 1) log) page
   unfolding bits_of
   bits-are page = let e = page-zero in rw e refl
 
-  pages-are : (page : ℕ) → pages_of (restored copy (tail_of copy log)) page ≡ pages_after opening_word log page
+  pages-are : (page : ℕ) → pages_of (restored copy (tail_of copy log)) page ≡ pages_after (opening_word 1) log page
   pages-are page = elim (cases_lt page pages) [
-    | inl lt ↦ pages_of-same (memory_after opening_word log) (restored copy (tail_of copy log)) page (λ index in-page. words-are (word_place page index) (omega arith))
+    | inl lt ↦ pages_of-same (memory_after (opening_word 1) log) (restored copy (tail_of copy log)) page (λ index in-page. words-are (word_place page index) (omega arith))
     | inr far ↦
         let size = is.size in
         let nowhere : pages_of (restored copy (tail_of copy log)) page ≡ memory_of [] page =
@@ -105,17 +105,17 @@ module _ (pages : ℕ) (log : List Entry) (copy : List CopiedPage) (has : has_pa
   -- what a copy of a lawful log and its tail restore is lawful
   pub restored-lawful : IsLawfulMemory pages 1 (restored copy (tail_of copy log))
   restored-lawful =
-      let bits : bits_of pages (restored copy (tail_of copy log)) ≡ bits_of pages (memory_after opening_word log) = λ i page. bits-are page i in
-      let memory : pages_of (restored copy (tail_of copy log)) ≡ pages_after opening_word log = λ i page. pages-are page i in
+      let bits : bits_of pages (restored copy (tail_of copy log)) ≡ bits_of pages (memory_after (opening_word 1) log) = λ i page. bits-are page i in
+      let memory : pages_of (restored copy (tail_of copy log)) ≡ pages_after (opening_word 1) log = λ i page. pages-are page i in
       record {
         space = subst (IsSpacePage pages) (sym page-zero) opened.space;
-        law = subst (λ m. IsLawful m (bits_of pages (restored copy (tail_of copy log))) 1) (sym memory) (subst (λ b. IsLawful (pages_after opening_word log) b 1) (sym bits) opened.law);
+        law = subst (λ m. IsLawful m (bits_of pages (restored copy (tail_of copy log))) 1) (sym memory) (subst (λ b. IsLawful (pages_after (opening_word 1) log) b 1) (sym bits) opened.law);
       }
 
   -- .. and has the map of the log
   pub restored-content : content_of (pages_of (restored copy (tail_of copy log))) 1 ≡ map_of log
   restored-content =
-      let memory : pages_of (restored copy (tail_of copy log)) ≡ pages_after opening_word log = λ i page. pages-are page i in
+      let memory : pages_of (restored copy (tail_of copy log)) ≡ pages_after (opening_word 1) log = λ i page. pages-are page i in
       ap (λ m. content_of m 1) memory
       ∙ (ap (λ (words : ℕ → ℕ). content_of (pages_after words log) 1) (sym (by_place-opening pages)) ∙ content_of-after pages 1 (by_place opening pages) (opens pages has) (opens-empty pages) log lawful)
 
@@ -124,7 +124,7 @@ module _ (pages : ℕ) (log : List Entry) (copy : List CopiedPage) (has : has_pa
     images-size : length memory ≡ pages
     images-size = h.size ∙ is.size
 
-    images-words : (place : ℕ) → place < pages * PAGE_WORDS → word_at memory place ≡ memory_after opening_word log place
+    images-words : (place : ℕ) → place < pages * PAGE_WORDS → word_at memory place ≡ memory_after (opening_word 1) log place
     images-words place lt = let size = is.size in h.words place (omega arith) ∙ words-are place lt
 
     pub restored-memory : IsMemory pages log memory

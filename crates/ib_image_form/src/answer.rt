@@ -1,7 +1,7 @@
 //! What is answered to an image file that was read.
 
 ghost use Rattle.std.specs.Prelude.{◌≡◌, ◌≤◌, length, None};
-ghost use Rattle.ib_io.specs.Told.{IsOutOfMemoryWhere, TellsFault, Told};
+ghost use Rattle.ib_io.specs.Told.{HasTold, IsOutOfMemoryWhere, Told};
 ghost use Rattle.ib_image.specs.ImageFaults.{front_fault};
 ghost use Rattle.ib_image_form.specs.Answers.{AnswersImage};
 
@@ -15,8 +15,7 @@ use std::alloc::Global;
 /// be wanting only where the numbers in front have no fault.
 pub fn answer_image<K: Sink>(alloc: Global, input: &[u8], sink: &mut K) -> Status
     requires { length input.now ≤ INPUT_BYTES }
-    ensures told { Told (AnswersImage input.now) (IsOutOfMemoryWhere (front_fault input.now ≡ None)) (K.written sink.old) (K.written sink.new) result }
-    ensures write { TellsFault Status.WriteFault result (K.faults sink.old) (K.faults sink.new) }
+    ensures { HasTold K.written K.faults (Told (AnswersImage input.now) (IsOutOfMemoryWhere (front_fault input.now ≡ None))) sink.old sink.new result }
 {
     match restore(alloc, input) {
         Ok(restored) => show(sink, restored),

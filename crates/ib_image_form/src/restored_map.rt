@@ -1,7 +1,7 @@
 //! What is printed of an image file: the map that it restores.
 
 ghost use Rattle.std.specs.Prelude.{◌≡◌};
-ghost use Rattle.ib_io.specs.Told.{IsWritten, TellsFault, ends};
+ghost use Rattle.ib_io.specs.Told.{HasTold, IsWritten, ends};
 ghost use Rattle.ib_text.specs.Output.{map_text};
 
 use ib_image::Restored;
@@ -26,8 +26,7 @@ impl Printed for MapText {
 
 /// Writes the map of what was restored.
 pub fn show<K: Sink>(sink: &mut K, restored: Restored) -> Status
-    ensures told { IsWritten (ends Status.Done (map_text restored.map)) (K.written sink.old) (K.written sink.new) result }
-    ensures write { TellsFault Status.WriteFault result (K.faults sink.old) (K.faults sink.new) }
+    ensures { HasTold K.written K.faults (IsWritten (ends Status.Done (map_text restored.map))) sink.old sink.new result }
 {
     tell(sink, MapText { restored }, Status::Done)
 }

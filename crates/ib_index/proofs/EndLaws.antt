@@ -16,7 +16,7 @@ use Rattle.ib_rule.specs.Pass.{PassState}
 use Rattle.ib_rule.specs.Views.{total}
 use Rattle.ib_mtr.specs.Commits.{HasRead}
 use Rattle.ib_mtr.specs.Mtr.{with_work}
-use Rattle.ib_leaf.specs.Calls.{HasCalled}
+use Rattle.ib_leaf.specs.Calls.{HasCalled, tree_calls}
 use Rattle.ib_leaf.proofs.CommitLaws.{CommitAnswered, ended-grants}
 use Rattle.ib_index.specs.Grows.{HasChangedTree, TakesAtMost}
 
@@ -33,10 +33,10 @@ changed-read sizes call reply place p t r read claimed few called =
     record { called = called; grants = takes }
 
 pub changed-ended : (sizes : Sizes) (call : Call) (change : Change) (made : Reply) (o : Result ℕ LogFull) (answer : Record) (work : List WorkPage) (p t r : PassState)
-    → CommitAnswered sizes call change made o answer (with_work work t) r → t.view.grants.sx ≤ p.view.grants.sx + 1 → total t.view.grants ≤ total p.view.grants + 63
+    → CommitAnswered sizes (tree_calls sizes) call change made o answer (with_work work t) r → t.view.grants.sx ≤ p.view.grants.sx + 1 → total t.view.grants ≤ total p.view.grants + 63
     → HasCalled sizes (IsKeptLog sizes.pages) (by_place opening sizes.pages) call answer p r → HasChangedTree sizes call answer p r
 changed-ended sizes call change made o answer work p t r e claimed few called =
-    let took = ended-grants sizes call change made o answer work t r e in
+    let took = ended-grants sizes (tree_calls sizes) call change made o answer work t r e in
     let most : total r.view.grants ≤ total t.view.grants + 1 = took.0 in
     let same : r.view.grants.sx ≡ t.view.grants.sx = took.1 in
     let claims : r.view.grants.sx ≤ p.view.grants.sx + 1 = omega arith in

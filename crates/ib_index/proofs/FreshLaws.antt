@@ -1,7 +1,7 @@
 -- Fresh pages are taken one after the other, behind page 0.
 use Rattle.std.specs.List.{All, AllByRecursion}
 use Rattle.std.specs.Prelude.{IsSome, IfSome, ◌==◌, ◌||◌, take, drop, get_or}
-use Rattle.std.proofs.Common.{◌≡◌, ◌≢◌, inl, inr, ℕ, zero, suc, ◌+◌, ◌<◌, ◌≤◌, Bool, true, false, List, [], ◌∷◌, ◌++◌, Option, Some, None, length, map, refl, sym, ap, subst, ◌∙◌, arith, eq-eqb, ne_eqb, append_assoc, append-nil, length-append}
+use Rattle.std.proofs.Common.{◌≡◌, ◌≢◌, inl, inr, ℕ, zero, suc, ◌+◌, ◌<◌, ◌≤◌, true, false, List, [], ◌∷◌, ◌++◌, Option, Some, None, length, map, refl, sym, ap, subst, ◌∙◌, arith, ne_eqb, append_assoc, append-nil, length-append}
 use Rattle.std.proofs.lemmas.Bool.{cases_eq}
 use Rattle.std.proofs.lemmas.List.{map-append, take-append-drop, take_at}
 use Rattle.std.proofs.lemmas.List.Elements.{All-nil, All-cons, All-head, All-tail}
@@ -23,6 +23,7 @@ use Rattle.ib_rule.specs.Pass.{PassState}
 use Rattle.ib_cursor.specs.Grants.{Grant}
 use Rattle.ib_cursor.proofs.OnceLaws.{among_append, once_here}
 use Rattle.ib_cursor.proofs.LatchingLaws.{went_both, went_none}
+use Rattle.ib_index.proofs.HeldLaws.{each-of}
 use Rattle.ib_index.specs.Grows.{HasGrown, HasTakenNew, IsGrowing, held_grant, new_pages, pages_held, space_pages, tree_pages}
 
 -- all pages that are held
@@ -69,7 +70,7 @@ lower : (n : ℕ) (bits : ℕ → ℕ) (xs : List ℕ) → AllByRecursion (λ q.
 lower n bits [] all = tt
 lower n bits (x ∷ xs) all = ((let a = all.0.0 in omega arith, all.0.1), lower n bits xs all.1)
 
-free-once : (bits : ℕ → ℕ) (page n k : ℕ) → AreOnce (take k (free_pages_from bits page n)) (page + n) × AllByRecursion (λ q. (page ≤ q) × (bits q ≡ 0)) (take k (free_pages_from bits page n))
+pub free-once : (bits : ℕ → ℕ) (page n k : ℕ) → AreOnce (take k (free_pages_from bits page n)) (page + n) × AllByRecursion (λ q. (page ≤ q) × (bits q ≡ 0)) (take k (free_pages_from bits page n))
 free-once bits page n zero = (tt, tt)
 free-once bits page zero (suc k) = (tt, tt)
 free-once bits page (suc n) (suc k) =
@@ -89,21 +90,13 @@ free-once bits page (suc n) (suc k) =
           (subst (AreOnce (take (suc k) (free_pages_from bits (page + 1) n))) end r.0, lower page bits (take (suc k) (free_pages_from bits (page + 1) n)) r.1)
     ]
 
-free-none : (bits : ℕ → ℕ) (n : ℕ) (xs : List ℕ) → bits n ≢ 0 → AllByRecursion (λ q. (0 ≤ q) × (bits q ≡ 0)) xs → is_listed xs n ≡ false
+pub free-none : (bits : ℕ → ℕ) (n : ℕ) (xs : List ℕ) → bits n ≢ 0 → AllByRecursion (λ q. (0 ≤ q) × (bits q ≡ 0)) xs → is_listed xs n ≡ false
 free-none bits n [] set all = refl
 free-none bits n (x ∷ xs) set all = ap (λ b. b || is_listed xs n) (ne_eqb x n (λ e. set (ap bits (sym e) ∙ all.0.1))) ∙ free-none bits n xs set all.1
 
 once-join : (xs ys : List ℕ) (pages : ℕ) → AreOnce xs pages → AreOnce ys pages → AllByRecursion (λ x. is_listed ys x ≡ false) xs → AreOnce (xs ++ ys) pages
 once-join [] ys pages a b c = b
 once-join (x ∷ xs) ys pages a b c = (a.0, among_append xs ys x a.1 c.0, once-join xs ys pages a.2 b c.1)
-
-pub each-of : (P : ℕ → Type 0) (xs : List ℕ) → ((n : ℕ) → is_listed xs n ≡ true → P n) → AllByRecursion P xs
-each-of P [] f = tt
-each-of P (x ∷ xs) f = (f x (ap (λ b. b || is_listed xs x) (eq-eqb x x refl)), each-of P xs (λ n among. f n (later (x == n) (is_listed xs n) among)))
-  where
-    later : (a b : Bool) → b ≡ true → (a || b) ≡ true
-    later true b h = refl
-    later false b h = h
 
 -- the pages of the tree, page 0 and those that are chosen are each another one
 module _ (pages : ℕ) (key : MapKey) (path held : List ℕ) (work : List WorkPage) (memory : PageMemory) (bits : ℕ → ℕ) (agrees : Agrees pages 1 1 key path work memory bits) where

@@ -4,13 +4,16 @@ mod EndLaws
 mod LeafTries
 mod AgreeLaws
 mod GrowLaws
-mod ClaimedLaws
+pub mod HeldLaws
+pub mod PathHeld
+pub mod SiblingsHeld
+pub mod ClaimedLaws
 mod BeginLaws
 mod PathMay
 mod GrowMay
 mod PathCalls
 mod GrowCalls
-mod FreshLaws
+pub mod FreshLaws
 mod ReadyLaws
 mod GrowWhole
 mod SpaceTicks

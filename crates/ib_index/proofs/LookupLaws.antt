@@ -25,6 +25,7 @@ use Rattle.ib_walk.specs.Trees.{content_of}
 use Rattle.ib_walk.specs.Search.{leaf_for}
 use Rattle.ib_walk.specs.Words.{image_of}
 use Rattle.ib_walk.proofs.TreeLaws.{value_at-content_of}
+use Rattle.ib_tree.specs.Fits.{FitsLog}
 use Rattle.ib_tree.specs.Logs.{pages_after}
 use Rattle.ib_mtr.specs.Commits.{HasRead}
 use Rattle.ib_mtr.specs.Mtr.{started, finished}
@@ -33,12 +34,13 @@ use Rattle.ib_cursor.specs.Descent.{HasFound}
 use Rattle.ib_cursor.specs.Contention.{IsContended}
 use Rattle.ib_cursor.specs.declared.fault.NowaitFault.{NowaitFault}
 use Rattle.ib_cursor.specs.Laws.{Laws}
+use Rattle.ib_cursor.specs.Spaces.{space_of}
 use Rattle.ib_cursor.proofs.LogLaws.{tree_of-log, path_stays, path_image}
 use Rattle.ib_cursor.proofs.StepLaws.{image_stays}
 use Rattle.ib_cursor.proofs.DownLaws.{leaf_path, leaf_image}
 use Rattle.ib_cursor.proofs.OnPathLaws.{leaf_on-path}
 use Rattle.ib_leaf.specs.Calls.{HasCalled}
-use Rattle.ib_leaf.proofs.CallLaws.{called-from, read-end, read-known}
+use Rattle.ib_leaf.proofs.CallLaws.{called-by, read-end, read-known}
 use Rattle.ib_index.specs.Lookups.{HasLookedUp}
 
 pub lookup-made : (v : Option ℕ) → is_made (lookup_answer v) ≡ false
@@ -98,7 +100,7 @@ module _ (sizes : Sizes) (roots : ℕ) (lawful : List Entry → Type 0) (opening
 
         pub called : HasCalled sizes lawful opening (Get key) (record { call = Get key; reply = reply; place = place }) p r
         called =
-            called-from sizes lawful opening (Get key) reply place p q r found.reached.went found.reached.looked
+            called-by (FitsLog (space_of sizes opening)) sizes lawful (Get key) reply place p q r found.reached.went found.reached.looked
             (read-end sizes lawful q r read.log place q.view.grants read.looked read.place read.ended)
             (read-known sizes lawful q r read.log place q.view.grants read.looked read.place role read.ended)
             (sym at-end ∙ rw not-made refl) (record { map = fits; tree = tt }) (rw not-made (ap (λ (m : Knowledge). m.own) read.ended.memory))
@@ -108,7 +110,7 @@ module _ (sizes : Sizes) (roots : ℕ) (lawful : List Entry → Type 0) (opening
             let f = found.reached.finds refl in let f0 = f.0 in let f1 = f.1 in
             let s = ap (λ (g : Grants). g.s) read.ended.grants in let x = ap (λ (g : Grants). g.x) read.ended.grants in let sx = ap (λ (g : Grants). g.sx) read.ended.grants in
             let l = ap length found.reached.ends in let m = length-append found.reached.front (found.reached.leaf ∷ []) in let most = found.reached.s in
-            record { called = called; least = omega arith; most = omega arith; sx = sx ∙ found.reached.sx; x = x ∙ f1 }
+            record { called = called; least = omega arith; most = omega arith; low = λ most no. (let t = found.reached.low most no in omega arith); sx = sx ∙ found.reached.sx; x = x ∙ f1 }
 
 -- a mini-transaction starts with what the session had seen and taken
 pub from_start : (sizes : Sizes) (lawful : List Entry → Type 0) (opening : ℕ → ℕ) (key : MapKey) (answer : Record) (p q : PassState) → HasLookedUp sizes lawful opening key answer (started p) q → HasLookedUp sizes lawful opening key answer p q
@@ -133,6 +135,7 @@ from_start sizes lawful opening key answer p q h = record {
   };
   least = h.least;
   most = h.most;
+  low = h.low;
   sx = h.sx;
   x = h.x;
 }

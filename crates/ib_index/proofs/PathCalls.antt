@@ -21,6 +21,7 @@ use Rattle.ib_rule.specs.Stores.{IsLook}
 use Rattle.ib_mtr.specs.Commits.{HasCommitted, HasRead, IsFull}
 use Rattle.ib_mtr.specs.Mtr.{with_work}
 use Rattle.ib_cursor.specs.Going.{WentOn}
+use Rattle.ib_leaf.specs.Calls.{tree_calls}
 use Rattle.ib_leaf.specs.Leaf.{IsSeated}
 use Rattle.ib_index.specs.Grows.{IsGrowing}
 use Rattle.ib_leaf.proofs.CallEnds.{log-f, log-r, looked-c, looked-f, map-c, map-r}
@@ -51,14 +52,14 @@ module _ (sizes : Sizes) (key : MapKey) (path : List ℕ) (held : List (ℕ × L
   -- what the map has of the key at the call's place, and before its entry
   pub value-r : (place : ℕ) (r : PassState) → HasRead sizes (IsKeptLog sizes.pages) q place r → value_at key (map_after (history_of r.view.memory.seen) place) ≡ value_there
   value-r place r read =
-      ap (value_at key) (map-r sizes p q went looked seated.role place r read)
-      ∙ (ap (λ (log : List Entry). value_at key (map_of log)) (log-r sizes p q went looked seated.role place r read) ∙ value-l read.log read.looked)
+      ap (value_at key) (map-r sizes (tree_calls sizes) p q went looked seated.role place r read)
+      ∙ (ap (λ (log : List Entry). value_at key (map_of log)) (log-r sizes (tree_calls sizes) p q went looked seated.role place r read) ∙ value-l read.log read.looked)
 
   pub value-f : (work : List WorkPage) (full : LogFull) (r : PassState) → IsFull sizes (IsKeptLog sizes.pages) (with_work work q) full r → value_at key (map_of r.view.memory.seen) ≡ value_there
   value-f work full r f =
-      ap (λ (log : List Entry). value_at key (map_of log)) (log-f sizes p q went looked seated.role work full r f) ∙ value-l f.log (looked-f sizes p q went looked seated.role work full r f)
+      ap (λ (log : List Entry). value_at key (map_of log)) (log-f sizes (tree_calls sizes) p q went looked seated.role work full r f) ∙ value-l f.log (looked-f sizes (tree_calls sizes) p q went looked seated.role work full r f)
 
   pub value-c : (work : List WorkPage) (change : Change) (place : ℕ) (r : PassState) → HasCommitted sizes (IsKeptLog sizes.pages) start change (with_work work q) place r
       → value_at key (map_after (history_of r.view.memory.seen) place) ≡ value_there
   value-c work change place r c =
-      ap (value_at key) (map-c sizes p q went looked seated.role work change place r c) ∙ value-l c.log (looked-c sizes p q went looked seated.role work change place r c)
+      ap (value_at key) (map-c sizes (tree_calls sizes) p q went looked seated.role work change place r c) ∙ value-l c.log (looked-c sizes (tree_calls sizes) p q went looked seated.role work change place r c)

@@ -10,7 +10,7 @@ use Rattle.ib_layout.specs.Geometry.{Sizes}
 use Rattle.ib_page.specs.Work.{WorkPage, changed_of}
 use Rattle.ib_walk.specs.Full.{chosen, free_of, is_root_full, is_too_high, need_of}
 use Rattle.ib_walk.specs.Pages.{PageMemory}
-use Rattle.ib_walk.specs.Trees.{height_of}
+use Rattle.ib_walk.specs.Trees.{height_of, most_height}
 use Rattle.ib_plans.specs.Agreement.{Agrees, IsThere, bits_in, state_or_free}
 use Rattle.ib_split.specs.Inserts.{HasFresh}
 use Rattle.ib_tree.specs.PageLists.{AreOnce, is_listed}
@@ -29,12 +29,12 @@ some-image None there = cc
 some-image (Some image) there = (image, refl)
 
 -- the chosen pages are those that the insert takes
-has-fresh : (pages : ℕ) (key : MapKey) (path fresh : List ℕ) (work : List WorkPage) (memory : PageMemory) (bits : ℕ → ℕ) → Agrees pages 1 1 key path work memory bits → is_too_high memory key 1 ≡ false
+has-fresh : (pages : ℕ) (key : MapKey) (path fresh : List ℕ) (work : List WorkPage) (memory : PageMemory) (bits : ℕ → ℕ) → Agrees pages 1 1 key path work memory bits → is_too_high 1 memory key 1 ≡ false
     → fresh ≡ chosen bits pages (need_of memory key 1) → need_of memory key 1 ≤ free_of bits pages → HasFresh pages 1 1 key fresh memory bits
 has-fresh pages key path fresh work memory bits a low are enough = record {
   chosen_are = are;
   enough = enough;
-  low = low-enough (is_root_full memory key 1) (height_of memory 1) low (a.lawful.trees 1 (omega arith) (omega arith)).1;
+  low = low-enough (is_root_full memory key 1) (height_of memory 1) (most_height 1) low (a.lawful.trees 1 (omega arith) (omega arith)).1;
 }
 
 pub some-pages : (n : ℕ) → has_pages n ≡ true → 0 < n

@@ -18,7 +18,7 @@ use Rattle.ib_rule.specs.Pass.{PassState}
 use Rattle.ib_mtr.specs.Commits.{HasCommitted, HasRead, IsFull}
 use Rattle.ib_mtr.specs.Mtr.{with_work}
 use Rattle.ib_cursor.specs.Going.{WentOn}
-use Rattle.ib_leaf.specs.Calls.{HasCalled}
+use Rattle.ib_leaf.specs.Calls.{HasCalled, tree_calls}
 use Rattle.ib_leaf.specs.Leaf.{IsSeated}
 use Rattle.ib_index.specs.Grows.{IsGrowing}
 use Rattle.ib_leaf.proofs.CommitLaws.{CommitAnswered}
@@ -36,8 +36,8 @@ module _ (sizes : Sizes) (key : MapKey) (path : List ℕ) (held : List (ℕ × L
   pub called-missing : (place : ℕ) (r : PassState) → HasRead sizes (IsKeptLog sizes.pages) q place r → there ≡ None
       → HasCalled sizes (IsKeptLog sizes.pages) start (DeleteCall key) (record { call = DeleteCall key; reply = Missing; place = place }) p r
   called-missing place r read none =
-      called-read sizes p q went looked seated.role place r read (DeleteCall key) Missing refl (record {
-        map = (within-r sizes p q went looked seated.role place r read, (ap delete_answer (value-r sizes key path held p q went looked can seated place r read ∙ none), refl));
+      called-read sizes (tree_calls sizes) p q went looked seated.role place r read (DeleteCall key) Missing refl (record {
+        map = (within-r sizes (tree_calls sizes) p q went looked seated.role place r read, (ap delete_answer (value-r sizes key path held p q went looked can seated place r read ∙ none), refl));
         tree = tt;
       })
 
@@ -46,25 +46,25 @@ module _ (sizes : Sizes) (key : MapKey) (path : List ℕ) (held : List (ℕ × L
     called-full-delete : (full : LogFull) (r : PassState) → IsFull sizes (IsKeptLog sizes.pages) (with_work work q) full r
         → HasCalled sizes (IsKeptLog sizes.pages) start (DeleteCall key) (record { call = DeleteCall key; reply = LogFullReply full.used full.cap; place = length r.view.memory.seen }) p r
     called-full-delete full r f =
-        called-full sizes p q went looked seated.role work full r f (DeleteCall key) (record {
+        called-full sizes (tree_calls sizes) p q went looked seated.role work full r f (DeleteCall key) (record {
           map = (
-            within-f sizes p q went looked seated.role work full r f,
+            within-f sizes (tree_calls sizes) p q went looked seated.role work full r f,
             (ap (λ (o : Option ℕ). is_made (delete_answer o)) (value-f sizes key path held p q went looked can seated work full r f ∙ some), refl),
           );
-          tree = log-full sizes p q went looked seated.role work full r f;
+          tree = log-full sizes (tree_calls sizes) p q went looked seated.role work full r f;
         })
 
     -- the change was committed
     called-deleted : (place : ℕ) (r : PassState) → HasCommitted sizes (IsKeptLog sizes.pages) start (Delete key) (with_work work q) place r
         → HasCalled sizes (IsKeptLog sizes.pages) start (DeleteCall key) (record { call = DeleteCall key; reply = Deleted value; place = place }) p r
     called-deleted place r c =
-        called-committed sizes p q went looked seated.role work (Delete key) place r c (DeleteCall key) (Deleted value) refl (record {
+        called-committed sizes (tree_calls sizes) p q went looked seated.role work (Delete key) place r c (DeleteCall key) (Deleted value) refl (record {
           map = (
-            within-c sizes p q went looked seated.role work (Delete key) place r c,
+            within-c sizes (tree_calls sizes) p q went looked seated.role work (Delete key) place r c,
             (
               (
                 ap delete_answer (value-c sizes key path held p q went looked can seated work (Delete key) place r c ∙ some),
-                entry-c sizes p q went looked seated.role work (Delete key) place r c,
+                entry-c sizes (tree_calls sizes) p q went looked seated.role work (Delete key) place r c,
               ),
               refl,
             ),
@@ -74,7 +74,7 @@ module _ (sizes : Sizes) (key : MapKey) (path : List ℕ) (held : List (ℕ × L
 
     -- what a commit of the delete was answered
     pub called-shrunk : (o : Result ℕ LogFull) (answer : Record) (r : PassState)
-        → CommitAnswered sizes (DeleteCall key) (Delete key) (Deleted value) o answer (with_work work q) r
+        → CommitAnswered sizes (tree_calls sizes) (DeleteCall key) (Delete key) (Deleted value) o answer (with_work work q) r
         → HasCalled sizes (IsKeptLog sizes.pages) start (DeleteCall key) answer p r
     called-shrunk (Ok place) answer r ends =
         subst (λ a. HasCalled sizes (IsKeptLog sizes.pages) start (DeleteCall key) a p r) (sym ends.as_made) (called-deleted place r ends.committed)

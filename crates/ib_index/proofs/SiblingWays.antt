@@ -23,8 +23,8 @@ use Rattle.ib_cursor.specs.Siblings.{child_if, with_siblings}
 use Rattle.ib_cursor.specs.OnPath.{IsOnPath}
 use Rattle.ib_cursor.proofs.LevelLaws.{among-left, among_right}
 use Rattle.ib_cursor.proofs.RowLaws.{one-at_most}
-use Rattle.ib_cursor.proofs.OnPathLaws.{bit_on-path, child_on-path, leaf_on-path, page_on-path}
-use Rattle.ib_index.proofs.ClaimedLaws.{IsPageOfTree}
+use Rattle.ib_cursor.proofs.OnPathLaws.{child_on-path, leaf_on-path, page_on-path}
+use Rattle.ib_index.proofs.HeldLaws.{IsPageOfTree, page-kind}
 
 -- the rightmost of a node's children that a delete may merge: the one to the right of the key's child, where there is one
 abbrev pub last_child : Option (MapKey × ℕ) → MapKey × ℕ → ℕ
@@ -89,12 +89,9 @@ module _ (m : PageMemory) (key : MapKey) where
       let c = one-at_most t.left in let d = one-at_most t.right in
       let r = length-levels level child in omega arith
 
-module _ (m : PageMemory) (bits : ℕ → ℕ) (law : IsLawful m bits 1) (key : MapKey) (lt : rank key < end_rank) where
-  pub on_path-page : (level page : ℕ) → IsOnPath m 1 key page level → IsPageOfTree m page
-  on_path-page level page o = ((page_on-path m 1 key page level (law.trees 1 (omega arith) (omega arith)).0 lt o).kind, (bit_on-path m bits 1 1 key page level law (omega arith) (omega arith) lt o).0)
-
+module _ (m : PageMemory) (bits : ℕ → ℕ) (roots root : ℕ) (some : 0 < root) (within : root ≤ roots) (law : IsLawful m bits roots) (key : MapKey) (lt : rank key < end_rank) where
   -- a node of the path
-  module _ (level parent : ℕ) (o : IsOnPath m 1 key parent (suc level)) where
+  module _ (level parent : ℕ) (o : IsOnPath m root key parent (suc level)) where
     abbrev t : Siblings
     t = siblings_of key (m parent).records
 
@@ -103,20 +100,20 @@ module _ (m : PageMemory) (bits : ℕ → ℕ) (law : IsLawful m bits 1) (key : 
     records-of (x ∷ xs) first = HasSiblings-of key (x ∷ xs) (omega arith) first
 
     records : HasSiblings (m parent).records (child_for key 0 (m parent).records) t
-    records = records-of (m parent).records ((page_on-path m 1 key parent (suc level) (law.trees 1 (omega arith) (omega arith)).0 lt o).first (omega arith))
+    records = records-of (m parent).records ((page_on-path m root key parent (suc level) (law.trees root some within).0 lt o).first (omega arith))
 
-    pub here-on : IsOnPath m 1 key t.here.1 level
-    here-on = subst (λ n. IsOnPath m 1 key n level) (sym records.here) (child_on-path m 1 key parent level o)
+    pub here-on : IsOnPath m root key t.here.1 level
+    here-on = subst (λ n. IsOnPath m root key n level) (sym records.here) (child_on-path m root key parent level o)
 
-    tall : height_of m 1 ≡ above o.depth (suc level)
+    tall : height_of m root ≡ above o.depth (suc level)
     tall = sym o.height ∙ sym (above-sum o.depth (suc level))
 
     pub left-pages : (left : MapKey × ℕ) → t.left ≡ Some left → SiblingPages m level parent left.1 t.here.1
-    left-pages left is = SiblingPages-path m bits 1 law key lt 1 (omega arith) (omega arith) o.depth level tall parent o.below records.before left t.here (one_or_none t.right ++ records.behind)
+    left-pages left is = SiblingPages-path m bits roots law key lt root some within o.depth level tall parent o.below records.before left t.here (one_or_none t.right ++ records.behind)
         (records.is ∙ ap (λ (x : Option (MapKey × ℕ)). records.before ++ (one_or_none x ++ t.here ∷ (one_or_none t.right ++ records.behind))) is)
 
     pub right-pages : (right : MapKey × ℕ) → t.right ≡ Some right → SiblingPages m level parent t.here.1 right.1
-    right-pages right is = SiblingPages-path m bits 1 law key lt 1 (omega arith) (omega arith) o.depth level tall parent o.below (records.before ++ one_or_none t.left) t.here right records.behind
+    right-pages right is = SiblingPages-path m bits roots law key lt root some within o.depth level tall parent o.below (records.before ++ one_or_none t.left) t.here right records.behind
         (records.is ∙ (ap (λ (x : Option (MapKey × ℕ)). records.before ++ (one_or_none t.left ++ t.here ∷ (one_or_none x ++ records.behind))) is
         ∙ sym (append_assoc records.before (one_or_none t.left) (t.here ∷ right ∷ records.behind))))
 
@@ -128,14 +125,14 @@ module _ (m : PageMemory) (bits : ℕ → ℕ) (law : IsLawful m bits 1) (key : 
     pub sides : AllByRecursion (IsPageOfTree m) (with_siblings m key parent)
     sides = AllByRecursion-append (IsPageOfTree m) (child_if t.left) (t.here.1 ∷ child_if t.right)
         (each-if t.left (λ x is. let s = left-pages x is in (s.left_kind, s.left_some)))
-        (on_path-page level t.here.1 here-on, each-if t.right (λ x is. let s = right-pages x is in (s.gone_kind, s.gone_some)))
+        (page-kind m bits roots root some within law key lt level t.here.1 here-on, each-if t.right (λ x is. let s = right-pages x is in (s.gone_kind, s.gone_some)))
 
     -- the last of them
     pub last-page : IsPageOfTree m (last_beside m key parent) × ((m (last_beside m key parent)).level ≡ level)
     last-page = go t.right refl
       where
         go : (o : Option (MapKey × ℕ)) → t.right ≡ o → IsPageOfTree m (last_child o t.here) × ((m (last_child o t.here)).level ≡ level)
-        go None is = (on_path-page level t.here.1 here-on, (page_on-path m 1 key t.here.1 level (law.trees 1 (omega arith) (omega arith)).0 lt here-on).height)
+        go None is = (page-kind m bits roots root some within law key lt level t.here.1 here-on, (page_on-path m root key t.here.1 level (law.trees root some within).0 lt here-on).height)
         go (Some x) is = let s = right-pages x is in ((s.gone_kind, s.gone_some), s.gone_level)
 
     -- behind it there is a leaf of the tree, or none; a node has none
@@ -146,25 +143,25 @@ module _ (m : PageMemory) (bits : ℕ → ℕ) (law : IsLawful m bits 1) (key : 
         go (Some x) is ne = let b = (right-pages x is).behind ne in ((b.kind, ne), b.low)
         go None is ne = elim (cases_eq level 0) [
           | inl z ↦
-              let leaf : t.here.1 ≡ leaf_for m key 1 = leaf_on-path m 1 key t.here.1 (subst (IsOnPath m 1 key t.here.1) z here-on) in
-              let b = NextLeaf-leaf_for (λ n. MOST_RECORDS) m bits 1 key 1 law (omega arith) (omega arith) lt (λ q. ne (ap (λ n. (m n).next) leaf ∙ q)) in
+              let leaf : t.here.1 ≡ leaf_for m key root = leaf_on-path m root key t.here.1 (subst (IsOnPath m root key t.here.1) z here-on) in
+              let b = NextLeaf-leaf_for (λ n. MOST_RECORDS) m bits roots key root law some within lt (λ q. ne (ap (λ n. (m n).next) leaf ∙ q)) in
               ((ap (λ n. (m (m n).next).kind) leaf ∙ b.kind, ne), z)
           | inr up ↦
-              let h = (page_on-path m 1 key t.here.1 level (law.trees 1 (omega arith) (omega arith)).0 lt here-on).height in
-              absurd (ne ((law.sound t.here.1 (on_path-page level t.here.1 here-on).1).node (omega (arith, up, h))).1)
+              let h = (page_on-path m root key t.here.1 level (law.trees root some within).0 lt here-on).height in
+              absurd (ne ((law.sound t.here.1 (page-kind m bits roots root some within law key lt level t.here.1 here-on).1).node (omega (arith, up, h))).1)
         ]
 
   -- every page of the levels is one of the tree
-  pub levels-down : (level page : ℕ) → IsOnPath m 1 key page level → AllByRecursion (IsPageOfTree m) (flat_map (with_siblings m key) (nodes_on_path (path_down m key level page)))
+  pub levels-down : (level page : ℕ) → IsOnPath m root key page level → AllByRecursion (IsPageOfTree m) (flat_map (with_siblings m key) (nodes_on_path (path_down m key level page)))
   levels-down zero page o = tt
   levels-down (suc level) page o =
       let child = child_for key 0 (m page).records in
       subst (λ ns. AllByRecursion (IsPageOfTree m) (flat_map (with_siblings m key) ns)) (sym (nodes-down m key level page))
       (AllByRecursion-append (IsPageOfTree m) (with_siblings m key page) (flat_map (with_siblings m key) (nodes_on_path (path_down m key level child)))
-      (sides level page o) (levels-down level child (child_on-path m 1 key page level o)))
+      (sides level page o) (levels-down level child (child_on-path m root key page level o)))
 
   -- .. and the path is among them
-  pub path-among : (level page n : ℕ) → IsOnPath m 1 key page level → is_listed (path_down m key level page) n ≡ true
+  pub path-among : (level page n : ℕ) → IsOnPath m root key page level → is_listed (path_down m key level page) n ≡ true
       → is_listed (page ∷ flat_map (with_siblings m key) (nodes_on_path (path_down m key level page))) n ≡ true
   path-among zero page n o h = h
   path-among (suc level) page n o h =
@@ -174,7 +171,7 @@ module _ (m : PageMemory) (bits : ℕ → ℕ) (law : IsLawful m bits 1) (key : 
         | inl e ↦ ap (λ b. b || is_listed (with_siblings m key page ++ rest) n) (eq-eqb page n e)
         | inr ne ↦
             let no = ne_eqb page n ne in
-            let r = path-among level child n (child_on-path m 1 key page level o) (sym (ap (λ b. b || is_listed (path_down m key level child) n) no) ∙ h) in
+            let r = path-among level child n (child_on-path m root key page level o) (sym (ap (λ b. b || is_listed (path_down m key level child) n) no) ∙ h) in
             ap (λ b. b || is_listed (with_siblings m key page ++ rest) n) no ∙ below n (cases_eq child n) r
       ])
     where
@@ -191,12 +188,12 @@ module _ (m : PageMemory) (bits : ℕ → ℕ) (law : IsLawful m bits 1) (key : 
           (sym (ap (λ b. b || is_listed (flat_map (with_siblings m key) (nodes_on_path (path_down m key level (child_for key 0 (m page).records)))) n) (ne_eqb (child_for key 0 (m page).records) n ne)) ∙ r)
 
   -- each node of the path stands on it above the leaf
-  pub node-on : (level page n : ℕ) → IsOnPath m 1 key page level → is_listed (nodes_on_path (path_down m key level page)) n ≡ true → (k : ℕ) × IsOnPath m 1 key n (suc k)
+  pub node-on : (level page n : ℕ) → IsOnPath m root key page level → is_listed (nodes_on_path (path_down m key level page)) n ≡ true → (k : ℕ) × IsOnPath m root key n (suc k)
   node-on zero page n o h = cc
   node-on (suc level) page n o h =
       let child = child_for key 0 (m page).records in
       let has : is_listed (page ∷ nodes_on_path (path_down m key level child)) n ≡ true = sym (ap (λ ns. is_listed ns n) (nodes-down m key level page)) ∙ h in
       elim (cases_eq page n) [
-        | inl e ↦ (level, subst (λ p. IsOnPath m 1 key p (suc level)) e o)
-        | inr ne ↦ node-on level child n (child_on-path m 1 key page level o) (sym (ap (λ b. b || is_listed (nodes_on_path (path_down m key level child)) n) (ne_eqb page n ne)) ∙ has)
+        | inl e ↦ (level, subst (λ p. IsOnPath m root key p (suc level)) e o)
+        | inr ne ↦ node-on level child n (child_on-path m root key page level o) (sym (ap (λ b. b || is_listed (nodes_on_path (path_down m key level child)) n) (ne_eqb page n ne)) ∙ has)
       ]

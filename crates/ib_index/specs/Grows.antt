@@ -112,17 +112,17 @@ pub record HasTakenNew (sizes : Sizes) (key : MapKey) (path : List ℕ) (held : 
 -- so many pages are needed in every memory that agrees, and the tree need not grow too high
 abbrev pub NeedsPages : ℕ → MapKey → List ℕ → ℕ → List WorkPage → Type 0
 NeedsPages pages key path need work = (memory : PageMemory) (bits : ℕ → ℕ) → Agrees pages 1 1 key path work memory bits
-    → (is_too_high memory key 1 ≡ false) × (need ≡ need_of memory key 1)
+    → (is_too_high 1 memory key 1 ≡ false) × (need ≡ need_of memory key 1)
 
 -- .. and too few are free
 abbrev pub LacksPages : ℕ → MapKey → List ℕ → ℕ → ℕ → List WorkPage → Type 0
 LacksPages pages key path free need work = (memory : PageMemory) (bits : ℕ → ℕ) → Agrees pages 1 1 key path work memory bits
-    → (is_too_high memory key 1 ≡ false) × (free ≡ free_of bits pages) × (need ≡ need_of memory key 1) × (free < need)
+    → (is_too_high 1 memory key 1 ≡ false) × (free ≡ free_of bits pages) × (need ≡ need_of memory key 1) × (free < need)
 
 -- the fresh pages are those that the insert takes, in every memory that agrees
 abbrev pub IsFreshForAll : ℕ → MapKey → List ℕ → List ℕ → List WorkPage → Type 0
 IsFreshForAll pages key path fresh work = (memory : PageMemory) (bits : ℕ → ℕ) → Agrees pages 1 1 key path work memory bits
-    → (is_too_high memory key 1 ≡ false) × HasFresh pages 1 1 key fresh memory bits
+    → (is_too_high 1 memory key 1 ≡ false) × HasFresh pages 1 1 key fresh memory bits
 
 -- so many pages may be held that all their words are no more than an entry has writes
 abbrev pub most_held : ℕ

@@ -10,3 +10,4 @@ mod pessimistic_delete;
 mod pessimistic_insert;
 
 pub use index::{Index, IndexRefused};
+pub use lookup::get;

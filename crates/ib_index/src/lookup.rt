@@ -59,8 +59,12 @@ pub(crate) fn look_up<L: Trees, S: Sleep>(
     }
 }
 
-// Looks a key up, waiting for each latch.
-pub(crate) fn get<L: Trees, R: Wait>(
+/// Looks a key up in the first tree of a space, waiting for each latch, as `Index::get` does.
+///
+/// ```
+/// let answer = get(rt, pair.latches(), &mut pass, key);
+/// ```
+pub fn get<L: Trees, R: Wait>(
     rt: &R,
     latches: &Latches<L, Parkers>,
     pass: &mut Pass,

@@ -87,13 +87,13 @@ fn needed(mtr: &mut Work<'_>, path: &Path) -> Result<u32, TreeFault>
     requires trees { HasTreePages path.now mtr.old.pass.now.work }
     ensures still { IsStillMtr mtr.old mtr.new }
     ensures pass { mtr.new.pass ≡ mtr.old.pass }
-    ensures needed { (pages roots root : ℕ) → (key : MapKey) → (memory : PageMemory) → (bits : ℕ → ℕ)
-        → Agrees pages roots root key path.now mtr.old.pass.now.work memory bits
-        → MatchResult result (λ need. (is_too_high memory key root ≡ false) × (need ≡ need_of memory key root))
-        (λ fault. (is_too_high memory key root ≡ true) × (fault ≡ TreeFault.TooHigh)) }
+    ensures needed { (pages root : ℕ) → (key : MapKey) → (memory : PageMemory) → (bits : ℕ → ℕ)
+        → Agrees pages 1 root key path.now mtr.old.pass.now.work memory bits
+        → MatchResult result (λ need. (is_too_high 1 memory key root ≡ false) × (need ≡ need_of memory key root))
+        (λ fault. (is_too_high 1 memory key root ≡ true) × (fault ≡ TreeFault.TooHigh)) }
     ensures few { IfOk result (λ need. need ≤ MOST_PATH) }
 {
-    pages_needed(mtr.work(), path)
+    pages_needed(mtr.work(), path, 1)
 }
 
 // Plans the insert on the images of the work set.

@@ -3,13 +3,14 @@ use Rattle.std.specs.Prelude.{◌≡◌, ℕ, List, ◌++◌, Bool, true, Option
 use Rattle.ib_io.specs.declared.bad_line.LineFault.{LineFault}
 use Rattle.ib_io.specs.declared.bad_line.LineFault.TheVariants.{Bad, OutOfMemory}
 use Rattle.ib_io.specs.declared.line_kind.LineKind.{LineKind}
-use Rattle.ib_io.specs.declared.line_kind.LineKind.TheVariants.{Word, Fields, Number, Key, Session, Space, Many, Latch, Level}
+use Rattle.ib_io.specs.declared.line_kind.LineKind.TheVariants.{Word, Fields, Number, Key, Long, Session, Space, Many, Latch, Level}
 
 abbrev pub kind_text : LineKind → List ℕ
 kind_text Word = codes "word"
 kind_text Fields = codes "fields"
 kind_text Number = codes "number"
 kind_text Key = codes "key"
+kind_text Long = codes "long"
 kind_text Session = codes "session"
 kind_text Space = codes "space"
 kind_text Many = codes "many"

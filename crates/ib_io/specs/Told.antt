@@ -55,3 +55,8 @@ OwesLines None output e = (e.status ≡ Done) × output e.text
 pub record TellsFault (fault status : Status) (before now : ℕ) : Type 0 where
   pub calm : status ≢ fault → now ≡ before
   pub rose : status ≡ fault → Rose before now
+
+-- a status tells what was written to this sink, as it is said, and whether the sink failed
+pub record HasTold {K : Type 0} (written : K → Option (List ℕ)) (faults : K → ℕ) (says : Option (List ℕ) → Option (List ℕ) → Status → Type 0) (old now : K) (status : Status) : Type 0 where
+  pub told : says (written old) (written now) status
+  pub write : TellsFault WriteFault status (faults old) (faults now)

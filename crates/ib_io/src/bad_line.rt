@@ -2,7 +2,7 @@
 
 ghost use Rattle.std.specs.Prelude.{◌≡◌};
 ghost use Rattle.ib_io.specs.BadLines.{kind_text};
-ghost use Rattle.ib_io.specs.Told.{IsOutOfMemoryWhere, OwesFault, TellsFault, Told};
+ghost use Rattle.ib_io.specs.Told.{HasTold, IsOutOfMemoryWhere, OwesFault, Told};
 ghost use Rattle.ib_io.specs.Writer.{Puts};
 
 use crate::line_kind::LineKind;
@@ -70,6 +70,7 @@ fn print_kind<K: Sink>(writer: &mut Writer<'_, K>, kind: LineKind)
         LineKind::Fields => writer.text(b"fields"),
         LineKind::Number => writer.text(b"number"),
         LineKind::Key => writer.text(b"key"),
+        LineKind::Long => writer.text(b"long"),
         LineKind::Session => writer.text(b"session"),
         LineKind::Space => writer.text(b"space"),
         LineKind::Many => writer.text(b"many"),
@@ -93,8 +94,7 @@ impl Printed for BadLine {
 
 /// Ends for an input that is not read: writes its bad line, or nothing where memory ran out.
 pub fn refuse<K: Sink>(sink: &mut K, fault: ScriptFault) -> Status
-    ensures told { Told (OwesFault fault) (IsOutOfMemoryWhere (fault ≡ ScriptFault.OutOfMemory)) (K.written sink.old) (K.written sink.new) result }
-    ensures write { TellsFault Status.WriteFault result (K.faults sink.old) (K.faults sink.new) }
+    ensures { HasTold K.written K.faults (Told (OwesFault fault) (IsOutOfMemoryWhere (fault ≡ ScriptFault.OutOfMemory))) sink.old sink.new result }
 {
     match fault {
         ScriptFault::BadLine { line, kind } => {

@@ -16,6 +16,8 @@ pub enum LineKind {
     Number,
     /// A field is no key.
     Key,
+    /// A field is a key that is too long to be found by its value.
+    Long,
     /// The session is not 1 to `MOST_SCRIPT_SESSIONS`.
     Session,
     /// A `space` line stands behind another line, or there is no space of its sizes.

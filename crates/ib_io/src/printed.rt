@@ -2,7 +2,7 @@
 
 ghost use Rattle.std.specs.Prelude.{◌≡◌, ◌≢◌, List, ℕ};
 ghost use Rattle.ib_io.specs.Faults.{AppendsAll, HasCause};
-ghost use Rattle.ib_io.specs.Told.{IsWritten, TellsFault, ends};
+ghost use Rattle.ib_io.specs.Told.{HasTold, IsWritten, ends};
 ghost use Rattle.ib_io.specs.Writer.{IsFresh, Puts, sink_name, sink_of};
 
 use crate::sink::{Failed, Sink};
@@ -42,8 +42,7 @@ fn write_whole<K: Sink, P: Printed>(sink: &mut K, printed: P) -> Result<(), Fail
 /// sink behind a front of it.
 pub fn tell<K: Sink, P: Printed>(sink: &mut K, printed: P, status: Status) -> Status
     requires { status ≢ Status.WriteFault }
-    ensures told { IsWritten (ends status (P.text printed)) (K.written sink.old) (K.written sink.new) result }
-    ensures write { TellsFault Status.WriteFault result (K.faults sink.old) (K.faults sink.new) }
+    ensures { HasTold K.written K.faults (IsWritten (ends status (P.text printed))) sink.old sink.new result }
 {
     match write_whole(sink, printed) {
         Ok(()) => status,

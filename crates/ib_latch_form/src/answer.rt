@@ -1,7 +1,7 @@
 //! What is answered to events that were read.
 
 ghost use Rattle.std.specs.Prelude.{◌≡◌, ◌≤◌, None, length};
-ghost use Rattle.ib_io.specs.Told.{IsOutOfMemoryWhere, TellsFault, Told};
+ghost use Rattle.ib_io.specs.Told.{HasTold, IsOutOfMemoryWhere, Told};
 ghost use Rattle.ib_latch_form.specs.Answers.{AnswersEvents};
 ghost use Rattle.ib_latch_form.specs.Events.{event_fault};
 
@@ -14,8 +14,7 @@ use std::alloc::Global;
 /// its latch's word afterwards, or tells where they are refused and why. Memory may be wanting only where no line is bad.
 pub fn answer_events<K: Sink>(alloc: Global, input: &[u8], sink: &mut K) -> Status
     requires { length input.now ≤ INPUT_BYTES }
-    ensures told { Told (AnswersEvents input.now) (IsOutOfMemoryWhere (event_fault input.now ≡ None)) (K.written sink.old) (K.written sink.new) result }
-    ensures write { TellsFault Status.WriteFault result (K.faults sink.old) (K.faults sink.new) }
+    ensures { HasTold K.written K.faults (Told (AnswersEvents input.now) (IsOutOfMemoryWhere (event_fault input.now ≡ None))) sink.old sink.new result }
 {
     match read_events(alloc, input) {
         Ok(events) => make_events(alloc, events, sink),

@@ -2,7 +2,7 @@
 
 ghost use Rattle.std.specs.Prelude.{◌≡◌, ◌≤◌, ◌+◌, length};
 ghost use Rattle.std.specs.List.{AllByRecursion};
-ghost use Rattle.ib_io.specs.Told.{IsOutOfMemory, TellsFault, Told, ends};
+ghost use Rattle.ib_io.specs.Told.{HasTold, IsOutOfMemory, Told, ends};
 ghost use Rattle.ib_io.specs.Writer.{Puts};
 ghost use Rattle.ib_io.specs.declared.line_kind.TheConstants.{MOST_SCRIPT_SESSIONS as SESSIONS};
 ghost use Rattle.ib_latch_form.specs.Events.{IsEventInRange};
@@ -53,8 +53,7 @@ impl Printed for Making {
 
 /// Makes events on the latch machine with all latches free, and writes what came of each.
 pub fn make_events<K: Sink>(alloc: Global, events: Events, sink: &mut K) -> Status
-    ensures told { Told (λ e. e ≡ ends Status.Done (latch_output events)) IsOutOfMemory (K.written sink.old) (K.written sink.new) result }
-    ensures write { TellsFault Status.WriteFault result (K.faults sink.old) (K.faults sink.new) }
+    ensures { HasTold K.written K.faults (Told (λ e. e ≡ ends Status.Done (latch_output events)) IsOutOfMemory) sink.old sink.new result }
 {
     match Core::new(alloc, MOST_SCRIPT_SESSIONS, MOST_LATCH + 1) {
         Ok(core) => tell(sink, Making { core, events }, Status::Done),

@@ -2,7 +2,7 @@
 use Rattle.std.specs.List.{AllByRecursion}
 use Rattle.std.proofs.Common.{◌≡◌, ℕ, ◌<◌, ◌≤◌, List, [], ◌∷◌, ◌++◌, length, refl, sym, ap, subst, ◌∙◌, arith, length-append, append_assoc}
 use Rattle.ib_map.specs.Map.{is_made}
-use Rattle.ib_map.specs.Replies.{full_record}
+use Rattle.ib_map.specs.Replies.{FullRecord, full_record}
 use Rattle.ib_map.specs.Runs.{reach_after}
 use Rattle.ib_map.specs.declared.call.Call.{Call}
 use Rattle.ib_map.specs.declared.call.Reply.{Reply}
@@ -10,7 +10,6 @@ use Rattle.ib_page.specs.Work.{WorkPage}
 use Rattle.ib_layout.specs.Geometry.{Sizes}
 use Rattle.ib_logrec.specs.declared.entry.Entry.{Entry}
 use Rattle.ib_logrec.specs.Log.{used}
-use Rattle.ib_tree.specs.Fits.{FitsLog}
 use Rattle.ib_rule.specs.declared.looks.Grants.{Grants}
 use Rattle.ib_rule.specs.declared.memory.Knowledge.{Knowledge}
 use Rattle.ib_rule.specs.declared.view.Role.{Role}
@@ -22,9 +21,8 @@ use Rattle.ib_rule.specs.Stores.{IsLook}
 use Rattle.ib_mtr.specs.Commits.{HasEnded}
 use Rattle.ib_mtr.specs.Mtr.{with_work}
 use Rattle.ib_cursor.specs.Going.{IsKnown, WentOn}
-use Rattle.ib_cursor.specs.Spaces.{space_of}
 use Rattle.ib_cursor.proofs.LatchingLaws.{seen_longer}
-use Rattle.ib_leaf.specs.Calls.{HasCalled, MakesOwn}
+use Rattle.ib_leaf.specs.Calls.{HasCalledBy, MakesOwn}
 use Rattle.ib_leaf.specs.Ends.{IsEnd}
 
 pub bounds-wider : (ns : List ℕ) (low high most : ℕ) → high ≤ most → AllByRecursion (λ n. (low ≤ n) × (n ≤ high)) ns → AllByRecursion (λ n. (low ≤ n) × (n ≤ most)) ns
@@ -36,16 +34,16 @@ bounds-push [] low high place e l h = ((l, h), tt)
 bounds-push (n ∷ ns) low high place e l h = (e.0, bounds-push ns low high place e.1 l h)
 
 -- so a call that went there and ended is one that was answered
-pub called-from : (sizes : Sizes) (lawful : List Entry → Type 0) (opens : ℕ → ℕ) (call : Call) (reply : Reply) (place : ℕ) (p q r : PassState) (went : WentOn p q) → 0 < length went.added
+pub called-by : (fits_log : List Entry → ℕ → ℕ → FullRecord → Type 0) (sizes : Sizes) (lawful : List Entry → Type 0) (call : Call) (reply : Reply) (place : ℕ) (p q r : PassState) (went : WentOn p q) → 0 < length went.added
     → IsEnd q r place → IsKnown sizes lawful r → length r.view.memory.seen ≡ reach_after (full_record (record { call = call; reply = reply; place = place }) [])
-    → FitsLog (space_of sizes opens) r.view.memory.seen r.number (length p.view.memory.seen) (full_record (record { call = call; reply = reply; place = place }) [])
+    → fits_log r.view.memory.seen r.number (length p.view.memory.seen) (full_record (record { call = call; reply = reply; place = place }) [])
     → MakesOwn (is_made reply) r.view.memory.seen q.view.memory.own r.view.memory.own
-    → HasCalled sizes lawful opens call (record { call = call; reply = reply; place = place }) p r
-called-from sizes lawful opens call reply place p q r went looked end known reach fits own =
+    → HasCalledBy fits_log sizes lawful call (record { call = call; reply = reply; place = place }) p r
+called-by fits_log sizes lawful call reply place p q r went looked end known reach fits own =
     go went.added went.ends went.bounds looked
   where
     go : (added : List ℕ) → q.view.memory.ends ≡ p.view.memory.ends ++ added → AllByRecursion (λ n. (length p.view.memory.seen ≤ n) × (n ≤ length q.view.memory.seen)) added → 0 < length added
-        → HasCalled sizes lawful opens call (record { call = call; reply = reply; place = place }) p r
+        → HasCalledBy fits_log sizes lawful call (record { call = call; reply = reply; place = place }) p r
     go [] ends bounds some = absurd (omega arith)
     go (n ∷ ns) ends bounds some =
         let longer = seen_longer p q went in let low = end.low in let high = end.high in

@@ -31,7 +31,7 @@ use Rattle.ib_mtr.specs.Commits.{HasCommitted, HasRead, IsFull}
 use Rattle.ib_mtr.specs.Mtr.{with_work}
 use Rattle.ib_cursor.specs.Going.{WentOn}
 use Rattle.ib_cursor.specs.Spaces.{space_of}
-use Rattle.ib_leaf.specs.Calls.{HasCalled}
+use Rattle.ib_leaf.specs.Calls.{HasCalled, tree_calls}
 use Rattle.ib_leaf.specs.Ends.{full_answer}
 use Rattle.ib_leaf.specs.Leaf.{IsAtLeaf, IsSeated, leaf_page}
 use Rattle.ib_leaf.proofs.CallEnds.{called-committed, called-full, called-read, entry-c, known-f, log-full, map-c, map-r, within-c, within-f, within-r}
@@ -49,7 +49,7 @@ module _ (sizes : Sizes) (key : MapKey) (leaf : ℕ) (p q : PassState) (went : W
     -- what the map has of the key at the call's place
     pub value-r : value_at key (map_after (history_of r.view.memory.seen) place) ≡ value_at key (leaf_page sizes key q).records
     value-r =
-        ap (value_at key) (map-r sizes p q went looked seated.role place r read)
+        ap (value_at key) (map-r sizes (tree_calls sizes) p q went looked seated.role place r read)
         ∙ (ap (λ (log : List Entry). value_at key (map_of log)) seen-r
         ∙ value-stays sizes seated.fits key leaf q at (session_number_of q.view.role) read.looked.others read.looked.harmless legal-r)
 
@@ -77,15 +77,15 @@ module _ (sizes : Sizes) (key : MapKey) (leaf : ℕ) (p q : PassState) (went : W
     full-insert value missing room =
         let long = length-history_of r.view.memory.seen in
         let made : is_made (answer_of (map_of r.view.memory.seen) (Insert key value)) ≡ true = ap (λ (o : Option ℕ). is_made (cond (is_some o) Duplicate Inserted)) (value-f ∙ missing) in
-        let free = insert-room sizes.pages seated.fits r.view.memory.seen (known-f sizes p q went looked seated.role work full r f).legal key (subst (λ (s : PageState). length s.records < MOST_RECORDS) (sym page-f) room) in
+        let free = insert-room sizes.pages seated.fits r.view.memory.seen (known-f sizes (tree_calls sizes) p q went looked seated.role work full r f).legal key (subst (λ (s : PageState). length s.records < MOST_RECORDS) (sym page-f) room) in
         let whole : take (length r.view.memory.seen) r.view.memory.seen ≡ r.view.memory.seen = take-length r.view.memory.seen in
-        called-full sizes p q went looked seated.role work full r f (InsertCall key value) (record {
-          map = (within-f sizes p q went looked seated.role work full r f, (made, refl));
+        called-full sizes (tree_calls sizes) p q went looked seated.role work full r f (InsertCall key value) (record {
+          map = (within-f sizes (tree_calls sizes) p q went looked seated.role work full r f, (made, refl));
           tree = (
-            subst (λ (log : List Entry). is_too_high (kept_pages sizes.pages log) key 1 ≡ false) (sym whole) free.0,
+            subst (λ (log : List Entry). is_too_high 1 (kept_pages sizes.pages log) key 1 ≡ false) (sym whole) free.0,
             (let none : need_of (tree_at (space_of sizes (by_place opening sizes.pages)) r.view.memory.seen (length r.view.memory.seen)) key 1 ≡ 0 =
                 subst (λ (log : List Entry). need_of (kept_pages sizes.pages log) key 1 ≡ 0) (sym whole) free.1 in omega arith),
-            log-full sizes p q went looked seated.role work full r f,
+            log-full sizes (tree_calls sizes) p q went looked seated.role work full r f,
           );
         })
 
@@ -94,14 +94,14 @@ module _ (sizes : Sizes) (key : MapKey) (leaf : ℕ) (p q : PassState) (went : W
     full-delete value there =
         let long = length-history_of r.view.memory.seen in
         let made : is_made (answer_of (map_of r.view.memory.seen) (Delete key)) ≡ true = ap (λ (o : Option ℕ). is_made (delete_answer o)) (value-f ∙ there) in
-        called-full sizes p q went looked seated.role work full r f (DeleteCall key) (record { map = (within-f sizes p q went looked seated.role work full r f, (made, refl)); tree = log-full sizes p q went looked seated.role work full r f })
+        called-full sizes (tree_calls sizes) p q went looked seated.role work full r f (DeleteCall key) (record { map = (within-f sizes (tree_calls sizes) p q went looked seated.role work full r f, (made, refl)); tree = log-full sizes (tree_calls sizes) p q went looked seated.role work full r f })
 
   -- the change was committed
   module _ (work : List WorkPage) (change : Change) (place : ℕ) (r : PassState) (c : HasCommitted sizes (IsKeptLog sizes.pages) (by_place opening sizes.pages) change (with_work work q) place r) where
     -- what the map has of the key before the entry
     value-c : value_at key (map_after (history_of r.view.memory.seen) place) ≡ value_at key (leaf_page sizes key q).records
     value-c =
-        ap (value_at key) (map-c sizes p q went looked seated.role work change place r c)
+        ap (value_at key) (map-c sizes (tree_calls sizes) p q went looked seated.role work change place r c)
         ∙ (ap (λ (log : List Entry). value_at key (map_of log)) (sym c.looked.longer)
         ∙ value-stays sizes seated.fits key leaf q at (session_number_of q.view.role) c.looked.others c.looked.harmless (subst (IsKeptLog sizes.pages) (sym c.looked.longer) c.looked.legal))
 
@@ -110,8 +110,8 @@ module _ (sizes : Sizes) (key : MapKey) (leaf : ℕ) (p q : PassState) (went : W
       → HasCalled sizes (IsKeptLog sizes.pages) (by_place opening sizes.pages) (InsertCall key value) (record { call = InsertCall key value; reply = Inserted; place = place }) p r
   called-inserted work value place r c missing =
       let none : value_at key (map_after (history_of r.view.memory.seen) place) ≡ None = value-c work (Insert key value) place r c ∙ missing in
-      called-committed sizes p q went looked seated.role work (Insert key value) place r c (InsertCall key value) Inserted refl (record {
-        map = (within-c sizes p q went looked seated.role work (Insert key value) place r c, ((ap (λ (o : Option ℕ). cond (is_some o) Duplicate Inserted) none, entry-c sizes p q went looked seated.role work (Insert key value) place r c), refl));
+      called-committed sizes (tree_calls sizes) p q went looked seated.role work (Insert key value) place r c (InsertCall key value) Inserted refl (record {
+        map = (within-c sizes (tree_calls sizes) p q went looked seated.role work (Insert key value) place r c, ((ap (λ (o : Option ℕ). cond (is_some o) Duplicate Inserted) none, entry-c sizes (tree_calls sizes) p q went looked seated.role work (Insert key value) place r c), refl));
         tree = tt;
       })
 
@@ -120,8 +120,8 @@ module _ (sizes : Sizes) (key : MapKey) (leaf : ℕ) (p q : PassState) (went : W
       → HasCalled sizes (IsKeptLog sizes.pages) (by_place opening sizes.pages) (DeleteCall key) (record { call = DeleteCall key; reply = Deleted value; place = place }) p r
   called-deleted work value place r c there =
       let some : value_at key (map_after (history_of r.view.memory.seen) place) ≡ Some value = value-c work (Delete key) place r c ∙ there in
-      called-committed sizes p q went looked seated.role work (Delete key) place r c (DeleteCall key) (Deleted value) refl (record {
-        map = (within-c sizes p q went looked seated.role work (Delete key) place r c, ((ap delete_answer some, entry-c sizes p q went looked seated.role work (Delete key) place r c), refl));
+      called-committed sizes (tree_calls sizes) p q went looked seated.role work (Delete key) place r c (DeleteCall key) (Deleted value) refl (record {
+        map = (within-c sizes (tree_calls sizes) p q went looked seated.role work (Delete key) place r c, ((ap delete_answer some, entry-c sizes (tree_calls sizes) p q went looked seated.role work (Delete key) place r c), refl));
         tree = tt;
       })
 
@@ -129,15 +129,15 @@ module _ (sizes : Sizes) (key : MapKey) (leaf : ℕ) (p q : PassState) (went : W
   pub called-duplicate : (place : ℕ) (r : PassState) → HasRead sizes (IsKeptLog sizes.pages) q place r → (value old : ℕ) → value_at key (leaf_page sizes key q).records ≡ Some old
       → HasCalled sizes (IsKeptLog sizes.pages) (by_place opening sizes.pages) (InsertCall key value) (record { call = InsertCall key value; reply = Duplicate; place = place }) p r
   called-duplicate place r read value old there =
-      called-read sizes p q went looked seated.role place r read (InsertCall key value) Duplicate refl (record {
-        map = (within-r sizes p q went looked seated.role place r read, (ap (λ (o : Option ℕ). cond (is_some o) Duplicate Inserted) (value-r place r read ∙ there), refl));
+      called-read sizes (tree_calls sizes) p q went looked seated.role place r read (InsertCall key value) Duplicate refl (record {
+        map = (within-r sizes (tree_calls sizes) p q went looked seated.role place r read, (ap (λ (o : Option ℕ). cond (is_some o) Duplicate Inserted) (value-r place r read ∙ there), refl));
         tree = tt;
       })
 
   pub called-missing : (place : ℕ) (r : PassState) → HasRead sizes (IsKeptLog sizes.pages) q place r → value_at key (leaf_page sizes key q).records ≡ None
       → HasCalled sizes (IsKeptLog sizes.pages) (by_place opening sizes.pages) (DeleteCall key) (record { call = DeleteCall key; reply = Missing; place = place }) p r
   called-missing place r read none =
-      called-read sizes p q went looked seated.role place r read (DeleteCall key) Missing refl (record {
-        map = (within-r sizes p q went looked seated.role place r read, (ap delete_answer (value-r place r read ∙ none), refl));
+      called-read sizes (tree_calls sizes) p q went looked seated.role place r read (DeleteCall key) Missing refl (record {
+        map = (within-r sizes (tree_calls sizes) p q went looked seated.role place r read, (ap delete_answer (value-r place r read ∙ none), refl));
         tree = tt;
       })

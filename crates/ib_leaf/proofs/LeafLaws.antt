@@ -17,6 +17,7 @@ use Rattle.ib_rule.specs.Pass.{PassState}
 use Rattle.ib_rule.specs.Space.{SpaceState}
 use Rattle.ib_mtr.specs.Commits.{HasRead}
 use Rattle.ib_mtr.specs.Mtr.{with_work}
+use Rattle.ib_leaf.specs.Calls.{tree_calls}
 use Rattle.ib_leaf.specs.Ends.{HasLeftLeaf}
 use Rattle.ib_leaf.specs.Leaf.{IsFullFor, IsShortFor, WorksOnLeaf, leaf_page}
 use Rattle.ib_leaf.proofs.CommitLaws.{CommitAnswered}
@@ -43,7 +44,7 @@ module _ (space : SpaceState) (key : MapKey) (leaf : ℕ) (q : PassState) (works
   -- the pair was put in and committed, or the log was full
   pub insert-ended : (o : Result ℕ LogFull) (work : List WorkPage) (value : ℕ) (answer : Record) (r : PassState)
       → value_at key (leaf_page sizes key q).records ≡ None → length (leaf_page sizes key q).records < MOST_RECORDS
-      → CommitAnswered sizes (InsertCall key value) (Insert key value) Inserted o answer (with_work work q) r
+      → CommitAnswered sizes (tree_calls sizes) (InsertCall key value) (Insert key value) Inserted o answer (with_work work q) r
       → HasLeftLeaf space (IsFullFor key) key leaf (InsertCall key value) (Some answer) q r
   insert-ended (Ok place) work value answer r missing room ends =
       subst (λ (a : Record). HasLeftLeaf space (IsFullFor key) key leaf (InsertCall key value) (Some a) q r) (sym ends.as_made)
@@ -74,7 +75,7 @@ module _ (space : SpaceState) (key : MapKey) (leaf : ℕ) (q : PassState) (works
   -- the pair was taken out and that committed, or the log was full
   pub delete-ended : (o : Result ℕ LogFull) (work : List WorkPage) (value : ℕ) (answer : Record) (r : PassState)
       → value_at key (leaf_page sizes key q).records ≡ Some value → (leaf ≡ 1) ⊎ (FEWEST_RECORDS < length (leaf_page sizes key q).records)
-      → CommitAnswered sizes (DeleteCall key) (Delete key) (Deleted value) o answer (with_work work q) r
+      → CommitAnswered sizes (tree_calls sizes) (DeleteCall key) (Delete key) (Deleted value) o answer (with_work work q) r
       → HasLeftLeaf space (IsShortFor key) key leaf (DeleteCall key) (Some answer) q r
   delete-ended (Ok place) work value answer r there enough ends =
       subst (λ (a : Record). HasLeftLeaf space (IsShortFor key) key leaf (DeleteCall key) (Some a) q r) (sym ends.as_made)

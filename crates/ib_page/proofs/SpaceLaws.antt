@@ -1,5 +1,5 @@
 -- Bits of the space page.
-use Rattle.std.proofs.Common.{◌≡◌, ℕ, zero, suc, ◌*◌, ◌/◌, ◌%◌, ◌^◌, ◌<◌, ◌≤◌, true, false, cond, eqb, ltb, ◌+◌, ◌-◌, ◌∙◌, List, Option, IsNone, IfSome, ◌↔◌, length, get_or, set, replicate, drop, zero-add, subst, refl, ap, sym, arith, inl, inr}
+use Rattle.std.proofs.Common.{◌≡◌, ◌≢◌, ℕ, zero, suc, ◌*◌, ◌/◌, ◌%◌, ◌^◌, ◌<◌, ◌≤◌, true, false, cond, eqb, ltb, ◌+◌, ◌-◌, ◌∙◌, List, Option, IsNone, IfSome, ◌↔◌, length, get_or, set, replicate, drop, zero-add, subst, refl, ap, sym, arith, inl, inr}
 use Rattle.std.specs.Int.{bit_at, w64, bit_not, trailing_ones}
 use Rattle.std.specs.Int.RustNames.{bit_or, count_ones}
 use Rattle.std.specs.Bool.{then_some}
@@ -180,52 +180,67 @@ sets_free ws page size in_range = sets_bit ws page _ 0 size in_range
     (bit_at_clear_same w64 (get_or ws (page / 64) 0) (page % 64) (omega arith))
     (λ i lt differs. bit_at_clear_other w64 (get_or ws (page / 64) 0) (page % 64) (omega arith) i lt differs)
 
--- the words of a new space page
-zero_word : (i : ℕ) → (i ≡ 0 → ⊥) → get_or {A = ℕ} (set (replicate PAGE_WORDS 0) 0 3) i 0 ≡ 0
-zero_word i differs = get_or-set_other (replicate PAGE_WORDS 0) 0 i 3 0 differs ∙ all_zero PAGE_WORDS i
-  where
-    all_zero : (n i : ℕ) → get_or {A = ℕ} (replicate n 0) i 0 ≡ 0
-    all_zero zero i = refl
-    all_zero (suc n) zero = refl
-    all_zero (suc n) (suc i) = all_zero n i
+-- the space page of a new space, word for word
+pub space_words : set (replicate PAGE_WORDS 0) 0 3 ≡ opening_space_words 1
+unfolding opening_space_words zeros
+space_words = refl
 
+pub space_word : (roots index : ℕ) → get_or (opening_space_words roots) index 0 ≡ cond (eqb index 0) (2 ^ (roots + 1) - 1) 0
+unfolding opening_space_words
+space_word roots zero = refl
+space_word roots (suc i) = zeros-at (PAGE_WORDS - 1) i ∙ ap (λ b. cond {A = ℕ} b (2 ^ (roots + 1) - 1) 0) (sym (ne_eqb (suc i) 0 (λ e. omega arith)))
+
+-- .. behind the first word all are 0
+space_zero : (roots i : ℕ) → i ≢ 0 → get_or (opening_space_words roots) i 0 ≡ 0
+space_zero roots i behind = space_word roots i ∙ ap (λ b. cond {A = ℕ} b (2 ^ (roots + 1) - 1) 0) (ne_eqb i 0 behind)
+
+length-zeros : (n : ℕ) → length {A = ℕ} (zeros n) ≡ n
+unfolding zeros
+length-zeros n = length-replicate n
+  where
+    length-replicate : (n : ℕ) → length {A = ℕ} (replicate n 0) ≡ n
+    length-replicate zero = refl
+    length-replicate (suc n) = ap suc (length-replicate n)
+
+pub length-space : (roots : ℕ) → length (opening_space_words roots) ≡ PAGE_WORDS
+unfolding opening_space_words
+length-space roots = ap suc (length-zeros (PAGE_WORDS - 1))
+
+-- the bits of the first word
 bit_of_three : (i : ℕ) → eqb (bit_at 3 i) 1 ≡ ltb i 2
 bit_of_three zero = refl
 bit_of_three (suc zero) = refl
 bit_of_three (suc (suc i)) = ap (λ (b : ℕ). eqb b 1) (bit_at_above 3 2 (suc (suc i)) (omega arith) (omega arith)) ∙ sym (le-ltb (suc (suc i)) 2 (omega arith))
 
-pub opening_taken : (page : ℕ) → page < MAPPED_PAGES → is_taken (set (replicate PAGE_WORDS 0) 0 3) page ≡ ltb page 2
-opening_taken page lt = elim (cases_eq (page / 64) 0) [
-  | inl first ↦
-      ap (λ (i : ℕ). eqb (bit_at (get_or (set (replicate PAGE_WORDS 0) 0 3) i 0) (page % 64)) 1) first
-      ∙ (bit_of_three (page % 64) ∙ ap (λ (i : ℕ). ltb i 2) (let e : page % 64 ≡ page = omega arith in e))
-  | inr later ↦
-      ap (λ (v : ℕ). eqb (bit_at v (page % 64)) 1) (zero_word (page / 64) later)
-      ∙ (ap (λ (b : ℕ). eqb b 1) (bit_at_above 0 0 (page % 64) (omega arith) (omega arith)) ∙ sym (le-ltb page 2 (omega arith)))
+bit_of_seven : (i : ℕ) → eqb (bit_at 7 i) 1 ≡ ltb i 3
+bit_of_seven zero = refl
+bit_of_seven (suc zero) = refl
+bit_of_seven (suc (suc zero)) = refl
+bit_of_seven (suc (suc (suc i))) = ap (λ (b : ℕ). eqb b 1) (bit_at_above 7 3 (suc (suc (suc i))) (omega arith) (omega arith)) ∙ sym (le-ltb (suc (suc (suc i))) 3 (omega arith))
+
+bit_of_first : (roots i : ℕ) → 0 < roots → roots ≤ 2 → eqb (bit_at (2 ^ (roots + 1) - 1) i) 1 ≡ ltb i (roots + 1)
+bit_of_first roots i some few = elim (cases_eq roots 1) [
+  | inl one ↦ subst (λ (r : ℕ). eqb (bit_at (2 ^ (r + 1) - 1) i) 1 ≡ ltb i (r + 1)) (sym one) (bit_of_three i)
+  | inr other ↦ let two : roots ≡ 2 = omega (arith, other) in subst (λ (r : ℕ). eqb (bit_at (2 ^ (r + 1) - 1) i) 1 ≡ ltb i (r + 1)) (sym two) (bit_of_seven i)
 ]
 
-pub opening_formed : (pages : ℕ) → 2 ≤ pages → IsSpacePage pages (set (replicate PAGE_WORDS 0) 0 3)
-opening_formed pages many = record {
-  size = length-set {A = ℕ} (replicate PAGE_WORDS 0) 0 3;
-  beyond = λ page le lt. opening_taken page lt ∙ le-ltb page 2 (omega arith);
-  behind = λ i lt. zero_word i (λ e. omega arith);
+pub space_taken : (roots page : ℕ) → 0 < roots → roots ≤ 2 → page < MAPPED_PAGES → is_taken (opening_space_words roots) page ≡ ltb page (roots + 1)
+space_taken roots page some few lt = elim (cases_eq (page / 64) 0) [
+  | inl first ↦
+      ap (λ (i : ℕ). eqb (bit_at (get_or (opening_space_words roots) i 0) (page % 64)) 1) first
+      ∙ (ap (λ (v : ℕ). eqb (bit_at v (page % 64)) 1) (space_word roots 0)
+      ∙ (bit_of_first roots (page % 64) some few ∙ ap (λ (i : ℕ). ltb i (roots + 1)) (let e : page % 64 ≡ page = omega arith in e)))
+  | inr later ↦
+      ap (λ (v : ℕ). eqb (bit_at v (page % 64)) 1) (space_zero roots (page / 64) later)
+      ∙ (ap (λ (b : ℕ). eqb b 1) (bit_at_above 0 0 (page % 64) (omega arith) (omega arith)) ∙ sym (le-ltb page (roots + 1) (omega arith)))
+]
+
+pub space_formed : (roots pages : ℕ) → 0 < roots → roots ≤ 2 → roots < pages → IsSpacePage pages (opening_space_words roots)
+space_formed roots pages some few many = record {
+  size = length-space roots;
+  beyond = λ page le lt. space_taken roots page some few lt ∙ le-ltb page (roots + 1) (omega arith);
+  behind = λ i lt. space_zero roots i (λ e. omega arith);
 }
-
--- the space page of a new space, word for word
-pub space_words : set (replicate PAGE_WORDS 0) 0 3 ≡ opening_space_words
-unfolding opening_space_words zeros
-space_words = refl
-
-pub space_taken : (page : ℕ) → page < MAPPED_PAGES → is_taken opening_space_words page ≡ ltb page 2
-space_taken page lt = ap (λ ws. is_taken ws page) (sym space_words) ∙ opening_taken page lt
-
-pub space_formed : (pages : ℕ) → 2 ≤ pages → IsSpacePage pages opening_space_words
-space_formed pages many = subst (λ (ws : List ℕ). IsSpacePage pages ws) space_words (opening_formed pages many)
-
-pub space_word : (index : ℕ) → get_or opening_space_words index 0 ≡ cond (eqb index 0) 3 0
-unfolding opening_space_words
-space_word zero = refl
-space_word (suc i) = zeros-at (PAGE_WORDS - 1) i ∙ ap (λ b. cond {A = ℕ} b 3 0) (sym (ne_eqb (suc i) 0 (λ e. omega arith)))
 
 -- all pages from one on are free exactly where they count as free
 free_below-step : (ws : List ℕ) (n k : ℕ) → free_below ws (k + n) ≤ free_below ws n + k

@@ -1,6 +1,6 @@
 //! The laws of pages and of work sets, as contracts.
 
-ghost use Rattle.std.specs.Prelude.{◌≡◌, ◌≢◌, ◌↔◌, ℕ, ◌*◌, ◌<◌, ◌≤◌, List, All, false, nat_lt, Some, None, slice_index};
+ghost use Rattle.std.specs.Prelude.{◌≡◌, ◌≢◌, ◌↔◌, ℕ, ◌+◌, ◌*◌, ◌<◌, ◌≤◌, List, All, false, nat_lt, Some, None, slice_index};
 ghost use Rattle.std.specs.List.{Any, Contains};
 ghost use Rattle.ib_map.specs.Writes.{PlacesRise, stored, touches, word_place};
 ghost use Rattle.ib_heap.specs.Laws.{FormLaw};
@@ -19,11 +19,12 @@ use ib_map::PAGE_WORDS;
 /// records ascend, an image of a page is whole, and the pages of a new space are formed.
 pub fn page_law()
     ensures form { FormLaw }
-    // Page 0 of a new space is its space page, page 1 an empty leaf, and every other page is free.
-    ensures opening_space { (pages : ℕ) → 2 ≤ pages → IsSpacePage pages (opening_words 0) }
-    ensures opening_taken { (page : ℕ) → page < MAPPED_PAGES → is_taken (opening_words 0) page ≡ nat_lt page 2 }
-    ensures opening_leaf { opening_words 1 ≡ empty_leaf_words 0 }
-    ensures opening_free { (page : ℕ) → 2 ≤ page → opening_words page ≡ free_page_words 0 }
+    // Page 0 of a new space is its space page, each root an empty leaf, and every other page is free.
+    ensures opening_space { (pages roots : ℕ) → 0 < roots → roots ≤ 2 → roots < pages → IsSpacePage pages (opening_words roots 0) }
+    ensures opening_taken { (roots page : ℕ) → 0 < roots → roots ≤ 2 → page < MAPPED_PAGES
+        → is_taken (opening_words roots 0) page ≡ nat_lt page (roots + 1) }
+    ensures opening_leaf { (roots page : ℕ) → 0 < page → page ≤ roots → opening_words roots page ≡ empty_leaf_words 0 }
+    ensures opening_free { (roots page : ℕ) → roots < page → opening_words roots page ≡ free_page_words 0 }
 {}
 
 /// The law of a work set, as a contract over the lists of its pages: what stands of a page, and that the

@@ -1,6 +1,6 @@
 //! Page 0: which pages of a space are taken (fsp0fsp).
 
-ghost use Rattle.std.specs.Prelude.{◌≡◌, ◌+◌, ◌<◌, ◌≤◌, ◌^◌, ℕ, true, false, nat_lt, length, slice_index, IsTrue, ◌↔◌, IsNone, IfSome};
+ghost use Rattle.std.specs.Prelude.{◌≡◌, ◌+◌, ◌-◌, ◌<◌, ◌≤◌, ◌^◌, ℕ, true, false, nat_lt, length, slice_index, IsTrue, ◌↔◌, IsNone, IfSome};
 ghost use Rattle.ib_page.specs.Opening.{opening_space_words};
 ghost use Rattle.ib_page.specs.Space.{is_taken, space_clock_of, with_space_clock, free_below, zeros_below, SetsBit, IsSpacePage};
 
@@ -24,8 +24,10 @@ const CLOCK: usize = 64;
 
 const _: () = prove!(MAPPED_PAGES as usize == WORD_BITS as usize * CLOCK);
 
-// The bits of pages 0 and 1.
+// The bits of page 0 and of one root, and of two.
 const FIRST_PAGES: u64 = 3;
+
+const FIRST_PAGES_OF_TWO: u64 = 7;
 
 /// An image of page 0: which pages are taken, and a modify clock (fsp0fsp).
 #[derive(Clone, Copy, Drop)]
@@ -50,7 +52,7 @@ impl SpaceImage {
         ensures taken { (page : ℕ) → page < MAPPED_PAGES → is_taken result page ≡ nat_lt page 2 }
         ensures clock { space_clock_of result ≡ 0 }
         ensures formed { IsSpacePage pages result }
-        ensures words { result ≡ opening_space_words }
+        ensures words { result ≡ opening_space_words 1 }
     {
         SpaceImage {
             words: opening_page(),
@@ -160,27 +162,43 @@ fn ends_with_zeros(words: &[u64]) -> bool
     are_zeros(&words[CLOCK + 1..])
 }
 
-// The words of the space page of a new space.
+// The words of the space page of a new space with one root.
 fn opening_page() -> [u64; PAGE_WORDS]
-    ensures { result ≡ opening_space_words }
+    ensures { result ≡ opening_space_words 1 }
 {
     let mut words = [0; PAGE_WORDS];
     words[0] = FIRST_PAGES;
     words
 }
 
-// The same as an image, and by the word.
+// The same as an image.
 pub(crate) fn opening_image() -> Image
-    ensures { result ≡ opening_space_words }
+    ensures { result ≡ opening_space_words 1 }
 {
     Image::from_words(opening_page())
 }
 
-pub(crate) fn opening_word(index: usize) -> u64
-    requires { index < PAGE_WORDS }
-    ensures { result ≡ slice_index opening_space_words index }
+// The bits of page 0 and of the roots.
+fn first_pages(roots: u32) -> u64
+    requires some { 0 < roots }
+    requires few { roots ≤ 2 }
+    ensures { result ≡ 2 ^ (roots + 1) - 1 }
 {
-    if index == 0 { FIRST_PAGES } else { 0 }
+    if roots == 1 {
+        FIRST_PAGES
+    } else {
+        FIRST_PAGES_OF_TWO
+    }
+}
+
+// A word of the space page of a new space with one root or two.
+pub(crate) fn opening_word(roots: u32, index: usize) -> u64
+    requires some { 0 < roots }
+    requires few { roots ≤ 2 }
+    requires index { index < PAGE_WORDS }
+    ensures { result ≡ slice_index (opening_space_words roots) index }
+{
+    if index == 0 { first_pages(roots) } else { 0 }
 }
 
 // How many of the lowest bits of a word are 0.

@@ -90,7 +90,7 @@ fn choose_fresh(
     ensures { IfOk result (λ fresh. HasFresh (length memory.now) 1 1 key fresh (memory_of memory.now) (bits_of (length memory.now) (word_at memory.now))) }
 {
     check_path(rt, work, path);
-    let need = pages_needed(work, path)?;
+    let need = pages_needed(work, path, 1)?;
     choose_pages(work, memory.len() as u32, need)
 }
 

@@ -52,8 +52,8 @@ fn writes_the_words_that_differ(rt: HostRuntime) -> Result<(), Fail> {
 
 #[test]
 fn a_new_space_has_its_pages(rt: HostRuntime) {
-    assert_eq!(rt; opening_word(0, 0), 3);
-    assert_eq!(rt; opening_word(1, 0), 1);
+    assert_eq!(rt; opening_word(1, 0, 0), 3);
+    assert_eq!(rt; opening_word(1, 1, 0), 1);
     assert!(rt; SpaceImage::from_image(&opening_image(0)).is_formed(16));
     assert!(rt; opening_image(1).is_formed());
 }

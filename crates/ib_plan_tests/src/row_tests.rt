@@ -169,7 +169,7 @@ fn a_full_path_up_to_the_highest_root(rt: HostRuntime) -> Result<(), Fail> {
     }
     check_path(&rt, &work, &path);
     assert!(rt; !path.is_empty());
-    assert!(rt; pages_needed(&work, &path) == Err(TreeFault::TooHigh));
+    assert!(rt; pages_needed(&work, &path, 1) == Err(TreeFault::TooHigh));
     Ok(())
 }
 

@@ -14,7 +14,7 @@ use Rattle.ib_planned_change.proofs.PlanCommits.{IsPlannedChange}
 use Rattle.ib_planned_change.proofs.PlanLaws.{plan-bits, plan-on}
 use Rattle.ib_planned_change.proofs.ShrinkPlanLaws.{delete-bits, delete-on}
 
-pub insert-planned : (pages : ℕ) (key : MapKey) (value : ℕ) (fresh : List ℕ) (m : PageMemory) (bits : ℕ → ℕ) (old new : List WorkPage) → is_too_high m key 1 ≡ false → HasFresh pages 1 1 key fresh m bits
+pub insert-planned : (pages : ℕ) (key : MapKey) (value : ℕ) (fresh : List ℕ) (m : PageMemory) (bits : ℕ → ℕ) (old new : List WorkPage) → is_too_high 1 m key 1 ≡ false → HasFresh pages 1 1 key fresh m bits
     → IsPlannedInsert fresh key value pages 1 m bits old new → IsPlannedChange pages (Insert key value) m bits old new
 insert-planned pages key value fresh m bits old new low has plan = record {
   may = (low, has.enough);

@@ -13,7 +13,7 @@ use Rattle.ib_logrec.specs.Log.{memory_after, by_place}
 use Rattle.ib_page.specs.Work.{WorkPage, IsWork, changed_of}
 use Rattle.ib_walk.specs.Full.{chosen, free_of, free_pages_from, is_root_full, is_too_high, need_of}
 use Rattle.ib_walk.specs.Pages.{PageMemory, PageState, Tree}
-use Rattle.ib_walk.specs.Trees.{height_of}
+use Rattle.ib_walk.specs.Trees.{height_of, most_height}
 use Rattle.ib_walk.specs.Words.{bits_of}
 use Rattle.ib_walk.proofs.ChoiceLaws.{cond-eq, cond-ne}
 use Rattle.ib_plans.specs.Agreement.{Agrees, HasBits, HasTreePages, IsThere, bits_in, last_of, memory_in, path_of, reads_of}
@@ -74,7 +74,7 @@ module _ (log : List Entry) (images : List (List ℕ)) (b : IsBehind log images)
 
   -- ---- what is full
 
-  pub is-high : (value : ℕ) → is_too_high (kept_pages (length images) log) key 1 ≡ true → full_behind (length images) log (Insert key value) ≡ Some High
+  pub is-high : (value : ℕ) → is_too_high 1 (kept_pages (length images) log) key 1 ≡ true → full_behind (length images) log (Insert key value) ≡ Some High
   is-high value high = rw high refl
 
   module _ (path : List ℕ) (way : path ≡ path_of (kept_pages (length images) log) key 1) (work : List WorkPage) (copies : AreCopies images work) where
@@ -91,7 +91,7 @@ module _ (log : List Entry) (images : List (List ℕ)) (b : IsBehind log images)
         λ j n. sym (has.1 n) j
 
     -- page 0 says which pages are free
-    module _ (image : List ℕ) (there : changed_of 0 work ≡ Some image) (need : ℕ) (low : is_too_high (kept_pages (length images) log) key 1 ≡ false) (needed : need ≡ need_of (kept_pages (length images) log) key 1) where
+    module _ (image : List ℕ) (there : changed_of 0 work ≡ Some image) (need : ℕ) (low : is_too_high 1 (kept_pages (length images) log) key 1 ≡ false) (needed : need ≡ need_of (kept_pages (length images) log) key 1) where
       pub is-space : (value : ℕ) → free_of (bits_in (length images) image) (length images) < need → full_behind (length images) log (Insert key value) ≡ Some Space
       is-space value short =
           let same = ap (λ bs. free_of bs (length images)) (bits-same image there) in
@@ -107,13 +107,13 @@ module _ (log : List Entry) (images : List (List ℕ)) (b : IsBehind log images)
           record {
             chosen_are = are ∙ (ap (λ bs. chosen bs (length images) need) same ∙ ap (chosen bits (length images)) needed);
             enough = omega arith;
-            low = low-enough (is_root_full m key 1) (height_of m 1) low high;
+            low = low-enough (is_root_full m key 1) (height_of m 1) (most_height 1) low high;
           }
 
     -- ---- an insert may be planned
 
     module _ (there : All (IsThere work) path) (leaf-there : IsThere work (last_of path)) (behind : HasBehind (kept_pages (length images) log) work (last_of path)) (zero-there : IsThere work 0) (fresh : List ℕ) (fresh-there : All (IsThere work) fresh)
-        (low : is_too_high (kept_pages (length images) log) key 1 ≡ false)
+        (low : is_too_high 1 (kept_pages (length images) log) key 1 ≡ false)
         (fresh-are : HasFresh (length images) 1 1 key fresh (kept_pages (length images) log) (bits_of (length images) (memory_after (by_place opening (length images)) log))) where
       leaf-is : memory_in work (last_of path) ≡ kept_pages (length images) log (last_of path)
       leaf-is = memory-is log images b work copies (last_of path) leaf-there

@@ -103,7 +103,7 @@ module _ (log : List Entry) (images : List (List ℕ)) (b : IsBehind log images)
 
   -- ---- what is full
 
-  pub not-full : (value : ℕ) → is_too_high (kept_pages (length images) log) key 1 ≡ false
+  pub not-full : (value : ℕ) → is_too_high 1 (kept_pages (length images) log) key 1 ≡ false
       → need_of (kept_pages (length images) log) key 1 ≤ free_of (bits_of (length images) (memory_after (by_place opening (length images)) log)) (length images)
       → full_behind (length images) log (Insert key value) ≡ None
   not-full value low enough = let no = le-ltb (free_of bits (length images)) (need_of m key 1) enough in rw low (rw no refl)

@@ -55,11 +55,11 @@ pub record IsReadFrom (pages : ℕ) (words : ℕ → ℕ) (old new : List WorkPa
 
 -- a change that is planned for these pages, as the work set has it: it is not refused, it touches the key's leaf, page 0 where it changes a bit, and each page whose records it moves
 pub record IsPlannedChange (pages : ℕ) (change : Change) (memory : PageMemory) (bits : ℕ → ℕ) (old new : List WorkPage) : Type 0 where
-  pub may : MayPlan memory bits pages change
-  pub plan : let g = planned memory bits pages change in IsPlanned pages memory g.memory g.bits g.touched g.moves old new
-  pub leaf_on : (planned memory bits pages change).touched (leaf_for memory (key_of change) 1) ≡ true
-  pub stays : (page : ℕ) → (planned memory bits pages change).touched page ≡ false → (planned memory bits pages change).moves page ≡ Stays
-  pub bits_stay : (planned memory bits pages change).touched 0 ≡ false → (page : ℕ) → (planned memory bits pages change).bits page ≡ bits page
+  pub may : MayPlan 1 1 memory bits pages change
+  pub plan : let g = planned 1 memory bits pages change in IsPlanned pages memory g.memory g.bits g.touched g.moves old new
+  pub leaf_on : (planned 1 memory bits pages change).touched (leaf_for memory (key_of change) 1) ≡ true
+  pub stays : (page : ℕ) → (planned 1 memory bits pages change).touched page ≡ false → (planned 1 memory bits pages change).moves page ≡ Stays
+  pub bits_stay : (planned 1 memory bits pages change).touched 0 ≡ false → (page : ℕ) → (planned 1 memory bits pages change).bits page ≡ bits page
 
 formed : (v : PageValue) → ((state_of v).kind ≡ Malformed → ⊥) → HoldsPage v
 formed (TreeValue p) kind = tt
@@ -83,7 +83,7 @@ module _ (pages : ℕ) (fits : has_pages pages ≡ true) (log : List Entry) (kep
   after = memory_after start (log ++ e ∷ [])
 
   abbrev g : Planned
-  g = planned m bits pages change
+  g = planned 1 m bits pages change
 
   abbrev then : PageMemory
   then = ticked m g.touched g.memory
@@ -95,7 +95,7 @@ module _ (pages : ℕ) (fits : has_pages pages ≡ true) (log : List Entry) (kep
   few = grind (arith, nat_tests, fits)
 
   leads : LeadsTo m then g.bits 1 1 g.touched (effect_of (content_of m 1) change)
-  leads = planned-leads m bits pages before.law few change
+  leads = planned-leads m bits pages 1 1 before.law few (omega arith) (omega arith) change
       (subst (λ xs. is_made (answer_of xs change) ≡ true) (sym (content-before pages fits log kept)) made) has.may
 
   ascends : PagesAscend 0 new
@@ -244,8 +244,8 @@ module _ (pages : ℕ) (fits : has_pages pages ≡ true) (log : List Entry) (kep
       let step : IsPlannedStep pages (memory_after start log) after m (kept_pages pages (log ++ e ∷ [])) g =
       record { pages_are = pages-are; moved = moved-is; kept = kept-is; bits_are = s.bits_are; clock = s.clock } in
       record {
-        may = subst (MayPlan m bits pages) (sym next.change_is) has.may;
-        step = subst (λ k. IsPlannedStep pages (memory_after start log) after m (kept_pages pages (log ++ e ∷ [])) (planned m bits pages k)) (sym next.change_is) step;
+        may = subst (MayPlan 1 1 m bits pages) (sym next.change_is) has.may;
+        step = subst (λ k. IsPlannedStep pages (memory_after start log) after m (kept_pages pages (log ++ e ∷ [])) (planned 1 m bits pages k)) (sym next.change_is) step;
         differ = subst (AllByRecursion (λ (w : Write). memory_after start log w.place ≢ w.value)) (sym next.writes_are) (work-differ (memory_after start log) new from.read);
       }
 

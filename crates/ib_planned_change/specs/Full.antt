@@ -15,7 +15,7 @@ use Rattle.ib_planned_log.specs.LeafChange.{kept_pages}
 -- the tree, where an insert would make it too high, else the space, where fewer pages are free than the insert takes. A delete finds nothing full
 abbrev pub full_kind : PageMemory → (ℕ → ℕ) → ℕ → Change → Option FullKind
 full_kind memory bits pages (Insert key value) =
-    if is_too_high memory key 1 then Some High else (if nat_lt (free_of bits pages) (need_of memory key 1) then Some Space else None)
+    if is_too_high 1 memory key 1 then Some High else (if nat_lt (free_of bits pages) (need_of memory key 1) then Some Space else None)
 full_kind memory bits pages (Delete key) = None
 
 -- .. on the pages behind a log, in a space of so many

@@ -63,7 +63,7 @@ HasLastBehind m key work path = (i : ℕ) → i + 2 ≡ length path → HasBehin
 -- the fresh pages are those that an insert of the key takes, and the tree need not grow too high
 abbrev pub IsFreshForAll : List (List ℕ) → MapKey → List ℕ → Type 0
 IsFreshForAll images key fresh = (log : List Entry) → IsBehind log images
-    → (is_too_high (kept_pages (length images) log) key 1 ≡ false)
+    → (is_too_high 1 (kept_pages (length images) log) key 1 ≡ false)
     × HasFresh (length images) 1 1 key fresh (kept_pages (length images) log) (bits_of (length images) (memory_after (by_place opening (length images)) log))
 
 -- an insert of the key finds this full

@@ -127,7 +127,7 @@ fn choose(work: &WorkSet, images: &[Image], path: &Path, key: Key) -> Result<Pat
     ensures few { IfOk result (λ fresh. length fresh ≤ MOST_PATH) }
     ensures refused { IfErr result (IsFullForAll images.now key) }
 {
-    let Ok(need) = pages_needed(work, path) else {
+    let Ok(need) = pages_needed(work, path, 1) else {
         return Err(FullKind::High);
     };
     let Ok(fresh) = choose_pages(work, images.len() as u32, need) else {

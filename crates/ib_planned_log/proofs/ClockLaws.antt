@@ -1,16 +1,12 @@
 -- Clocks begin at 0, and a kept entry raises each by one at most.
 use Rattle.std.proofs.Common.{◌≡◌, ◌≢◌, ℕ, zero, suc, ◌+◌, ◌≤◌, ◌∙◌, ◌⊎◌, Bool, true, false, cond, List, [], ◌∷◌, ◌++◌, length, refl, sym, ap, subst, arith, inl, inr, length-append}
-use Rattle.std.proofs.lemmas.Bool.{cases_eq}
 use Rattle.ib_map.specs.Space.{has_pages}
 use Rattle.ib_page.specs.Space.{space_clock_of}
-use Rattle.ib_page.proofs.OpeningLaws.{opening_space}
-use Rattle.ib_page.proofs.SpaceLaws.{space_word}
 use Rattle.ib_logrec.specs.declared.entry.Entry.{Entry}
 use Rattle.ib_logrec.specs.Grammar.{IsInGrammar}
 use Rattle.ib_logrec.specs.Log.{memory_after, by_place}
-use Rattle.ib_walk.specs.Pages.{PageState}
 use Rattle.ib_walk.specs.Words.{image_of, pages_of}
-use Rattle.ib_walk.proofs.SpaceLaws.{image_of-opening, pages_of-root, pages_of-other}
+use Rattle.ib_walk.proofs.SpaceLaws.{clock-opening, space_clock-opening}
 use Rattle.ib_walk.proofs.WalkLaws.{AllByRecursion-right}
 use Rattle.ib_plans.specs.Agreement.{space_ticks}
 use Rattle.ib_tree.specs.Logs.{pages_after}
@@ -23,16 +19,10 @@ use Rattle.ib_planned_log.proofs.PushLaws.{clock-push}
 
 -- no page of a new space has been changed
 opening-clock : (pages page : ℕ) → page ≢ 0 → (pages_of (by_place opening pages) page).clock ≡ 0
-opening-clock pages page ne =
-    subst (λ (words : ℕ → ℕ). (pages_of words page).clock ≡ 0) (sym (by_place-opening pages)) (elim (cases_eq page 1) [
-      | inl root ↦ ap (λ (p : PageState). p.clock) (pages_of-root page root)
-      | inr other ↦ ap (λ (p : PageState). p.clock) (pages_of-other page (omega (arith, ne, other)))
-    ])
+opening-clock pages page ne = subst (λ (words : ℕ → ℕ). (pages_of words page).clock ≡ 0) (sym (by_place-opening pages)) (clock-opening 1 page ne)
 
 opening-space_clock : (pages : ℕ) → space_clock_of (image_of (by_place opening pages) 0) ≡ 0
-opening-space_clock pages =
-    subst (λ (words : ℕ → ℕ). space_clock_of (image_of words 0) ≡ 0) (sym (by_place-opening pages))
-    (ap space_clock_of (image_of-opening 0 ∙ opening_space 0 refl) ∙ space_word 64)
+opening-space_clock pages = subst (λ (words : ℕ → ℕ). space_clock_of (image_of words 0) ≡ 0) (sym (by_place-opening pages)) (space_clock-opening 1)
 
 ticks-le : (touched : ℕ → Bool) → space_ticks touched ≤ 1
 ticks-le touched = elim (touched 0) as (λ b. cond {A = ℕ} b 1 0 ≤ 1) [ true ↦ omega arith | false ↦ omega arith ]

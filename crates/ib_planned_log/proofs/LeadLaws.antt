@@ -9,10 +9,9 @@ use Rattle.ib_map.specs.declared.call.Change.{Change}
 use Rattle.ib_map.specs.declared.call.Change.TheVariants.{Insert, Delete}
 use Rattle.ib_map.specs.declared.call.Reply.TheVariants.{Duplicate, Inserted}
 use Rattle.ib_map.proofs.KeyLaws.{rank-lt_end}
-use Rattle.ib_heap.specs.declared.TheConstants.{MOST_LEVEL}
 use Rattle.ib_page.specs.declared.space.TheConstants.{MAPPED_PAGES}
 use Rattle.ib_walk.specs.Pages.{PageMemory}
-use Rattle.ib_walk.specs.Trees.{IsLawful, content_of, height_of}
+use Rattle.ib_walk.specs.Trees.{IsLawful, content_of, height_of, most_height}
 use Rattle.ib_walk.specs.Full.{need_of, is_root_full, chosen}
 use Rattle.ib_plans.specs.Insert.{planned_insert}
 use Rattle.ib_plans.specs.Delete.{planned_delete}
@@ -36,37 +35,38 @@ pub effect-missing : (m : Pairs) (key : MapKey) (value : ℕ) → value_at key m
 effect-missing m key value none = ap (λ (o : Option ℕ). cond (is_some o) m (put key value m)) none
 
 -- a tree that isn't too high for an insert is lower than it may be, or its root isn't full
-pub low-enough : (full : Bool) (height : ℕ) → (full && (eqb height MOST_LEVEL)) ≡ false → height ≤ MOST_LEVEL → full ≡ true → height < MOST_LEVEL
-low-enough full height none le is = elim (cases_eq height MOST_LEVEL) [
-  | inl e ↦ let yes = eq-eqb height MOST_LEVEL e in absurd (let a = ap (λ b. b && eqb height MOST_LEVEL) is in cc)
+pub low-enough : (full : Bool) (height most : ℕ) → (full && (eqb height most)) ≡ false → height ≤ most → full ≡ true → height < most
+low-enough full height most none le is = elim (cases_eq height most) [
+  | inl e ↦ let yes = eq-eqb height most e in absurd (let a = ap (λ b. b && eqb height most) is in cc)
   | inr ne ↦ omega (arith, ne)
 ]
 
-module _ (m : PageMemory) (bits : ℕ → ℕ) (pages : ℕ) (law : IsLawful m bits 1) (few : pages ≤ MAPPED_PAGES) where
-  insert-leads : (key : MapKey) (value : ℕ) → value_at key (content_of m 1) ≡ None → MayPlan m bits pages (Insert key value)
-      → let g = planned_insert m bits (chosen bits pages (need_of m key 1)) key value 1 in
-      LeadsTo m (ticked m g.touched g.memory) g.bits 1 1 g.touched (put key value (content_of m 1))
+module _ (m : PageMemory) (bits : ℕ → ℕ) (pages roots root : ℕ) (law : IsLawful m bits roots) (few : pages ≤ MAPPED_PAGES) (some : 0 < root) (le : root ≤ roots) where
+  insert-leads : (key : MapKey) (value : ℕ) → value_at key (content_of m root) ≡ None → MayPlan roots root m bits pages (Insert key value)
+      → let g = planned_insert m bits (chosen bits pages (need_of m key root)) key value root in
+      LeadsTo m (ticked m g.touched g.memory) g.bits roots root g.touched (put key value (content_of m root))
   insert-leads key value missing may =
-      let count = chosen-length bits pages (need_of m key 1) may.1 in
-      let low : height_of m 1 ≤ MOST_LEVEL = (law.trees 1 (omega arith) (omega arith)).1 in
-      let plan = IsPlannedInsert-need m bits 1 law key value (rank-lt_end key) 1 (omega arith) (omega arith) (chosen bits pages (need_of m key 1))
-      (chosen-fresh bits pages (need_of m key 1) few) missing (omega arith) (low-enough (is_root_full m key 1) (height_of m 1) may.0 low) in
-      let g = planned_insert m bits (chosen bits pages (need_of m key 1)) key value 1 in
-      LeadsTo-ticked m g.memory g.bits 1 1 g.touched (put key value (content_of m 1)) (omega arith) (omega arith) plan.lawful plan.holds plan.others plan.ranges plan.rest
+      let count = chosen-length bits pages (need_of m key root) may.1 in
+      let low : height_of m root ≤ most_height roots = (law.trees root some le).1 in
+      let plan = IsPlannedInsert-need m bits roots law key value (rank-lt_end key) root some le (chosen bits pages (need_of m key root))
+      (chosen-fresh bits pages (need_of m key root) few) missing (omega arith) (low-enough (is_root_full m key root) (height_of m root) (most_height roots) may.0 low) in
+      let g = planned_insert m bits (chosen bits pages (need_of m key root)) key value root in
+      LeadsTo-ticked m g.memory g.bits roots root g.touched (put key value (content_of m root)) some le plan.lawful plan.holds plan.others plan.ranges plan.rest
 
   delete-leads : (key : MapKey)
-      → let s = planned_delete m bits key 1 in
-      LeadsTo m (ticked m s.touched s.memory) s.bits 1 1 s.touched (without key (content_of m 1))
+      → let s = planned_delete m bits key root in
+      LeadsTo m (ticked m s.touched s.memory) s.bits roots root s.touched (without key (content_of m root))
   delete-leads key =
-      let plan = IsPlannedDelete-plan m bits 1 law key (rank-lt_end key) 1 (omega arith) (omega arith) in
-      let s = planned_delete m bits key 1 in
-      LeadsTo-ticked m s.memory s.bits 1 1 s.touched (without key (content_of m 1)) (omega arith) (omega arith) plan.lawful plan.holds plan.others plan.ranges plan.rest
+      let plan = IsPlannedDelete-plan m bits roots law key (rank-lt_end key) root some le in
+      let s = planned_delete m bits key root in
+      LeadsTo-ticked m s.memory s.bits roots root s.touched (without key (content_of m root)) some le plan.lawful plan.holds plan.others plan.ranges plan.rest
 
   -- the change, by cases
-  pub planned-leads : (change : Change) → is_made (answer_of (content_of m 1) change) ≡ true → MayPlan m bits pages change
-      → LeadsTo m (ticked m (planned m bits pages change).touched (planned m bits pages change).memory) (planned m bits pages change).bits 1 1 (planned m bits pages change).touched (effect_of (content_of m 1) change)
+  pub planned-leads : (change : Change) → is_made (answer_of (content_of m root) change) ≡ true → MayPlan roots root m bits pages change
+      → LeadsTo m (ticked m (planned root m bits pages change).touched (planned root m bits pages change).memory) (planned root m bits pages change).bits roots root
+      (planned root m bits pages change).touched (effect_of (content_of m root) change)
   planned-leads (Insert key value) made may =
-      let none = made-missing (content_of m 1) key value made in
-      let g = planned m bits pages (Insert key value) in
-      subst (LeadsTo m (ticked m g.touched g.memory) g.bits 1 1 g.touched) (sym (effect-missing (content_of m 1) key value none)) (insert-leads key value none may)
+      let none = made-missing (content_of m root) key value made in
+      let g = planned root m bits pages (Insert key value) in
+      subst (LeadsTo m (ticked m g.touched g.memory) g.bits roots root g.touched) (sym (effect-missing (content_of m root) key value none)) (insert-leads key value none may)
   planned-leads (Delete key) made may = delete-leads key

@@ -79,7 +79,7 @@ module _ (pages : ℕ) (fits : has_pages pages ≡ true) (log : List Entry) (kep
   in-leaf = ap (value_at key) (sym (content-before pages fits log kept)) ∙ in-content
 
   -- with room in the leaf an insert needs no page, and the tree grows no higher
-  pub insert-room : length (m leaf).records < MOST_RECORDS → (is_too_high m key 1 ≡ false) × (need_of m key 1 ≡ 0)
+  pub insert-room : length (m leaf).records < MOST_RECORDS → (is_too_high 1 m key 1 ≡ false) × (need_of m key 1 ≡ 0)
   insert-room room = (
     not-high m bits 1 lawful key (rank-lt_end key) 1 (omega arith) (omega arith) room,
     no-need m bits 1 lawful key (rank-lt_end key) 1 (omega arith) (omega arith) room,
@@ -90,16 +90,16 @@ module _ (pages : ℕ) (fits : has_pages pages ≡ true) (log : List Entry) (kep
         → ChangesPage pages log leaf (with_pair key value (m leaf)) (Puts key) (Insert key value) e → IsPlannedEntry pages start log e
     insert-planned missing room c =
         let free = insert-room room in
-        let may : MayPlan m bits pages (Insert key value) = (free.0, let need = free.1 in omega arith) in
+        let may : MayPlan 1 1 m bits pages (Insert key value) = (free.0, let need = free.1 in omega arith) in
         let few : pages ≤ MAPPED_PAGES = grind (arith, nat_tests, fits) in
         let plan = insert-leaf m bits 1 lawful key (rank-lt_end key) 1 (omega arith) (omega arith) room value (chosen bits pages (need_of m key 1))
         (chosen-fresh bits pages (need_of m key 1) few) (in-content ∙ missing) in
-        let as-planned : planned m bits pages (Insert key value) ≡ record { memory = put_at m leaf key value; bits = bits; touched = mark leaf untouched; moves = with_move leaf (Puts key) unmoved } =
+        let as-planned : planned 1 m bits pages (Insert key value) ≡ record { memory = put_at m leaf key value; bits = bits; touched = mark leaf untouched; moves = with_move leaf (Puts key) unmoved } =
         ap (λ (g : Growth). let p : Planned = record { memory = g.memory; bits = g.bits; touched = g.touched; moves = g.moves } in p) plan in
         let step = IsPlannedStep-page pages log e leaf (put key value (m leaf).records) (Puts key) (Insert key value) the-leaf.kind the-leaf.some c in
         record {
-          may = subst (MayPlan m bits pages) (sym c.change_is) may;
-          step = subst (λ k. IsPlannedStep pages (memory_after start log) (memory_after start (log ++ e ∷ [])) m (kept_pages pages (log ++ e ∷ [])) (planned m bits pages k)) (sym c.change_is)
+          may = subst (MayPlan 1 1 m bits pages) (sym c.change_is) may;
+          step = subst (λ k. IsPlannedStep pages (memory_after start log) (memory_after start (log ++ e ∷ [])) m (kept_pages pages (log ++ e ∷ [])) (planned 1 m bits pages k)) (sym c.change_is)
               (subst (IsPlannedStep pages (memory_after start log) (memory_after start (log ++ e ∷ [])) m (kept_pages pages (log ++ e ∷ []))) (sym as-planned) step);
           differ = differ-page pages log e leaf (put key value (m leaf).records) (Puts key) (Insert key value) the-leaf.kind the-leaf.some c;
         }
@@ -118,12 +118,12 @@ module _ (pages : ℕ) (fits : has_pages pages ≡ true) (log : List Entry) (kep
         → ChangesPage pages log leaf (without_pair key (m leaf)) (Takes key) (Delete key) e → IsPlannedEntry pages start log e
     delete-planned there short c =
         let plan = delete-leaf m bits 1 lawful key (rank-lt_end key) 1 (omega arith) (omega arith) value there short in
-        let as-planned : planned m bits pages (Delete key) ≡ record { memory = drop_at m leaf key; bits = bits; touched = mark leaf untouched; moves = with_move leaf (Takes key) unmoved } =
+        let as-planned : planned 1 m bits pages (Delete key) ≡ record { memory = drop_at m leaf key; bits = bits; touched = mark leaf untouched; moves = with_move leaf (Takes key) unmoved } =
         ap (λ (s : Shrinkage). let p : Planned = record { memory = s.memory; bits = s.bits; touched = s.touched; moves = s.moves } in p) plan.1 in
         let step = IsPlannedStep-page pages log e leaf (without key (m leaf).records) (Takes key) (Delete key) the-leaf.kind the-leaf.some c in
         record {
-          may = subst (MayPlan m bits pages) (sym c.change_is) tt;
-          step = subst (λ k. IsPlannedStep pages (memory_after start log) (memory_after start (log ++ e ∷ [])) m (kept_pages pages (log ++ e ∷ [])) (planned m bits pages k)) (sym c.change_is)
+          may = subst (MayPlan 1 1 m bits pages) (sym c.change_is) tt;
+          step = subst (λ k. IsPlannedStep pages (memory_after start log) (memory_after start (log ++ e ∷ [])) m (kept_pages pages (log ++ e ∷ [])) (planned 1 m bits pages k)) (sym c.change_is)
               (subst (IsPlannedStep pages (memory_after start log) (memory_after start (log ++ e ∷ [])) m (kept_pages pages (log ++ e ∷ []))) (sym as-planned) step);
           differ = differ-page pages log e leaf (without key (m leaf).records) (Takes key) (Delete key) the-leaf.kind the-leaf.some c;
         }

@@ -62,7 +62,7 @@ module _ (m : PageMemory) (bits : ℕ → ℕ) (roots : ℕ) (law : IsLawful m b
     pub no-need : need_of m key root ≡ 0
     no-need = let a = no-run in let b = ap (λ (b : Bool). cond {A = ℕ} b 1 0) not-full in omega arith
 
-    pub not-high : is_too_high m key root ≡ false
+    pub not-high : is_too_high 1 m key root ≡ false
     not-high = ap (λ b. b && eqb (height_of m root) 7) not-full
 
     -- the insert puts the pair into the leaf

@@ -78,7 +78,7 @@ module _ (pages : ℕ) (fits : has_pages pages ≡ true) (log : List Entry) (kep
     after = bits_of pages (memory_after start (log ++ e ∷ []))
 
     abbrev plan : Planned
-    plan = planned m bits pages e.change
+    plan = planned 1 m bits pages e.change
 
     abbrev then : PageMemory
     then = ticked m plan.touched plan.memory
@@ -86,7 +86,7 @@ module _ (pages : ℕ) (fits : has_pages pages ≡ true) (log : List Entry) (kep
     leads : LeadsTo m then plan.bits 1 1 plan.touched (effect_of (content_of m 1) e.change)
     leads =
         let few : pages ≤ MAPPED_PAGES = grind (arith, nat_tests, fits) in
-        planned-leads m bits pages lawful-before.law few e.change (subst (λ xs. is_made (answer_of xs e.change) ≡ true) (sym content-before) made) p.may
+        planned-leads m bits pages 1 1 lawful-before.law few (omega arith) (omega arith) e.change (subst (λ xs. is_made (answer_of xs e.change) ≡ true) (sym content-before) made) p.may
 
     law-after : IsLawful new after 1
     law-after = IsLawful-same then new plan.bits after 1 leads.lawful p.step.pages_are p.step.bits_are

@@ -2,7 +2,6 @@
 use Rattle.std.specs.List.{AllByRecursion}
 use Rattle.std.proofs.Common.{◌≡◌, ◌≢◌, ℕ, ◌+◌, ◌*◌, ◌<◌, ◌≤◌, ◌∙◌, Bool, true, false, cond, List, [], ◌∷◌, ◌++◌, get_or, refl, sym, ap, arith, inl, inr}
 use Rattle.std.proofs.lemmas.Bool.{eq-eqb, ne_eqb, eqb-true, or_cases}
-use Rattle.ib_map.specs.Space.{has_pages}
 use Rattle.ib_map.specs.declared.TheConstants.{PAGE_WORDS}
 use Rattle.ib_map.specs.declared.write.Write.{Write}
 use Rattle.ib_map.specs.Writes.{PlacesRise, stored, touches, word_place, page_at, index_at}
@@ -50,7 +49,7 @@ module _ (pages : ℕ) (front : List Entry) (e : Entry) (kept : IsKeptLog pages 
   start = by_place opening pages
 
   abbrev plan : Planned
-  plan = planned (pages_after start front) (bits_of pages (memory_after start front)) pages e.change
+  plan = planned 1 (pages_after start front) (bits_of pages (memory_after start front)) pages e.change
 
   grammar : IsInGrammar pages e
   grammar = let lawful = kept.lawful in (AllByRecursion-right (IsInGrammar pages) front (e ∷ []) lawful.grammar).0

@@ -26,17 +26,17 @@ pub record Planned : Type 0 where
   pub touched : ℕ → Bool
   pub moves : ℕ → Move
 
--- the plan of a change of the first tree, in a space of so many pages
-abbrev pub planned : PageMemory → (ℕ → ℕ) → ℕ → Change → Planned
-planned memory bits pages (Insert key value) =
-    let g = planned_insert memory bits (chosen bits pages (need_of memory key 1)) key value 1 in record { memory = g.memory; bits = g.bits; touched = g.touched; moves = g.moves }
-planned memory bits pages (Delete key) =
-    let s = planned_delete memory bits key 1 in record { memory = s.memory; bits = s.bits; touched = s.touched; moves = s.moves }
+-- the plan of a change of the tree of a root, in a space of so many pages
+abbrev pub planned : ℕ → PageMemory → (ℕ → ℕ) → ℕ → Change → Planned
+planned root memory bits pages (Insert key value) =
+    let g = planned_insert memory bits (chosen bits pages (need_of memory key root)) key value root in record { memory = g.memory; bits = g.bits; touched = g.touched; moves = g.moves }
+planned root memory bits pages (Delete key) =
+    let s = planned_delete memory bits key root in record { memory = s.memory; bits = s.bits; touched = s.touched; moves = s.moves }
 
--- the change is not refused: the tree need not grow too high, and there are pages enough
-abbrev pub MayPlan : PageMemory → (ℕ → ℕ) → ℕ → Change → Type 0
-MayPlan memory bits pages (Insert key value) = (is_too_high memory key 1 ≡ false) × (need_of memory key 1 ≤ free_of bits pages)
-MayPlan memory bits pages (Delete key) = Unit {0}
+-- the change of that tree, one of so many, is not refused: the tree need not grow too high, and there are pages enough
+abbrev pub MayPlan : ℕ → ℕ → PageMemory → (ℕ → ℕ) → ℕ → Change → Type 0
+MayPlan roots root memory bits pages (Insert key value) = (is_too_high roots memory key root ≡ false) × (need_of memory key root ≤ free_of bits pages)
+MayPlan roots root memory bits pages (Delete key) = Unit {0}
 
 -- words of all pages before a planned change and after it: its pages and bits, the clock of each page that it touches one higher, and the records standing as it moves them. Each page that it does not touch is as it was, word for word
 pub record IsPlannedStep (pages : ℕ) (before after : ℕ → ℕ) (old new : PageMemory) (p : Planned) : Type 0 where
@@ -48,9 +48,9 @@ pub record IsPlannedStep (pages : ℕ) (before after : ℕ → ℕ) (old new : P
 
 -- an entry behind others makes the change that is planned for it, and writes exactly the words that differ
 pub record IsPlannedEntry (pages : ℕ) (start : ℕ → ℕ) (front : List Entry) (e : Entry) : Type 0 where
-  pub may : MayPlan (pages_after start front) (bits_of pages (memory_after start front)) pages e.change
+  pub may : MayPlan 1 1 (pages_after start front) (bits_of pages (memory_after start front)) pages e.change
   pub step : IsPlannedStep pages (memory_after start front) (memory_after start (front ++ e ∷ [])) (pages_after start front) (pages_after start (front ++ e ∷ []))
-      (planned (pages_after start front) (bits_of pages (memory_after start front)) pages e.change)
+      (planned 1 (pages_after start front) (bits_of pages (memory_after start front)) pages e.change)
   pub differ : AllByRecursion (λ w. memory_after start front w.place ≢ w.value) e.writes
 
 -- a lawful log of one tree over the pages of a new space, whose entries are all planned

@@ -42,7 +42,7 @@ pub fn kept_law()
     // grows no higher.
     ensures room { (pages : ℕ) (log : List Entry) (key : MapKey) → has_pages pages ≡ true → IsKeptLog pages log
         → length (kept_pages pages log (leaf_after pages log key)).records < MOST_RECORDS
-        → (is_too_high (kept_pages pages log) key 1 ≡ false) × (need_of (kept_pages pages log) key 1 ≡ 0) }
+        → (is_too_high 1 (kept_pages pages log) key 1 ≡ false) × (need_of (kept_pages pages log) key 1 ≡ 0) }
     // An insert of a missing key into a leaf with room changes that leaf alone (`btr_cur_optimistic_insert`).
     ensures leaf_insert { (pages : ℕ) (log : List Entry) (key : MapKey) (value : ℕ) (e : Entry)
         → has_pages pages ≡ true → IsKeptLog pages log

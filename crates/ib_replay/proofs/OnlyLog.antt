@@ -77,8 +77,8 @@ no_fault_behind pages front more log e rest tail fault lawful parts spelled is f
     let legal = legal_next front more e (subst (λ (l : List Entry). IsLegalHistory (history_of l)) parts lawful.legal) in
     let none : log_fault_behind pages front rest ≡ None = rw (words, read) (no_change_fault (used front) front e legal) in
     let found = subst (λ (o : Option LogFault). IsFirstOf pages front (entry_in rest) o fault) none first in
-    let entry : IsTreeEntry pages 1 opening_word front e = subst (λ (start : ℕ → ℕ). IsTreeEntry pages 1 start front e) (by_place-opening pages) (lawful.entries front e more parts) in
-    found.none (subst (IsTreeEntry pages 1 opening_word front) (sym read) entry)
+    let entry : IsTreeEntry pages 1 (opening_word 1) front e = subst (λ (start : ℕ → ℕ). IsTreeEntry pages 1 start front e) (by_place-opening pages) (lawful.entries front e more parts) in
+    found.none (subst (IsTreeEntry pages 1 (opening_word 1) front) (sym read) entry)
 
 pub not_first_fault : (pages : ℕ) (log : List Entry) (fault : LogFault) → IsTreeLog pages log → IsFirstFault pages (log_words log) fault → ⊥
 not_first_fault pages log fault lawful first =

@@ -99,12 +99,12 @@ module _ (pages : ℕ) (words : List ℕ) (place : ℕ) (log : List Entry) (tree
       }
 
       -- an entry there that leaves no tree is the first fault
-      pub fault-tree : place < length words → (IsTreeEntry pages 1 opening_word log e → ⊥) → IsFirstFault pages words (Unlawful place Tree)
+      pub fault-tree : place < length words → (IsTreeEntry pages 1 (opening_word 1) log e → ⊥) → IsFirstFault pages words (Unlawful place Tree)
       fault-tree lt none =
           let calm : change_fault place (get_or counts e.session 0) map e ≡ None = rw (eq-eqb _ _ numbered, made) refl in
           first-here (Unlawful place Tree) lt (subst (λ (o : Option LogFault). IsFirstOf pages log (entry_in (drop place words)) o (Unlawful place Tree)) (sym (fault-here ∙ calm)) (record {
             is = ap (λ n. Unlawful n Tree) (sym reached.size);
-            none = λ entry. none (subst (IsTreeEntry pages 1 opening_word log) read entry);
+            none = λ entry. none (subst (IsTreeEntry pages 1 (opening_word 1) log) read entry);
           }))
 
       counts-more : (session : ℕ) → session < COUNTS → get_or (set counts e.session e.number) session 0 ≡ length (changes_of session (history_of (log ++ e ∷ [])))
@@ -120,7 +120,7 @@ module _ (pages : ℕ) (words : List ℕ) (place : ℕ) (log : List Entry) (tree
       ]
 
       pub IsReached-more : (tree' : TreeMemory) (after : Pairs) → has_pages pages ≡ true → next ≡ place + length (words_of_entry e) → next ≤ length words → after ≡ effect_of map e.change
-          → IsTreeEntry pages 1 opening_word log e × AreTreePages pages (log ++ e ∷ []) tree' → IsReached pages words next (log ++ e ∷ []) tree' after (set counts e.session e.number)
+          → IsTreeEntry pages 1 (opening_word 1) log e × AreTreePages pages (log ++ e ∷ []) tree' → IsReached pages words next (log ++ e ∷ []) tree' after (set counts e.session e.number)
       IsReached-more tree' after space next_is within mapped entry = record {
         within = within;
         size = omega (arith, used-push log e, length-words_of_entry e, reached.size, next_is);
@@ -166,7 +166,7 @@ get_or-zeros (suc n) zero = refl
 get_or-zeros (suc n) (suc i) = get_or-zeros n i
 
 -- nothing is read yet
-pub IsReached-none : (pages : ℕ) (words : List ℕ) (tree : TreeMemory) (n : ℕ) → has_pages pages ≡ true → IsSettled tree → tree.before ≡ map opening_words (range_with_len 0 pages)
+pub IsReached-none : (pages : ℕ) (words : List ℕ) (tree : TreeMemory) (n : ℕ) → has_pages pages ≡ true → IsSettled tree → tree.before ≡ map (opening_words 1) (range_with_len 0 pages)
     → positions_of tree.met_before ≡ opening_positions → n ≡ COUNTS → IsReached pages words 0 [] tree [] (replicate n 0)
 IsReached-none pages words tree n space settled images positions many = record {
   within = omega arith;

@@ -36,10 +36,10 @@ use Rattle.ib_replay.specs.Replays.{IsMemory}
 use Rattle.ib_replay.specs.TreeSteps.{AreTreePages, IsNext}
 
 -- the law of a tree is that over the words of a new space
-pub IsTreeLog-words : (pages : ℕ) (log : List Entry) → IsTreeLog pages log → IsLawfulLog pages 1 opening_word log
+pub IsTreeLog-words : (pages : ℕ) (log : List Entry) → IsTreeLog pages log → IsLawfulLog pages 1 (opening_word 1) log
 IsTreeLog-words pages log lawful = subst (λ (start : ℕ → ℕ). IsLawfulLog pages 1 start log) (by_place-opening pages) lawful
 
-pub words-IsTreeLog : (pages : ℕ) (log : List Entry) → IsLawfulLog pages 1 opening_word log → IsTreeLog pages log
+pub words-IsTreeLog : (pages : ℕ) (log : List Entry) → IsLawfulLog pages 1 (opening_word 1) log → IsTreeLog pages log
 words-IsTreeLog pages log lawful = subst (λ (start : ℕ → ℕ). IsLawfulLog pages 1 start log) (sym (by_place-opening pages)) lawful
 
 pub AreInGrammar-push : (pages : ℕ) (log : List Entry) (e : Entry) → AreInGrammar pages log → IsInGrammar pages e → AreInGrammar pages (log ++ e ∷ [])
@@ -47,28 +47,28 @@ AreInGrammar-push pages [] e is one = (one, tt)
 AreInGrammar-push pages (f ∷ log) e is one = (is.0, AreInGrammar-push pages log e is.1 one)
 
 -- a tree's entry behind a lawful log makes a lawful log
-pub IsTreeLog-push : (pages : ℕ) (log : List Entry) (e : Entry) (tree : TreeMemory) (map : Pairs) → IsNext pages log e tree map → IsTreeEntry pages 1 opening_word log e → IsTreeLog pages (log ++ e ∷ [])
+pub IsTreeLog-push : (pages : ℕ) (log : List Entry) (e : Entry) (tree : TreeMemory) (map : Pairs) → IsNext pages log e tree map → IsTreeEntry pages 1 (opening_word 1) log e → IsTreeLog pages (log ++ e ∷ [])
 IsTreeLog-push pages log e tree map next entry = words-IsTreeLog pages (log ++ e ∷ [])
-    (IsLawfulLog-push pages 1 opening_word log e (IsTreeLog-words pages log next.lawful) next.grammar next.legal entry)
+    (IsLawfulLog-push pages 1 (opening_word 1) log e (IsTreeLog-words pages log next.lawful) next.grammar next.legal entry)
 
 -- the image of a page of a new space
-image_at-opening : (pages page : ℕ) → page < pages → image_at (map opening_words (range_with_len 0 pages)) page ≡ opening_words page
-image_at-opening pages page lt = get_or-map-range_with_len opening_words 0 pages page page [] lt (omega arith)
+image_at-opening : (pages page : ℕ) → page < pages → image_at (map (opening_words 1) (range_with_len 0 pages)) page ≡ opening_words 1 page
+image_at-opening pages page lt = get_or-map-range_with_len (opening_words 1) 0 pages page page [] lt (omega arith)
 
-IsMemory-opening : (pages : ℕ) → IsMemory pages [] (map opening_words (range_with_len 0 pages))
+IsMemory-opening : (pages : ℕ) → IsMemory pages [] (map (opening_words 1) (range_with_len 0 pages))
 unfolding opening_word
 IsMemory-opening pages = record {
-  size = length-map-range_with_len opening_words 0 pages;
+  size = length-map-range_with_len (opening_words 1) 0 pages;
   words = λ place lt. ap (λ (image : List ℕ). slice_index image (index_at place)) (image_at-opening pages (page_at place) (omega arith));
 }
 
 -- the pages of a new space
-pub AreTreePages-opening : (pages : ℕ) (tree : TreeMemory) → has_pages pages ≡ true → IsSettled tree → tree.before ≡ map opening_words (range_with_len 0 pages)
+pub AreTreePages-opening : (pages : ℕ) (tree : TreeMemory) → has_pages pages ≡ true → IsSettled tree → tree.before ≡ map (opening_words 1) (range_with_len 0 pages)
     → positions_of tree.met_before ≡ opening_positions → AreTreePages pages [] tree
 AreTreePages-opening pages tree space settled images positions = record {
   settled = settled;
   memory = subst (IsMemory pages []) (sym images) (IsMemory-opening pages);
-  kept = subst (IsKeptBeside (pages_after opening_word []) 1 pages) (sym positions)
+  kept = subst (IsKeptBeside (pages_after (opening_word 1) []) 1 pages) (sym positions)
       (subst (λ (start : ℕ → ℕ). IsKeptBeside (pages_of start) 1 pages opening_positions) (by_place-opening pages) (opens-kept pages space));
 }
 
@@ -99,22 +99,22 @@ module _ (pages : ℕ) (log : List Entry) (e : Entry) (old t : TreeMemory) (targ
   are : AreInGrammar pages (log ++ e ∷ [])
   are = AreInGrammar-push pages log e next.lawful.grammar next.grammar
 
-  words-before : (place : ℕ) → place < pages * PAGE_WORDS → word_at t.before place ≡ memory_after opening_word log place
+  words-before : (place : ℕ) → place < pages * PAGE_WORDS → word_at t.before place ≡ memory_after (opening_word 1) log place
   words-before place lt = ap (λ (m : List (List ℕ)). word_at m place) before-is ∙ next.pages_are.memory.words place lt
 
-  words-after : (place : ℕ) → place < pages * PAGE_WORDS → word_at t.after place ≡ memory_after opening_word (log ++ e ∷ []) place
+  words-after : (place : ℕ) → place < pages * PAGE_WORDS → word_at t.after place ≡ memory_after (opening_word 1) (log ++ e ∷ []) place
   words-after place lt =
       words place (subst (λ n. place < n * PAGE_WORDS) (sym next.pages_are.memory.size) lt)
       ∙ ap (λ (m : List (List ℕ)). stored e.writes place (word_at m place)) next.pages_are.settled.images
-      ∙ ap (stored e.writes place) (next.pages_are.memory.words place lt) ∙ sym (memory_after-push opening_word log e place)
+      ∙ ap (stored e.writes place) (next.pages_are.memory.words place lt) ∙ sym (memory_after-push (opening_word 1) log e place)
 
   abbrev new : PageMemory
   new = memory_of t.after
 
-  given : IsEntryGiven pages 1 opening_word log e (is_good_at new) t.pages (positions_of t.met_before)
+  given : IsEntryGiven pages 1 (opening_word 1) log e (is_good_at new) t.pages (positions_of t.met_before)
   given = record {
     lawful = IsTreeLog-words pages log next.lawful;
-    kept = subst (λ met. IsKeptBeside (pages_after opening_word log) 1 pages (positions_of met)) (sym met-is) next.pages_are.kept;
+    kept = subst (λ met. IsKeptBeside (pages_after (opening_word 1) log) 1 pages (positions_of met)) (sym met-is) next.pages_are.kept;
     grammar = next.grammar;
     legal = next.legal;
     listed = subst (λ n. IsListed (writes_page e) t.pages n) size-before (subst (λ w. IsListed w t.pages (length t.before)) marks-are memory.listed);
@@ -122,7 +122,7 @@ module _ (pages : ℕ) (log : List Entry) (e : Entry) (old t : TreeMemory) (targ
   }
 
   -- the test of the images is that of the entry
-  passes-entry : (table : Positions) → IsTreePatch t table (key_of e.change) target → PassesEntry pages 1 opening_word log e (is_good_at new) t.pages (positions_of t.met_before) table
+  passes-entry : (table : Positions) → IsTreePatch t table (key_of e.change) target → PassesEntry pages 1 (opening_word 1) log e (is_good_at new) t.pages (positions_of t.met_before) table
   passes-entry table patch =
       PassesEntry-images pages next.space log e are t.before t.after size-before size-after words-before words-after (is_good_at new) t.pages (positions_of t.met_before) table
       (λ w. subst (λ n. IsSpacePage n (image_of (word_at t.after) 0)) size-after (patch.space (ap (λ f. f 0) marks-are ∙ w)))
@@ -130,7 +130,7 @@ module _ (pages : ℕ) (log : List Entry) (e : Entry) (old t : TreeMemory) (targ
       (positions_of t.met_before) table) patch.passes)
       (subst (λ m. IsSliced new (fresh_of t.pages table 1) m (key_of e.change)) next.map_is patch.sliced)
 
-  entry-passes : (table : Positions) → PassesEntry pages 1 opening_word log e (is_good_at new) t.pages (positions_of t.met_before) table → IsTreePatch t table (key_of e.change) target
+  entry-passes : (table : Positions) → PassesEntry pages 1 (opening_word 1) log e (is_good_at new) t.pages (positions_of t.met_before) table → IsTreePatch t table (key_of e.change) target
   entry-passes table passes =
       let over = images-PassesEntry pages next.space log e are t.before t.after size-before size-after words-before words-after (is_good_at new) t.pages (positions_of t.met_before) table passes in
       record {
@@ -142,21 +142,21 @@ module _ (pages : ℕ) (log : List Entry) (e : Entry) (old t : TreeMemory) (targ
 
   -- what passes is a tree's entry, and once it is settled the pages are those of the log with it
   pub entry-patch : (table : Positions) (now : TreeMemory) → IsTreePatch t table (key_of e.change) target → IsSettled now → now.after ≡ t.after → positions_of now.met_after ≡ table
-      → IsTreeEntry pages 1 opening_word log e × AreTreePages pages (log ++ e ∷ []) now
+      → IsTreeEntry pages 1 (opening_word 1) log e × AreTreePages pages (log ++ e ∷ []) now
   entry-patch table now patch settled images positions =
-      let found = IsTreeEntry-passes pages 1 (omega arith) opening_word (IsLawfulMemory-opening pages next.space) content_of-opening log e (is_good_at new) t.pages (positions_of t.met_before) given table
+      let found = IsTreeEntry-passes pages 1 (omega arith) (opening_word 1) (IsLawfulMemory-opening 1 (omega arith) (omega arith) pages next.space) (content_of-opening 1 (omega arith) (omega arith) 1 (omega arith) (omega arith)) log e (is_good_at new) t.pages (positions_of t.met_before) given table
       (passes-entry table patch) in
       let before : now.before ≡ t.after = sym settled.images ∙ images in (
         found.0,
         record {
           settled = settled;
           memory = subst (IsMemory pages (log ++ e ∷ [])) (sym before) (record { size = size-after; words = words-after });
-          kept = subst (IsKeptBeside (pages_after opening_word (log ++ e ∷ [])) 1 pages) (sym positions ∙ settled.positions) found.1;
+          kept = subst (IsKeptBeside (pages_after (opening_word 1) (log ++ e ∷ [])) 1 pages) (sym positions ∙ settled.positions) found.1;
         },
       )
 
   -- a tree's entry passes
-  pub patch-entry : IsTreeEntry pages 1 opening_word log e → (table : Positions) × IsTreePatch t table (key_of e.change) target
+  pub patch-entry : IsTreeEntry pages 1 (opening_word 1) log e → (table : Positions) × IsTreePatch t table (key_of e.change) target
   patch-entry entry =
-      let found = passes-IsTreeEntry pages 1 (omega arith) opening_word (IsLawfulMemory-opening pages next.space) content_of-opening log e (is_good_at new) t.pages (positions_of t.met_before) given entry in
+      let found = passes-IsTreeEntry pages 1 (omega arith) (opening_word 1) (IsLawfulMemory-opening 1 (omega arith) (omega arith) pages next.space) (content_of-opening 1 (omega arith) (omega arith) 1 (omega arith) (omega arith)) log e (is_good_at new) t.pages (positions_of t.met_before) given entry in
       (found.0, entry-passes found.0 found.1)

@@ -19,7 +19,7 @@ use Rattle.ib_tree.specs.TreeLog.{IsTreeLog}
 -- an image for each page, whose words are those after the entries
 pub record IsMemory (pages : ℕ) (log : List Entry) (memory : List (List ℕ)) : Type 0 where
   pub size : length memory ≡ pages
-  pub words : (place : ℕ) → place < pages * PAGE_WORDS → word_at memory place ≡ memory_after opening_word log place
+  pub words : (place : ℕ) → place < pages * PAGE_WORDS → word_at memory place ≡ memory_after (opening_word 1) log place
 
 -- What is wrong with an entry that begins at a place, behind so many entries of its session and over a
 -- map: first its number, then its change.
@@ -39,7 +39,7 @@ log_fault_behind pages log words = fault_at pages (used log) words or change_fau
 -- the fault that an entry behind a log leaves no lawful tree
 pub record IsTreeFault (pages : ℕ) (log : List Entry) (e : Entry) (fault : LogFault) : Type 0 where
   pub is : fault ≡ Unlawful (used log) Tree
-  pub none : IsTreeEntry pages 1 opening_word log e → ⊥
+  pub none : IsTreeEntry pages 1 (opening_word 1) log e → ⊥
 
 -- the fault that was computed, or where there is none that of the tree
 abbrev pub IsFirstOf : ℕ → List Entry → Entry → Option LogFault → LogFault → Type 0

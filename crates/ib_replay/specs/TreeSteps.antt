@@ -18,7 +18,7 @@ use Rattle.ib_replay.specs.Replays.{IsMemory}
 pub record AreTreePages (pages : ℕ) (log : List Entry) (tree : TreeMemory) : Type 0 where
   pub settled : IsSettled tree
   pub memory : IsMemory pages log tree.before
-  pub kept : IsKeptBeside (pages_after opening_word log) 1 pages (positions_of tree.met_before)
+  pub kept : IsKeptBeside (pages_after (opening_word 1) log) 1 pages (positions_of tree.met_before)
 
 -- an entry behind a lawful log with these pages: in the grammar, with a legal change, after which the map is this one
 pub record IsNext (pages : ℕ) (log : List Entry) (e : Entry) (tree : TreeMemory) (map : Pairs) : Type 0 where

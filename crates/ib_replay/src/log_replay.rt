@@ -127,9 +127,9 @@ fn put_writes(tree: &mut TreePages, entry: &Entry, map: &SortedMap) -> bool
     requires settled { IsSettled tree.old }
     requires places { All (λ w. w.place < length tree.old.before * PAGE_WORDS) entry.now.writes }
     ensures sound { (pages : ℕ) (log : List Entry) → IsNext pages log entry.now tree.old map.now → IsTrue result
-        → IsTreeEntry pages 1 opening_word log entry.now × AreTreePages pages (log ++ entry.now ∷ []) tree.new }
+        → IsTreeEntry pages 1 (opening_word 1) log entry.now × AreTreePages pages (log ++ entry.now ∷ []) tree.new }
     ensures complete { (pages : ℕ) (log : List Entry) → IsNext pages log entry.now tree.old map.now
-        → IsTreeEntry pages 1 opening_word log entry.now → IsTrue result }
+        → IsTreeEntry pages 1 (opening_word 1) log entry.now → IsTrue result }
 {
     tree.store(entry.writes.as_slice());
     if !tree.is_tree(changed_key(entry.change), map) {

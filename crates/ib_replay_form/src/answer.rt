@@ -1,7 +1,7 @@
 //! What is answered to a raw log that was read, and to an old one.
 
 ghost use Rattle.std.specs.Prelude.{◌≡◌, ◌≤◌, length, None};
-ghost use Rattle.ib_io.specs.Told.{IsOutOfMemoryWhere, TellsFault, Told};
+ghost use Rattle.ib_io.specs.Told.{HasTold, IsOutOfMemoryWhere, Told};
 ghost use Rattle.ib_replay.specs.Files.{file_fault};
 ghost use Rattle.ib_replay.specs.OldLogs.{old_file_fault};
 ghost use Rattle.ib_replay_form.specs.Answers.{AnswersLog, AnswersUpgrade};
@@ -17,8 +17,7 @@ use std::alloc::Global;
 /// Memory may be wanting only where the file itself has no fault.
 pub fn answer_log<K: Sink>(alloc: Global, input: &[u8], sink: &mut K) -> Status
     requires { length input.now ≤ INPUT_BYTES }
-    ensures told { Told (AnswersLog input.now) (IsOutOfMemoryWhere (file_fault input.now ≡ None)) (K.written sink.old) (K.written sink.new) result }
-    ensures write { TellsFault Status.WriteFault result (K.faults sink.old) (K.faults sink.new) }
+    ensures { HasTold K.written K.faults (Told (AnswersLog input.now) (IsOutOfMemoryWhere (file_fault input.now ≡ None))) sink.old sink.new result }
 {
     match replay_file(alloc, input) {
         Ok(replayed) => show(sink, replayed),
@@ -30,8 +29,7 @@ pub fn answer_log<K: Sink>(alloc: Global, input: &[u8], sink: &mut K) -> Status
 /// refused and why. Memory may be wanting only where the file itself has no fault.
 pub fn answer_upgrade<K: Sink>(alloc: Global, input: &[u8], sink: &mut K) -> Status
     requires { length input.now ≤ INPUT_BYTES }
-    ensures told { Told (AnswersUpgrade input.now) (IsOutOfMemoryWhere (old_file_fault input.now ≡ None)) (K.written sink.old) (K.written sink.new) result }
-    ensures write { TellsFault Status.WriteFault result (K.faults sink.old) (K.faults sink.new) }
+    ensures { HasTold K.written K.faults (Told (AnswersUpgrade input.now) (IsOutOfMemoryWhere (old_file_fault input.now ≡ None))) sink.old sink.new result }
 {
     match bring_over(alloc, input) {
         Ok(log) => write_file(sink, log),

@@ -1,7 +1,7 @@
 //! The line that tells why a raw log is refused.
 
 ghost use Rattle.std.specs.Prelude.{◌≡◌, ◌++◌, codes, decimal};
-ghost use Rattle.ib_io.specs.Told.{IsOutOfMemoryWhere, TellsFault, Told};
+ghost use Rattle.ib_io.specs.Told.{HasTold, IsOutOfMemoryWhere, Told};
 ghost use Rattle.ib_io.specs.Writer.{Puts};
 ghost use Rattle.ib_replay_form.specs.Answers.{OwesLogFault};
 ghost use Rattle.ib_replay_form.specs.Replaying.{bad_log_line, full_text, log_fault_text, unlawful_text, word_text};
@@ -86,8 +86,7 @@ impl Printed for BadLog {
 
 /// Writes where a raw log is refused, and why; want of memory is no fault of a log.
 pub fn refuse<K: Sink>(sink: &mut K, fault: LogFault) -> Status
-    ensures told { Told (OwesLogFault fault) (IsOutOfMemoryWhere (fault ≡ LogFault.OutOfMemory)) (K.written sink.old) (K.written sink.new) result }
-    ensures write { TellsFault Status.WriteFault result (K.faults sink.old) (K.faults sink.new) }
+    ensures { HasTold K.written K.faults (Told (OwesLogFault fault) (IsOutOfMemoryWhere (fault ≡ LogFault.OutOfMemory))) sink.old sink.new result }
 {
     match fault {
         LogFault::OutOfMemory => Status::Memory,

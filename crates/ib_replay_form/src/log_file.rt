@@ -1,6 +1,6 @@
 //! A log written as its file.
 
-ghost use Rattle.ib_io.specs.Told.{IsWritten, TellsFault, ends};
+ghost use Rattle.ib_io.specs.Told.{HasTold, IsWritten, ends};
 ghost use Rattle.ib_io.specs.Writer.{Puts};
 ghost use Rattle.ib_replay.specs.Files.{file_of, word_bytes};
 
@@ -35,8 +35,7 @@ impl Printed for FileText {
 
 /// Writes the file of a log that was brought over.
 pub fn write_file<K: Sink>(sink: &mut K, log: Brought) -> Status
-    ensures told { IsWritten (ends Status.Done (file_of log.pages log.words)) (K.written sink.old) (K.written sink.new) result }
-    ensures write { TellsFault Status.WriteFault result (K.faults sink.old) (K.faults sink.new) }
+    ensures { HasTold K.written K.faults (IsWritten (ends Status.Done (file_of log.pages log.words))) sink.old sink.new result }
 {
     tell(sink, FileText { log }, Status::Done)
 }

@@ -1,7 +1,7 @@
 //! What is printed of a log that was replayed.
 
 ghost use Rattle.std.specs.Prelude.{◌≡◌};
-ghost use Rattle.ib_io.specs.Told.{IsWritten, TellsFault, ends};
+ghost use Rattle.ib_io.specs.Told.{HasTold, IsWritten, ends};
 ghost use Rattle.ib_logrec.specs.Log.{map_of};
 ghost use Rattle.ib_replay_form.specs.Replaying.{replay_output};
 
@@ -45,8 +45,7 @@ impl Printed for Shown {
 /// Writes what a log makes.
 pub fn show<K: Sink>(sink: &mut K, replayed: Replayed) -> Status
     requires { replayed.map ≡ map_of replayed.entries.items }
-    ensures told { IsWritten (ends Status.Done (replay_output replayed.entries.items)) (K.written sink.old) (K.written sink.new) result }
-    ensures write { TellsFault Status.WriteFault result (K.faults sink.old) (K.faults sink.new) }
+    ensures { HasTold K.written K.faults (IsWritten (ends Status.Done (replay_output replayed.entries.items))) sink.old sink.new result }
 {
     tell(sink, Shown { replayed }, Status::Done)
 }

@@ -8,7 +8,7 @@ use Rattle.ib_levels.specs.declared.holding.Holding.{Holding}
 use Rattle.ib_levels.specs.Holding.{is_held, on}
 use Rattle.ib_levels.proofs.Counts.{on-cons, on-none, part-away, unheld_from_none}
 use Rattle.ib_core.specs.declared.session.Session.{Session}
-use Rattle.ib_core.specs.Sessions.{claims, grants, holdings}
+use Rattle.ib_core.specs.Sessions.{claims, grants, holdings, idle}
 use Rattle.ib_map.specs.Writes.{page_at, touches}
 use Rattle.ib_logrec.specs.declared.entry.Entry.{Entry}
 use Rattle.ib_logrec.specs.Log.{memory_after}
@@ -17,7 +17,7 @@ use Rattle.ib_rule.specs.declared.memory.Since.{Since}
 use Rattle.ib_rule.specs.declared.view.View.{View}
 use Rattle.ib_rule.specs.Memory.{conflicts}
 use Rattle.ib_rule.specs.Stores.{IsHarmless}
-use Rattle.ib_rule.specs.Views.{is_watched, reaching, watches_from}
+use Rattle.ib_rule.specs.Views.{KnowsHeld, is_watched, reaching, watches_from}
 use Rattle.std.specs.Prelude.{filter, not, ◌==◌, Option, Some, None}
 use Rattle.ib_levels.specs.declared.level.Mode.{Mode}
 use Rattle.ib_levels.specs.declared.level.Mode.TheVariants.{S, Sx, X}
@@ -173,3 +173,11 @@ watching_turned n word v e looks proper after w = by_grant (won r.answer (wish_o
           before = omega arith;
           all = λ is k held. still_watched k (latch_of e) r.session held v.memory.since (w.all (is ∙ same) k (held_before none k held));
         }
+
+-- a session that holds nothing watches nothing
+pub none_watched : (v : View) → KnowsHeld v → v.session ≡ idle → v.memory.since ≡ []
+none_watched v known is = none v.memory.since (subst (λ (a : Session). AllByRecursion (λ since. 0 < holdings since.latch a) v.memory.since) is known.since)
+  where
+    none : (ws : List Since) → AllByRecursion (λ since. 0 < holdings since.latch idle) ws → ws ≡ []
+    none [] all = refl
+    none (w ∷ ws) all = absurd (let z = all.0 in omega arith)

@@ -166,9 +166,10 @@ impl Pass {
         self.member.may_take(latch, level)
     }
 
-    /// Whether it holds nothing and is in the middle of nothing, as a session must be that ends.
+    /// Whether it holds nothing and is in the middle of nothing, as a session must be that ends. Then it watches no latch.
     pub fn is_idle(&self) -> bool
-        ensures { IsTrue result ↔ (self.now.view.session ≡ idle) }
+        ensures idle { IsTrue result ↔ (self.now.view.session ≡ idle) }
+        ensures unwatched { self.now.view.session ≡ idle → self.now.view.memory.since ≡ [] }
     {
         match self.phase() {
             Phase::Free => self.member.held().is_empty(),

@@ -71,12 +71,12 @@ module _ (pages : ℕ) (xs ys : List Entry) (e f : Entry) (same : SaySame pages 
   bits log = bits_of pages (memory_after start log)
 
   abbrev plan : List Entry → Entry → Planned
-  plan log entry = planned (before log) (bits log) pages entry.change
+  plan log entry = planned 1 (before log) (bits log) pages entry.change
 
   plan-same : plan xs e ≡ plan ys f
   plan-same =
-      ap (λ (m : PageMemory). planned m (bits xs) pages e.change) same.pages_are ∙ (ap (λ (b : ℕ → ℕ). planned (before ys) b pages e.change) same.bits_are
-      ∙ ap (λ (l : LoggedChange). planned (before ys) (bits ys) pages l.change) is)
+      ap (λ (m : PageMemory). planned 1 m (bits xs) pages e.change) same.pages_are ∙ (ap (λ (b : ℕ → ℕ). planned 1 (before ys) b pages e.change) same.bits_are
+      ∙ ap (λ (l : LoggedChange). planned 1 (before ys) (bits ys) pages l.change) is)
 
   module _ (p : IsPlannedEntry pages start xs e) (q : IsPlannedEntry pages start ys f) (lawful : IsLawfulMemory pages 1 (memory_after start (xs ++ e ∷ [])))
       (also : IsLawfulMemory pages 1 (memory_after start (ys ++ f ∷ []))) where

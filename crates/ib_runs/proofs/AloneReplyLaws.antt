@@ -18,7 +18,7 @@ use Rattle.ib_logrec.specs.declared.entry.Entry.{Entry}
 use Rattle.ib_logrec.specs.Log.{history_of}
 use Rattle.ib_walk.specs.Pages.{PageMemory}
 use Rattle.ib_walk.specs.Full.{free_of, is_too_high, need_of}
-use Rattle.ib_tree.specs.Fits.{FitsInsert, FitsTree, free_at, tree_at}
+use Rattle.ib_tree.specs.Fits.{FitsTreeInsert, FitsTree, free_at, tree_at}
 use Rattle.ib_tree.proofs.RefusalLaws.{delete-inserted}
 use Rattle.ib_planned_log.specs.Kept.{IsKeptLog, MayPlan}
 use Rattle.ib_runs.specs.Alone.{IsNotFull}
@@ -76,14 +76,14 @@ module _ (sizes : Sizes) (log : List Entry) (session place : ℕ) (kept : IsKept
   answer change = answer_of (map_after (history_of log) place) change
 
   -- an insert that stands in the log could be made
-  may : (key : MapKey) (value : ℕ) → HasChange log place session (InsertChange key value) → (is_too_high m key 1 ≡ false) × (need_of m key 1 ≤ free)
+  may : (key : MapKey) (value : ℕ) → HasChange log place session (InsertChange key value) → (is_too_high 1 m key 1 ≡ false) × (need_of m key 1 ≤ free)
   may key value c =
       let at = c.at in
       let p = kept.planned_are (take place log) at.entry at.back at.is in
-      subst (λ (change : Change). MayPlan m _ sizes.pages change) c.change_is p.may
+      subst (λ (change : Change). MayPlan 1 1 m _ sizes.pages change) c.change_is p.may
 
-  insert-reply : (key : MapKey) (value : ℕ) (reply : Reply) → FitsChange (history_of log) session (InsertChange key value) reply place → FitsInsert (index_space sizes) log key reply place → IsNotFull reply
-      → reply ≡ with_tree (answer (InsertChange key value)) (is_too_high m key 1) free (need_of m key 1)
+  insert-reply : (key : MapKey) (value : ℕ) (reply : Reply) → FitsChange (history_of log) session (InsertChange key value) reply place → FitsTreeInsert (index_space sizes) log key reply place → IsNotFull reply
+      → reply ≡ with_tree (answer (InsertChange key value)) (is_too_high 1 m key 1) free (need_of m key 1)
   insert-reply key value Inserted fits tree room =
       let c = may key value (change-at log place session (InsertChange key value) fits.1) in
       let enough = le-ltb free (need_of m key 1) c.1 in
@@ -119,7 +119,7 @@ module _ (sizes : Sizes) (log other : List Entry) (session place : ℕ) (kept : 
   maps = map-same sizes.pages log other place same
 
   abbrev told : MapKey → ℕ → Pairs → PageMemory → ℕ → Reply
-  told key value pairs memory free = with_tree (answer_of pairs (InsertChange key value)) (is_too_high memory key 1) free (need_of memory key 1)
+  told key value pairs memory free = with_tree (answer_of pairs (InsertChange key value)) (is_too_high 1 memory key 1) free (need_of memory key 1)
 
   told-same : (key : MapKey) (value : ℕ) → told key value (map_after (history_of log) place) (tree_at (index_space sizes) log place) (free_at (index_space sizes) log place)
       ≡ told key value (map_after (history_of other) place) (tree_at (index_space sizes) other place) (free_at (index_space sizes) other place)

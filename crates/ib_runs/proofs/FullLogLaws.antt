@@ -14,7 +14,7 @@ use Rattle.ib_layout.specs.Geometry.{Sizes}
 use Rattle.ib_logrec.specs.declared.entry.Entry.{Entry}
 use Rattle.ib_logrec.specs.Log.{by_place}
 use Rattle.ib_walk.specs.Trees.{content_of}
-use Rattle.ib_tree.specs.Fits.{FitsDelete, FitsInsert, FitsLog, FitsTree, TreeSpace}
+use Rattle.ib_tree.specs.Fits.{FitsDelete, FitsTreeInsert, FitsLog, FitsTree, TreeSpace}
 use Rattle.ib_tree.specs.Logs.{pages_after}
 use Rattle.ib_tree.specs.TreeLog.{opening}
 use Rattle.ib_planned_log.specs.Kept.{IsKeptLog}
@@ -74,7 +74,7 @@ module _ (space : TreeSpace) (words : ℕ) (log : List Entry) where
   abbrev other : TreeSpace
   other = record space { log_words = words }
 
-  insert-wider : (key : MapKey) (reply : Reply) (place : ℕ) → IsNotFull reply → FitsInsert space log key reply place → FitsInsert other log key reply place
+  insert-wider : (key : MapKey) (reply : Reply) (place : ℕ) → IsNotFull reply → FitsTreeInsert space log key reply place → FitsTreeInsert other log key reply place
   insert-wider key (LogFull used cap) place room fits = absurd room
   insert-wider key reply place room fits = fits
 

@@ -108,11 +108,11 @@ module _ (sizes : Sizes) (words : List ℕ) (log : List Entry) (fits : has_pages
   grammar : AreInGrammar sizes.pages log
   grammar = let k = h.kept in let l = k.lawful in l.grammar
 
-  start : by_place opening sizes.pages ≡ opening_word
+  start : by_place opening sizes.pages ≡ (opening_word 1)
   start = by_place-opening sizes.pages
 
   -- the images have the words after the log
-  words-after : (place : ℕ) → place < sizes.pages * PAGE_WORDS → word_at images place ≡ memory_after opening_word log place
+  words-after : (place : ℕ) → place < sizes.pages * PAGE_WORDS → word_at images place ≡ memory_after (opening_word 1) log place
   words-after place lt =
       let page = page_at place in
       let index = index_at place in
@@ -131,12 +131,12 @@ module _ (sizes : Sizes) (words : List ℕ) (log : List Entry) (fits : has_pages
   -- page 1 is the root of the images' tree
   pub has_root : IsLawfulMemory sizes.pages 1 (memory_after (by_place opening sizes.pages) log) → HasRoot images 1
   has_root lawful =
-      let opened : IsLawfulMemory sizes.pages 1 (memory_after opening_word log) = subst (λ (words : ℕ → ℕ). IsLawfulMemory sizes.pages 1 (memory_after words log)) start lawful in
-      let bits : bits_of sizes.pages (word_at images) ≡ bits_of sizes.pages (memory_after opening_word log) = λ i page. bits_of-after sizes.pages log fits grammar images size words-after page i in
-      let memory : pages_of (word_at images) ≡ pages_after opening_word log = memory_of-after sizes.pages log fits grammar images size words-after in
+      let opened : IsLawfulMemory sizes.pages 1 (memory_after (opening_word 1) log) = subst (λ (words : ℕ → ℕ). IsLawfulMemory sizes.pages 1 (memory_after words log)) start lawful in
+      let bits : bits_of sizes.pages (word_at images) ≡ bits_of sizes.pages (memory_after (opening_word 1) log) = λ i page. bits_of-after sizes.pages log fits grammar images size words-after page i in
+      let memory : pages_of (word_at images) ≡ pages_after (opening_word 1) log = memory_of-after sizes.pages log fits grammar images size words-after in
       let here : IsLawfulMemory sizes.pages 1 (word_at images) = record {
         space = subst (IsSpacePage sizes.pages) (sym (image_of-after sizes.pages log fits grammar images size words-after)) opened.space;
-        law = subst (λ m. IsLawful m (bits_of sizes.pages (word_at images)) 1) (sym memory) (subst (λ b. IsLawful (pages_after opening_word log) b 1) (sym bits) opened.law);
+        law = subst (λ m. IsLawful m (bits_of sizes.pages (word_at images)) 1) (sym memory) (subst (λ b. IsLawful (pages_after (opening_word 1) log) b 1) (sym bits) opened.law);
       } in
       record {
         roots = 1;

@@ -34,6 +34,13 @@ impl SessionOut {
         }
     }
 
+    /// These records, and the chunks of their scans, one scan's behind another's.
+    pub fn of(records: Vec<Record>, chunks: Chunks) -> SessionOut
+        ensures { result ≡ record { records = records.items; chunks = chunks } }
+    {
+        SessionOut { records, chunks }
+    }
+
     /// The records, in the order of their calls.
     pub fn records(&self) -> &[Record]
         ensures { result.now ≡ self.now.records }

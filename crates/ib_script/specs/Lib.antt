@@ -1,5 +1,6 @@
 pub mod Lists
 pub mod Script
+pub mod PairScript
 pub mod Building
 pub mod Loads
 pub mod Generated

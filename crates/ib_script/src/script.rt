@@ -3,11 +3,13 @@
 ghost use Rattle.std.specs.Prelude.{◌≡◌, ◌≤◌, ◌-◌, ◌<◌, ◌^◌, ℕ, None, Some, Ok, Err, [], length, slice_index_or, vec_len, IfOk};
 ghost use Rattle.ib_io.specs.Lines.{readings_by};
 ghost use Rattle.ib_script.specs.Lists.{lists_of};
+ghost use Rattle.ib_script.specs.PairScript.{pair_reading_of};
 ghost use Rattle.ib_script.specs.Script.{IsScript, IsSmall, first_fault};
 ghost use Rattle.ib_io.specs.declared.line_kind.LineKind.{LineKind};
 ghost use Rattle.ib_io.specs.declared.line_kind.TheConstants.{MOST_SCRIPT_SESSIONS};
 
 use crate::builder::Builder;
+use crate::pair_line::PairLines;
 use crate::reader::LineReader;
 use crate::tally::refusal;
 use ib_io::{LineFault, LineKind, MOST_SCRIPT_SESSIONS, ScriptFault, first_line};
@@ -100,4 +102,17 @@ pub fn read_script<R: LineReader>(alloc: Global, bytes: &[u8]) -> Result<Script,
         }
     }
     Ok(builder.finish())
+}
+
+/// The same of a script of two trees: `value V` stands in place of `scan L H`, and is kept as the scan of the second keys of V; a
+/// key of more than 7 bytes is the kind `long`.
+pub fn read_pair_script(alloc: Global, bytes: &[u8]) -> Result<Script, ScriptFault>
+    requires { length bytes.now < 2 ^ 32 - 1 }
+    ensures good { IfOk result (λ _. first_fault (readings_by pair_reading_of bytes.now) ≡ None) }
+    ensures script { IfOk result (IsScript (readings_by pair_reading_of bytes.now)) }
+    ensures small { IfOk result IsSmall }
+    ensures bad { (line : ℕ) (kind : LineKind) → result ≡ Err (ScriptFault.BadLine line kind) → first_fault (readings_by pair_reading_of bytes.now) ≡ Some (line, kind) }
+    ensures memory { result ≡ Err ScriptFault.OutOfMemory → first_fault (readings_by pair_reading_of bytes.now) ≡ None }
+{
+    read_script::<PairLines>(alloc, bytes)
 }

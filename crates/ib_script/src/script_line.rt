@@ -50,7 +50,7 @@ fn one_key(fields: Option<&[u8]>) -> Result<Key, LineKind>
 }
 
 // One field, a session.
-fn one_session(fields: Option<&[u8]>) -> Result<u32, LineKind>
+pub(crate) fn one_session(fields: Option<&[u8]>) -> Result<u32, LineKind>
     ensures session { result ≡ one_field session_in (fields_behind fields.entry) }
     ensures in_range { IfOk result (λ session. (1 ≤ session) × (session ≤ MOST_SCRIPT_SESSIONS)) }
 {
@@ -94,7 +94,7 @@ fn key_and_value(fields: Option<&[u8]>) -> Result<(Key, u64), LineKind>
 }
 
 // Two fields, both numbers.
-fn two_numbers(fields: Option<&[u8]>) -> Result<(u64, u64), LineKind>
+pub(crate) fn two_numbers(fields: Option<&[u8]>) -> Result<(u64, u64), LineKind>
     ensures { result ≡ two_fields number_in number_in (fields_behind fields.entry) }
 {
     let (first, rest) = first_field(fields.ok_or(LineKind::Fields)?);
@@ -117,7 +117,7 @@ fn geometry_of(pages: u64, log_words: u64) -> Option<Geometry>
     Geometry::new(pages, log_words).ok()
 }
 
-fn space_line(pages: u64, log_words: u64) -> Result<ScriptLine, LineKind>
+pub(crate) fn space_line(pages: u64, log_words: u64) -> Result<ScriptLine, LineKind>
     ensures reading { result ≡ space_line (pages, log_words) }
     ensures in_range { IfOk result IsLineInRange }
 {

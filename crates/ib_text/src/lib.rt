@@ -14,4 +14,5 @@ pub use key::{key_in, print_key};
 pub use laws::key_text_law;
 pub use log_part::{ChangeLog, print_log};
 pub use map_part::{all_pairs, print_map};
+pub use record_part::print_record_line;
 pub use session_part::print_session;

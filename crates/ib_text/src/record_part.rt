@@ -56,8 +56,8 @@ fn print_place<K: Sink>(writer: &mut Writer<'_, K>, reply: Reply, place: u32)
     }
 }
 
-// A call, its reply and its place on a line; a scan's chunks are lines of their own.
-pub(crate) fn print_record_line<K: Sink>(writer: &mut Writer<'_, K>, answered: &Record)
+/// A call, its reply and its place on a line; a scan's chunks are lines of their own.
+pub fn print_record_line<K: Sink>(writer: &mut Writer<'_, K>, answered: &Record)
     ensures puts { Puts K.written K.faults writer.old writer.new (record_line answered.now.call answered.now.reply answered.now.place) }
 {
     print_call(writer, answered.call);

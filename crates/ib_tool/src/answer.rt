@@ -2,7 +2,7 @@
 
 ghost use Rattle.std.specs.Prelude.{◌≡◌, ◌<◌, ◌≤◌, ◌^◌, IfOk, None, length, true};
 ghost use Rattle.ib_io.specs.Lines.{readings_by};
-ghost use Rattle.ib_io.specs.Told.{IsOutOfMemory, IsOutOfMemoryWhere, TellsFault, Told};
+ghost use Rattle.ib_io.specs.Told.{HasTold, IsOutOfMemory, IsOutOfMemoryWhere, Told};
 ghost use Rattle.ib_replay.specs.Files.{AreWords, file_of};
 ghost use Rattle.ib_script.specs.Loads.{is_load};
 ghost use Rattle.ib_script.specs.Script.{IsSmall, first_fault, reading_of};
@@ -65,8 +65,7 @@ fn run<A: Access + Sync, K: Sink, G: Gate + Sync, R: Threads + Wait + Sync>(
     gate: &G,
 ) -> Status
     requires { IsSmall script.now }
-    ensures told { Told (λ e. (e.status ≡ Status.Done) × IsWrittenRun shape script.now e.text) IsOutOfMemory (K.written sink.old) (K.written sink.new) result }
-    ensures write { TellsFault Status.WriteFault result (K.faults sink.old) (K.faults sink.new) }
+    ensures { HasTold K.written K.faults (Told (λ e. (e.status ≡ Status.Done) × IsWrittenRun shape script.now e.text) IsOutOfMemory) sink.old sink.new result }
 {
     match shape {
         Shape::Text => match run_script::<A, _, _, _>(rt, alloc, script, &mut Nobody, gate) {
@@ -94,8 +93,7 @@ fn answer_script<A: Access + Sync, K: Sink, G: Gate + Sync, R: Threads + Wait + 
     gate: &G,
 ) -> Status
     requires { length input.now ≤ INPUT_BYTES }
-    ensures told { Told (AnswersScript shape input.now) (IsOutOfMemoryWhere (first_fault (readings_by reading_of input.now) ≡ None)) (K.written sink.old) (K.written sink.new) result }
-    ensures write { TellsFault Status.WriteFault result (K.faults sink.old) (K.faults sink.new) }
+    ensures { HasTold K.written K.faults (Told (AnswersScript shape input.now) (IsOutOfMemoryWhere (first_fault (readings_by reading_of input.now) ≡ None))) sink.old sink.new result }
 {
     match read_script::<PlainLines>(alloc, input) {
         Ok(script) => run::<A, _, _, _>(rt, alloc, shape, &script, sink, gate),
@@ -112,8 +110,7 @@ fn answer_load<K: Sink, G: Gate + Sync, R: Threads + Wait + Sync>(
     gate: &G,
 ) -> Status
     requires { is_load load.commands load.seed load.sessions ≡ true }
-    ensures told { Told (λ e. (e.status ≡ Status.Done) × IsCountText load e.text) IsOutOfMemory (K.written sink.old) (K.written sink.new) result }
-    ensures write { TellsFault Status.WriteFault result (K.faults sink.old) (K.faults sink.new) }
+    ensures { HasTold K.written K.faults (Told (λ e. (e.status ≡ Status.Done) × IsCountText load e.text) IsOutOfMemory) sink.old sink.new result }
 {
     let Ok(script) = generate(alloc, load) else {
         return Status::Memory;
@@ -135,8 +132,7 @@ pub fn answer<K: Sink, G: Gate + Sync, R: Threads + Wait + Sync>(
 ) -> Status
     requires few { length input.now ≤ INPUT_BYTES }
     requires lawful { IsLawfulForm form }
-    ensures told { Told (AnswersInput form input.now) (IsOutOfMemoryWhere (MayLackInput form input.now)) (K.written sink.old) (K.written sink.new) result }
-    ensures write { TellsFault Status.WriteFault result (K.faults sink.old) (K.faults sink.new) }
+    ensures { HasTold K.written K.faults (Told (AnswersInput form input.now) (IsOutOfMemoryWhere (MayLackInput form input.now))) sink.old sink.new result }
 {
     match form {
         Form::Run => answer_script::<Descents, _, _, _>(rt, alloc, Shape::Text, input, sink, gate),

@@ -24,7 +24,7 @@ use Rattle.ib_walk.specs.Chunk.{IsChunk, IsChunkLeaf, EndsAt, IsLastKey}
 use Rattle.ib_walk.proofs.WalkLaws.{AllByRecursion-append}
 use Rattle.ib_tree.specs.Logs.{pages_after}
 use Rattle.ib_tree.specs.Scans.{IsReadAt, AreFront, AreWhole}
-use Rattle.ib_tree.specs.Fits.{TreeSpace, tree_at, IsLogFull, FitsInsert, FitsDelete, FitsLeaves, FitsTree, FitsLog}
+use Rattle.ib_tree.specs.Fits.{TreeSpace, tree_at, IsLogFull, FitsTreeInsert, FitsDelete, FitsLeaves, FitsTree, FitsLog}
 
 -- a memory at a place is that of a longer log
 module _ (space : TreeSpace) (log more : List Entry) where
@@ -34,7 +34,7 @@ module _ (space : TreeSpace) (log more : List Entry) where
   IsLogFull-longer : (place words cap : ℕ) → place ≤ length log → IsLogFull space log place words cap → IsLogFull space (log ++ more) place words cap
   IsLogFull-longer place words cap le full = record { words_are = rw (front_same place le) full.words_are; cap_is = full.cap_is; short = full.short }
 
-  FitsInsert-longer : (key : MapKey) (reply : Reply) (place : ℕ) → place ≤ length log → FitsInsert space log key reply place → FitsInsert space (log ++ more) key reply place
+  FitsInsert-longer : (key : MapKey) (reply : Reply) (place : ℕ) → place ≤ length log → FitsTreeInsert space log key reply place → FitsTreeInsert space (log ++ more) key reply place
   FitsInsert-longer key TooHigh place le fits = rw (front_same place le) fits
   FitsInsert-longer key (SpaceFull free need) place le fits = rw (front_same place le) fits
   FitsInsert-longer key (LogFull words cap) place le fits =

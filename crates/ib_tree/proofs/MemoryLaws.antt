@@ -45,37 +45,37 @@ pub memory_after-beyond : (opening : ℕ → ℕ) (pages : ℕ) (log : List Entr
 memory_after-beyond opening pages log place are far = after-beyond pages log place (opening place) are far
 
 -- the pages that the space doesn't have stay free
-pub pages_after-beyond : (pages : ℕ) (log : List Entry) → has_pages pages ≡ true → AreInGrammar pages log → (page : ℕ) → pages ≤ page → pages_after opening_word log page ≡ free_page
+pub pages_after-beyond : (pages : ℕ) (log : List Entry) → has_pages pages ≡ true → AreInGrammar pages log → (page : ℕ) → pages ≤ page → pages_after (opening_word 1) log page ≡ free_page
 pages_after-beyond pages log fits are page far =
     let least : 1 < pages = grind (arith, nat_tests, fits) in
-    pages_of-same opening_word (memory_after opening_word log) page (λ index lt. memory_after-beyond opening_word pages log (word_place page index) are (omega arith)) ∙ pages_of-other page (omega arith)
+    pages_of-same (opening_word 1) (memory_after (opening_word 1) log) page (λ index lt. memory_after-beyond (opening_word 1) pages log (word_place page index) are (omega arith)) ∙ pages_of-other 1 page (omega arith)
 
 module _ (pages : ℕ) (log : List Entry) (fits : has_pages pages ≡ true) (are : AreInGrammar pages log) (images : List (List ℕ)) (size : length images ≡ pages)
-    (words : (place : ℕ) → place < pages * PAGE_WORDS → word_at images place ≡ memory_after opening_word log place) where
+    (words : (place : ℕ) → place < pages * PAGE_WORDS → word_at images place ≡ memory_after (opening_word 1) log place) where
   -- images whose words are those after the log have its pages, its page 0 and its bits
-  pub memory_of-after : memory_of images ≡ pages_after opening_word log
+  pub memory_of-after : memory_of images ≡ pages_after (opening_word 1) log
   memory_of-after = λ i page. each page i
     where
-      each : (page : ℕ) → memory_of images page ≡ pages_after opening_word log page
+      each : (page : ℕ) → memory_of images page ≡ pages_after (opening_word 1) log page
       each page = elim (cases_lt page pages) [
-        | inl lt ↦ pages_of-same (memory_after opening_word log) (word_at images) page (λ index in-page. words (word_place page index) (omega arith))
+        | inl lt ↦ pages_of-same (memory_after (opening_word 1) log) (word_at images) page (λ index in-page. words (word_place page index) (omega arith))
         | inr far ↦ memory_of-beyond images page (omega arith) ∙ sym (pages_after-beyond pages log fits are page far)
       ]
 
-  pub image_of-after : image_of (word_at images) 0 ≡ image_of (memory_after opening_word log) 0
+  pub image_of-after : image_of (word_at images) 0 ≡ image_of (memory_after (opening_word 1) log) 0
   image_of-after =
       let least : 1 < pages = grind (arith, nat_tests, fits) in
-      image_of-same (memory_after opening_word log) (word_at images) 0 (λ index in-page. words (word_place 0 index) (omega arith))
+      image_of-same (memory_after (opening_word 1) log) (word_at images) 0 (λ index in-page. words (word_place 0 index) (omega arith))
 
-  pub bits_of-after : (page : ℕ) → bits_of pages (word_at images) page ≡ bits_of pages (memory_after opening_word log) page
+  pub bits_of-after : (page : ℕ) → bits_of pages (word_at images) page ≡ bits_of pages (memory_after (opening_word 1) log) page
   unfolding bits_of
   bits_of-after page = let e = image_of-after in rw e refl
 
 -- The test of an entry over images before and after it is that over the pages of the log.
 module _ (pages : ℕ) (fits : has_pages pages ≡ true) (front : List Entry) (e : Entry) (are : AreInGrammar pages (front ++ e ∷ []))
     (before after : List (List ℕ)) (size_before : length before ≡ pages) (size_after : length after ≡ pages)
-    (words_before : (place : ℕ) → place < pages * PAGE_WORDS → word_at before place ≡ memory_after opening_word front place)
-    (words_after : (place : ℕ) → place < pages * PAGE_WORDS → word_at after place ≡ memory_after opening_word (front ++ e ∷ []) place)
+    (words_before : (place : ℕ) → place < pages * PAGE_WORDS → word_at before place ≡ memory_after (opening_word 1) front place)
+    (words_after : (place : ℕ) → place < pages * PAGE_WORDS → word_at after place ≡ memory_after (opening_word 1) (front ++ e ∷ []) place)
     (good : ℕ → Visit → Bool) (ps : List ℕ) (old table : Positions) where
   abbrev pub PassesOver : PageMemory → PageMemory → (ℕ → ℕ) → (ℕ → ℕ) → Type 0
   PassesOver m new bits bits-after = PassesTest (writes_page e) m new good bits bits-after 1 end_rank ps old table
@@ -83,31 +83,31 @@ module _ (pages : ℕ) (fits : has_pages pages ≡ true) (front : List Entry) (e
   abbrev pub IsSlicedOver : PageMemory → Type 0
   IsSlicedOver new = IsSliced new (fresh_of ps table 1) (map_of (front ++ e ∷ [])) (key_of e.change)
 
-  m-is : memory_of before ≡ pages_after opening_word front
+  m-is : memory_of before ≡ pages_after (opening_word 1) front
   m-is = memory_of-after pages front fits (AreInGrammar-front pages front (e ∷ []) are) before size_before words_before
 
-  new-is : memory_of after ≡ pages_after opening_word (front ++ e ∷ [])
+  new-is : memory_of after ≡ pages_after (opening_word 1) (front ++ e ∷ [])
   new-is = memory_of-after pages (front ++ e ∷ []) fits are after size_after words_after
 
-  bits-is : bits_of pages (word_at before) ≡ bits_of pages (memory_after opening_word front)
+  bits-is : bits_of pages (word_at before) ≡ bits_of pages (memory_after (opening_word 1) front)
   bits-is = λ i page. bits_of-after pages front fits (AreInGrammar-front pages front (e ∷ []) are) before size_before words_before page i
 
-  after-is : bits_of pages (word_at after) ≡ bits_of pages (memory_after opening_word (front ++ e ∷ []))
+  after-is : bits_of pages (word_at after) ≡ bits_of pages (memory_after (opening_word 1) (front ++ e ∷ []))
   after-is = λ i page. bits_of-after pages (front ++ e ∷ []) fits are after size_after words_after page i
 
-  space-is : image_of (word_at after) 0 ≡ image_of (memory_after opening_word (front ++ e ∷ [])) 0
+  space-is : image_of (word_at after) 0 ≡ image_of (memory_after (opening_word 1) (front ++ e ∷ [])) 0
   space-is = image_of-after pages (front ++ e ∷ []) fits are after size_after words_after
 
   pub PassesEntry-images : (writes_page e 0 ≡ true → IsSpacePage pages (image_of (word_at after) 0))
       → PassesOver (memory_of before) (memory_of after) (bits_of pages (word_at before)) (bits_of pages (word_at after)) → IsSlicedOver (memory_of after)
-      → PassesEntry pages 1 opening_word front e good ps old table
+      → PassesEntry pages 1 (opening_word 1) front e good ps old table
   PassesEntry-images space passes sliced = record {
     space = λ w. subst (IsSpacePage pages) space-is (space w);
     patch = subst (λ (T : Type 0). T) (λ i. PassesOver (m-is i) (new-is i) (bits-is i) (after-is i)) passes;
     content = subst IsSlicedOver new-is sliced;
   }
 
-  pub images-PassesEntry : PassesEntry pages 1 opening_word front e good ps old table
+  pub images-PassesEntry : PassesEntry pages 1 (opening_word 1) front e good ps old table
       → (writes_page e 0 ≡ true → IsSpacePage pages (image_of (word_at after) 0))
       × PassesOver (memory_of before) (memory_of after) (bits_of pages (word_at before)) (bits_of pages (word_at after)) × IsSlicedOver (memory_of after)
   images-PassesEntry passes = (

@@ -14,7 +14,7 @@ use Rattle.ib_map.specs.declared.call.Reply.TheVariants.{Inserted, LogFull, Spac
 use Rattle.ib_logrec.specs.declared.entry.Entry.{Entry}
 use Rattle.ib_logrec.specs.Log.{history_of}
 use Rattle.ib_walk.specs.Full.{is_too_high, need_of}
-use Rattle.ib_tree.specs.Fits.{TreeSpace, tree_at, free_at, is_refused, IsLogFull, FitsInsert, FitsDelete, FitsTree, FitsLog}
+use Rattle.ib_tree.specs.Fits.{TreeSpace, tree_at, free_at, is_refused, IsLogFull, FitsTreeInsert, FitsDelete, FitsTree, FitsLog}
 
 -- a lookup is not refused
 lookup-not : (found : Option ℕ) → is_refused (lookup_answer found) ≡ true → ⊥
@@ -61,18 +61,18 @@ module _ (space : TreeSpace) (log : List Entry) where
   space-same a b free need other asked p q r s = cc
 
   insert-one : (key : MapKey) (reply other : Reply) (place : ℕ) → is_refused reply ≡ true → is_refused other ≡ true
-      → FitsInsert space log key reply place → FitsInsert space log key other place → reply ≡ other
+      → FitsTreeInsert space log key reply place → FitsTreeInsert space log key other place → reply ≡ other
   insert-one key (LogFull words cap) (LogFull more most) place refused again one two = full-same place words cap more most one.2 two.2
   insert-one key (LogFull words cap) (SpaceFull free need) place refused again one two =
       absurd (few-or-not (free_at space log place) (need_of (tree_at space log place) key 1) free need one.1 two.1 two.2 two.3)
-  insert-one key (LogFull words cap) TooHigh place refused again one two = absurd (high-or-not (is_too_high (tree_at space log place) key 1) one.0 two)
+  insert-one key (LogFull words cap) TooHigh place refused again one two = absurd (high-or-not (is_too_high 1 (tree_at space log place) key 1) one.0 two)
   insert-one key (SpaceFull free need) (LogFull words cap) place refused again one two =
       absurd (few-or-not (free_at space log place) (need_of (tree_at space log place) key 1) free need two.1 one.1 one.2 one.3)
   insert-one key (SpaceFull free need) (SpaceFull other asked) place refused again one two =
       space-same (free_at space log place) (need_of (tree_at space log place) key 1) free need other asked one.1 one.2 two.1 two.2
-  insert-one key (SpaceFull free need) TooHigh place refused again one two = absurd (high-or-not (is_too_high (tree_at space log place) key 1) one.0 two)
-  insert-one key TooHigh (LogFull words cap) place refused again one two = absurd (high-or-not (is_too_high (tree_at space log place) key 1) two.0 one)
-  insert-one key TooHigh (SpaceFull free need) place refused again one two = absurd (high-or-not (is_too_high (tree_at space log place) key 1) two.0 one)
+  insert-one key (SpaceFull free need) TooHigh place refused again one two = absurd (high-or-not (is_too_high 1 (tree_at space log place) key 1) one.0 two)
+  insert-one key TooHigh (LogFull words cap) place refused again one two = absurd (high-or-not (is_too_high 1 (tree_at space log place) key 1) two.0 one)
+  insert-one key TooHigh (SpaceFull free need) place refused again one two = absurd (high-or-not (is_too_high 1 (tree_at space log place) key 1) two.0 one)
   insert-one key TooHigh TooHigh place refused again one two = refl
   insert-one key reply other place refused again one two = absurd (cc)
 
@@ -123,8 +123,8 @@ module _ (space : TreeSpace) (log : List Entry) where
 
   -- an insert that is refused for its log alone
   pub refusal-grows : (session reach words cap : ℕ) (key : MapKey) (value : ℕ) (r : FullRecord) → FitsLog space log session reach r → r.call ≡ Insert key value → r.reply ≡ LogFull words cap
-      → (is_too_high (tree_at space log r.place) key 1 ≡ false) × (need_of (tree_at space log r.place) key 1 ≤ free_at space log r.place)
+      → (is_too_high 1 (tree_at space log r.place) key 1 ≡ false) × (need_of (tree_at space log r.place) key 1 ≤ free_at space log r.place)
   refusal-grows session reach words cap key value r fits call reply =
-      let row : FitsInsert space log key (LogFull words cap) r.place =
+      let row : FitsTreeInsert space log key (LogFull words cap) r.place =
       subst (λ it. FitsTree space log it (LogFull words cap) r.place r.spans) call (subst (λ it. FitsTree space log r.call it r.place r.spans) reply fits.tree) in
       (row.0, row.1)

@@ -46,14 +46,16 @@ pub record IsLogFull (space : TreeSpace) (log : List Entry) (place words cap : �
   pub cap_is : cap ≡ space.log_words
   pub short : space.log_words < words + entry_room
 
--- an insert of the key that was refused: the tree cannot grow higher, else the space has too few free pages, else the log has no room
-abbrev pub FitsInsert : TreeSpace → List Entry → MapKey → Reply → ℕ → Type 0
-FitsInsert space log key TooHigh place = is_too_high (tree_at space log place) key 1 ≡ true
-FitsInsert space log key (SpaceFull free need) place =
-    (is_too_high (tree_at space log place) key 1 ≡ false) × (free ≡ free_at space log place) × (need ≡ need_of (tree_at space log place) key 1) × (free < need)
-FitsInsert space log key (LogFull words cap) place =
-    (is_too_high (tree_at space log place) key 1 ≡ false) × (need_of (tree_at space log place) key 1 ≤ free_at space log place) × IsLogFull space log place words cap
-FitsInsert space log key _ place = Unit {0}
+-- an insert that was refused, which needs so many pages: what it grows cannot grow higher, else the space has too few free pages, else the log has no room
+abbrev pub FitsInsert : Bool → ℕ → TreeSpace → List Entry → Reply → ℕ → Type 0
+FitsInsert too_high pages space log TooHigh place = too_high ≡ true
+FitsInsert too_high pages space log (SpaceFull free need) place = (too_high ≡ false) × (free ≡ free_at space log place) × (need ≡ pages) × (free < need)
+FitsInsert too_high pages space log (LogFull words cap) place = (too_high ≡ false) × (pages ≤ free_at space log place) × IsLogFull space log place words cap
+FitsInsert too_high pages space log _ place = Unit {0}
+
+-- .. into the first tree alone
+abbrev pub FitsTreeInsert : TreeSpace → List Entry → MapKey → Reply → ℕ → Type 0
+FitsTreeInsert space log key reply place = FitsInsert (is_too_high 1 (tree_at space log place) key 1) (need_of (tree_at space log place) key 1) space log reply place
 
 abbrev pub FitsDelete : TreeSpace → List Entry → Reply → ℕ → Type 0
 FitsDelete space log (LogFull words cap) place = IsLogFull space log place words cap
@@ -64,7 +66,7 @@ abbrev pub FitsLeaves : TreeSpace → List Entry → MapKey → Span → Type 0
 FitsLeaves space log high span = IsChunk (tree_at space log span.place) 1 span.low high span.high span.pairs
 
 abbrev pub FitsTree : TreeSpace → List Entry → Call → Reply → ℕ → List Span → Type 0
-FitsTree space log (Insert key value) reply place spans = FitsInsert space log key reply place
+FitsTree space log (Insert key value) reply place spans = FitsTreeInsert space log key reply place
 FitsTree space log (Delete key) reply place spans = FitsDelete space log reply place
 FitsTree space log (Get key) reply place spans = Unit {0}
 FitsTree space log (Scan low high) reply place spans = AllByRecursion (FitsLeaves space log high) spans

@@ -11,9 +11,13 @@ use Rattle.ib_logrec.specs.Law.{AreInGrammar-front, PageRange}
 use Rattle.ib_logrec.specs.Log.{history_of, logged, by_place}
 use Rattle.ib_tree.specs.Logs.{HasRange, pages_after, IsLawfulLog}
 
--- the words of a new space, by page and index
+-- the words of a new space with so many roots, by page and index
+abbrev pub opening_of : ℕ → ℕ → ℕ → ℕ → ℕ
+opening_of roots pages page index = slice_index (opening_words roots page) index
+
+-- .. with one root
 abbrev pub opening : ℕ → ℕ → ℕ → ℕ
-opening pages page index = slice_index (opening_words page) index
+opening pages page index = opening_of 1 pages page index
 
 -- the lawful logs of one tree, whose root is page 1
 abbrev pub IsTreeLog : ℕ → List Entry → Type 0

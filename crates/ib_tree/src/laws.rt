@@ -126,6 +126,6 @@ pub fn refusal_law()
     // An insert is refused so where nothing else refuses it.
     ensures grows { (space : TreeSpace) (log : List Entry) (session reach words cap : ℕ) (key : MapKey) (value : ℕ) (r : FullRecord)
         → FitsLog space log session reach r → r.call ≡ Insert key value → r.reply ≡ LogFull words cap
-        → (is_too_high (tree_at space log r.place) key 1 ≡ false)
+        → (is_too_high 1 (tree_at space log r.place) key 1 ≡ false)
         × (need_of (tree_at space log r.place) key 1 ≤ free_at space log r.place) }
 {}

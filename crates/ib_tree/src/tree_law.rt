@@ -22,7 +22,7 @@ impl Law for TreeLaw {
     fn opening_word(_pages: u32, page: u32, index: u32) -> u64 {
         let index = index as usize;
         if index < PAGE_WORDS {
-            ib_page::opening_word(page, index)
+            ib_page::opening_word(1, page, index)
         } else {
             0
         }

@@ -93,7 +93,7 @@ brought-append [] ys = refl
 brought-append (x ∷ xs) ys = ap (λ hs. brought x ∷ hs) (brought-append xs ys)
 
 -- what may be planned finds nothing full
-may-none : (memory : PageMemory) (bits : ℕ → ℕ) (pages : ℕ) (change : Change) → MayPlan memory bits pages change → full_kind memory bits pages change ≡ None
+may-none : (memory : PageMemory) (bits : ℕ → ℕ) (pages : ℕ) (change : Change) → MayPlan 1 1 memory bits pages change → full_kind memory bits pages change ≡ None
 may-none memory bits pages (Insert key value) may = let no = le-ltb (free_of bits pages) (need_of memory key 1) may.1 in rw (may.0) (rw no refl)
 may-none memory bits pages (Delete key) may = refl
 

@@ -65,7 +65,7 @@ module _ (pages : ℕ) (fits : has_pages pages ≡ true) where
 
   -- what a change is planned to leave
   abbrev then : PageMemory → (ℕ → ℕ) → Change → ℕ → PageState
-  then m bits change n = let p = planned m bits pages change in ticked m p.touched p.memory n
+  then m bits change n = let p = planned 1 m bits pages change in ticked m p.touched p.memory n
 
   same-push : (f g : List Entry) (e d : Entry) → IsKeptLog pages (f ++ e ∷ []) → IsKeptLog pages (g ++ d ∷ []) → e.change ≡ d.change → AreSame f g → AreSame (f ++ e ∷ []) (g ++ d ∷ [])
   same-push f g e d one two change same =
@@ -80,7 +80,7 @@ module _ (pages : ℕ) (fits : has_pages pages ≡ true) where
       ] in
       let bit : (n : ℕ) → bits-after (f ++ e ∷ []) n ≡ bits-after (g ++ d ∷ []) n = λ n.
       p.step.bits_are n
-      ∙ ((λ i. (planned (same.pages_are i) (same.bits_are i) pages (change i)).bits n)
+      ∙ ((λ i. (planned 1 (same.pages_are i) (same.bits_are i) pages (change i)).bits n)
       ∙ sym (q.step.bits_are n)) in
       record { pages_are = λ i n. page n i; bits_are = λ i n. bit n i }
 

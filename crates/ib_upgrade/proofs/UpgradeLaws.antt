@@ -225,13 +225,13 @@ reached-none pages words images new n count opening none many = record {
 }
 
 -- the images of a new space
-pub images-opening : (pages : ℕ) (images : List (List ℕ)) → images ≡ map opening_words (range_with_len 0 pages) → AreImagesAfter pages [] images
+pub images-opening : (pages : ℕ) (images : List (List ℕ)) → images ≡ map (opening_words 1) (range_with_len 0 pages) → AreImagesAfter pages [] images
 images-opening pages images is page lt =
-    let at : image_at images page ≡ opening_words page = ap (λ (ms : List (List ℕ)). image_at ms page) is ∙ get_or-map-range_with_len opening_words 0 pages page page [] lt (omega arith) in
-    at ∙ (sym (image_of-opening page) ∙ ap (λ (start : ℕ → ℕ). image_of start page) (sym (by_place-opening pages)))
+    let at : image_at images page ≡ opening_words 1 page = ap (λ (ms : List (List ℕ)). image_at ms page) is ∙ get_or-map-range_with_len (opening_words 1) 0 pages page page [] lt (omega arith) in
+    at ∙ (sym (image_of-opening 1 page) ∙ ap (λ (start : ℕ → ℕ). image_of start page) (sym (by_place-opening pages)))
 
-pub images-count : (pages : ℕ) (images : List (List ℕ)) → images ≡ map opening_words (range_with_len 0 pages) → length images ≡ pages
-images-count pages images is = ap (λ (ms : List (List ℕ)). length ms) is ∙ length-map-range_with_len opening_words 0 pages
+pub images-count : (pages : ℕ) (images : List (List ℕ)) → images ≡ map (opening_words 1) (range_with_len 0 pages) → length images ≡ pages
+images-count pages images is = ap (λ (ms : List (List ℕ)). length ms) is ∙ length-map-range_with_len (opening_words 1) 0 pages
 
 -- a fault that was found is no want of memory
 pub found-fault : (pages : ℕ) (words : List ℕ) (fault : LogFault) → IsFirstOldFault pages words fault → IsUpgradeFault pages words fault

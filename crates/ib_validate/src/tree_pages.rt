@@ -77,7 +77,7 @@ impl TreePages {
         requires least { LEAST_PAGES ≤ pages }
         requires most { pages ≤ MOST_PAGES }
         ensures settled { IfOk result IsSettled }
-        ensures images { IfOk result (λ t. t.before ≡ map opening_words (range_with_len 0 pages)) }
+        ensures images { IfOk result (λ t. t.before ≡ map (opening_words 1) (range_with_len 0 pages)) }
         ensures positions { IfOk result (λ t. positions_of t.met_before ≡ opening_positions) }
     {
         let old = opening_images(alloc, pages)?;
@@ -175,7 +175,7 @@ impl TreePages {
 
 // An image for each page of a new space.
 fn opening_images(alloc: Global, pages: u32) -> Result<Vec<Image>, AllocError>
-    ensures { IfOk result (λ images. images.items ≡ map opening_words (range_with_len 0 pages)) }
+    ensures { IfOk result (λ images. images.items ≡ map (opening_words 1) (range_with_len 0 pages)) }
 {
     let mut images = Vec::with_capacity(alloc, pages as usize)?;
     for page in 0..pages {

@@ -1,10 +1,10 @@
 -- How many pages an insert takes, which they are, and when it can take none.
 use Rattle.std.specs.Prelude.{ℕ, zero, suc, ◌+◌, Bool, ◌==◌, ◌&&◌, nat_le, nat_lt, List, [], ◌∷◌, ◌++◌, length, map, filter, take, if◌then◌else◌}
 use Rattle.ib_map.specs.Keys.{MapKey, rank}
-use Rattle.ib_heap.specs.declared.TheConstants.{MOST_LEVEL, MOST_RECORDS}
+use Rattle.ib_heap.specs.declared.TheConstants.{MOST_RECORDS}
 use Rattle.ib_walk.specs.Pages.{PageMemory}
 use Rattle.ib_walk.specs.Walk.{Visit, children}
-use Rattle.ib_walk.specs.Trees.{height_of, top_of}
+use Rattle.ib_walk.specs.Trees.{height_of, most_height, top_of}
 
 -- the pages of a level whose range has the key
 abbrev pub pages_for : MapKey → List Visit → List ℕ
@@ -36,9 +36,9 @@ is_root_full memory key root = run_of memory key root == suc (height_of memory r
 abbrev pub need_of : PageMemory → MapKey → ℕ → ℕ
 need_of memory key root = run_of memory key root + (if is_root_full memory key root then 1 else 0)
 
--- the root would be raised at the highest level
-abbrev pub is_too_high : PageMemory → MapKey → ℕ → Bool
-is_too_high memory key root = is_root_full memory key root && (height_of memory root == MOST_LEVEL)
+-- the root would be raised at the highest level that so many trees may have
+abbrev pub is_too_high : ℕ → PageMemory → MapKey → ℕ → Bool
+is_too_high roots memory key root = is_root_full memory key root && (height_of memory root == most_height roots)
 
 -- the free pages among so many from a page on
 abbrev pub free_pages_from : (ℕ → ℕ) → ℕ → ℕ → List ℕ

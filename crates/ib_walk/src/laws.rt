@@ -30,8 +30,8 @@ pub fn walk_law()
     ensures value { (memory : PageMemory) (bits : ℕ → ℕ) (roots root : ℕ) (key : MapKey) → IsLawful memory bits roots
         → 0 < root → root ≤ roots
         → value_at key (content_of memory root) ≡ value_at key (memory (leaf_for memory key root)).records }
-    // The pages of a new space are lawful: one tree, which has no records.
-    ensures opening { (pages : ℕ) → has_pages pages ≡ true → IsLawfulMemory pages 1 opening_word }
-    ensures images { (page : ℕ) → image_of opening_word page ≡ opening_words page }
-    ensures empty { content_of (pages_of opening_word) 1 ≡ [] }
+    // The pages of a new space are lawful: one tree or two, which have no records.
+    ensures opening { (pages roots : ℕ) → has_pages pages ≡ true → 0 < roots → roots ≤ 2 → IsLawfulMemory pages roots (opening_word roots) }
+    ensures images { (roots page : ℕ) → image_of (opening_word roots) page ≡ opening_words roots page }
+    ensures empty { (roots root : ℕ) → roots ≤ 2 → 0 < root → root ≤ roots → content_of (pages_of (opening_word roots)) root ≡ [] }
 {}

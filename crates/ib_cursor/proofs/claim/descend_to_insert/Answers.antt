@@ -25,8 +25,8 @@ taken g c =
     let idle = none_granted c.args.mtr.now.latches.now c.args.mtr.now.pass.now c.requires.may.mtr c.requires.may.memo in let s : PassState = c.take_nodes.new.mtr.pass.now in
     let w = subst (λ (s : Sizes). HasReadPath s (g.L.Law.lawful s.pages) (by_place g.L.Law.opening s.pages) c.args.root c.args.key path leaf left q r) (ap (λ m. m.now.sizes) c.claim_index.ensures.still.latches) c.read_path-found.ensures.on_path in
     let will = will_nodes sizes g.L.Trees.ROOTS (g.L.Law.lawful sizes.pages) (by_place g.L.Law.opening sizes.pages) c.facts_of_trees.ensures.shapes c.args.root c.requires.root.some c.requires.root.there c.args.key (rank-lt_end c.args.key) path leaf left p q r r r idle c.requires.may.none c.claim_index.ensures.latched c.claim_index.ensures.claimed w in
-    let nodes = subst (λ (k : Sizes). (front more : List ℕ) (leaf : ℕ) → path ≡ front ++ leaf ∷ [] → WillTake k (g.L.Law.lawful k.pages) (by_place g.L.Law.opening k.pages) [] (front ++ more) r → HasTakenMore k (g.L.Law.lawful k.pages) (by_place g.L.Law.opening k.pages) [] front r s)
-    (ap (λ m. m.now.sizes) (c.read_path-found.ensures.still.latches ∙ c.claim_index.ensures.still.latches)) c.take_nodes.ensures.taken w.front (beside left ++ leaf ∷ beside (pages_after (by_place g.L.Law.opening sizes.pages) r.view.memory.seen leaf).next) leaf w.ends will in
+    let nodes = subst (λ (k : Sizes). (held front more : List ℕ) (leaf : ℕ) → path ≡ front ++ leaf ∷ [] → WillTake k (g.L.Law.lawful k.pages) (by_place g.L.Law.opening k.pages) held (front ++ more) r → HasTakenMore k (g.L.Law.lawful k.pages) (by_place g.L.Law.opening k.pages) held front r s)
+    (ap (λ m. m.now.sizes) (c.read_path-found.ensures.still.latches ∙ c.claim_index.ensures.still.latches)) c.take_nodes.ensures.taken [] w.front (beside left ++ leaf ∷ beside (pages_after (by_place g.L.Law.opening sizes.pages) r.view.memory.seen leaf).next) leaf w.ends will in
     (w, nodes)
 
 pub read_path-found-requires-clause-index : goal.read_path-found-requires-clause-index
@@ -55,8 +55,8 @@ take_nodes-requires-clause-ready g c =
     let idle = none_granted c.args.mtr.now.latches.now c.args.mtr.now.pass.now c.requires.may.mtr c.requires.may.memo in
     let w = subst (λ (s : Sizes). HasReadPath s (g.L.Law.lawful s.pages) (by_place g.L.Law.opening s.pages) c.args.root c.args.key path leaf left q r) (ap (λ m. m.now.sizes) c.claim_index.ensures.still.latches) c.read_path-found.ensures.on_path in
     let will = will_nodes sizes g.L.Trees.ROOTS (g.L.Law.lawful sizes.pages) (by_place g.L.Law.opening sizes.pages) c.facts_of_trees.ensures.shapes c.args.root c.requires.root.some c.requires.root.there c.args.key (rank-lt_end c.args.key) path leaf left p q r r r idle c.requires.may.none c.claim_index.ensures.latched c.claim_index.ensures.claimed w in
-    subst (λ (k : Sizes). (front : List ℕ) × (more : List ℕ) × (leaf : ℕ) × (path ≡ front ++ leaf ∷ []) × WillTake k (g.L.Law.lawful k.pages) (by_place g.L.Law.opening k.pages) [] (front ++ more) r)
-    (sym (ap (λ m. m.now.sizes) (c.read_path-found.ensures.still.latches ∙ c.claim_index.ensures.still.latches))) (w.front, beside left ++ leaf ∷ beside (pages_after (by_place g.L.Law.opening sizes.pages) r.view.memory.seen leaf).next, leaf, w.ends, will)
+    subst (λ (k : Sizes). (held : List ℕ) × (front : List ℕ) × (more : List ℕ) × (leaf : ℕ) × (path ≡ front ++ leaf ∷ []) × WillTake k (g.L.Law.lawful k.pages) (by_place g.L.Law.opening k.pages) held (front ++ more) r)
+    (sym (ap (λ m. m.now.sizes) (c.read_path-found.ensures.still.latches ∙ c.claim_index.ensures.still.latches))) ([], w.front, beside left ++ leaf ∷ beside (pages_after (by_place g.L.Law.opening sizes.pages) r.view.memory.seen leaf).next, leaf, w.ends, will)
 
 pub take_leaves-requires-clause-room : goal.take_leaves-requires-clause-room
 take_leaves-requires-clause-room g c =

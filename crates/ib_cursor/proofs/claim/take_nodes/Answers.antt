@@ -1,6 +1,6 @@
 -- The nodes one after the other.
 use Rattle.std.specs.Prelude.{take, get_or}
-use Rattle.std.proofs.Common.{◌≡◌, ◌∷◌, ◌<◌, List, [], ℕ, ap, sym, subst, refl, arith, length, length-append}
+use Rattle.std.proofs.Common.{◌≡◌, ◌∷◌, ◌++◌, ◌<◌, List, [], ℕ, ap, sym, subst, refl, arith, length, length-append}
 use Rattle.ib_layout.specs.Geometry.{Sizes}
 use Rattle.ib_logrec.specs.Log.{by_place}
 use Rattle.ib_rule.specs.Pass.{PassState}
@@ -15,9 +15,9 @@ loop-at-init g c =
     let r = c.requires.ready in
     record {
       still = record { mtr = c.requires.mtr; latches = refl; pass = refl };
-      within = let a = ap length r.3 in let b = length-append r.0 (r.2 ∷ []) in omega arith;
-      taken = λ front more leaf is w. subst (λ ps. HasTakenMore sizes (g.L.Law.lawful sizes.pages) (by_place g.L.Law.opening sizes.pages) [] ps c.args.mtr.now.pass.now c.args.mtr.now.pass.now) (sym (take_nothing front))
-          (more_none sizes (g.L.Law.lawful sizes.pages) (by_place g.L.Law.opening sizes.pages) [] c.args.mtr.now.pass.now w.holds);
+      within = let a = ap length r.4 in let b = length-append r.1 (r.3 ∷ []) in omega arith;
+      taken = λ held front more leaf is w. subst (λ ps. HasTakenMore sizes (g.L.Law.lawful sizes.pages) (by_place g.L.Law.opening sizes.pages) held ps c.args.mtr.now.pass.now c.args.mtr.now.pass.now) (sym (take_nothing front))
+          (more_none sizes (g.L.Law.lawful sizes.pages) (by_place g.L.Law.opening sizes.pages) held c.args.mtr.now.pass.now w.holds);
     }
 
 pub take_page-requires-clause-page : goal.take_page-requires-clause-page
@@ -26,14 +26,14 @@ take_page-requires-clause-page g c =
     let r = c.requires.ready in
     let inv = c.loop-at.invariant in
     subst (λ (s : Sizes). get_or c.pages-pages.result.now c.loop-at.at 0 < s.pages) (sym (ap (λ m. m.now.sizes) inv.still.latches))
-    (node_can sizes (g.L.Law.lawful sizes.pages) (by_place g.L.Law.opening sizes.pages) r.0 r.1 c.args.path.now c.pages-pages.result.now r.2 c.loop-at.at c.args.mtr.now.pass.now c.loop-at.mtr.pass.now r.3 c.pages-pages.ensures.pages c.loop-at-test.true r.4 (inv.taken r.0 r.1 r.2 r.3 r.4)).1
+    (node_can sizes (g.L.Law.lawful sizes.pages) (by_place g.L.Law.opening sizes.pages) r.0 r.1 r.2 c.args.path.now c.pages-pages.result.now r.3 c.loop-at.at c.args.mtr.now.pass.now c.loop-at.mtr.pass.now r.4 c.pages-pages.ensures.pages c.loop-at-test.true r.5 (inv.taken r.0 r.1 r.2 r.3 r.4 r.5)).1
 
 pub take_page-requires-clause-room : goal.take_page-requires-clause-room
 take_page-requires-clause-room g c =
     let sizes : Sizes = c.args.mtr.now.latches.now.sizes in
     let r = c.requires.ready in
     let inv = c.loop-at.invariant in
-    let n = node_room sizes (g.L.Law.lawful sizes.pages) (by_place g.L.Law.opening sizes.pages) r.0 r.1 c.args.path.now c.pages-pages.result.now r.2 c.loop-at.at c.args.mtr.now.pass.now c.loop-at.mtr.pass.now r.3 c.pages-pages.ensures.pages c.loop-at-test.true r.4 (inv.taken r.0 r.1 r.2 r.3 r.4) in
+    let n = node_room sizes (g.L.Law.lawful sizes.pages) (by_place g.L.Law.opening sizes.pages) r.0 r.1 r.2 c.args.path.now c.pages-pages.result.now r.3 c.loop-at.at c.args.mtr.now.pass.now c.loop-at.mtr.pass.now r.4 c.pages-pages.ensures.pages c.loop-at-test.true r.5 (inv.taken r.0 r.1 r.2 r.3 r.4 r.5) in
     let room = c.requires.room in omega arith
 
 pub take_page-requires-clause-holds : goal.take_page-requires-clause-holds
@@ -43,7 +43,7 @@ take_page-requires-clause-holds g c =
     let inv = c.loop-at.invariant in
     let page = get_or c.pages-pages.result.now c.loop-at.at 0 in
     subst (λ (s : Sizes). (held : List ℕ) × CanTakePage s (g.L.Law.lawful s.pages) (by_place g.L.Law.opening s.pages) held page c.loop-at.mtr.pass.now) (sym (ap (λ m. m.now.sizes) inv.still.latches))
-    (take c.loop-at.at r.0, (node_can sizes (g.L.Law.lawful sizes.pages) (by_place g.L.Law.opening sizes.pages) r.0 r.1 c.args.path.now c.pages-pages.result.now r.2 c.loop-at.at c.args.mtr.now.pass.now c.loop-at.mtr.pass.now r.3 c.pages-pages.ensures.pages c.loop-at-test.true r.4 (inv.taken r.0 r.1 r.2 r.3 r.4)).0)
+    (r.0 ++ take c.loop-at.at r.1, (node_can sizes (g.L.Law.lawful sizes.pages) (by_place g.L.Law.opening sizes.pages) r.0 r.1 r.2 c.args.path.now c.pages-pages.result.now r.3 c.loop-at.at c.args.mtr.now.pass.now c.loop-at.mtr.pass.now r.4 c.pages-pages.ensures.pages c.loop-at-test.true r.5 (inv.taken r.0 r.1 r.2 r.3 r.4 r.5)).0)
 
 pub loop-at-preserved : goal.loop-at-preserved
 loop-at-preserved g c =
@@ -54,16 +54,16 @@ loop-at-preserved g c =
     record {
       still = still_then inv.still c.take_page.ensures.still;
       within = let a = ap length c.pages-pages.ensures.pages in let b = c.loop-at-test.true in omega arith;
-      taken = λ front more leaf is w.
-          let before = inv.taken front more leaf is w in
-          let can = (node_can sizes (g.L.Law.lawful sizes.pages) (by_place g.L.Law.opening sizes.pages) front more c.args.path.now c.pages-pages.result.now leaf c.loop-at.at c.args.mtr.now.pass.now q is c.pages-pages.ensures.pages c.loop-at-test.true w before).0 in
+      taken = λ held front more leaf is w.
+          let before = inv.taken held front more leaf is w in
+          let can = (node_can sizes (g.L.Law.lawful sizes.pages) (by_place g.L.Law.opening sizes.pages) held front more c.args.path.now c.pages-pages.result.now leaf c.loop-at.at c.args.mtr.now.pass.now q is c.pages-pages.ensures.pages c.loop-at-test.true w before).0 in
           let one = subst (λ (s : Sizes). (held : List ℕ) → CanTakePage s (g.L.Law.lawful s.pages) (by_place g.L.Law.opening s.pages) held page q → HasTakenPage s (g.L.Law.lawful s.pages) (by_place g.L.Law.opening s.pages) held page q t) (ap (λ m. m.now.sizes) inv.still.latches) c.take_page.ensures.taken in
-          node_step sizes (g.L.Law.lawful sizes.pages) (by_place g.L.Law.opening sizes.pages) front more c.args.path.now c.pages-pages.result.now leaf c.loop-at.at c.args.mtr.now.pass.now q is c.pages-pages.ensures.pages c.loop-at-test.true w before t (one (take c.loop-at.at front) can);
+          node_step sizes (g.L.Law.lawful sizes.pages) (by_place g.L.Law.opening sizes.pages) held front more c.args.path.now c.pages-pages.result.now leaf c.loop-at.at c.args.mtr.now.pass.now q is c.pages-pages.ensures.pages c.loop-at-test.true w before t (one (held ++ take c.loop-at.at front) can);
     }
 
 pub returns-clause-taken : goal.returns-clause-taken
-returns-clause-taken g c = λ front more leaf is w.
+returns-clause-taken g c = λ held front more leaf is w.
     let sizes : Sizes = c.args.mtr.now.latches.now.sizes in
     let inv = c.loop-at.invariant in
     let at : c.loop-at.at ≡ length front = let a = ap length c.pages-pages.ensures.pages in let b = ap length is in let d = length-append front (leaf ∷ []) in let e = c.loop-at-test.false in let f = inv.within in omega arith in
-    subst (λ ps. HasTakenMore sizes (g.L.Law.lawful sizes.pages) (by_place g.L.Law.opening sizes.pages) [] ps c.args.mtr.now.pass.now c.loop-at.mtr.pass.now) (take_whole front c.loop-at.at at) (inv.taken front more leaf is w)
+    subst (λ ps. HasTakenMore sizes (g.L.Law.lawful sizes.pages) (by_place g.L.Law.opening sizes.pages) held ps c.args.mtr.now.pass.now c.loop-at.mtr.pass.now) (take_whole front c.loop-at.at at) (inv.taken held front more leaf is w)

@@ -10,9 +10,9 @@ abbrev pub invariant-loop-at : goal.invariant-loop-at
 invariant-loop-at g l = record {
   still : IsStillMtr l.fn.mtr l.mtr;
   within : l.at + 1 ≤ length l.path;
-  taken : (front more : List ℕ) (leaf : ℕ) → l.path ≡ front ++ leaf ∷ []
-      → under g.L.Law l.fn.mtr.latches.now WillTake [] (front ++ more) l.fn.mtr.pass.now
-      → under g.L.Law l.fn.mtr.latches.now HasTakenMore [] (take l.at front) l.fn.mtr.pass.now l.mtr.pass.now;
+  taken : (held front more : List ℕ) (leaf : ℕ) → l.path ≡ front ++ leaf ∷ []
+      → under g.L.Law l.fn.mtr.latches.now WillTake held (front ++ more) l.fn.mtr.pass.now
+      → under g.L.Law l.fn.mtr.latches.now HasTakenMore held (take l.at front) l.fn.mtr.pass.now l.mtr.pass.now;
 }
 
 abbrev pub decreases-loop-at : goal.decreases-loop-at

@@ -15,6 +15,7 @@ use Rattle.ib_rule.specs.Pass.{PassState}
 use Rattle.ib_rule.specs.Space.{SpaceState}
 use Rattle.ib_mtr.specs.Commits.{HasRead}
 use Rattle.ib_mtr.specs.Mtr.{with_work}
+use Rattle.ib_leaf.specs.Calls.{tree_calls}
 use Rattle.ib_leaf.specs.Leaf.{IsShortFor, leaf_page}
 use Rattle.ib_leaf.proofs.CommitLaws.{CommitAnswered, commit-answered}
 use Rattle.ib_leaf.proofs.LeafLaws.{delete-ended, delete-refused, delete-stopped}
@@ -88,8 +89,8 @@ returns-clause-tried g c =
     let enough : (page ≡ 1) ⊎ (FEWEST_RECORDS < length (leaf_page space.sizes key q).records) = subst (λ n. (page ≡ 1) ⊎ (FEWEST_RECORDS < n)) has.count_is counted in
     let taken = c.take_out.ensures.taken in
     let end : c.take_out.new.mtr.latches.now.sizes ≡ space.sizes = ap (λ m. m.now.sizes) c.take_out.ensures.still.latches ∙ last in
-    let ends : CommitAnswered space.sizes call (Delete key) (Deleted c.in-Some.value) c.commit-committed.result c.changed.result (with_work taken.0 q) r =
-    commit-answered space.sizes c.take_out.new.mtr.latches.now.sizes call (Delete key) (Deleted c.in-Some.value) c.commit-committed.result c.changed.result c.place.result (with_work taken.0 q) c.take_out.new.mtr.pass.now r
+    let ends : CommitAnswered space.sizes (tree_calls space.sizes) call (Delete key) (Deleted c.in-Some.value) c.commit-committed.result c.changed.result (with_work taken.0 q) r =
+    commit-answered space.sizes c.take_out.new.mtr.latches.now.sizes tree_calls call (Delete key) (Deleted c.in-Some.value) c.commit-committed.result c.changed.result c.place.result (with_work taken.0 q) c.take_out.new.mtr.pass.now r
     end taken.1 (search rules) c.changed.ensures.made c.changed.ensures.full c.commit-committed.ensures.committed c.commit-committed.ensures.full in
     let left = delete-ended space key page q has.works c.commit-committed.result taken.0 c.in-Some.value c.changed.result r (sym has.value_is ∙ c.in-Some.is) enough ends in
     subst (TriedBy space.sizes (IsKeptLog space.sizes.pages) (by_place opening space.sizes.pages) (IsShortFor key) key call page (Ok c.changed.result) p) (search rules)

@@ -14,6 +14,7 @@ use Rattle.ib_rule.specs.Pass.{PassState}
 use Rattle.ib_rule.specs.Space.{SpaceState}
 use Rattle.ib_mtr.specs.Commits.{HasRead}
 use Rattle.ib_mtr.specs.Mtr.{with_work}
+use Rattle.ib_leaf.specs.Calls.{tree_calls}
 use Rattle.ib_leaf.specs.Leaf.{IsFullFor, leaf_page}
 use Rattle.ib_leaf.proofs.CommitLaws.{CommitAnswered, commit-answered}
 use Rattle.ib_leaf.proofs.LeafLaws.{insert-ended, insert-refused, insert-stopped}
@@ -87,8 +88,8 @@ returns-clause-tried g c =
     let room : length (leaf_page space.sizes key q).records < MOST_RECORDS = (let few = c.look_in-looked.ensures.few in let not = c.if-looked-eq-MOST_RECORDS.false in omega arith) in
     let put = c.put_in.ensures.put in
     let end : c.put_in.new.mtr.latches.now.sizes ≡ space.sizes = ap (λ m. m.now.sizes) c.put_in.ensures.still.latches ∙ last in
-    let ends : CommitAnswered space.sizes call (Insert key c.args.value) Inserted c.commit-committed.result c.changed.result (with_work put.0 q) r =
-    commit-answered space.sizes c.put_in.new.mtr.latches.now.sizes call (Insert key c.args.value) Inserted c.commit-committed.result c.changed.result c.place.result (with_work put.0 q) c.put_in.new.mtr.pass.now r
+    let ends : CommitAnswered space.sizes (tree_calls space.sizes) call (Insert key c.args.value) Inserted c.commit-committed.result c.changed.result (with_work put.0 q) r =
+    commit-answered space.sizes c.put_in.new.mtr.latches.now.sizes tree_calls call (Insert key c.args.value) Inserted c.commit-committed.result c.changed.result c.place.result (with_work put.0 q) c.put_in.new.mtr.pass.now r
     end put.1 (search rules) c.changed.ensures.made c.changed.ensures.full c.commit-committed.ensures.committed c.commit-committed.ensures.full in
     let left = insert-ended space key page q has.works c.commit-committed.result put.0 c.args.value c.changed.result r (sym has.value_is ∙ none) room ends in
     subst (TriedBy space.sizes (IsKeptLog space.sizes.pages) (by_place opening space.sizes.pages) (IsFullFor key) key call page (Ok c.changed.result) p) (search rules)

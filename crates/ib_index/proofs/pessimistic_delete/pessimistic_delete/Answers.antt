@@ -12,6 +12,7 @@ use Rattle.ib_rule.specs.Views.{total}
 use Rattle.ib_mtr.specs.Commits.{HasRead, MayCommit}
 use Rattle.ib_mtr.specs.Mtr.{with_work}
 use Rattle.ib_index.specs.Grows.{HasChangedTree, IsGrowing, tree_pages}
+use Rattle.ib_leaf.specs.Calls.{tree_calls}
 use Rattle.ib_leaf.specs.Leaf.{IsSeated}
 use Rattle.ib_index.specs.Shrinks.{HasClaimedSiblings}
 use Rattle.ib_leaf.proofs.CommitLaws.{CommitAnswered, commit-answered}
@@ -84,8 +85,8 @@ returns-clause-changed g c =
     let has = ready g (goal.at.returns-clause-changed g c).After-facts_of_session-2 in
     let planned = c.plan_in.ensures.planned in let r : PassState = c.commit-committed.new.self.1.0 in let call : Call = DeleteCall key in
     let last : c.plan_in.new.mtr.latches.now.sizes ≡ sizes = ap (λ m. m.now.sizes) (c.plan_in.ensures.still.latches ∙ (c.take_space.ensures.still.latches ∙ (c.claim_siblings-path.ensures.still.latches ∙ c.start-mtr.ensures.latches))) in
-    let ends : CommitAnswered sizes call (Delete key) (Deleted value) c.commit-committed.result c.changed.result (with_work planned.0 t) r =
-    commit-answered sizes c.plan_in.new.mtr.latches.now.sizes call (Delete key) (Deleted value) c.commit-committed.result c.changed.result c.place.result (with_work planned.0 t) c.plan_in.new.mtr.pass.now r
+    let ends : CommitAnswered sizes (tree_calls sizes) call (Delete key) (Deleted value) c.commit-committed.result c.changed.result (with_work planned.0 t) r =
+    commit-answered sizes c.plan_in.new.mtr.latches.now.sizes tree_calls call (Delete key) (Deleted value) c.commit-committed.result c.changed.result c.place.result (with_work planned.0 t) c.plan_in.new.mtr.pass.now r
     last planned.1 (search rules) c.changed.ensures.made c.changed.ensures.full c.commit-committed.ensures.committed c.commit-committed.ensures.full in
     let called = called-shrunk sizes key path has.held p t has.went has.looked has.growing has.seated value has.value_is planned.0 c.commit-committed.result c.changed.result r ends in
     let changed = changed-ended sizes call (Delete key) (Deleted value) c.commit-committed.result c.changed.result planned.0 p t r ends (let a = has.claims in omega arith) (let a = has.grants in omega arith) called in

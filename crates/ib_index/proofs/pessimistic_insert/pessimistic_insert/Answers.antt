@@ -17,6 +17,7 @@ use Rattle.ib_rule.specs.Views.{total}
 use Rattle.ib_mtr.specs.Commits.{HasRead, MayCommit}
 use Rattle.ib_mtr.specs.Mtr.{with_work}
 use Rattle.ib_cursor.proofs.LatchingLaws.{looked_first, went_both}
+use Rattle.ib_leaf.specs.Calls.{tree_calls}
 use Rattle.ib_leaf.specs.Leaf.{IsSeated}
 use Rattle.ib_index.specs.Grows.{HasChangedTree, HasClaimedPath, IsShort, NeedsPages, tree_pages}
 use Rattle.ib_index.proofs.SpaceTicks.{may-tick}
@@ -81,7 +82,7 @@ returns-in_default-clause-changed g c =
     (subst (λ (s : Sizes). HasRead s (IsKeptLog s.pages) c.needed.new.mtr.pass.now place r) then c.commit_read-place-in_default.ensures) in
     let missing = sym c.value_in.ensures ∙ no-value c.value_in.result (sym c.is_some.ensures ∙ c.if-is_some.false) in
     let called = called-high sizes key path (tree_pages reached.held) p q reached.went reached.looked reached.growing seated c.args.value place r read missing
-    (λ memory bits a. (c.in_default.ensures.needed sizes.pages 1 1 key memory bits a).0) in
+    (λ memory bits a. (c.in_default.ensures.needed sizes.pages 1 key memory bits a).0) in
     let changed = changed-read sizes call TooHigh place p q r read (let a = reached.claims in omega arith) (let a = reached.grants in omega arith) called in
     subst (HasChangedTree sizes call (record { call = call; reply = TooHigh; place = place }) p) (search rules) changed
 
@@ -93,7 +94,7 @@ returns-in-Err-clause-changed g c =
     let then : c.needed.new.mtr.latches.now.sizes ≡ sizes = ap (λ m. m.now.sizes) (c.needed.ensures.still.latches ∙ (c.claim_path-path.ensures.still.latches ∙ c.start-mtr.ensures.latches)) in
     let taken-by : c.take_fresh.new.mtr.latches.now.sizes ≡ sizes = ap (λ m. m.now.sizes) c.take_fresh.ensures.still.latches ∙ then in
     let pass : c.needed.new.mtr.pass.now ≡ q = ap (λ m. m.now) c.needed.ensures.pass in
-    let needs : NeedsPages sizes.pages key path need q.work = λ memory bits a. c.in-Ok.ensures.needed sizes.pages 1 1 key memory bits a in
+    let needs : NeedsPages sizes.pages key path need q.work = λ memory bits a. c.in-Ok.ensures.needed sizes.pages 1 key memory bits a in
     let absent = sym c.value_in.ensures ∙ no-value c.value_in.result (sym c.is_some.ensures ∙ c.if-is_some.false) in
     let short : IsShort sizes key path free need q t =
     subst (λ (u : PassState). (key : MapKey) → (p : PassState) → HasClaimedPath sizes key path p u → NeedsPages sizes.pages key path need u.work → IsShort sizes key path free need u t) pass
@@ -115,7 +116,7 @@ ready g c =
     let at = c.claim_path-path.ensures.reached in
     let then : c.needed.new.mtr.latches.now.sizes ≡ sizes = ap (λ m. m.now.sizes) (c.needed.ensures.still.latches ∙ (c.claim_path-path.ensures.still.latches ∙ c.start-mtr.ensures.latches)) in
     ready-to-grow sizes c.needed.new.mtr.latches.now.sizes c.take_fresh.new.mtr.latches.now.sizes key path c.in-Ok-take_fresh.fresh c.in-Ok.need p q c.needed.new.mtr.pass.now t (path-started sizes key path p q (search (rules, at))) then
-    (ap (λ m. m.now.sizes) c.take_fresh.ensures.still.latches ∙ then) (ap (λ m. m.now) c.needed.ensures.pass) c.in-Ok-take_fresh.ensures.taken (λ memory bits a. c.in-Ok.ensures.needed sizes.pages 1 1 key memory bits a) c.facts_of_session-2.ensures
+    (ap (λ m. m.now.sizes) c.take_fresh.ensures.still.latches ∙ then) (ap (λ m. m.now) c.needed.ensures.pass) c.in-Ok-take_fresh.ensures.taken (λ memory bits a. c.in-Ok.ensures.needed sizes.pages 1 key memory bits a) c.facts_of_session-2.ensures
     (sym c.value_in.ensures ∙ no-value c.value_in.result (sym c.is_some.ensures ∙ c.if-is_some.false))
 
 pub plan_in-requires-clause-missing : goal.plan_in-requires-clause-missing
@@ -149,8 +150,8 @@ returns-clause-changed g c =
     let reached = has.reached in let holds = has.holds in
     let planned = c.plan_in.ensures.planned in
     let last : c.plan_in.new.mtr.latches.now.sizes ≡ sizes = ap (λ m. m.now.sizes) (c.plan_in.ensures.still.latches ∙ (c.take_fresh.ensures.still.latches ∙ (c.needed.ensures.still.latches ∙ (c.claim_path-path.ensures.still.latches ∙ c.start-mtr.ensures.latches)))) in
-    let ends : CommitAnswered sizes call (Insert key c.args.value) Inserted c.commit-committed.result c.changed.result (with_work planned.0 t) r =
-    commit-answered sizes c.plan_in.new.mtr.latches.now.sizes call (Insert key c.args.value) Inserted c.commit-committed.result c.changed.result c.place.result (with_work planned.0 t) c.plan_in.new.mtr.pass.now r
+    let ends : CommitAnswered sizes (tree_calls sizes) call (Insert key c.args.value) Inserted c.commit-committed.result c.changed.result (with_work planned.0 t) r =
+    commit-answered sizes c.plan_in.new.mtr.latches.now.sizes tree_calls call (Insert key c.args.value) Inserted c.commit-committed.result c.changed.result c.place.result (with_work planned.0 t) c.plan_in.new.mtr.pass.now r
     last planned.1 (search rules) c.changed.ensures.made c.changed.ensures.full c.commit-committed.ensures.committed c.commit-committed.ensures.full in
     let called = called-ended sizes key path holds.held p t (went_both p q t reached.went holds.went) (looked_first p q t reached.went holds.went reached.looked) holds.growing has.seated c.commit-committed.result planned.0 c.args.value c.changed.result r has.missing
     (λ memory bits a. let f = holds.fresh_are memory bits a in (f.0, f.1.enough)) ends in

@@ -7,7 +7,7 @@ use Rattle.ib_page.specs.Work.{changed_of}
 use Rattle.ib_plans.specs.Agreement.{memory_in, state_or_free}
 use Rattle.ib_plans.proofs.EditLaws.{state-records}
 use Rattle.ib_rule.specs.Pass.{PassState}
-use Rattle.ib_index.proofs.ClaimedLaws.{last-got}
+use Rattle.ib_index.proofs.HeldLaws.{last-got}
 use Rattle.ib_index.proofs.pessimistic_insert.value_in.Goals as goal
 
 pub returns : goal.returns

@@ -9,16 +9,24 @@ use Rattle.ib_latch_form.specs.Events.{event_fault, event_reading_of, events_in}
 use Rattle.ib_latch_form.specs.Latching.{latch_output}
 use Rattle.ib_latch_form.proofs.answer.answer_events.Goals as goal
 
-pub returns-in-Ok-clause-told : goal.returns-in-Ok-clause-told
-returns-in-Ok-clause-told g c =
+pub returns-in-Ok : goal.returns-in-Ok
+returns-in-Ok g c =
     let input : List ℕ = c.args.input.now in
     let events = c.in-Ok.events in
-    told_as (λ e. e ≡ ends Done (latch_output events)) (AnswersEvents input) IsOutOfMemory (IsOutOfMemoryWhere (event_fault input ≡ None))
-    (λ e is. owed_good (event_fault input) (λ text. text ≡ latch_output (events_in (readings_by event_reading_of input))) e c.in-Ok.ensures.good (ap (λ x. x.status) is, ap (λ x. x.text) is ∙ ap latch_output c.in-Ok.ensures.events))
-    (λ s calm. (calm, c.in-Ok.ensures.good)) _ _ _ c.make_events.ensures.told
+    record {
+      told =
+          told_as (λ e. e ≡ ends Done (latch_output events)) (AnswersEvents input) IsOutOfMemory (IsOutOfMemoryWhere (event_fault input ≡ None))
+          (λ e is. owed_good (event_fault input) (λ text. text ≡ latch_output (events_in (readings_by event_reading_of input))) e c.in-Ok.ensures.good (ap (λ x. x.status) is, ap (λ x. x.text) is ∙ ap latch_output c.in-Ok.ensures.events))
+          (λ s calm. (calm, c.in-Ok.ensures.good)) _ _ _ c.make_events.ensures.told;
+      write = c.make_events.ensures.write;
+    }
 
-pub returns-in-Err-clause-told : goal.returns-in-Err-clause-told
-returns-in-Err-clause-told g c =
+pub returns-in-Err : goal.returns-in-Err
+returns-in-Err g c =
     let input : List ℕ = c.args.input.now in
-    told_fault (event_fault input) (λ text. text ≡ latch_output (events_in (readings_by event_reading_of input))) (event_fault input ≡ None) c.in-Err.fault
-    (λ line kind is. c.in-Err.ensures.bad line kind (ap Err is)) (λ is. c.in-Err.ensures.memory (ap Err is)) _ _ _ c.refuse.ensures.told
+    record {
+      told =
+          told_fault (event_fault input) (λ text. text ≡ latch_output (events_in (readings_by event_reading_of input))) (event_fault input ≡ None) c.in-Err.fault
+          (λ line kind is. c.in-Err.ensures.bad line kind (ap Err is)) (λ is. c.in-Err.ensures.memory (ap Err is)) _ _ _ c.refuse.ensures.told;
+      write = c.refuse.ensures.write;
+    }

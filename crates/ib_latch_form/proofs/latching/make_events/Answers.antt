@@ -4,5 +4,8 @@ use Rattle.ib_io.specs.declared.status.Status.TheVariants.{Done}
 use Rattle.ib_latch_form.specs.Latching.{lines_from}
 use Rattle.ib_latch_form.proofs.latching.make_events.Goals as goal
 
-pub returns-in-Ok-clause-told : goal.returns-in-Ok-clause-told
-returns-in-Ok-clause-told g c = inl (ends Done (lines_from c.in-Ok.core.state c.args.events), ap (λ m. ends Done (lines_from m.state c.args.events)) c.in-Ok.ensures.opens, c.tell.ensures.told)
+pub returns-in-Ok : goal.returns-in-Ok
+returns-in-Ok g c = record {
+  told = inl (ends Done (lines_from c.in-Ok.core.state c.args.events), ap (λ m. ends Done (lines_from m.state c.args.events)) c.in-Ok.ensures.opens, c.tell.ensures.told);
+  write = c.tell.ensures.write;
+}

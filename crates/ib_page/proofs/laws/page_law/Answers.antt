@@ -10,13 +10,13 @@ pub returns-clause-form : goal.returns-clause-form
 returns-clause-form c = form_law
 
 pub returns-clause-opening_space : goal.returns-clause-opening_space
-returns-clause-opening_space c pages many = subst (λ (ws : List ℕ). IsSpacePage pages ws) (sym (opening_space 0 refl)) (space_formed pages many)
+returns-clause-opening_space c pages roots some few many = subst (λ (ws : List ℕ). IsSpacePage pages ws) (sym (opening_space roots 0 refl)) (space_formed roots pages some few many)
 
 pub returns-clause-opening_taken : goal.returns-clause-opening_taken
-returns-clause-opening_taken c page lt = ap (λ ws. is_taken ws page) (opening_space 0 refl) ∙ space_taken page lt
+returns-clause-opening_taken c roots page some few lt = ap (λ ws. is_taken ws page) (opening_space roots 0 refl) ∙ space_taken roots page some few lt
 
 pub returns-clause-opening_leaf : goal.returns-clause-opening_leaf
-returns-clause-opening_leaf c = opening_leaf 1 refl
+returns-clause-opening_leaf c roots page some root = opening_leaf roots page (λ e. omega arith) root
 
 pub returns-clause-opening_free : goal.returns-clause-opening_free
-returns-clause-opening_free c page le = opening_free page (λ e. omega arith) (λ e. omega arith)
+returns-clause-opening_free c roots page far = opening_free roots page far

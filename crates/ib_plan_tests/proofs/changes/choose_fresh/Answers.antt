@@ -17,14 +17,14 @@ use Rattle.ib_plan_tests.proofs.Agreeing.{agrees-read, space-read, bits-read}
 use Rattle.ib_plan_tests.proofs.changes.choose_fresh.Goals as goal
 
 -- a root that is full, where the insert is not too high, is below the highest level
-low : (m : PageMemory) (key : MapKey) → is_too_high m key 1 ≡ false → height_of m 1 ≤ MOST_LEVEL → is_root_full m key 1 ≡ true → height_of m 1 < most_height 1
+low : (m : PageMemory) (key : MapKey) → is_too_high 1 m key 1 ≡ false → height_of m 1 ≤ MOST_LEVEL → is_root_full m key 1 ≡ true → height_of m 1 < most_height 1
 low m key fits most full = elim (cases_eq (height_of m 1) MOST_LEVEL) [
-  | inl e ↦ let top = eq-eqb (height_of m 1) MOST_LEVEL e in absurd (let is : is_too_high m key 1 ≡ true = rw (full, top) refl in cc)
+  | inl e ↦ let top = eq-eqb (height_of m 1) MOST_LEVEL e in absurd (let is : is_too_high 1 m key 1 ≡ true = rw (full, top) refl in cc)
   | inr ne ↦ omega arith
 ]
 
 fresh-of : (pages : ℕ) (key : MapKey) (m : PageMemory) (words : ℕ → ℕ) (o : Option (List ℕ)) (need : ℕ) (result : Result (List ℕ) TreeFault) → height_of m 1 ≤ MOST_LEVEL
-    → o ≡ Some (image_of words 0) → (is_too_high m key 1 ≡ false) × (need ≡ need_of m key 1)
+    → o ≡ Some (image_of words 0) → (is_too_high 1 m key 1 ≡ false) × (need ≡ need_of m key 1)
     → IfOk result (λ fresh. (image : List ℕ) → o ≡ Some image → (fresh ≡ chosen (bits_in pages image) pages need) × (need ≤ free_of (bits_in pages image) pages))
     → IfOk result (λ fresh. HasFresh pages 1 1 key fresh m (bits_of pages words))
 fresh-of pages key m words o need (Ok fresh) most space given chosen_is =
@@ -42,4 +42,4 @@ returns g c =
     let most = (read.lawful.law.trees 1 (omega arith) (omega arith)).1 in
     fresh-of (length memory) c.args.key m words (changed_of 0 c.args.work.now) c.in_ok-need.need c.choose_pages.result (omega arith)
     (space-read memory c.args.key c.args.path.now c.args.work.now read c.check_path.ensures.space)
-    (c.in_ok-need.ensures.needed (length memory) 1 1 c.args.key m (bits_of (length memory) words) agrees) c.choose_pages.ensures.chosen
+    (c.in_ok-need.ensures.needed (length memory) 1 c.args.key m (bits_of (length memory) words) agrees) c.choose_pages.ensures.chosen

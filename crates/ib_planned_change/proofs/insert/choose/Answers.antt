@@ -21,14 +21,14 @@ pub returns-in_default-clause-refused : goal.returns-in_default-clause-refused
 returns-in_default-clause-refused c = λ log value b.
     let start = by_place opening (length c.args.images.now) in
     let agrees = agrees-here log c.args.images.now b c.args.key c.args.path.now (c.requires.path log b) c.args.work.now c.requires.copies in
-    let high = c.in_default.ensures.needed (length c.args.images.now) 1 1 c.args.key (kept_pages (length c.args.images.now) log) (bits_of (length c.args.images.now) (memory_after start log)) agrees in
+    let high = c.in_default.ensures.needed (length c.args.images.now) 1 c.args.key (kept_pages (length c.args.images.now) log) (bits_of (length c.args.images.now) (memory_after start log)) agrees in
     is-high log c.args.images.now b c.args.key value high.0
 
 pub returns-in_default-choose_pages-clause-refused : goal.returns-in_default-choose_pages-clause-refused
 returns-in_default-choose_pages-clause-refused c = λ log value b.
     let start = by_place opening (length c.args.images.now) in
     let agrees = agrees-here log c.args.images.now b c.args.key c.args.path.now (c.requires.path log b) c.args.work.now c.requires.copies in
-    let needs = c.in-Ok.ensures.needed (length c.args.images.now) 1 1 c.args.key (kept_pages (length c.args.images.now) log) (bits_of (length c.args.images.now) (memory_after start log)) agrees in
+    let needs = c.in-Ok.ensures.needed (length c.args.images.now) 1 c.args.key (kept_pages (length c.args.images.now) log) (bits_of (length c.args.images.now) (memory_after start log)) agrees in
     let image = image-there (changed_of 0 c.args.work.now) c.requires.space in
     let short = c.in_default-choose_pages.ensures.short image.0 image.1 in
     is-space log c.args.images.now b c.args.key c.args.path.now (c.requires.path log b) c.args.work.now c.requires.copies image.0 image.1 c.in-Ok.need needs.0 needs.1 value short.1
@@ -37,7 +37,7 @@ pub returns-clause-fresh : goal.returns-clause-fresh
 returns-clause-fresh c = λ log b.
     let start = by_place opening (length c.args.images.now) in
     let agrees = agrees-here log c.args.images.now b c.args.key c.args.path.now (c.requires.path log b) c.args.work.now c.requires.copies in
-    let needs = c.in-Ok.ensures.needed (length c.args.images.now) 1 1 c.args.key (kept_pages (length c.args.images.now) log) (bits_of (length c.args.images.now) (memory_after start log)) agrees in
+    let needs = c.in-Ok.ensures.needed (length c.args.images.now) 1 c.args.key (kept_pages (length c.args.images.now) log) (bits_of (length c.args.images.now) (memory_after start log)) agrees in
     let image = image-there (changed_of 0 c.args.work.now) c.requires.space in
     let chosen = c.in-Ok-choose_pages.ensures.chosen image.0 image.1 in
     (needs.0, is-fresh log c.args.images.now b c.args.key c.args.path.now (c.requires.path log b) c.args.work.now c.requires.copies image.0 image.1 c.in-Ok.need needs.0 needs.1 c.in-Ok-choose_pages.fresh chosen.0 chosen.1)

@@ -9,14 +9,21 @@ use Rattle.ib_replay.specs.RawLogs.{IsRawFault}
 use Rattle.ib_replay_form.proofs.Refusals.{told_refused}
 use Rattle.ib_replay_form.proofs.answer.answer_log.Goals as goal
 
-pub returns-in-Ok-clause-told : goal.returns-in-Ok-clause-told
-returns-in-Ok-clause-told g c =
+pub returns-in-Ok : goal.returns-in-Ok
+returns-in-Ok g c =
     let log = c.in-Ok.replayed.entries.items in
     let is = c.in-Ok.ensures.log in
-    inl (ends Done (replay_output log), inl (is.0, log, is.1, refl), c.show.ensures.told)
+    record {
+      told = inl (ends Done (replay_output log), inl (is.0, log, is.1, refl), c.show.ensures.told);
+      write = c.show.ensures.write;
+    }
 
-pub returns-in-Err-clause-told : goal.returns-in-Err-clause-told
-returns-in-Err-clause-told g c =
+pub returns-in-Err : goal.returns-in-Err
+returns-in-Err g c =
     let input = c.args.input.now in
-    told_refused (IsRawFault input) (AnswersLog input) (file_fault input ≡ None) (λ fault found. inr (fault, found, refl))
-    c.in-Err.fault _ _ _ c.in-Err.ensures.fault (λ is. c.in-Err.ensures.memory (ap Err is)) c.refuse.ensures.told
+    record {
+      told =
+          told_refused (IsRawFault input) (AnswersLog input) (file_fault input ≡ None) (λ fault found. inr (fault, found, refl))
+          c.in-Err.fault _ _ _ c.in-Err.ensures.fault (λ is. c.in-Err.ensures.memory (ap Err is)) c.refuse.ensures.told;
+      write = c.refuse.ensures.write;
+    }

@@ -15,13 +15,20 @@ owed_output : (shape : Shape) (input : List ℕ) (script : ScriptValue) (e : End
 owed_output shape input script e good is owed =
     owed_good (first_fault (readings_by reading_of input)) (IsScriptText shape input) e good (owed.0, (script, is, owed.1))
 
-pub returns-in-Ok-clause-told : goal.returns-in-Ok-clause-told
-returns-in-Ok-clause-told g c =
+pub returns-in-Ok : goal.returns-in-Ok
+returns-in-Ok g c =
     let script = c.in-Ok.script in
-    told_as (λ e. (e.status ≡ Done) × IsWrittenRun c.args.shape script e.text) (AnswersScript c.args.shape c.args.input.now) IsOutOfMemory (IsOutOfMemoryWhere (first_fault (readings_by reading_of c.args.input.now) ≡ None))
-    (λ e owed. owed_output c.args.shape c.args.input.now script e c.in-Ok.ensures.good c.in-Ok.ensures.script owed) (λ s calm. (calm, c.in-Ok.ensures.good)) _ _ _ c.run.ensures.told
+    record {
+      told =
+          told_as (λ e. (e.status ≡ Done) × IsWrittenRun c.args.shape script e.text) (AnswersScript c.args.shape c.args.input.now) IsOutOfMemory (IsOutOfMemoryWhere (first_fault (readings_by reading_of c.args.input.now) ≡ None))
+          (λ e owed. owed_output c.args.shape c.args.input.now script e c.in-Ok.ensures.good c.in-Ok.ensures.script owed) (λ s calm. (calm, c.in-Ok.ensures.good)) _ _ _ c.run.ensures.told;
+      write = c.run.ensures.write;
+    }
 
-pub returns-in-Err-clause-told : goal.returns-in-Err-clause-told
-returns-in-Err-clause-told g c =
-    told_fault (first_fault (readings_by reading_of c.args.input.now)) (IsScriptText c.args.shape c.args.input.now) (first_fault (readings_by reading_of c.args.input.now) ≡ None) c.in-Err.fault
-    (λ line kind is. c.in-Err.ensures.bad line kind (ap Err is)) (λ is. c.in-Err.ensures.memory (ap Err is)) _ _ _ c.refuse.ensures.told
+pub returns-in-Err : goal.returns-in-Err
+returns-in-Err g c = record {
+  told =
+      told_fault (first_fault (readings_by reading_of c.args.input.now)) (IsScriptText c.args.shape c.args.input.now) (first_fault (readings_by reading_of c.args.input.now) ≡ None) c.in-Err.fault
+      (λ line kind is. c.in-Err.ensures.bad line kind (ap Err is)) (λ is. c.in-Err.ensures.memory (ap Err is)) _ _ _ c.refuse.ensures.told;
+  write = c.refuse.ensures.write;
+}

@@ -1,4 +1,5 @@
 -- The law of walks, clause by clause.
+use Rattle.std.proofs.Common.{arith}
 use Rattle.ib_map.proofs.KeyLaws.{rank-lt_end}
 use Rattle.ib_walk.proofs.TreeLaws.{IsPageFor-leaf, value_at-content_of, IsTiled-leaves, Rises-content_of, times_met-le}
 use Rattle.ib_walk.proofs.SpaceLaws.{image_of-opening, IsLawfulMemory-opening, content_of-opening}
@@ -21,10 +22,10 @@ pub returns-clause-value : goal.returns-clause-value
 returns-clause-value c memory bits roots root key law some le = value_at-content_of memory key root (rank-lt_end key) (law.trees root some le).0
 
 pub returns-clause-opening : goal.returns-clause-opening
-returns-clause-opening c pages fits = IsLawfulMemory-opening pages fits
+returns-clause-opening c pages roots fits some few = IsLawfulMemory-opening roots some few pages fits
 
 pub returns-clause-images : goal.returns-clause-images
-returns-clause-images c page = image_of-opening page
+returns-clause-images c roots page = image_of-opening roots page
 
 pub returns-clause-empty : goal.returns-clause-empty
-returns-clause-empty c = content_of-opening
+returns-clause-empty c roots root few some le = content_of-opening roots (omega arith) few root some le

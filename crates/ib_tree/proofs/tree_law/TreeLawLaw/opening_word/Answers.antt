@@ -7,4 +7,4 @@ use Rattle.ib_tree.proofs.tree_law.TreeLawLaw.opening_word.Goals as goal
 
 pub returns-else-index-lt-PAGE_WORDS : goal.returns-else-index-lt-PAGE_WORDS
 returns-else-index-lt-PAGE_WORDS c =
-    sym (get_or_past (opening_words c.args.page) c.args.index 0 (let size = length-opening c.args.page in omega arith))
+    sym (get_or_past (opening_words 1 c.args.page) c.args.index 0 (let size = length-opening 1 c.args.page in omega arith))

@@ -17,7 +17,7 @@ returns-clause-settled c = record {
 
 pub invariant_of-result : goal.invariant_of-result
 invariant_of-result c =
-    let size : length c.in_ok-old.old.items ≡ c.args.pages = ap (length {A = List ℕ}) c.in_ok-old.ensures ∙ length-map-range_with_len opening_words 0 c.args.pages in record {
+    let size : length c.in_ok-old.old.items ≡ c.args.pages = ap (length {A = List ℕ}) c.in_ok-old.ensures ∙ length-map-range_with_len (opening_words 1) 0 c.args.pages in record {
       kept = settled-memory _ (c.in_ok-new.ensures ∙ sym c.in_ok-old.ensures) (c.in_ok-opening_table.ensures.size ∙ sym size) (c.in_ok-opening_table-2.ensures.size ∙ sym size)
           (omega (arith, c.in_ok-vec.ensures.len, c.in_ok-vec.field-0.ok, size)) (omega (arith, c.requires.least, size)) (omega (arith, c.requires.most, size))
           (λ page. ap (λ (bs : List Bool). marks_of bs page) (c.in_ok-vec.ensures.items_if_clones_equal (λ y h. h)) ∙ marks_of-replicate c.args.pages page) c.in_ok-with_capacity.ensures.items;
@@ -28,5 +28,5 @@ invariant_of-result c =
 
 pub tested-requires : goal.tested-requires
 tested-requires c =
-    let size : length c.in_ok-old.old.items ≡ c.args.pages = ap (length {A = List ℕ}) c.in_ok-old.ensures ∙ length-map-range_with_len opening_words 0 c.args.pages in
+    let size : length c.in_ok-old.old.items ≡ c.args.pages = ap (length {A = List ℕ}) c.in_ok-old.ensures ∙ length-map-range_with_len (opening_words 1) 0 c.args.pages in
     let most = c.requires.most in let same = ap (length {A = List ℕ}) c.deref.ensures.value in omega arith

@@ -1,0 +1,3 @@
+pub mod PairPlans
+pub mod Overlay
+pub mod PairCommits

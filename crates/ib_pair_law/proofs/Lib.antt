@@ -1,0 +1,4 @@
+pub mod OpeningLaws
+pub mod ChangedLaws
+pub mod PushLaws
+pub mod ClockLaws

@@ -1,0 +1,10 @@
+-- Behind the words of a page the opening has zeros.
+use Rattle.std.proofs.Common.{sym, arith}
+use Rattle.std.proofs.lemmas.List.{get_or_past}
+use Rattle.ib_page.specs.Opening.{opening_words}
+use Rattle.ib_walk.proofs.SpaceLaws.{length-opening}
+use Rattle.ib_pair_law.proofs.law.PairLawLaw.opening_word.Goals as goal
+
+pub returns-else-index-lt-PAGE_WORDS : goal.returns-else-index-lt-PAGE_WORDS
+returns-else-index-lt-PAGE_WORDS c =
+    sym (get_or_past (opening_words 2 c.args.page) c.args.index 0 (let size = length-opening 2 c.args.page in omega arith))

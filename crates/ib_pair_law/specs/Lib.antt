@@ -1,0 +1,4 @@
+pub mod Opening
+pub mod PairKept
+pub mod PairLog
+pub mod PairFits

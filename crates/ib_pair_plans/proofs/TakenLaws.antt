@@ -1,0 +1,145 @@
+-- Which pages are free once an insert has taken its fresh pages.
+use Rattle.std.proofs.Common.{◌≡◌, ◌≢◌, ℕ, ◌+◌, ◌<◌, ◌≤◌, ◌∙◌, [], ◌∷◌, ◌++◌, zero, suc, inl, inr, List, length, take, drop, None, refl, sym, ap, subst, arith}
+use Rattle.std.proofs.lemmas.Bool.{cases_lt, cases_eq}
+use Rattle.std.proofs.lemmas.List.{length-drop}
+use Rattle.ib_map.specs.Keys.{MapKey, end_rank, rank}
+use Rattle.ib_map.specs.Pairs.{value_at}
+use Rattle.ib_heap.specs.declared.TheConstants.{MOST_RECORDS}
+use Rattle.ib_walk.specs.Full.{chosen, free_of, free_pages_from, need_of}
+use Rattle.ib_walk.specs.Pages.{PageMemory}
+use Rattle.ib_walk.specs.Search.{child_for}
+use Rattle.ib_walk.specs.Trees.{IsLawful, content_of, height_of}
+use Rattle.ib_walk.proofs.ChoiceLaws.{cond-eq, cond-ne}
+use Rattle.ib_plans.specs.Agreement.{with_bits}
+use Rattle.ib_plans.specs.Insert.{AreEnough, AreFresh, Growth, insert_below, planned_insert, split, raised}
+use Rattle.ib_plans.specs.Marks.{with_bit}
+use Rattle.ib_plans.proofs.InsertLaws.{split_long-long, split_long-short}
+use Rattle.ib_plans.proofs.InsertPlanLaws.{raise_long-long, raise_long-short}
+use Rattle.ib_plans.proofs.NeedLaws.{IsCountedWhole-need, need_of-taken}
+use Rattle.ib_plans.proofs.PageLaws.{with_bit-other, with_bit-own}
+use Rattle.ib_split.proofs.FreeLaws.{free_pages_from-same}
+use Rattle.ib_pair_plans.proofs.InsertApart.{fresh-two}
+
+-- the bits with all fresh pages taken, those that are left with them
+abbrev all_taken : Growth → ℕ → ℕ
+all_taken g = with_bits g.fresh 1 g.bits
+
+split-taken : (parent child : ℕ) (g : Growth) → 0 < length g.fresh → all_taken (split parent child g) ≡ all_taken g
+split-taken parent child g some = go g.fresh refl
+  where
+    go : (xs : List ℕ) → g.fresh ≡ xs → all_taken (split parent child g) ≡ all_taken g
+    go [] e = absurd (let a = ap length e in omega arith)
+    go (x ∷ xs) e = rw e refl
+
+raised-taken : (root : ℕ) (g : Growth) → 1 < length g.fresh → all_taken (raised root g) ≡ all_taken g
+raised-taken root g some = go g.fresh refl
+  where
+    go : (xs : List ℕ) → g.fresh ≡ xs → all_taken (raised root g) ≡ all_taken g
+    go [] e = absurd (let a = ap length e in omega arith)
+    go (x ∷ []) e = absurd (let a = ap length e in omega arith)
+    go (x ∷ y ∷ xs) e = rw e refl
+
+below-taken : (m : PageMemory) (bits : ℕ → ℕ) (fresh : List ℕ) (key : MapKey) (value height page : ℕ) → AreEnough m bits fresh key value height page
+    → all_taken (insert_below m bits fresh key value height page) ≡ with_bits fresh 1 bits
+below-taken m bits fresh key value zero page enough = refl
+below-taken m bits fresh key value (suc height) page enough =
+    let g = insert_below m bits fresh key value height (child_for key 0 (m page).records) in
+    let before = below-taken m bits fresh key value height (child_for key 0 (m page).records) enough.0 in
+    elim (cases_lt MOST_RECORDS (length (g.memory (child_for key 0 (m page).records)).records)) [
+      | inl over ↦ ap all_taken (split_long-long page (child_for key 0 (m page).records) g over) ∙ (split-taken page (child_for key 0 (m page).records) g (enough.1 over) ∙ before)
+      | inr short ↦ ap all_taken (split_long-short page (child_for key 0 (m page).records) g short) ∙ before
+    ]
+
+-- with as many as are needed, the insert has taken just the fresh pages
+pub bits-taken : (m : PageMemory) (bits : ℕ → ℕ) (roots : ℕ) (law : IsLawful m bits roots) (key : MapKey) (value : ℕ) (in-range : rank key < end_rank) (root : ℕ) (some : 0 < root) (le : root ≤ roots)
+    (fresh : List ℕ) (free : AreFresh bits fresh) → value_at key (content_of m root) ≡ None → need_of m key root ≡ length fresh
+    → (planned_insert m bits fresh key value root).bits ≡ with_bits fresh 1 bits
+bits-taken m bits roots law key value in-range root some le fresh free missing need =
+    let w = IsCountedWhole-need m bits roots law key value in-range root some le fresh free missing (omega arith) in
+    let g = insert_below m bits fresh key value (height_of m root) root in
+    let before = below-taken m bits fresh key value (height_of m root) root w.enough in
+    let all : all_taken (planned_insert m bits fresh key value root) ≡ with_bits fresh 1 bits = elim (cases_lt MOST_RECORDS (length (g.memory root).records)) [
+      | inr short ↦ ap all_taken (raise_long-short root g short) ∙ before
+      | inl over ↦ ap all_taken (raise_long-long root g over) ∙ (raised-taken root g (fresh-two m bits roots law key value in-range root some le fresh free missing over w) ∙ before)
+    ] in
+    let left = need_of-taken m bits roots law key value in-range root some le fresh free missing (omega arith) in
+    let none = no-more (planned_insert m bits fresh key value root).fresh (omega arith) in
+    sym (ap (λ xs. with_bits xs 1 (planned_insert m bits fresh key value root).bits) none) ∙ all
+  where
+    no-more : (xs : List ℕ) → length xs ≡ 0 → xs ≡ []
+    no-more [] e = refl
+    no-more (x ∷ xs) e = absurd (omega arith)
+
+-- each is above a page
+abbrev IsAbove : ℕ → List ℕ → Type 0
+IsAbove n [] = Unit {0}
+IsAbove n (x ∷ xs) = (n < x) × IsAbove n xs
+
+-- the bit of a page below those that are turned
+with_bits-below : (xs : List ℕ) (bit : ℕ) (bits : ℕ → ℕ) (n : ℕ) → IsAbove n xs → with_bits xs bit bits n ≡ bits n
+with_bits-below [] bit bits n h = refl
+with_bits-below (x ∷ xs) bit bits n h = with_bits-below xs bit (with_bit x bit bits) n h.1 ∙ cond-ne n x bit (bits n) (λ e. let l = h.0 in omega arith)
+
+free-above : (bits : ℕ → ℕ) (n page count k : ℕ) → n < page → IsAbove n (take k (free_pages_from bits page count))
+free-above bits n page zero zero lt = tt
+free-above bits n page zero (suc k) lt = tt
+free-above bits n page (suc count) zero lt = tt
+free-above bits n page (suc count) (suc k) lt = elim (cases_eq (bits page) 0) [
+  | inl z ↦
+      subst (λ xs. IsAbove n (take (suc k) xs)) (sym (cond-eq (bits page) 0 (page ∷ free_pages_from bits (page + 1) count) (free_pages_from bits (page + 1) count) z))
+      (lt, free-above bits n (page + 1) count k (omega arith))
+  | inr ne ↦
+      subst (λ xs. IsAbove n (take (suc k) xs)) (sym (cond-ne (bits page) 0 (page ∷ free_pages_from bits (page + 1) count) (free_pages_from bits (page + 1) count) ne))
+      (free-above bits n (page + 1) count (suc k) (omega arith))
+]
+
+free-here : (bits : ℕ → ℕ) (page count : ℕ) → bits page ≡ 0 → free_pages_from bits page (suc count) ≡ page ∷ free_pages_from bits (page + 1) count
+free-here bits page count z = cond-eq (bits page) 0 (page ∷ free_pages_from bits (page + 1) count) (free_pages_from bits (page + 1) count) z
+
+free-next : (bits : ℕ → ℕ) (page count : ℕ) → bits page ≢ 0 → free_pages_from bits page (suc count) ≡ free_pages_from bits (page + 1) count
+free-next bits page count ne = cond-ne (bits page) 0 (page ∷ free_pages_from bits (page + 1) count) (free_pages_from bits (page + 1) count) ne
+
+-- once the lowest free pages are taken, those behind them are free
+free-left : (bits : ℕ → ℕ) (page count k : ℕ) → free_pages_from (with_bits (take k (free_pages_from bits page count)) 1 bits) page count ≡ drop k (free_pages_from bits page count)
+free-left bits page zero zero = refl
+free-left bits page zero (suc k) = refl
+free-left bits page (suc count) zero = refl
+free-left bits page (suc count) (suc k) = elim (cases_eq (bits page) 0) [
+  | inl z ↦
+      let one : ℕ → ℕ = with_bit page 1 bits in
+      let same : free_pages_from one (page + 1) count ≡ free_pages_from bits (page + 1) count =
+      free_pages_from-same one bits (page + 1) count (λ q l h. with_bit-other page 1 bits q (λ e. absurd (omega arith))) in
+      let now : ℕ → ℕ = with_bits (take k (free_pages_from bits (page + 1) count)) 1 one in
+      let taken : now page ≡ 1 = with_bits-below (take k (free_pages_from bits (page + 1) count)) 1 one page (free-above bits page (page + 1) count k (omega arith)) ∙ with_bit-own page 1 bits in
+      let rest : free_pages_from now (page + 1) count ≡ drop k (free_pages_from bits (page + 1) count) =
+      subst (λ xs. free_pages_from (with_bits (take k xs) 1 one) (page + 1) count ≡ drop k xs) same (free-left one (page + 1) count k) in
+      let here = free-here bits page count z in
+      subst (λ xs. free_pages_from (with_bits (take (suc k) xs) 1 bits) page (suc count) ≡ drop (suc k) xs) (sym here) (free-next now page count (λ e. omega arith) ∙ rest)
+  | inr ne ↦
+      let now : ℕ → ℕ = with_bits (take (suc k) (free_pages_from bits (page + 1) count)) 1 bits in
+      let kept : now page ≡ bits page = with_bits-below (take (suc k) (free_pages_from bits (page + 1) count)) 1 bits page (free-above bits page (page + 1) count (suc k) (omega arith)) in
+      subst (λ xs. free_pages_from (with_bits (take (suc k) xs) 1 bits) page (suc count) ≡ drop (suc k) xs) (sym (free-next bits page count ne))
+      (free-next now page count (λ e. ne (sym kept ∙ e)) ∙ free-left bits (page + 1) count (suc k))
+]
+
+pub chosen-left : (bits : ℕ → ℕ) (pages need : ℕ) → free_pages_from (with_bits (chosen bits pages need) 1 bits) 0 pages ≡ drop need (free_pages_from bits 0 pages)
+chosen-left bits pages need = free-left bits 0 pages need
+
+-- so many fewer are free
+pub free_of-left : (bits : ℕ → ℕ) (pages need : ℕ) → need ≤ free_of bits pages → free_of (with_bits (chosen bits pages need) 1 bits) pages + need ≡ free_of bits pages
+free_of-left bits pages need le = let a = ap length (chosen-left bits pages need) in let b = length-drop need (free_pages_from bits 0 pages) in omega arith
+
+-- the lowest free pages for two changes are those of the first, and those that the second takes after it
+take-none : (b : ℕ) → take {A = ℕ} b [] ≡ []
+take-none zero = refl
+take-none (suc b) = refl
+
+take-sum : (a b : ℕ) (xs : List ℕ) → take (a + b) xs ≡ take a xs ++ take b (drop a xs)
+take-sum zero b xs = ap (λ k. take k xs) (let e : 0 + b ≡ b = omega arith in e)
+take-sum (suc a) b [] = ap (λ k. take k []) (let e : suc a + b ≡ suc (a + b) = omega arith in e) ∙ sym (take-none b)
+take-sum (suc a) b (x ∷ xs) = ap (λ k. take k (x ∷ xs)) (let e : suc a + b ≡ suc (a + b) = omega arith in e) ∙ ap (λ ys. x ∷ ys) (take-sum a b xs)
+
+pub chosen-both : (bits : ℕ → ℕ) (pages one two : ℕ) → chosen bits pages (one + two) ≡ chosen bits pages one ++ chosen (with_bits (chosen bits pages one) 1 bits) pages two
+chosen-both bits pages one two =
+    take-sum one two (free_pages_from bits 0 pages)
+    ∙ ap (λ xs. chosen bits pages one ++ take two xs) (sym (chosen-left bits pages one))

@@ -1,0 +1,4 @@
+pub mod SecondKeyLaws
+pub mod SecondMapLaws
+pub mod ValueLaws
+mod PlacedLaws

@@ -1,0 +1,2 @@
+pub mod SecondKeys
+pub mod SecondChanges

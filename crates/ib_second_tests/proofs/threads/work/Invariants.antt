@@ -1,0 +1,11 @@
+-- The session holds nothing, and its scratch is free.
+use Rattle.std.proofs.Common.{◌≡◌, true}
+use Rattle.ib_core.specs.Sessions.{idle}
+use Rattle.ib_rule.specs.Pass.{IsOf}
+use Rattle.ib_second_tests.proofs.threads.work.Given as goal
+
+abbrev pub invariant-loop-place : goal.invariant-loop-place
+invariant-loop-place g l = record { own : IsOf l.pair l.pass; idle : l.pass.view.session ≡ idle; scratch : l.pass.has_scratch ≡ true }
+
+abbrev pub invariant-loop-place-2 : goal.invariant-loop-place-2
+invariant-loop-place-2 g l = record { own : IsOf l.pair l.pass; idle : l.pass.view.session ≡ idle; scratch : l.pass.has_scratch ≡ true }
