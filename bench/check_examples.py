@@ -21,6 +21,7 @@ FIXED = (
     ("run", "first.script", "first.out", 0),
     ("run", "refused.script", "refused.out", 2),
     ("run", "tree.script", "tree.out", 0),
+    ("pair", "pair.script", "pair.out", 0),
     ("latch", "latch.script", "latch.out", 0),
     ("replay", "insert.log", "insert.out", 0),
     ("upgrade", "old.log", "old.out", 0),

@@ -20,6 +20,7 @@ from functools import lru_cache
 import heaps
 import keys
 from judge import Wrong, commands_of, judge
+from judge_pairs import judge_pairs
 from program import answer, built
 from tree_logs import FORM, HEAD, WORDS, Tree, entry_words, file_of, new_space
 
@@ -62,7 +63,15 @@ def refused(line, kind):
 
 # Scripts.
 
-# What each field of a line is read as.
+def primary_key_in(field):
+    """The key that a field spells, where it has 7 bytes at most."""
+    key = key_in(field)
+    if len(key) > 7:
+        raise Bad("long")
+    return key
+
+
+# What each field of a line is read as, and of a script of two trees.
 FIELDS = {
     b"insert": (key_in, number),
     b"delete": (key_in,),
@@ -71,15 +80,23 @@ FIELDS = {
     b"session": (number,),
     b"space": (number, number),
 }
+PAIR_FIELDS = {
+    b"insert": (primary_key_in, number),
+    b"delete": (primary_key_in,),
+    b"get": (primary_key_in,),
+    b"value": (number,),
+    b"session": (number,),
+    b"space": (number, number),
+}
 
 
-def script_line(line, is_first):
+def script_line(line, is_first, known):
     word, *fields = line.split(b" ")
-    if word not in FIELDS:
+    if word not in known:
         raise Bad("word")
-    if len(fields) != len(FIELDS[word]):
+    if len(fields) != len(known[word]):
         raise Bad("fields")
-    values = [read(field) for read, field in zip(FIELDS[word], fields)]
+    values = [read(field) for read, field in zip(known[word], fields)]
     if word == b"session" and not 1 <= values[0] <= 64:
         raise Bad("session")
     if word == b"space" and not (is_first and 16 <= values[0] <= 4096 and 8196 <= values[1] <= 16777216):
@@ -99,6 +116,9 @@ def answered(pairs, log, made, session, word, values):
     asked = f"{line} -> "
     if word == "get":
         return f"{asked}{pairs.get(key, 'none')} at {place}\n"
+    if word == "value":
+        found = sorted(k for k in pairs if pairs[k] == key)
+        return f"{asked}{len(found)} keys\n" + (f"at {place}\n" if found else "") + "".join(f"key {written(k)}\n" for k in found)
     if word == "scan":
         low, high = values
         found = sorted(k for k in pairs if low <= k <= high)
@@ -126,12 +146,17 @@ def log_and_map(log, pairs):
     return f"log {len(log)}\n{''.join(log)}{map_text(pairs)}"
 
 
-def run(data):
+def second_text(pairs):
+    seconds = sorted(pairs[key].to_bytes(8, "big") + key for key in pairs)
+    return f"second {len(seconds)}\n" + "".join(f"{written(second)}\n" for second in seconds)
+
+
+def run(data, known=None):
     """The status and the text; of a good script only what it prints where one session has commands and nothing gets full."""
     sessions, now, is_first = {}, 1, True
     for count, line in lines(data):
         try:
-            word, values = script_line(line, is_first)
+            word, values = script_line(line, is_first, known or FIELDS)
         except Bad as why:
             return refused(count, why)
         is_first = False
@@ -144,7 +169,12 @@ def run(data):
         text += f"session {session}\n"
         for word, values in sessions[session]:
             text += answered(pairs, log, made, session, word, values)
-    return 0, text + log_and_map(log, pairs)
+    return 0, text + log_and_map(log, pairs) + (second_text(pairs) if known else "")
+
+
+def pair(data):
+    """The same of a script of two trees."""
+    return run(data, PAIR_FIELDS)
 
 
 # Events.
@@ -611,6 +641,23 @@ def some_script(dice):
     return script if dice.randrange(3) else spoiled(dice, script)
 
 
+def some_pair_script(dice):
+    """A script of two trees; now and then a key has more than 7 bytes, or a line is one of a script of one tree."""
+    lines = []
+    for line in some_script(dice).split(b"\n"):
+        word, *fields = line.split(b" ")
+        if word == b"scan" and dice.randrange(60):
+            line = f"value {a_number(dice, 1000)}".encode()
+        elif word in (b"insert", b"delete", b"get") and fields and dice.randrange(60):
+            try:
+                fields[0] = keys.text(keys.key_in(fields[0])[:7]).encode()
+            except keys.BadKey:
+                pass
+            line = b" ".join([word, *fields])
+        lines.append(line)
+    return b"\n".join(lines)
+
+
 def a_bad_line(dice, small):
     """A line with a field that is no key, which mostly stands where a key is wanted."""
     key, bad = a_key(dice, small), keys.bad_field(dice)
@@ -758,6 +805,28 @@ def compare_scripts(dice, count):
     print(f"run, raw: {count} inputs, {refusals} of them refused; {alone} of one session the same, {full} with a full log or space, no difference")
 
 
+def compare_pairs(dice, count):
+    """The form `pair`."""
+    refusals, alone, full = 0, 0, 0
+    for _ in range(count):
+        data = some_pair_script(dice)
+        status, text = pair(data)
+        found = answer(["pair"], data)
+        if status != 0:
+            same("pair", data, found, (status, text.encode()))
+            refusals += 1
+            continue
+        try:
+            judge_pairs(data.decode("latin-1"), found[1].decode("latin-1"))
+        except Wrong as wrong:
+            differ("pair", data, wrong)
+        full += is_told_full(found[1])
+        if len(commands_of(data.decode("latin-1"))[1]) < 2 and not is_told_full(found[1]):
+            same("pair", data, found, (0, text.encode()))
+            alone += 1
+    print(f"pair: {count} inputs, {refusals} of them refused; {alone} of one session the same, {full} with a full log or space, no difference")
+
+
 def some_image(dice):
     """A copy of a log that is mostly lawful, each page at a place of its own, and its tail; at times a number is changed."""
     count, made, words, entries = dice.choice([16, 17, 64]), {}, [], some_tree(dice, 16)
@@ -824,6 +893,7 @@ def main():
     dice = random.Random(int(sys.argv[2]) if len(sys.argv) > 2 else 57)
     built()
     compare_scripts(dice, count)
+    compare_pairs(dice, count)
     compare_loads(dice, count // 10)
     compare("latch", latch, some_events, dice, count)
     compare("replay", replay, some_log, dice, count)

@@ -161,39 +161,60 @@ def reply_line(run, session, command, reply, place, reach):
     return place
 
 
-def session_part(run, output, session, commands):
+SCAN = ("scan", "pairs", scan_lines)
+
+
+def session_part(run, output, session, commands, scan=SCAN):
+    """The part of a session. A scan is told by its word, by what its reply counts, and by who reads its chunks."""
+    word, counted, chunk_lines = scan
     need(output.take() == f"session {session}", f"no part of session {session}")
     reach = 0
     for command in commands:
         line = output.take()
         need(line.startswith(command + " -> "), f"`{line}` does not answer `{command}`")
         reply = line[len(command) + 4 :]
-        if command.startswith("scan "):
-            count, _, word = reply.partition(" ")
-            need(word == "pairs", f"`{line}`")
-            reach = scan_lines(run, output, session, command, int(count), reach)
+        if command.startswith(word + " "):
+            count, _, what = reply.partition(" ")
+            need(what == counted, f"`{line}`")
+            reach = chunk_lines(run, output, session, command, int(count), reach)
         else:
             reply, _, place = reply.rpartition(" at ")
             reach = reply_line(run, session, command, reply, int(place), reach)
 
 
-def holds(values, ordered, what):
-    if what[0] == "value":
-        return values.get(what[1]) == what[2]
-    if what[0] == "there":
-        return what[1] in values
-    low, high, found = what[1:]
-    part = ordered[bisect_left(ordered, low) : bisect_right(ordered, high)]
-    return found == [(key, values[key]) for key in part]
+class Book:
+    """The map at a place of the log, with its keys in order where scans are to be judged."""
+
+    def __init__(self, scans):
+        self.values = {}
+        self.ordered = [] if scans else None
+
+    def put(self, key, value):
+        self.values[key] = value
+        if self.ordered is not None:
+            insort(self.ordered, key)
+
+    def take(self, key):
+        if self.ordered is not None:
+            del self.ordered[bisect_left(self.ordered, key)]
+        return self.values.pop(key)
+
+    def holds(self, what):
+        if what[0] == "value":
+            return self.values.get(what[1]) == what[2]
+        if what[0] == "there":
+            return what[1] in self.values
+        low, high, found = what[1:]
+        part = self.ordered[bisect_left(self.ordered, low) : bisect_right(self.ordered, high)]
+        return found == [(key, self.values[key]) for key in part]
 
 
-def replay(run, scans):
-    """The log is a legal history, and what must hold at each place does."""
-    values, ordered = {}, []
+def replay(run, book):
+    """The log is a legal history, and what must hold at each place does. The book has the map in the end."""
     numbers, made = defaultdict(int), defaultdict(list)
     for place in range(len(run.log) + 1):
         for what in run.at.get(place, ()):
-            need(holds(values, ordered, what), f"at {place}: {what}")
+            need(book.holds(what), f"at {place}: {what}")
         if place == len(run.log):
             break
         session, number, command = run.log[place].split(" ", 2)
@@ -204,31 +225,38 @@ def replay(run, scans):
         words = command.split(" ")
         key = key_of(words[1])
         if words[0] == "insert":
-            need(key not in values, f"entry {place} puts {words[1]} in again")
-            values[key] = int(words[2])
-            if scans:
-                insort(ordered, key)
+            need(key not in book.values, f"entry {place} puts {words[1]} in again")
+            book.put(key, int(words[2]))
         else:
-            need(words[0] == "delete" and values.pop(key, None) is not None, f"entry {place} takes {words[1]} out of nothing")
-            if scans:
-                del ordered[bisect_left(ordered, key)]
+            need(words[0] == "delete" and key in book.values, f"entry {place} takes {words[1]} out of nothing")
+            book.take(key)
     need(made == run.made, "the log's entries are not the sessions' changes")
-    return values
 
 
-def judge(script, text):
-    """Raises Wrong where the text is no output of the script. Answers how many entries the log has."""
+def parts_of(script, text, behind=()):
+    """The run that a script and a text are of, the text's lines from the sessions on, and its map and the parts behind it."""
     sizes, commands = commands_of(script)
     output = Output(text)
     run = Run(sizes)
     output.at = next((i for i, line in enumerate(output.lines) if line.startswith("log ")), len(output.lines))
     run.log = output.part("log")
-    pairs = output.part("map")
-    need(output.at == len(output.lines), "lines behind the map")
+    parts = [output.part(word) for word in ("map", *behind)]
+    need(output.at == len(output.lines), "lines behind the last part")
     output.at = 0
+    return run, output, commands, parts
+
+
+def map_lines(values):
+    return [f"{keys.text(key)} {values[key]}" for key in sorted(values)]
+
+
+def judge(script, text):
+    """Raises Wrong where the text is no output of the script. Answers how many entries the log has."""
+    run, output, commands, (pairs,) = parts_of(script, text)
     for session in sorted(commands):
         session_part(run, output, session, commands[session])
     need(output.starts("log "), "lines before the log")
-    values = replay(run, any(what[0] == "cut" for asked in run.at.values() for what in asked))
-    need(pairs == [f"{keys.text(key)} {values[key]}" for key in sorted(values)], "the map is not what the log makes")
+    book = Book(any(what[0] == "cut" for asked in run.at.values() for what in asked))
+    replay(run, book)
+    need(pairs == map_lines(book.values), "the map is not what the log makes")
     return len(run.log)

@@ -3,7 +3,7 @@
 ghost use Rattle.std.specs.Prelude.{◌≡◌, length};
 ghost use Rattle.ib_rule.specs.Pass.{IsAtRest};
 
-use ib_index::{Index, IndexRefused};
+use ib_index::{Index, IndexRefused, SharedSpace};
 use ib_layout::Geometry;
 use ib_map::{Chunks, Key, Reply};
 use ib_rule::Pass;

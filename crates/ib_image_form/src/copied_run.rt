@@ -14,6 +14,7 @@ ghost use Rattle.ib_image_form.specs.Copying.{IsCopyWithTail, IsImageOfRun};
 
 use crate::copier::Copier;
 use ib_image::{FuzzyCopy, image_len, write_image};
+use ib_index::Index;
 use ib_map::OutOfMemory;
 use ib_rule::Closed;
 use ib_runs::{Descents, Gate, run_script};
@@ -66,6 +67,6 @@ pub fn image_of_run<G: Gate + Sync, R: Threads + Wait + Sync>(
     // For the proof: a log has fewer words than 2^32.
     let _ = geometry.log_words();
     let mut copier = Copier::with_room(alloc, geometry.pages())?;
-    let ran = run_script::<Descents, _, _, _>(rt, alloc, script, &mut copier, gate)?;
+    let ran = run_script::<Index, Descents, _, _, _>(rt, alloc, script, &mut copier, gate)?;
     image_of(alloc, &copier, &ran.closed)
 }

@@ -8,7 +8,7 @@ ghost use Rattle.ib_rule.specs.Views.{seated};
 ghost use Rattle.ib_image_form.specs.Copying.{IsCopyWithTail};
 
 use ib_image::{FuzzyCopy, copy_all};
-use ib_index::Index;
+use ib_index::{Index, SharedSpace};
 use ib_map::OutOfMemory;
 use ib_rule::Pass;
 use ib_runs::{Beside, Gate};
@@ -73,7 +73,7 @@ fn copy_pages<G: Gate, R: Wait>(
     gate.pause(rt, pass, pass.number(), 2);
 }
 
-impl Beside for Copier {
+impl Beside<Index> for Copier {
     type Guest = Pass;
 
     ghost passes = { λ pass. pass ∷ [] };

@@ -1,6 +1,6 @@
 -- Fresh pages are taken one after the other, behind page 0.
 use Rattle.std.specs.List.{All, AllByRecursion}
-use Rattle.std.specs.Prelude.{IsSome, IfSome, ◌==◌, ◌||◌, take, drop, get_or}
+use Rattle.std.specs.Prelude.{IsSome, IfSome, ◌||◌, take, drop, get_or}
 use Rattle.std.proofs.Common.{◌≡◌, ◌≢◌, inl, inr, ℕ, zero, suc, ◌+◌, ◌<◌, ◌≤◌, true, false, List, [], ◌∷◌, ◌++◌, Option, Some, None, length, map, refl, sym, ap, subst, ◌∙◌, arith, ne_eqb, append_assoc, append-nil, length-append}
 use Rattle.std.proofs.lemmas.Bool.{cases_eq}
 use Rattle.std.proofs.lemmas.List.{map-append, take-append-drop, take_at}

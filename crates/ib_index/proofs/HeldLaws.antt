@@ -1,7 +1,7 @@
 -- What of a tree is held, whichever pages beside the key's path: it is there, as it is in the tree.
 use Rattle.std.specs.List.{AllByRecursion}
-use Rattle.std.specs.Prelude.{IsSome, IsSomeAnd, ◌==◌, ◌||◌, ◌↔◌}
-use Rattle.std.proofs.Common.{◌≡◌, ◌≢◌, inl, inr, ℕ, zero, suc, ◌+◌, ◌-◌, ◌<◌, ◌≤◌, Bool, true, false, cond, List, [], ◌∷◌, ◌++◌, Option, Some, None, length, refl, sym, ap, subst, ◌∙◌, arith, eq-eqb, ne_eqb, slice_get}
+use Rattle.std.specs.Prelude.{IsSome, IsSomeAnd, ◌==◌, ◌||◌}
+use Rattle.std.proofs.Common.{◌≡◌, ◌≢◌, inl, inr, ℕ, zero, suc, ◌<◌, ◌≤◌, Bool, true, false, cond, List, [], ◌∷◌, ◌++◌, Option, Some, None, length, refl, sym, ap, subst, ◌∙◌, arith, eq-eqb, ne_eqb}
 use Rattle.std.proofs.lemmas.Bool.{cases_eq}
 use Rattle.std.proofs.lemmas.List.Elements.{All-nil, All-cons}
 use Rattle.std.proofs.lemmas.List.Folds.{list_any-append}
@@ -51,13 +51,6 @@ pub last-of : (front : List ℕ) (leaf : ℕ) → last_of (front ++ leaf ∷ [])
 last-of [] leaf = refl
 last-of (x ∷ []) leaf = refl
 last-of (x ∷ y ∷ ys) leaf = last-of (y ∷ ys) leaf
-
-pub last-got : (path : List ℕ) (page : ℕ) → slice_get path (length path - 1) ≡ Some page → last_of path ≡ page
-last-got [] page got = cc
-last-got (x ∷ []) page got = cc
-last-got (x ∷ y ∷ ys) page got =
-    let e : length (x ∷ y ∷ ys) - 1 ≡ suc (length (y ∷ ys) - 1) = omega arith in
-    last-got (y ∷ ys) page (subst (λ n. slice_get (x ∷ y ∷ ys) n ≡ Some page) e got)
 
 pub tree-some : (o : Option (List ℕ)) → IsSome o → (state_or_free o).kind ≡ Tree → IsSomeAnd o IsTreePage
 tree-some None there kind = cc

@@ -1,5 +1,5 @@
 -- A call that came to the key's path and ended there was answered.
-use Rattle.std.proofs.Common.{◌≡◌, ℕ, ◌+◌, ◌<◌, List, ◌++◌, length, Option, sym, ap, subst, ◌∙◌}
+use Rattle.std.proofs.Common.{◌≡◌, ℕ, ◌<◌, List, ◌++◌, length, Option, sym, ap, subst, ◌∙◌}
 use Rattle.ib_map.specs.Keys.{MapKey}
 use Rattle.ib_map.specs.Pairs.{value_at}
 use Rattle.ib_map.specs.History.{map_after}

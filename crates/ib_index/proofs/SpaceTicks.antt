@@ -1,21 +1,18 @@
 -- The clocks of what is held may tick: each is not above the number of entries; and as a page of the tree page 0 has none.
-use Rattle.std.specs.Prelude.{IfSome, IsSome, nat_lt}
-use Rattle.std.proofs.Common.{◌≡◌, ◌≢◌, ℕ, ◌^◌, ◌<◌, true, false, List, [], ◌++◌, length, Option, Some, None, inl, inr, refl, sym, ap, subst, ◌∙◌, arith, append-nil}
-use Rattle.std.proofs.lemmas.Bool.{cases_Bool, cases_eq}
+use Rattle.std.specs.Prelude.{IfSome, IsSome}
+use Rattle.std.proofs.Common.{◌≡◌, ◌≢◌, ℕ, ◌^◌, ◌<◌, List, [], ◌++◌, length, Option, Some, None, inl, inr, refl, sym, ap, subst, ◌∙◌, arith, append-nil}
+use Rattle.std.proofs.lemmas.Bool.{cases_eq}
 use Rattle.ib_map.specs.Keys.{MapKey}
 use Rattle.ib_layout.specs.Geometry.{Sizes}
-use Rattle.ib_page.specs.Page.{PageValue, HoldsPage}
-use Rattle.ib_page.specs.Page.PageValue.{Malformed as MalformedValue, Free as FreeValue, Tree as TreeValue}
 use Rattle.ib_page.specs.Form.{page_of}
-use Rattle.ib_page.specs.Space.{is_taken, space_clock_of}
+use Rattle.ib_page.specs.Space.{space_clock_of}
 use Rattle.ib_page.specs.Work.{changed_of}
-use Rattle.ib_heap.proofs.FormLaws.{kind_read}
-use Rattle.ib_page.proofs.SpaceLaws.{bit_in_word}
 use Rattle.ib_walk.specs.Words.{state_of, image_of, bits_of}
 use Rattle.ib_logrec.specs.Log.{by_place, memory_after}
 use Rattle.ib_tree.specs.TreeLog.{opening}
-use Rattle.ib_plans.specs.Agreement.{MayTick, bits_in, memory_in, state_or_free}
+use Rattle.ib_plans.specs.Agreement.{MayTick, memory_in, state_or_free}
 use Rattle.ib_plans.proofs.MetLaws.{met-set, root-met}
+use Rattle.ib_plans.proofs.PageZeroLaws.{zero-no_clock}
 use Rattle.ib_planned_log.specs.Kept.{IsKeptLog}
 use Rattle.ib_planned_log.specs.LeafChange.{kept_pages}
 use Rattle.ib_planned_log.proofs.ClockLaws.{clock-le, space_clock-le}
@@ -24,30 +21,6 @@ use Rattle.ib_index.specs.Grows.{HoldsPath}
 use Rattle.ib_leaf.specs.Leaf.{IsSeated}
 use Rattle.ib_index.proofs.AgreeLaws.{agrees-now, still-in, images-now}
 use Rattle.ib_index.proofs.FreshLaws.{bits-same}
-
--- an image that is no page has no clock
-no-clock : (v : PageValue) → (HoldsPage v → ⊥) → (state_of v).clock ≡ 0
-no-clock (TreeValue p) none = absurd (none tt)
-no-clock (FreeValue clock) none = absurd (none tt)
-no-clock MalformedValue none = refl
-
--- an image with bit 1 set is no page: the first word of a page is 0 or 1
-no-page : (image : List ℕ) → is_taken image 1 ≡ true → HoldsPage (page_of image) → ⊥
-no-page image taken holds =
-    let at = bit_in_word image 0 1 (omega arith) in
-    elim (kind_read image holds) [
-      | inl one ↦ let e : is_taken image 1 ≡ false = at ∙ rw one.1 refl in cc
-      | inr zero ↦ let e : is_taken image 1 ≡ false = at ∙ rw zero.1 refl in cc
-    ]
-
-bit-taken : (pages : ℕ) (image : List ℕ) → bits_in pages image 1 ≢ 0 → is_taken image 1 ≡ true
-bit-taken pages image some = elim (cases_Bool (is_taken image 1)) [
-  | inl set ↦ set
-  | inr none ↦ absurd (some (elim (cases_Bool (nat_lt 1 pages)) [
-    | inl in_space ↦ rw in_space (rw none refl)
-    | inr out ↦ rw out refl
-  ]))
-]
 
 module _ (sizes : Sizes) (key : MapKey) (path : List ℕ) (t : PassState) (seated : IsSeated sizes t) (at : HoldsPath sizes key path t) where
   -- of another page than page 0
@@ -73,8 +46,7 @@ module _ (sizes : Sizes) (key : MapKey) (path : List ℕ) (t : PassState) (seate
           let bits = bits_of sizes.pages (memory_after (by_place opening sizes.pages) t.view.memory.seen) in
           let set = met-set _ m bits 1 a.lawful 1 (omega arith) (omega arith) 1 (root-met m 1) in
           let same = ap (λ (b : ℕ → ℕ). b 1) (bits-same sizes.pages key path t.work m bits image a there) in
-          let taken = bit-taken sizes.pages image (λ z. set (sym same ∙ z)) in
-          let none = no-clock (page_of image) (no-page image taken) in
+          let none = zero-no_clock sizes.pages image (λ z. set (sym same ∙ z)) in
           let e : (memory_in t.work 0).clock ≡ (state_of (page_of image)).clock = ap (λ o. (state_or_free o).clock) there in omega arith
 
   space-ticks : IfSome (changed_of 0 t.work) (λ image. space_clock_of image < 2 ^ 63)

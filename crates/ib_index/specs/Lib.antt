@@ -3,3 +3,4 @@ pub mod Leaf
 pub mod Grows
 pub mod Shrinks
 pub mod Changes
+pub mod IndexLaw

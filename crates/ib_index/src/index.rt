@@ -1,17 +1,13 @@
-//! One tree that sessions share: how it is opened and closed, and how sessions come, look keys up and go.
+//! One tree that sessions share: how it is opened and closed, and how sessions look keys up and change it.
 
-ghost use Rattle.std.specs.Prelude.{◌≡◌, ◌+◌, ◌-◌, ◌*◌, ◌≤◌, true, [], ◌∷◌, length, Err, IfOk, IfErr};
+ghost use Rattle.std.specs.Prelude.{◌≡◌, ◌+◌, ◌*◌, ◌≤◌, IfOk, IfErr};
 ghost use Rattle.ib_heap.specs.declared.TheConstants.{MOST_LEVEL};
-ghost use Rattle.ib_rule.specs.Connects.{HasConnected, HasMet};
-ghost use Rattle.ib_rule.specs.Closed.{IsClosed};
-ghost use Rattle.ib_rule.specs.Pass.{IsAtRest, IsFrom};
-ghost use Rattle.ib_rule.specs.Views.{ended_as, longer};
-ghost use Rattle.ib_planned_log.specs.Kept.{IsKeptLog};
-ghost use Rattle.ib_tree.specs.TreeLog.{opening};
+ghost use Rattle.ib_rule.specs.Pass.{IsAtRest};
 ghost use Rattle.ib_cursor.specs.Contention.{IsContended};
 ghost use Rattle.ib_map.specs.declared.call.Call.TheVariants.{Delete, Insert};
 ghost use Rattle.ib_leaf.specs.Calls.{HasCalled, MayCall};
 ghost use Rattle.ib_index.specs.Changes.{TakesFewUnless};
+ghost use Rattle.ib_index.specs.IndexLaw.{index_law};
 ghost use Rattle.ib_leaf.specs.Leaf.{IsFullFor, IsShortFor};
 ghost use Rattle.ib_index.specs.Lookups.{HasLookedUp};
 ghost use Rattle.ib_leaf.specs.Under.{under_plans};
@@ -23,12 +19,21 @@ use ib_layout::Geometry;
 use ib_map::{Key, Record};
 use ib_planned_log::KeptLaw;
 use ib_rule::{Closed, ConnectFault, OutOfMemory, Pass};
+use ib_shared::SharedSpace;
 use std::alloc::Global;
 use std::marker::Model;
 use std::sync::Wait;
 
 /// A tree of records that sessions share (`dict_index_t` with its latches and pages). Contracts see it as
-/// its space. It is not dropped, but closed or discarded.
+/// its space. It is not dropped, but closed or discarded. How it is opened and closed, and how sessions come
+/// and go, is said by `SharedSpace`.
+///
+/// ```
+/// let mut index: Index = Index::open(alloc, Geometry::new(64, 100_000)?)?;
+/// let mut pass = index.connect(alloc)?;
+/// index.insert(rt, &mut pass, Key::of_number(7), 70);
+/// index.disconnect(pass);
+/// ```
 pub struct Index<S: Sleep = Parkers> {
     latches: Latches<KeptLaw, S>,
 }
@@ -46,109 +51,37 @@ pub struct IndexRefused<S: Sleep = Parkers> {
     pub index: Index<S>,
 }
 
-impl<S: Sleep> Index<S> {
-    /// An index with no records, in a new space of these sizes: an empty log, no sessions, and every latch
-    /// free. Refused where memory lacks.
-    ///
-    /// ```
-    /// let mut index: Index = Index::open(alloc, Geometry::new(64, 100_000)?)?;
-    /// let mut pass = index.connect(alloc)?;
-    /// ```
-    pub fn open(alloc: Global, geometry: Geometry) -> Result<Index<S>, OutOfMemory>
-        ensures { IfOk result (λ i. i
-            ≡ record { table = i.table; sizes = geometry; drawn = 0; ended = [] }) }
-    {
+impl<S: Sleep> SharedSpace for Index<S> {
+    type Refused = IndexRefused<S>;
+
+    ghost law = { index_law };
+
+    ghost space = { λ index. index };
+
+    ghost back = { λ refused. refused.index };
+
+    fn open(alloc: Global, geometry: Geometry) -> Result<Index<S>, OutOfMemory> {
         let latches = Latches::open(alloc, geometry)?;
         Ok(Index { latches })
     }
 
-    /// Its latches, for scans and for steps on a latch.
-    ///
-    /// ```
-    /// let scanned = scan(rt, index.latches(), &mut pass, low, high, &mut chunks);
-    /// ```
-    pub fn latches(&self) -> &Latches<KeptLaw, S>
-        ensures { result.now ≡ self.now }
-    {
-        &self.latches
-    }
-
-    /// How many passes are not given back yet.
-    ///
-    /// ```
-    /// if index.connected() == 0 {
-    ///     index.discard();
-    /// }
-    /// ```
-    pub fn connected(&self) -> u32
-        ensures connected { result ≡ self.now.drawn - length self.now.ended }
-        ensures few { length self.now.ended ≤ self.now.drawn }
-    {
+    fn connected(&self) -> u32 {
         self.latches.connected()
     }
 
-    /// Draws the next number, and gives its session's pass: nothing seen, held or granted, and the scratch
-    /// in it. Refused as `TooManySessions`, with 1,024, exactly where so many were drawn. Where memory lacks, no
-    /// number is drawn.
-    ///
-    /// ```
-    /// let Ok(mut pass) = index.connect(alloc) else {
-    ///     return None;
-    /// };
-    /// ```
-    pub fn connect(&mut self, alloc: Global) -> Result<Pass, ConnectFault>
-        ensures { HasConnected self.old self.new result }
-    {
+    fn connect(&mut self, alloc: Global) -> Result<Pass, ConnectFault> {
         self.latches.connect(alloc)
     }
 
-    /// The session ends, and what it has seen and made is kept. It holds nothing, and its scratch is in the
-    /// pass.
-    ///
-    /// ```
-    /// if pass.is_idle() {
-    ///     index.disconnect(pass);
-    /// }
-    /// ```
-    pub fn disconnect(&mut self, pass: Pass)
-        requires { IsAtRest self.old pass }
-        ensures { self.new ≡ record self.old { ended = ended_as pass.view ∷ self.old.ended } }
-    {
+    fn disconnect(&mut self, pass: Pass) {
         self.latches.disconnect(pass);
     }
 
-    /// Afterwards `to` has seen what both had seen: the longer of the two lists, of which both are fronts.
-    /// That tells it what a look at the log's end tells: what it had not seen before is harmless. What
-    /// contracts see of `from` is as before.
-    ///
-    /// ```
-    /// index.meet(&mut reader, &mut writer);
-    /// assert!(rt; reader.place() >= writer.place());
-    /// ```
-    pub fn meet(&self, to: &mut Pass, from: &mut Pass)
-        requires to { IsFrom self.now to.old }
-        requires from { IsFrom self.now from.old }
-        ensures { HasMet self.now.sizes (IsKeptLog self.now.sizes.pages) to.old from.old to.new from.new }
-    {
+    fn meet(&self, to: &mut Pass, from: &mut Pass) {
         self.latches.meet(to, from);
     }
 
-    /// Closes the space, where nobody is connected: its log's words are those of one kept log, its pages
-    /// are the memory after all of it, each session that has ended had seen a front of it, and its own
-    /// entries are exactly those of its number. Refused for want of memory alone.
-    ///
-    /// ```
-    /// match index.close(alloc) {
-    ///     Ok(closed) => keep(closed),
-    ///     Err(IndexRefused { index }) => index.discard(),
-    /// }
-    /// ```
-    pub fn close(self, alloc: Global) -> Result<Closed, IndexRefused<S>>
-        requires none { length self.ended ≡ self.drawn }
-        ensures ok { IfOk result (λ c. (c.sizes ≡ self.sizes) × (c.drawn ≡ self.drawn)
-            × IsClosed IsKeptLog opening self.sizes c.words self.ended) }
-        ensures err { IfErr result (λ e. e.index ≡ self) }
-    {
+    fn close(self, alloc: Global) -> Result<Closed, IndexRefused<S>> {
         let Index { latches } = self;
         match latches.close(alloc) {
             Ok(closed) => Ok(closed),
@@ -161,12 +94,27 @@ impl<S: Sleep> Index<S> {
         }
     }
 
-    /// Gives the index up, with its log and its pages, where nobody is connected: for who cannot close it.
-    pub fn discard(self)
-        requires { length self.ended ≡ self.drawn }
-    {
+    fn returned(refused: IndexRefused<S>) -> Index<S> {
+        let IndexRefused { index } = refused;
+        index
+    }
+
+    fn discard(self) {
         let Index { latches } = self;
         latches.discard();
+    }
+}
+
+impl<S: Sleep> Index<S> {
+    /// Its latches, for scans and for steps on a latch.
+    ///
+    /// ```
+    /// let scanned = scan(rt, index.latches(), &mut pass, low, high, &mut chunks);
+    /// ```
+    pub fn latches(&self) -> &Latches<KeptLaw, S>
+        ensures { result.now ≡ self.now }
+    {
+        &self.latches
     }
 
     /// Looks a key up without waiting: each latch is tried (`rw_lock_s_lock_nowait`). Where one is refused,

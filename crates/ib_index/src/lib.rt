@@ -9,5 +9,6 @@ mod nowait;
 mod pessimistic_delete;
 mod pessimistic_insert;
 
+pub use ib_shared::SharedSpace;
 pub use index::{Index, IndexRefused};
 pub use lookup::get;

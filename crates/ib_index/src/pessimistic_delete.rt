@@ -12,10 +12,10 @@ ghost use Rattle.ib_cursor.specs.Descent.{MayDescend};
 ghost use Rattle.ib_index.specs.Grows.{HasChangedTree, MayChangeTree};
 ghost use Rattle.ib_index.specs.Shrinks.{HasClaimedSiblings};
 
-use crate::pessimistic_insert::{take_space, value_in};
+use crate::pessimistic_insert::take_space;
 use ib_cursor::descend_to_delete;
 use ib_latch::{Latches, Parkers};
-use ib_leaf::{ROOT, Work, changed, facts_of_session};
+use ib_leaf::{ROOT, Work, changed, facts_of_session, value_in};
 use ib_map::{Call, Change, Key, Record, Reply};
 use ib_merge::plan_delete;
 use ib_mtr::Mtr;

@@ -24,7 +24,7 @@ ghost use Rattle.ib_index.specs.Grows.{HasChangedTree, HasClaimedPath, HasGrown,
 
 use ib_cursor::{descend_to_insert, read, take};
 use ib_latch::{Latches, Parkers};
-use ib_leaf::{ROOT, Work, changed, facts_of_session};
+use ib_leaf::{ROOT, Work, changed, facts_of_session, value_in};
 use ib_levels::{Latch, Level, Mode};
 use ib_map::{Call, Change, Key, Record, Reply};
 use ib_mtr::Mtr;
@@ -66,18 +66,6 @@ fn take_at<R: Wait>(rt: &R, mtr: &mut Work<'_>, page: u32, level: Level)
     let _ = mtr.geometry().pages();
     take(rt, mtr, Latch::page(page), Mode::X, level);
     read(mtr, page);
-}
-
-// The value of the key in the last page of its path.
-pub(crate) fn value_in(mtr: &Work<'_>, path: &Path, key: Key) -> Option<u64>
-    requires mtr { IsMtr mtr.now.latches.now mtr.now.pass.now }
-    requires some { path.now ≢ [] }
-    requires trees { HasTreePages path.now mtr.now.pass.now.work }
-    ensures { result ≡ value_at key (memory_in mtr.now.pass.now.work (last_of path.now)).records }
-{
-    let leaf = path.last().unwrap();
-    let image = mtr.image(leaf).unwrap();
-    image.get(key)
 }
 
 // How many pages the insert takes.

@@ -7,7 +7,7 @@ ghost use Rattle.ib_rule.specs.Pass.{IsOf};
 use crate::pages::{check_page, close, free_pages, leaf, node};
 use crate::rows::{deleted, insert_up_to, inserted, missing};
 use crate::space::{come, delete, insert, open, scan_keys};
-use ib_index::Index;
+use ib_index::{Index, SharedSpace};
 use ib_map::{Call, Chunk, Chunks, Key, Record, Reply, after};
 use ib_page::Image;
 use ib_rule::Pass;

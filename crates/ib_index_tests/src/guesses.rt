@@ -7,7 +7,7 @@ ghost use Rattle.ib_index_tests.specs.Guessing.{IsReady};
 use crate::rows::{deleted, insert_up_to, inserted, missing};
 use crate::space::{come, delete, insert, may_call, open};
 use ib_hash::{GuessPass, Guesses, MOST_PASSES, Miss, get, slot_of, try_delete, try_insert};
-use ib_index::Index;
+use ib_index::{Index, SharedSpace};
 use ib_map::{Call, Key, Record, Reply};
 use ib_rule::{Grants, Pass};
 use std::alloc::Global;

@@ -11,6 +11,7 @@ ghost use Rattle.ib_mtr.specs.Mtr.{IsMtr, IsStillMtr};
 use crate::rows::insert_up_to;
 use crate::space::{come, open};
 use ib_cursor::{Search, descend, next_leaf};
+use ib_index::SharedSpace;
 use ib_latch::Parkers;
 use ib_levels::{Latch, Level};
 use ib_map::{Key, MOST_PAGES};

@@ -8,7 +8,7 @@ ghost use Rattle.ib_rule.specs.Pass.{IsOf};
 use crate::space::come;
 use ib_core::Phase;
 use ib_cursor::{NowaitFault, descend_nowait};
-use ib_index::Index;
+use ib_index::{Index, SharedSpace};
 use ib_latch::{NoSleep, Sleep, TryFault};
 use ib_layout::Geometry;
 use ib_levels::{Latch, Level};

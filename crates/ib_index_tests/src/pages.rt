@@ -2,7 +2,7 @@
 
 ghost use Rattle.std.specs.Prelude.{◌≡◌, ◌<◌};
 
-use ib_index::Index;
+use ib_index::{Index, SharedSpace};
 use ib_map::{Key, PAGE_WORDS};
 use ib_page::{Image, SpaceImage};
 use ib_rule::Closed;

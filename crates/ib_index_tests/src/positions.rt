@@ -10,6 +10,7 @@ ghost use Rattle.ib_cursor.specs.Positions.{IsPosition};
 use crate::rows::{deleted, insert_up_to, inserted};
 use crate::space::{come, delete, insert, open};
 use ib_cursor::{Position, Restored, Search, descend, restore, store};
+use ib_index::SharedSpace;
 use ib_latch::Parkers;
 use ib_map::Key;
 use ib_mtr::Mtr;

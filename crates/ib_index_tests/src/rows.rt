@@ -3,7 +3,7 @@
 ghost use Rattle.ib_rule.specs.Pass.{IsAtRest};
 
 use crate::space::{come, delete, get, insert, open, scan_keys};
-use ib_index::Index;
+use ib_index::{Index, SharedSpace};
 use ib_map::{Call, Chunk, Chunks, Key, Record, Reply};
 use ib_rule::Pass;
 use ib_scan::More;

@@ -7,7 +7,7 @@ ghost use Rattle.ib_script.specs.Script.{IsSmall};
 
 use crate::space::key;
 use ib_hash::Guesses;
-use ib_index::Index;
+use ib_index::{Index, SharedSpace};
 use ib_layout::Geometry;
 use ib_map::{Call, Key, Record, Reply};
 use ib_rule::Pass;
@@ -92,10 +92,10 @@ fn script(rt: &impl Abort, alloc: Global, text: &[u8]) -> Script
 }
 
 // Two sessions on one index, whose calls reach their leaves as `A` says.
-fn check_shared<A: Access + Sync, R: Abort + Threads + Wait + Sync>(rt: &R, alloc: Global) {
+fn check_shared<A: Access<Index> + Sync, R: Abort + Threads + Wait + Sync>(rt: &R, alloc: Global) {
     let text = b"space 16 16384\ninsert 1 10\nsession 3\ninsert 3 30\nscan 3 3\n";
     let script = script(rt, alloc, text);
-    let ran = run_script::<A, _, _, _>(rt, alloc, &script, &mut Nobody, &OpenGate).expect(
+    let ran = run_script::<Index, A, _, _, _>(rt, alloc, &script, &mut Nobody, &OpenGate).expect(
         rt,
         "there is memory",
     );
@@ -124,7 +124,7 @@ fn the_least_and_the_greatest_key(rt: HostRuntime) {
     let text =
         b"space 16 16384\ninsert x:ffffffffffffffffffffffffffffff 1\ninsert x: 2\nscan x: x:ffffffffffffffffffffffffffffff\nscan 5 3\n";
     let script = script(&rt, rt.alloc(), text);
-    let ran = run_script::<Descents, _, _, _>(
+    let ran = run_script::<Index, Descents, _, _, _>(
         &rt,
         rt.alloc(),
         &script,
@@ -200,14 +200,14 @@ fn splits_and_merges(rt: &impl Abort, alloc: Global, log_words: u32) -> Script
 #[test]
 fn a_session_alone_is_answered_the_same_by_guesses(rt: HostRuntime) {
     let script = splits_and_merges(&rt, rt.alloc(), 20_000);
-    let ran = run_script::<Descents, _, _, _>(
+    let ran = run_script::<Index, Descents, _, _, _>(
         &rt,
         rt.alloc(),
         &script,
         &mut Nobody,
         &OpenGate,
     ).expect(&rt, "there is memory");
-    let guessed = run_script::<Guesses, _, _, _>(
+    let guessed = run_script::<Index, Guesses, _, _, _>(
         &rt,
         rt.alloc(),
         &script,
@@ -232,7 +232,7 @@ fn a_first_log_that_gets_full(rt: HostRuntime) {
     // Both are run on a log of 10,900 words first, which gets full. The first script has a longer one.
     for (log_words, is_full) in [(20_000, false), (10_900, true)] {
         let script = splits_and_merges(&rt, rt.alloc(), log_words);
-        let ran = run_script::<Descents, _, _, _>(
+        let ran = run_script::<Index, Descents, _, _, _>(
             &rt,
             rt.alloc(),
             &script,

@@ -4,7 +4,7 @@ ghost use Rattle.std.specs.Prelude.{◌≡◌, ◌+◌, ◌*◌};
 ghost use Rattle.ib_rule.specs.Conditions.{HasGrantsLeft};
 ghost use Rattle.ib_rule.specs.Pass.{IsAtRest};
 
-use ib_index::Index;
+use ib_index::{Index, SharedSpace};
 use ib_latch::Sleep;
 use ib_layout::Geometry;
 use ib_map::{Chunks, Key, Record};

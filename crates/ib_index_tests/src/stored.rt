@@ -9,7 +9,7 @@ ghost use Rattle.ib_scan.specs.Stored.{KeepsPosition, MayGoOn};
 
 use crate::rows::{deleted, insert_up_to, inserted};
 use crate::space::{come, delete, insert, may_scan, open};
-use ib_index::Index;
+use ib_index::{Index, SharedSpace};
 use ib_map::{Call, Chunk, Chunks, Key, Record, Reply, after};
 use ib_rule::Pass;
 use ib_scan::{More, Stored, scan_on};

@@ -6,7 +6,7 @@ ghost use Rattle.ib_core.specs.Sessions.{idle};
 ghost use Rattle.ib_rule.specs.Pass.{IsAtRest, IsOf};
 
 use crate::space::{come, get, insert, open, scan_keys};
-use ib_index::Index;
+use ib_index::{Index, SharedSpace};
 use ib_map::{Chunks, Key, Reply};
 use ib_rule::Pass;
 use std::process::Abort;

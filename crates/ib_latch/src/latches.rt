@@ -1,10 +1,9 @@
 //! A space whose sessions take its latches, from its opening on.
 
 ghost use Rattle.std.specs.Prelude.{◌≡◌, ℕ, ◌+◌, ◌-◌, ◌≤◌, true, [], ◌∷◌, length, Err, IfOk, IfErr};
-ghost use Rattle.ib_rule.specs.Connects.{HasConnected, HasMet};
+ghost use Rattle.ib_rule.specs.Connects.{HasConnected, HasDisconnected, HasMet, IsDeserted, IsNew};
 ghost use Rattle.ib_rule.specs.Under.{under_lawful};
-ghost use Rattle.ib_rule.specs.Closed.{IsClosed};
-ghost use Rattle.ib_rule.specs.Views.{ended_as, longer};
+ghost use Rattle.ib_rule.specs.Closed.{HasClosed};
 ghost use Rattle.ib_rule.specs.Pass.{IsAtRest, IsFrom};
 
 use crate::parkers::Parkers;
@@ -50,8 +49,7 @@ impl<L: Law, S: Sleep> Latches<L, S> {
     /// let mut table: Latches<AnyLaw> = Latches::open(alloc, sizes)?;
     /// ```
     pub fn open(alloc: Global, geometry: Geometry) -> Result<Latches<L, S>, OutOfMemory>
-        ensures { IfOk result (λ s. s
-            ≡ record { table = s.table; sizes = geometry; drawn = 0; ended = [] }) }
+        ensures { IfOk result (IsNew geometry) }
     {
         let sleep = S::new(alloc)?;
         let space = Space::open(alloc, geometry)?;
@@ -114,7 +112,7 @@ impl<L: Law, S: Sleep> Latches<L, S> {
     /// ```
     pub fn disconnect(&mut self, pass: Pass)
         requires { IsAtRest self.old pass }
-        ensures { self.new ≡ record self.old { ended = ended_as pass.view ∷ self.old.ended } }
+        ensures { HasDisconnected self.old pass self.new }
     {
         self.space.disconnect(pass);
     }
@@ -149,9 +147,8 @@ impl<L: Law, S: Sleep> Latches<L, S> {
     /// }
     /// ```
     pub fn close(self, alloc: Global) -> Result<Closed, LatchesCloseRefused<L, S>>
-        requires none { length self.ended ≡ self.drawn }
-        ensures ok { IfOk result (λ c. (c.sizes ≡ self.sizes) × (c.drawn ≡ self.drawn)
-            × IsClosed L.lawful L.opening self.sizes c.words self.ended) }
+        requires none { IsDeserted self }
+        ensures ok { IfOk result (HasClosed L.lawful L.opening self) }
         ensures err { IfErr result (λ e. e.latches ≡ self) }
     {
         let Latches { space, sleep } = self;
@@ -168,7 +165,7 @@ impl<L: Law, S: Sleep> Latches<L, S> {
 
     /// Gives the space up, with its log and its pages, where nobody is connected: for who cannot close it.
     pub fn discard(self)
-        requires { length self.ended ≡ self.drawn }
+        requires { IsDeserted self }
     {
         let Latches { space, sleep: _ } = self;
         space.discard();

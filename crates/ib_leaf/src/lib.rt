@@ -3,8 +3,10 @@
 
 mod answer;
 mod leaf;
+mod path_value;
 mod session;
 
 pub use answer::changed;
 pub use leaf::{Looked, ROOT, Work, look_in, put_in, take_out};
+pub use path_value::value_in;
 pub use session::facts_of_session;

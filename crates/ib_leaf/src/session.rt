@@ -3,7 +3,9 @@
 ghost use Rattle.ib_mtr.specs.Mtr.{IsMtr};
 ghost use Rattle.ib_leaf.specs.Leaf.{IsSeated};
 
-use crate::leaf::Work;
+use ib_latch::Parkers;
+use ib_logrec::Law;
+use ib_mtr::Mtr;
 
 /// For the proof of who works on a leaf: the space has a number of pages of which the laws speak, and what the
 /// session has seen and made fits its log. It changes nothing.
@@ -12,7 +14,7 @@ use crate::leaf::Work;
 /// let path = descend(rt, &mut mtr, Search::ModifyLeaf, key);
 /// facts_of_session(&mtr);
 /// ```
-pub fn facts_of_session(mtr: &Work<'_>)
+pub fn facts_of_session<L: Law>(mtr: &Mtr<'_, L, Parkers>)
     requires mtr { IsMtr mtr.now.latches.now mtr.now.pass.now }
     ensures { IsSeated mtr.now.latches.now.sizes mtr.now.pass.now }
 {

@@ -32,7 +32,7 @@ use Rattle.ib_merge.proofs.OnPathLaws.{there-reads}
 use Rattle.ib_pair_plans.specs.Apart.{IsApart}
 use Rattle.ib_pair_plans.proofs.TreeStays.{path-stays}
 use Rattle.ib_pair_change.specs.PairPlans.{MayTickTwice}
-use Rattle.ib_pair_change.proofs.ClockTicks.{space-no_clock}
+use Rattle.ib_plans.proofs.PageZeroLaws.{zero-no_clock}
 
 -- what holds of an image holds of it where it is there
 pub some-if : (P : List ℕ → Type 0) (o : Option (List ℕ)) (image : List ℕ) → o ≡ Some image → P image → IfSome o P
@@ -178,7 +178,7 @@ module _ (pages : ℕ) (m planned : PageMemory) (bits after : ℕ → ℕ) (touc
         go (Some image) at =
             let has = if-some (HasBits pages after) (changed_of 0 mid) image plan.space at in
             let set = met-set (λ n. MOST_RECORDS) then after 2 leads.lawful 1 (omega arith) (omega arith) 1 (root-met then 1) in
-            let none = space-no_clock pages image (λ z. set (has.1 1 ∙ z)) in
+            let none = zero-no_clock pages image (λ z. set (has.1 1 ∙ z)) in
             let e : (memory_in mid 0).clock ≡ (state_of (page_of image)).clock = ap (λ o. (state_or_free o).clock) at in omega arith
 
     space-ticks-le : space_ticks touched ≤ 1

@@ -1,11 +1,7 @@
-pub mod ClockTicks
 pub mod BehindLaws
 pub mod PairInserts
 pub mod PairDeletes
-pub mod PlanLaws
-pub mod ShrinkPlanLaws
 pub mod StepLaws
-pub mod WorkLaws
 pub mod PairCommit
 pub mod SpanLaws
 pub mod PairBoth

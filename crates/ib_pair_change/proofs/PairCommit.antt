@@ -43,10 +43,10 @@ use Rattle.ib_pair_law.proofs.PushLaws.{IsPairLog-push, first-before, lawful-bef
 use Rattle.ib_second_key.proofs.SecondMapLaws.{second-made}
 use Rattle.ib_pair_change.specs.Overlay.{overlay}
 use Rattle.ib_pair_change.specs.PairCommits.{HasPlan, IsPairChange}
-use Rattle.ib_pair_change.proofs.PlanLaws.{plan-bits, plan-on}
-use Rattle.ib_pair_change.proofs.ShrinkPlanLaws.{delete-bits, delete-on}
+use Rattle.ib_planned_change.proofs.PlanLaws.{plan-bits, plan-on}
+use Rattle.ib_planned_change.proofs.ShrinkPlanLaws.{delete-bits, delete-on}
 use Rattle.ib_pair_change.proofs.StepLaws.{overlay-away, overlay-there, size-of, space-is, step-is}
-use Rattle.ib_pair_change.proofs.WorkLaws.{image-after, image-still, none-same, work-count, work-differ}
+use Rattle.ib_planned_change.proofs.WorkLaws.{image-after, image-still, none-same, work-count, work-differ}
 
 -- what a plan leaves, and what it touches at least
 planned-stays : (root : ℕ) (m : PageMemory) (bits : ℕ → ℕ) (pages : ℕ) (change : Change) (n : ℕ) → (planned root m bits pages change).touched n ≡ false → (planned root m bits pages change).moves n ≡ Stays

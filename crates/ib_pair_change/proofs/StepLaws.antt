@@ -23,7 +23,7 @@ use Rattle.ib_planned_log.specs.Kept.{IsPlannedStep, Planned}
 use Rattle.ib_planned_log.proofs.PageChangeLaws.{bits_of-space}
 use Rattle.ib_split.proofs.Planning.{if-some}
 use Rattle.ib_pair_change.specs.Overlay.{overlaid, overlay}
-use Rattle.ib_pair_change.proofs.WorkLaws.{none-same}
+use Rattle.ib_planned_change.proofs.WorkLaws.{none-same}
 
 -- a page that is there is overlaid, and another is not
 pub overlay-there : (words : ℕ → ℕ) (work : List WorkPage) (n : ℕ) (image : List ℕ) → changed_of n work ≡ Some image → length image ≡ PAGE_WORDS → image_of (overlay words work) n ≡ image

@@ -1,22 +1,20 @@
 -- What the images behind a kept log say, and work sets with copies of them.
 use Rattle.std.specs.List.{All}
-use Rattle.std.specs.Prelude.{IsSome, IsSomeAnd, IfSome, nat_lt, ◌==◌}
+use Rattle.std.specs.Prelude.{IsSome, IsSomeAnd, IfSome, ◌==◌}
 use Rattle.std.proofs.Common.{◌≡◌, ◌≢◌, ℕ, ◌^◌, ◌<◌, ◌≤◌, true, false, List, [], ◌∷◌, length, Option, Some, None, refl, sym, ap, subst, ◌∙◌, arith, inl, inr}
-use Rattle.std.proofs.lemmas.Bool.{cases_lt, cases_eq, cases_Bool, le-ltb}
+use Rattle.std.proofs.lemmas.Bool.{cases_lt, cases_eq, le-ltb}
 use Rattle.std.proofs.lemmas.Bool.Decides.{nat_tests}
 use Rattle.std.proofs.lemmas.List.Elements.{All-nil, All-cons, All-head, All-tail}
 use Rattle.ib_map.specs.Keys.{MapKey}
 use Rattle.ib_map.specs.Space.{has_pages}
 use Rattle.ib_page.specs.declared.space.TheConstants.{MAPPED_PAGES}
-use Rattle.ib_heap.proofs.FormLaws.{kind_read}
 use Rattle.ib_page.specs.Form.{page_of}
 use Rattle.ib_page.specs.Image.{IsTreePage, records_of, clock_of, next_of}
 use Rattle.ib_page.specs.Memory.{image_at}
 use Rattle.ib_page.specs.Page.{PageValue, HoldsPage, HoldsTree}
 use Rattle.ib_page.specs.Page.PageValue.{Malformed as MalformedValue, Free as FreeValue, Tree as TreeValue}
-use Rattle.ib_page.specs.Space.{is_taken, space_clock_of}
+use Rattle.ib_page.specs.Space.{space_clock_of}
 use Rattle.ib_page.specs.Work.{WorkPage, changed_of}
-use Rattle.ib_page.proofs.SpaceLaws.{bit_in_word}
 use Rattle.ib_logrec.specs.declared.entry.Entry.{Entry}
 use Rattle.ib_logrec.specs.Log.{memory_after, by_place}
 use Rattle.ib_walk.specs.Pages.{Tree, PageState, PageMemory}
@@ -25,6 +23,7 @@ use Rattle.ib_walk.proofs.ImageLaws.{pages_of-image}
 use Rattle.ib_plans.specs.Agreement.{Agrees, HasBits, IsThere, MayTick, bits_in, memory_in, path_of, state_or_free}
 use Rattle.ib_plans.proofs.EditLaws.{state-records, state-clock, state-next}
 use Rattle.ib_plans.proofs.MetLaws.{met-set, root-met}
+use Rattle.ib_plans.proofs.PageZeroLaws.{zero-no_clock}
 use Rattle.ib_merge.proofs.ImageLaws.{there-tree}
 use Rattle.ib_tree.specs.TreeLog.{opening}
 use Rattle.ib_planned_log.specs.LeafChange.{kept_pages}
@@ -62,30 +61,6 @@ bits-in pages words page = refl
 bits-beyond : (pages : ℕ) (words : ℕ → ℕ) (page : ℕ) → pages ≤ page → bits_of pages words page ≡ 0
 unfolding bits_of
 bits-beyond pages words page ge = let no = le-ltb page pages ge in rw no refl
-
--- an image that is no page has no clock
-no-clock : (v : PageValue) → (HoldsPage v → ⊥) → (state_of v).clock ≡ 0
-no-clock (TreeValue p) none = absurd (none tt)
-no-clock (FreeValue clock) none = absurd (none tt)
-no-clock MalformedValue none = refl
-
--- an image with bit 1 set is no page: the first word of a page is 0 or 1
-pub no-page : (image : List ℕ) → is_taken image 1 ≡ true → HoldsPage (page_of image) → ⊥
-no-page image taken holds =
-    let at = bit_in_word image 0 1 (omega arith) in
-    elim (kind_read image holds) [
-      | inl one ↦ let e : is_taken image 1 ≡ false = at ∙ rw one.1 refl in cc
-      | inr zero ↦ let e : is_taken image 1 ≡ false = at ∙ rw zero.1 refl in cc
-    ]
-
-pub bit-taken : (pages : ℕ) (image : List ℕ) → bits_in pages image 1 ≢ 0 → is_taken image 1 ≡ true
-bit-taken pages image some = elim (cases_Bool (is_taken image 1)) [
-  | inl set ↦ set
-  | inr none ↦ absurd (some (elim (cases_Bool (nat_lt 1 pages)) [
-    | inl in_space ↦ rw in_space (rw none refl)
-    | inr out ↦ rw out refl
-  ]))
-]
 
 -- a page of the tree is a page
 pub tree-formed : (v : PageValue) → HoldsTree v → HoldsPage v
@@ -210,8 +185,7 @@ module _ (log : List Entry) (images : List (List ℕ)) (b : IsBehind log images)
             let law = lawful-behind.law in
             let set = met-set _ m-behind bits-behind 1 law 1 (omega arith) (omega arith) 1 (root-met m-behind 1) in
             let same : bits-behind 1 ≡ bits_in (length images) image 1 = bits-in (length images) words-behind 1 ∙ ap (λ (ws : List ℕ). bits_in (length images) ws 1) (copy-is 0 image there) in
-            let taken = bit-taken (length images) image (λ z. set (same ∙ z)) in
-            let none = no-clock (page_of image) (no-page image taken) in
+            let none = zero-no_clock (length images) image (λ z. set (same ∙ z)) in
             let e : (memory_in work 0).clock ≡ (state_of (page_of image)).clock = ap (λ (o : Option (List ℕ)). (state_or_free o).clock) there in omega arith
 
     pub ticks-behind : MayTick work

@@ -30,3 +30,4 @@ pub mod SettledLaws
 pub mod EditLaws
 pub mod MoveLaws
 pub mod StayLaws
+pub mod PageZeroLaws

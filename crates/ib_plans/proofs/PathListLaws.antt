@@ -1,6 +1,6 @@
 -- The list of the pages whose range has a key is the key's path: one page of each level, each the child of the one above.
 use Rattle.std.specs.List.{AllByRecursion}
-use Rattle.std.proofs.Common.{◌≡◌, ℕ, ◌+◌, ◌<◌, ◌≤◌, ◌∙◌, [], ◌∷◌, ◌++◌, zero, suc, Bool, true, false, cond, List, length, get_or, refl, ap, subst, arith, ltb, length-append, leb, map, filter}
+use Rattle.std.proofs.Common.{◌≡◌, ℕ, ◌+◌, ◌-◌, ◌<◌, ◌≤◌, ◌∙◌, [], ◌∷◌, ◌++◌, zero, suc, Bool, true, false, cond, List, Some, length, get_or, slice_get, refl, ap, subst, arith, ltb, length-append, leb, map, filter}
 use Rattle.std.specs.Prelude.{◌&&◌}
 use Rattle.std.proofs.lemmas.Bool.{lt-ltb, le-ltb, le-leb, lt-leb, and_from, and_left, and_right}
 use Rattle.ib_map.specs.Keys.{MapKey, end_rank, rank}
@@ -110,3 +110,11 @@ path_up-pages m key (suc height) low vs high page t tiles p =
 -- the path of a key of a tree
 pub path_of-pages : (m : PageMemory) (key : MapKey) (root : ℕ) → rank key < end_rank → IsTreeOf m (height_of m root) root → path_of m key root ≡ pages_up m key (height_of m root) root
 path_of-pages m key root in-range t = path_up-pages m key (height_of m root) 0 (top_of root) end_rank root t.tree (refl, refl) (IsPageFor-top key root in-range)
+
+-- the page that a look at the end of a path gives
+pub last-got : (path : List ℕ) (page : ℕ) → slice_get path (length path - 1) ≡ Some page → last_of path ≡ page
+last-got [] page got = cc
+last-got (x ∷ []) page got = cc
+last-got (x ∷ y ∷ ys) page got =
+    let e : length (x ∷ y ∷ ys) - 1 ≡ suc (length (y ∷ ys) - 1) = omega arith in
+    last-got (y ∷ ys) page (subst (λ n. slice_get (x ∷ y ∷ ys) n ≡ Some page) e got)

@@ -10,6 +10,7 @@ use Rattle.ib_logrec.specs.Law.{AreInGrammar}
 use Rattle.ib_logrec.specs.Log.{log_words, memory_after, by_place}
 use Rattle.ib_rule.specs.declared.view.Ended.{Ended}
 use Rattle.ib_rule.specs.Memory.{entries_of, EndedFact}
+use Rattle.ib_rule.specs.Space.{SpaceState}
 
 -- the used words of the log
 abbrev pub used_in : List ℕ → ℕ
@@ -40,3 +41,7 @@ pub record IsClosed (lawful : ℕ → List Entry → Type 0) (opening : ℕ → 
   pub paged : (page index : ℕ) → page < sizes.pages → index < PAGE_WORDS → slice_index words (page_place sizes page index) ≡ memory_after (by_place opening sizes.pages) log (word_place page index)
   pub sessions : AllByRecursion (EndedFact log) ended
   pub others : (n : ℕ) → length ended < n → entries_of n log ≡ []
+
+-- the space was closed: what is left has its sizes, its number of sessions, and the words of a lawful log
+abbrev pub HasClosed : (ℕ → List Entry → Type 0) → (ℕ → ℕ → ℕ → ℕ) → SpaceState → ClosedState → Type 0
+HasClosed lawful opening old closed = (closed.sizes ≡ old.sizes) × (closed.drawn ≡ old.drawn) × IsClosed lawful opening old.sizes closed.words old.ended

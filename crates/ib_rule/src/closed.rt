@@ -4,7 +4,8 @@ ghost use Rattle.std.specs.Prelude.{◌≡◌, ◌<◌, ◌≤◌, ◌%◌, ℕ,
 ghost use Rattle.std.specs.Slots.{IsFull, slots_items, slots_len};
 ghost use Rattle.ib_map.specs.declared.TheConstants.{PAGE_WORDS};
 ghost use Rattle.ib_layout.specs.Places.{page_place};
-ghost use Rattle.ib_rule.specs.Closed.{IsClosed, IsSized, log_in};
+ghost use Rattle.ib_rule.specs.Closed.{HasClosed, IsSized, log_in};
+ghost use Rattle.ib_rule.specs.Connects.{IsDeserted};
 
 use crate::space::Space;
 use atomic_table::Closed as ClosedTable;
@@ -66,9 +67,8 @@ impl<L: Law> Space<L> {
     /// are the memory after all of it, each session that has ended had seen a front of it, and its
     /// own entries are exactly those of its number. Refused for want of memory alone.
     pub fn close(self, alloc: Global) -> Result<Closed, SpaceCloseRefused<L>>
-        requires none { length self.ended ≡ self.drawn }
-        ensures ok { IfOk result (λ c. (c.sizes ≡ self.sizes) × (c.drawn ≡ self.drawn)
-            × IsClosed L.lawful L.opening self.sizes c.words self.ended) }
+        requires none { IsDeserted self }
+        ensures ok { IfOk result (HasClosed L.lawful L.opening self) }
         ensures err { IfErr result (λ e. e.space ≡ self) }
     {
         // PassMemory for the whole log, of which the used words alone are touched.
@@ -95,7 +95,7 @@ impl<L: Law> Space<L> {
 
     /// Gives the space up, with its log and its pages, where nobody is connected: for who cannot close it.
     pub fn discard(self)
-        requires { length self.ended ≡ self.drawn }
+        requires { IsDeserted self }
     {
         let Space {
             table,

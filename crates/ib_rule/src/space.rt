@@ -3,12 +3,11 @@
 ghost use Rattle.std.specs.Prelude.{◌≡◌, ◌+◌, ◌-◌, ◌<◌, ◌≤◌, true, [], ◌∷◌, length, nat_lt, replicate, if◌then◌else◌, Err, IfOk, IsSome};
 ghost use Rattle.ib_map.specs.Space.{has_pages};
 ghost use Rattle.ib_layout.specs.Places.{latches_of, words_of};
-ghost use Rattle.ib_rule.specs.Connects.{HasConnected, HasMet};
+ghost use Rattle.ib_rule.specs.Connects.{HasConnected, HasDisconnected, HasMet, IsNew};
 ghost use Rattle.ib_rule.specs.Under.{under_lawful};
 ghost use Rattle.ib_rule.specs.Memory.{page_places};
 ghost use Rattle.ib_rule.specs.Rule.{IsOpening};
 ghost use Rattle.ib_rule.specs.Opening.{AreFreed, AreOpened};
-ghost use Rattle.ib_rule.specs.Views.{ended_as, longer};
 ghost use Rattle.ib_rule.specs.Pass.{IsAtRest, IsFrom};
 
 use crate::own_seat::OwnSeat;
@@ -136,8 +135,7 @@ impl<L: Law> Space<L> {
     /// A space of these sizes: the opening pages of the law, an empty log, and no sessions (fsp0fsp,
     /// `fsp_header_init`). Refused only where memory lacks.
     pub fn open(alloc: Global, geometry: Geometry) -> Result<Space<L>, OutOfMemory>
-        ensures { IfOk result (λ s. s
-            ≡ record { table = s.table; sizes = geometry; drawn = 0; ended = [] }) }
+        ensures { IfOk result (IsNew geometry) }
     {
         let words = opening::<L>(alloc, geometry)?;
         let (table, seat) = Table::of_words(alloc, words.as_slice(), &geometry)?;
@@ -197,7 +195,7 @@ impl<L: Law> Space<L> {
     /// scratch is in the pass.
     pub fn disconnect(&mut self, pass: Pass)
         requires { IsAtRest self.old pass }
-        ensures { self.new ≡ record self.old { ended = ended_as pass.view ∷ self.old.ended } }
+        ensures { HasDisconnected self.old pass self.new }
     {
         let mut own = take_out(&mut self.rest);
         leave(&self.table.shared, &mut own, pass.into_seat());

@@ -23,7 +23,7 @@ use Rattle.ib_hash.specs.declared.miss.Miss.TheVariants.{NoGuess, Wrong, NeedsTr
 use Rattle.ib_index.specs.Lookups.{HasLookedUp}
 use Rattle.ib_leaf.proofs.AfterLaws.{IsFreeOfReach, called-after_stop}
 use Rattle.ib_runs.specs.Sessions.{IsRead, TakesGrants, most_grants}
-use Rattle.ib_runs.proofs.AnswerLaws.{takes_one}
+use Rattle.ib_runs.proofs.GrantLaws.{takes_one}
 
 module _ (sizes : Sizes) where
   abbrev starts : ℕ → ℕ

@@ -1,7 +1,6 @@
 -- A session's calls, one after another: what each adds to what the session was answered.
 use Rattle.std.specs.List.{AllByRecursion, concat, filter_map}
-use Rattle.std.proofs.Common.{◌≡◌, inl, inr, ℕ, ◌+◌, ◌-◌, ◌*◌, ◌^◌, ◌<◌, ◌≤◌, Bool, true, false, List, [], ◌∷◌, ◌++◌, Option, Some, None, cond, map, length, refl, sym, ap, subst, ◌∙◌, arith, append_assoc, append-nil, length-append, length-drop, drop, take, take-append-drop, slice_get}
-use Rattle.std.specs.Prelude.{sum_by}
+use Rattle.std.proofs.Common.{◌≡◌, inl, inr, ℕ, ◌+◌, ◌-◌, ◌<◌, ◌≤◌, Bool, true, false, List, [], ◌∷◌, ◌++◌, Option, Some, None, cond, map, length, refl, sym, ap, subst, ◌∙◌, arith, append_assoc, append-nil, length-append, length-drop, drop, slice_get}
 use Rattle.std.proofs.lemmas.Bool.{le-leb, lt-leb}
 use Rattle.std.proofs.lemmas.List.{map-append, length-map, length-take-le}
 use Rattle.std.proofs.lemmas.List.Elements.{filter_map-append}
@@ -27,31 +26,26 @@ use Rattle.ib_map.specs.declared.chunks.Chunk.{Chunk}
 use Rattle.ib_map.proofs.ChunkLaws.{AreAdjacent-le}
 use Rattle.ib_map.proofs.FullRecordLaws.{full_records-push, total_chunks-push}
 use Rattle.ib_map.proofs.HistoryLaws.{slice_get-last}
-use Rattle.ib_map.proofs.RunLaws.{reach_of-push, AreAnswers-push}
+use Rattle.ib_map.proofs.RunLaws.{reach_of-push, AreAnswers-push, AreAnswers-weaker}
 use Rattle.ib_layout.specs.Geometry.{Sizes}
 use Rattle.ib_logrec.specs.declared.entry.Entry.{Entry}
-use Rattle.ib_logrec.specs.Log.{by_place, history_of, logged, used}
+use Rattle.ib_logrec.specs.Log.{history_of, logged, used}
 use Rattle.ib_logrec.proofs.LogLaws.{history_of-push, length-history_of}
 use Rattle.ib_walk.proofs.ChoiceLaws.{Some-same}
-use Rattle.ib_walk.proofs.WalkLaws.{AllByRecursion-left, AllByRecursion-right}
-use Rattle.ib_tree.specs.Fits.{FitsLog}
 use Rattle.ib_tree.specs.Scans.{AreFront, AreWhole}
-use Rattle.ib_tree.specs.TreeLog.{opening}
-use Rattle.ib_tree.proofs.FitLaws.{answers_longer, FitsLog-whole}
-use Rattle.ib_planned_log.specs.Kept.{IsKeptLog}
-use Rattle.ib_planned_log.specs.KeptLog.{IsKeptLog-none}
 use Rattle.ib_rule.specs.Memory.{entries_of}
-use Rattle.ib_script.specs.Script.{asks_scan, scan_count}
 use Rattle.ib_rule.specs.Pass.{PassState}
 use Rattle.ib_rule.specs.Views.{total}
 use Rattle.ib_cursor.specs.Going.{IsKnown}
 use Rattle.ib_cursor.proofs.LatchingLaws.{bounds-append}
-use Rattle.ib_leaf.specs.Calls.{HasCalled, MakesOwn}
+use Rattle.ib_scan.proofs.FrontLaws.{whole_lower}
+use Rattle.ib_leaf.specs.Calls.{CallLaw, HasCalledBy, MakesOwn}
 use Rattle.ib_index.proofs.LookupLaws.{lookup-made}
 use Rattle.ib_runs.specs.Answers.{KeptAnswers, answers_of}
-use Rattle.ib_runs.specs.Sessions.{AreBehind, AreFew, EachIsBehind, HasAnswered, IsBehind, IsRead, TakesGrants, changes_in, index_space, least_grants, most_grants, most_scan_grants}
-use Rattle.ib_runs.specs.Steps.{HasOneMore, HasReadAll, HasReadKeys, IsAnswered, KeptLaws}
-use Rattle.ib_runs.proofs.ReadLaws.{content_at}
+use Rattle.ib_runs.specs.Sessions.{AreBehind, EachIsBehind, HasAnswered, IsBehind, TakesGrants, changes_in, least_grants, most_grants}
+use Rattle.ib_runs.specs.Shared.{FitLaws, IsNoScan, LogLaws, scan_record}
+use Rattle.ib_runs.specs.Steps.{HasOneMore, HasReadAll, HasReadKeys, IsAnswered, KnownLaws}
+use Rattle.ib_runs.proofs.GrantLaws.{takes_one}
 
 -- the change that a record made stands in the history at its place
 made-entry : (h : History) (session : ℕ) (change : Change) (reply : Reply) (place : ℕ) → is_made reply ≡ true → FitsChange h session change reply place → IsEntryOf h place session change
@@ -92,16 +86,20 @@ last-change front e session place change at entry =
     let same : entry.0 ≡ logged e = Some-same entry.0 (logged e) (sym entry.1 ∙ l) in
     sym entry.3 ∙ ap (λ (x : LoggedChange). x.change) same
 
-module _ (sizes : Sizes) (call : Call) (answer : Record) (p q : PassState) (h : HasCalled sizes (IsKeptLog sizes.pages) (by_place opening sizes.pages) call answer p q) where
+module _ (law : CallLaw) (records : FitLaws law) (sizes : Sizes) (call : Call) (plain : IsNoScan call) (answer : Record) (p q : PassState) (h : HasCalledBy law.fits sizes law.lawful call answer p q) where
   abbrev the_record : FullRecord
   the_record = full_record answer []
+
+  -- it fits the map
+  by-map : FitsCall (history_of q.view.memory.seen) q.number (length p.view.memory.seen) answer.call answer.reply answer.place []
+  by-map = (records.by_map q.view.memory.seen q.number (length p.view.memory.seen) the_record (subst IsNoScan (sym h.call_is) plain) h.fits).1
 
   own-more : (b : Bool) → is_made answer.reply ≡ b → MakesOwn b q.view.memory.seen p.view.memory.own q.view.memory.own
       → changes_in q.view.memory.own ≡ changes_in p.view.memory.own ++ filter_map change_made (the_record ∷ [])
   own-more false made own = ap changes_in own ∙ sym (ap (λ cs. changes_in p.view.memory.own ++ cs) (made-none the_record made) ∙ append-nil (changes_in p.view.memory.own))
   own-more true made own =
       let front = own.0 in let e = own.1 in
-      let m = call-made (history_of q.view.memory.seen) q.number (length p.view.memory.seen) answer.call answer.reply answer.place [] made h.fits.map.1 in
+      let m = call-made (history_of q.view.memory.seen) q.number (length p.view.memory.seen) answer.call answer.reply answer.place [] made by-map in
       let reach : length q.view.memory.seen ≡ answer.place + 1 = h.reach ∙ ap (λ b. cond {A = ℕ} b (answer.place + 1) answer.place) made in
       let seen : q.view.memory.seen ≡ front ++ e ∷ [] = own.2 in
       let len = ap length seen ∙ length-append front (e ∷ []) in
@@ -110,8 +108,8 @@ module _ (sizes : Sizes) (call : Call) (answer : Record) (p q : PassState) (h : 
       ap changes_in own.3 ∙ (map-append (λ (x : Entry). x.change) p.view.memory.own (e ∷ [])
       ∙ sym (ap (λ cs. changes_in p.view.memory.own ++ cs) (made-one the_record e.change made (m.is ∙ ap Some is))))
 
-  -- a call of the index answered one command
-  pub call_answered : IsAnswered sizes call the_record p q
+  -- a call answered one command
+  pub call_answered : IsAnswered law sizes call the_record p q
   unfolding own-more
   call_answered = record {
     number = h.number;
@@ -126,10 +124,6 @@ module _ (sizes : Sizes) (call : Call) (answer : Record) (p q : PassState) (h : 
     made = own-more (is_made answer.reply) refl h.own;
     looks = inr (record { first = h.first; rest = h.rest; ends = h.ends; bounds = h.bounds; at = (h.looked, tt) });
   }
-
-abbrev pub IsNoScan : Call → Type 0
-IsNoScan (Scan low high) = ⊥
-IsNoScan _ = Unit {0}
 
 -- a change counts no chunk
 change-counts : (h : History) (session : ℕ) (change : Change) (reply : Reply) (place : ℕ) → FitsChange h session change reply place → chunk_count reply ≡ 0
@@ -157,25 +151,21 @@ call-counts h session reach (Scan low high) reply place plain fits = absurd plai
 length-spans : (c : HeldChunks) → length (spans_of c.list c.pairs) ≡ length c.list
 length-spans c = length-map c.list (span_of c.pairs)
 
--- the grants of one call
-pub takes_one : (guesses : Bool) (call : Call) (p q : PassState) → total q.view.grants ≤ total p.view.grants + most_grants guesses call → (IsRead call → total p.view.grants + least_grants guesses call ≤ total q.view.grants)
-    → TakesGrants guesses (call ∷ []) p q
-takes_one guesses call p q most least = record {
-  most = let all = sum_by-cons (most_grants guesses) call [] in omega arith;
-  least = λ read. let all = sum_by-cons (least_grants guesses) call [] in let a = least read.0 in omega arith;
-}
+-- what was answered fits each longer log
+pub answers_longer : (law : CallLaw) (records : FitLaws law) (log more : List Entry) (session reach : ℕ) (rs : List FullRecord) → AreAnswers (law.fits log session) reach rs → AreAnswers (law.fits (log ++ more) session) reach rs
+answers_longer law records log more session reach rs are = AreAnswers-weaker (law.fits log session) (law.fits (log ++ more) session) (records.longer log more session) reach rs are
 
 -- one record more, of a call that is no scan
-pub call_more : (guesses : Bool) (sizes : Sizes) (call : Call) (answer : Record) (old new : KeptAnswers) (p q : PassState) → IsNoScan call → total_chunks old.records ≡ length old.chunks.list
-    → new.records ≡ old.records ++ answer ∷ [] → new.chunks ≡ old.chunks → HasCalled sizes (IsKeptLog sizes.pages) (by_place opening sizes.pages) call answer p q
-    → TakesGrants guesses (call ∷ []) p q → HasOneMore guesses sizes call old new p q
-call_more guesses sizes call answer old new p q plain whole records chunks h takes =
-    let none : chunk_count answer.reply ≡ 0 = call-counts (history_of q.view.memory.seen) q.number (length p.view.memory.seen) answer.call answer.reply answer.place (subst IsNoScan (sym h.call_is) plain) h.fits.map.1 in
+pub call_more : (law : CallLaw) (fits : FitLaws law) (guesses : Bool) (sizes : Sizes) (call : Call) (answer : Record) (old new : KeptAnswers) (p q : PassState) → IsNoScan call → total_chunks old.records ≡ length old.chunks.list
+    → new.records ≡ old.records ++ answer ∷ [] → new.chunks ≡ old.chunks → HasCalledBy law.fits sizes law.lawful call answer p q
+    → TakesGrants guesses (call ∷ []) p q → HasOneMore law guesses sizes call old new p q
+call_more law fits guesses sizes call answer old new p q plain whole records chunks h takes =
+    let none : chunk_count answer.reply ≡ 0 = call-counts (history_of q.view.memory.seen) q.number (length p.view.memory.seen) answer.call answer.reply answer.place (subst IsNoScan (sym h.call_is) plain) (by-map law fits sizes call plain answer p q h) in
     let spans = spans_of old.chunks.list old.chunks.pairs in
     let long = length-spans old.chunks in
     record {
       r = full_record answer [];
-      answered = call_answered sizes call answer p q h;
+      answered = call_answered law fits sizes call plain answer p q h;
       answers = ap (λ (c : HeldChunks). full_records new.records (spans_of c.list c.pairs)) chunks ∙ (ap (λ rs. full_records rs spans) records
           ∙ (ap (full_records (old.records ++ answer ∷ [])) (sym (append-nil spans)) ∙ full_records-push old.records spans [] answer (omega arith) none));
       whole = ap total_chunks records ∙ (total_chunks-push old.records answer ∙ (let e : length new.chunks.list ≡ length old.chunks.list = ap (λ (c : HeldChunks). length c.list) chunks in omega arith));
@@ -198,17 +188,17 @@ pub chunks_counted : (c : HeldChunks) → AreAdjacent 0 c.list (length c.pairs) 
 chunks_counted c are = let e = adjacent-count 0 c.list (length c.pairs) c.pairs are (omega arith) in omega arith
 
 -- no chunk of a scan stands before the first end that it found
-front-places : (start : ℕ → ℕ) (log : List Entry) (low high : MapKey) (floor least : ℕ) (spans : List Span) (next : MapKey) (last : ℕ) → least ≤ floor → AreFront start log 1 low high floor spans next last
+front-places : (start : ℕ → ℕ) (root : ℕ) (log : List Entry) (low high : MapKey) (floor least : ℕ) (spans : List Span) (next : MapKey) (last : ℕ) → least ≤ floor → AreFront start log root low high floor spans next last
     → AllByRecursion (λ n. least ≤ n) (map (λ (s : Span). s.place) spans) × (least ≤ last)
-front-places start log low high floor least [] next last le are = (tt, (let e = are.1 in omega arith))
-front-places start log low high floor least (span ∷ spans) next last le are =
+front-places start root log low high floor least [] next last le are = (tt, (let e = are.1 in omega arith))
+front-places start root log low high floor least (span ∷ spans) next last le are =
     let here : least ≤ span.place = (let a = are.0.placed in omega arith) in
-    let rest = front-places start log are.2.0 high span.place least spans next last here are.2.2 in
+    let rest = front-places start root log are.2.0 high span.place least spans next last here are.2.2 in
     ((here, rest.0), rest.1)
 
-whole-places : (start : ℕ → ℕ) (log : List Entry) (low high : MapKey) (floor : ℕ) (spans : List Span) (end : ℕ) → AreWhole start log 1 low high floor spans end → AllByRecursion (λ n. floor ≤ n) (map (λ (s : Span). s.place) spans)
-whole-places start log low high floor spans end w =
-    let f = front-places start log low high floor floor w.front w.next w.before_place (omega arith) w.before in
+whole-places : (start : ℕ → ℕ) (root : ℕ) (log : List Entry) (low high : MapKey) (floor : ℕ) (spans : List Span) (end : ℕ) → AreWhole start log root low high floor spans end → AllByRecursion (λ n. floor ≤ n) (map (λ (s : Span). s.place) spans)
+whole-places start root log low high floor spans end w =
+    let f = front-places start root log low high floor floor w.front w.next w.before_place (omega arith) w.before in
     let last : floor ≤ w.last.place = (let a = f.1 in let b = w.read.placed in omega arith) in
     subst (λ xs. AllByRecursion (λ n. floor ≤ n) (map (λ (s : Span). s.place) xs)) (sym w.are)
     (subst (AllByRecursion (λ n. floor ≤ n)) (sym (map-append (λ (s : Span). s.place) w.front (w.last ∷ []))) (bounds-append (λ n. floor ≤ n) (map (λ (s : Span). s.place) w.front) (w.last.place ∷ []) f.0 (last, tt)))
@@ -216,10 +206,6 @@ whole-places start log low high floor spans end w =
 first-least : (least floor : ℕ) (spans : List Span) (place : ℕ) → least ≤ floor → least ≤ place → AllByRecursion (λ n. floor ≤ n) (map (λ (s : Span). s.place) spans) → least ≤ first_span_place spans place
 first-least least floor [] place le at all = at
 first-least least floor (span ∷ spans) place le at all = let a = all.0 in omega arith
-
--- a scan's record
-abbrev pub scan_record : MapKey → MapKey → List Span → ℕ → FullRecord
-scan_record low high spans place = record { call = Scan low high; reply = Scanned (length spans) (pair_count spans); place = place; spans = spans }
 
 module _ (guesses : Bool) (low high : MapKey) where
   -- the fewest grants of a scan
@@ -229,12 +215,18 @@ module _ (guesses : Bool) (low high : MapKey) where
   scan-some : rank low ≤ rank high → least_grants guesses (Scan low high) ≡ 2
   scan-some le = rw (le-leb (rank low) (rank high) le) refl
 
-module _ (guesses : Bool) (sizes : Sizes) (low high : MapKey) (old new : KeptAnswers) (p q : PassState) (whole : total_chunks old.records ≡ length old.chunks.list) where
+module _ (law : CallLaw) (root : ℕ) (guesses : Bool) (sizes : Sizes) (laws : KnownLaws law root sizes) (low high : MapKey) (old new : KeptAnswers) (p q : PassState) (whole : total_chunks old.records ≡ length old.chunks.list) where
+  abbrev fit_laws : FitLaws law
+  fit_laws = laws.records
+
+  abbrev log_laws : LogLaws law root sizes.pages
+  log_laws = laws.logs
+
   -- the record of a scan stands behind the others, with its chunks
-  scan-more : (spans : List Span) (answer : Record) → IsAnswered sizes (Scan low high) (scan_record low high spans answer.place) p q → new.records ≡ old.records ++ answer ∷ []
+  scan-more : (spans : List Span) (answer : Record) → IsAnswered law sizes (Scan low high) (scan_record low high spans answer.place) p q → new.records ≡ old.records ++ answer ∷ []
       → spans_of new.chunks.list new.chunks.pairs ≡ spans_of old.chunks.list old.chunks.pairs ++ spans
       → answer ≡ record { call = Scan low high; reply = Scanned (length spans) (pair_count spans); place = answer.place }
-      → total p.view.grants + least_grants guesses (Scan low high) ≤ total q.view.grants → total q.view.grants ≤ total p.view.grants + most_grants guesses (Scan low high) → HasOneMore guesses sizes (Scan low high) old new p q
+      → total p.view.grants + least_grants guesses (Scan low high) ≤ total q.view.grants → total q.view.grants ≤ total p.view.grants + most_grants guesses (Scan low high) → HasOneMore law guesses sizes (Scan low high) old new p q
   scan-more spans answer h records more is least grants =
       let count : chunk_count answer.reply ≡ length spans = ap (λ (a : Record). chunk_count a.reply) is in
       let long = length-spans old.chunks in
@@ -251,17 +243,17 @@ module _ (guesses : Bool) (sizes : Sizes) (low high : MapKey) (old new : KeptAns
       }
 
   -- a scan with low above high looked at nothing
-  none-scanned : (answer : Record) → rank high < rank low → IsKnown sizes (IsKeptLog sizes.pages) p → q ≡ p → new.records ≡ old.records ++ answer ∷ [] → new.chunks ≡ old.chunks
-      → answer ≡ record { call = Scan low high; reply = Scanned 0 0; place = length p.view.memory.seen } → HasOneMore guesses sizes (Scan low high) old new p q
+  none-scanned : (answer : Record) → rank high < rank low → IsKnown sizes law.lawful p → q ≡ p → new.records ≡ old.records ++ answer ∷ [] → new.chunks ≡ old.chunks
+      → answer ≡ record { call = Scan low high; reply = Scanned 0 0; place = length p.view.memory.seen } → HasOneMore law guesses sizes (Scan low high) old new p q
   none-scanned answer lt known same records chunks is =
       let place : answer.place ≡ length p.view.memory.seen = ap (λ (a : Record). a.place) is in
-      let none : IsAnswered sizes (Scan low high) (scan_record low high [] (length p.view.memory.seen)) p p = record {
+      let none : IsAnswered law sizes (Scan low high) (scan_record low high [] (length p.view.memory.seen)) p p = record {
         number = refl;
         more = [];
         seen = sym (append-nil p.view.memory.seen);
         known = known;
         call_is = refl;
-        fits = record { map = (let l = length-history_of p.view.memory.seen in omega arith, (refl, (lt, refl))); tree = tt };
+        fits = fit_laws.empty p.view.memory.seen p.number low high lt;
         from = omega arith;
         first = omega arith;
         reach = refl;
@@ -269,7 +261,7 @@ module _ (guesses : Bool) (sizes : Sizes) (low high : MapKey) (old new : KeptAns
         looks = inl (refl, lt);
       } in
       scan-more [] answer
-      (subst (λ n. IsAnswered sizes (Scan low high) (scan_record low high [] n) p q) (sym place) (subst (λ (s : PassState). IsAnswered sizes (Scan low high) (scan_record low high [] (length p.view.memory.seen)) p s) (sym same) none))
+      (subst (λ n. IsAnswered law sizes (Scan low high) (scan_record low high [] n) p q) (sym place) (subst (λ (s : PassState). IsAnswered law sizes (Scan low high) (scan_record low high [] (length p.view.memory.seen)) p s) (sym same) none))
       records
       (ap (λ (c : HeldChunks). spans_of c.list c.pairs) chunks ∙ sym (append-nil (spans_of old.chunks.list old.chunks.pairs)))
       (is ∙ ap (λ n. record { call = Scan low high; reply = Scanned 0 0; place = n }) (sym place))
@@ -277,11 +269,11 @@ module _ (guesses : Bool) (sizes : Sizes) (low high : MapKey) (old new : KeptAns
       (let e = ap (λ (s : PassState). total s.view.grants) same in omega arith)
 
   -- a scan read all its chunks
-  all-scanned : (answer : Record) (now : HeldChunks) → KeptLaws sizes → (h : HasReadAll sizes low high old.chunks now p q) → new.records ≡ old.records ++ answer ∷ [] → new.chunks ≡ now
+  all-scanned : (answer : Record) (now : HeldChunks) → (h : HasReadAll law root sizes low high old.chunks now p q) → new.records ≡ old.records ++ answer ∷ [] → new.chunks ≡ now
       → AreAdjacent 0 old.chunks.list (length old.chunks.pairs) → AreAdjacent 0 now.list (length now.pairs)
       → answer ≡ record { call = Scan low high; reply = Scanned (length now.list - length old.chunks.list) (length now.pairs - length old.chunks.pairs); place = length q.view.memory.seen }
-      → HasOneMore guesses sizes (Scan low high) old new p q
-  all-scanned answer now laws h records chunks before after is =
+      → HasOneMore law guesses sizes (Scan low high) old new p q
+  all-scanned answer now h records chunks before after is =
       let spans = h.read.spans in
       let first = h.read.first in
       let log = q.view.memory.seen in
@@ -294,10 +286,10 @@ module _ (guesses : Bool) (sizes : Sizes) (low high : MapKey) (old new : KeptAns
       let b = chunks_counted now after in
       let sums = ap pair_count h.read.more ∙ sum_by-append (λ (s : Span). length s.pairs) (spans_of old.chunks.list old.chunks.pairs) spans in
       let pairs : length now.pairs - length old.chunks.pairs ≡ pair_count spans = omega arith in
-      let fits = FitsLog-whole (index_space sizes) log (content_at sizes laws log h.read.known.legal) high q.number (length p.view.memory.seen) low first spans (length log) h.ascends h.chunks in
       let look : AllByRecursion (λ n. (length p.view.memory.seen ≤ n) × (n ≤ length log)) (first ∷ h.read.rest) = subst (AllByRecursion (λ n. (length p.view.memory.seen ≤ n) × (n ≤ length log))) h.read.looks h.read.went.bounds in
-      let places = whole-places (by_place opening sizes.pages) log low high first spans (length log) h.chunks in
-      let answered : IsAnswered sizes (Scan low high) (scan_record low high spans (length log)) p q = record {
+      let places = whole-places law.start root log low high first spans (length log) h.chunks in
+      let fits = log_laws.whole log q.number (length p.view.memory.seen) low high spans h.read.known.legal h.ascends (whole_lower law.start root high log low first (length p.view.memory.seen) spans (length log) look.0.0 h.chunks) in
+      let answered : IsAnswered law sizes (Scan low high) (scan_record low high spans (length log)) p q = record {
         number = h.read.went.number;
         more = h.read.went.more;
         seen = h.read.went.seen;
@@ -310,7 +302,7 @@ module _ (guesses : Bool) (sizes : Sizes) (low high : MapKey) (old new : KeptAns
         made = ap changes_in h.read.went.own ∙ sym (append-nil (changes_in p.view.memory.own));
         looks = inr (record { first = first; rest = h.read.rest; ends = h.read.went.ends ∙ ap (λ ns. p.view.memory.ends ++ ns) h.read.looks; bounds = look; at = (look.0.1, places) });
       } in
-      scan-more spans answer (subst (λ n. IsAnswered sizes (Scan low high) (scan_record low high spans n) p q) (sym place) answered) records
+      scan-more spans answer (subst (λ n. IsAnswered law sizes (Scan low high) (scan_record low high spans n) p q) (sym place) answered) records
       (ap (λ (c : HeldChunks). spans_of c.list c.pairs) chunks ∙ h.read.more)
       (is ∙ (ap (λ n. record { call = Scan low high; reply = Scanned n (length now.pairs - length old.chunks.pairs); place = length log }) count
       ∙ (ap (λ n. record { call = Scan low high; reply = Scanned (length spans) n; place = length log }) pairs
@@ -319,75 +311,48 @@ module _ (guesses : Bool) (sizes : Sizes) (low high : MapKey) (old new : KeptAns
       h.grants
 
   -- a scan read its keys
-  pub scan_more : (answer : Record) (now : HeldChunks) → KeptLaws sizes → IsKnown sizes (IsKeptLog sizes.pages) p → HasReadKeys sizes low high old.chunks now p q → new.records ≡ old.records ++ answer ∷ [] → new.chunks ≡ now
+  pub scan_more : (answer : Record) (now : HeldChunks) → IsKnown sizes law.lawful p → HasReadKeys law root sizes low high old.chunks now p q → new.records ≡ old.records ++ answer ∷ [] → new.chunks ≡ now
       → AreAdjacent 0 old.chunks.list (length old.chunks.pairs) → AreAdjacent 0 now.list (length now.pairs)
       → answer ≡ record { call = Scan low high; reply = Scanned (length now.list - length old.chunks.list) (length now.pairs - length old.chunks.pairs); place = length q.view.memory.seen }
-      → HasOneMore guesses sizes (Scan low high) old new p q
+      → HasOneMore law guesses sizes (Scan low high) old new p q
   unfolding none-scanned all-scanned
-  scan_more answer now laws known (inl h) records chunks before after is =
+  scan_more answer now known (inl h) records chunks before after is =
       let a : length now.list - length old.chunks.list ≡ 0 = (let e = ap (λ (c : HeldChunks). length c.list) h.chunks in omega arith) in
       let b : length now.pairs - length old.chunks.pairs ≡ 0 = (let e = ap (λ (c : HeldChunks). length c.pairs) h.chunks in omega arith) in
       none-scanned answer h.below known h.same records (chunks ∙ h.chunks)
       (is ∙ (ap (λ n. record { call = Scan low high; reply = Scanned n (length now.pairs - length old.chunks.pairs); place = length q.view.memory.seen }) a
       ∙ (ap (λ n. record { call = Scan low high; reply = Scanned 0 n; place = length q.view.memory.seen }) b
       ∙ ap (λ (s : PassState). record { call = Scan low high; reply = Scanned 0 0; place = length s.view.memory.seen }) h.same)))
-  scan_more answer now laws known (inr h) records chunks before after is = all-scanned answer now laws h records chunks before after is
+  scan_more answer now known (inr h) records chunks before after is = all-scanned answer now h records chunks before after is
 
 -- a scan leaves no fewer pairs
-pub pairs_more : (sizes : Sizes) (low high : MapKey) (old now : HeldChunks) (p q : PassState) → HasReadKeys sizes low high old now p q → AreAdjacent 0 old.list (length old.pairs) → AreAdjacent 0 now.list (length now.pairs) → length old.pairs ≤ length now.pairs
-pairs_more sizes low high old now p q (inl h) before after = let e = ap (λ (c : HeldChunks). length c.pairs) h.chunks in omega arith
-pairs_more sizes low high old now p q (inr h) before after =
+pub pairs_more : (law : CallLaw) (root : ℕ) (sizes : Sizes) (low high : MapKey) (old now : HeldChunks) (p q : PassState) → HasReadKeys law root sizes low high old now p q → AreAdjacent 0 old.list (length old.pairs) → AreAdjacent 0 now.list (length now.pairs) → length old.pairs ≤ length now.pairs
+pairs_more law root sizes low high old now p q (inl h) before after = let e = ap (λ (c : HeldChunks). length c.pairs) h.chunks in omega arith
+pairs_more law root sizes low high old now p q (inr h) before after =
     let a = chunks_counted old before in
     let b = chunks_counted now after in
     let sums = ap pair_count h.read.more ∙ sum_by-append (λ (s : Span). length s.pairs) (spans_of old.list old.pairs) h.read.spans in omega arith
 
 -- .. and no fewer chunks
-pub chunks_more : (sizes : Sizes) (low high : MapKey) (old now : HeldChunks) (p q : PassState) → HasReadKeys sizes low high old now p q → length old.list ≤ length now.list
-chunks_more sizes low high old now p q (inl h) = let e = ap (λ (c : HeldChunks). length c.list) h.chunks in omega arith
-chunks_more sizes low high old now p q (inr h) =
+pub chunks_more : (law : CallLaw) (root : ℕ) (sizes : Sizes) (low high : MapKey) (old now : HeldChunks) (p q : PassState) → HasReadKeys law root sizes low high old now p q → length old.list ≤ length now.list
+chunks_more law root sizes low high old now p q (inl h) = let e = ap (λ (c : HeldChunks). length c.list) h.chunks in omega arith
+chunks_more law root sizes low high old now p q (inr h) =
     let a = length-spans old in
     let b = length-spans now in
     let sums = ap length h.read.more ∙ length-append (spans_of old.list old.pairs) h.read.spans in omega arith
 
 -- the same, of a call and an answer that are these
-pub call_more_as : (guesses : Bool) (sizes : Sizes) (call asked : Call) (answer given : Record) (old new : KeptAnswers) (p q r : PassState) → call ≡ asked → answer ≡ given → q ≡ r → IsNoScan asked → total_chunks old.records ≡ length old.chunks.list
-    → new.records ≡ old.records ++ answer ∷ [] → new.chunks ≡ old.chunks → HasCalled sizes (IsKeptLog sizes.pages) (by_place opening sizes.pages) asked given p r
-    → TakesGrants guesses (asked ∷ []) p r → HasOneMore guesses sizes call old new p q
-call_more_as guesses sizes call asked answer given old new p q r call_is answer_is pass_is plain whole records chunks h takes =
-    subst (λ k. HasOneMore guesses sizes k old new p q) (sym call_is) (subst (HasOneMore guesses sizes asked old new p) (sym pass_is)
-    (call_more guesses sizes asked given old new p r plain whole (records ∙ ap (λ (a : Record). old.records ++ a ∷ []) answer_is) chunks h takes))
-
--- what the calls of a session may take
-most-grants : (guesses : Bool) (calls : List Call) → sum_by (most_grants guesses) calls ≤ 129 * length calls + most_scan_grants * scan_count calls
-most-grants guesses [] = omega arith
-most-grants guesses (call ∷ calls) =
-    let rest = most-grants guesses calls in
-    let all = sum_by-cons (most_grants guesses) call calls in
-    let scans : scan_count (call ∷ calls) ≡ cond {A = ℕ} (asks_scan call) 1 0 + scan_count calls = sum_by-cons (λ k. cond (asks_scan k) 1 0) call calls in
-    let one = one-call guesses call in omega arith
-  where
-    one-call : (b : Bool) (k : Call) → most_grants b k ≤ 129 + most_scan_grants * cond {A = ℕ} (asks_scan k) 1 0
-    one-call true (Insert key value) = omega arith
-    one-call true (Delete key) = omega arith
-    one-call true (Get key) = omega arith
-    one-call true (Scan low high) = omega arith
-    one-call false (Insert key value) = omega arith
-    one-call false (Delete key) = omega arith
-    one-call false (Get key) = omega arith
-    one-call false (Scan low high) = omega arith
-
--- .. so after some of them there is room for any call's
-pub grants_fit : (guesses : Bool) (calls : List Call) (i taken : ℕ) → AreFew calls → taken ≤ sum_by (most_grants guesses) (take i calls) → taken + most_scan_grants ≤ 2 ^ 52
-grants_fit guesses calls i taken few le =
-    let all = ap (sum_by (most_grants guesses)) (sym (take-append-drop i calls)) ∙ sum_by-append (most_grants guesses) (take i calls) (drop i calls) in
-    let most = most-grants guesses calls in
-    let a = few.commands in
-    let b = few.scans in omega arith
+pub call_more_as : (law : CallLaw) (fits : FitLaws law) (guesses : Bool) (sizes : Sizes) (call asked : Call) (answer given : Record) (old new : KeptAnswers) (p q r : PassState) → call ≡ asked → answer ≡ given → q ≡ r → IsNoScan asked → total_chunks old.records ≡ length old.chunks.list
+    → new.records ≡ old.records ++ answer ∷ [] → new.chunks ≡ old.chunks → HasCalledBy law.fits sizes law.lawful asked given p r
+    → TakesGrants guesses (asked ∷ []) p r → HasOneMore law guesses sizes call old new p q
+call_more_as law fits guesses sizes call asked answer given old new p q r call_is answer_is pass_is plain whole records chunks h takes =
+    subst (λ k. HasOneMore law guesses sizes k old new p q) (sym call_is) (subst (HasOneMore law guesses sizes asked old new p) (sym pass_is)
+    (call_more law fits guesses sizes asked given old new p r plain whole (records ∙ ap (λ (a : Record). old.records ++ a ∷ []) answer_is) chunks h takes))
 
 -- a session that has seen nothing knows that
-pub known_none : (sizes : Sizes) (p : PassState) → p.view.memory.seen ≡ [] → p.view.memory.own ≡ [] → IsKnown sizes (IsKeptLog sizes.pages) p
-known_none sizes p seen own = record {
-  legal = subst (IsKeptLog sizes.pages) (sym seen) (IsKeptLog-none sizes.pages);
+pub known_none : (law : CallLaw) (sizes : Sizes) (p : PassState) → law.lawful [] → p.view.memory.seen ≡ [] → p.view.memory.own ≡ [] → IsKnown sizes law.lawful p
+known_none law sizes p none seen own = record {
+  legal = subst law.lawful (sym seen) none;
   room = (let e = ap used seen in omega arith);
   mine = ap (entries_of p.number) seen ∙ sym own;
 }
@@ -410,7 +375,7 @@ each-push reach [] ends (x ∷ rs) r are one = absurd are
 each-push reach (ns ∷ found) ends [] r are one = absurd are
 each-push reach (ns ∷ found) ends (x ∷ rs) r are one = (are.0, each-push (reach_after x) found ends rs r are.1 one)
 
-module _ (sizes : Sizes) (call : Call) (r : FullRecord) (p q u : PassState) (a : IsAnswered sizes call r q u) where
+module _ (law : CallLaw) (records : FitLaws law) (sizes : Sizes) (call : Call) (r : FullRecord) (p q u : PassState) (a : IsAnswered law sizes call r q u) where
   longer : length q.view.memory.seen ≤ length u.view.memory.seen
   longer = let e = ap length a.seen in let l = length-append q.view.memory.seen a.more in omega arith
 
@@ -433,23 +398,23 @@ module _ (sizes : Sizes) (call : Call) (r : FullRecord) (p q u : PassState) (a :
   ]
 
   -- one record more
-  pub answered_more : (calls : List Call) (rs : List FullRecord) → HasAnswered sizes calls rs p q → HasAnswered sizes (calls ++ call ∷ []) (rs ++ r ∷ []) p u
+  pub answered_more : (calls : List Call) (rs : List FullRecord) → HasAnswered law sizes calls rs p q → HasAnswered law sizes (calls ++ call ∷ []) (rs ++ r ∷ []) p u
   answered_more calls rs h =
-      let fits = subst (λ n. FitsLog (index_space sizes) u.view.memory.seen u.number n r) (sym h.reach) a.fits in
-      let old = subst (λ log. AreAnswers (FitsLog (index_space sizes) log u.number) 0 rs) (sym a.seen)
-      (answers_longer (index_space sizes) q.view.memory.seen a.more u.number 0 rs (subst (λ n. AreAnswers (FitsLog (index_space sizes) q.view.memory.seen n) 0 rs) (sym a.number) h.answers)) in
+      let fits = subst (λ n. law.fits u.view.memory.seen u.number n r) (sym h.reach) a.fits in
+      let old = subst (λ log. AreAnswers (law.fits log u.number) 0 rs) (sym a.seen)
+      (answers_longer law records q.view.memory.seen a.more u.number 0 rs (subst (λ n. AreAnswers (law.fits q.view.memory.seen n) 0 rs) (sym a.number) h.answers)) in
       record {
         known = a.known;
         same_calls = map-append (λ (x : FullRecord). x.call) rs (r ∷ []) ∙ (ap (λ cs. cs ++ r.call ∷ []) h.same_calls ∙ ap (λ c. calls ++ c ∷ []) a.call_is);
-        answers = AreAnswers-push (FitsLog (index_space sizes) u.view.memory.seen u.number) 0 rs r old fits (let x = h.reach in let y = a.from in omega arith) (let x = h.reach in let y = a.first in omega arith);
+        answers = AreAnswers-push (law.fits u.view.memory.seen u.number) 0 rs r old fits (let x = h.reach in let y = a.from in omega arith) (let x = h.reach in let y = a.first in omega arith);
         reach = reach_of-push 0 rs r ∙ sym a.reach;
         made = a.made ∙ (ap (λ cs. cs ++ filter_map change_made (r ∷ [])) h.made ∙ sym (filter_map-append change_made rs (r ∷ [])));
         behind = behind-push rs h.reach h.behind;
       }
 
 -- nothing was answered yet
-pub answered_none : (sizes : Sizes) (p : PassState) → IsKnown sizes (IsKeptLog sizes.pages) p → p.view.memory.seen ≡ [] → p.view.memory.own ≡ [] → HasAnswered sizes [] [] p p
-answered_none sizes p known seen own = record {
+pub answered_none : (law : CallLaw) (sizes : Sizes) (p : PassState) → IsKnown sizes law.lawful p → p.view.memory.seen ≡ [] → p.view.memory.own ≡ [] → HasAnswered law sizes [] [] p p
+answered_none law sizes p known seen own = record {
   known = known;
   same_calls = refl;
   answers = tt;
@@ -457,15 +422,3 @@ answered_none sizes p known seen own = record {
   made = ap changes_in own;
   behind = record { found = []; ends = sym (append-nil p.view.memory.ends); within = tt; behind = tt };
 }
-
--- one call's grants behind those of others
-pub takes_more : (guesses : Bool) (call : Call) (calls : List Call) (p q u : PassState) → TakesGrants guesses calls p q → TakesGrants guesses (call ∷ []) q u → TakesGrants guesses (calls ++ call ∷ []) p u
-takes_more guesses call calls p q u before one = record {
-  most = (let all = sum_by-append (most_grants guesses) calls (call ∷ []) in let a = before.most in let b = one.most in omega arith);
-  least = λ read.
-      let all = sum_by-append (least_grants guesses) calls (call ∷ []) in
-      let a = before.least (AllByRecursion-left IsRead calls (call ∷ []) read) in let b = one.least (AllByRecursion-right IsRead calls (call ∷ []) read) in omega arith;
-}
-
-pub takes_none : (guesses : Bool) (p : PassState) → TakesGrants guesses [] p p
-takes_none guesses p = record { most = omega arith; least = λ read. omega arith }

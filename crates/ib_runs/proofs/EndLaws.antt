@@ -1,4 +1,4 @@
--- The ends of a scan's chunks rise, and each but the last is a key that the log has inserted: they are no more than its entries.
+-- The ends of a scan's chunks rise, and each but the last is a key that a change has inserted: they are no more than the log's entries.
 use Rattle.std.proofs.Common.{◌≡◌, ◌≢◌, inl, inr, ℕ, ◌+◌, ◌<◌, ◌≤◌, List, [], ◌∷◌, ◌++◌, take, drop, true, false, None, length, cond, leb, refl, sym, ap, subst, ◌∙◌, arith, take-append-drop}
 use Rattle.std.specs.Prelude.{nat_le, is_some, if◌then◌else◌}
 use Rattle.std.proofs.lemmas.Bool.{cases_eq, cases_lt, le-leb, lt-leb}
@@ -12,12 +12,10 @@ use Rattle.ib_map.specs.declared.call.Change.TheVariants.{Insert, Delete}
 use Rattle.ib_map.proofs.KeyLaws.{after-least_above, rank-lt_end}
 use Rattle.ib_map.proofs.PairLaws.{value_at-put_other, value_at-without_other}
 use Rattle.ib_logrec.specs.declared.entry.Entry.{Entry}
-use Rattle.ib_logrec.specs.Log.{history_of}
-use Rattle.ib_logrec.proofs.LogLaws.{length-history_of}
-use Rattle.ib_walk.specs.Trees.{content_of}
 use Rattle.ib_tree.specs.Logs.{pages_after}
 use Rattle.ib_tree.specs.Scans.{AreFront}
 use Rattle.ib_tree.proofs.FitLaws.{IsChunk-bounds}
+use Rattle.ib_runs.specs.Shared.{HasHistory}
 use Rattle.ib_runs.proofs.ChunkLaws.{chunk_end}
 
 -- how many changes are about keys from this rank on
@@ -75,17 +73,17 @@ about-reached key n place h lt some =
     let b : about_from (rank key) h ≡ about_from (rank key) (take place h) + about_from (rank key) (drop place h) = ap (about_from (rank key)) (sym all) ∙ about_from-append (rank key) (take place h) (drop place h) in
     omega arith
 
--- over a log whose first tree has at each place what the map has there
-module _ (opening : ℕ → ℕ) (log : List Entry) (content : (n : ℕ) → n ≤ length log → content_of (pages_after opening (take n log)) 1 ≡ map_after (history_of log) n) (high : MapKey) where
-  ends-rise : (low : MapKey) (floor : ℕ) (spans : List Span) (next : MapKey) (last : ℕ) → rank low ≤ rank high → AreFront opening log 1 low high floor spans next last
-      → length spans + about_from (rank next) (history_of log) ≤ about_from (rank low) (history_of log)
+-- over a log of which a tree has, at each place, what as many changes leave
+module _ (opening : ℕ → ℕ) (root : ℕ) (log : List Entry) (known : HasHistory opening root log) (high : MapKey) where
+  ends-rise : (low : MapKey) (floor : ℕ) (spans : List Span) (next : MapKey) (last : ℕ) → rank low ≤ rank high → AreFront opening log root low high floor spans next last
+      → length spans + about_from (rank next) known.changes ≤ about_from (rank low) known.changes
   ends-rise low floor [] next last le are = let e : rank next ≡ rank low = ap rank are.0 in rw e (omega arith)
   ends-rise low floor (span ∷ spans) next last le are =
-      let h : History = history_of log in
+      let h : History = known.changes in
       let after = are.2.0 in
       let read = are.0 in
-      let from = (IsChunk-bounds (pages_after opening (take span.place log)) 1 low high span.high span.pairs le read.chunk).0 in
-      let there = subst (λ m. value_at span.high m ≢ None) (content span.place read.within) (chunk_end (pages_after opening (take span.place log)) 1 low high span.high span.pairs read.chunk are.1) in
+      let from = (IsChunk-bounds (pages_after opening (take span.place log)) root low high span.high span.pairs le read.chunk).0 in
+      let there = subst (λ m. value_at span.high m ≢ None) (known.content span.place read.within) (chunk_end (pages_after opening (take span.place log)) root low high span.high span.pairs read.chunk are.1) in
       let up = (after-least_above span.high after high are.2.1).0 are.1 in
       let top = rank-lt_end high in
       let gt = (after-least_above span.high after after are.2.1).1 (omega arith) in
@@ -95,8 +93,8 @@ module _ (opening : ℕ → ℕ) (log : List Entry) (content : (n : ℕ) → n �
       omega arith
 
   -- the chunks that end below the scan's last key are no more than the entries
-  pub front_few : (low : MapKey) (floor : ℕ) (spans : List Span) (next : MapKey) (last : ℕ) → rank low ≤ rank high → AreFront opening log 1 low high floor spans next last → length spans ≤ length log
+  pub front_few : (low : MapKey) (floor : ℕ) (spans : List Span) (next : MapKey) (last : ℕ) → rank low ≤ rank high → AreFront opening log root low high floor spans next last → length spans ≤ length log
   front_few low floor spans next last le are =
       let a = ends-rise low floor spans next last le are in
-      let b = about_from-length (rank low) (history_of log) in
-      let c = length-history_of log in omega arith
+      let b = about_from-length (rank low) known.changes in
+      let c = known.count in omega arith

@@ -2,11 +2,9 @@
 use Rattle.std.specs.List.{AllByRecursion, list_any}
 use Rattle.std.proofs.Common.{◌≡◌, ◌∙◌, ◌↔◌, ℕ, zero, suc, ◌≤◌, false, List, [], ◌∷◌, map, drop, get_or, refl, ap, subst, arith}
 use Rattle.ib_map.specs.FullRecords.{chunk_count, full_records}
-use Rattle.ib_map.specs.Keys.{MapKey}
 use Rattle.ib_map.specs.Replies.{FullRecord, Span}
 use Rattle.ib_map.specs.Runs.{AreAnswers, Runs, reach_after, run_of}
 use Rattle.ib_map.specs.declared.call.Call.{Call}
-use Rattle.ib_map.specs.declared.call.Call.TheVariants.{Insert, Delete, Get, Scan}
 use Rattle.ib_map.specs.declared.call.Record.{Record}
 use Rattle.ib_map.specs.declared.call.Reply.{Reply}
 use Rattle.ib_map.specs.declared.call.Reply.TheVariants.{LogFull}
@@ -14,15 +12,15 @@ use Rattle.ib_layout.specs.Geometry.{Sizes}
 use Rattle.ib_logrec.specs.declared.entry.Entry.{Entry}
 use Rattle.ib_logrec.specs.Log.{by_place}
 use Rattle.ib_walk.specs.Trees.{content_of}
-use Rattle.ib_tree.specs.Fits.{FitsDelete, FitsTreeInsert, FitsLog, FitsTree, TreeSpace}
+use Rattle.ib_tree.specs.Fits.{TreeSpace}
 use Rattle.ib_tree.specs.Logs.{pages_after}
-use Rattle.ib_tree.specs.TreeLog.{opening}
-use Rattle.ib_planned_log.specs.Kept.{IsKeptLog}
 use Rattle.ib_runs.specs.Alone.{AreNeverFull, IsNotFull, tells_full}
 use Rattle.ib_runs.specs.Answers.{KeptAnswers, answers_of}
-use Rattle.ib_runs.specs.Outcomes.{HasRan, IsOutcome}
-use Rattle.ib_runs.specs.Sessions.{index_space}
+use Rattle.ib_runs.specs.Outcomes.{HasRanUnder, IsOutcomeUnder}
+use Rattle.ib_shared.specs.SharedLaw.{SharedLaw}
+use Rattle.ib_runs.specs.Shared.{IsFreeOfLength, calls_under}
 use Rattle.ib_runs.specs.declared.ran.Ran.{Ran}
+use Rattle.ib_cursor.specs.Spaces.{space_of}
 use Rattle.ib_rule.proofs.Lists.{or_denies}
 
 -- the test of one reply
@@ -70,64 +68,47 @@ room-of runs zero all = tt
 room-of runs (suc n) all = room_at runs n all
 
 -- beside a log that gets full nothing of a reply depends on how long the log is
-module _ (space : TreeSpace) (words : ℕ) (log : List Entry) where
-  abbrev other : TreeSpace
-  other = record space { log_words = words }
+module _ (law : SharedLaw) (free : IsFreeOfLength law) where
+  answers-wider : (space : TreeSpace) (words : ℕ) (log : List Entry) (session reach : ℕ) (rs : List FullRecord) → AllByRecursion (λ r. IsNotFull r.reply) rs → AreAnswers (law.fits space log session) reach rs
+      → AreAnswers (law.fits (record space { log_words = words }) log session) reach rs
+  answers-wider space words log session reach [] room are = tt
+  answers-wider space words log session reach (r ∷ rs) room are =
+      (free.wider space words log session reach r room.0 are.0, are.1, are.2, answers-wider space words log session (reach_after r) rs room.1 are.3)
 
-  insert-wider : (key : MapKey) (reply : Reply) (place : ℕ) → IsNotFull reply → FitsTreeInsert space log key reply place → FitsTreeInsert other log key reply place
-  insert-wider key (LogFull used cap) place room fits = absurd room
-  insert-wider key reply place room fits = fits
-
-  delete-wider : (reply : Reply) (place : ℕ) → IsNotFull reply → FitsDelete space log reply place → FitsDelete other log reply place
-  delete-wider (LogFull used cap) place room fits = absurd room
-  delete-wider reply place room fits = fits
-
-  tree-wider : (call : Call) (reply : Reply) (place : ℕ) (spans : List Span) → IsNotFull reply → FitsTree space log call reply place spans → FitsTree other log call reply place spans
-  tree-wider (Insert key value) reply place spans room fits = insert-wider key reply place room fits
-  tree-wider (Delete key) reply place spans room fits = delete-wider reply place room fits
-  tree-wider (Get key) reply place spans room fits = fits
-  tree-wider (Scan low high) reply place spans room fits = fits
-
-  answers-wider : (session reach : ℕ) (rs : List FullRecord) → AllByRecursion (λ r. IsNotFull r.reply) rs → AreAnswers (FitsLog space log session) reach rs → AreAnswers (FitsLog other log session) reach rs
-  answers-wider session reach [] room are = tt
-  answers-wider session reach (r ∷ rs) room are =
-      let one : FitsLog other log session reach r = record { map = are.0.map; tree = tree-wider r.call r.reply r.place r.spans room.0 are.0.tree } in
-      (one, are.1, are.2, answers-wider session (reach_after r) rs room.1 are.3)
-
-module _ (small big : Sizes) (same : small.pages ≡ big.pages) (longer : small.log_words ≤ big.log_words) (commands : List (List Call)) where
-  -- an outcome in which no log gets full is one beside a longer log
-  pub outcome_wider : (runs : Runs) (log : List Entry) → AreNeverFull runs → IsOutcome small commands runs log → IsOutcome big commands runs log
-  outcome_wider runs log room is = record {
-    same_calls = is.same_calls;
-    kept = subst (λ (n : ℕ). IsKeptLog n log) same is.kept;
-    room = let r = is.room in omega arith;
-    run = λ session. record {
-      answers = subst (λ (n : ℕ). AreAnswers (FitsLog (index_space (record { pages = n; log_words = big.log_words })) log session) 0 (run_of runs session)) same
-          (answers-wider (index_space small) big.log_words log session 0 (run_of runs session) (room-of runs session room) (is.run session).answers);
-      changes = (is.run session).changes;
-    };
-  }
-
-  -- so is what came of a script's run, of the same log
-  pub ran_wider : (ran : Ran) → AreNeverFull (map answers_of ran.sessions.items) → (h : HasRan small commands ran) → (wider : HasRan big commands ran) × (wider.log ≡ h.log)
-  ran_wider ran room h = (
-    record {
-      log = h.log;
-      outcome = outcome_wider (map answers_of ran.sessions.items) h.log room h.outcome;
-      pages_are = h.pages_are ∙ same;
-      words = h.words;
-      read_off = record {
-        history_is = h.read_off.history_is;
-        walked = subst (λ (n : ℕ). ran.map ≡ content_of (pages_after (by_place opening n) h.log) 1) same h.read_off.walked;
-        map_is = h.read_off.map_is;
+  module _ (small big : Sizes) (same : small.pages ≡ big.pages) (longer : small.log_words ≤ big.log_words) (commands : List (List Call)) where
+    -- an outcome in which no log gets full is one beside a longer log
+    pub outcome_wider : (runs : Runs) (log : List Entry) → AreNeverFull runs → IsOutcomeUnder (calls_under law small) small commands runs log → IsOutcomeUnder (calls_under law big) big commands runs log
+    outcome_wider runs log room is = record {
+      same_calls = is.same_calls;
+      kept = subst (λ (n : ℕ). law.lawful n log) same is.kept;
+      room = let r = is.room in omega arith;
+      run = λ session. record {
+        answers = subst (λ (n : ℕ). AreAnswers (law.fits (record { pages = n; log_words = big.log_words; opening = by_place law.opening n }) log session) 0 (run_of runs session)) same
+            (answers-wider (space_of small (by_place law.opening small.pages)) big.log_words log session 0 (run_of runs session) (room-of runs session room) (is.run session).answers);
+        changes = (is.run session).changes;
       };
-      whole = h.whole;
-    },
-    refl,
-  )
+    }
 
-  -- .. where the logs are as long
-  pub ran_same : (ran : Ran) → small.log_words ≡ big.log_words → (h : HasRan small commands ran) → (wider : HasRan big commands ran) × (wider.log ≡ h.log)
-  ran_same ran long h =
-      let one : small ≡ big = ap (λ n. record { pages = n; log_words = small.log_words }) same ∙ ap (λ n. record { pages = big.pages; log_words = n }) long in
-      subst (λ (k : Sizes). (wider : HasRan k commands ran) × (wider.log ≡ h.log)) one (h, refl)
+    -- so is what came of a script's run, of the same log
+    pub ran_wider : (ran : Ran) → AreNeverFull (map answers_of ran.sessions.items) → (h : HasRanUnder (calls_under law) small commands ran) → (wider : HasRanUnder (calls_under law) big commands ran) × (wider.log ≡ h.log)
+    ran_wider ran room h = (
+      record {
+        log = h.log;
+        outcome = outcome_wider (map answers_of ran.sessions.items) h.log room h.outcome;
+        pages_are = h.pages_are ∙ same;
+        words = h.words;
+        read_off = record {
+          history_is = h.read_off.history_is;
+          walked = subst (λ (n : ℕ). ran.map ≡ content_of (pages_after (by_place law.opening n) h.log) 1) same h.read_off.walked;
+          map_is = h.read_off.map_is;
+        };
+        whole = h.whole;
+      },
+      refl,
+    )
+
+    -- .. where the logs are as long
+    pub ran_same : (ran : Ran) → small.log_words ≡ big.log_words → (h : HasRanUnder (calls_under law) small commands ran) → (wider : HasRanUnder (calls_under law) big commands ran) × (wider.log ≡ h.log)
+    ran_same ran long h =
+        let one : small ≡ big = ap (λ n. record { pages = n; log_words = small.log_words }) same ∙ ap (λ n. record { pages = big.pages; log_words = n }) long in
+        subst (λ (k : Sizes). (wider : HasRanUnder (calls_under law) k commands ran) × (wider.log ≡ h.log)) one (h, refl)

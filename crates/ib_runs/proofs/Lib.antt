@@ -8,8 +8,11 @@ mod AnswerLaws
 mod ChunkLaws
 mod EndLaws
 mod FullLogLaws
+pub mod GrantLaws
 mod GuestLaws
+mod IndexLaws
 mod OutcomeLaws
+mod Printing
 mod ReadLaws
 mod ReadOffLaws
 mod TurnLaws

@@ -16,19 +16,18 @@ use Rattle.ib_logrec.specs.declared.head.Head.{Head}
 use Rattle.ib_logrec.specs.Grammar.{IsInGrammar}
 use Rattle.ib_logrec.specs.Heads.{head_of, logged_head}
 use Rattle.ib_logrec.specs.Law.{AreInGrammar}
-use Rattle.ib_logrec.specs.Log.{by_place, history_of, log_words, memory_after, used}
+use Rattle.ib_logrec.specs.Log.{history_of, log_words, memory_after, used}
 use Rattle.ib_logrec.specs.Words.{words_of_entry}
 use Rattle.ib_logrec.proofs.LogLaws.{history_of-push, log_words-append, log_words-push, used-append, used-least}
-use Rattle.ib_walk.specs.Opening.{opening_word}
 use Rattle.ib_walk.specs.Trees.{content_of, IsLawful}
-use Rattle.ib_walk.specs.Words.{IsLawfulMemory, bits_of, memory_of, pages_of}
+use Rattle.ib_walk.specs.Words.{IsLawfulMemory, bits_of, memory_of}
 use Rattle.ib_page.specs.Space.{IsSpacePage}
 use Rattle.ib_tree.specs.Logs.{pages_after}
 use Rattle.ib_tree.specs.Roots.{HasRoot}
-use Rattle.ib_tree.specs.TreeLog.{opening}
-use Rattle.ib_tree.proofs.MemoryLaws.{bits_of-after, image_of-after, memory_of-after}
-use Rattle.ib_tree.proofs.OpeningLaws.{by_place-opening}
-use Rattle.ib_runs.specs.Outcomes.{HasLog}
+use Rattle.ib_tree.proofs.MemoryLaws.{bits_of-log, image_of-log, memory_of-log}
+use Rattle.ib_leaf.specs.Calls.{CallLaw}
+use Rattle.ib_runs.specs.Outcomes.{HasLogUnder}
+use Rattle.ib_runs.specs.Shared.{LogLaws}
 
 -- the history of the entries of a log before a place of its words
 pub record IsReadTo (log : List Entry) (place : ℕ) (history : List LoggedChange) : Type 0 where
@@ -103,47 +102,47 @@ module _ (pages : ℕ) (words : List ℕ) (place : ℕ) (history : List LoggedCh
   pub read_all : IsReadTo log place history → length words ≤ place → history ≡ history_of log
   read_all r le = r.history_is ∙ ap history_of (sym (read-end r.front r.back r.are r.at le))
 
-module _ (sizes : Sizes) (words : List ℕ) (log : List Entry) (fits : has_pages sizes.pages ≡ true) (h : HasLog sizes words log) (images : List (List ℕ)) (size : length images ≡ sizes.pages)
+-- the trees of a closed space
+module _ (law : CallLaw) (root : ℕ) (sizes : Sizes) (laws : LogLaws law root sizes.pages) (words : List ℕ) (log : List Entry) (fits : has_pages sizes.pages ≡ true) (h : HasLogUnder law sizes words log) (images : List (List ℕ))
+    (size : length images ≡ sizes.pages)
     (same : (page index : ℕ) → page < sizes.pages → index < PAGE_WORDS → slice_index (slice_index_or images page []) index ≡ slice_index words (page_place sizes page index)) where
-  grammar : AreInGrammar sizes.pages log
-  grammar = let k = h.kept in let l = k.lawful in l.grammar
-
-  start : by_place opening sizes.pages ≡ (opening_word 1)
-  start = by_place-opening sizes.pages
+  in-grammar : AreInGrammar sizes.pages log
+  in-grammar = laws.grammar log h.kept
 
   -- the images have the words after the log
-  words-after : (place : ℕ) → place < sizes.pages * PAGE_WORDS → word_at images place ≡ memory_after (opening_word 1) log place
+  words-after : (place : ℕ) → place < sizes.pages * PAGE_WORDS → word_at images place ≡ memory_after law.start log place
   words-after place lt =
       let page = page_at place in
       let index = index_at place in
       let whole : word_place page index ≡ place = omega arith in
       let few : page < sizes.pages = omega arith in
       let in-page : index < PAGE_WORDS = omega arith in
-      same page index few in-page ∙ (h.paged page index few in-page ∙ (ap (memory_after (by_place opening sizes.pages) log) whole ∙ ap (λ (words : ℕ → ℕ). memory_after words log place) start))
+      same page index few in-page ∙ (h.paged page index few in-page ∙ ap (memory_after law.start log) whole)
 
-  pages-are : memory_of images ≡ pages_after (by_place opening sizes.pages) log
-  pages-are = memory_of-after sizes.pages log fits grammar images size words-after ∙ ap (λ (words : ℕ → ℕ). pages_after words log) (sym start)
+  pages-are : memory_of images ≡ pages_after law.start log
+  pages-are = memory_of-log law.start sizes.pages laws.free log in-grammar images size words-after
 
   -- the walk of the images finds what the pages after the log have
-  pub walked_is : content_of (memory_of images) 1 ≡ content_of (pages_after (by_place opening sizes.pages) log) 1
-  walked_is = ap (λ m. content_of m 1) pages-are
+  pub walked_is : (r : ℕ) → content_of (memory_of images) r ≡ content_of (pages_after law.start log) r
+  walked_is r = ap (λ m. content_of m r) pages-are
 
-  -- page 1 is the root of the images' tree
-  pub has_root : IsLawfulMemory sizes.pages 1 (memory_after (by_place opening sizes.pages) log) → HasRoot images 1
-  has_root lawful =
-      let opened : IsLawfulMemory sizes.pages 1 (memory_after (opening_word 1) log) = subst (λ (words : ℕ → ℕ). IsLawfulMemory sizes.pages 1 (memory_after words log)) start lawful in
-      let bits : bits_of sizes.pages (word_at images) ≡ bits_of sizes.pages (memory_after (opening_word 1) log) = λ i page. bits_of-after sizes.pages log fits grammar images size words-after page i in
-      let memory : pages_of (word_at images) ≡ pages_after (opening_word 1) log = memory_of-after sizes.pages log fits grammar images size words-after in
-      let here : IsLawfulMemory sizes.pages 1 (word_at images) = record {
-        space = subst (IsSpacePage sizes.pages) (sym (image_of-after sizes.pages log fits grammar images size words-after)) opened.space;
-        law = subst (λ m. IsLawful m (bits_of sizes.pages (word_at images)) 1) (sym memory) (subst (λ b. IsLawful (pages_after (opening_word 1) log) b 1) (sym bits) opened.law);
+  -- a page is the root of a tree of the images where it is one of a tree after the log
+  pub has_root : (r : ℕ) → 1 ≤ r → r ≤ root → HasRoot images r
+  has_root r some le =
+      let least : 1 ≤ sizes.pages = grind (arith, nat_tests, fits) in
+      let opened : IsLawfulMemory sizes.pages laws.roots (memory_after law.start log) = laws.memory log h.kept in
+      let image = image_of-log law.start sizes.pages laws.free log in-grammar images size words-after least in
+      let bits : bits_of sizes.pages (word_at images) ≡ bits_of sizes.pages (memory_after law.start log) = λ i page. bits_of-log law.start sizes.pages laws.free log in-grammar images size words-after least page i in
+      let here : IsLawfulMemory sizes.pages laws.roots (word_at images) = record {
+        space = subst (IsSpacePage sizes.pages) (sym image) opened.space;
+        law = subst (λ m. IsLawful m (bits_of sizes.pages (word_at images)) laws.roots) (sym pages-are) (subst (λ b. IsLawful (pages_after law.start log) b laws.roots) (sym bits) opened.law);
       } in
       record {
-        roots = 1;
-        few = omega arith;
+        roots = laws.roots;
+        few = laws.few;
         some = omega arith;
-        within = omega arith;
+        within = let w = laws.within in omega arith;
         least = grind (arith, nat_tests, fits, size);
         most = grind (arith, nat_tests, fits, size);
-        lawful = subst (λ n. IsLawfulMemory n 1 (word_at images)) (sym size) here;
+        lawful = subst (λ n. IsLawfulMemory n laws.roots (word_at images)) (sym size) here;
       }

@@ -5,12 +5,14 @@ use Rattle.std.proofs.Math.ListN.{get_or-append}
 use Rattle.std.specs.List.{AllByRecursion}
 use Rattle.std.specs.Prelude.{IfSome, slice_index_or}
 use Rattle.ib_map.specs.declared.call.Call.{Call}
+use Rattle.ib_layout.specs.Geometry.{Sizes}
 use Rattle.ib_logrec.specs.declared.entry.Entry.{Entry}
 use Rattle.ib_rule.specs.Memory.{EndedFact}
 use Rattle.ib_rule.specs.Pass.{PassState}
 use Rattle.ib_rule.specs.Space.{SpaceState}
 use Rattle.ib_rule.specs.Views.{ended_as}
 use Rattle.ib_rule.specs.declared.view.Ended.{Ended}
+use Rattle.ib_leaf.specs.Calls.{CallLaw}
 use Rattle.ib_runs.specs.declared.turns.Turn.{Turn}
 use Rattle.ib_runs.specs.Answers.{KeptAnswers, IsWhole, answers_of}
 use Rattle.ib_runs.specs.Sessions.{HasAnswered}
@@ -21,27 +23,27 @@ numbered_push n [] p are is = (omega (arith, is), tt)
 numbered_push n (x ∷ ps) p are is = (are.0, numbered_push (n + 1) ps p are.1 (omega (arith, is)))
 
 -- each turn was over, with answers: all sessions are done
-pub done_of : {S : Type 0} → (space : SpaceState) (commands : List (List Call)) (n : ℕ) (old new : List (Turn S)) (outs : List KeptAnswers) → length new ≡ length old → AreNumbered n (map (λ (t : Turn S). t.pass) old)
-    → ((i : ℕ) (d : Turn S) → i < length old → HasTurned space commands (slice_index_or old i d) (slice_index_or new i d)) → map (λ (t : Turn S). t.answers) new ≡ map Some outs
-    → AreDone space.sizes (λ k. slice_index_or commands (k - 1) []) n (map (λ (t : Turn S). t.pass) new) outs
-done_of space commands n [] [] [] len num turned are = tt
-done_of space commands n [] [] (out ∷ outs) len num turned are = cc
-done_of space commands n [] (y ∷ new) outs len num turned are = absurd (omega arith)
-done_of space commands n (x ∷ old) [] outs len num turned are = absurd (omega arith)
-done_of space commands n (x ∷ old) (y ∷ new) [] len num turned are = cc
-done_of space commands n (x ∷ old) (y ∷ new) (out ∷ outs) len num turned are =
-    let first : HasTurned space commands x y = turned 0 x (omega arith) in
+pub done_of : {S : Type 0} → (calls : Sizes → CallLaw) (space : SpaceState) (commands : List (List Call)) (n : ℕ) (old new : List (Turn S)) (outs : List KeptAnswers) → length new ≡ length old → AreNumbered n (map (λ (t : Turn S). t.pass) old)
+    → ((i : ℕ) (d : Turn S) → i < length old → HasTurned calls space commands (slice_index_or old i d) (slice_index_or new i d)) → map (λ (t : Turn S). t.answers) new ≡ map Some outs
+    → AreDone (calls space.sizes) space.sizes (λ k. slice_index_or commands (k - 1) []) n (map (λ (t : Turn S). t.pass) new) outs
+done_of calls space commands n [] [] [] len num turned are = tt
+done_of calls space commands n [] [] (out ∷ outs) len num turned are = cc
+done_of calls space commands n [] (y ∷ new) outs len num turned are = absurd (omega arith)
+done_of calls space commands n (x ∷ old) [] outs len num turned are = absurd (omega arith)
+done_of calls space commands n (x ∷ old) (y ∷ new) [] len num turned are = cc
+done_of calls space commands n (x ∷ old) (y ∷ new) (out ∷ outs) len num turned are =
+    let first : HasTurned calls space commands x y = turned 0 x (omega arith) in
     let some : y.answers ≡ Some out = cc in
-    let there : IfSome (Some out) (λ (o : KeptAnswers). IsWhole o × HasAnswered space.sizes (slice_index_or commands (x.pass.number - 1) []) (answers_of o) x.pass y.pass) =
-    subst (λ (o : Option KeptAnswers). IfSome o (λ (o : KeptAnswers). IsWhole o × HasAnswered space.sizes (slice_index_or commands (x.pass.number - 1) []) (answers_of o) x.pass y.pass)) some first.answered in
-    let one : IsDone space.sizes (slice_index_or commands (n - 1) []) n out y.pass = record {
+    let there : IfSome (Some out) (λ (o : KeptAnswers). IsWhole o × HasAnswered (calls space.sizes) space.sizes (slice_index_or commands (x.pass.number - 1) []) (answers_of o) x.pass y.pass) =
+    subst (λ (o : Option KeptAnswers). IfSome o (λ (o : KeptAnswers). IsWhole o × HasAnswered (calls space.sizes) space.sizes (slice_index_or commands (x.pass.number - 1) []) (answers_of o) x.pass y.pass)) some first.answered in
+    let one : IsDone (calls space.sizes) space.sizes (slice_index_or commands (n - 1) []) n out y.pass = record {
       number = first.number ∙ num.0;
       role = first.role;
       whole = there.0;
       start = x.pass;
-      answered = subst (λ k. HasAnswered space.sizes (slice_index_or commands (k - 1) []) (answers_of out) x.pass y.pass) num.0 there.1;
+      answered = subst (λ k. HasAnswered (calls space.sizes) space.sizes (slice_index_or commands (k - 1) []) (answers_of out) x.pass y.pass) num.0 there.1;
     } in
-    (one, done_of space commands (n + 1) old new outs (omega arith) num.1 (λ i d lt. turned (suc i) d (omega arith)) cc)
+    (one, done_of calls space commands (n + 1) old new outs (omega arith) num.1 (λ i d lt. turned (suc i) d (omega arith)) cc)
 
 pub if_some : {A : Type 0} (o : Option A) (P Q : A → Type 0) → ((a : A) → o ≡ Some a → P a → Q a) → IfSome o P → IfSome o Q
 if_some None P Q f h = tt

@@ -2,24 +2,25 @@
 use Rattle.std.specs.Prelude.{◌+◌, Bool, [], ◌∷◌}
 use Rattle.ib_map.specs.declared.call.Call.{Call}
 use Rattle.ib_map.specs.declared.call.Record.{Record}
+use Rattle.ib_layout.specs.Geometry.{Sizes}
 use Rattle.ib_rule.specs.Conditions.{HasGrantsLeft}
 use Rattle.ib_rule.specs.declared.readers.TheConstants.{CALL_GRANTS}
 use Rattle.ib_rule.specs.Pass.{PassState, IsAtRest}
 use Rattle.ib_rule.specs.Space.{SpaceState}
-use Rattle.ib_leaf.specs.Calls.{HasCalled}
-use Rattle.ib_leaf.specs.Under.{under_plans}
+use Rattle.ib_leaf.specs.Calls.{CallLaw, HasCalledBy}
 use Rattle.ib_runs.specs.Sessions.{TakesGrants}
 
--- a call may be made by a seat that was drawn from what serves the space: the pass is at rest, and may take as many grants more as a call of the index takes at most, and the one of a guess
-pub record MayAccess (sits serves : Type 0) (space : SpaceState) (p : PassState) : Type 0 where
+-- a call that is taken may be made by a seat that was drawn from what serves the space: the pass is at rest, and may take as many grants more as a call of the index takes at most, and the one of a guess
+pub record MayAccess (taken sits serves : Type 0) (space : SpaceState) (p : PassState) : Type 0 where
+  pub is_taken : taken
   pub seat : sits
   pub pages : serves
   pub rest : IsAtRest space p
   pub room : HasGrantsLeft (CALL_GRANTS + 1) p.view
 
--- the call was answered as the index answers it, for as many grants as such a call takes. The seat is one of the same still, and nothing is held
-pub record HasAccessed (guesses : Bool) (sits : Type 0) (space : SpaceState) (call : Call) (answer : Record) (p q : PassState) : Type 0 where
+-- the call was answered under this law, for as many grants as such a call takes. The seat is one of the same still, and nothing is held
+pub record HasAccessed (calls : Sizes → CallLaw) (guesses : Bool) (sits : Type 0) (space : SpaceState) (call : Call) (answer : Record) (p q : PassState) : Type 0 where
   pub seat : sits
   pub rest : IsAtRest space q
-  pub called : under_plans space HasCalled call answer p q
+  pub called : HasCalledBy (calls space.sizes).fits space.sizes (calls space.sizes).lawful call answer p q
   pub takes : TakesGrants guesses (call ∷ []) p q

@@ -4,5 +4,6 @@ pub mod Answers
 pub mod Guests
 pub mod Outcomes
 pub mod Sessions
+pub mod Shared
 pub mod Steps
 pub mod Turns

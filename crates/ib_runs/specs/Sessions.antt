@@ -1,5 +1,5 @@
 -- What a session's run leaves.
-use Rattle.std.specs.Prelude.{◌≡◌, ℕ, ◌+◌, ◌<◌, ◌≤◌, Bool, nat_le, if◌then◌else◌, List, [], ◌∷◌, ◌++◌, length, map, sum_by, None}
+use Rattle.std.specs.Prelude.{◌≡◌, ℕ, ◌+◌, ◌<◌, ◌≤◌, All, Bool, nat_le, if◌then◌else◌, List, [], ◌∷◌, ◌++◌, length, map, sum_by, None}
 use Rattle.std.specs.List.{AllByRecursion, concat, filter_map}
 use Rattle.ib_map.specs.Keys.{rank}
 use Rattle.ib_map.specs.Replies.{FullRecord, change_of}
@@ -10,13 +10,13 @@ use Rattle.ib_map.specs.declared.call.Change.{Change}
 use Rattle.ib_layout.specs.Geometry.{Sizes}
 use Rattle.ib_logrec.specs.declared.entry.Entry.{Entry}
 use Rattle.ib_logrec.specs.Log.{by_place}
-use Rattle.ib_tree.specs.Fits.{TreeSpace, FitsLog}
+use Rattle.ib_tree.specs.Fits.{TreeSpace}
 use Rattle.ib_tree.specs.TreeLog.{opening}
-use Rattle.ib_planned_log.specs.Kept.{IsKeptLog}
 use Rattle.ib_rule.specs.Pass.{PassState}
 use Rattle.ib_rule.specs.Views.{total}
 use Rattle.ib_cursor.specs.Going.{IsKnown}
 use Rattle.ib_cursor.specs.Spaces.{space_of}
+use Rattle.ib_leaf.specs.Calls.{CallLaw}
 use Rattle.ib_script.specs.Script.{scan_count}
 use Rattle.ib_script.specs.declared.script_line.TheConstants.{MOST_COMMANDS, MOST_SCANS}
 use Rattle.ib_runs.specs.Answers.{calls_in}
@@ -28,6 +28,10 @@ index_space sizes = space_of sizes (by_place opening sizes.pages)
 -- the changes of entries
 abbrev pub changes_in : List Entry → List Change
 changes_in es = map (λ e. e.change) es
+
+-- all calls of a script are such as are taken
+abbrev pub AreTaken : (Call → Type 0) → List (List Call) → Type 0
+AreTaken takes commands = All (All takes) commands
 
 -- a session has no more commands than a script may have, and no more scans
 pub record AreFew (calls : List Call) : Type 0 where
@@ -83,13 +87,13 @@ pub record AreBehind (rs : List FullRecord) (p q : PassState) : Type 0 where
   pub within : AllByRecursion (λ n. n ≤ length q.view.memory.seen) (concat found)
   pub behind : EachIsBehind 0 found rs
 
--- A session that had seen nothing was answered: the records are of these calls, in order; each fits what is seen now, which is a kept
+-- A session that had seen nothing was answered: the records are of these calls, in order; each fits what is seen now, which is a lawful
 -- log within its words, and ends where the records do; what the session made is what they say was made, in order; and no record is older
 -- than what its own call found.
-pub record HasAnswered (sizes : Sizes) (calls : List Call) (rs : List FullRecord) (p q : PassState) : Type 0 where
-  pub known : IsKnown sizes (IsKeptLog sizes.pages) q
+pub record HasAnswered (law : CallLaw) (sizes : Sizes) (calls : List Call) (rs : List FullRecord) (p q : PassState) : Type 0 where
+  pub known : IsKnown sizes law.lawful q
   pub same_calls : calls_in rs ≡ calls
-  pub answers : AreAnswers (FitsLog (index_space sizes) q.view.memory.seen q.number) 0 rs
+  pub answers : AreAnswers (law.fits q.view.memory.seen q.number) 0 rs
   pub reach : reach_of 0 rs ≡ length q.view.memory.seen
   pub made : changes_in q.view.memory.own ≡ filter_map change_made rs
   pub behind : AreBehind rs p q

@@ -14,7 +14,7 @@ use std::sync::Wait;
 #[derive(Drop)]
 pub struct Descents;
 
-impl Access for Descents {
+impl Access<Index> for Descents {
     type Seat = ();
 
     ghost guesses = { false };

@@ -5,18 +5,16 @@ ghost use Rattle.std.specs.List.{list_any};
 ghost use Rattle.ib_map.specs.declared.call.Call.{Call};
 ghost use Rattle.ib_runs.specs.Alone.{AreNeverFull, tells_full};
 ghost use Rattle.ib_runs.specs.Answers.{answers_of};
-ghost use Rattle.ib_runs.specs.Outcomes.{HasRan};
+ghost use Rattle.ib_runs.specs.Outcomes.{HasRanUnder};
+ghost use Rattle.ib_runs.specs.Shared.{calls_under};
 
 use crate::ran::Ran;
 use crate::session_out::SessionOut;
+use crate::shared::Shared;
 use ib_layout::Geometry;
 use ib_map::{Call, Record, Reply};
 use ib_rule::ENTRY_WORDS;
 use ib_script::Script;
-
-// How many log words a run begins with for each change of its script. An entry of a change of one leaf has 19 to 25
-// words, and splits and merges add up to as many: keys in order, which split most, come to 44 to 50 words a change.
-const WORDS_A_CHANGE: usize = 52;
 
 // How many changes the commands ask for.
 fn change_count(commands: &[Call]) -> usize {
@@ -28,7 +26,7 @@ fn change_count(commands: &[Call]) -> usize {
 
 // The sizes with which a script is run first: its pages, and a log that its changes seldom fill, where its own is
 // longer.
-pub(crate) fn first_sizes(script: &Script) -> Geometry
+pub(crate) fn first_sizes<S: Shared>(script: &Script) -> Geometry
     ensures pages { result.pages ≡ script.now.sizes.pages }
     ensures log { result.log_words ≤ script.now.sizes.log_words }
 {
@@ -37,7 +35,7 @@ pub(crate) fn first_sizes(script: &Script) -> Geometry
     let mut words = ENTRY_WORDS;
     for before in 0..script.sessions() {
         let changes = change_count(script.commands(before + 1));
-        words = words.saturating_add(WORDS_A_CHANGE.saturating_mul(changes));
+        words = words.saturating_add(S::CHANGE_WORDS.saturating_mul(changes));
     }
     let words = words.min(sizes.log_words() as usize) as u32;
     match Geometry::new(sizes.pages(), words) {
@@ -71,13 +69,15 @@ pub(crate) fn met_full_log(sessions: &[SessionOut]) -> bool
 
 // Whether what came of a run in the first sizes may come of one in the script's: they are the same, or no log got
 // full. Where the first log was shorter, and got full, it is not settled.
-pub(crate) fn is_settled(ran: &Ran, first: Geometry, sizes: Geometry) -> bool
+pub(crate) fn is_settled<S: Shared>(ran: &Ran, first: Geometry, sizes: Geometry) -> bool
     requires pages { first.pages ≡ sizes.pages }
     requires log { first.log_words ≤ sizes.log_words }
-    ensures settled { result ≡ true → (commands : List (List Call)) (of_first : HasRan first commands ran.now)
-        → (ran_is : HasRan sizes commands ran.now) × (ran_is.log ≡ of_first.log) }
+    ensures settled { result ≡ true → (commands : List (List Call)) (of_first : HasRanUnder (calls_under S.law) first commands ran.now)
+        → (ran_is : HasRanUnder (calls_under S.law) sizes commands ran.now) × (ran_is.log ≡ of_first.log) }
     ensures told { result ≡ true → (first.log_words ≡ sizes.log_words) ⊎ AreNeverFull (map answers_of ran.now.sessions.items) }
     ensures again { result ≡ false → (first.log_words < sizes.log_words) × (AreNeverFull (map answers_of ran.now.sessions.items) → ⊥) }
 {
+    // For the proof: a reply that does not tell of a full log says the same beside a longer one.
+    S::laws();
     first.log_words() == sizes.log_words() || !met_full_log(&ran.sessions)
 }

@@ -13,7 +13,7 @@ use std::sync::Wait;
 
 /// Each call goes by the guess of its key's slot, and by the index where that is no way to an answer
 /// (`btr_search_guess_on_hash`, and the descent after it). The sessions share the guesses, and each has a pass of its own.
-impl Access for Guesses {
+impl Access<Index> for Guesses {
     type Seat = GuessPass;
 
     ghost guesses = { true };

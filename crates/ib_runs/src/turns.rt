@@ -8,6 +8,8 @@ ghost use Rattle.ib_rule.specs.Memory.{EndedFact};
 ghost use Rattle.ib_rule.specs.Views.{ended_as};
 ghost use Rattle.ib_rule.specs.Pass.{IsAtRest};
 ghost use Rattle.ib_runs.specs.Guests.{HaveWorked, MayWork};
+ghost use Rattle.ib_runs.specs.Sessions.{AreTaken};
+ghost use Rattle.ib_runs.specs.Shared.{calls_under};
 ghost use Rattle.ib_runs.specs.Turns.{AllDone, AreNumbered, HasNotBegun, HasTurned, HaveTurned, MayTurn};
 
 use crate::access::Access;
@@ -15,7 +17,7 @@ use crate::beside::Beside;
 use crate::gate::Gate;
 use crate::session::run_session;
 use crate::session_out::SessionOut;
-use ib_index::Index;
+use crate::shared::Shared;
 use ib_rule::Pass;
 use ib_script::Script;
 use std::alloc::Global;
@@ -29,21 +31,22 @@ pub(crate) struct Turn<S> {
     pub answers: Option<SessionOut>,
 }
 
-fn take_turn<A: Access, G: Gate, R: Wait>(
+fn take_turn<S: Shared, A: Access<S>, G: Gate, R: Wait>(
     rt: &R,
     alloc: Global,
     access: &A,
-    index: &Index,
+    shared: &S,
     script: &Script,
     gate: &G,
     turn: &mut Turn<A::Seat>,
 )
     requires small { IsSmall script.now }
-    requires serves { A.serves access.now index.now.sizes.pages }
+    requires taken { AreTaken S.takes script.now.commands }
+    requires serves { A.serves access.now (S.space shared.now).sizes.pages }
     requires sits { A.sits access.now turn.old.seat }
-    requires ready { HasNotBegun index.now (length script.now.commands) turn.old.pass }
+    requires ready { HasNotBegun (S.space shared.now) (length script.now.commands) turn.old.pass }
     ensures sits { A.sits access.now turn.new.seat }
-    ensures turned { HasTurned index.now script.now.commands turn.old turn.new }
+    ensures turned { HasTurned (calls_under S.law) (S.space shared.now) script.now.commands turn.old turn.new }
 {
     let commands = script.commands(turn.pass.number());
     let mut out = SessionOut::new(alloc);
@@ -51,7 +54,7 @@ fn take_turn<A: Access, G: Gate, R: Wait>(
         rt,
         access,
         &mut turn.seat,
-        index,
+        shared,
         &mut turn.pass,
         commands,
         gate,
@@ -65,99 +68,122 @@ fn take_turn<A: Access, G: Gate, R: Wait>(
     let _ = turn.pass.number();
 }
 
-fn take_turns<A: Access + Sync, G: Gate + Sync, R: Threads + Wait + Sync>(
+fn take_turns<S: Shared + Sync, A: Access<S> + Sync, G: Gate + Sync, R: Threads + Wait + Sync>(
     rt: &R,
     alloc: Global,
     access: &A,
-    index: &Index,
+    shared: &S,
     script: &Script,
     gate: &G,
     turns: &mut [Turn<A::Seat>],
 )
     requires small { IsSmall script.now }
-    requires serves { A.serves access.now index.now.sizes.pages }
+    requires taken { AreTaken S.takes script.now.commands }
+    requires serves { A.serves access.now (S.space shared.now).sizes.pages }
     requires sits { All (λ t. A.sits access.now t.seat) turns.old }
-    requires ready { All (λ t. HasNotBegun index.now (length script.now.commands) t.pass) turns.old }
+    requires ready { All (λ t. HasNotBegun (S.space shared.now) (length script.now.commands) t.pass) turns.old }
     ensures sits { (i : ℕ) (d : Turn A.Seat) → i < length turns.old → A.sits access.now (slice_index_or turns.new i d).seat }
-    ensures turned { (i : ℕ) (d : Turn A.Seat) → i < length turns.old → HasTurned index.now script.now.commands (slice_index_or turns.old i d) (slice_index_or turns.new i d) }
+    ensures turned { (i : ℕ) (d : Turn A.Seat) → i < length turns.old → HasTurned (calls_under S.law)
+        (S.space shared.now) script.now.commands (slice_index_or turns.old i d) (slice_index_or turns.new i d) }
 {
     thread::for_each_mut(
         rt,
         turns,
         64,
         &|_: usize, turn: &mut Turn<A::Seat>|
-            requires { IsSmall script.now × A.serves access.now index.now.sizes.pages × A.sits access.now turn.old.seat × HasNotBegun index.now (length script.now.commands) turn.old.pass }
-            ensures { A.sits access.entry.now turn.new.seat × HasTurned index.entry.now script.entry.now.commands turn.old turn.new }
-        { take_turn(rt, alloc, access, index, script, gate, turn) },
+            requires { IsSmall script.now × AreTaken S.takes script.now.commands × A.serves access.now (S.space shared.now).sizes.pages
+                × A.sits access.now turn.old.seat × HasNotBegun (S.space shared.now) (length script.now.commands) turn.old.pass }
+            ensures { A.sits access.entry.now turn.new.seat × HasTurned (calls_under S.law)
+                (S.space shared.entry.now) script.entry.now.commands turn.old turn.new }
+        { take_turn(rt, alloc, access, shared, script, gate, turn) },
     );
 }
 
 // The same over a list: what a slice writes back into a list is said here once.
-fn turn_all<A: Access + Sync, G: Gate + Sync, R: Threads + Wait + Sync>(
+fn turn_all<S: Shared + Sync, A: Access<S> + Sync, G: Gate + Sync, R: Threads + Wait + Sync>(
     rt: &R,
     alloc: Global,
     access: &A,
-    index: &Index,
+    shared: &S,
     script: &Script,
     gate: &G,
     turns: &mut Vec<Turn<A::Seat>>,
 )
-    requires { MayTurn (A.sits access.now) (A.serves access.now index.now.sizes.pages) index.now script.now turns.old.items }
-    ensures { HaveTurned (A.sits access.now) index.now script.now.commands turns.old.items turns.new.items }
+    requires { MayTurn S.takes (A.sits access.now) (A.serves access.now (S.space shared.now).sizes.pages) (S.space shared.now) script.now turns.old.items }
+    ensures { HaveTurned (calls_under S.law) (A.sits access.now) (S.space shared.now) script.now.commands
+        turns.old.items turns.new.items }
 {
-    take_turns(rt, alloc, access, index, script, gate, turns.as_mut_slice());
+    take_turns(
+        rt,
+        alloc,
+        access,
+        shared,
+        script,
+        gate,
+        turns.as_mut_slice(),
+    );
 }
 
 // The turns of all sessions, while whoever stands beside them works.
-fn turn_beside<A: Access + Sync, B: Beside, G: Gate + Sync, R: Threads + Wait + Sync>(
+fn turn_beside<
+    S: Shared + Sync,
+    A: Access<S> + Sync,
+    B: Beside<S>,
+    G: Gate + Sync,
+    R: Threads + Wait + Sync,
+>(
     rt: &R,
     alloc: Global,
     access: &A,
-    index: &Index,
+    shared: &S,
     script: &Script,
     gate: &G,
     beside: &mut B,
     guest: &mut B::Guest,
     turns: &mut Vec<Turn<A::Seat>>,
 )
-    requires turns { MayTurn (A.sits access.now) (A.serves access.now index.now.sizes.pages) index.now script.now turns.old.items }
-    requires guests { MayWork (B.serves beside.old index.now.sizes.pages) index.now (B.passes guest.old) }
-    ensures turns { HaveTurned (A.sits access.now) index.now script.now.commands turns.old.items turns.new.items }
-    ensures guests { HaveWorked (B.serves beside.old) (B.serves beside.new) (B.holds beside.new index.now.sizes.pages) index.now (B.passes guest.old) (B.passes guest.new) }
+    requires turns { MayTurn S.takes (A.sits access.now) (A.serves access.now (S.space shared.now).sizes.pages) (S.space shared.now) script.now turns.old.items }
+    requires guests { MayWork (B.serves beside.old (S.space shared.now).sizes.pages) (S.space shared.now) (B.passes guest.old) }
+    ensures turns { HaveTurned (calls_under S.law) (A.sits access.now) (S.space shared.now) script.now.commands
+        turns.old.items turns.new.items }
+    ensures guests { HaveWorked (B.serves beside.old) (B.serves beside.new) (B.holds beside.new (S.space shared.now).sizes.pages) (S.space shared.now)
+        (B.passes guest.old) (B.passes guest.new) }
 {
     if !beside.is_there() {
-        turn_all(rt, alloc, access, index, script, gate, turns);
+        turn_all(rt, alloc, access, shared, script, gate, turns);
         return;
     }
     join_mut(
         rt,
         &mut ||
-            requires { MayWork (B.serves beside.now index.now.sizes.pages) index.now (B.passes guest.now) }
-            ensures { HaveWorked (B.serves beside.entry.now) (B.serves beside.exit.now) (B.holds beside.exit.now index.entry.now.sizes.pages) index.entry.now (B.passes guest.entry.now) (B.passes guest.exit.now) }
-        { beside.work(rt, index, guest, gate) },
+            requires { MayWork (B.serves beside.now (S.space shared.now).sizes.pages) (S.space shared.now) (B.passes guest.now) }
+            ensures { HaveWorked (B.serves beside.entry.now) (B.serves beside.exit.now) (B.holds beside.exit.now (S.space shared.entry.now).sizes.pages)
+                (S.space shared.entry.now) (B.passes guest.entry.now) (B.passes guest.exit.now) }
+        { beside.work(rt, shared, guest, gate) },
         &mut ||
-            requires { MayTurn (A.sits access.now) (A.serves access.now index.now.sizes.pages) index.now script.now turns.now.items }
-            ensures { HaveTurned (A.sits access.entry.now) index.entry.now script.entry.now.commands turns.entry.now.items turns.exit.now.items }
-        { turn_all(rt, alloc, access, index, script, gate, turns) },
+            requires { MayTurn S.takes (A.sits access.now) (A.serves access.now (S.space shared.now).sizes.pages) (S.space shared.now) script.now turns.now.items }
+            ensures { HaveTurned (calls_under S.law) (A.sits access.entry.now) (S.space shared.entry.now)
+                script.entry.now.commands turns.entry.now.items turns.exit.now.items }
+        { turn_all(rt, alloc, access, shared, script, gate, turns) },
     );
 }
 
 // Turns for the sessions 1 to `count`, or for as many as there was memory for.
-fn come_all<A: Access>(
+fn come_all<S: Shared, A: Access<S>>(
     alloc: Global,
     access: &mut A,
-    index: &mut Index,
+    shared: &mut S,
     count: u32,
 ) -> Vec<Turn<A::Seat>>
     requires few { count ≤ 64 }
     requires unused { A.drawn access.old ≡ 0 }
-    requires new { (index.old.drawn ≡ 0) × (index.old.ended ≡ []) }
+    requires new { ((S.space shared.old).drawn ≡ 0) × ((S.space shared.old).ended ≡ []) }
     ensures serves { (pages : ℕ) → A.serves access.old pages → A.serves access.new pages }
     ensures sits { All (λ t. A.sits access.new t.seat) result.items }
-    ensures space { index.new ≡ record index.old { drawn = length result.items } }
+    ensures space { S.space shared.new ≡ record (S.space shared.old) { drawn = length result.items } }
     ensures few { length result.items ≤ count }
     ensures numbered { AreNumbered 1 (map (λ t. t.pass) result.items) }
-    ensures ready { All (λ t. HasNotBegun index.old count t.pass) result.items }
+    ensures ready { All (λ t. HasNotBegun (S.space shared.old) count t.pass) result.items }
 {
     let mut turns = Vec::new(alloc);
     for before in 0..count {
@@ -166,7 +192,7 @@ fn come_all<A: Access>(
         if turns.reserve(1).is_err() {
             break;
         }
-        match index.connect(alloc) {
+        match shared.connect(alloc) {
             Ok(pass) => turns.push_reserved(Turn {
                 pass,
                 seat: access.connect(),
@@ -189,16 +215,16 @@ fn put_first(outs: &mut Vec<SessionOut>, answers: Option<SessionOut>) -> bool
 }
 
 // All sessions end. The answers are those of all, in order, or none where one of them wants.
-fn leave_all<A: Access>(
+fn leave_all<S: Shared, A: Access<S>>(
     alloc: Global,
     access: &mut A,
-    index: &mut Index,
+    shared: &mut S,
     mut turns: Vec<Turn<A::Seat>>,
 ) -> Option<Vec<SessionOut>>
     requires sits { All (λ t. A.sits access.old t.seat) turns.items }
-    requires rest { All (λ t. IsAtRest index.old t.pass) turns.items }
-    ensures space { index.new ≡ record index.old {
-      ended = map (λ t. ended_as t.pass.view) turns.items ++ index.old.ended;
+    requires rest { All (λ t. IsAtRest (S.space shared.old) t.pass) turns.items }
+    ensures space { S.space shared.new ≡ record (S.space shared.old) {
+      ended = map (λ t. ended_as t.pass.view) turns.items ++ (S.space shared.old).ended;
     } }
     ensures all { IfSome result (λ outs. map (λ t. t.answers) turns.items ≡ map Some outs.items) }
 {
@@ -211,48 +237,55 @@ fn leave_all<A: Access>(
             answers,
         } = turn;
         access.disconnect(seat);
-        index.disconnect(pass);
+        shared.disconnect(pass);
         whole &= put_first(&mut outs, answers);
     }
     turns.destroy_empty();
     if whole { Some(outs) } else { None }
 }
 
-// All sessions of a script on a new index, up to its end, and whoever works beside them. None where there was no memory for
-// one of them.
-pub(crate) fn run_all<A: Access + Sync, B: Beside, G: Gate + Sync, R: Threads + Wait + Sync>(
+// All sessions of a script on what is newly opened, up to its end, and whoever works beside them. None where there was no
+// memory for one of them.
+pub(crate) fn run_all<
+    S: Shared + Sync,
+    A: Access<S> + Sync,
+    B: Beside<S>,
+    G: Gate + Sync,
+    R: Threads + Wait + Sync,
+>(
     rt: &R,
     alloc: Global,
     access: &mut A,
     beside: &mut B,
-    index: &mut Index,
+    shared: &mut S,
     script: &Script,
     gate: &G,
 ) -> Option<Vec<SessionOut>>
     requires small { IsSmall script.now }
-    requires serves { A.serves access.old index.old.sizes.pages × B.serves beside.old index.old.sizes.pages }
+    requires taken { AreTaken S.takes script.now.commands }
+    requires serves { A.serves access.old (S.space shared.old).sizes.pages × B.serves beside.old (S.space shared.old).sizes.pages }
     requires unused { A.drawn access.old ≡ 0 }
-    requires new { (index.old.drawn ≡ 0) × (index.old.ended ≡ []) }
-    ensures sizes { index.new.sizes ≡ index.old.sizes }
-    ensures left { length index.new.ended ≡ index.new.drawn }
+    requires new { ((S.space shared.old).drawn ≡ 0) × ((S.space shared.old).ended ≡ []) }
+    ensures sizes { (S.space shared.new).sizes ≡ (S.space shared.old).sizes }
+    ensures left { length (S.space shared.new).ended ≡ (S.space shared.new).drawn }
     ensures serves { (pages : ℕ) → B.serves beside.old pages → B.serves beside.new pages }
-    ensures done { IfSome result (λ outs. AllDone script.now.commands outs.items index.new) }
-    ensures holds { IfSome result (λ _. (log : List Entry) → AllByRecursion (EndedFact log) index.new.ended
-        → B.holds beside.new index.old.sizes.pages log) }
+    ensures done { IfSome result (λ outs. AllDone (calls_under S.law) script.now.commands outs.items (S.space shared.new)) }
+    ensures holds { IfSome result (λ _. (log : List Entry) → AllByRecursion (EndedFact log) (S.space shared.new).ended
+        → B.holds beside.new (S.space shared.old).sizes.pages log) }
 {
     let count = script.sessions();
-    let mut turns = come_all(alloc, access, index, count);
+    let mut turns = come_all(alloc, access, shared, count);
     if turns.len() < count as usize {
-        let _ = leave_all(alloc, access, index, turns);
+        let _ = leave_all(alloc, access, shared, turns);
         return None;
     }
-    let Ok(mut guest) = beside.connect(alloc, index) else {
-        let _ = leave_all(alloc, access, index, turns);
+    let Ok(mut guest) = beside.connect(alloc, shared) else {
+        let _ = leave_all(alloc, access, shared, turns);
         return None;
     };
     turn_beside(
-        rt, alloc, access, index, script, gate, beside, &mut guest, &mut turns,
+        rt, alloc, access, shared, script, gate, beside, &mut guest, &mut turns,
     );
-    B::disconnect(index, guest);
-    leave_all(alloc, access, index, turns)
+    B::disconnect(shared, guest);
+    leave_all(alloc, access, shared, turns)
 }

@@ -376,7 +376,7 @@ scanned_on_with sizes lawful opening stored answer out new p q chunks pairs left
 }
 
 -- the map at a place of the log is that of the entries before it
-map-taken : (log : List Entry) (n : ℕ) → n ≤ length log → map_of (take n log) ≡ map_after (history_of log) n
+pub map-taken : (log : List Entry) (n : ℕ) → n ≤ length log → map_of (take n log) ≡ map_after (history_of log) n
 map-taken log n le =
     let len : length (take n log) ≡ n = length-take-le n log le in
     let same : history_of (take n log) ++ history_of (drop n log) ≡ history_of log = sym (history_of-append (take n log) (drop n log)) ∙ ap history_of (take-append-drop n log) in

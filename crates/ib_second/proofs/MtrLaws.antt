@@ -7,7 +7,7 @@ use Rattle.ib_frames.specs.Reads.{IsLoadedImage}
 use Rattle.ib_rule.specs.Pass.{PassState}
 use Rattle.ib_rule.specs.Space.{SpaceState}
 use Rattle.ib_mtr.specs.Mtr.{IsMtr, with_work}
-use Rattle.ib_pair_change.proofs.WorkLaws.{reads-each}
+use Rattle.ib_planned_change.proofs.WorkLaws.{reads-each}
 
 -- a work set with the same images as read is one of the mini-transaction
 pub planned-mtr : (space : SpaceState) (p : PassState) (work : List WorkPage) → IsMtr space p → reads_of work ≡ reads_of p.work → IsMtr space (with_work work p)

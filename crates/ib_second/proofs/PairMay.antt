@@ -52,7 +52,7 @@ use Rattle.ib_leaf.specs.Leaf.{IsSeated}
 use Rattle.ib_second.specs.Stands.{StandsOnPair}
 use Rattle.ib_pair_change.proofs.PairCommit.{entry-kept}
 use Rattle.ib_pair_change.proofs.SpanLaws.{alone}
-use Rattle.ib_pair_change.proofs.WorkLaws.{none-same, pages-same, reads-same}
+use Rattle.ib_planned_change.proofs.WorkLaws.{none-same, pages-same, reads-same}
 
 -- the pages that words are, by the changed images of a work set that has them
 pub still-in : (words : ℕ → ℕ) (page : ℕ) (ws : List WorkPage) → All (λ w. image_of words w.page ≡ w.changed) ws → IfSome (changed_of page ws) (λ image. image_of words page ≡ image)

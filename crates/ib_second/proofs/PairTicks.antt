@@ -1,21 +1,18 @@
 -- The clocks of what is held may rise twice: each is at most twice the number of entries; and as a page of a tree page 0 has none.
-use Rattle.std.specs.Prelude.{IfSome, IsSome, nat_lt}
+use Rattle.std.specs.Prelude.{IfSome, IsSome}
 use Rattle.std.proofs.Common.{◌≡◌, ◌≢◌, ℕ, ◌+◌, ◌^◌, ◌<◌, true, false, List, length, Option, Some, None, inl, inr, refl, sym, ap, subst, ◌∙◌, arith}
-use Rattle.std.proofs.lemmas.Bool.{cases_Bool, cases_eq}
+use Rattle.std.proofs.lemmas.Bool.{cases_eq}
 use Rattle.ib_map.specs.Keys.{MapKey}
 use Rattle.ib_map.specs.Space.{has_pages}
 use Rattle.ib_levels.specs.declared.level.Level.{Level}
 use Rattle.ib_layout.specs.Geometry.{Sizes}
-use Rattle.ib_page.specs.Page.{PageValue, HoldsPage}
-use Rattle.ib_page.specs.Page.PageValue.{Malformed as MalformedValue, Free as FreeValue, Tree as TreeValue}
 use Rattle.ib_page.specs.Form.{page_of}
-use Rattle.ib_page.specs.Space.{is_taken, space_clock_of}
+use Rattle.ib_page.specs.Space.{space_clock_of}
 use Rattle.ib_page.specs.Work.{changed_of}
-use Rattle.ib_heap.proofs.FormLaws.{kind_read}
-use Rattle.ib_page.proofs.SpaceLaws.{bit_in_word}
 use Rattle.ib_walk.specs.Words.{bits_of, image_of, pages_of, state_of}
-use Rattle.ib_plans.specs.Agreement.{Agrees, HasBits, bits_in, memory_in, state_or_free}
+use Rattle.ib_plans.specs.Agreement.{Agrees, HasBits, memory_in, state_or_free}
 use Rattle.ib_plans.proofs.MetLaws.{met-set, root-met}
+use Rattle.ib_plans.proofs.PageZeroLaws.{zero-no_clock}
 use Rattle.ib_rule.specs.Pass.{PassState}
 use Rattle.ib_pair_law.proofs.ClockLaws.{clock-le, space_clock-le}
 use Rattle.ib_pair_change.specs.PairCommits.{words_after}
@@ -23,30 +20,6 @@ use Rattle.ib_pair_change.specs.PairPlans.{MayTickTwice}
 use Rattle.ib_second.specs.Stands.{StandsOnPair}
 use Rattle.ib_second.proofs.PairMay.{still-in}
 use Rattle.ib_second.proofs.StandLaws.{agrees-first, images-now}
-
--- an image that is no page has no clock
-no-clock : (v : PageValue) → (HoldsPage v → ⊥) → (state_of v).clock ≡ 0
-no-clock (TreeValue p) none = absurd (none tt)
-no-clock (FreeValue clock) none = absurd (none tt)
-no-clock MalformedValue none = refl
-
--- an image with bit 1 set is no page: the first word of a page is 0 or 1
-no-page : (image : List ℕ) → is_taken image 1 ≡ true → HoldsPage (page_of image) → ⊥
-no-page image taken holds =
-    let at = bit_in_word image 0 1 (omega arith) in
-    elim (kind_read image holds) [
-      | inl one ↦ let e : is_taken image 1 ≡ false = at ∙ rw one.1 refl in cc
-      | inr zero ↦ let e : is_taken image 1 ≡ false = at ∙ rw zero.1 refl in cc
-    ]
-
-bit-taken : (pages : ℕ) (image : List ℕ) → bits_in pages image 1 ≢ 0 → is_taken image 1 ≡ true
-bit-taken pages image some = elim (cases_Bool (is_taken image 1)) [
-  | inl set ↦ set
-  | inr none ↦ absurd (some (elim (cases_Bool (nat_lt 1 pages)) [
-    | inl in_space ↦ rw in_space (rw none refl)
-    | inr out ↦ rw out refl
-  ]))
-]
 
 module _ (sizes : Sizes) (fits : has_pages sizes.pages ≡ true) (key : MapKey) (path : List ℕ) (key2 : MapKey) (path2 : List ℕ) (held : List (ℕ × Level)) (p : PassState)
     (at : StandsOnPair sizes key path key2 path2 held p) (few : length p.view.memory.seen < 2 ^ 31) where
@@ -74,8 +47,7 @@ module _ (sizes : Sizes) (fits : has_pages sizes.pages ≡ true) (key : MapKey) 
       go (Some image) there =
           let has : HasBits sizes.pages (bits_of sizes.pages words) image = subst (λ (o : Option (List ℕ)). IfSome o (HasBits sizes.pages (bits_of sizes.pages words))) there agrees.space in
           let set = met-set _ (pages_of words) (bits_of sizes.pages words) 2 agrees.lawful 1 (omega arith) (omega arith) 1 (root-met (pages_of words) 1) in
-          let taken = bit-taken sizes.pages image (λ z. set (has.1 1 ∙ z)) in
-          let none = no-clock (page_of image) (no-page image taken) in
+          let none = zero-no_clock sizes.pages image (λ z. set (has.1 1 ∙ z)) in
           let e : (memory_in p.work 0).clock ≡ (state_of (page_of image)).clock = ap (λ o. (state_or_free o).clock) there in omega arith
 
   zero-clock : (o : Option (List ℕ)) → IfSome o (λ image. image_of words 0 ≡ image) → space_clock_of (image_of words 0) + 1 < 2 ^ 63 → IfSome o (λ image. space_clock_of image + 1 < 2 ^ 63)

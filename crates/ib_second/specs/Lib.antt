@@ -4,3 +4,4 @@ pub mod PathImages
 pub mod PairComes
 pub mod PairFinds
 pub mod Calls
+pub mod PairShared

@@ -20,11 +20,11 @@ ghost use Rattle.ib_second.specs.PairReady.{pages_seen};
 ghost use Rattle.ib_leaf.specs.Calls.{MayCall};
 ghost use Rattle.ib_second.specs.Calls.{HasCalledPair, TakesForChange};
 
-use crate::pages::{FIRST_ROOT, PairWork, SECOND_ROOT, facts_of_session, take_space};
+use crate::pages::{FIRST_ROOT, PairWork, SECOND_ROOT, take_space};
 use crate::planned::plan_delete_in;
 use ib_cursor::{FoundPath, Sought, claim_index, read_path, read_value, take_behind, take_rows};
 use ib_latch::{Latches, Parkers};
-use ib_leaf::changed;
+use ib_leaf::{changed, facts_of_session};
 use ib_map::{Call, Change, Key, Record, Reply};
 use ib_mtr::Mtr;
 use ib_pair_change::PairPaths;

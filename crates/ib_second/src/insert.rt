@@ -19,10 +19,10 @@ ghost use Rattle.ib_second.specs.PairComes.{HasComeToPair, HasRefused, HasTakenA
 ghost use Rattle.ib_second.specs.PairReady.{pages_seen};
 
 use crate::fresh::take_fresh;
-use crate::pages::{PairWork, claim_paths, facts_of_session, value_in};
+use crate::pages::{PairWork, claim_paths};
 use crate::planned::plan_insert_in;
 use ib_latch::{Latches, Parkers};
-use ib_leaf::changed;
+use ib_leaf::{changed, facts_of_session, value_in};
 use ib_map::{Call, Change, Key, Record, Reply};
 use ib_mtr::Mtr;
 use ib_pair_change::{FreshPages, Needs, PairPaths, pair_pages_needed};

@@ -10,4 +10,5 @@ mod pages;
 mod pair;
 mod planned;
 
+pub use ib_shared::SharedSpace;
 pub use pair::{Pair, PairRefused};

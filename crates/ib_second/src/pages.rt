@@ -1,16 +1,14 @@
 //! Pages that a change of both trees takes and looks at, after the claim of the index.
 
-ghost use Rattle.std.specs.Prelude.{◌≡◌, ◌≢◌, ◌+◌, ◌<◌, ◌≤◌, ◌∷◌, ◌++◌, List, ℕ, [], None, true, false, length, map};
+ghost use Rattle.std.specs.Prelude.{◌≡◌, ◌+◌, ◌<◌, ◌≤◌, ◌∷◌, ◌++◌, List, ℕ, None, true, false, length, map};
 ghost use Rattle.std.specs.List.{AllByRecursion};
 ghost use Rattle.ib_map.specs.Keys.{MapKey};
-ghost use Rattle.ib_map.specs.Pairs.{value_at};
 ghost use Rattle.ib_core.specs.Holders.{CanWish};
 ghost use Rattle.ib_levels.specs.declared.level.Level.{Level as LevelValue};
 ghost use Rattle.ib_levels.specs.declared.level.Level.TheVariants.{Space};
 ghost use Rattle.ib_levels.specs.Level.{may_follow};
 ghost use Rattle.ib_page.specs.Work.{changed_of};
 ghost use Rattle.ib_page.specs.declared.work.TheConstants.{MOST_WORK_PAGES};
-ghost use Rattle.ib_plans.specs.Agreement.{HasTreePages, last_of, memory_in};
 ghost use Rattle.ib_rule.specs.Conditions.{HasGrantLeft, HasGrantsLeft, MayGrow};
 ghost use Rattle.ib_tree.specs.PageLists.{AreOnce, is_listed};
 ghost use Rattle.ib_mtr.specs.Mtr.{IsMtr, IsStillMtr};
@@ -20,7 +18,6 @@ ghost use Rattle.ib_second.specs.PairComes.{HasComeToPair};
 ghost use Rattle.ib_cursor.specs.Claims.{claim_grant};
 ghost use Rattle.ib_cursor.specs.Grants.{Grant};
 ghost use Rattle.ib_index.specs.Grows.{held_grant, pages_held, tree_pages};
-ghost use Rattle.ib_leaf.specs.Leaf.{IsSeated};
 ghost use Rattle.ib_second.specs.Stands.{HasTakenAt, HasTakenEach, StandsOnPair};
 
 use ib_cursor::{Sought, descend_pair_to_insert, read, take};
@@ -66,29 +63,6 @@ pub(crate) fn claim_paths<R: Wait>(
     };
     let (first, second) = descend_pair_to_insert(rt, mtr, first, other);
     PairPaths { first, second }
-}
-
-// What a session and its space are told to be by their own types.
-pub(crate) fn facts_of_session(mtr: &PairWork<'_>)
-    requires mtr { IsMtr mtr.now.latches.now mtr.now.pass.now }
-    ensures { IsSeated mtr.now.latches.now.sizes mtr.now.pass.now }
-{
-    let geometry = mtr.geometry();
-    let _ = (geometry.pages(), geometry.log_words());
-    let pass = mtr.pass();
-    let _ = (pass.number(), pass.made(), pass.used());
-}
-
-// The value of the key in the last page of its path.
-pub(crate) fn value_in(mtr: &PairWork<'_>, path: &Path, key: Key) -> Option<u64>
-    requires mtr { IsMtr mtr.now.latches.now mtr.now.pass.now }
-    requires some { path.now ≢ [] }
-    requires trees { HasTreePages path.now mtr.now.pass.now.work }
-    ensures { result ≡ value_at key (memory_in mtr.now.pass.now.work (last_of path.now)).records }
-{
-    let leaf = path.last().unwrap();
-    let image = mtr.image(leaf).unwrap();
-    image.get(key)
 }
 
 // Takes a page in X at a level behind those that are held, and loads it. Nothing of others is seen meanwhile.

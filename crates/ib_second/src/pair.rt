@@ -1,16 +1,12 @@
-//! A pair of trees that sessions share: how it is opened and closed, and how sessions come, look keys up, change and go.
+//! A pair of trees that sessions share: how it is opened and closed, and how sessions look keys up and change them.
 
-ghost use Rattle.std.specs.Prelude.{◌≡◌, ◌-◌, ◌≤◌, [], ◌∷◌, length, IfErr, IfOk};
+ghost use Rattle.std.specs.Prelude.{◌≡◌};
 ghost use Rattle.ib_map.specs.declared.call.Call.TheVariants.{Delete, Insert};
 ghost use Rattle.ib_second_key.specs.SecondKeys.{IsPrimary};
-ghost use Rattle.ib_rule.specs.Closed.{IsClosed};
-ghost use Rattle.ib_rule.specs.Connects.{HasConnected, HasMet};
-ghost use Rattle.ib_rule.specs.Pass.{IsAtRest, IsFrom};
-ghost use Rattle.ib_rule.specs.Views.{ended_as};
+ghost use Rattle.ib_rule.specs.Pass.{IsAtRest};
 ghost use Rattle.ib_leaf.specs.Calls.{MayCall};
-ghost use Rattle.ib_pair_law.specs.Opening.{pair_opening};
-ghost use Rattle.ib_pair_law.specs.PairKept.{IsPairLog};
 ghost use Rattle.ib_second.specs.Calls.{HasCalledPair, HasLookedUpPair, TakesForChange};
+ghost use Rattle.ib_second.specs.PairShared.{pair_law};
 
 use crate::{delete, insert, lookup};
 use ib_latch::{Latches, LatchesCloseRefused, Parkers};
@@ -18,13 +14,22 @@ use ib_layout::Geometry;
 use ib_map::{Key, Record};
 use ib_pair_law::PairLaw;
 use ib_rule::{Closed, ConnectFault, OutOfMemory, Pass};
+use ib_shared::SharedSpace;
 use std::alloc::Global;
 use std::marker::Model;
 use std::sync::Wait;
 
 /// Two trees that sessions share, with the roots 1 and 2 (a `dict_table_t` with its clustered index and one secondary
 /// index): the first has the map, and the second has a key for each pair of it, the value's eight bytes and the key's.
-/// Contracts see them as their space. It is not dropped, but closed or discarded.
+/// Contracts see them as their space. It is not dropped, but closed or discarded. How it is opened and closed, and how sessions
+/// come and go, is said by `SharedSpace`.
+///
+/// ```
+/// let mut pair = Pair::open(alloc, Geometry::new(64, 100_000)?)?;
+/// let mut pass = pair.connect(alloc)?;
+/// pair.insert(rt, &mut pass, Key::of_number(7), 70);
+/// pair.disconnect(pass);
+/// ```
 pub struct Pair {
     latches: Latches<PairLaw, Parkers>,
 }
@@ -42,107 +47,37 @@ pub struct PairRefused {
     pub pair: Pair,
 }
 
-impl Pair {
-    /// Two trees with no records, in a new space of these sizes: an empty log, no sessions, and every latch free. Refused
-    /// where memory lacks.
-    ///
-    /// ```
-    /// let mut pair = Pair::open(alloc, Geometry::new(64, 100_000)?)?;
-    /// let mut pass = pair.connect(alloc)?;
-    /// ```
-    pub fn open(alloc: Global, geometry: Geometry) -> Result<Pair, OutOfMemory>
-        ensures { IfOk result (λ p. p
-            ≡ record { table = p.table; sizes = geometry; drawn = 0; ended = [] }) }
-    {
+impl SharedSpace for Pair {
+    type Refused = PairRefused;
+
+    ghost law = { pair_law };
+
+    ghost space = { λ pair. pair };
+
+    ghost back = { λ refused. refused.pair };
+
+    fn open(alloc: Global, geometry: Geometry) -> Result<Pair, OutOfMemory> {
         let latches = Latches::open(alloc, geometry)?;
         Ok(Pair { latches })
     }
 
-    /// Its latches, for scans and for steps on a latch.
-    ///
-    /// ```
-    /// let (low, high) = keys_of_value(5);
-    /// let scanned = scan_at(rt, pair.latches(), 2, &mut pass, low, high, &mut chunks);
-    /// ```
-    pub fn latches(&self) -> &Latches<PairLaw, Parkers>
-        ensures { result.now ≡ self.now }
-    {
-        &self.latches
-    }
-
-    /// How many passes are not given back yet.
-    ///
-    /// ```
-    /// if pair.connected() == 0 {
-    ///     pair.discard();
-    /// }
-    /// ```
-    pub fn connected(&self) -> u32
-        ensures connected { result ≡ self.now.drawn - length self.now.ended }
-        ensures few { length self.now.ended ≤ self.now.drawn }
-    {
+    fn connected(&self) -> u32 {
         self.latches.connected()
     }
 
-    /// Draws the next number, and gives its session's pass: nothing seen, held or granted, and the scratch in it. Refused as
-    /// `TooManySessions`, with 1,024, exactly where so many were drawn. Where memory lacks, no number is drawn.
-    ///
-    /// ```
-    /// let Ok(mut pass) = pair.connect(alloc) else {
-    ///     return None;
-    /// };
-    /// ```
-    pub fn connect(&mut self, alloc: Global) -> Result<Pass, ConnectFault>
-        ensures { HasConnected self.old self.new result }
-    {
+    fn connect(&mut self, alloc: Global) -> Result<Pass, ConnectFault> {
         self.latches.connect(alloc)
     }
 
-    /// The session ends, and what it has seen and made is kept. It holds nothing, and its scratch is in the pass.
-    ///
-    /// ```
-    /// if pass.is_idle() {
-    ///     pair.disconnect(pass);
-    /// }
-    /// ```
-    pub fn disconnect(&mut self, pass: Pass)
-        requires { IsAtRest self.old pass }
-        ensures { self.new ≡ record self.old { ended = ended_as pass.view ∷ self.old.ended } }
-    {
+    fn disconnect(&mut self, pass: Pass) {
         self.latches.disconnect(pass);
     }
 
-    /// Afterwards `to` has seen what both had seen: the longer of the two lists, of which both are fronts. That tells it what
-    /// a look at the log's end tells: what it had not seen before is harmless. What contracts see of `from` is as before.
-    ///
-    /// ```
-    /// pair.meet(&mut reader, &mut writer);
-    /// assert!(rt; reader.place() >= writer.place());
-    /// ```
-    pub fn meet(&self, to: &mut Pass, from: &mut Pass)
-        requires to { IsFrom self.now to.old }
-        requires from { IsFrom self.now from.old }
-        ensures { HasMet self.now.sizes (IsPairLog self.now.sizes.pages) to.old from.old to.new from.new }
-    {
+    fn meet(&self, to: &mut Pass, from: &mut Pass) {
         self.latches.meet(to, from);
     }
 
-    /// Closes the space, where nobody is connected: its log's words are those of one kept log of a pair, its pages are the
-    /// memory after all of it, each session that has ended had seen a front of it, and its own entries are exactly those of its
-    /// number. Refused for want of memory alone.
-    ///
-    /// ```
-    /// match pair.close(alloc) {
-    ///     Ok(closed) => keep(closed),
-    ///     Err(PairRefused { pair }) => pair.discard(),
-    /// }
-    /// ```
-    pub fn close(self, alloc: Global) -> Result<Closed, PairRefused>
-        requires none { length self.ended ≡ self.drawn }
-        ensures ok { IfOk result (λ c. (c.sizes ≡ self.sizes) × (c.drawn ≡ self.drawn)
-            × IsClosed IsPairLog pair_opening self.sizes c.words self.ended) }
-        ensures err { IfErr result (λ e. e.pair ≡ self) }
-    {
+    fn close(self, alloc: Global) -> Result<Closed, PairRefused> {
         let Pair { latches } = self;
         match latches.close(alloc) {
             Ok(closed) => Ok(closed),
@@ -155,12 +90,28 @@ impl Pair {
         }
     }
 
-    /// Gives the pair up, with its log and its pages, where nobody is connected: for who cannot close it.
-    pub fn discard(self)
-        requires { length self.ended ≡ self.drawn }
-    {
+    fn returned(refused: PairRefused) -> Pair {
+        let PairRefused { pair } = refused;
+        pair
+    }
+
+    fn discard(self) {
         let Pair { latches } = self;
         latches.discard();
+    }
+}
+
+impl Pair {
+    /// Its latches, for scans and for steps on a latch.
+    ///
+    /// ```
+    /// let (low, high) = keys_of_value(5);
+    /// let scanned = scan_at(rt, pair.latches(), 2, &mut pass, low, high, &mut chunks);
+    /// ```
+    pub fn latches(&self) -> &Latches<PairLaw, Parkers>
+        ensures { result.now ≡ self.now }
+    {
+        &self.latches
     }
 
     /// Looks a key up in the first tree (`row_search_mvcc` by a key of the clustered index, without versions): `Found` with its

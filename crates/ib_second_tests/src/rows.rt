@@ -8,7 +8,7 @@ use crate::space::{
 };
 use ib_map::{Key, Reply};
 use ib_rule::Pass;
-use ib_second::Pair;
+use ib_second::{Pair, SharedSpace};
 use ib_second_key::{is_primary, second_key};
 use std::alloc::Global;
 use std::process::Abort;

@@ -10,7 +10,7 @@ use ib_map::{Chunks, Key, LEAST_PAGES, MOST_PAGES, PlainMap, Record, Reply};
 use ib_page::Image;
 use ib_rule::{Closed, Pass};
 use ib_scan::scan_at;
-use ib_second::Pair;
+use ib_second::{Pair, SharedSpace};
 use ib_second_key::{is_primary, keys_of_value, primary_key};
 use ib_tree::{check_tree, content_of};
 use std::alloc::Global;

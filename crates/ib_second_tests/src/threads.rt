@@ -8,7 +8,7 @@ use crate::rows::check_contents;
 use crate::space::{come, delete, insert, keys_with, numbered, open};
 use ib_map::Reply;
 use ib_rule::Pass;
-use ib_second::Pair;
+use ib_second::{Pair, SharedSpace};
 use std::alloc::Global;
 use std::process::Abort;
 use std::sync::Wait;

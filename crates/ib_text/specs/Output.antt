@@ -61,18 +61,36 @@ abbrev pub joined_spans : List Span → List Span
 joined_spans [] = []
 joined_spans (span ∷ spans) = span_and span (joined_spans spans)
 
-abbrev pub record_text : FullRecord → List ℕ
-record_text r = record_line r.call r.reply r.place ++ flat_map span_text (joined_spans r.spans)
+-- how the calls of a session are told: a call, its reply and its place as a line, and a chunk of a scan
+pub record Telling : Type 0 where
+  pub line : Call → Reply → ℕ → List ℕ
+  pub span : Span → List ℕ
+
+abbrev pub record_text_by : Telling → FullRecord → List ℕ
+record_text_by t r = t.line r.call r.reply r.place ++ flat_map t.span (joined_spans r.spans)
 
 -- a session's part: nothing where it has no command
-abbrev pub session_text : ℕ → List FullRecord → List ℕ
-session_text session [] = []
-session_text session (r ∷ rs) = codes "session " ++ decimal session ++ codes "\n" ++ flat_map record_text (r ∷ rs)
+abbrev pub session_text_by : Telling → ℕ → List FullRecord → List ℕ
+session_text_by t session [] = []
+session_text_by t session (r ∷ rs) = codes "session " ++ decimal session ++ codes "\n" ++ flat_map (record_text_by t) (r ∷ rs)
 
 -- the parts of sessions, from this number on
+abbrev pub sessions_from_by : Telling → ℕ → Runs → List ℕ
+sessions_from_by t session [] = []
+sessions_from_by t session (rs ∷ runs) = session_text_by t session rs ++ sessions_from_by t (session + 1) runs
+
+-- by the pairs of its chunks: how a scan of a map is told
+abbrev pub pair_telling : Telling
+pair_telling = record { line = record_line; span = span_text }
+
+abbrev pub record_text : FullRecord → List ℕ
+record_text = record_text_by pair_telling
+
+abbrev pub session_text : ℕ → List FullRecord → List ℕ
+session_text = session_text_by pair_telling
+
 abbrev pub sessions_from : ℕ → Runs → List ℕ
-sessions_from session [] = []
-sessions_from session (rs ∷ runs) = session_text session rs ++ sessions_from (session + 1) runs
+sessions_from = sessions_from_by pair_telling
 
 abbrev pub change_text : Change → List ℕ
 change_text (InsertChange key value) = codes "insert " ++ pair_text (key, value)

@@ -1,5 +1,4 @@
 mod CountLaws
 mod Forms
-mod Printing
 mod Telling
 mod TextLaws

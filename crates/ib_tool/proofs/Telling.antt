@@ -16,7 +16,7 @@ use Rattle.ib_image_form.proofs.RestoredLaws.{owed-one}
 use Rattle.ib_tool.specs.Answers.{AnswersInput, HasGood, IsCutOff, IsGoodInput, IsOwedAt, IsServed, IsSilent, IsSilentAt, MayLackInput, Owes, OwesInput}
 use Rattle.ib_tool.specs.Words.{form_of, reads}
 use Rattle.ib_tool.specs.declared.form.Form.{Form}
-use Rattle.ib_tool.specs.declared.form.Form.TheVariants.{Run, Fast, Raw, Image, Latch, Replay, Upgrade, Restore, Gen}
+use Rattle.ib_tool.specs.declared.form.Form.TheVariants.{Run, Fast, Pair, Raw, Image, Latch, Replay, Upgrade, Restore, Gen}
 
 -- where want of memory may come anywhere
 pub told_anywhere : (owes : Ending → Type 0) (written now : Option (List ℕ)) (status : Status) → Told owes IsOutOfMemory written now status → Told owes (IsOutOfMemoryWhere (Unit {0})) written now status
@@ -33,6 +33,7 @@ pub told_reading : (form : Form) (old new : Option (List ℕ)) → reads form �
     → Told (OwesInput form old new) (IsCutOff old new) written now status → Told (IsOwedAt form old new) (IsSilentAt form old new) written now status
 told_reading Run old new is written now status told = told
 told_reading Fast old new is written now status told = told
+told_reading Pair old new is written now status told = told
 told_reading Raw old new is written now status told = told
 told_reading Image old new is written now status told = told
 told_reading Latch old new is written now status told = told
@@ -48,6 +49,7 @@ told_alone (Gen load) old new is keeps written now status told =
     told_as (AnswersInput (Gen load) []) (IsOwedAt (Gen load) old new) (IsOutOfMemoryWhere (MayLackInput (Gen load) [])) (IsSilentAt (Gen load) old new) (λ e owed. (keeps, owed)) (λ s calm. calm.0) written now status told
 told_alone Run old new is keeps written now status told = absurd (cc)
 told_alone Fast old new is keeps written now status told = absurd (cc)
+told_alone Pair old new is keeps written now status told = absurd (cc)
 told_alone Raw old new is keeps written now status told = absurd (cc)
 told_alone Image old new is keeps written now status told = absurd (cc)
 told_alone Latch old new is keeps written now status told = absurd (cc)
@@ -73,6 +75,7 @@ done_upgrade input e good (inr owed) = absurd (brought-no_fault input good.0 goo
 done_input : (form : Form) (input : List ℕ) (e : Ending) → IsGoodInput form input → AnswersInput form input e → e.status ≡ Done
 done_input Run input e good owed = done_lines _ _ e good owed
 done_input Fast input e good owed = done_lines _ _ e good owed
+done_input Pair input e good owed = done_lines _ _ e good owed
 done_input Raw input e good owed = done_lines _ _ e good owed
 done_input Image input e good owed = done_lines _ _ e good owed
 done_input Latch input e good owed = done_lines _ _ e good owed
@@ -91,6 +94,7 @@ done_read form (Some input) new e good (inr owed) =
 done_at : (form : Form) (left new : Option (List ℕ)) (e : Ending) → IsServed form left → IsOwedAt form left new e → e.status ≡ Done
 done_at Run left new e served owed = done_read Run left new e served owed
 done_at Fast left new e served owed = done_read Fast left new e served owed
+done_at Pair left new e served owed = done_read Pair left new e served owed
 done_at Raw left new e served owed = done_read Raw left new e served owed
 done_at Image left new e served owed = done_read Image left new e served owed
 done_at Latch left new e served owed = done_read Latch left new e served owed
@@ -111,6 +115,7 @@ cut-off old new s calm = elim calm [ inl fault ↦ inl fault.0 | inr memory ↦ 
 silences-at : (form : Form) (old new : Option (List ℕ)) (s : Status) → IsSilentAt form old new s → (s ≡ ReadFault) ⊎ (s ≡ Memory)
 silences-at Run old new s calm = cut-off old new s calm
 silences-at Fast old new s calm = cut-off old new s calm
+silences-at Pair old new s calm = cut-off old new s calm
 silences-at Raw old new s calm = cut-off old new s calm
 silences-at Image old new s calm = cut-off old new s calm
 silences-at Latch old new s calm = cut-off old new s calm
@@ -135,6 +140,7 @@ no_fault-lines (Some bad) output e owed is = let told = ap (λ x. x.status) owed
 no_fault : (form : Form) (input : List ℕ) (e : Ending) → AnswersInput form input e → e.status ≡ ReadFault → ⊥
 no_fault Run input e owed is = no_fault-lines _ _ e owed is
 no_fault Fast input e owed is = no_fault-lines _ _ e owed is
+no_fault Pair input e owed is = no_fault-lines _ _ e owed is
 no_fault Raw input e owed is = no_fault-lines _ _ e owed is
 no_fault Image input e owed is = no_fault-lines _ _ e owed is
 no_fault Latch input e owed is = no_fault-lines _ _ e owed is

@@ -9,6 +9,8 @@ use Rattle.ib_io.specs.declared.read.TheConstants.{INPUT_BYTES}
 use Rattle.ib_io.specs.declared.status.Status.{Status}
 use Rattle.ib_io.specs.declared.status.Status.TheVariants.{Done, Usage, ReadFault, WriteFault, Memory, TooLarge}
 use Rattle.ib_script.specs.Script.{ScriptValue, IsScript, first_fault, reading_of}
+use Rattle.ib_script.specs.PairScript.{pair_reading_of}
+use Rattle.ib_pair_form.specs.Answers.{AnswersPairScript}
 use Rattle.ib_latch_form.specs.Answers.{AnswersEvents}
 use Rattle.ib_latch_form.specs.Events.{event_fault}
 use Rattle.ib_logrec.specs.declared.entry.Entry.{Entry}
@@ -25,7 +27,7 @@ use Rattle.ib_image_form.specs.Answers.{AnswersImage}
 use Rattle.ib_tool.specs.Texts.{IsCountText, IsWrittenRun}
 use Rattle.ib_tool.specs.Words.{form_of, usage_line, too_large_line}
 use Rattle.ib_tool.specs.declared.form.Form.{Form}
-use Rattle.ib_tool.specs.declared.form.Form.TheVariants.{Run, Fast, Raw, Image, Latch, Replay, Upgrade, Restore, Gen}
+use Rattle.ib_tool.specs.declared.form.Form.TheVariants.{Run, Fast, Pair, Raw, Image, Latch, Replay, Upgrade, Restore, Gen}
 use Rattle.ib_tool.specs.declared.shape.Shape.{Shape}
 use Rattle.ib_tool.specs.declared.shape.Shape.TheVariants.{Text, File, Image as ImageShape}
 
@@ -41,6 +43,7 @@ AnswersScript shape input e = OwesLines (first_fault (readings_by reading_of inp
 abbrev pub AnswersInput : Form → List ℕ → Ending → Type 0
 AnswersInput Run input e = AnswersScript Text input e
 AnswersInput Fast input e = AnswersScript Text input e
+AnswersInput Pair input e = AnswersPairScript input e
 AnswersInput Raw input e = AnswersScript File input e
 AnswersInput Image input e = AnswersScript ImageShape input e
 AnswersInput Latch input e = AnswersEvents input e
@@ -53,6 +56,7 @@ AnswersInput (Gen load) input e = (e.status ≡ Done) × IsCountText load e.text
 abbrev pub MayLackInput : Form → List ℕ → Type 0
 MayLackInput Run input = first_fault (readings_by reading_of input) ≡ None
 MayLackInput Fast input = first_fault (readings_by reading_of input) ≡ None
+MayLackInput Pair input = first_fault (readings_by pair_reading_of input) ≡ None
 MayLackInput Raw input = first_fault (readings_by reading_of input) ≡ None
 MayLackInput Image input = first_fault (readings_by reading_of input) ≡ None
 MayLackInput Latch input = event_fault input ≡ None
@@ -95,6 +99,7 @@ IsSilent words old new status = (form : Form) × (form_of words ≡ Some form) �
 abbrev pub IsGoodInput : Form → List ℕ → Type 0
 IsGoodInput Run input = first_fault (readings_by reading_of input) ≡ None
 IsGoodInput Fast input = first_fault (readings_by reading_of input) ≡ None
+IsGoodInput Pair input = first_fault (readings_by pair_reading_of input) ≡ None
 IsGoodInput Raw input = first_fault (readings_by reading_of input) ≡ None
 IsGoodInput Image input = first_fault (readings_by reading_of input) ≡ None
 IsGoodInput Latch input = event_fault input ≡ None

@@ -3,13 +3,14 @@ use Rattle.std.specs.Prelude.{◌≡◌, ℕ, List, [], ◌∷◌, Bool, true, f
 use Rattle.ib_io.specs.Numbers.{number_of}
 use Rattle.ib_script.specs.Loads.{is_load}
 use Rattle.ib_tool.specs.declared.form.Form.{Form}
-use Rattle.ib_tool.specs.declared.form.Form.TheVariants.{Run, Fast, Raw, Image, Latch, Replay, Upgrade, Restore, Gen}
+use Rattle.ib_tool.specs.declared.form.Form.TheVariants.{Run, Fast, Pair, Raw, Image, Latch, Replay, Upgrade, Restore, Gen}
 
 -- a form of one word
 abbrev pub form_named : List ℕ → Option Form
 form_named word =
     if bytes_eq word (codes "run") then Some Run
     else if bytes_eq word (codes "fast") then Some Fast
+    else if bytes_eq word (codes "pair") then Some Pair
     else if bytes_eq word (codes "raw") then Some Raw
     else if bytes_eq word (codes "image") then Some Image
     else if bytes_eq word (codes "latch") then Some Latch
@@ -41,7 +42,7 @@ abbrev pub reads : Form → Bool
 reads (Gen load) = false
 reads _ = true
 
--- it names none of `fast`, `image`, `upgrade` and `restore`
+-- it names none of `fast`, `image`, `pair`, `upgrade` and `restore`
 abbrev pub usage_line : List ℕ
 usage_line = codes "usage: ib_tool run | raw | latch | replay | gen N SEED SESSIONS\n"
 

@@ -15,9 +15,11 @@ use crate::print::{Bytes, CountText, RunText};
 use crate::shape::Shape;
 use ib_hash::Guesses;
 use ib_image_form::{answer_image, image_of_run};
+use ib_index::Index;
 use ib_io::{INPUT_BYTES, Sink, Status, refuse, tell};
 use ib_latch_form::answer_events;
 use ib_map::OutOfMemory;
+use ib_pair_form::answer_pair;
 use ib_replay::write_log;
 use ib_replay_form::{answer_log, answer_upgrade};
 use ib_runs::{Access, Descents, Gate, Nobody, run_script};
@@ -39,7 +41,7 @@ fn file_of(alloc: Global, pages: u32, words: &[u64]) -> Result<Vec<u8>, OutOfMem
 }
 
 // Runs a script: the file of the log of the run.
-fn log_file_of_run<A: Access + Sync, G: Gate + Sync, R: Threads + Wait + Sync>(
+fn log_file_of_run<A: Access<Index> + Sync, G: Gate + Sync, R: Threads + Wait + Sync>(
     rt: &R,
     alloc: Global,
     script: &Script,
@@ -48,7 +50,7 @@ fn log_file_of_run<A: Access + Sync, G: Gate + Sync, R: Threads + Wait + Sync>(
     requires { IsSmall script.now }
     ensures { IfOk result (λ bytes. IsRawText script.now bytes.items) }
 {
-    let ran = run_script::<A, _, _, _>(rt, alloc, script, &mut Nobody, gate)?;
+    let ran = run_script::<Index, A, _, _, _>(rt, alloc, script, &mut Nobody, gate)?;
     let geometry = script.geometry();
     // For the proof: a log has fewer words than 2^32.
     let _ = geometry.log_words();
@@ -56,7 +58,7 @@ fn log_file_of_run<A: Access + Sync, G: Gate + Sync, R: Threads + Wait + Sync>(
 }
 
 // Runs a script, and writes what is asked of the run.
-fn run<A: Access + Sync, K: Sink, G: Gate + Sync, R: Threads + Wait + Sync>(
+fn run<A: Access<Index> + Sync, K: Sink, G: Gate + Sync, R: Threads + Wait + Sync>(
     rt: &R,
     alloc: Global,
     shape: Shape,
@@ -68,7 +70,7 @@ fn run<A: Access + Sync, K: Sink, G: Gate + Sync, R: Threads + Wait + Sync>(
     ensures { HasTold K.written K.faults (Told (λ e. (e.status ≡ Status.Done) × IsWrittenRun shape script.now e.text) IsOutOfMemory) sink.old sink.new result }
 {
     match shape {
-        Shape::Text => match run_script::<A, _, _, _>(rt, alloc, script, &mut Nobody, gate) {
+        Shape::Text => match run_script::<Index, A, _, _, _>(rt, alloc, script, &mut Nobody, gate) {
             Ok(ran) => tell(sink, RunText { ran }, Status::Done),
             Err(_) => Status::Memory,
         },
@@ -84,7 +86,7 @@ fn run<A: Access + Sync, K: Sink, G: Gate + Sync, R: Threads + Wait + Sync>(
 }
 
 // Answers a script that was read: runs it, or tells where it is refused and why. Memory may be wanting only where no line is bad.
-fn answer_script<A: Access + Sync, K: Sink, G: Gate + Sync, R: Threads + Wait + Sync>(
+fn answer_script<A: Access<Index> + Sync, K: Sink, G: Gate + Sync, R: Threads + Wait + Sync>(
     rt: &R,
     alloc: Global,
     shape: Shape,
@@ -115,7 +117,7 @@ fn answer_load<K: Sink, G: Gate + Sync, R: Threads + Wait + Sync>(
     let Ok(script) = generate(alloc, load) else {
         return Status::Memory;
     };
-    match run_script::<Descents, _, _, _>(rt, alloc, &script, &mut Nobody, gate) {
+    match run_script::<Index, Descents, _, _, _>(rt, alloc, &script, &mut Nobody, gate) {
         Ok(ran) => tell(sink, CountText { ran }, Status::Done),
         Err(_) => Status::Memory,
     }
@@ -137,6 +139,7 @@ pub fn answer<K: Sink, G: Gate + Sync, R: Threads + Wait + Sync>(
     match form {
         Form::Run => answer_script::<Descents, _, _, _>(rt, alloc, Shape::Text, input, sink, gate),
         Form::Fast => answer_script::<Guesses, _, _, _>(rt, alloc, Shape::Text, input, sink, gate),
+        Form::Pair => answer_pair(rt, alloc, input, sink, gate),
         Form::Raw => answer_script::<Descents, _, _, _>(rt, alloc, Shape::File, input, sink, gate),
         Form::Image => {
             answer_script::<Descents, _, _, _>(rt, alloc, Shape::Image, input, sink, gate)

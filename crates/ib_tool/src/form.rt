@@ -14,6 +14,8 @@ pub enum Form {
     Run,
     /// The same, and each call goes by a guess of its key's leaf first.
     Fast,
+    /// The sessions of a script of two trees beside each other: what each was answered, the log, the map and the keys of the second tree.
+    Pair,
     /// The sessions of `run`, and the file of the log alone.
     Raw,
     /// The sessions of `run`, and one more that copies all pages beside them: the image file of the copy alone.
@@ -46,6 +48,8 @@ fn form_named(word: &[u8]) -> Option<Form>
         Some(Form::Run)
     } else if word == b"fast".as_slice() {
         Some(Form::Fast)
+    } else if word == b"pair".as_slice() {
+        Some(Form::Pair)
     } else if word == b"raw".as_slice() {
         Some(Form::Raw)
     } else if word == b"image".as_slice() {

@@ -19,7 +19,7 @@ pub use ib_io::{
     Failed, INPUT_BYTES, MemorySink, MemorySource, PIECE_BYTES, ReadError, Sink, Source, Status,
     read_all,
 };
-pub use ib_runs::{Access, Descents, Gate, OpenGate, SessionOut, run_session};
+pub use ib_runs::{Access, Descents, Gate, OpenGate, SessionOut, Shared, run_session};
 pub use laws::{raw_law, restored_law, text_law};
 pub use standard::{StdSink, StdSource};
 use std::process::ExitCode;

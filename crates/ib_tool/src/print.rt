@@ -1,30 +1,16 @@
 //! What is printed of a run: the sessions' parts, the log and the map, or counts alone.
 
-ghost use Rattle.std.specs.Prelude.{◌≡◌, ◌≤◌, All, length, map, sum_by, vec_len};
+ghost use Rattle.std.specs.Prelude.{◌≤◌, All, length, map, sum_by, vec_len};
 ghost use Rattle.ib_io.specs.Writer.{Puts};
 ghost use Rattle.ib_io.specs.declared.line_kind.TheConstants.{MOST_SCRIPT_SESSIONS};
 ghost use Rattle.ib_runs.specs.Answers.{IsWhole, answers_of};
 ghost use Rattle.ib_script.specs.declared.script_line.TheConstants.{MOST_COMMANDS};
-ghost use Rattle.ib_text.specs.Output.{sessions_from};
 ghost use Rattle.ib_tool.specs.Counts.{count_line, count_of};
 
 use crate::counting::{ReplyKind, count_of};
 use ib_io::{Printed, Sink, Writer};
-use ib_runs::{Ran, SessionOut};
-use ib_text::{all_pairs, print_log, print_map, print_session};
-
-fn print_sessions<K: Sink>(writer: &mut Writer<'_, K>, sessions: &[SessionOut])
-    requires few { length sessions.now ≤ MOST_SCRIPT_SESSIONS }
-    requires whole { All IsWhole sessions.now }
-    ensures puts { Puts K.written K.faults writer.old writer.new (sessions_from 1 (map answers_of sessions.now)) }
-{
-    let mut number = 1;
-    for out in sessions {
-        let (records, chunks) = out.parts();
-        print_session(writer, number, records, chunks);
-        number += 1;
-    }
-}
+use ib_runs::{Ran, SessionOut, print_sessions};
+use ib_text::{PairLines, all_pairs, print_log, print_map};
 
 /// A run of a script. Its text is what each session was answered, the log and the map in the end.
 #[derive(Drop)]
@@ -42,7 +28,7 @@ impl Printed for RunText {
     ghost text = { λ t. output_of (map answers_of t.ran.sessions.items) t.ran.history.items t.ran.map };
 
     fn print<K: Sink>(self, writer: &mut Writer<'_, K>) {
-        print_sessions(writer, &self.ran.sessions);
+        print_sessions::<PairLines, _>(writer, &self.ran.sessions);
         print_log(writer, &self.ran.history);
         print_map(writer, all_pairs(&self.ran.map));
     }

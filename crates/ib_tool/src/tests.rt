@@ -13,6 +13,7 @@ mod gates;
 mod images;
 mod limits;
 mod lines;
+mod pairs;
 mod replays;
 mod rows;
 mod sides;

@@ -18,7 +18,7 @@ use Rattle.ib_walk.specs.Opening.{opening_word}
 use Rattle.ib_walk.specs.Pages.{PageMemory}
 use Rattle.ib_walk.specs.Walk.{Visit}
 use Rattle.ib_walk.specs.Trees.{free_page}
-use Rattle.ib_walk.specs.Words.{image_of, bits_of, memory_of}
+use Rattle.ib_walk.specs.Words.{image_of, bits_of, memory_of, pages_of}
 use Rattle.ib_walk.proofs.ImageLaws.{image_of-same, pages_of-same, memory_of-beyond}
 use Rattle.ib_walk.proofs.SpaceLaws.{pages_of-other}
 use Rattle.ib_validate.specs.Patch.{IsSliced}
@@ -44,32 +44,51 @@ pub memory_after-beyond : (opening : ℕ → ℕ) (pages : ℕ) (log : List Entr
     → memory_after opening log place ≡ opening place
 memory_after-beyond opening pages log place are far = after-beyond pages log place (opening place) are far
 
--- the pages that the space doesn't have stay free
-pub pages_after-beyond : (pages : ℕ) (log : List Entry) → has_pages pages ≡ true → AreInGrammar pages log → (page : ℕ) → pages ≤ page → pages_after (opening_word 1) log page ≡ free_page
-pages_after-beyond pages log fits are page far =
-    let least : 1 < pages = grind (arith, nat_tests, fits) in
-    pages_of-same (opening_word 1) (memory_after (opening_word 1) log) page (λ index lt. memory_after-beyond (opening_word 1) pages log (word_place page index) are (omega arith)) ∙ pages_of-other 1 page (omega arith)
+-- images whose words are those after a log have its pages, its page 0 and its bits
+module _ (start : ℕ → ℕ) (pages : ℕ) (free : (page : ℕ) → pages ≤ page → pages_of start page ≡ free_page) (log : List Entry) (are : AreInGrammar pages log) where
+  -- the pages that the space does not have stay free
+  pub log-beyond : (page : ℕ) → pages ≤ page → pages_after start log page ≡ free_page
+  log-beyond page far = pages_of-same start (memory_after start log) page (λ index lt. memory_after-beyond start pages log (word_place page index) are (omega arith)) ∙ free page far
 
-module _ (pages : ℕ) (log : List Entry) (fits : has_pages pages ≡ true) (are : AreInGrammar pages log) (images : List (List ℕ)) (size : length images ≡ pages)
-    (words : (place : ℕ) → place < pages * PAGE_WORDS → word_at images place ≡ memory_after (opening_word 1) log place) where
-  -- images whose words are those after the log have its pages, its page 0 and its bits
-  pub memory_of-after : memory_of images ≡ pages_after (opening_word 1) log
-  memory_of-after = λ i page. each page i
-    where
-      each : (page : ℕ) → memory_of images page ≡ pages_after (opening_word 1) log page
-      each page = elim (cases_lt page pages) [
-        | inl lt ↦ pages_of-same (memory_after (opening_word 1) log) (word_at images) page (λ index in-page. words (word_place page index) (omega arith))
-        | inr far ↦ memory_of-beyond images page (omega arith) ∙ sym (pages_after-beyond pages log fits are page far)
-      ]
+  module _ (images : List (List ℕ)) (size : length images ≡ pages)
+      (words : (place : ℕ) → place < pages * PAGE_WORDS → word_at images place ≡ memory_after start log place) where
+    pub memory_of-log : memory_of images ≡ pages_after start log
+    memory_of-log = λ i page. each page i
+      where
+        each : (page : ℕ) → memory_of images page ≡ pages_after start log page
+        each page = elim (cases_lt page pages) [
+          | inl lt ↦ pages_of-same (memory_after start log) (word_at images) page (λ index in-page. words (word_place page index) (omega arith))
+          | inr far ↦ memory_of-beyond images page (omega arith) ∙ sym (log-beyond page far)
+        ]
 
-  pub image_of-after : image_of (word_at images) 0 ≡ image_of (memory_after (opening_word 1) log) 0
-  image_of-after =
-      let least : 1 < pages = grind (arith, nat_tests, fits) in
-      image_of-same (memory_after (opening_word 1) log) (word_at images) 0 (λ index in-page. words (word_place 0 index) (omega arith))
+    pub image_of-log : 1 ≤ pages → image_of (word_at images) 0 ≡ image_of (memory_after start log) 0
+    image_of-log some = image_of-same (memory_after start log) (word_at images) 0 (λ index in-page. words (word_place 0 index) (omega arith))
 
-  pub bits_of-after : (page : ℕ) → bits_of pages (word_at images) page ≡ bits_of pages (memory_after (opening_word 1) log) page
-  unfolding bits_of
-  bits_of-after page = let e = image_of-after in rw e refl
+    pub bits_of-log : 1 ≤ pages → (page : ℕ) → bits_of pages (word_at images) page ≡ bits_of pages (memory_after start log) page
+    unfolding bits_of
+    bits_of-log some page = let e = image_of-log some in rw e refl
+
+-- the same behind the opening of one tree
+module _ (pages : ℕ) (log : List Entry) (fits : has_pages pages ≡ true) (are : AreInGrammar pages log) where
+  least : 1 < pages
+  least = grind (arith, nat_tests, fits)
+
+  free : (page : ℕ) → pages ≤ page → pages_of (opening_word 1) page ≡ free_page
+  free page far = let some = least in pages_of-other 1 page (omega arith)
+
+  pub pages_after-beyond : (page : ℕ) → pages ≤ page → pages_after (opening_word 1) log page ≡ free_page
+  pages_after-beyond = log-beyond (opening_word 1) pages free log are
+
+  module _ (images : List (List ℕ)) (size : length images ≡ pages)
+      (words : (place : ℕ) → place < pages * PAGE_WORDS → word_at images place ≡ memory_after (opening_word 1) log place) where
+    pub memory_of-after : memory_of images ≡ pages_after (opening_word 1) log
+    memory_of-after = memory_of-log (opening_word 1) pages free log are images size words
+
+    pub image_of-after : image_of (word_at images) 0 ≡ image_of (memory_after (opening_word 1) log) 0
+    image_of-after = image_of-log (opening_word 1) pages free log are images size words (let some = least in omega arith)
+
+    pub bits_of-after : (page : ℕ) → bits_of pages (word_at images) page ≡ bits_of pages (memory_after (opening_word 1) log) page
+    bits_of-after = bits_of-log (opening_word 1) pages free log are images size words (let some = least in omega arith)
 
 -- The test of an entry over images before and after it is that over the pages of the log.
 module _ (pages : ℕ) (fits : has_pages pages ≡ true) (front : List Entry) (e : Entry) (are : AreInGrammar pages (front ++ e ∷ []))

@@ -23,7 +23,8 @@ use Rattle.ib_planned_log.specs.KeptLog.{IsKeptLog-front}
 use Rattle.ib_planned_log.specs.LeafChange.{kept_pages}
 use Rattle.ib_planned_log.proofs.PushLaws.{lawful-before}
 use Rattle.ib_planned_change.specs.Full.{full_behind, full_kind}
-use Rattle.ib_planned_change.proofs.BehindLaws.{bit-taken, bits-in, no-page}
+use Rattle.ib_plans.proofs.PageZeroLaws.{bit-taken, no-page}
+use Rattle.ib_planned_change.proofs.BehindLaws.{bits-in}
 
 -- lists one longer that are the same have the same parts
 push-parts : (xs ys : History) (x y : LoggedChange) → xs ++ x ∷ [] ≡ ys ++ y ∷ [] → (xs ≡ ys) × (x ≡ y)

@@ -11,7 +11,7 @@ log-few : (n : ℕ) → has_log n ≡ true → n ≤ 16777216
 log-few n has = grind (arith, nat_tests, has)
 
 pub returns : goal.returns
-returns c =
+returns g c =
     let sizes : Sizes = c.args.mtr.now.latches.now.sizes in
     let q : PassState = c.args.mtr.now.pass.now in
     let size : c.geometry-geometry.result ≡ sizes = c.geometry-geometry.ensures in

@@ -5,7 +5,8 @@ use Rattle.ib_layout.specs.Geometry.{Sizes}
 use Rattle.ib_logrec.specs.declared.entry.Entry.{Entry}
 use Rattle.ib_runs.specs.Alone.{AreNeverFull}
 use Rattle.ib_runs.specs.Answers.{answers_of}
-use Rattle.ib_runs.specs.Outcomes.{HasRan, IsSettled}
+use Rattle.ib_runs.specs.Outcomes.{HasRanUnder, IsSettled}
+use Rattle.ib_runs.specs.Shared.{calls_under}
 use Rattle.ib_runs.specs.declared.ran.Ran.{Ran}
 use Rattle.ib_runs.proofs.script_run.run_script.Goals as goal
 
@@ -18,7 +19,7 @@ returns-then-is_settled-clause-ran g c =
     let script = c.args.script.now in
     let ran : Ran = c.in_ok-ran.ran in
     let h = c.in_ok-ran.ensures.ran in
-    let wider = subst (λ (k : Sizes). (is : HasRan k script.commands ran) × (is.log ≡ h.ran_is.log)) c.geometry-sizes.ensures (c.is_settled.ensures.settled c.if-is_settled.true script.commands h.ran_is) in
+    let wider = subst (λ (k : Sizes). (is : HasRanUnder (calls_under g.S.Shared.law) k script.commands ran) × (is.log ≡ h.ran_is.log)) c.geometry-sizes.ensures (c.is_settled.ensures.settled c.if-is_settled.true script.commands h.ran_is) in
     record {
       ran_is = wider.0;
       beside = subst (λ (log : List Entry). g.B.Beside.holds c.run_in.new.beside script.sizes.pages log) (sym wider.1)

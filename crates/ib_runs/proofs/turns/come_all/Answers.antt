@@ -12,8 +12,8 @@ use Rattle.ib_runs.proofs.turns.come_all.Goals as goal
 
 pub loop-before-preserved : goal.loop-before-preserved
 loop-before-preserved g c =
-    let start : SpaceState = c.args.index.now in
-    let now : SpaceState = c.loop-before.index in
+    let start : SpaceState = g.S.Shared.space c.args.shared.now in
+    let now : SpaceState = g.S.Shared.space c.loop-before.shared in
     let i = c.loop-before.invariant in
     let pass = c.in-Ok.ensures.pass in
     let A = g.A.Access in

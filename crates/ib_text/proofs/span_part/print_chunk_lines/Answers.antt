@@ -1,30 +1,31 @@
-use Rattle.std.proofs.Common.{◌≡◌, ◌∙◌, ◌+◌, List, ◌∷◌, [], ◌++◌, ap, sym, arith, flat_map, drop, add-one, length, refl}
+use Rattle.std.proofs.Common.{◌≡◌, ◌∙◌, ℕ, ◌+◌, List, ◌∷◌, [], ◌++◌, ap, sym, arith, flat_map, drop, add-one, length, refl}
 use Rattle.std.proofs.Math.Seq.{drop-cons}
 use Rattle.std.proofs.lemmas.List.{drop_all}
 use Rattle.ib_map.specs.Chunks.{spans_of}
 use Rattle.ib_map.specs.Pairs.{Pairs}
+use Rattle.ib_map.specs.Replies.{Span}
 use Rattle.ib_map.specs.declared.chunks.Chunk.{Chunk}
-use Rattle.ib_text.specs.Output.{joined_spans, span_text}
+use Rattle.ib_text.specs.Output.{joined_spans}
 use Rattle.ib_text.specs.Spans.{span_between}
 use Rattle.ib_text.proofs.ChunkLines.{printed_none, printed_together, printed_apart, printed_all, within_pairs}
 use Rattle.ib_io.proofs.Writing.{puts_on, puts_none}
 use Rattle.ib_text.proofs.span_part.print_chunk_lines.Goals as goal
 use Rattle.ib_text.proofs.span_part.print_chunk_lines.Goals.{then-chunk-first, else-chunk-first}
 
-no-chunks : (list : List Chunk) (pairs : Pairs) → length list ≡ 0 → flat_map span_text (joined_spans (spans_of list pairs)) ≡ []
-no-chunks [] pairs none = refl
-no-chunks (chunk ∷ list) pairs none = absurd (omega arith)
+no-chunks : (told : Span → List ℕ) (list : List Chunk) (pairs : Pairs) → length list ≡ 0 → flat_map told (joined_spans (spans_of list pairs)) ≡ []
+no-chunks told [] pairs none = refl
+no-chunks told (chunk ∷ list) pairs none = absurd (omega arith)
 
 pub returns-in_default : goal.returns-in_default
-returns-in_default g c = record { puts = rw (no-chunks c.args.list.now c.args.pairs.now c.in_default.ensures.cases) (puts_none _) }
+returns-in_default g c = record { puts = rw (no-chunks g.T.ScanText.span c.args.list.now c.args.pairs.now c.in_default.ensures.cases) (puts_none _) }
 
 pub loop-chunk-init : goal.loop-chunk-init
 loop-chunk-init g c =
     let list = c.in-Some.ensures.cases.0 in
-    ([], puts_none _, rw list (printed_none c.in-Some.chunk.now c.in-Some.rest.now c.args.pairs.now (rw list at c.requires)))
+    ([], puts_none _, rw list (printed_none g.T.ScanText.span c.in-Some.chunk.now c.in-Some.rest.now c.args.pairs.now (rw list at c.requires)))
 
-pub print_joined_chunks-requires-clause-within : goal.print_joined_chunks-requires-clause-within
-print_joined_chunks-requires-clause-within g c = within_pairs _ _ _ _ _ _ c.loop-chunk.invariant.2
+pub print_span-requires-clause-within : goal.print_span-requires-clause-within
+print_span-requires-clause-within g c = within_pairs g.T.ScanText.span _ _ _ _ _ _ c.loop-chunk.invariant.2
 
 pub loop-chunk-preserved : goal.loop-chunk-preserved
 loop-chunk-preserved g c =
@@ -36,18 +37,18 @@ loop-chunk-preserved g c =
     let is = rw split at inv.2 in
     elim c.if-chunk-first.branch [
       | then-chunk-first w ↦ (
-        inv.0 ++ span_text (span_between c.loop-chunk.first c.loop-chunk.last c.args.pairs.now),
-        rw w.writer-is (puts_on {y = span_text (span_between c.loop-chunk.first c.loop-chunk.last c.args.pairs.now)} inv.1 w.print_joined_chunks.ensures.puts),
-        rw w.first-is (printed_apart _ _ inv.0 c.loop-chunk.first c.loop-chunk.last chunk _ is w.if-chunk-first.true),
+        inv.0 ++ g.T.ScanText.span (span_between c.loop-chunk.first c.loop-chunk.last c.args.pairs.now),
+        rw w.writer-is (puts_on {y = g.T.ScanText.span (span_between c.loop-chunk.first c.loop-chunk.last c.args.pairs.now)} inv.1 w.print_span.ensures.puts),
+        rw w.first-is (printed_apart g.T.ScanText.span _ _ inv.0 c.loop-chunk.first c.loop-chunk.last chunk _ is w.if-chunk-first.true),
       )
-      | else-chunk-first w ↦ (inv.0, rw w.writer-is inv.1, rw w.first-is (printed_together _ _ inv.0 c.loop-chunk.first c.loop-chunk.last chunk _ is w.if-chunk-first.false))
+      | else-chunk-first w ↦ (inv.0, rw w.writer-is inv.1, rw w.first-is (printed_together g.T.ScanText.span _ _ inv.0 c.loop-chunk.first c.loop-chunk.last chunk _ is w.if-chunk-first.false))
     ]
 
-pub print_joined_chunks-requires-2-clause-within : goal.print_joined_chunks-requires-2-clause-within
-print_joined_chunks-requires-2-clause-within g c = within_pairs _ _ _ _ _ _ c.loop-chunk.invariant.2
+pub print_span-requires-2-clause-within : goal.print_span-requires-2-clause-within
+print_span-requires-2-clause-within g c = within_pairs g.T.ScanText.span _ _ _ _ _ _ c.loop-chunk.invariant.2
 
 pub returns : goal.returns
 returns g c =
     let inv = c.loop-chunk.invariant in
     let is = rw (drop_all c.loop-chunk.chunk-index c.in-Some.rest.now c.loop-chunk-test.false) at inv.2 in
-    record { puts = rw (← printed_all _ _ inv.0 c.loop-chunk.first c.loop-chunk.last is) (puts_on inv.1 c.print_joined_chunks-2.ensures.puts) }
+    record { puts = rw (← printed_all g.T.ScanText.span _ _ inv.0 c.loop-chunk.first c.loop-chunk.last is) (puts_on {y = g.T.ScanText.span (span_between c.loop-chunk.first c.loop-chunk.last c.args.pairs.now)} inv.1 c.print_span-2.ensures.puts) }

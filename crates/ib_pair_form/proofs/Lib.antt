@@ -1,0 +1,6 @@
+mod KeyLaws
+mod PairFitLaws
+mod ScriptCalls
+mod SecondLaws
+mod TextLaws
+mod ValueText
