@@ -67,6 +67,7 @@ void *realloc(void *old, size_t size) {
 
 ONE = b"space 64 65536\ninsert 1 10\ninsert x: 20\nget 1\ndelete x:\ninsert x:00ff 30\nscan x: 9\nscan 9 0\n"
 TWO = b"space 64 200000\nsession 1\n" + b"".join(b"insert %d 1\ninsert x:%016x 2\n" % (key, key) for key in range(30)) + b"scan x: 99\nsession 2\nscan 0 99\ndelete 5\nget 7\nsession 4\nget 1\n"
+PAIR = b"space 64 65536\ninsert a 5\ninsert x: 5\nvalue 5\nget a\ndelete a\nvalue 5\n"
 
 
 def example(name):
@@ -79,6 +80,8 @@ ROWS = (
     (["run"], TWO),
     (["fast"], ONE),
     (["fast"], TWO),
+    (["pair"], PAIR),
+    (["pair"], b"insert a 5\ninsert abcdefgh 5\n"),
     (["raw"], ONE),
     (["raw"], TWO),
     (["image"], ONE),

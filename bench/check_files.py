@@ -5,8 +5,8 @@ Logs and image files are written by the program itself (`raw` and `image`, of sc
 tree_logs.py too. Each is spoiled once to four times: a bit or a byte changed, bytes cut out, put in or doubled, two words exchanged, a word replaced by 0, by the greatest, by another
 word of the file or by one more, a count of writes out of range, the tail of another log behind the front of one. Scripts and events are
 spoiled by bytes and by lines. Every input must be answered as the model answers it, and within a second of processor time.
-Words: how many inputs (20,000 if none; of eight inputs three are logs, one an image file, two scripts, by `run` and by `fast` in turn,
-and two events), a seed (83), and how many processes (4). It prints how many inputs of each form were taken and refused, the longest time, and the most processor
+Words: how many inputs (20,000 if none; of sixteen inputs six are logs, two image files, four scripts, two of them by `run`, one by `fast` and one by `pair`,
+and four events), a seed (83), and how many processes (4). It prints how many inputs of each form were taken and refused, the longest time, and the most processor
 time and memory that one of every tenth input took for each of its bytes, over what its form takes for an input with no command in the
 largest space; an input of less than a kilobyte counts as one. At the first difference it prints what differs and the file with the input,
 and ends with the status 1. It takes less than a minute for 20,000 inputs on four idle processors. GNU's `time` must be there.
@@ -23,8 +23,9 @@ from collections import Counter
 from multiprocessing import Pool
 
 import keys
-from check_models import IMAGE, WORDS, latch, new_space, replay, restore, run, some_events, some_script, some_tree
+from check_models import IMAGE, WORDS, latch, new_space, pair, replay, restore, run, some_events, some_pair_script, some_script, some_tree
 from judge import Wrong, commands_of, judge
+from judge_pairs import judge_pairs
 from program import PROGRAM, answer, built
 from tree_logs import HEAD, entry_words, file_of
 
@@ -44,10 +45,16 @@ def bytes_of(words):
 LARGEST = {
     "run": b"space 4096 16777216\n",
     "fast": b"space 4096 16777216\n",
+    "pair": b"space 4096 16777216\n",
     "replay": b"IBLOG572" + (4096).to_bytes(8, "big"),
     "restore": bytes_of([IMAGE, 16, 0] + [word for page in range(16) for word in [0, *new_space().get(page, [0] * WORDS)]]),
     "latch": b"",
 }
+
+
+# The forms in turn, and what makes the lines of one.
+TURNS = ("replay", "run", "restore", "latch", "replay", "fast", "replay", "latch", "replay", "pair", "restore", "latch", "replay", "run", "replay", "latch")
+LINES = {"run": some_script, "fast": some_script, "pair": some_pair_script, "latch": some_events}
 
 
 def measured(form, data):
@@ -208,11 +215,11 @@ def is_told_full(text):
 
 def why_differs(form, data, status, found):
     """Why this answer is not the model's; None where it is."""
-    if form in ("run", "fast"):
-        wanted, text = run(data)
+    if form in ("run", "fast", "pair"):
+        wanted, text = (pair if form == "pair" else run)(data)
         if wanted == 0 and status == 0:
             try:
-                judge(data.decode("latin-1"), found.decode("latin-1"))
+                (judge_pairs if form == "pair" else judge)(data.decode("latin-1"), found.decode("latin-1"))
             except Wrong as wrong:
                 return str(wrong)
             if len(commands_of(data.decode("latin-1"))[1]) > 1 or is_told_full(found):
@@ -230,11 +237,11 @@ def tried(work):
     counts, longest, most = Counter(), 0.0, {}
     least = {form: least_of(form) for form in LARGEST}
     for turn in range(count):
-        form = ("replay", "run", "restore", "latch", "replay", "fast", "replay", "latch")[turn % 8]
+        form = TURNS[turn % len(TURNS)]
         if form in files:
             data = spoiled_file(dice, files[form])
         else:
-            data = spoiled_lines(dice, (some_events if form == "latch" else some_script)(dice))
+            data = spoiled_lines(dice, LINES[form](dice))
         status, found, seconds = timed(form, data)
         why = why_differs(form, data, status, found)
         if why is None and seconds > SECONDS:

@@ -11,7 +11,7 @@ ghost use Rattle.ib_pair_form.specs.PairCalls.{IsPairCall};
 
 use crate::pair_descents::PairDescents;
 use crate::print::PairText;
-use crate::shared_pair::SharedPair;
+use crate::shared_pair::{SECOND_ROOT, SharedPair};
 use ib_io::{INPUT_BYTES, Sink, Status, refuse, tell};
 use ib_pair_law::pair_law;
 use ib_runs::{Gate, Nobody, pairs_of, run_script};
@@ -44,7 +44,8 @@ fn run<K: Sink, G: Gate + Sync, R: Threads + Wait + Sync>(
     ) else {
         return Status::Memory;
     };
-    let Ok(second) = pairs_of::<SharedPair>(alloc, &ran.closed, geometry.pages(), 2) else {
+    let Ok(second) = pairs_of::<SharedPair>(alloc, &ran.closed, geometry.pages(), SECOND_ROOT)
+    else {
         return Status::Memory;
     };
     tell(sink, PairText { ran, second }, Status::Done)

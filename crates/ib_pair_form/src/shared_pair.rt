@@ -16,8 +16,8 @@ use ib_shared::SharedSpace;
 use std::alloc::Global;
 use std::sync::Wait;
 
-// The root of the tree over which scans go.
-const SECOND_ROOT: u32 = 2;
+/// The root of the second tree, over which scans go.
+pub(crate) const SECOND_ROOT: u32 = 2;
 
 /// A pair of trees in one space. It is not dropped, but closed or discarded.
 pub struct SharedPair {

@@ -80,17 +80,17 @@ sessions_from_by t session [] = []
 sessions_from_by t session (rs ∷ runs) = session_text_by t session rs ++ sessions_from_by t (session + 1) runs
 
 -- by the pairs of its chunks: how a scan of a map is told
-abbrev pub pair_telling : Telling
-pair_telling = record { line = record_line; span = span_text }
+abbrev pub chunk_telling : Telling
+chunk_telling = record { line = record_line; span = span_text }
 
 abbrev pub record_text : FullRecord → List ℕ
-record_text = record_text_by pair_telling
+record_text = record_text_by chunk_telling
 
 abbrev pub session_text : ℕ → List FullRecord → List ℕ
-session_text = session_text_by pair_telling
+session_text = session_text_by chunk_telling
 
 abbrev pub sessions_from : ℕ → Runs → List ℕ
-sessions_from = sessions_from_by pair_telling
+sessions_from = sessions_from_by chunk_telling
 
 abbrev pub change_text : Change → List ℕ
 change_text (InsertChange key value) = codes "insert " ++ pair_text (key, value)

@@ -10,7 +10,7 @@ ghost use Rattle.ib_tool.specs.Counts.{count_line, count_of};
 use crate::counting::{ReplyKind, count_of};
 use ib_io::{Printed, Sink, Writer};
 use ib_runs::{Ran, SessionOut, print_sessions};
-use ib_text::{PairLines, all_pairs, print_log, print_map};
+use ib_text::{ChunkText, all_pairs, print_log, print_map};
 
 /// A run of a script. Its text is what each session was answered, the log and the map in the end.
 #[derive(Drop)]
@@ -28,7 +28,7 @@ impl Printed for RunText {
     ghost text = { λ t. output_of (map answers_of t.ran.sessions.items) t.ran.history.items t.ran.map };
 
     fn print<K: Sink>(self, writer: &mut Writer<'_, K>) {
-        print_sessions::<PairLines, _>(writer, &self.ran.sessions);
+        print_sessions::<ChunkText, _>(writer, &self.ran.sessions);
         print_log(writer, &self.ran.history);
         print_map(writer, all_pairs(&self.ran.map));
     }

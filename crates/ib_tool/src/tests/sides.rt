@@ -62,7 +62,7 @@ fn run_between(
 }
 
 // A form with an input, the status that it comes to, and what is written then. No input's length is a multiple of 10.
-const ROWS: [(&str, &[u8], Status, &[u8]); 6] = [
+const ROWS: [(&str, &[u8], Status, &[u8]); 9] = [
     (
         "run",
         b"space 16 16384\ninsert 10 100\ninsert 10 7\n",
@@ -70,6 +70,24 @@ const ROWS: [(&str, &[u8], Status, &[u8]); 6] = [
         b"session 1\ninsert 10 100 -> inserted at 0\ninsert 10 7 -> duplicate at 1\nlog 1\n1 1 insert 10 100\nmap 1\n10 100\n",
     ),
     ("run", b"put 1 2", Status::Script, b"script: line 1: word\n"),
+    (
+        "fast",
+        b"insert 10 100\nget 10\n",
+        Status::Done,
+        b"session 1\ninsert 10 100 -> inserted at 0\nget 10 -> 100 at 1\nlog 1\n1 1 insert 10 100\nmap 1\n10 100\n",
+    ),
+    (
+        "pair",
+        b"insert a 5\nvalue 5\n",
+        Status::Done,
+        b"session 1\ninsert a 5 -> inserted at 0\nvalue 5 -> 1 keys\nat 1\nkey a\nlog 1\n1 1 insert a 5\nmap 1\na 5\nsecond 1\nx:000000000000000561\n",
+    ),
+    (
+        "pair",
+        b"insert abcdefgh 1",
+        Status::Script,
+        b"script: line 1: long\n",
+    ),
     (
         "raw",
         b"space 16 8196\ninsert 10 100\n",

@@ -28,9 +28,9 @@ fn print_pair_lines<K: Sink>(writer: &mut Writer<'_, K>, pairs: &[(Key, u64)])
 /// Scans of a map: each call is `CALL -> REPLY at P`, and each chunk `from A to B at P` with a line `pair K V` for each
 /// of its pairs.
 #[derive(Clone, Copy, Debug)]
-pub struct PairLines;
+pub struct ChunkText;
 
-impl ScanText for PairLines {
+impl ScanText for ChunkText {
     ghost line = { record_line };
 
     ghost span = { span_text };

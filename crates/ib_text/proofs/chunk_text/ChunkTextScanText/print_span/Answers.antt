@@ -1,5 +1,5 @@
 use Rattle.ib_io.proofs.Writing.{puts_on}
-use Rattle.ib_text.proofs.pair_lines.PairLinesScanText.print_span.Goals as goal
+use Rattle.ib_text.proofs.chunk_text.ChunkTextScanText.print_span.Goals as goal
 
 pub returns : goal.returns
 returns g c = record {

@@ -1,7 +1,7 @@
 use Rattle.ib_text.specs.Output.{pair_line}
 use Rattle.ib_io.proofs.Writing.{puts_none}
 use Rattle.ib_text.proofs.NextItem.{puts_item}
-use Rattle.ib_text.proofs.pair_lines.print_pair_lines.Goals as goal
+use Rattle.ib_text.proofs.chunk_text.print_pair_lines.Goals as goal
 
 pub loop-pair-init : goal.loop-pair-init
 loop-pair-init g c = puts_none _
