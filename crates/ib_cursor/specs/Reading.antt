@@ -2,6 +2,7 @@
 use Rattle.std.specs.Prelude.{◌≡◌, ℕ, ◌+◌, ◌<◌, true, List, refl}
 use Rattle.std.specs.Borrow.{MutBor}
 use Rattle.std.proofs.Common.{◌∙◌, ap}
+use Rattle.ib_layout.specs.Places.{page_place}
 use Rattle.ib_core.specs.Sessions.{holdings}
 use Rattle.ib_rule.specs.declared.memory.Loaded.{Loaded}
 use Rattle.ib_rule.specs.declared.view.View.{View}
@@ -17,6 +18,11 @@ pub record CanRead (space : SpaceState) (page : ℕ) (p : PassState) : Type 0 wh
   pub there : page < space.sizes.pages
   pub held : 0 < holdings (page + 2) p.view.session
   pub watched : is_watched (page + 2) p.view.memory.since ≡ true
+
+-- .. and the first of them lies at this place of the table
+pub record CanReadFrom (space : SpaceState) (page start : ℕ) (p : PassState) : Type 0 where
+  pub can : CanRead space page p
+  pub begins : start ≡ page_place space.sizes page 0
 
 -- the view with other loaded words
 abbrev pub with_loads : List Loaded → View → View

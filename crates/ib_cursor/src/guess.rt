@@ -57,6 +57,7 @@ pub fn key_standing<L: Law, S: Sleep>(
     ensures still { IsStillMtr mtr.old mtr.new }
     ensures read { HasReadWords mtr.old.pass.now mtr.new.pass.now }
 {
-    let mut held = HeldPage { mtr, page };
+    let start = mtr.page_start(page);
+    let mut held = HeldPage { mtr, page, start };
     held.leaf_standing(key)
 }

@@ -12,7 +12,7 @@ ghost use Rattle.ib_walk.specs.Search.{child_for};
 ghost use Rattle.ib_walk.specs.Words.{image_of, state_of};
 ghost use Rattle.ib_mtr.specs.Mtr.{IsStillMtr};
 ghost use Rattle.ib_cursor.specs.Guesses.{leaf_standing};
-ghost use Rattle.ib_cursor.specs.Reading.{CanRead, HasReadHeld, HasReadWords, read_more, read_none};
+ghost use Rattle.ib_cursor.specs.Reading.{CanRead, CanReadFrom, HasReadHeld, HasReadWords, read_more, read_none};
 ghost use Rattle.ib_cursor.specs.Spaces.{pages_under, words_under};
 
 use ib_latch::Sleep;
@@ -21,28 +21,29 @@ use ib_map::Key;
 use ib_mtr::Mtr;
 use ib_page::{KeyStanding, PageWords, child_in, get_in, is_tree_in, level_in, standing_in};
 
-// A page of which the mini-transaction holds the latch, with a look at the log's end since. It is not
-// loaded: its words are read one by one, where they lie.
+// A page of which the mini-transaction holds the latch, with a look at the log's end since, and the place
+// of its first word. It is not loaded: its words are read one by one, where they lie.
 #[derive(Drop)]
 pub(crate) struct HeldPage<'m, 'a, L: Law, S: Sleep> {
     pub(crate) mtr: &'m mut Mtr<'a, L, S>,
     pub(crate) page: u32,
+    pub(crate) start: usize,
 }
 
 impl<'m, 'a, L: Law, S: Sleep> PageWords for HeldPage<'m, 'a, L, S> {
     ghost words = { λ h. image_of (memory_after (by_place L.opening h.mtr.now.latches.now.sizes.pages) h.mtr.now.pass.now.view.memory.seen) h.page };
 
-    ghost can_read = { λ h. CanRead h.mtr.now.latches.now h.page h.mtr.now.pass.now };
+    ghost can_read = { λ h. CanReadFrom h.mtr.now.latches.now h.page h.start h.mtr.now.pass.now };
 
-    ghost has_read = { λ h k. (k.mtr.ghost_name ≡ h.mtr.ghost_name) × (k.page ≡ h.page) × (k.mtr.now.latches ≡ h.mtr.now.latches) × (k.mtr.now.pass.ghost_name ≡ h.mtr.now.pass.ghost_name) × HasReadWords h.mtr.now.pass.now k.mtr.now.pass.now };
+    ghost has_read = { λ h k. (k.mtr.ghost_name ≡ h.mtr.ghost_name) × (k.page ≡ h.page) × (k.start ≡ h.start) × (k.mtr.now.latches ≡ h.mtr.now.latches) × (k.mtr.now.pass.ghost_name ≡ h.mtr.now.pass.ghost_name) × HasReadWords h.mtr.now.pass.now k.mtr.now.pass.now };
 
     fn word(&mut self, index: usize) -> u64 {
-        self.mtr.word(self.page, index)
+        self.mtr.word(self.page, self.start, index)
     }
 
-    ghost read_none = { λ h. (refl, refl, refl, refl, read_none h.mtr.now.pass.now) };
+    ghost read_none = { λ h. (refl, refl, refl, refl, refl, read_none h.mtr.now.pass.now) };
 
-    ghost read_more = { λ h k l one two. (two.0 ∙ one.0, two.1 ∙ one.1, two.2 ∙ one.2, two.3 ∙ one.3, read_more h.mtr.now.pass.now k.mtr.now.pass.now l.mtr.now.pass.now one.4 two.4) };
+    ghost read_more = { λ h k l one two. (two.0 ∙ one.0, two.1 ∙ one.1, two.2 ∙ one.2, two.3 ∙ one.3, two.4 ∙ one.4, read_more h.mtr.now.pass.now k.mtr.now.pass.now l.mtr.now.pass.now one.5 two.5) };
 }
 
 // Where a key stands on a page, over a source of its words, if that is a leaf.
@@ -63,7 +64,7 @@ fn leaf_standing_in<W: PageWords>(page: &mut W, key: Key) -> Option<KeyStanding>
 impl<'m, 'a, L: Law, S: Sleep> HeldPage<'m, 'a, L, S> {
     // The level of the page, by one word of it.
     fn level(&mut self) -> u32
-        requires can { CanRead self.old.mtr.now.latches.now self.old.page
+        requires can { CanReadFrom self.old.mtr.now.latches.now self.old.page self.old.start
             self.old.mtr.now.pass.now }
         requires tree { IsTreePage (words_under L.Law self.old.mtr.now.latches.now
             self.old.mtr.now.pass.now self.old.page) }
@@ -77,7 +78,7 @@ impl<'m, 'a, L: Law, S: Sleep> HeldPage<'m, 'a, L, S> {
 
     // The child of the key on the page, which is a node.
     fn child(&mut self, key: Key) -> u32
-        requires can { CanRead self.old.mtr.now.latches.now self.old.page
+        requires can { CanReadFrom self.old.mtr.now.latches.now self.old.page self.old.start
             self.old.mtr.now.pass.now }
         requires tree { IsTreePage (words_under L.Law self.old.mtr.now.latches.now
             self.old.mtr.now.pass.now self.old.page) }
@@ -96,7 +97,7 @@ impl<'m, 'a, L: Law, S: Sleep> HeldPage<'m, 'a, L, S> {
 
     // The value of the key on the page, which is a leaf.
     fn value(&mut self, key: Key) -> Option<u64>
-        requires can { CanRead self.old.mtr.now.latches.now self.old.page
+        requires can { CanReadFrom self.old.mtr.now.latches.now self.old.page self.old.start
             self.old.mtr.now.pass.now }
         requires tree { IsTreePage (words_under L.Law self.old.mtr.now.latches.now
             self.old.mtr.now.pass.now self.old.page) }
@@ -109,7 +110,7 @@ impl<'m, 'a, L: Law, S: Sleep> HeldPage<'m, 'a, L, S> {
 
     // Where the key stands on the page, if that is a leaf.
     pub(crate) fn leaf_standing(&mut self, key: Key) -> Option<KeyStanding>
-        requires can { CanRead self.old.mtr.now.latches.now self.old.page
+        requires can { CanReadFrom self.old.mtr.now.latches.now self.old.page self.old.start
             self.old.mtr.now.pass.now }
         requires formed { IsFormed (words_under L.Law self.old.mtr.now.latches.now
             self.old.mtr.now.pass.now self.old.page) }
@@ -131,7 +132,8 @@ pub(crate) fn level_of<L: Law, S: Sleep>(mtr: &mut Mtr<'_, L, S>, page: u32) -> 
     ensures still { IsStillMtr mtr.old mtr.new }
     ensures read { HasReadWords mtr.old.pass.now mtr.new.pass.now }
 {
-    let mut held = HeldPage { mtr, page };
+    let start = mtr.page_start(page);
+    let mut held = HeldPage { mtr, page, start };
     held.level()
 }
 
@@ -148,7 +150,8 @@ pub(crate) fn child_of<L: Law, S: Sleep>(mtr: &mut Mtr<'_, L, S>, page: u32, key
     ensures still { IsStillMtr mtr.old mtr.new }
     ensures read { HasReadWords mtr.old.pass.now mtr.new.pass.now }
 {
-    let mut held = HeldPage { mtr, page };
+    let start = mtr.page_start(page);
+    let mut held = HeldPage { mtr, page, start };
     held.child(key)
 }
 
@@ -166,6 +169,7 @@ pub(crate) fn value_of<L: Law, S: Sleep>(
     ensures still { IsStillMtr mtr.old mtr.new }
     ensures read { HasReadWords mtr.old.pass.now mtr.new.pass.now }
 {
-    let mut held = HeldPage { mtr, page };
+    let start = mtr.page_start(page);
+    let mut held = HeldPage { mtr, page, start };
     held.value(key)
 }

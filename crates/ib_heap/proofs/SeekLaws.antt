@@ -76,6 +76,16 @@ up_to-le (suc j) (x ∷ xs) = elim (cases_eq x.owned 0) [
   | inr ne ↦ rw (ne_eqb x.owned 0 ne) (let r = up_to-le j xs in omega arith)
 ]
 
+-- a later slot counts no fewer
+pub up_to-grows : (i j : ℕ) (xs : List Node) → i ≤ j → up_to i xs ≤ up_to j xs
+up_to-grows zero j xs le = omega arith
+up_to-grows (suc i) zero xs le = absurd (omega arith)
+up_to-grows (suc i) (suc j) [] le = omega arith
+up_to-grows (suc i) (suc j) (x ∷ xs) le = elim (cases_eq x.owned 0) [
+  | inl e ↦ rw (eq-eqb x.owned 0 e) (let r = up_to-grows (suc i) (suc j) xs le in omega arith)
+  | inr ne ↦ rw (ne_eqb x.owned 0 ne) (let r = up_to-grows i j xs (omega arith) in omega arith)
+]
+
 -- the record up to which a slot counts
 pub up_to-some : (j : ℕ) (xs : List Node) → 0 < j → j < length (owners xs) → 0 < up_to j xs
 up_to-some zero xs some lt = absurd (omega arith)
@@ -227,7 +237,7 @@ next-is ws k offset kn le at =
 pub record-is : (ws : List ℕ) (k offset : ℕ) → Known ws → k < length (nodes_of ws) → offset ≡ first_of (drop k (nodes_of ws)) → slice_get (records_of ws) k ≡ Some (key_at ws offset, get_or ws (offset + 3) 0)
 record-is ws k offset kn lt at = ap (λ (rs : Pairs). slice_get rs k) kn.records ∙ (record-at ws (nodes_of ws) k lt ∙ ap (λ i. Some (key_at ws i, get_or ws (i + 3) 0)) (sym at))
 
--- a slot whose owner is below the key, and one whose owner is not
+-- a slot whose owner is below the key, and one at or behind a slot whose owner is not
 pub slot-record : (ws : List ℕ) (slot offset : ℕ) → Known ws → 0 < slot → slot < length (owners (nodes_of ws)) → offset ≡ last_from 18 (take (up_to slot (nodes_of ws)) (nodes_of ws))
     → slice_get (records_of ws) (up_to slot (nodes_of ws) - 1) ≡ Some (key_at ws offset, get_or ws (offset + 3) 0)
 slot-record ws slot offset kn pos lt at =
@@ -240,10 +250,11 @@ slot-below ws slot offset key kn pos lt at below =
     let some = up_to-some slot (nodes_of ws) pos lt in
     let r = index_of-behind_lower key 0 (records_of ws) end_rank (up_to slot (nodes_of ws) - 1) _ kn.rises (slot-record ws slot offset kn pos lt at) below in omega arith
 
-pub slot-above : (ws : List ℕ) (slot offset : ℕ) (key : MapKey) → Known ws → 0 < slot → slot < length (owners (nodes_of ws)) → offset ≡ last_from 18 (take (up_to slot (nodes_of ws)) (nodes_of ws))
-    → rank key ≤ rank (key_at ws offset) → index_of key (records_of ws) < up_to slot (nodes_of ws)
-slot-above ws slot offset key kn pos lt at above =
+pub slot-above : (ws : List ℕ) (slot later offset : ℕ) (key : MapKey) → Known ws → 0 < slot → slot < length (owners (nodes_of ws)) → slot ≤ later → offset ≡ last_from 18 (take (up_to slot (nodes_of ws)) (nodes_of ws))
+    → rank key ≤ rank (key_at ws offset) → index_of key (records_of ws) < up_to later (nodes_of ws)
+slot-above ws slot later offset key kn pos lt le at above =
     let some = up_to-some slot (nodes_of ws) pos lt in
+    let more = up_to-grows slot later (nodes_of ws) le in
     let r = index_of-not_behind key (records_of ws) (up_to slot (nodes_of ws) - 1) _ (slot-record ws slot offset kn pos lt at) above in omega arith
 
 -- a walk from behind the first records on, so many steps

@@ -130,17 +130,20 @@ pub(crate) fn slot_of<W: PageWords>(page: &mut W, key: Key) -> usize
     ensures still { IsStillSource W.PageWords page.old page.new }
 {
     let mut low = 0;
-    let mut high = last_slot(page);
-    while low + 1 < high {
-        let middle = (low + high) / 2;
+    let mut rest = last_slot(page);
+    while rest > 1 {
+        let half = rest / 2;
+        let middle = low + half;
         let offset = owner(page, middle);
-        if is_below_at(page, offset, key) {
-            low = middle;
+        // A choice of a value, and no branch: which way a search goes cannot be guessed.
+        low = if is_below_at(page, offset, key) {
+            middle
         } else {
-            high = middle;
-        }
+            low
+        };
+        rest -= half;
     }
-    high
+    low + rest
 }
 
 /// How many records stand up to the owner of a slot, that one with them.

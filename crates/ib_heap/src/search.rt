@@ -32,6 +32,7 @@ pub(crate) struct Cursor {
 }
 
 /// Finds a key.
+#[inline(always)]
 pub(crate) fn seek<W: PageWords>(page: &mut W, key: Key) -> Cursor
     requires { IsTreeSource W.PageWords page.old }
     ensures before { let nodes = nodes_of (W.words page.old) in result.before ≡ last_from INFIMUM (take (index_of key (records_of (W.words page.old))) nodes) }

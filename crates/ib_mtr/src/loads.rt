@@ -4,6 +4,7 @@ ghost use Rattle.std.specs.Prelude.{◌≡◌, ◌<◌, ◌+◌, Some, None, IsS
 ghost use Rattle.std.specs.Borrow.{sem};
 ghost use Rattle.ib_map.specs.declared.TheConstants.{PAGE_WORDS};
 ghost use Rattle.ib_map.specs.Writes.{word_place};
+ghost use Rattle.ib_layout.specs.Places.{page_place};
 ghost use Rattle.ib_core.specs.Sessions.{holdings, x_grants};
 ghost use Rattle.ib_logrec.specs.Log.{by_place, memory_after, used};
 ghost use Rattle.ib_page.specs.declared.work.TheConstants.{MOST_WORK_PAGES};
@@ -50,18 +51,31 @@ impl<'a, L: Law, S: Sleep> Mtr<'a, L, S> {
         self.pass.resume_work(room);
     }
 
+    /// The place of a page's first word, by which `word` finds each of them.
+    pub fn page_start(&self, page: u32) -> usize
+        requires mtr { IsMtr self.now.latches.now self.now.pass.now }
+        requires page { page < self.now.latches.now.sizes.pages }
+        ensures start { result ≡ page_place self.now.latches.now.sizes page 0 }
+    {
+        self.latches.space().page_start(page)
+    }
+
     /// A word of a page where it lies, of which the session holds the latch in some mode, with a look at
     /// the log's end since: it is that of the page after all entries seen. The page is not in the work
-    /// set by it: a search reads a node in place, of whose latch it has the page by the word.
+    /// set by it: a search reads a node in place, of whose latch it has the page by the word. `start` is the
+    /// place of the page's first word, which a search asks for once.
     ///
     /// ```
     /// mtr.s_latch(rt, Latch::page(page), Level::TreeNode);
     /// mtr.log_end();
-    /// let word = mtr.word(page, 9);
+    /// let start = mtr.page_start(page);
+    /// let word = mtr.word(page, start, 9);
     /// ```
-    pub fn word(&mut self, page: u32, index: usize) -> u64
+    #[inline(always)]
+    pub fn word(&mut self, page: u32, start: usize, index: usize) -> u64
         requires mtr { IsMtr self.old.latches.now self.old.pass.now }
         requires page { page < self.old.latches.now.sizes.pages }
+        requires start { start ≡ page_place self.old.latches.now.sizes page 0 }
         requires index { index < PAGE_WORDS }
         requires held { 0 < holdings (page + 2) self.old.pass.now.view.session }
         requires watched { is_watched (page + 2) self.old.pass.now.view.memory.since ≡ true }
@@ -74,7 +88,7 @@ impl<'a, L: Law, S: Sleep> Mtr<'a, L, S> {
     {
         self.latches
             .space()
-            .load_page_word(self.pass, page, index as u32)
+            .load_page_word(self.pass, page, start, index as u32)
     }
 
     /// The changed image of a page, lent to be changed: the page is loaded, and the session owns X on

@@ -35,14 +35,25 @@ use std::marker::Brand;
 const LINE_WORDS: usize = 8;
 
 impl<L: Law> Space<L> {
+    /// The place of a page's first word, by which `load_page_word` finds each of them.
+    pub fn page_start(&self, page: u32) -> usize
+        requires page { page < self.now.sizes.pages }
+        ensures start { result ≡ page_place self.now.sizes page 0 }
+    {
+        self.geometry.page_place(page, 0)
+    }
+
     /// Loads a word of a page that the session holds in some mode, in the middle of nothing: a next
     /// writer waits until it owns X. While it holds the page, and until
     /// it stores a word of an entry itself, the word stays that of the page. Where it has looked at the
     /// log's end since it took the latch, the word is that of the page after all entries seen: what the
-    /// log has beyond them wrote no word of the page.
-    pub fn load_page_word(&self, pass: &mut Pass, page: u32, index: u32) -> u64
+    /// log has beyond them wrote no word of the page. `start` is the place of the page's first word: who reads
+    /// several words asks for it once.
+    #[inline(always)]
+    pub fn load_page_word(&self, pass: &mut Pass, page: u32, start: usize, index: u32) -> u64
         requires own { IsOf self.now pass.old }
         requires page { page < self.now.sizes.pages }
+        requires start { start ≡ page_place self.now.sizes page 0 }
         requires index { index < PAGE_WORDS }
         requires free { pass.old.view.session.phase ≡ Free }
         requires held { 0 < holdings (page + 2) pass.old.view.session }
@@ -52,13 +63,12 @@ impl<L: Law> Space<L> {
             → result ≡ memory_after (by_place L.opening self.now.sizes.pages)
             pass.old.view.memory.seen (word_place page index) }
     {
-        let geometry = self.geometry;
-        // For the proof: the places of page words fit 32 bits.
-        let _ = geometry.pages();
+        // For the proof: the places of page words fit 32 bits, and are words of the table.
+        let _ = self.geometry.page_place(page, index);
         act::<L, Brand>(
             &self.table.shared,
             &mut pass.seat,
-            geometry.page_place(page, index),
+            start + index as usize,
             WordOp::Load,
             StepKind::LoadPage(page * PAGE_WORDS as u32 + index),
         )
@@ -76,10 +86,9 @@ impl<L: Law> Space<L> {
         ensures settled { AreSettled (by_place L.opening self.now.sizes.pages) page out.new
             PAGE_WORDS pass.old.view }
     {
-        let geometry = self.geometry;
         // For the proof: the places of page words fit 32 bits.
-        let _ = geometry.pages();
-        let first = geometry.page_place(page, 0);
+        let _ = self.geometry.pages();
+        let first = self.page_start(page);
         load_words(&self.table.shared, &mut pass.seat, page, first, out);
     }
 
