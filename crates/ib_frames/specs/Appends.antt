@@ -1,5 +1,6 @@
 -- The entry by which a session makes a change, and when it may be appended.
 use Rattle.std.specs.Prelude.{◌≡◌, ℕ, ◌+◌, ◌<◌, true, List, [], ◌∷◌, ◌++◌, length}
+use mathlib.Core.List.{IsPrefix}
 use Rattle.ib_map.specs.declared.call.Change.{Change}
 use Rattle.ib_map.specs.Writes.{spans_pages, touches}
 use Rattle.ib_page.specs.Work.{WorkPage}
@@ -7,6 +8,7 @@ use Rattle.ib_page.specs.Writes.{writes_of}
 use Rattle.ib_core.specs.declared.phase.Phase.TheVariants.{Free}
 use Rattle.ib_core.specs.Sessions.{sx_grants, x_grants}
 use Rattle.ib_logrec.specs.declared.entry.Entry.{Entry}
+use Rattle.ib_logrec.specs.Words.{words_of_entry}
 use Rattle.ib_rule.specs.Views.{is_watched}
 use Rattle.ib_rule.specs.Pass.{PassState}
 
@@ -26,3 +28,8 @@ pub record MayAppend (lawful : List Entry → Type 0) (p : PassState) (change : 
   pub pages_x : (page : ℕ) → touches page (writes_of pages) ≡ true → 0 < x_grants (page + 2) p.view.session
   pub index : spans_pages (writes_of pages) ≡ true → (0 < sx_grants 1 p.view.session) × (x_grants 1 p.view.session ≡ 0)
   pub legal : lawful (p.view.memory.seen ++ entry_for p change pages ∷ [])
+
+-- the entry of the change stands at the front of the pass's words, and has so many writes
+pub record IsLaidOut (p : PassState) (change : Change) (pages : List WorkPage) (writes : ℕ) : Type 0 where
+  pub spelled : IsPrefix (words_of_entry (entry_for p change pages)) p.words
+  pub count : writes ≡ length (writes_of pages)

@@ -1,15 +1,15 @@
 //! The append of an entry: the page words that it writes, its own words, and the log's end.
 
-ghost use Rattle.std.specs.Prelude.{◌≡◌, ◌↔◌, ◌+◌, ◌*◌, ◌^◌, ◌<◌, ◌≤◌, length, IfOk, IfErr, IsErr};
+ghost use Rattle.std.specs.Prelude.{◌≡◌, ◌↔◌, ◌+◌, ◌*◌, ◌^◌, ◌<◌, ◌≤◌, length, IfOk, IfErr, IfSome, IsErr};
 ghost use Rattle.ib_logrec.specs.Log.{used};
 ghost use Rattle.ib_logrec.specs.Words.{words_of_entry};
 ghost use Rattle.ib_rule.specs.Pass.{IsFrom, IsOf, with_view};
 ghost use Rattle.ib_rule.specs.Stores.{appending};
 ghost use Rattle.ib_rule.specs.Writing.{MayStore, entry_of};
-ghost use Rattle.ib_frames.specs.Appends.{MayAppend, entry_for};
+ghost use Rattle.ib_frames.specs.Appends.{IsLaidOut, MayAppend, entry_for};
 ghost use Rattle.ib_frames.specs.Storing.{HasStored, PagesStored, WordsStored};
 
-use crate::entries::{lay_out, write_at};
+use crate::entries::{lay_out_once, write_at};
 use ib_logrec::{HEAD_WORDS, Law};
 use ib_map::Change;
 use ib_page::WorkSet;
@@ -35,6 +35,9 @@ pub struct LogFull {
 /// is the append. Nobody else stores meanwhile, since the session owns X on the log latch and on each
 /// page that it writes, and, where it writes more than one, SX on the index and not X (WL#6326).
 ///
+/// `laid` says that the entry stands at the front of the pass's words already, by `lay_out`, and how many writes it
+/// has; else it is laid out first.
+///
 /// Refused exactly where the log has fewer than `ENTRY_WORDS` words left: then nothing
 /// happened. Of the pass only its view changes, and the words that it lends for an entry.
 pub fn append<L: Law>(
@@ -42,8 +45,10 @@ pub fn append<L: Law>(
     pass: &mut Pass,
     change: Change,
     work: &WorkSet,
+    laid: Option<usize>,
 ) -> Result<u32, LogFull>
     requires own { IsOf space.now pass.old }
+    requires laid { IfSome laid (IsLaidOut pass.old change work.now) }
     requires may { used pass.old.view.memory.seen + ENTRY_WORDS ≤ space.now.sizes.log_words
         → MayAppend (L.lawful space.now.sizes.pages) pass.old change work.now }
     ensures place { IfOk result (λ place. place ≡ length pass.old.view.memory.seen) }
@@ -65,7 +70,7 @@ pub fn append<L: Law>(
         return Err(LogFull { used, cap });
     }
     let place = pass.place();
-    let writes = lay_out(pass, change, work);
+    let writes = lay_out_once(pass, change, work, laid);
     append_words(space, pass, used, writes);
     Ok(place)
 }

@@ -1,12 +1,12 @@
 //! The words of an entry, laid out from a work set.
 
-ghost use Rattle.std.specs.Prelude.{◌≡◌, ◌+◌, ◌*◌, ◌^◌, ◌<◌, ◌≤◌, ◌++◌, None, drop, length, slice_index};
+ghost use Rattle.std.specs.Prelude.{◌≡◌, ◌+◌, ◌*◌, ◌^◌, ◌<◌, ◌≤◌, ◌++◌, None, IfSome, drop, length, slice_index};
 ghost use mathlib.Core.List.{IsPrefix};
 ghost use Rattle.ib_page.specs.Writes.{writes_of};
 ghost use Rattle.ib_logrec.specs.Words.{words_of_entry};
 ghost use Rattle.ib_rule.specs.declared.view.Role.TheVariants.{Session};
 ghost use Rattle.ib_rule.specs.Writing.{entry_of};
-ghost use Rattle.ib_frames.specs.Appends.{entry_by, entry_for};
+ghost use Rattle.ib_frames.specs.Appends.{IsLaidOut, entry_by, entry_for};
 
 use ib_logrec::{HEAD_WORDS, Head, MOST_WRITES};
 use ib_map::{Change, Write};
@@ -35,9 +35,10 @@ fn write_entry(session: u32, number: u32, change: Change, work: &WorkSet, out: &
     written.count
 }
 
-// The words of the pass's next entry stand at the front of its words: this change, with what the
-// work set changes. It answers how many writes the entry has.
-pub(crate) fn lay_out(pass: &mut Pass, change: Change, work: &WorkSet) -> usize
+/// Lays out the pass's next entry at the front of its words: this change, with what the work set changes. It
+/// answers how many writes the entry has. What others append changes no word of it, so that it may stand there
+/// before the log latch is taken; `append` stores it.
+pub fn lay_out(pass: &mut Pass, change: Change, work: &WorkSet) -> usize
     requires closed { pass.old.view.memory.append ≡ None }
     requires few { length (writes_of work.now) ≤ MOST_WRITES }
     requires number { length pass.old.view.memory.own + 1 < 2 ^ 32 }
@@ -51,6 +52,32 @@ pub(crate) fn lay_out(pass: &mut Pass, change: Change, work: &WorkSet) -> usize
     let session = pass.number();
     let number = pass.made() + 1;
     write_entry(session, number, change, work, pass.entry_words())
+}
+
+// The entry stands at the front of the pass's words: it was laid out there before, with so many writes, or is now.
+pub(crate) fn lay_out_once(
+    pass: &mut Pass,
+    change: Change,
+    work: &WorkSet,
+    laid: Option<usize>,
+) -> usize
+    requires closed { pass.old.view.memory.append ≡ None }
+    requires few { length (writes_of work.now) ≤ MOST_WRITES }
+    requires number { length pass.old.view.memory.own + 1 < 2 ^ 32 }
+    requires laid { IfSome laid (IsLaidOut pass.old change work.now) }
+    ensures same { pass.new ≡ record pass.old { words = pass.new.words } }
+    ensures session { pass.old.view.role ≡ Session pass.old.number }
+    ensures spelled { IsPrefix (words_of_entry (entry_for pass.old change work.now))
+        pass.new.words }
+    ensures entry { entry_of pass.new ≡ entry_for pass.old change work.now }
+    ensures count { result ≡ length (writes_of work.now) }
+{
+    // For the proof: the session's number is that of its role.
+    let _ = pass.number();
+    match laid {
+        Some(writes) => writes,
+        None => lay_out(pass, change, work),
+    }
 }
 
 // A write of the entry at the front of the words.

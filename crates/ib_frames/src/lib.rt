@@ -7,4 +7,5 @@ mod entries;
 mod reads;
 
 pub use appends::{LogFull, append};
+pub use entries::lay_out;
 pub use reads::{LogEnd, log_end, read_page};

@@ -1,6 +1,7 @@
 -- A commit: what is asked of it is what the append asks, and what it comes to.
 use Rattle.std.proofs.Common.{◌≡◌, ℕ, ◌+◌, ◌<◌, ◌≤◌, true, false, List, [], ◌∷◌, ◌++◌, length, refl, sym, ap, ◌∙◌, subst, arith}
-use Rattle.std.specs.Prelude.{None, slice_index}
+use Rattle.std.specs.Prelude.{Option, None, Some, IfSome, slice_index}
+use mathlib.Core.List.{IsPrefix}
 use Rattle.std.specs.List.{All, AllByRecursion, Contains}
 use Rattle.std.proofs.lemmas.List.Elements.{All-contains, All-contains_itself, All-weaker, filter-append}
 use Rattle.std.proofs.lemmas.Bool.{eq-eqb}
@@ -22,6 +23,7 @@ use Rattle.ib_core.specs.Takings.{count_of}
 use Rattle.ib_core.proofs.OnLatch.{held_by_grant}
 use Rattle.ib_logrec.specs.declared.entry.Entry.{Entry}
 use Rattle.ib_logrec.specs.Log.{memory_after, used}
+use Rattle.ib_logrec.specs.Words.{words_of_entry}
 use Rattle.ib_logrec.proofs.LogLaws.{memory_after-push}
 use Rattle.ib_rule.specs.declared.looks.Grants.{Grants}
 use Rattle.ib_rule.specs.declared.memory.Knowledge.{Knowledge}
@@ -31,14 +33,16 @@ use Rattle.ib_rule.specs.declared.view.View.{View}
 use Rattle.ib_rule.specs.Memory.{LoadedFact, entries_of}
 use Rattle.ib_rule.specs.Pass.{PassState, with_view}
 use Rattle.ib_rule.specs.Roles.{session_number_of}
+use Rattle.ib_rule.specs.Space.{SpaceState}
 use Rattle.ib_rule.specs.Stores.{IsHarmless, IsLook, appending}
 use Rattle.ib_rule.specs.Views.{reaching}
 use Rattle.ib_rule.proofs.Watching.{watched_after}
 use Rattle.ib_latch.specs.Tries.{HasTakenGrant, held_with}
-use Rattle.ib_frames.specs.Appends.{MayAppend, entry_by, entry_for}
+use Rattle.ib_frames.specs.Appends.{IsLaidOut, MayAppend, entry_by, entry_for}
 use Rattle.ib_frames.specs.Reads.{AreRight, IsLoadedImage}
 use Rattle.ib_mtr.specs.Commits.{HasCommitted, HasEnded, HasRead, IsFull, MayCommit, commit_entry, commit_grants, one_end_more}
 use Rattle.ib_mtr.specs.Loads.{IsPageAfter}
+use Rattle.ib_mtr.specs.Mtr.{IsMtr}
 use Rattle.ib_mtr.proofs.Grants.{more_grant}
 use Rattle.ib_mtr.proofs.Images.{of_each}
 
@@ -111,6 +115,9 @@ module _ (sizes : Sizes) (lawful : List Entry → Type 0) (opening : ℕ → ℕ
   number2 : p2.number ≡ p.number
   number2 = ap (λ (q : PassState). q.number) is ∙ same_number
 
+  words2 : p2.words ≡ p.words
+  words2 = ap (λ (q : PassState). q.words) is ∙ ap (λ (q : PassState). q.words) memo1
+
   own2 : p2.view.memory.own ≡ p.view.memory.own
   own2 = ap (λ (q : PassState). q.view.memory.own) is ∙ ap (λ (m : Knowledge). m.own) taken.memory
 
@@ -132,6 +139,14 @@ module _ (sizes : Sizes) (lawful : List Entry → Type 0) (opening : ℕ → ℕ
 
   pub same_entry : entry_for p2 change p2.work ≡ commit_entry p change
   same_entry = λ j. entry_by (number2 j) (length (own2 j) + 1) change (same_work j)
+
+  -- an entry that was laid out before stands there still
+  pub laid_after : (laid : Option ℕ) → IfSome laid (IsLaidOut p change p.work) → IfSome laid (IsLaidOut p2 change p2.work)
+  laid_after None is = tt
+  laid_after (Some writes) is = record {
+    spelled = subst (λ (e : Entry). IsPrefix (words_of_entry e) p2.words) (sym same_entry) (subst (IsPrefix (words_of_entry (commit_entry p change))) (sym words2) is.spelled);
+    count = is.count ∙ ap (λ (ws : List WorkPage). length (writes_of ws)) (sym same_work);
+  }
 
   pub may_append : MayCommit lawful p change → MayAppend lawful p2 change p2.work
   may_append may =
@@ -248,3 +263,43 @@ read_only sizes lawful p p2 q answer look is place ended looks waits =
       looks = looks ∙ ap (λ (q : PassState). q.view.looks.count) is;
       waits = waits ∙ ap (λ (q : PassState). q.view.looks.waits) is;
     }
+
+-- what is said of a pass says nothing of its words for an entry: a mini-transaction works in it ..
+pub mtr_laid : (space : SpaceState) (p q : PassState) → q ≡ record p { words = q.words } → IsMtr space p → IsMtr space q
+mtr_laid space p q same m = subst (IsMtr space) (sym same) (record {
+  own = record { table = m.own.table; sizes = m.own.sizes; closed = m.own.closed };
+  works = m.works;
+  free = m.free;
+  proper = m.proper;
+  exact = m.exact;
+  known = m.known;
+  held = m.held;
+  read = m.read;
+})
+
+-- .. it may commit ..
+pub may_commit_laid : (lawful : List Entry → Type 0) (p : PassState) (words : List ℕ) (change : Change) → MayCommit lawful p change → MayCommit lawful (record p { words = words }) change
+may_commit_laid lawful p words change may = record { grows = may.grows; log = may.log; pages_x = may.pages_x; index = may.index; legal = may.legal }
+
+ended_laid : (p : PassState) (words : List ℕ) (g : Grants) (seen own : List Entry) (ends : List ℕ) (q : PassState) → HasEnded (record p { words = words }) g seen own ends q → HasEnded p g seen own ends q
+ended_laid p words g seen own ends q h = record { pass = h.pass; role = h.role; session = h.session; grants = h.grants; written = h.written; looks = h.looks; memory = h.memory }
+
+-- .. it committed ..
+pub committed_laid : (sizes : Sizes) (lawful : List Entry → Type 0) (opening : ℕ → ℕ) (change : Change) (p : PassState) (words : List ℕ) (place : ℕ) (q : PassState)
+    → HasCommitted sizes lawful opening change (record p { words = words }) place q → HasCommitted sizes lawful opening change p place q
+committed_laid sizes lawful opening change p words place q h = record {
+  log = h.log;
+  looked = h.looked;
+  place = h.place;
+  ended = ended_laid p words _ _ _ _ q h.ended;
+  legal = h.legal;
+  mine = h.mine;
+  room = h.room;
+  wide = h.wide;
+  pages = h.pages;
+}
+
+-- .. and the log was full
+pub full_laid : (sizes : Sizes) (lawful : List Entry → Type 0) (p : PassState) (words : List ℕ) (f : Rattle.ib_frames.specs.declared.appends.LogFull.LogFull) (q : PassState)
+    → IsFull sizes lawful (record p { words = words }) f q → IsFull sizes lawful p f q
+full_laid sizes lawful p words f q h = record { log = h.log; looked = h.looked; words = h.words; cap = h.cap; short = h.short; ended = ended_laid p words _ _ _ _ q h.ended }

@@ -1,10 +1,10 @@
 //! The end of a mini-transaction: its commit, which is one append, or its end without a change.
 
-ghost use Rattle.std.specs.Prelude.{◌≡◌, ◌<◌, ◌+◌, ◌≤◌, [], length, IfOk, IfErr};
+ghost use Rattle.std.specs.Prelude.{◌≡◌, ◌<◌, ◌+◌, ◌≤◌, ◌*◌, [], length, IfOk, IfErr, IfSome};
 ghost use Rattle.ib_core.specs.Sessions.{idle};
 ghost use Rattle.ib_logrec.specs.Log.{used};
 ghost use Rattle.ib_page.specs.Work.{IsWork};
-ghost use Rattle.ib_frames.specs.Appends.{MayAppend, entry_for};
+ghost use Rattle.ib_frames.specs.Appends.{IsLaidOut, MayAppend, entry_for};
 ghost use Rattle.ib_rule.specs.declared.pass.TheConstants.{ENTRY_WORDS};
 ghost use Rattle.ib_rule.specs.Pass.{with_view};
 ghost use Rattle.ib_rule.specs.Stores.{appending};
@@ -13,11 +13,11 @@ ghost use Rattle.ib_mtr.specs.Commits.{HasCommitted, HasRead, IsFull, MayCommit}
 ghost use Rattle.ib_mtr.specs.Mtr.{IsMtr, IsStillMtr, released_to, with_work};
 
 use crate::mtr::Mtr;
-use ib_frames::{LogFull, append};
+use ib_frames::{LogFull, append, lay_out};
 use ib_latch::{Latches, Parkers, Sleep};
 use ib_levels::{Latch, Level};
-use ib_logrec::Law;
-use ib_map::Change;
+use ib_logrec::{Law, MOST_WRITES};
+use ib_map::{Change, PAGE_WORDS};
 use ib_rule::Pass;
 use std::sync::Wait;
 
@@ -70,9 +70,10 @@ impl<'a, L: Law, S: Sleep> Mtr<'a, L, S> {
         read_and_end(latches, pass)
     }
 
-    // Appends the entry of the change, with what the work set changes.
-    fn append_entry(&mut self, change: Change) -> Result<u32, LogFull>
+    // Appends the entry of the change, with what the work set changes; it may be laid out already.
+    fn append_entry(&mut self, change: Change, laid: Option<usize>) -> Result<u32, LogFull>
         requires mtr { IsMtr self.old.latches.now self.old.pass.now }
+        requires laid { IfSome laid (IsLaidOut self.old.pass.now change self.old.pass.now.work) }
         requires may { used self.old.pass.now.view.memory.seen + ENTRY_WORDS
             ≤ self.old.latches.now.sizes.log_words
             → MayAppend (L.lawful self.old.latches.now.sizes.pages) self.old.pass.now change
@@ -97,7 +98,7 @@ impl<'a, L: Law, S: Sleep> Mtr<'a, L, S> {
         let room = self.pass.leave_work();
         // For the proof: the pages of a work set ascend.
         let _ = room.work.len();
-        let result = append(self.latches.space(), self.pass, change, &room.work);
+        let result = append(self.latches.space(), self.pass, change, &room.work, laid);
         self.pass.resume_work(room);
         result
     }
@@ -114,6 +115,29 @@ impl<'a, L: Law, S: Sleep> Mtr<'a, L, S> {
     }
 }
 
+// Lays out the entry of the change before the log latch is taken, which so is held the shorter: where the pages are
+// so few that what is changed of them fits an entry, however much it is.
+fn lay_out_early<L: Law>(
+    latches: &Latches<L, Parkers>,
+    pass: &mut Pass,
+    change: Change,
+) -> Option<usize>
+    requires mtr { IsMtr latches.now pass.old }
+    ensures same { pass.new ≡ record pass.old { words = pass.new.words } }
+    ensures laid { IfSome result (IsLaidOut pass.new change pass.new.work) }
+{
+    // For the proof: how many entries the session has made fits the log, and that fits 32 bits.
+    let _ = (pass.made(), pass.used());
+    let _ = latches.space().geometry().log_words();
+    if PAGE_WORDS * pass.work().len() > MOST_WRITES {
+        return None;
+    }
+    let room = pass.leave_work();
+    let writes = lay_out(pass, change, &room.work);
+    pass.resume_work(room);
+    Some(writes)
+}
+
 // The commit of the mini-transaction that works in the pass.
 fn commit_in<L: Law, R: Wait>(
     latches: &Latches<L, Parkers>,
@@ -128,6 +152,26 @@ fn commit_in<L: Law, R: Wait>(
     ensures full { IfErr result (λ full. under_lawful L.Law latches.now IsFull pass.old full
         pass.new) }
 {
+    let laid = lay_out_early(latches, pass, change);
+    commit_laid(latches, pass, rt, change, laid)
+}
+
+// The same, where the entry may be laid out already.
+fn commit_laid<L: Law, R: Wait>(
+    latches: &Latches<L, Parkers>,
+    pass: &mut Pass,
+    rt: &R,
+    change: Change,
+    laid: Option<usize>,
+) -> Result<u32, LogFull>
+    requires mtr { IsMtr latches.now pass.old }
+    requires may { MayCommit (L.lawful latches.now.sizes.pages) pass.old change }
+    requires laid { IfSome laid (IsLaidOut pass.old change pass.old.work) }
+    ensures committed { IfOk result (λ place. under L.Law latches.now HasCommitted change pass.old
+        place pass.new) }
+    ensures full { IfErr result (λ full. under_lawful L.Law latches.now IsFull pass.old full
+        pass.new) }
+{
     // For the proof: the session's number, which no step changes.
     let _ = pass.number();
     let mut mtr = Mtr { latches, pass };
@@ -135,7 +179,7 @@ fn commit_in<L: Law, R: Wait>(
     // For the proof: it is that number still.
     let _ = mtr.pass.number();
     mtr.log_end();
-    let result = mtr.append_entry(change);
+    let result = mtr.append_entry(change, laid);
     // For the proof: what is seen fits the log.
     let _ = mtr.pass.used();
     mtr.give_back();
