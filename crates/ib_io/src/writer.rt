@@ -54,6 +54,7 @@ impl<'a, K: Sink> Writer<'a, K> {
     }
 
     /// One byte.
+    #[inline(always)]
     pub fn byte(&mut self, byte: u8)
         ensures puts { Puts K.written K.faults self.old self.new (byte ∷ []) }
     {
@@ -84,6 +85,7 @@ impl<'a, K: Sink> Writer<'a, K> {
     }
 
     /// The number in decimal.
+    #[inline(always)]
     pub fn number(&mut self, number: u64)
         ensures puts { Puts K.written K.faults self.old self.new (decimal number) }
     {

@@ -4,4 +4,5 @@ pub mod KeyRead
 pub mod Neighbours
 pub mod NextItem
 pub mod Records
+pub mod PaddedKeys
 pub mod SpellingLaws

@@ -14,7 +14,7 @@ either true = inl refl
 either false = inr refl
 
 -- what is not below is at least, as a test
-gt-leb : (m n : ℕ) → n < m → nat_le m n ≡ false
+pub gt-leb : (m n : ℕ) → n < m → nat_le m n ≡ false
 gt-leb m n lt = elim (either (nat_le m n)) [
   | inl holds ↦ absurd (let le = leb-true m n holds in omega arith)
   | inr fails ↦ fails

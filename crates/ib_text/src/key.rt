@@ -4,7 +4,7 @@ ghost use Rattle.std.specs.Prelude.{◌≡◌, ◌++◌};
 ghost use Rattle.ib_io.specs.Writer.{Puts};
 ghost use Rattle.ib_text.specs.Keys.{key_in, key_text, pair_text};
 
-use crate::spelling::{hex_key, is_plain_key, plain_key, print_hex, print_plain};
+use crate::spelling::{hex_digits, hex_key, is_plain_padded, padded_bytes, plain_key};
 use ib_io::{LineKind, Sink, Writer};
 use ib_map::Key;
 
@@ -25,11 +25,13 @@ pub fn key_in(field: &[u8]) -> Result<Key, LineKind>
 pub fn print_key<K: Sink>(writer: &mut Writer<'_, K>, key: Key)
     ensures puts { Puts K.written K.faults writer.old writer.new (key_text key) }
 {
-    if is_plain_key(key) {
-        print_plain(writer, key);
+    let bytes = padded_bytes(key);
+    let len = key.len();
+    if is_plain_padded(&bytes, len) {
+        writer.text(&bytes[..len]);
     } else {
         writer.text(b"x:");
-        print_hex(writer, key);
+        writer.text(&hex_digits(&bytes)[..2 * len]);
     }
 }
 

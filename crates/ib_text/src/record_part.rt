@@ -7,6 +7,7 @@ use crate::key::{print_two_keys, print_word_and_key, print_word_and_pair};
 use ib_io::{Sink, Writer};
 use ib_map::{Call, Record, Reply};
 
+#[inline(always)]
 fn print_call<K: Sink>(writer: &mut Writer<'_, K>, call: Call)
     ensures puts { Puts K.written K.faults writer.old writer.new (call_text call) }
 {
@@ -18,6 +19,7 @@ fn print_call<K: Sink>(writer: &mut Writer<'_, K>, call: Call)
     }
 }
 
+#[inline(always)]
 fn print_reply<K: Sink>(writer: &mut Writer<'_, K>, reply: Reply)
     ensures puts { Puts K.written K.faults writer.old writer.new (reply_text reply) }
 {
@@ -47,6 +49,7 @@ fn print_reply<K: Sink>(writer: &mut Writer<'_, K>, reply: Reply)
     }
 }
 
+#[inline(always)]
 fn print_place<K: Sink>(writer: &mut Writer<'_, K>, reply: Reply, place: u32)
     ensures puts { Puts K.written K.faults writer.old writer.new (place_text reply place) }
 {
@@ -57,6 +60,7 @@ fn print_place<K: Sink>(writer: &mut Writer<'_, K>, reply: Reply, place: u32)
 }
 
 /// A call, its reply and its place on a line; a scan's chunks are lines of their own.
+#[inline(always)]
 pub fn print_record_line<K: Sink>(writer: &mut Writer<'_, K>, answered: &Record)
     ensures puts { Puts K.written K.faults writer.old writer.new (record_line answered.now.call answered.now.reply answered.now.place) }
 {
