@@ -10,7 +10,7 @@ ghost use Rattle.ib_cursor.specs.Reading.{CanRead, HasReadWords};
 ghost use Rattle.ib_cursor.specs.Spaces.{pages_under, words_under};
 
 use crate::claim::facts_of_trees;
-use crate::held_page::HeldPage;
+use crate::held_page::{HeldPage, start_of};
 use crate::latch_page::latch_page;
 use ib_latch::{Parkers, Sleep};
 use ib_levels::Mode;
@@ -57,7 +57,7 @@ pub fn key_standing<L: Law, S: Sleep>(
     ensures still { IsStillMtr mtr.old mtr.new }
     ensures read { HasReadWords mtr.old.pass.now mtr.new.pass.now }
 {
-    let start = mtr.page_start(page);
+    let start = start_of(mtr, page);
     let mut held = HeldPage { mtr, page, start };
     held.leaf_standing(key)
 }

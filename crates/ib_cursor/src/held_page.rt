@@ -4,6 +4,7 @@ ghost use Rattle.std.specs.Prelude.{◌≡◌, ◌<◌, ◌≤◌, ◌^◌, refl
 ghost use Rattle.std.proofs.Common.{◌∙◌};
 ghost use Rattle.ib_map.specs.Keys.{rank};
 ghost use Rattle.ib_map.specs.Pairs.{value_at};
+ghost use Rattle.ib_layout.specs.Places.{page_place};
 ghost use Rattle.ib_logrec.specs.Log.{by_place, memory_after};
 ghost use Rattle.ib_page.specs.Form.{page_of};
 ghost use Rattle.ib_page.specs.Image.{IsFormed, IsTreePage, level_of, records_of};
@@ -38,7 +39,7 @@ impl<'m, 'a, L: Law, S: Sleep> PageWords for HeldPage<'m, 'a, L, S> {
     ghost has_read = { λ h k. (k.mtr.ghost_name ≡ h.mtr.ghost_name) × (k.page ≡ h.page) × (k.start ≡ h.start) × (k.mtr.now.latches ≡ h.mtr.now.latches) × (k.mtr.now.pass.ghost_name ≡ h.mtr.now.pass.ghost_name) × HasReadWords h.mtr.now.pass.now k.mtr.now.pass.now };
 
     fn word(&mut self, index: usize) -> u64 {
-        self.mtr.word(self.page, self.start, index)
+        self.mtr.word_at(self.page, self.start, index)
     }
 
     ghost read_none = { λ h. (refl, refl, refl, refl, refl, read_none h.mtr.now.pass.now) };
@@ -122,6 +123,14 @@ impl<'m, 'a, L: Law, S: Sleep> HeldPage<'m, 'a, L, S> {
     }
 }
 
+// Where the words of a page begin, which is asked once for all words that are read of it.
+pub(crate) fn start_of<L: Law, S: Sleep>(mtr: &Mtr<'_, L, S>, page: u32) -> usize
+    requires { page < mtr.now.latches.now.sizes.pages }
+    ensures { result ≡ page_place mtr.now.latches.now.sizes page 0 }
+{
+    mtr.geometry().page_place(page, 0)
+}
+
 // The level of a page that is held, and is one of the tree, by one word of it.
 pub(crate) fn level_of<L: Law, S: Sleep>(mtr: &mut Mtr<'_, L, S>, page: u32) -> u32
     requires can { CanRead mtr.old.latches.now page mtr.old.pass.now }
@@ -132,7 +141,7 @@ pub(crate) fn level_of<L: Law, S: Sleep>(mtr: &mut Mtr<'_, L, S>, page: u32) -> 
     ensures still { IsStillMtr mtr.old mtr.new }
     ensures read { HasReadWords mtr.old.pass.now mtr.new.pass.now }
 {
-    let start = mtr.page_start(page);
+    let start = start_of(mtr, page);
     let mut held = HeldPage { mtr, page, start };
     held.level()
 }
@@ -150,7 +159,7 @@ pub(crate) fn child_of<L: Law, S: Sleep>(mtr: &mut Mtr<'_, L, S>, page: u32, key
     ensures still { IsStillMtr mtr.old mtr.new }
     ensures read { HasReadWords mtr.old.pass.now mtr.new.pass.now }
 {
-    let start = mtr.page_start(page);
+    let start = start_of(mtr, page);
     let mut held = HeldPage { mtr, page, start };
     held.child(key)
 }
@@ -169,7 +178,7 @@ pub(crate) fn value_of<L: Law, S: Sleep>(
     ensures still { IsStillMtr mtr.old mtr.new }
     ensures read { HasReadWords mtr.old.pass.now mtr.new.pass.now }
 {
-    let start = mtr.page_start(page);
+    let start = start_of(mtr, page);
     let mut held = HeldPage { mtr, page, start };
     held.value(key)
 }

@@ -35,12 +35,38 @@ pub struct LogFull {
 /// is the append. Nobody else stores meanwhile, since the session owns X on the log latch and on each
 /// page that it writes, and, where it writes more than one, SX on the index and not X (WL#6326).
 ///
-/// `laid` says that the entry stands at the front of the pass's words already, by `lay_out`, and how many writes it
-/// has; else it is laid out first.
-///
 /// Refused exactly where the log has fewer than `ENTRY_WORDS` words left: then nothing
 /// happened. Of the pass only its view changes, and the words that it lends for an entry.
 pub fn append<L: Law>(
+    space: &Space<L>,
+    pass: &mut Pass,
+    change: Change,
+    work: &WorkSet,
+) -> Result<u32, LogFull>
+    requires own { IsOf space.now pass.old }
+    requires may { used pass.old.view.memory.seen + ENTRY_WORDS ≤ space.now.sizes.log_words
+        → MayAppend (L.lawful space.now.sizes.pages) pass.old change work.now }
+    ensures place { IfOk result (λ place. place ≡ length pass.old.view.memory.seen) }
+    ensures ok { IfOk result (λ place. pass.new ≡ record (with_view pass.old
+        (appending (entry_for pass.old change work.now) pass.old.view)) {
+          words = pass.new.words;
+        }) }
+    ensures err { IfErr result (λ full. (full.used ≡ used pass.old.view.memory.seen)
+        × (full.cap ≡ space.now.sizes.log_words) × (pass.new ≡ pass.old)) }
+    ensures full { IsErr result
+        ↔ (space.now.sizes.log_words < used pass.old.view.memory.seen + ENTRY_WORDS) }
+{
+    append_laid(space, pass, change, work, None)
+}
+
+/// `append`, where the entry may stand at the front of the pass's words already: `laid` says so, with how many
+/// writes it has, as `lay_out` told it. None has it laid out first.
+///
+/// ```
+/// let laid = lay_out(pass, change, work);
+/// let place = append_laid(space, pass, change, work, Some(laid))?;
+/// ```
+pub fn append_laid<L: Law>(
     space: &Space<L>,
     pass: &mut Pass,
     change: Change,

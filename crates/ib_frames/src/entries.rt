@@ -37,7 +37,7 @@ fn write_entry(session: u32, number: u32, change: Change, work: &WorkSet, out: &
 
 /// Lays out the pass's next entry at the front of its words: this change, with what the work set changes. It
 /// answers how many writes the entry has. What others append changes no word of it, so that it may stand there
-/// before the log latch is taken; `append` stores it.
+/// before the log latch is taken; `append_laid` stores it.
 pub fn lay_out(pass: &mut Pass, change: Change, work: &WorkSet) -> usize
     requires closed { pass.old.view.memory.append ≡ None }
     requires few { length (writes_of work.now) ≤ MOST_WRITES }

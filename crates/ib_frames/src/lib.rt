@@ -6,6 +6,6 @@ mod appends;
 mod entries;
 mod reads;
 
-pub use appends::{LogFull, append};
+pub use appends::{LogFull, append, append_laid};
 pub use entries::lay_out;
 pub use reads::{LogEnd, log_end, read_page};

@@ -1,6 +1,6 @@
 -- A commit: what is asked of it is what the append asks, and what it comes to.
 use Rattle.std.proofs.Common.{◌≡◌, ℕ, ◌+◌, ◌<◌, ◌≤◌, true, false, List, [], ◌∷◌, ◌++◌, length, refl, sym, ap, ◌∙◌, subst, arith}
-use Rattle.std.specs.Prelude.{Option, None, Some, IfSome, slice_index}
+use Rattle.std.specs.Prelude.{Option, None, Some, IfSome, slice_index, Result, Ok, Err, IfOk, IfErr}
 use mathlib.Core.List.{IsPrefix}
 use Rattle.std.specs.List.{All, AllByRecursion, Contains}
 use Rattle.std.proofs.lemmas.List.Elements.{All-contains, All-contains_itself, All-weaker, filter-append}
@@ -281,7 +281,7 @@ mtr_laid space p q same m = subst (IsMtr space) (sym same) (record {
 pub may_commit_laid : (lawful : List Entry → Type 0) (p : PassState) (words : List ℕ) (change : Change) → MayCommit lawful p change → MayCommit lawful (record p { words = words }) change
 may_commit_laid lawful p words change may = record { grows = may.grows; log = may.log; pages_x = may.pages_x; index = may.index; legal = may.legal }
 
-ended_laid : (p : PassState) (words : List ℕ) (g : Grants) (seen own : List Entry) (ends : List ℕ) (q : PassState) → HasEnded (record p { words = words }) g seen own ends q → HasEnded p g seen own ends q
+pub ended_laid : (p : PassState) (words : List ℕ) (g : Grants) (seen own : List Entry) (ends : List ℕ) (q : PassState) → HasEnded (record p { words = words }) g seen own ends q → HasEnded p g seen own ends q
 ended_laid p words g seen own ends q h = record { pass = h.pass; role = h.role; session = h.session; grants = h.grants; written = h.written; looks = h.looks; memory = h.memory }
 
 -- .. it committed ..
@@ -303,3 +303,12 @@ committed_laid sizes lawful opening change p words place q h = record {
 pub full_laid : (sizes : Sizes) (lawful : List Entry → Type 0) (p : PassState) (words : List ℕ) (f : Rattle.ib_frames.specs.declared.appends.LogFull.LogFull) (q : PassState)
     → IsFull sizes lawful (record p { words = words }) f q → IsFull sizes lawful p f q
 full_laid sizes lawful p words f q h = record { log = h.log; looked = h.looked; words = h.words; cap = h.cap; short = h.short; ended = ended_laid p words _ _ _ _ q h.ended }
+
+-- what is so of an answer of either kind, where something else is
+pub each_ok : {A B : Type 0} {P Q : A → Type 0} (r : Result A B) → ((x : A) → P x → Q x) → IfOk r P → IfOk r Q
+each_ok (Ok x) so is = so x is
+each_ok (Err e) so is = tt
+
+pub each_err : {A B : Type 0} {P Q : B → Type 0} (r : Result A B) → ((e : B) → P e → Q e) → IfErr r P → IfErr r Q
+each_err (Ok x) so is = tt
+each_err (Err e) so is = so e is

@@ -13,7 +13,7 @@ ghost use Rattle.ib_mtr.specs.Commits.{HasCommitted, HasRead, IsFull, MayCommit}
 ghost use Rattle.ib_mtr.specs.Mtr.{IsMtr, IsStillMtr, released_to, with_work};
 
 use crate::mtr::Mtr;
-use ib_frames::{LogFull, append, lay_out};
+use ib_frames::{LogFull, append_laid, lay_out};
 use ib_latch::{Latches, Parkers, Sleep};
 use ib_levels::{Latch, Level};
 use ib_logrec::{Law, MOST_WRITES};
@@ -71,7 +71,11 @@ impl<'a, L: Law, S: Sleep> Mtr<'a, L, S> {
     }
 
     // Appends the entry of the change, with what the work set changes; it may be laid out already.
-    fn append_entry(&mut self, change: Change, laid: Option<usize>) -> Result<u32, LogFull>
+    pub(crate) fn append_entry(
+        &mut self,
+        change: Change,
+        laid: Option<usize>,
+    ) -> Result<u32, LogFull>
         requires mtr { IsMtr self.old.latches.now self.old.pass.now }
         requires laid { IfSome laid (IsLaidOut self.old.pass.now change self.old.pass.now.work) }
         requires may { used self.old.pass.now.view.memory.seen + ENTRY_WORDS
@@ -98,13 +102,20 @@ impl<'a, L: Law, S: Sleep> Mtr<'a, L, S> {
         let room = self.pass.leave_work();
         // For the proof: the pages of a work set ascend.
         let _ = room.work.len();
-        let result = append(self.latches.space(), self.pass, change, &room.work, laid);
+        let result = append_laid(self.latches.space(), self.pass, change, &room.work, laid);
         self.pass.resume_work(room);
         result
     }
 
-    // All pages leave the work set, and all grants are given back.
-    fn give_back(&mut self)
+    /// Gives all back (`mtr_t::Command::release_all`): all pages leave the work set, changed or not, and all
+    /// grants are given back, from the newest to the oldest. It is a mini-transaction still, that holds
+    /// nothing; nothing is read or written.
+    ///
+    /// ```
+    /// mtr.give_back();
+    /// mtr.finish();
+    /// ```
+    pub fn give_back(&mut self)
         requires { IsMtr self.old.latches.now (with_work [] self.old.pass.now) }
         ensures still { IsStillMtr self.old self.new }
         ensures given { self.new.pass.now ≡ released_to 0 (with_work [] self.old.pass.now) }
@@ -117,8 +128,8 @@ impl<'a, L: Law, S: Sleep> Mtr<'a, L, S> {
 
 // Lays out the entry of the change before the log latch is taken, which so is held the shorter: where the pages are
 // so few that what is changed of them fits an entry, however much it is.
-fn lay_out_early<L: Law>(
-    latches: &Latches<L, Parkers>,
+pub(crate) fn lay_out_early<L: Law, S: Sleep>(
+    latches: &Latches<L, S>,
     pass: &mut Pass,
     change: Change,
 ) -> Option<usize>

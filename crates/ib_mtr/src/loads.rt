@@ -51,28 +51,41 @@ impl<'a, L: Law, S: Sleep> Mtr<'a, L, S> {
         self.pass.resume_work(room);
     }
 
-    /// The place of a page's first word, by which `word` finds each of them.
-    pub fn page_start(&self, page: u32) -> usize
-        requires mtr { IsMtr self.now.latches.now self.now.pass.now }
-        requires page { page < self.now.latches.now.sizes.pages }
-        ensures start { result ≡ page_place self.now.latches.now.sizes page 0 }
-    {
-        self.latches.space().page_start(page)
-    }
-
     /// A word of a page where it lies, of which the session holds the latch in some mode, with a look at
     /// the log's end since: it is that of the page after all entries seen. The page is not in the work
-    /// set by it: a search reads a node in place, of whose latch it has the page by the word. `start` is the
-    /// place of the page's first word, which a search asks for once.
+    /// set by it: a search reads a node in place, of whose latch it has the page by the word.
     ///
     /// ```
     /// mtr.s_latch(rt, Latch::page(page), Level::TreeNode);
     /// mtr.log_end();
-    /// let start = mtr.page_start(page);
-    /// let word = mtr.word(page, start, 9);
+    /// let word = mtr.word(page, 9);
+    /// ```
+    pub fn word(&mut self, page: u32, index: usize) -> u64
+        requires mtr { IsMtr self.old.latches.now self.old.pass.now }
+        requires page { page < self.old.latches.now.sizes.pages }
+        requires index { index < PAGE_WORDS }
+        requires held { 0 < holdings (page + 2) self.old.pass.now.view.session }
+        requires watched { is_watched (page + 2) self.old.pass.now.view.memory.since ≡ true }
+        ensures still { IsStillMtr self.old self.new }
+        ensures word { result
+            ≡ memory_after (by_place L.opening self.old.latches.now.sizes.pages)
+            self.old.pass.now.view.memory.seen (word_place page index) }
+        ensures loaded { self.new.pass.now ≡ with_view self.old.pass.now
+            (loading (word_place page index) result self.old.pass.now.view) }
+    {
+        let start = self.geometry().page_place(page, 0);
+        self.word_at(page, start, index)
+    }
+
+    /// `word`, of a page whose first word stands at `start` of the table, for who reads several words of one
+    /// page and asks `page_place` of the geometry once, as a search does.
+    ///
+    /// ```
+    /// let start = mtr.geometry().page_place(page, 0);
+    /// let (count, level) = (mtr.word_at(page, start, 9), mtr.word_at(page, start, 10));
     /// ```
     #[inline(always)]
-    pub fn word(&mut self, page: u32, start: usize, index: usize) -> u64
+    pub fn word_at(&mut self, page: u32, start: usize, index: usize) -> u64
         requires mtr { IsMtr self.old.latches.now self.old.pass.now }
         requires page { page < self.old.latches.now.sizes.pages }
         requires start { start ≡ page_place self.old.latches.now.sizes page 0 }
@@ -88,7 +101,7 @@ impl<'a, L: Law, S: Sleep> Mtr<'a, L, S> {
     {
         self.latches
             .space()
-            .load_page_word(self.pass, page, start, index as u32)
+            .load_page_word_at(self.pass, page, start, index as u32)
     }
 
     /// The changed image of a page, lent to be changed: the page is loaded, and the session owns X on

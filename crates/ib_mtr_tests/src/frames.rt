@@ -127,7 +127,7 @@ fn append_change(
     // A session's number fits an entry.
     let _ = pass.number();
     let key = Key::of_number(10);
-    append(space, pass, Change::Insert { key, value: 7 }, work, None)
+    append(space, pass, Change::Insert { key, value: 7 }, work)
 }
 
 fn commit(

@@ -35,22 +35,31 @@ use std::marker::Brand;
 const LINE_WORDS: usize = 8;
 
 impl<L: Law> Space<L> {
-    /// The place of a page's first word, by which `load_page_word` finds each of them.
-    pub fn page_start(&self, page: u32) -> usize
-        requires page { page < self.now.sizes.pages }
-        ensures start { result ≡ page_place self.now.sizes page 0 }
-    {
-        self.geometry.page_place(page, 0)
-    }
-
     /// Loads a word of a page that the session holds in some mode, in the middle of nothing: a next
     /// writer waits until it owns X. While it holds the page, and until
     /// it stores a word of an entry itself, the word stays that of the page. Where it has looked at the
     /// log's end since it took the latch, the word is that of the page after all entries seen: what the
-    /// log has beyond them wrote no word of the page. `start` is the place of the page's first word: who reads
-    /// several words asks for it once.
+    /// log has beyond them wrote no word of the page.
+    pub fn load_page_word(&self, pass: &mut Pass, page: u32, index: u32) -> u64
+        requires own { IsOf self.now pass.old }
+        requires page { page < self.now.sizes.pages }
+        requires index { index < PAGE_WORDS }
+        requires free { pass.old.view.session.phase ≡ Free }
+        requires held { 0 < holdings (page + 2) pass.old.view.session }
+        ensures view { pass.new ≡ with_view pass.old
+            (loading (word_place page index) result pass.old.view) }
+        ensures settled { is_watched (page + 2) pass.old.view.memory.since ≡ true
+            → result ≡ memory_after (by_place L.opening self.now.sizes.pages)
+            pass.old.view.memory.seen (word_place page index) }
+    {
+        let start = self.geometry.page_place(page, 0);
+        self.load_page_word_at(pass, page, start, index)
+    }
+
+    /// `load_page_word`, of a page whose first word stands at `start` of the table, for who reads several
+    /// words of one page and asks `page_place` of the geometry once.
     #[inline(always)]
-    pub fn load_page_word(&self, pass: &mut Pass, page: u32, start: usize, index: u32) -> u64
+    pub fn load_page_word_at(&self, pass: &mut Pass, page: u32, start: usize, index: u32) -> u64
         requires own { IsOf self.now pass.old }
         requires page { page < self.now.sizes.pages }
         requires start { start ≡ page_place self.now.sizes page 0 }
@@ -88,7 +97,7 @@ impl<L: Law> Space<L> {
     {
         // For the proof: the places of page words fit 32 bits.
         let _ = self.geometry.pages();
-        let first = self.page_start(page);
+        let first = self.geometry.page_place(page, 0);
         load_words(&self.table.shared, &mut pass.seat, page, first, out);
     }
 

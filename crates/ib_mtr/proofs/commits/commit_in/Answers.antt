@@ -1,11 +1,9 @@
 -- The commit of a pass whose entry may be laid out already is that of the pass as it was.
-use Rattle.std.proofs.Common.{◌≡◌, ℕ, subst, sym}
-use Rattle.std.specs.Prelude.{Result, IfErr, IfOk, Ok, Err}
+use Rattle.std.proofs.Common.{subst, sym}
 use Rattle.ib_logrec.specs.Log.{by_place}
-use Rattle.ib_frames.specs.declared.appends.LogFull.{LogFull}
 use Rattle.ib_rule.specs.Pass.{PassState}
 use Rattle.ib_mtr.specs.Commits.{HasCommitted, IsFull, MayCommit}
-use Rattle.ib_mtr.proofs.Committing.{committed_laid, full_laid, may_commit_laid, mtr_laid}
+use Rattle.ib_mtr.proofs.Committing.{committed_laid, each_err, each_ok, full_laid, may_commit_laid, mtr_laid}
 use Rattle.ib_mtr.proofs.commits.commit_in.Goals as goal
 
 pub commit_laid-requires-clause-mtr : goal.commit_laid-requires-clause-mtr
@@ -16,15 +14,6 @@ commit_laid-requires-clause-may g c =
     let lawful = g.L.Law.lawful c.args.latches.now.sizes.pages in
     subst (λ (p : PassState). MayCommit lawful p c.args.change) (sym c.lay_out_early-laid.ensures.same)
     (may_commit_laid lawful c.args.pass.now c.lay_out_early-laid.new.pass.words c.args.change c.requires.may)
-
--- what is so of a result of either kind, where something else is
-each_ok : {A B : Type 0} {P Q : A → Type 0} (r : Result A B) → ((x : A) → P x → Q x) → IfOk r P → IfOk r Q
-each_ok (Ok x) so is = so x is
-each_ok (Err e) so is = tt
-
-each_err : {A B : Type 0} {P Q : B → Type 0} (r : Result A B) → ((e : B) → P e → Q e) → IfErr r P → IfErr r Q
-each_err (Ok x) so is = tt
-each_err (Err e) so is = so e is
 
 pub returns-clause-committed : goal.returns-clause-committed
 returns-clause-committed g c =

@@ -1,5 +1,5 @@
 -- What is changed of so few pages fits an entry, however much it is.
-use Rattle.std.proofs.Common.{◌≡◌, ◌*◌, ◌≤◌, List, length, ap, ◌∙◌, arith}
+use Rattle.std.proofs.Common.{List, length, ap, ◌∙◌, arith}
 use Rattle.ib_page.specs.Work.{WorkPage}
 use Rattle.ib_page.proofs.WriteLaws.{writes_few}
 use Rattle.ib_mtr.proofs.commits.lay_out_early.Goals as goal

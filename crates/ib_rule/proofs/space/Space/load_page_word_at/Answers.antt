@@ -5,7 +5,7 @@ use Rattle.ib_layout.specs.Places.{page_place}
 use Rattle.ib_rule.specs.Pass.{PassState}
 use Rattle.ib_rule.specs.Space.{SpaceState}
 use Rattle.ib_rule.proofs.Seeing.{page_allowed_at}
-use Rattle.ib_rule.proofs.space.Space.load_page_word.Goals as goal
+use Rattle.ib_rule.proofs.space.Space.load_page_word_at.Goals as goal
 
 -- a word stands as far behind the first word of its page as its index says
 from_start : (sizes : Sizes) (page index : ℕ) → page_place sizes page 0 + index ≡ page_place sizes page index

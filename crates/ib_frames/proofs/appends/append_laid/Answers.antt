@@ -10,7 +10,7 @@ use Rattle.ib_rule.specs.Pass.{PassState}
 use Rattle.ib_rule.specs.Writing.{MayStore}
 use Rattle.ib_frames.specs.Appends.{entry_for}
 use Rattle.ib_frames.proofs.LaidOut.{may_store, appended}
-use Rattle.ib_frames.proofs.appends.append.Goals as goal
+use Rattle.ib_frames.proofs.appends.append_laid.Goals as goal
 
 pub append_words-requires-clause-ready : goal.append_words-requires-clause-ready
 append_words-requires-clause-ready g c =
