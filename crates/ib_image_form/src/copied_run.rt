@@ -16,7 +16,7 @@ use crate::copier::Copier;
 use ib_image::{FuzzyCopy, image_len, write_image};
 use ib_index::Index;
 use ib_map::OutOfMemory;
-use ib_rule::Closed;
+use ib_rule::SpaceWords;
 use ib_runs::{Descents, Gate, run_script};
 use ib_script::Script;
 use std::alloc::Global;
@@ -37,7 +37,7 @@ fn file_of(alloc: Global, copy: &FuzzyCopy, tail: &[u64]) -> Result<Vec<u8>, Out
 }
 
 // The image file of a copy, with the words of the closed log from the copy's `tail_word` on as its tail.
-fn image_of(alloc: Global, copier: &Copier, closed: &Closed) -> Result<Vec<u8>, OutOfMemory>
+fn image_of(alloc: Global, copier: &Copier, closed: &SpaceWords) -> Result<Vec<u8>, OutOfMemory>
     requires space { has_pages closed.now.sizes.pages ≡ true }
     requires few { length (log_in closed.now.sizes closed.now.words) < 2 ^ 32 }
     requires copied { (log : List Entry) × HasLog closed.now.sizes closed.now.words log × IsCopyWithTail copier.now closed.now.sizes.pages log }
@@ -45,7 +45,8 @@ fn image_of(alloc: Global, copier: &Copier, closed: &Closed) -> Result<Vec<u8>, 
         → IfOk result (λ bytes. IsFileOfCopy bytes.items closed.now.sizes.pages log copier.now.pages) }
 {
     let copy = copier.copy();
-    let tail = &closed.log()[copy.tail_word() as usize..];
+    let log = closed.log(alloc)?;
+    let tail = &log.as_slice()[copy.tail_word() as usize..];
     file_of(alloc, copy, tail)
 }
 

@@ -18,7 +18,7 @@ use ib_latch::{Latches, LatchesCloseRefused, Parkers, Sleep};
 use ib_layout::Geometry;
 use ib_map::{Key, Record};
 use ib_planned_log::KeptLaw;
-use ib_rule::{Closed, ConnectFault, OutOfMemory, Pass};
+use ib_rule::{Closed, ConnectFault, OutOfMemory, Pass, SpaceWords};
 use ib_shared::SharedSpace;
 use std::alloc::Global;
 use std::marker::Model;
@@ -97,6 +97,11 @@ impl<S: Sleep> SharedSpace for Index<S> {
     fn returned(refused: IndexRefused<S>) -> Index<S> {
         let IndexRefused { index } = refused;
         index
+    }
+
+    fn into_words(self) -> SpaceWords {
+        let Index { latches } = self;
+        latches.into_words()
     }
 
     fn discard(self) {

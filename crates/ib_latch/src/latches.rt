@@ -10,7 +10,7 @@ use crate::parkers::Parkers;
 use crate::sleep::Sleep;
 use ib_layout::Geometry;
 use ib_logrec::{Law, MOST_SESSIONS};
-use ib_rule::{Closed, ConnectFault, OutOfMemory, Pass, Space, SpaceCloseRefused};
+use ib_rule::{Closed, ConnectFault, OutOfMemory, Pass, Space, SpaceCloseRefused, SpaceWords};
 use std::alloc::Global;
 use std::marker::Model;
 use std::sync::Wait;
@@ -161,6 +161,21 @@ impl<L: Law, S: Sleep> Latches<L, S> {
                 })
             }
         }
+    }
+
+    /// Ends the space as `close` does, and keeps its words where they lie. It takes no memory, so that nothing
+    /// refuses it.
+    ///
+    /// ```
+    /// let words = table.into_words();
+    /// let log = words.log(alloc)?;
+    /// ```
+    pub fn into_words(self) -> SpaceWords
+        requires none { IsDeserted self }
+        ensures { HasClosed L.lawful L.opening self result }
+    {
+        let Latches { space, sleep: _ } = self;
+        space.into_words()
     }
 
     /// Gives the space up, with its log and its pages, where nobody is connected: for who cannot close it.

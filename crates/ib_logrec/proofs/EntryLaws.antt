@@ -45,7 +45,7 @@ same_beq true false e = cc
 same_beq false true e = cc
 same_beq false false e = refl
 
-HasHead-entry : (pages : ℕ) (e : Entry) → IsInGrammar pages e → HasHead (head_of e)
+pub HasHead-entry : (pages : ℕ) (e : Entry) → IsInGrammar pages e → HasHead (head_of e)
 HasHead-entry pages e is = record {
   session = is.session;
   most_session = is.most_session;

@@ -1,8 +1,8 @@
 -- A head is the one that its words spell, and words without a fault are those of the head that they spell.
-use Rattle.std.proofs.Common.{◌≡◌, ℕ, ◌+◌, ◌-◌, ◌*◌, ◌^◌, ◌<◌, ◌≤◌, Bool, true, false, cond, eqb, List, [], ◌∷◌, ◌++◌, length, get_or, drop, None, refl, sym, ap, ◌∙◌, arith, inl, inr, ◌⊎◌, append_assoc, length-append}
+use Rattle.std.proofs.Common.{◌≡◌, ℕ, ◌+◌, ◌-◌, ◌*◌, ◌^◌, ◌<◌, ◌≤◌, Bool, true, false, cond, eqb, List, [], ◌∷◌, ◌++◌, length, get_or, drop, None, Some, refl, sym, ap, ◌∙◌, arith, inl, inr, ◌⊎◌, append_assoc, length-append}
 use Rattle.std.specs.Prelude.{◌||◌, not}
 use Rattle.std.proofs.Math.Seq.{get_or-append_seam}
-use Rattle.std.proofs.lemmas.Bool.{eqb-true, or_cases, le-leb, leb-true, and_from, and_parts}
+use Rattle.std.proofs.lemmas.Bool.{eqb-true, or_cases, le-leb, lt-leb, leb-true, and_from, and_parts}
 use Rattle.std.proofs.lemmas.List.{drop_at, drop_more}
 use Rattle.ib_map.specs.Keys.{MapKey}
 use Rattle.ib_map.specs.Map.{key_of}
@@ -13,7 +13,8 @@ use Rattle.ib_logrec.specs.declared.entry.TheConstants.{HEAD_WORDS, MOST_WRITES,
 use Rattle.ib_logrec.specs.declared.head.Head.{Head}
 use Rattle.ib_logrec.specs.KeyWords.{key_words, spells_key, key_in}
 use Rattle.ib_logrec.specs.Heads.{flags_of, value_of, first_word, head_words, session_in, flags_in, count_in, is_delete, is_structural, first_at, number_at, key_part, value_word, head_in}
-use Rattle.ib_logrec.specs.Grammar.{is_flags, is_counted, is_first, head_fault}
+use Rattle.ib_logrec.specs.declared.fault.LogFault.TheVariants.{Short}
+use Rattle.ib_logrec.specs.Grammar.{is_flags, is_counted, is_first, spells_head, head_fault}
 use Rattle.ib_logrec.proofs.KeyWordLaws.{length-key_words, key_in-key_words, spells_key-key_words, key_words-key_in}
 use Rattle.ib_logrec.proofs.WriteLaws.{unless-none, or-none}
 
@@ -185,6 +186,20 @@ unfolding head_fault
 no_fault-HeadIsRight place words right =
     rw (le-leb _ _ right.whole, right.first, right.numbered, right.keyed, right.valued, le-leb _ _ right.long) refl
 
+-- words that spell a head stand each test of a head, ..
+module _ (words : List ℕ) (whole : HEAD_WORDS ≤ length words) (spelled : spells_head words ≡ true) where
+  four : (((is_first (first_at words) ≡ true) × (is_counted (number_at words) (2 ^ 32 - 1) ≡ true)) × (spells_key (key_part words) ≡ true)) × ((not (is_delete (first_at words)) || eqb (value_word words) 0) ≡ true)
+  unfolding spells_head
+  four = let d = and_parts _ _ spelled in let c = and_parts _ _ d.0 in let b = and_parts _ _ c.0 in ((b, c.1), d.1)
+
+  -- .. and all of them where so many words stand behind it as its writes have
+  pub right-spelled : 2 * count_in (first_at words) ≤ length (drop HEAD_WORDS words) → HeadIsRight words
+  right-spelled long = record { whole = whole; first = four.0.0.0; numbered = four.0.0.1; keyed = four.0.1; valued = four.1; long = long }
+
+  pub short-spelled : (place : ℕ) → length (drop HEAD_WORDS words) < 2 * count_in (first_at words) → head_fault place words ≡ Some (Short place)
+  unfolding head_fault
+  short-spelled place short = rw (le-leb _ _ whole, four.0.0.0, four.0.0.1, four.0.1, four.1, lt-leb _ _ short) refl
+
 -- what a head in the grammar says
 pub record HasHead (h : Head) : Type 0 where
   pub session : 1 ≤ h.session
@@ -194,8 +209,10 @@ pub record HasHead (h : Head) : Type 0 where
   pub writes : 1 ≤ h.writes
   pub most_writes : h.writes ≤ MOST_WRITES
 
-pub HeadIsRight-words : (h : Head) (rest : List ℕ) → HasHead h → 2 * h.writes ≤ length rest → HeadIsRight (head_words h ++ rest)
-HeadIsRight-words h rest has long =
+-- the words of a head spell one, whatever stands behind them
+pub head-spelled : (h : Head) (rest : List ℕ) → HasHead h → spells_head (head_words h ++ rest) ≡ true
+unfolding spells_head
+head-spelled h rest has =
     let few = has.most_writes in
     let sessions : is_counted (session_in (first_word h)) MOST_SESSIONS ≡ true = rw (session_is h rest few) (and_from _ _ (le-leb 1 h.session has.session) (le-leb h.session MOST_SESSIONS has.most_session)) in
     let known : is_flags (flags_in (first_word h)) ≡ true = rw (flags_is h rest few) (is_flags-flags_of h.change h.structural) in
@@ -203,15 +220,18 @@ HeadIsRight-words h rest has long =
     let first : is_first (first_word h) ≡ true = and_from _ _ (and_from _ _ sessions known) counts in
     let number : is_counted h.number (2 ^ 32 - 1) ≡ true = and_from _ _ (le-leb 1 h.number has.number) (le-leb h.number (2 ^ 32 - 1) (let most = has.most_number in omega arith)) in
     let value = delete-no_value h.change h.structural (first_word h) (flags_is h rest few) in
+    let words : List ℕ = head_words h ++ rest in
+    let first_there : is_first (first_at words) ≡ true = rw (first_at-words h rest few) first in
+    let numbered : is_counted (number_at words) (2 ^ 32 - 1) ≡ true = rw (number_at-words h rest few) number in
+    let valued : (not (is_delete (first_at words)) || eqb (value_word words) 0) ≡ true = rw (first_at-words h rest few, value_word-words h rest few) value in
+    and_from _ _ (and_from _ _ (and_from _ _ first_there numbered) (spells-words h rest few)) valued
+
+pub HeadIsRight-words : (h : Head) (rest : List ℕ) → HasHead h → 2 * h.writes ≤ length rest → HeadIsRight (head_words h ++ rest)
+HeadIsRight-words h rest has long =
+    let few = has.most_writes in
     let count : 2 * count_in (first_word h) ≤ length rest = rw (count_is h rest few) long in
-    record {
-      whole = omega (arith, length-append (head_words h) rest, length-head_words h);
-      first = rw (first_at-words h rest few) first;
-      numbered = rw (number_at-words h rest few) number;
-      keyed = spells-words h rest few;
-      valued = rw (first_at-words h rest few, value_word-words h rest few) value;
-      long = rw (first_at-words h rest few, drop-head_words h rest few) count;
-    }
+    right-spelled (head_words h ++ rest) (omega (arith, length-append (head_words h) rest, length-head_words h)) (head-spelled h rest has)
+    (rw (first_at-words h rest few, drop-head_words h rest few) count)
 
 module _ (words : List ℕ) (right : HeadIsRight words) where
   -- the head that is read is in the grammar

@@ -68,6 +68,11 @@ place_fault pages entry low (w ∷ ws) =
     or unless (nat_le low w.place) (BadWrite entry w.place)
     or place_fault pages entry (w.place + 1) ws
 
+-- the words begin with those of a head
+unfoldable pub spells_head : List ℕ → Bool
+spells_head words =
+    is_first (first_at words) && is_counted (number_at words) (2 ^ 32 - 1) && spells_key (key_part words) && (not (is_delete (first_at words)) || (value_word words == 0))
+
 -- the first fault of the words of a head that begins at a place, and that so many words stand behind it as its writes have
 unfoldable pub head_fault : ℕ → List ℕ → Option LogFault
 head_fault place words =

@@ -1,14 +1,14 @@
 //! From words to the entry that they spell, or to their first fault.
 
-ghost use Rattle.std.specs.Prelude.{◌≡◌, ◌+◌, ◌*◌, ◌^◌, ◌<◌, ◌≤◌, ◌==◌, ◌++◌, ℕ, List, not, None, Some, Ok, if◌then◌else◌, length, drop, slice_index, MatchResult, IfOk, OnOk, IfErr};
+ghost use Rattle.std.specs.Prelude.{◌≡◌, ◌+◌, ◌*◌, ◌^◌, ◌<◌, ◌≤◌, ◌==◌, ◌++◌, ℕ, List, not, None, Some, Ok, if◌then◌else◌, length, drop, slice_index, MatchResult, true, false, IfOk, OnOk, IfErr, OnErr};
 ghost use Rattle.std.specs.List.{list_any};
 ghost use Rattle.ib_map.specs.declared.TheConstants.{PAGE_WORDS};
 ghost use Rattle.ib_map.specs.declared.call.Change.TheVariants.{Insert, Delete};
 ghost use Rattle.ib_map.specs.Writes.{page_at, spans_pages, PlacesRise};
 ghost use Rattle.ib_logrec.specs.declared.entry.Entry.{Entry};
-ghost use Rattle.ib_logrec.specs.Heads.{head_of, head_in, first_at};
+ghost use Rattle.ib_logrec.specs.Heads.{head_of, head_in, first_at, count_in};
 ghost use Rattle.ib_logrec.specs.Words.{words_of_entry, writes_in};
-ghost use Rattle.ib_logrec.specs.Grammar.{IsInGrammar, StandsAt, HeadStandsAt, place_fault, head_fault, writes_fault, fault_at, IsFault};
+ghost use Rattle.ib_logrec.specs.Grammar.{IsInGrammar, StandsAt, HeadStandsAt, place_fault, spells_head, head_fault, writes_fault, fault_at, IsFault};
 
 use crate::entry::{Entry, HEAD_WORDS};
 use crate::fault::LogFault;
@@ -87,8 +87,9 @@ fn tested_head(words: &[u64], place: u32, pages: u32) -> Result<Head, LogFault>
     Ok(head)
 }
 
-// The head at the front of the words, which begin at a log's `place`.
-#[tactic(auto, unfolding(crate::specs::Grammar::head_fault, crate::specs::Heads::head_in))]
+// The head at the front of the words, which begin at a log's `place`, with as many words behind it as its
+// writes have.
+#[tactic(auto, unfolding(crate::specs::Grammar::head_fault))]
 fn head_of(words: &[u64], place: u32) -> Result<Head, LogFault>
     ensures head { IfOk result (λ head. head ≡ head_in words.now) }
     ensures room { IfOk result (λ head. HEAD_WORDS + 2 * head.writes ≤ length words.now) }
@@ -98,6 +99,23 @@ fn head_of(words: &[u64], place: u32) -> Result<Head, LogFault>
     if words.len() < HEAD_WORDS {
         return Err(LogFault::Short { place });
     }
+    let head = spelled_head(words, place)?;
+    if words.len() - HEAD_WORDS < 2 * head.writes {
+        return Err(LogFault::Short { place });
+    }
+    Ok(head)
+}
+
+// The head that the words at the front spell, whatever stands behind them.
+#[tactic(auto, unfolding(crate::specs::Grammar::head_fault, crate::specs::Grammar::spells_head, crate::specs::Heads::head_in))]
+pub(crate) fn spelled_head(words: &[u64], place: u32) -> Result<Head, LogFault>
+    requires { HEAD_WORDS ≤ length words.now }
+    ensures head { IfOk result (λ head. head ≡ head_in words.now) }
+    ensures count { IfOk result (λ head. head.writes ≡ count_in (first_at words.now)) }
+    ensures spelled { OnOk result (spells_head words.now ≡ true) }
+    ensures none { OnErr result (spells_head words.now ≡ false) }
+    ensures fault { IfErr result (λ fault. head_fault place words.now ≡ Some fault) }
+{
     let number = words[1];
     let value = words[HEAD_WORDS - 1];
     let Some(first) = first_word(words[0]) else {
@@ -111,9 +129,6 @@ fn head_of(words: &[u64], place: u32) -> Result<Head, LogFault>
     };
     if first.deletes && value != 0 {
         return Err(bad_head(place, value));
-    }
-    if words.len() - HEAD_WORDS < 2 * first.writes {
-        return Err(LogFault::Short { place });
     }
     Ok(Head {
         session: first.session,

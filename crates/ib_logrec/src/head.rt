@@ -1,10 +1,13 @@
 //! The head of an entry: all that an entry says but the words that it writes.
 
-ghost use Rattle.std.specs.Prelude.{◌≡◌, ◌≤◌, ◌++◌, length, drop};
+ghost use Rattle.std.specs.Prelude.{◌≡◌, ◌≤◌, ◌++◌, ℕ, List, Some, true, length, drop, SomeIff};
 ghost use Rattle.ib_map.specs.Map.{key_of};
 ghost use Rattle.ib_map.specs.declared.call.Change.{Change};
-ghost use Rattle.ib_logrec.specs.Heads.{first_word, head_words, logged_head, value_of};
+ghost use Rattle.ib_logrec.specs.declared.entry.Entry.{Entry};
+ghost use Rattle.ib_logrec.specs.Heads.{first_word, head_in, head_of, head_words, logged_head, value_of};
+ghost use Rattle.ib_logrec.specs.Grammar.{IsInGrammar, spells_head};
 
+use crate::decode::spelled_head;
 use crate::entry::{HEAD_WORDS, MOST_WRITES};
 use crate::first_word::flags_of;
 use crate::key_words::put_key;
@@ -29,6 +32,28 @@ impl Head {
             session: self.session,
             number: self.number,
             change: self.change,
+        }
+    }
+
+    /// The head that the first `HEAD_WORDS` words spell, as `write_into` writes them. None exactly where they
+    /// spell none. Of an entry's words it is the entry's head, and `HEAD_WORDS + 2 * writes` words further the
+    /// next entry begins.
+    ///
+    /// ```
+    /// let next = match Head::read(&words[place..]) {
+    ///     Some(head) => Some(place + HEAD_WORDS + 2 * head.writes),
+    ///     None => None,
+    /// };
+    /// ```
+    pub fn read(words: &[u64]) -> Option<Head>
+        requires { HEAD_WORDS ≤ length words.now }
+        ensures head { SomeIff result (spells_head words.now ≡ true) (head_in words.now) }
+        ensures only { (pages : ℕ) (e : Entry) (rest : List ℕ) → IsInGrammar pages e
+            → words.now ≡ head_words (head_of e) ++ rest → result ≡ Some (head_of e) }
+    {
+        match spelled_head(words, 0) {
+            Ok(head) => Some(head),
+            Err(_) => None,
         }
     }
 

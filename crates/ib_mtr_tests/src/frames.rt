@@ -208,3 +208,32 @@ fn a_page_is_changed_twice(rt: HostRuntime) {
     assert!(rt; is_same(&closed.page(PAGE), &image));
     assert_eq!(rt; closed.log(), log.as_slice());
 }
+
+#[test]
+fn the_words_of_an_ended_space_are_read_where_they_lie(rt: HostRuntime) {
+    let mut space = small(&rt, rt.alloc());
+    let mut pass = space.connect(rt.alloc()).expect(&rt, "a session");
+    take(&rt, &space, &mut pass, FRAME, Level::TreeNode);
+    take(&rt, &space, &mut pass, LOG, Level::Log);
+    let before = read(&rt, &space, &mut pass);
+    let mut image = before;
+    assert!(rt; image.is_formed());
+    assert!(rt; image.clock() == 0);
+    image.touch();
+    assert_eq!(rt;
+        commit(&rt, rt.alloc(), &space, &mut pass, &before, &image),
+        0
+    );
+    give(&rt, &space, &mut pass, LOG);
+    give(&rt, &space, &mut pass, FRAME);
+    assert!(rt; pass.is_idle());
+    space.disconnect(pass);
+    let words = space.into_words();
+    assert_eq!(rt; (words.sessions(), words.used()), (1, 7));
+    let log = words.log(rt.alloc()).expect(&rt, "there is memory");
+    for (number, word) in log.iter().enumerate() {
+        assert_eq!(rt; words.log_word(number as u32), *word);
+    }
+    assert!(rt; PAGE < words.geometry().pages());
+    assert!(rt; is_same(&words.page(PAGE), &image));
+}

@@ -7,10 +7,10 @@ ghost use Rattle.ib_second.specs.PairShared.{pair_law};
 use ib_layout::Geometry;
 use ib_map::{Chunks, Key, OutOfMemory, Record};
 use ib_pair_law::pair_law;
-use ib_rule::{Closed, ConnectFault, Pass};
+use ib_rule::{ConnectFault, Pass, SpaceWords};
 use ib_runs::Shared;
 use ib_scan::{More, scan_at};
-use ib_second::{Pair, PairRefused};
+use ib_second::Pair;
 use ib_second_key::second_map_law;
 use ib_shared::SharedSpace;
 use std::alloc::Global;
@@ -109,12 +109,9 @@ impl Shared for SharedPair {
         }
     }
 
-    fn close(self, alloc: Global) -> Result<Closed, Self> {
+    fn into_words(self) -> SpaceWords {
         let SharedPair { pair } = self;
-        match pair.close(alloc) {
-            Ok(closed) => Ok(closed),
-            Err(PairRefused { pair }) => Err(SharedPair { pair }),
-        }
+        pair.into_words()
     }
 
     fn discard(self) {

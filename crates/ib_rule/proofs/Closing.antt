@@ -1,7 +1,7 @@
 -- What the rule says of the words when nobody is connected any more.
 use Rattle.std.proofs.Common.{◌≡◌, ℕ, zero, suc, ◌+◌, ◌^◌, ◌<◌, ◌≤◌, List, [], ◌∷◌, map, take, drop, length, get_or, refl, sym, ap, ◌∙◌, subst, arith}
 use Rattle.std.specs.Prelude.{slice_index, sum_by, Option, Some, None}
-use Rattle.std.proofs.lemmas.List.{get_or-drop, length-drop}
+use Rattle.std.proofs.lemmas.List.{get_or-drop, get_or-take, length-drop, length-take}
 use mathlib.Core.Logic.{dite}
 use mathlib.Core.Option.{some, some-ne-none, some-injective}
 use lib.ListN.{get_elem?}
@@ -26,7 +26,7 @@ use Rattle.ib_rule.specs.Memory.{base, IsAppending, stored_in}
 use Rattle.ib_rule.specs.Roles.{live, sessions_in, drawn_in, session_number_of}
 use Rattle.ib_rule.specs.Views.{role_of, space_at}
 use Rattle.ib_rule.specs.Rule.{RuleHolds}
-use Rattle.ib_rule.specs.Closed.{used_in, IsClosed}
+use Rattle.ib_rule.specs.Closed.{used_in, log_in, IsClosed, IsSized}
 use Rattle.ib_rule.proofs.Sessions.{whole_count}
 
 front : (words ys : List ℕ) → length ys ≤ length words → ((k : ℕ) → k < length ys → get_or words k 0 ≡ get_or ys k 0) → take (length ys) words ≡ ys
@@ -85,3 +85,15 @@ pub elem_get : (xs : List ℕ) (i x : ℕ) → get_elem? xs i ≡ some x → get
 elem_get [] i x e = absurd (some-ne-none x (sym e))
 elem_get (y ∷ ys) zero x e = some-injective y x e
 elem_get (y ∷ ys) (suc i) x e = elem_get ys i x e
+
+-- the log has as many words as its end says ..
+pub log_length : (sizes : Sizes) (words : List ℕ) → IsSized sizes words → length (log_in sizes words) ≡ used_in words
+log_length sizes words sized =
+    let long = length-drop (log_place sizes 0) words in let all = length-take (used_in words) (drop (log_place sizes 0) words) in
+    omega (arith, long, all, sized.room, sized.sized)
+
+-- .. and each of them stands at its place
+pub log_at : (sizes : Sizes) (words : List ℕ) (i : ℕ) → IsSized sizes words → i < length (log_in sizes words) → slice_index (log_in sizes words) i ≡ slice_index words (log_place sizes i)
+log_at sizes words i sized low =
+    let first : ℕ = log_place sizes 0 in let long = log_length sizes words sized in
+    get_or-take (used_in words) (drop first words) i 0 (omega arith) ∙ (get_or-drop first words i 0 ∙ ap (slice_index words) (let z : first + i ≡ log_place sizes i = omega arith in z))

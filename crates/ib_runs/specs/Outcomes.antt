@@ -1,10 +1,10 @@
 -- What the sessions of a script came to.
-use Rattle.std.specs.Prelude.{◌≡◌, ◌⊎◌, ℕ, ◌<◌, ◌≤◌, List, map, slice_index}
+use Rattle.std.specs.Prelude.{◌≡◌, ◌⊎◌, ℕ, zero, suc, ◌+◌, ◌<◌, ◌≤◌, List, [], ◌∷◌, map, slice_index}
 use Rattle.std.specs.List.{AllByRecursion}
 use Rattle.ib_map.specs.Pairs.{Pairs}
 use Rattle.ib_map.specs.History.{History}
 use Rattle.ib_map.specs.Runs.{Runs, IsLegalRun}
-use Rattle.ib_map.specs.Writes.{word_place}
+use Rattle.ib_map.specs.Writes.{index_at, page_at, word_place}
 use Rattle.ib_map.specs.declared.TheConstants.{PAGE_WORDS}
 use Rattle.ib_map.specs.declared.call.Call.{Call}
 use Rattle.ib_layout.specs.Geometry.{Sizes}
@@ -12,6 +12,7 @@ use Rattle.ib_layout.specs.Places.{page_place}
 use Rattle.ib_logrec.specs.declared.entry.Entry.{Entry}
 use Rattle.ib_logrec.specs.Log.{history_of, log_words, map_of, memory_after, used}
 use Rattle.ib_walk.specs.Trees.{content_of}
+use Rattle.ib_walk.specs.Words.{image_of}
 use Rattle.ib_tree.specs.Logs.{pages_after}
 use Rattle.ib_rule.specs.Closed.{log_in}
 use Rattle.ib_leaf.specs.Calls.{CallLaw, tree_calls}
@@ -40,6 +41,15 @@ pub record HasLogUnder (law : CallLaw) (sizes : Sizes) (words : List ℕ) (log :
 -- .. of one tree
 abbrev pub HasLog : Sizes → List ℕ → List Entry → Type 0
 HasLog sizes words log = HasLogUnder (tree_calls sizes) sizes words log
+
+-- the images of so many pages, from one on, among the words of all pages by place
+abbrev pub images_at : (ℕ → ℕ) → ℕ → ℕ → List (List ℕ)
+images_at words page zero = []
+images_at words page (suc n) = image_of words page ∷ images_at words (page + 1) n
+
+-- the images of the pages of a closed space
+abbrev pub images_in : Sizes → List ℕ → List (List ℕ)
+images_in sizes words = images_at (λ place. slice_index words (page_place sizes (page_at place) (index_at place))) 0 sizes.pages
 
 -- a history is that of a log, and a map is what the walk of the first tree after it finds: the map of the log
 pub record IsReadOff (law : CallLaw) (log : List Entry) (history : History) (pairs : Pairs) : Type 0 where

@@ -1,12 +1,14 @@
 //! What a script's sessions came to, read off the closed space.
 
-ghost use Rattle.std.specs.Prelude.{◌≡◌, ◌<◌, ◌≤◌, ◌^◌, ℕ, List, [], IfOk, true, length, slice_index, slice_index_or};
+ghost use Rattle.std.specs.Prelude.{◌≡◌, ◌<◌, ◌≤◌, ◌^◌, ◌++◌, ℕ, List, IfOk, true, drop, length};
 ghost use Rattle.ib_map.specs.Space.{has_pages};
-ghost use Rattle.ib_map.specs.declared.TheConstants.{PAGE_WORDS};
-ghost use Rattle.ib_layout.specs.Places.{page_place};
 ghost use Rattle.ib_logrec.specs.declared.entry.Entry.{Entry};
+ghost use Rattle.ib_logrec.specs.Grammar.{IsInGrammar};
+ghost use Rattle.ib_logrec.specs.Heads.{head_of};
 ghost use Rattle.ib_logrec.specs.Law.{AreInGrammar};
 ghost use Rattle.ib_logrec.specs.Log.{history_of, log_words};
+ghost use Rattle.ib_logrec.specs.Words.{words_of_entry};
+ghost use Rattle.ib_rule.specs.Closed.{log_in};
 ghost use Rattle.ib_walk.specs.Trees.{content_of};
 ghost use Rattle.ib_tree.specs.Logs.{pages_after};
 ghost use Rattle.ib_runs.specs.Outcomes.{HasLogUnder, IsReadOff};
@@ -15,11 +17,11 @@ ghost use Rattle.ib_runs.specs.Shared.{calls_under};
 use crate::session_out::SessionOut;
 use crate::shared::Shared;
 use ib_layout::Geometry;
-use ib_logrec::head_at;
-use ib_map::{LoggedChange, OutOfMemory, PAGE_WORDS, PlainMap};
+use ib_logrec::{HEAD_WORDS, Head};
+use ib_map::{LoggedChange, OutOfMemory, PlainMap};
 use ib_page::Image;
-use ib_rule::Closed;
-use ib_tree::content_of;
+use ib_rule::SpaceWords;
+use ib_tree::{Images, content_in};
 use std::alloc::Global;
 
 /// What a script's sessions came to: what each was answered, that of session n at place n - 1, and what is read off the
@@ -30,43 +32,69 @@ pub struct Ran {
     pub sessions: Vec<SessionOut>,
     pub history: Vec<LoggedChange>,
     pub map: PlainMap,
-    pub closed: Closed,
+    pub closed: SpaceWords,
 }
 
-// The changes of a log's words, in a space of so many pages.
-fn history_in(alloc: Global, words: &[u64], pages: u32) -> Result<Vec<LoggedChange>, OutOfMemory>
-    requires few_words { length words.now < 2 ^ 32 }
-    requires pages { has_pages pages ≡ true }
-    requires spelled { (log : List Entry) × AreInGrammar pages log × (words.now ≡ log_words log) }
-    ensures { (log : List Entry) → AreInGrammar pages log → words.now ≡ log_words log
+// The changes of the log of a closed space, of which the heads of the entries tell all.
+fn history_in(alloc: Global, closed: &SpaceWords) -> Result<Vec<LoggedChange>, OutOfMemory>
+    requires few_words { length (log_in closed.now.sizes closed.now.words) < 2 ^ 32 }
+    requires spelled { (log : List Entry) × AreInGrammar closed.now.sizes.pages log
+        × (log_in closed.now.sizes closed.now.words ≡ log_words log) }
+    ensures { (log : List Entry) → AreInGrammar closed.now.sizes.pages log
+        → log_in closed.now.sizes closed.now.words ≡ log_words log
         → IfOk result (λ history. history.items ≡ history_of log) }
 {
     let mut history = Vec::new(alloc);
+    let used = closed.used();
     let mut place = 0;
-    while (place as usize) < words.len() {
-        let Ok(found) = head_at(words, place, pages) else {
-            unreachable!()
-        };
-        let (head, next) = found;
+    while place < used {
+        let head = head_at(closed, place);
         history.push(head.logged())?;
-        place = next;
+        place += (HEAD_WORDS + 2 * head.writes) as u32;
     }
     Ok(history)
 }
 
-// The images of the pages of a closed space.
-fn images_of(alloc: Global, closed: &Closed, pages: u32) -> Result<Vec<Image>, OutOfMemory>
-    requires { pages ≡ closed.now.sizes.pages }
-    ensures size { IfOk result (λ images. length images.items ≡ pages) }
-    ensures words { IfOk result (λ images. (page index : ℕ) → page < pages → index < PAGE_WORDS
-        → slice_index (slice_index_or images.items page []) index
-        ≡ slice_index closed.now.words (page_place closed.now.sizes page index)) }
+// The head of the entry that begins at a place of the log.
+fn head_at(closed: &SpaceWords, place: u32) -> Head
+    requires few_words { length (log_in closed.now.sizes closed.now.words) < 2 ^ 32 }
+    requires entry { (e : Entry) × (rest : List ℕ) × IsInGrammar closed.now.sizes.pages e
+        × (drop place (log_in closed.now.sizes closed.now.words) ≡ words_of_entry e ++ rest) }
+    ensures { (e : Entry) (rest : List ℕ) → IsInGrammar closed.now.sizes.pages e
+        → drop place (log_in closed.now.sizes closed.now.words) ≡ words_of_entry e ++ rest
+        → result ≡ head_of e }
 {
-    let mut images = Vec::new(alloc);
-    for page in 0..pages {
-        images.push(closed.page(page))?;
+    let mut words = [0; HEAD_WORDS];
+    for i in 0..HEAD_WORDS {
+        words[i] = closed.log_word(place + i as u32);
     }
-    Ok(images)
+    let Some(head) = Head::read(&words) else {
+        unreachable!()
+    };
+    head
+}
+
+// The pages of a closed space, whose images are had where its words lie.
+#[derive(Drop)]
+struct ClosedPages<'a> {
+    closed: &'a SpaceWords,
+}
+
+impl<'a> Images for ClosedPages<'a> {
+    ghost use Rattle.ib_runs.specs.Outcomes.{images_in};
+
+    ghost images = { λ p. images_in p.closed.now.sizes p.closed.now.words };
+
+    fn len(&self) -> usize {
+        self.closed.geometry().pages() as usize
+    }
+
+    fn image(&self, page: u32) -> Image {
+        let image = self.closed.page(page);
+        // For the proof: an image has all words of a page.
+        let _first = image.word(0);
+        image
+    }
 }
 
 /// The pairs of one of the trees of a closed space of so many pages: that of this root.
@@ -76,7 +104,7 @@ fn images_of(alloc: Global, closed: &Closed, pages: u32) -> Result<Vec<Image>, O
 /// ```
 pub fn pairs_of<S: Shared>(
     alloc: Global,
-    closed: &Closed,
+    closed: &SpaceWords,
     pages: u32,
     root: u32,
 ) -> Result<PlainMap, OutOfMemory>
@@ -89,14 +117,13 @@ pub fn pairs_of<S: Shared>(
 {
     // For the proof: what lawful logs say of the trees.
     S::laws();
-    let images = images_of(alloc, closed, pages)?;
-    content_of(alloc, images.as_slice(), root)
+    content_in(alloc, &ClosedPages { closed }, root)
 }
 
 // The changes of the log of a closed space, and the pairs of its first tree, of which page 1 is the root.
 pub(crate) fn read_off<S: Shared>(
     alloc: Global,
-    closed: &Closed,
+    closed: &SpaceWords,
     sizes: Geometry,
 ) -> Result<(Vec<LoggedChange>, PlainMap), OutOfMemory>
     requires sizes { closed.now.sizes ≡ sizes }
@@ -108,7 +135,7 @@ pub(crate) fn read_off<S: Shared>(
     S::laws();
     let pages = sizes.pages();
     let _ = sizes.log_words();
-    let history = history_in(alloc, closed.log(), pages)?;
+    let history = history_in(alloc, closed)?;
     let map = pairs_of::<S>(alloc, closed, pages, 1)?;
     Ok((history, map))
 }

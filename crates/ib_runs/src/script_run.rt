@@ -42,13 +42,7 @@ fn finish<S: Shared, B: Beside<S>>(
 {
     // For the proof: what was answered fits the whole log.
     S::laws();
-    let closed = match shared.close(alloc) {
-        Ok(closed) => closed,
-        Err(shared) => {
-            shared.discard();
-            return Err(AllocError);
-        }
-    };
+    let closed = shared.into_words();
     let (history, map) = read_off::<S>(alloc, &closed, sizes)?;
     Ok(Ran {
         sessions,

@@ -2,7 +2,7 @@
 
 use ib_layout::Geometry;
 use ib_map::{Chunks, Key, OutOfMemory, Record};
-use ib_rule::{Closed, ConnectFault, Pass};
+use ib_rule::{ConnectFault, Pass, SpaceWords};
 use ib_scan::More;
 use std::alloc::Global;
 use std::sync::Wait;
@@ -13,7 +13,7 @@ use std::sync::Wait;
 ///
 /// Lookups and changes are no part of it: how a session's calls reach their leaf is for `Access` to say.
 pub trait Shared {
-    ghost use Rattle.std.specs.Prelude.{◌≡◌, ℕ, ◌+◌, ◌≤◌, true, IfErr, IfOk, OnErr};
+    ghost use Rattle.std.specs.Prelude.{◌≡◌, ℕ, ◌+◌, ◌≤◌, true, IfOk, OnErr};
     ghost use Rattle.ib_map.specs.Keys.{MapKey, rank};
     ghost use Rattle.ib_map.specs.Space.{has_pages};
     ghost use Rattle.ib_map.specs.declared.call.Call.{Call};
@@ -110,12 +110,10 @@ pub trait Shared {
         ensures goes_on { OnErr result (goes_on (space self.now).sizes scan.new pass.new) }
         ensures least { begun scan.old → pass.old.view.grants.s + 2 ≤ pass.new.view.grants.s };
 
-    /// What is left where nobody is connected: the words of one lawful log, and of the pages after it. It comes back as it
-    /// was where memory lacks.
-    fn close(self, alloc: Global) -> Result<Closed, Self>
-        requires none { IsDeserted (space self) }
-        ensures ok { IfOk result (HasClosed law.lawful law.opening (space self)) }
-        ensures err { IfErr result (λ again. space again ≡ space self) };
+    /// What is left where nobody is connected: the words of one lawful log, and of the pages after it, where they lie.
+    fn into_words(self) -> SpaceWords
+        requires { IsDeserted (space self) }
+        ensures { HasClosed law.lawful law.opening (space self) result };
 
     /// Given up instead.
     fn discard(self)

@@ -8,11 +8,11 @@ ghost use Rattle.ib_tree.specs.TreeLog.{opening};
 ghost use Rattle.ib_index.specs.IndexLaw.{index_law};
 
 use crate::shared::Shared;
-use ib_index::{Index, IndexRefused};
+use ib_index::Index;
 use ib_layout::Geometry;
 use ib_map::{Chunks, Key, OutOfMemory, Record};
 use ib_planned_log::KeptLaw;
-use ib_rule::{Closed, ConnectFault, Pass};
+use ib_rule::{ConnectFault, Pass, SpaceWords};
 use ib_scan::{More, Stored, scan_on};
 use ib_shared::SharedSpace;
 use ib_tree::Trees;
@@ -78,11 +78,8 @@ impl Shared for Index {
         scan_on(rt, self.latches(), pass, scan, out)
     }
 
-    fn close(self, alloc: Global) -> Result<Closed, Self> {
-        match SharedSpace::close(self, alloc) {
-            Ok(closed) => Ok(closed),
-            Err(IndexRefused { index }) => Err(index),
-        }
+    fn into_words(self) -> SpaceWords {
+        SharedSpace::into_words(self)
     }
 
     fn discard(self) {

@@ -13,7 +13,7 @@ use ib_latch::{Latches, LatchesCloseRefused, Parkers};
 use ib_layout::Geometry;
 use ib_map::{Key, Record};
 use ib_pair_law::PairLaw;
-use ib_rule::{Closed, ConnectFault, OutOfMemory, Pass};
+use ib_rule::{Closed, ConnectFault, OutOfMemory, Pass, SpaceWords};
 use ib_shared::SharedSpace;
 use std::alloc::Global;
 use std::marker::Model;
@@ -93,6 +93,11 @@ impl SharedSpace for Pair {
     fn returned(refused: PairRefused) -> Pair {
         let PairRefused { pair } = refused;
         pair
+    }
+
+    fn into_words(self) -> SpaceWords {
+        let Pair { latches } = self;
+        latches.into_words()
     }
 
     fn discard(self) {

@@ -1,7 +1,7 @@
 //! How what sessions share is opened and closed, and how sessions come to it and go.
 
 use ib_layout::Geometry;
-use ib_rule::{Closed, ConnectFault, OutOfMemory, Pass};
+use ib_rule::{Closed, ConnectFault, OutOfMemory, Pass, SpaceWords};
 use std::alloc::Global;
 
 /// What sessions share (a `dict_table_t` with its indexes, their latches and pages): an index, or a pair of trees. Contracts
@@ -101,6 +101,16 @@ pub trait SharedSpace {
     /// What comes back where it could not be closed, as it was.
     fn returned(refused: Self::Refused) -> Self
         ensures { space result ≡ back refused };
+
+    /// Ends it as `close` does, and keeps the words where they lie. It takes no memory, so that nothing refuses it.
+    ///
+    /// ```
+    /// let words = index.into_words();
+    /// let pages = words.page(1);
+    /// ```
+    fn into_words(self) -> SpaceWords
+        requires { IsDeserted (space self) }
+        ensures { HasClosed law.lawful law.opening (space self) result };
 
     /// Gives it up, with its log and its pages, where nobody is connected: for who cannot close it.
     fn discard(self)

@@ -54,7 +54,8 @@ fn log_file_of_run<A: Access<Index> + Sync, G: Gate + Sync, R: Threads + Wait + 
     let geometry = script.geometry();
     // For the proof: a log has fewer words than 2^32.
     let _ = geometry.log_words();
-    file_of(alloc, geometry.pages(), ran.closed.log())
+    let log = ran.closed.log(alloc)?;
+    file_of(alloc, geometry.pages(), log.as_slice())
 }
 
 // Runs a script, and writes what is asked of the run.

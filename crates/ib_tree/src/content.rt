@@ -9,6 +9,7 @@ ghost use Rattle.ib_walk.specs.Walk.{first_page};
 ghost use Rattle.ib_walk.specs.Words.{memory_of, state_of};
 ghost use Rattle.ib_tree.specs.Roots.{HasRoot};
 
+use crate::images::{ImageList, Images};
 use ib_map::{Key, OutOfMemory, PlainMap};
 use ib_page::Image;
 use ib_validate::{Page, reading};
@@ -21,13 +22,26 @@ pub fn content_of(alloc: Global, memory: &[Image], root: u32) -> Result<PlainMap
     requires { HasRoot memory.now root }
     ensures { IfOk result (λ map. map ≡ content_of (memory_of memory.now) root) }
 {
+    content_in(alloc, &ImageList::new(memory), root)
+}
+
+/// `content_of`, where the images are had one by one: no more than one of them is copied at a time.
+///
+/// ```
+/// let map = content_in(alloc, &pages, 1)?;
+/// ```
+pub fn content_in<P: Images>(alloc: Global, pages: &P, root: u32) -> Result<PlainMap, OutOfMemory>
+    requires { HasRoot (P.images pages.now) root }
+    ensures { IfOk result (λ map. map ≡ content_of (memory_of (P.images pages.now)) root) }
+{
     let mut map = PlainMap::new(alloc);
-    let mut page = first_leaf(memory, root);
-    for _ in 0..memory.len() {
+    let mut page = first_leaf(pages, root);
+    for _ in 0..pages.len() {
         if page == 0 {
             return Ok(map);
         }
-        let leaf = page_at(memory, page);
+        let image = image_of(pages, page);
+        let leaf = Page::test(&image);
         insert_records(&mut map, &leaf)?;
         page = reading::next(&leaf);
     }
@@ -35,26 +49,28 @@ pub fn content_of(alloc: Global, memory: &[Image], root: u32) -> Result<PlainMap
 }
 
 // The first leaf of the tree of a root: the root's first child, that one's first child, and so on down.
-fn first_leaf(memory: &[Image], root: u32) -> u32
-    requires { HasRoot memory.now root }
-    ensures { result ≡ first_page (leaves_of (memory_of memory.now) root) 0 }
+fn first_leaf<P: Images>(pages: &P, root: u32) -> u32
+    requires { HasRoot (P.images pages.now) root }
+    ensures { result ≡ first_page (leaves_of (memory_of (P.images pages.now)) root) 0 }
 {
+    let top = image_of(pages, root);
     let mut page = root;
-    for _ in 0..reading::level(&page_at(memory, root)) {
-        page = reading::record_at(&page_at(memory, page), 0).1 as u32;
+    for _ in 0..reading::level(&Page::test(&top)) {
+        let node = image_of(pages, page);
+        page = reading::record_at(&Page::test(&node), 0).1 as u32;
     }
     page
 }
 
-// A page, by its image, which has all words, as each image has.
-fn page_at(memory: &[Image], page: u32) -> Page<'_>
-    requires { page < length memory.now }
-    ensures { memory_of memory.now page ≡ state_of (page_of result) }
+// The image of a page, which has all words, as each image has.
+fn image_of<P: Images>(pages: &P, page: u32) -> Image
+    requires { page < length (P.images pages.now) }
+    ensures { memory_of (P.images pages.now) page ≡ state_of (page_of result) }
 {
-    let image = &memory[page as usize];
+    let image = pages.image(page);
     // For the proof: an image has all words of a page.
     let _first = image.word(0);
-    Page::test(image)
+    image
 }
 
 // Inserts the records of a leaf, whose keys are above all of the map's.

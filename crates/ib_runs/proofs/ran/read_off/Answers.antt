@@ -22,11 +22,10 @@ returns g c = λ log h.
     let sizes : Sizes = c.args.sizes in
     let fits : has_pages sizes.pages ≡ true = subst (λ n. has_pages n ≡ true) c.pages-pages.ensures.pages c.pages-pages.ensures.in_range in
     let laws = c.laws.ensures.logs sizes fits in
-    let grammar = subst (λ n. AreInGrammar n log) (sym c.pages-pages.ensures.pages) (laws.grammar log h.kept) in
     let there = subst (λ (k : Sizes). HasLogUnder (calls_under law k) k c.args.closed.now.words log) (sym c.requires.sizes) h in
     let walked = subst (λ (k : Sizes). c.in_ok-map.map ≡ content_of (pages_after (by_place law.opening k.pages) log) 1) c.requires.sizes (c.in_ok-map.ensures log there) in
     record {
-      history_is = c.in_ok-history.ensures log grammar (c.log.ensures ∙ (ap (λ (k : Sizes). log_in k c.args.closed.now.words) c.requires.sizes ∙ h.logged));
+      history_is = c.in_ok-history.ensures log (subst (λ (k : Sizes). AreInGrammar k.pages log) (sym c.requires.sizes) (laws.grammar log h.kept)) (ap (λ (k : Sizes). log_in k c.args.closed.now.words) c.requires.sizes ∙ h.logged);
       walked = walked;
       map_is = walked ∙ laws.content log h.kept;
     }

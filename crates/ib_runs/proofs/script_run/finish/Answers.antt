@@ -9,15 +9,15 @@ use Rattle.ib_runs.proofs.OutcomeLaws.{done_whole, log_of, outcome_of, used_is}
 use Rattle.ib_runs.proofs.script_run.finish.Goals as goal
 
 pub returns-clause-sizes : goal.returns-clause-sizes
-returns-clause-sizes g c = c.in-Ok.ensures.ok.0 ∙ c.requires.sizes
+returns-clause-sizes g c = c.into_words-closed.ensures.0 ∙ c.requires.sizes
 
 pub returns-clause-ran : goal.returns-clause-ran
 returns-clause-ran g c =
     let law : SharedLaw = g.S.Shared.law in
     let space : SpaceState = g.S.Shared.space c.args.shared in
     let sizes : Sizes = c.args.sizes in
-    let words = c.in-Ok.closed.words in
-    let ok = c.in-Ok.ensures.ok in
+    let words = c.into_words-closed.result.words in
+    let ok = c.into_words-closed.ensures in
     let same = ok.0 ∙ c.requires.sizes in
     let closed : IsClosed law.lawful law.opening sizes words space.ended = subst (λ (k : Sizes). IsClosed law.lawful law.opening k words space.ended) c.requires.sizes ok.2 in
     let log = closed.log in

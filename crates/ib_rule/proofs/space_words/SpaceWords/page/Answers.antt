@@ -7,7 +7,7 @@ use Rattle.ib_layout.specs.Geometry.{Sizes}
 use Rattle.ib_layout.specs.Places.{page_place}
 use Rattle.ib_rule.specs.Closed.{ClosedState}
 use Rattle.ib_rule.proofs.Closing.{elem_get}
-use Rattle.ib_rule.proofs.closed.Closed.page.Goals as goal
+use Rattle.ib_rule.proofs.space_words.SpaceWords.page.Goals as goal
 
 pub loop-i-preserved : goal.loop-i-preserved
 loop-i-preserved c = λ k h.
