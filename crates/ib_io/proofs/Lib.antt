@@ -2,6 +2,7 @@ pub mod Cuts
 pub mod Decimals
 pub mod Fields
 pub mod Pieces
+pub mod Places
 pub mod Reached
 pub mod Reading
 pub mod Sending

@@ -2,6 +2,7 @@ pub mod Faults
 pub mod Input
 pub mod Lines
 pub mod Numbers
+pub mod Places
 pub mod Fields
 pub mod BadLines
 pub mod Memory

@@ -9,6 +9,7 @@ mod line_kind;
 mod memory_sink;
 mod memory_source;
 mod number;
+mod place;
 mod printed;
 mod read;
 mod sink;

@@ -1,14 +1,9 @@
 //! Lines of an input, and fields of a line.
 
-ghost use Rattle.std.specs.Prelude.{◌≡◌, ◌==◌, ◌<◌, ◌∷◌, [], length, position, MatchOption};
+ghost use Rattle.std.specs.Prelude.{◌≡◌, ◌<◌, ◌∷◌, [], length, MatchOption};
 ghost use Rattle.ib_io.specs.Lines.{lines_of, fields_of, is_skipped};
 
-// Where the byte stands for the first time.
-fn place_of(byte: u8, text: &[u8]) -> Option<usize>
-    ensures { result ≡ position (λ b. b == byte) text.now }
-{
-    text.iter().position(|b| *b == byte)
-}
+use crate::place::place_of;
 
 /// The first line of a text that is not empty, and what follows it.
 pub fn first_line(text: &[u8]) -> (&[u8], &[u8])

@@ -96,6 +96,7 @@ impl Builder {
         Ok(())
     }
 
+    #[inline(always)]
     fn take_reading(&mut self, alloc: Global, line: ScriptLine) -> Result<(), LineFault>
         requires { IsLineInRange line }
         ensures { Takes (Ok line) self.old result self.new }

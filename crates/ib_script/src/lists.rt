@@ -19,6 +19,7 @@ fn add_sessions(alloc: Global, lists: &mut Vec<Vec<Call>>, session: usize) -> Re
 }
 
 // A command at the end of a session's list.
+#[inline(always)]
 fn push_to(lists: &mut Vec<Vec<Call>>, session: usize, call: Call) -> Result<(), AllocError>
     requires least { 1 ≤ session }
     requires most { session ≤ vec_len lists.old }
@@ -30,6 +31,7 @@ fn push_to(lists: &mut Vec<Vec<Call>>, session: usize, call: Call) -> Result<(),
 }
 
 // The same, where the session may have no list yet.
+#[inline(always)]
 pub fn add_command(
     alloc: Global,
     lists: &mut Vec<Vec<Call>>,

@@ -39,6 +39,7 @@ pub enum ScriptLine {
 }
 
 // One field, a key.
+#[inline(always)]
 fn one_key(fields: Option<&[u8]>) -> Result<Key, LineKind>
     ensures { result ≡ one_field key_in (fields_behind fields.entry) }
 {
@@ -78,6 +79,7 @@ fn two_keys(fields: Option<&[u8]>) -> Result<(Key, Key), LineKind>
 }
 
 // Two fields, a key and a value.
+#[inline(always)]
 fn key_and_value(fields: Option<&[u8]>) -> Result<(Key, u64), LineKind>
     ensures { result ≡ two_fields key_in number_in (fields_behind fields.entry) }
 {

@@ -1,4 +1,5 @@
 pub mod ChunkLines
+pub mod HexLanes
 pub mod JoinedSpans
 pub mod KeyRead
 pub mod Neighbours

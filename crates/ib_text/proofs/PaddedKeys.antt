@@ -6,8 +6,7 @@ use Rattle.std.proofs.lemmas.List.Sums.{count_by-le-length, sum_by-append}
 use Rattle.std.proofs.lemmas.Nat.{be_bytes_8}
 use Rattle.std.specs.Int.{w64, from_be_bytes, to_be_bytes}
 use Rattle.std.specs.List.{list_all}
-use Rattle.std.specs.Option.{is_some}
-use Rattle.std.specs.Prelude.{Option, Some, None, OnSome, count_by, flat_map, nat_lt, ◌==◌}
+use Rattle.std.specs.Prelude.{count_by, flat_map, nat_lt, ◌==◌}
 use Rattle.ib_map.proofs.ByteLaws.{key-bytes, key-few, key_of_bytes-bytes, words-of_bytes}
 use Rattle.ib_map.proofs.KeyLaws.{words-key_in}
 use Rattle.ib_map.specs.KeyBytes.{AreBytes, bytes_of, first_bytes, key_of_bytes, second_bytes, word_bytes}
@@ -164,7 +163,3 @@ pub front-padded : (bytes : List ℕ) (len : ℕ) → length bytes ≡ 16 → le
     → set bytes 15 len ≡ first_bytes (take len bytes) ++ second_bytes (take len bytes)
 front-padded bytes len long few zeros =
     with-count (take len bytes) bytes len long (sym (length-take-le len bytes (omega arith))) few refl (λ i le. zeros i le ∙ zeros-at 0 16 i)
-
-pub on-some : {A : Type 0} {P : Type 0} (o : Option A) → is_some o ≡ true → OnSome o P → P
-on-some (Some x) is fact = fact
-on-some None is fact = absurd (let e : false ≡ true = is in cc)

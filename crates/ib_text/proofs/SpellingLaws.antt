@@ -1,5 +1,5 @@
 -- How keys are written, and that each has one text.
-use Rattle.std.proofs.Common.{◌≡◌, ◌≢◌, ◌∙◌, ℕ, suc, ◌+◌, ◌-◌, ◌*◌, ◌/◌, ◌%◌, ◌<◌, ◌⊎◌, inl, inr, List, [], ◌∷◌, ◌++◌, Bool, true, false, ap, ap₂, sym, subst, refl, length, drop, drop-cons, get_or, append_assoc, arith, cond, not, ◌&&◌, true≢false}
+use Rattle.std.proofs.Common.{◌≡◌, ◌≢◌, ◌∙◌, ℕ, suc, ◌+◌, ◌-◌, ◌*◌, ◌/◌, ◌%◌, ◌<◌, ◌⊎◌, inl, inr, List, [], ◌∷◌, ◌++◌, Bool, true, false, ap, ap₂, sym, subst, refl, length, drop, drop-cons, get_or, arith, cond, not, ◌&&◌, true≢false}
 use Rattle.std.specs.Prelude.{Option, Some, None, Ok, Err, codes, flat_map, nat_le, nat_lt, ◌==◌}
 use Rattle.std.specs.List.{list_all}
 use Rattle.std.proofs.lemmas.Bool.{and_parts, cases_lt, cases_eq, le-leb, lt-ltb, le-ltb, leb-true, ne_eqb, eq-eqb}
@@ -28,7 +28,7 @@ digit-read n small = elim (cases_lt n 10) [
 ]
 
 -- .. and what is read as a number is its digit
-number-digit : (c n : ℕ) → digit_number c ≡ Some n → (n < 16) × (hex_digit n ≡ c)
+pub number-digit : (c n : ℕ) → digit_number c ≡ Some n → (n < 16) × (hex_digit n ≡ c)
 number-digit c n is = elim (cases_lt c 58) [
   | inl low ↦ elim (cases_lt c 48) [
     | inl none ↦ let s = rw (gt-leb 48 c none, gt-leb 97 c (omega arith)) at is in absurd (let e : None ≡ Some n = s in cc)
@@ -174,23 +174,6 @@ read-key field key is = go (hex_part field) refl is
     go : (o : Option (List ℕ)) → hex_part field ≡ o → key_by o field ≡ Ok key → bytes_text (bytes_of key) ≡ field
     go (Some digits) part read = found digits (hex_bytes digits) refl part read
     go None part read = plain read
-
--- bytes in front of those that further digits spell
-abbrev pub with_front : List ℕ → Option (List ℕ) → Option (List ℕ)
-with_front front None = None
-with_front front (Some rest) = Some (front ++ rest)
-
-pub front-none : (o : Option (List ℕ)) → with_front [] o ≡ o
-front-none None = refl
-front-none (Some rest) = refl
-
-pub front-more : (front : List ℕ) (b : ℕ) (o : Option (List ℕ)) → with_front front (byte_before (Some b) o) ≡ with_front (front ++ b ∷ []) o
-front-more front b None = refl
-front-more front b (Some rest) = ap (λ (bs : List ℕ). Some bs) (sym (append_assoc front (b ∷ []) rest))
-
-pub front-fails : (front : List ℕ) (o : Option (List ℕ)) → with_front front (byte_before None o) ≡ None
-front-fails front None = refl
-front-fails front (Some rest) = refl
 
 -- the digits from the place 2 i on are the next two and those behind them
 pub two-next : (digits : List ℕ) (i : ℕ) → 2 * i + 1 < length digits → hex_bytes (drop (2 * i) digits) ≡ byte_before (byte_of (digit_number (get_or digits (2 * i) 0)) (digit_number (get_or digits (2 * i + 1) 0))) (hex_bytes (drop (2 * (i + 1)) digits))

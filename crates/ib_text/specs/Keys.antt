@@ -1,5 +1,5 @@
 -- The one text of a key, and the one reading of it.
-use Rattle.std.specs.Prelude.{ℕ, ◌+◌, ◌-◌, ◌*◌, ◌/◌, ◌%◌, Bool, not, ◌||◌, ◌&&◌, ◌==◌, nat_lt, nat_le, if◌then◌else◌, List, [], ◌∷◌, ◌++◌, flat_map, length, Option, Some, None, Result, Ok, Err, codes, decimal}
+use Rattle.std.specs.Prelude.{ℕ, zero, suc, ◌+◌, ◌-◌, ◌*◌, ◌/◌, ◌%◌, Bool, not, ◌||◌, ◌&&◌, ◌==◌, nat_lt, nat_le, if◌then◌else◌, List, [], ◌∷◌, ◌++◌, flat_map, length, Option, Some, None, Result, Ok, Err, codes, decimal, slice_index}
 use Rattle.std.specs.Char.{is_ascii_alphanumeric}
 use Rattle.std.specs.List.{list_all}
 use Rattle.ib_io.specs.declared.line_kind.LineKind.{LineKind}
@@ -34,10 +34,23 @@ key_text key = bytes_text (bytes_of key)
 abbrev pub digit_number : ℕ → Option ℕ
 digit_number c = if nat_le 48 c && nat_le c 57 then Some (c - 48) else if nat_le 97 c && nat_le c 102 then Some (c - 87) else None
 
+-- .. and 255 for any other byte
+abbrev pub or_255 : Option ℕ → ℕ
+or_255 (Some n) = n
+or_255 None = 255
+
+abbrev pub number_or_255 : ℕ → ℕ
+number_or_255 c = or_255 (digit_number c)
+
 -- the byte of two digits
 abbrev pub byte_of : Option ℕ → Option ℕ → Option ℕ
 byte_of (Some high) (Some low) = Some (high * 16 + low)
 byte_of _ _ = None
+
+-- so many bytes of the numbers of digits, two for each, from a place on
+abbrev pub joined_from : ℕ → ℕ → List ℕ → List ℕ
+joined_from k zero numbers = []
+joined_from k (suc n) numbers = (slice_index numbers k * 16 % 256 + slice_index numbers (k + 1)) % 256 ∷ joined_from (k + 2) n numbers
 
 -- the bytes of digits, two for each
 abbrev pub byte_before : Option ℕ → Option (List ℕ) → Option (List ℕ)

@@ -1,13 +1,14 @@
 //! The two ways in which a key is written.
 
-ghost use Rattle.std.specs.Prelude.{◌≡◌, ◌==◌, ◌&&◌, ◌<◌, ◌≤◌, ◌*◌, ◌++◌, ℕ, Some, None, OnSome, IfSome, count_by, drop, flat_map, length, nat_lt, slice_index, take};
+ghost use Rattle.std.specs.Prelude.{◌≡◌, ◌==◌, ◌&&◌, ◌<◌, ◌≤◌, ◌*◌, ◌++◌, ℕ, Some, None, IfSome, count_by, drop, false, flat_map, length, map, nat_lt, slice_index, take, true};
 ghost use Rattle.std.specs.Int.{w64, from_be_bytes};
 ghost use Rattle.ib_map.specs.KeyBytes.{first_bytes, second_bytes, word_bytes};
 ghost use Rattle.ib_map.specs.Keys.{key_in};
-ghost use Rattle.ib_text.specs.Keys.{byte_of, digit_number, hex_byte, hex_bytes, hex_digit, hex_key, is_plain, is_plain_text, plain_key};
+ghost use Rattle.ib_text.specs.Keys.{hex_byte, hex_bytes, hex_digit, hex_key, is_plain, is_plain_text, joined_from, number_or_255, plain_key};
 
 use ib_io::LineKind;
 use ib_map::{Key, MOST_KEY_BYTES};
+use std::simd::prelude::*;
 
 // A key's two words have 16 bytes: its own, zeros behind them, and how many are its own.
 const PADDED_BYTES: usize = 16;
@@ -123,37 +124,63 @@ pub(crate) fn plain_key(field: &[u8]) -> Result<Key, LineKind>
     Ok(padded_key(&bytes))
 }
 
-// The number of a hexadecimal digit.
-fn digit_number(c: u8) -> Option<u8>
-    ensures number { result ≡ digit_number c }
-    ensures small { IfSome result (λ n. n < 16) }
+// Digits with zeros behind them.
+fn with_zero_digits(digits: &[u8]) -> [u8; PADDED_DIGITS]
+    requires { length digits.now ≤ PADDED_DIGITS }
+    ensures own { (k : ℕ) → k < length digits.now → slice_index result k ≡ slice_index digits.now k }
+    ensures others { (k : ℕ) → length digits.now ≤ k → k < PADDED_DIGITS → slice_index result k ≡ 48 }
 {
-    match c {
-        b'0'..=b'9' => Some(c - b'0'),
-        b'a'..=b'f' => Some(c - b'a' + 10),
-        _ => None,
-    }
+    let mut padded = [b'0'; PADDED_DIGITS];
+    padded[..digits.len()].copy_from_slice(digits);
+    padded
 }
 
-// The byte of two hexadecimal digits.
-fn byte_of(high: u8, low: u8) -> Option<u8>
-    ensures { result ≡ byte_of (digit_number high) (digit_number low) }
+// The number of each hexadecimal digit, and 255 for any other byte.
+#[inline(always)]
+fn digit_numbers(digits: u8x16) -> u8x16
+    ensures { result ≡ map number_or_255 digits }
 {
-    Some(digit_number(high)? * 16 + digit_number(low)?)
+    let figures = digits - u8x16::splat(b'0');
+    let letters = digits - u8x16::splat(b'a');
+    let others = letters
+        .simd_le(u8x16::splat(5))
+        .select(letters + u8x16::splat(10), u8x16::splat(255));
+    figures.simd_le(u8x16::splat(9)).select(figures, others)
 }
 
-// The bytes of hexadecimal digits, two for each, in front of the others. None where they are none.
-fn read_hex(digits: &[u8], bytes: &mut [u8; PADDED_BYTES], len: usize) -> Option<()>
+// Whether all are numbers of digits.
+#[inline(always)]
+fn are_numbers(numbers: u8x16) -> bool
+    ensures yes { result ≡ true → (k : ℕ) → k < 16 → slice_index numbers k < 16 }
+    ensures no { result ≡ false → (k : ℕ) × (k < 16) × (16 ≤ slice_index numbers k) }
+{
+    numbers.simd_ge(u8x16::splat(16)).to_bitmask() == 0
+}
+
+// The bytes of the numbers of digits, two for each.
+#[inline(always)]
+fn joined(front: u8x16, back: u8x16) -> [u8; PADDED_BYTES]
+    ensures { result ≡ joined_from 0 16 (front ++ back) }
+{
+    let (high, low) = front.deinterleave(back);
+    (high * u8x16::splat(16) + low).to_array()
+}
+
+// The bytes of hexadecimal digits, two for each, and zeros behind them. None where they are none.
+fn read_hex(digits: &[u8], len: usize) -> Option<[u8; PADDED_BYTES]>
     requires pairs { length digits.now ≡ 2 * len }
     requires few { len ≤ MOST_KEY_BYTES }
-    ensures some { OnSome result (hex_bytes digits.now ≡ Some (take len bytes.new)) }
+    ensures some { IfSome result (λ bytes. hex_bytes digits.now ≡ Some (take len bytes)) }
+    ensures zeros { IfSome result (λ bytes. (k : ℕ) → len ≤ k → slice_index bytes k ≡ 0) }
     ensures none { result ≡ None → hex_bytes digits.now ≡ None }
-    ensures others { (k : ℕ) → len ≤ k → slice_index bytes.new k ≡ slice_index bytes.old k }
 {
-    for i in 0..len {
-        bytes[i] = byte_of(digits[2 * i], digits[2 * i + 1])?;
+    let padded = with_zero_digits(digits);
+    let front = digit_numbers(u8x16::from_slice(&padded));
+    let back = digit_numbers(u8x16::from_slice(&padded[16..]));
+    if !are_numbers(front) || !are_numbers(back) {
+        return None;
     }
-    Some(())
+    Some(joined(front, back))
 }
 
 // The key of hexadecimal digits, two for each byte.
@@ -164,8 +191,10 @@ pub(crate) fn hex_key(digits: &[u8]) -> Result<Key, LineKind>
     if digits.len() % 2 != 0 || len > MOST_KEY_BYTES {
         return Err(LineKind::Key);
     }
-    let mut bytes = [0; PADDED_BYTES];
-    if read_hex(digits, &mut bytes, len).is_none() || is_plain_text(&bytes[..len]) {
+    let Some(mut bytes) = read_hex(digits, len) else {
+        return Err(LineKind::Key);
+    };
+    if is_plain_text(&bytes[..len]) {
         return Err(LineKind::Key);
     }
     bytes[MOST_KEY_BYTES] = len as u8;

@@ -1,8 +1,8 @@
 -- Too many digits, or an odd number of them; bytes that are written as they are; and a key.
-use Rattle.std.proofs.Common.{◌≡◌, ◌≤◌, ◌∙◌, ◌/◌, Ok, Some, false, ap, arith, inl, inr, length, not, set, sym, take}
+use Rattle.std.proofs.Common.{◌≡◌, ◌≤◌, ◌∙◌, ◌/◌, Ok, Some, false, ap, arith, inl, inr, length, set, sym, take}
 use Rattle.std.proofs.lemmas.Bool.{le-leb}
 use Rattle.std.proofs.lemmas.List.{length-take-le}
-use Rattle.ib_text.proofs.PaddedKeys.{front-padded, on-some, padded-key}
+use Rattle.ib_text.proofs.PaddedKeys.{front-padded, padded-key, zeros-at}
 use Rattle.ib_text.proofs.SpellingLaws.{hex-refused}
 use Rattle.ib_text.specs.Keys.{hex_bytes, is_plain_text}
 use Rattle.ib_text.proofs.spelling.hex_key.Goals as goal
@@ -18,10 +18,11 @@ pub returns : goal.returns
 returns c =
     let digits = c.args.digits.now in
     let len = length digits / 2 in
-    let bytes = c.read_hex.new.bytes in
+    let bytes = c.in-Some.bytes in
     let few : len ≤ 15 = omega arith in
-    let count = length-take-le len bytes (omega (arith, c.read_hex.array_long)) in
-    let are = front-padded bytes len c.read_hex.array_long few c.read_hex.ensures.others in
-    let found : hex_bytes digits ≡ Some (take len bytes) = on-some c.read_hex.result (c.is_none.ensures ∙ ap not c.if-is_none.false) c.read_hex.ensures.some in
+    let zeros = c.in-Some.ensures.zeros in
+    let count = length-take-le len bytes (omega arith) in
+    let are = front-padded bytes len (omega arith) few (λ k le. zeros k le ∙ sym (zeros-at 0 16 k)) in
+    let found : hex_bytes digits ≡ Some (take len bytes) = c.in-Some.ensures.some in
     let other : is_plain_text (take len bytes) ≡ false = sym c.is_plain_text.ensures ∙ c.if-is_plain_text.false in
     rw (found, le-leb (length (take len bytes)) 15 (omega (arith, count)), other) (ap Ok (c.padded_key.ensures ∙ padded-key (take len bytes) (set bytes 15 len) are))
