@@ -1,3 +1,4 @@
 pub mod Claims
 pub mod Takes
 pub mod Stills
+pub mod RefusalLaws

@@ -1,3 +1,4 @@
 pub mod Tries
 pub mod Unlocks
 pub mod Waits
+pub mod Refusals

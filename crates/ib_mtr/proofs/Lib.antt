@@ -11,3 +11,4 @@ pub mod Ending
 pub mod Committing
 pub mod Trying
 pub mod Asking
+pub mod NowaitCommitting

@@ -3,3 +3,4 @@ pub mod Mtr
 pub mod Loads
 pub mod Commits
 pub mod Lending
+pub mod NowaitCommits

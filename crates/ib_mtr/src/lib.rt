@@ -2,6 +2,7 @@
 //! that it read and changed (mtr0mtr).
 #![tactic(auto)]
 
+mod commit_nowait;
 mod commits;
 mod laws;
 mod loads;
@@ -9,6 +10,8 @@ mod locks;
 mod memo;
 mod mtr;
 mod readers;
+mod try_locks;
 
+pub use commit_nowait::CommitFault;
 pub use laws::edit_law;
 pub use mtr::Mtr;

@@ -104,7 +104,7 @@ pub(crate) fn touch(rt: &impl Abort, mtr: &mut Work<'_>, page: u32)
 }
 
 // What it changed may be committed, as it answers itself.
-fn may_commit(rt: &impl Abort, mtr: &Work<'_>, key: Key, value: u64)
+pub(crate) fn may_commit(rt: &impl Abort, mtr: &Work<'_>, key: Key, value: u64)
     requires { IsMtr mtr.now.latches.now mtr.now.pass.now }
     ensures { MayCommit (AreInGrammar mtr.now.latches.now.sizes.pages) mtr.now.pass.now
         (Insert key value) }

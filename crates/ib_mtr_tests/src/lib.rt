@@ -11,3 +11,5 @@ mod frames;
 mod locks;
 #[cfg(test)]
 mod memos;
+#[cfg(test)]
+mod nowait;
