@@ -72,7 +72,7 @@ module _ (sizes : Sizes) (lawful : List Entry → Type 0) (opening : ℕ → ℕ
     abbrev row : List ℕ
     row = with_siblings (pages_after opening p.view.memory.seen) key node
 
-    row-is : row ≡ child_if left ++ here.1 ∷ child_if right
+    pub row-is : row ≡ child_if left ++ here.1 ∷ child_if right
     row-is =
         let n = node_image in
         ap (λ (t : Siblings). child_if t.left ++ t.here.1 ∷ child_if t.right) (ap (siblings_of key) n.records ∙ is n.image n.there)

@@ -80,7 +80,7 @@ among-left (x ∷ xs) ys n e = by_first (x == n) e (among-left xs ys n)
     by_first true e later = refl
     by_first false e later = later e
 
-among-child : (xs ys : List ℕ) (child n : ℕ) → is_listed xs child ≡ true → is_listed (child ∷ ys) n ≡ true → is_listed (xs ++ ys) n ≡ true
+pub among-child : (xs ys : List ℕ) (child n : ℕ) → is_listed xs child ≡ true → is_listed (child ∷ ys) n ≡ true → is_listed (xs ++ ys) n ≡ true
 among-child xs ys child n here e = by_first (cases_eq child n)
   where
     by_first : (child ≡ n) ⊎ (child ≢ n) → is_listed (xs ++ ys) n ≡ true

@@ -24,3 +24,7 @@ pub mod ChildLaws
 pub mod PositionLaws
 pub mod GuessLaws
 pub mod PairLaws
+pub mod RefusalLaws
+pub mod LeafRefusalLaws
+pub mod TakeRefusalLaws
+pub mod RowRefusalLaws

@@ -36,7 +36,7 @@ use Rattle.ib_cursor.proofs.OnPathLaws.{page_on-path}
 use Rattle.ib_cursor.proofs.OnceLaws.{once_here}
 
 -- a path begins with its root
-path-first : (m : PageMemory) (key : MapKey) (height page : ℕ) → (rest : List ℕ) × (path_down m key height page ≡ page ∷ rest)
+pub path-first : (m : PageMemory) (key : MapKey) (height page : ℕ) → (rest : List ℕ) × (path_down m key height page ≡ page ∷ rest)
 path-first m key zero page = ([], refl)
 path-first m key (suc height) page = (path_down m key height (child_for key 0 (m page).records), refl)
 
@@ -44,16 +44,16 @@ pub path_some : (m : PageMemory) (key : MapKey) (root : ℕ) → 1 ≤ length (p
 path_some m key root = let first = path-first m key (height_of m root) root in let l = ap length first.1 in omega arith
 
 -- where nodes are the same, so are their rows
-rows-same : (m new : PageMemory) (key : MapKey) (ps : List ℕ) → AllByRecursion (λ n. new n ≡ m n) ps → flat_map (with_siblings new key) ps ≡ flat_map (with_siblings m key) ps
+pub rows-same : (m new : PageMemory) (key : MapKey) (ps : List ℕ) → AllByRecursion (λ n. new n ≡ m n) ps → flat_map (with_siblings new key) ps ≡ flat_map (with_siblings m key) ps
 rows-same m new key [] same = refl
 rows-same m new key (p ∷ ps) same = ap (λ s. with_siblings (λ n. s) key p ++ flat_map (with_siblings new key) ps) same.0 ∙ ap (λ qs. with_siblings m key p ++ qs) (rows-same m new key ps same.1)
 
-rows-few : (m : PageMemory) (key : MapKey) (ps : List ℕ) → length (flat_map (with_siblings m key) ps) ≤ 3 * length ps
+pub rows-few : (m : PageMemory) (key : MapKey) (ps : List ℕ) → length (flat_map (with_siblings m key) ps) ≤ 3 * length ps
 rows-few m key [] = omega arith
 rows-few m key (p ∷ ps) = let a = length-append (with_siblings m key p) (flat_map (with_siblings m key) ps) in let b = few_siblings m key p in let c = rows-few m key ps in omega arith
 
 -- pages that are held are as they were
-steady-all : (opening : ℕ → ℕ) (held : List ℕ) (p q : PassState) → AreSteady opening held p q → (ps : List ℕ) → AllByRecursion (λ n. is_listed held n ≡ true) ps
+pub steady-all : (opening : ℕ → ℕ) (held : List ℕ) (p q : PassState) → AreSteady opening held p q → (ps : List ℕ) → AllByRecursion (λ n. is_listed held n ≡ true) ps
     → AllByRecursion (λ n. pages_after opening q.view.memory.seen n ≡ pages_after opening p.view.memory.seen n) ps
 steady-all opening held p q steady [] among = tt
 steady-all opening held p q steady (n ∷ ns) among = (steady_at opening held p q steady n among.0, steady-all opening held p q steady ns among.1)
@@ -114,7 +114,7 @@ module _ (sizes : Sizes) (roots : ℕ) (lawful : List Entry → Type 0) (opening
     within : (n : ℕ) → 1 ≤ weight_of (counts_page n) m root → n < sizes.pages
     within n met = inside-met sizes roots lawful opening shape root some le key lt q.view.memory.seen known.legal n met
 
-    among : AllByRecursion (λ n. is_listed rows_held n ≡ true) (rows.above ++ rows.node ∷ [])
+    pub among : AllByRecursion (λ n. is_listed rows_held n ≡ true) (rows.above ++ rows.node ∷ [])
     among = lifted (rows.above ++ rows.node ∷ []) (path_among sizes.pages m (bits_of sizes.pages (memory_after opening q.view.memory.seen)) roots law root some le within key lt path rows.above rows.node rows.rest rows.on_path rows.is)
       where
         lifted : (ps : List ℕ) → AllByRecursion (λ n. is_listed own_rows n ≡ true) ps → AllByRecursion (λ n. is_listed rows_held n ≡ true) ps
@@ -131,10 +131,10 @@ module _ (sizes : Sizes) (roots : ℕ) (lawful : List Entry → Type 0) (opening
         subst (λ ps. AreOnce ps sizes.pages) (sym (append_assoc held own_rows more))
         (apart_once m root sizes.pages held (own_rows ++ more) may.once apart once (AllByRecursion-append (λ n. 1 ≤ weight_of (counts_page n) m root) own_rows more mine met))
 
-    many : length path ≡ count + 1 + length rows.rest
+    pub many : length path ≡ count + 1 + length rows.rest
     many = let a = ap length rows.is in let b = length-append rows.above (rows.node ∷ rows.rest) in let c = rows.many in omega arith
 
-    few-own : length own_rows ≤ 1 + 3 * count
+    pub few-own : length own_rows ≤ 1 + 3 * count
     few-own = let a = rows-few m key rows.above in let b = rows.many in omega arith
 
     few : length rows_held ≤ length held + 1 + 3 * count
@@ -203,7 +203,7 @@ module _ (sizes : Sizes) (roots : ℕ) (lawful : List Entry → Type 0) (opening
 
     -- the leaf behind the last row
     module _ (done : count + 1 ≡ length path) where
-      ends : path ≡ rows.above ++ rows.node ∷ []
+      pub ends : path ≡ rows.above ++ rows.node ∷ []
       ends = rows.is ∙ ap (λ ps. rows.above ++ rows.node ∷ ps) (none rows.rest (let a = many in omega arith))
         where
           none : (ps : List ℕ) → length ps ≡ 0 → ps ≡ []
@@ -220,7 +220,7 @@ module _ (sizes : Sizes) (roots : ℕ) (lawful : List Entry → Type 0) (opening
       once = behind-held (beside (m (last_of own_rows)).next) own-once.0
           (behind_all_met sizes.pages m (bits_of sizes.pages (memory_after opening q.view.memory.seen)) roots law root some le within key lt path rows.above rows.node rows.on_path ends)
 
-      held-last : is_listed rows_held last ≡ true
+      pub held-last : is_listed rows_held last ≡ true
       held-last = subst (λ n. is_listed rows_held n ≡ true) (sym rows.last_is) (among_right held own_rows (last_of own_rows) (last_among own_rows (omega arith)))
 
       pub behind_link : IsRightLink opening q last next

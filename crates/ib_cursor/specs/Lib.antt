@@ -16,3 +16,4 @@ pub mod Rows
 pub mod Positions
 pub mod Guesses
 pub mod Pairs
+pub mod Refusals

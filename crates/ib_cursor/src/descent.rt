@@ -149,7 +149,7 @@ pub(crate) fn reach_leaf<L: Trees, R: Wait>(
 }
 
 // Loads the leaf that was come to, the last page of the path.
-fn load_end<L: Trees, S: Sleep>(mtr: &mut Mtr<'_, L, S>, path: &Path, sought: Sought)
+pub(crate) fn load_end<L: Trees, S: Sleep>(mtr: &mut Mtr<'_, L, S>, path: &Path, sought: Sought)
     requires mtr { IsMtr mtr.old.latches.now mtr.old.pass.now }
     requires none { mtr.old.pass.now.work ≡ [] }
     requires sought { IsSought L.ROOTS sought.root sought.key }

@@ -31,7 +31,7 @@ use ib_tree::Trees;
 use std::sync::Wait;
 
 // The records of a node that is loaded, for the key's child and for the pages beside it.
-fn children_of<L: Law, S: Sleep>(mtr: &Mtr<'_, L, S>, node: u32, key: Key) -> Beside
+pub(crate) fn children_of<L: Law, S: Sleep>(mtr: &Mtr<'_, L, S>, node: u32, key: Key) -> Beside
     requires mtr { IsMtr mtr.now.latches.now mtr.now.pass.now }
     requires loaded { (image : List ℕ) × (changed_of node mtr.now.pass.now.work ≡ Some image)
         × IsTreePage image × IsSomeAnd (slice_get (records_of image) 0) (λ r. rank r.0 ≤ rank key) }
@@ -61,7 +61,7 @@ fn take_child<L: Law, R: Wait>(rt: &R, mtr: &mut Mtr<'_, L, Parkers>, child: Opt
 }
 
 // The page of the last of these records.
-fn last_page(here: (Key, u64), right: Option<(Key, u64)>) -> u32
+pub(crate) fn last_page(here: (Key, u64), right: Option<(Key, u64)>) -> u32
     requires small { last_of (here.1 ∷ child_if right) < 2 ^ 32 }
     ensures { result ≡ last_of (here.1 ∷ child_if right) }
 {
