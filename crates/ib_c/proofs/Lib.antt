@@ -1,0 +1,5 @@
+pub mod Pools
+pub mod SpaceLaws
+mod SessionBox
+mod SpaceBox
+mod Sent

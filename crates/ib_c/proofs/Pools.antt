@@ -1,0 +1,24 @@
+-- Passes at rest, one more and one fewer, and beside a space that has changed.
+use Rattle.std.proofs.Common.{◌≡◌, List, [], ◌∷◌, ◌++◌, sym, ◌∙◌}
+use Rattle.ib_rule.specs.Pass.{PassState, IsAtRest}
+use Rattle.ib_rule.specs.Space.{SpaceState}
+use Rattle.ib_c.specs.SpaceStates.{AreAtRest}
+
+pub one_more : (s : SpaceState) (xs : List PassState) (p : PassState) → AreAtRest s xs → IsAtRest s p → AreAtRest s (xs ++ p ∷ [])
+one_more s [] p rest own = (own, tt)
+one_more s (x ∷ xs) p rest own = (rest.0, one_more s xs p rest.1 own)
+
+pub one_fewer : (s : SpaceState) (xs : List PassState) (p : PassState) → AreAtRest s (xs ++ p ∷ []) → AreAtRest s xs × IsAtRest s p
+one_fewer s [] p rest = (tt, rest.0)
+one_fewer s (x ∷ xs) p rest = let more = one_fewer s xs p rest.1 in ((rest.0, more.0), more.1)
+
+pub still_at_rest : (s t : SpaceState) (p : PassState) → t.table ≡ s.table → t.sizes ≡ s.sizes → IsAtRest s p → IsAtRest t p
+still_at_rest s t p tables sizes rest = record {
+  own = record { table = rest.own.table ∙ sym tables; sizes = rest.own.sizes ∙ sym sizes; closed = rest.own.closed };
+  idle = rest.idle;
+  scratch = rest.scratch;
+}
+
+pub are_still : (s t : SpaceState) (xs : List PassState) → t.table ≡ s.table → t.sizes ≡ s.sizes → AreAtRest s xs → AreAtRest t xs
+are_still s t [] tables sizes rest = tt
+are_still s t (x ∷ xs) tables sizes rest = (still_at_rest s t x tables sizes rest.0, are_still s t xs tables sizes rest.1)

@@ -1,0 +1,15 @@
+pub mod Handles
+pub mod LogWords
+pub mod Readers
+pub mod SessionHandle
+pub mod SessionState
+pub mod Sessions
+pub mod SpaceCalls
+pub mod SpaceHandle
+pub mod SpaceStates
+pub mod Spaces
+pub mod Statuses
+pub mod Tries
+pub mod Unlocks
+pub mod Waits
+pub mod Wishes
