@@ -93,7 +93,7 @@ module _ (sizes : Sizes) (lawful : List Entry → Type 0) (p : PassState) (chang
                 (omega arith, may.pages_x (page_at q) (touches-written q (writes_of pages) here));
             index = λ spans. claimed p.view.session (may.index spans).0;
             legal = may.legal;
-            room = let long = length-words_of_entry (entry_for p change pages) in let most = in_grammar.most_writes in omega arith;
+            longest = room;
           };
           watch = may.watched;
           begins = subst (λ (o : Option OpenAppend). Begins (entry_for p change pages) o) (sym closed) tt;

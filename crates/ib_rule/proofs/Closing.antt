@@ -69,6 +69,7 @@ module _ (lawful : ℕ → List Entry → Type 0) (opening : ℕ → ℕ → ℕ
     grammar = kept.memory.grammar;
     sized = kept.sized;
     room = let r = kept.memory.room in omega (arith, r, used_is);
+    had_room = kept.memory.had_room;
     logged = ap (λ n. take n (drop (log_place sizes 0) s.words)) used_is ∙ stretch (log_place sizes 0) s.words (log_words kept.log) (let z = kept.sized in let r = kept.memory.room in omega arith) (λ k h. ap (λ p. get_or s.words p 0) (let z : log_place sizes 0 + k ≡ log_place sizes k = omega arith in z) ∙ kept.memory.logged k h);
     paged = λ page index h low.
         let q : ℕ = word_place page index in

@@ -2,6 +2,7 @@ mod Words
 mod Counts
 mod Own
 mod Stays
+pub mod RoomLaws
 mod Turning
 mod Knowing
 mod Moves

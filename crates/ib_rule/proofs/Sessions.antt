@@ -27,6 +27,7 @@ use Rattle.ib_rule.specs.declared.kind.StepKind.TheVariants.{Enter, Count}
 use Rattle.ib_rule.specs.Views.{total, with_memory, nothing_seen, with_role, seated, space_view, role_of, session_in_view, knowledge_of, one_drawn, newcomer, ended_as, with_ended, nobody}
 use Rattle.std.specs.List.{AllByRecursion}
 use Rattle.ib_rule.specs.Memory.{EndedFact, Follows, stored_in}
+use Rattle.ib_rule.proofs.RoomLaws.{had_room-empty}
 use Rattle.ib_rule.proofs.Stays.{view_part, far_from}
 use Rattle.ib_logrec.specs.declared.entry.Entry.{Entry}
 use Rattle.ib_logrec.specs.Log.{by_place}
@@ -151,6 +152,7 @@ opens lawful opening sizes words empty o = record {
     grammar = tt;
     short = omega arith;
     room = omega arith;
+    had_room = had_room-empty sizes.log_words;
     end = o.none_logged;
     logged = λ w h. absurd (omega arith);
     paged = λ q h none. o.opened q h;
@@ -192,6 +194,7 @@ module _ (lawful : ℕ → List Entry → Type 0) (opening : ℕ → ℕ → ℕ
     grammar = part.grammar;
     short = part.short;
     room = part.room;
+    had_room = part.had_room;
     end = part.end;
     logged = part.logged;
     paged = λ q h none. part.paged q h (λ i u e. none i u (at_longer views (with_memory m (seated r) ∷ []) i u e));

@@ -78,6 +78,7 @@ view_part sizes lawful opening words ws log views id v w part at same drawn foll
   grammar = part.grammar;
   short = part.short;
   room = part.room;
+  had_room = part.had_room;
   end = same end_place (inl refl) ∙ part.end;
   logged = λ u h. same (log_place sizes u) (inr (omega arith)) ∙ part.logged u h;
   paged = λ q h none. same (base sizes + q) (inr (omega arith)) ∙ part.paged q h (λ i u e. dite (ℕ_discrete id i)

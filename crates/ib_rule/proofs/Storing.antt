@@ -41,6 +41,7 @@ use Rattle.ib_rule.specs.Rule.{marks_in, LatchPart, IsWriter, IsIdle, MemoryPart
 use Rattle.ib_rule.specs.Stores.{stale, begun, Begins, storing_page, storing_word, appending, IsReady, AllStored}
 use Rattle.ib_rule.proofs.Turning.{map_same}
 use Rattle.ib_rule.proofs.Alone.{alone, one_claims, holds, closed, apart, apart_ended, drawn, numbered}
+use Rattle.ib_rule.proofs.RoomLaws.{had_room-push, room-of}
 use Rattle.ib_rule.proofs.Lists.{eqb_says, eqb_denies, or_says, or_denies, and_says, either_way, both_ways, nil_append, each_map, each_both, each_push, each_right, drop_front, nil_rest}
 
 pub grammar_push : (pages : ℕ) (log : List Entry) (e : Entry) → AreInGrammar pages log → IsInGrammar pages e → AreInGrammar pages (log ++ e ∷ [])
@@ -198,6 +199,7 @@ module _ (lawful : ℕ → List Entry → Type 0) (opening : ℕ → ℕ → ℕ
           grammar = part.grammar;
           short = part.short;
           room = part.room;
+          had_room = part.had_room;
           end = get_or-set_other s.words p 1 x 0 (λ z. omega arith) ∙ part.end;
           logged = λ w h. get_or-set_other s.words p (log_place sizes w) x 0 (λ z. omega arith) ∙ part.logged w h;
           paged = λ r h none.
@@ -234,7 +236,7 @@ module _ (lawful : ℕ → List Entry → Type 0) (opening : ℕ → ℕ → ℕ
         let u : ℕ = used kept.log in
         let p : ℕ = log_place sizes (u + j) in let ws : List ℕ = set s.words p x in let o : OpenAppend = begun e v.memory.append in
         let at_j : j < length (words_of_entry o.entry) = subst (λ (f : Entry). j < length (words_of_entry f)) (sym entry_is) here in
-        let fits_in : p < length s.words = let z = kept.sized in let r = fits_log.room in omega arith in
+        let fits_in : p < length s.words = let z = kept.sized in let r = room-of sizes (lawful sizes.pages) (session_number_of v.role) (length v.memory.own) v.session kept.log e fits_log in omega arith in
         let now : slice_index ws p ≡ slice_index_or (words_of_entry o.entry) j 0 = get_or-set_same s.words p x 0 fits_in ∙ (is ∙ ap (λ (f : Entry). slice_index_or (words_of_entry f) j 0) (sym entry_is)) in
         let part = kept.memory in
         subst (λ (l : List Entry). RuleHolds lawful opening sizes (stepped s (log_place sizes (used l + j)) x id cs (storing_word e j v) keeps)) (sym whole)
@@ -243,6 +245,7 @@ module _ (lawful : ℕ → List Entry → Type 0) (opening : ℕ → ℕ → ℕ
           grammar = part.grammar;
           short = part.short;
           room = part.room;
+          had_room = part.had_room;
           end = get_or-set_other s.words p 1 x 0 (λ z. omega arith) ∙ part.end;
           logged = λ w h. get_or-set_other s.words p (log_place sizes w) x 0 (λ z. omega arith) ∙ part.logged w h;
           paged = λ r h none.
@@ -292,7 +295,8 @@ module _ (lawful : ℕ → List Entry → Type 0) (opening : ℕ → ℕ → ℕ
           legal = fits_log.legal;
           grammar = grammar_push sizes.pages log e part.grammar fits_log.grammar;
           short = let b = part.short in omega arith;
-          room = let c = fits_log.room in omega arith;
+          room = let c = room-of sizes (lawful sizes.pages) m (length v.memory.own) v.session log e fits_log in omega arith;
+          had_room = had_room-push sizes.log_words log e part.had_room fits_log.longest;
           end = get_or-set_same s.words end_place n 0 fits_in ∙ (omega arith);
           logged = λ k h. get_or-set_other s.words end_place (log_place sizes k) n 0 (λ z. omega arith) ∙ (log_word k h ∙ ap (λ l. get_or l k 0) (sym (log_words-push log e)));
           paged = λ q h none. get_or-set_other s.words end_place (base sizes + q) n 0 (λ z. omega arith) ∙ (page_word q h none ∙ sym (memory_after-push op log e q));

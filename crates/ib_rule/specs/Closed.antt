@@ -9,6 +9,7 @@ use Rattle.ib_logrec.specs.declared.entry.Entry.{Entry}
 use Rattle.ib_logrec.specs.Law.{AreInGrammar}
 use Rattle.ib_logrec.specs.Log.{log_words, memory_after, by_place}
 use Rattle.ib_rule.specs.declared.view.Ended.{Ended}
+use Rattle.ib_rule.specs.Room.{HadRoom}
 use Rattle.ib_rule.specs.Memory.{entries_of, EndedFact}
 use Rattle.ib_rule.specs.Space.{SpaceState}
 
@@ -30,13 +31,14 @@ pub record IsSized (sizes : Sizes) (words : List ℕ) : Type 0 where
   pub sized : length words ≡ words_of sizes
   pub room : used_in words ≤ sizes.log_words
 
--- the words are those of a lawful log: the log words and the page words are its, and each session that has ended had seen a front of it, and has exactly its own entries in it
+-- the words are those of a lawful log, each entry of which was written where the longest one had room: the log words and the page words are its, and each session that has ended had seen a front of it, and has exactly its own entries in it
 pub record IsClosed (lawful : ℕ → List Entry → Type 0) (opening : ℕ → ℕ → ℕ → ℕ) (sizes : Sizes) (words : List ℕ) (ended : List Ended) : Type 0 where
   pub log : List Entry
   pub legal : lawful sizes.pages log
   pub grammar : AreInGrammar sizes.pages log
   pub sized : length words ≡ words_of sizes
   pub room : used_in words ≤ sizes.log_words
+  pub had_room : HadRoom sizes.log_words log
   pub logged : log_in sizes words ≡ log_words log
   pub paged : (page index : ℕ) → page < sizes.pages → index < PAGE_WORDS → slice_index words (page_place sizes page index) ≡ memory_after (by_place opening sizes.pages) log (word_place page index)
   pub sessions : AllByRecursion (EndedFact log) ended

@@ -1,5 +1,6 @@
 pub mod Roles
 pub mod Views
+pub mod Room
 pub mod Memory
 pub mod Rule
 pub mod Opening

@@ -18,6 +18,7 @@ use Rattle.ib_rule.specs.declared.memory.Since.{Since}
 use Rattle.ib_rule.specs.declared.memory.Loaded.{Loaded}
 use Rattle.ib_rule.specs.declared.memory.OpenAppend.{OpenAppend}
 use Rattle.ib_rule.specs.declared.memory.Knowledge.{Knowledge}
+use Rattle.ib_rule.specs.declared.pass.TheConstants.{ENTRY_WORDS}
 
 -- where the page words begin in the table, and how many there are
 abbrev pub base : Sizes → ℕ
@@ -57,7 +58,7 @@ IsRight opening log x = x.is_fresh ≡ true → x.value ≡ memory_after opening
 abbrev pub LoadedFact : (ℕ → ℕ) → Session → List Entry → Loaded → Type 0
 LoadedFact opening a log x = (0 < holdings (latch_at x.place) a) × IsRight opening log x
 
--- what an entry must be to be appended by a session that holds this
+-- what an entry must be to be appended by a session that holds this; the log has room for the longest entry
 pub record MayComeBehind (sizes : Sizes) (lawful : List Entry → Type 0) (number made : ℕ) (a : Session) (log : List Entry) (e : Entry) : Type 0 where
   pub named : e.session ≡ number
   pub counted : e.number ≡ made + 1
@@ -67,7 +68,7 @@ pub record MayComeBehind (sizes : Sizes) (lawful : List Entry → Type 0) (numbe
   pub pages_x : (q : ℕ) → writes_at q e.writes ≡ true → (q < page_places sizes) × (0 < x_grants (latch_at q) a)
   pub index : e.structural ≡ true → 0 < claims 1 a
   pub legal : lawful (log ++ e ∷ [])
-  pub room : used log + length (words_of_entry e) ≤ sizes.log_words
+  pub longest : used log + ENTRY_WORDS ≤ sizes.log_words
 
 -- a number stands in the list
 abbrev pub has : ℕ → List ℕ → Bool

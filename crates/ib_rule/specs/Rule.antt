@@ -19,6 +19,7 @@ use Rattle.ib_logrec.specs.Log.{log_words, used, memory_after, by_place}
 use Rattle.ib_rule.specs.declared.view.View.{View}
 use Rattle.ib_rule.specs.Roles.{SessionsPart, live, session_number_of, drawn_in, ended_in, sessions_in}
 use Rattle.ib_rule.specs.Views.{role_of, session_in_view, total}
+use Rattle.ib_rule.specs.Room.{HadRoom}
 use Rattle.ib_rule.specs.Memory.{base, page_places, entries_of, stored_in, EndedFact, Follows}
 
 -- the marks of a latch that there is, read off the words
@@ -59,12 +60,13 @@ IsIdle v = live v.role ≡ 0 → v.session ≡ idle
 abbrev pub Idles : List View → Type 0
 Idles views = (i : ℕ) (v : View) → get_elem? views i ≡ some v → IsIdle v
 
--- the memory part: the log words up to the log's end are those of a lawful log, the page words are the memory after it, but for those that an open append has stored, and what each session knows is true
+-- the memory part: the log words up to the log's end are those of a lawful log, each entry of which was written where the longest one had room, the page words are the memory after it, but for those that an open append has stored, and what each session knows is true
 pub record MemoryPart (sizes : Sizes) (lawful : List Entry → Type 0) (opening : ℕ → ℕ) (words : List ℕ) (log : List Entry) (views : List View) : Type 0 where
   pub legal : lawful log
   pub grammar : AreInGrammar sizes.pages log
   pub short : length log ≤ used log
   pub room : used log ≤ sizes.log_words
+  pub had_room : HadRoom sizes.log_words log
   pub end : slice_index words end_place ≡ length log * 2 ^ 32 + used log
   pub logged : (w : ℕ) → w < used log → slice_index words (log_place sizes w) ≡ slice_index_or (log_words log) w 0
   pub paged : (q : ℕ) → q < page_places sizes → ((i : ℕ) (v : View) → get_elem? views i ≡ some v → stored_in v.memory.append q ≡ false) → slice_index words (base sizes + q) ≡ memory_after opening log q

@@ -22,6 +22,7 @@ use Rattle.ib_runs.specs.Shared.{IsFreeOfLength, calls_under}
 use Rattle.ib_runs.specs.declared.ran.Ran.{Ran}
 use Rattle.ib_cursor.specs.Spaces.{space_of}
 use Rattle.ib_rule.proofs.Lists.{or_denies}
+use Rattle.ib_rule.proofs.RoomLaws.{had_room-wider}
 
 -- the test of one reply
 not-full : (reply : Reply) → tells_full reply ≡ false → IsNotFull reply
@@ -82,6 +83,7 @@ module _ (law : SharedLaw) (free : IsFreeOfLength law) where
       same_calls = is.same_calls;
       kept = subst (λ (n : ℕ). law.lawful n log) same is.kept;
       room = let r = is.room in omega arith;
+      had_room = had_room-wider small.log_words big.log_words log longer is.had_room;
       run = λ session. record {
         answers = subst (λ (n : ℕ). AreAnswers (law.fits (record { pages = n; log_words = big.log_words; opening = by_place law.opening n }) log session) 0 (run_of runs session)) same
             (answers-wider (space_of small (by_place law.opening small.pages)) big.log_words log session 0 (run_of runs session) (room-of runs session room) (is.run session).answers);

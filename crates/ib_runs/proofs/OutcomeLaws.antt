@@ -19,6 +19,7 @@ use Rattle.ib_map.specs.Writes.{word_place}
 use Rattle.ib_rule.specs.Closed.{IsClosed, log_in, used_in}
 use Rattle.ib_rule.specs.Memory.{EndedFact, entries_of}
 use Rattle.ib_rule.specs.Pass.{PassState}
+use Rattle.ib_rule.specs.Room.{HadRoom}
 use Rattle.ib_rule.specs.Roles.{session_number_of}
 use Rattle.ib_rule.specs.Space.{SpaceState}
 use Rattle.ib_rule.specs.Views.{ended_as}
@@ -116,6 +117,7 @@ module _ (shared : SharedLaw) (sizes : Sizes) (records : FitLaws (calls_under sh
     same_calls = done-calls [] commands 1 all.passes outs refl all.count done;
     kept = kept;
     room = let r = c.room in omega arith;
+    had_room = subst (HadRoom sizes.log_words) log_is c.had_room;
     run = go;
   }
     where

@@ -15,17 +15,19 @@ use Rattle.ib_walk.specs.Trees.{content_of}
 use Rattle.ib_walk.specs.Words.{image_of}
 use Rattle.ib_tree.specs.Logs.{pages_after}
 use Rattle.ib_rule.specs.Closed.{log_in}
+use Rattle.ib_rule.specs.Room.{HadRoom}
 use Rattle.ib_leaf.specs.Calls.{CallLaw, tree_calls}
 use Rattle.ib_runs.specs.declared.ran.Ran.{Ran}
 use Rattle.ib_runs.specs.Alone.{AreNeverFull}
 use Rattle.ib_runs.specs.Answers.{IsWhole, answers_of, calls_in}
 
--- Each session was run as work of its own, those of session n at place n - 1: their records are of their commands, in order, and a legal
--- run against one lawful log, which fits the space: each record fits it at its place
+-- The records of session n, which stand at place n - 1, are of its commands, in order. All of them are a legal run against one lawful
+-- log, which fits the space, each entry of which was written where the longest one had room, and each record fits that at its place
 pub record IsOutcomeUnder (law : CallLaw) (sizes : Sizes) (commands : List (List Call)) (runs : Runs) (log : List Entry) : Type 0 where
   pub same_calls : map calls_in runs ≡ commands
   pub kept : law.lawful log
   pub room : used log ≤ sizes.log_words
+  pub had_room : HadRoom sizes.log_words log
   pub run : IsLegalRun (λ h. law.fits log) (history_of log) runs
 
 -- .. of one tree: a kept log, and each record by the map and by the tree at its place

@@ -68,7 +68,7 @@ abbrev pub places_in : FullRecord → List ℕ
 places_in r = r.place ∷ map (λ span. span.place) r.spans
 
 -- These ends of the log were found for a record, by a session that had seen the log up to `reach`: each of them lies between that and what the
--- session has seen with the record, and no place of the record is before the first. A scan with its low key above its high one finds none.
+-- session has seen with the record, and no place of the record is before the first. None may be found of a scan with its low key above its high one alone.
 abbrev pub IsBehind : ℕ → List ℕ → FullRecord → Type 0
 IsBehind reach [] r = IsEmptyScan r.call
 IsBehind reach (first ∷ rest) r = AllByRecursion (λ n. (reach ≤ n) × (n ≤ reach_after r)) (first ∷ rest) × AllByRecursion (λ n. first ≤ n) (places_in r)

@@ -47,7 +47,7 @@ abbrev pub AreNumbered : ℕ → List PassState → Type 0
 AreNumbered n [] = ⊤
 AreNumbered n (p ∷ ps) = (p.number ≡ n) × AreNumbered (n + 1) ps
 
--- the session of this number was answered, from the start
+-- the session of this number was answered, from the state in which it had its turn
 pub record IsDone (law : CallLaw) (sizes : Sizes) (commands : List Call) (n : ℕ) (out : KeptAnswers) (q : PassState) : Type 0 where
   pub number : q.number ≡ n
   pub role : q.view.role ≡ Session q.number

@@ -15,8 +15,9 @@ ghost use Rattle.ib_runs.specs.Outcomes.{IsOutcome};
 /// outcomes are one. The sessions are answered the same, the chunks of each scan and the counts of each refused insert
 /// with it; the logs have the same history; and the pages after them are the same.
 ///
-/// Of a log that gets full nothing is said: a change may be refused where not every entry has room, and may be
-/// made where its own entry has.
+/// Of a log that gets full nothing is said: a change is refused where not every entry has room, and only there, but
+/// how many words the entries before it have is left open by the definitions, as words that no record of a page uses may be
+/// written or not.
 pub fn alone_law()
     ensures { (sizes : Sizes) (commands : List (List Call)) (place : ℕ) (runs others : Runs) (log other : List Entry)
         → IsAlone place commands

@@ -26,7 +26,8 @@ told_anywhere owes written now status told = told_as owes owes IsOutOfMemory (Is
 pub told_input : (form : Form) (old new : Option (List ℕ)) (input : List ℕ) → ReadsAll old new INPUT_BYTES input → (written now : Option (List ℕ)) (status : Status)
     → Told (AnswersInput form input) (IsOutOfMemoryWhere (MayLackInput form input)) written now status → Told (OwesInput form old new) (IsCutOff old new) written now status
 told_input form old new input reads written now status told =
-    told_as (AnswersInput form input) (OwesInput form old new) (IsOutOfMemoryWhere (MayLackInput form input)) (IsCutOff old new) (λ e owed. inr (input, reads, owed)) (λ s calm. inr calm.0) written now status told
+    told_as (AnswersInput form input) (OwesInput form old new) (IsOutOfMemoryWhere (MayLackInput form input)) (IsCutOff old new) (λ e owed. inr (input, reads, owed))
+    (λ s calm. let few = reads.2 in inr (calm.0, (input, reads.0, omega arith))) written now status told
 
 -- .. and of a form that reads
 pub told_reading : (form : Form) (old new : Option (List ℕ)) → reads form ≡ true → (written now : Option (List ℕ)) (status : Status)
@@ -46,7 +47,7 @@ told_reading (Gen load) old new is written now status told = absurd (cc)
 pub told_alone : (form : Form) (old new : Option (List ℕ)) → reads form ≡ false → Keeps old new → (written now : Option (List ℕ)) (status : Status)
     → Told (AnswersInput form []) (IsOutOfMemoryWhere (MayLackInput form [])) written now status → Told (IsOwedAt form old new) (IsSilentAt form old new) written now status
 told_alone (Gen load) old new is keeps written now status told =
-    told_as (AnswersInput (Gen load) []) (IsOwedAt (Gen load) old new) (IsOutOfMemoryWhere (MayLackInput (Gen load) [])) (IsSilentAt (Gen load) old new) (λ e owed. (keeps, owed)) (λ s calm. calm.0) written now status told
+    told_as (AnswersInput (Gen load) []) (IsOwedAt (Gen load) old new) (IsOutOfMemoryWhere (MayLackInput (Gen load) [])) (IsSilentAt (Gen load) old new) (λ e owed. (keeps, owed)) (λ s calm. (calm.0, keeps)) written now status told
 told_alone Run old new is keeps written now status told = absurd (cc)
 told_alone Fast old new is keeps written now status told = absurd (cc)
 told_alone Pair old new is keeps written now status told = absurd (cc)
@@ -110,7 +111,7 @@ done_words words left new form e is served (inr owed) =
     done_at form left new e served (subst (λ (f : Form). IsOwedAt f left new e) same-form owed.2)
 
 cut-off : (old new : Option (List ℕ)) (s : Status) → IsCutOff old new s → (s ≡ ReadFault) ⊎ (s ≡ Memory)
-cut-off old new s calm = elim calm [ inl fault ↦ inl fault.0 | inr memory ↦ inr memory ]
+cut-off old new s calm = elim calm [ inl fault ↦ inl fault.0 | inr memory ↦ inr memory.0 ]
 
 silences-at : (form : Form) (old new : Option (List ℕ)) (s : Status) → IsSilentAt form old new s → (s ≡ ReadFault) ⊎ (s ≡ Memory)
 silences-at Run old new s calm = cut-off old new s calm
@@ -122,7 +123,7 @@ silences-at Latch old new s calm = cut-off old new s calm
 silences-at Replay old new s calm = cut-off old new s calm
 silences-at Upgrade old new s calm = cut-off old new s calm
 silences-at Restore old new s calm = cut-off old new s calm
-silences-at (Gen load) old new s calm = inr calm
+silences-at (Gen load) old new s calm = inr calm.0
 
 -- a form that gets what it needs is answered
 pub completes : (words : List (List ℕ)) (left new written now : Option (List ℕ)) (status : Status) (R W : Type 0) → Told (Owes words left new) (IsSilent words left new) written now status

@@ -1,11 +1,11 @@
 -- What the program owes: which ending, for these words and what the source had and has left.
-use Rattle.std.specs.Prelude.{◌≡◌, ◌⊎◌, ℕ, List, [], ◌≤◌, length, Some, None}
+use Rattle.std.specs.Prelude.{◌≡◌, ◌⊎◌, ℕ, List, [], ◌+◌, ◌≤◌, length, Some, None}
 use Rattle.std.specs.declared.option.Option.{Option}
 use Rattle.std.specs.Io.KnownBytes.{Keeps}
 use Rattle.ib_io.specs.Input.{ReadsAll, ConsumesMore, ConsumesAtMost}
 use Rattle.ib_io.specs.Lines.{readings_by}
 use Rattle.ib_io.specs.Told.{Ending, OwesLines, TellsFault, ends}
-use Rattle.ib_io.specs.declared.read.TheConstants.{INPUT_BYTES}
+use Rattle.ib_io.specs.declared.read.TheConstants.{INPUT_BYTES, PIECE_BYTES}
 use Rattle.ib_io.specs.declared.status.Status.{Status}
 use Rattle.ib_io.specs.declared.status.Status.TheVariants.{Done, Usage, ReadFault, WriteFault, Memory, TooLarge}
 use Rattle.ib_script.specs.Script.{ScriptValue, IsScript, first_fault, reading_of}
@@ -65,10 +65,10 @@ MayLackInput Upgrade input = old_file_fault input ≡ None
 MayLackInput Restore input = front_fault input ≡ None
 MayLackInput (Gen load) input = Unit {0}
 
--- The ending that is owed by a form that reads: that more was read than the limit, or an answer to an input that was read to its end.
+-- The ending that is owed by a form that reads: that more was read than the limit, by a piece at most, or an answer to an input that was read to its end.
 abbrev pub OwesInput : Form → Option (List ℕ) → Option (List ℕ) → Ending → Type 0
 OwesInput form old new e =
-    (ConsumesMore old new INPUT_BYTES × (e ≡ ends TooLarge too_large_line))
+    (ConsumesMore old new INPUT_BYTES × ConsumesAtMost old new (INPUT_BYTES + PIECE_BYTES) × (e ≡ ends TooLarge too_large_line))
     ⊎ ((input : List ℕ) × ReadsAll old new INPUT_BYTES input × AnswersInput form input e)
 
 -- The ending that is owed by a form. `gen` reads nothing.
@@ -82,20 +82,20 @@ Owes words old new e =
     ((form_of words ≡ None) × Keeps old new × (e ≡ ends Usage usage_line))
     ⊎ ((form : Form) × (form_of words ≡ Some form) × IsOwedAt form old new e)
 
--- reading failed, or memory ran out
+-- reading failed, or memory ran out, with no more read than the limit and a piece
 abbrev pub IsCutOff : Option (List ℕ) → Option (List ℕ) → Status → Type 0
-IsCutOff old new status = ((status ≡ ReadFault) × ConsumesAtMost old new INPUT_BYTES) ⊎ (status ≡ Memory)
+IsCutOff old new status = ((status ≡ ReadFault) × ConsumesAtMost old new INPUT_BYTES) ⊎ ((status ≡ Memory) × ConsumesAtMost old new (INPUT_BYTES + PIECE_BYTES))
 
--- where a form may end with nothing written
+-- where a form may end with nothing written: `gen` reads nothing then either
 abbrev pub IsSilentAt : Form → Option (List ℕ) → Option (List ℕ) → Status → Type 0
-IsSilentAt (Gen load) old new status = status ≡ Memory
+IsSilentAt (Gen load) old new status = (status ≡ Memory) × Keeps old new
 IsSilentAt form old new status = IsCutOff old new status
 
 -- where a status that writes nothing may come: the words are a form
 abbrev pub IsSilent : List (List ℕ) → Option (List ℕ) → Option (List ℕ) → Status → Type 0
 IsSilent words old new status = (form : Form) × (form_of words ≡ Some form) × IsSilentAt form old new status
 
--- nothing is wrong with the input: each line is good, or the bytes are the file of a lawful log, or of an old one that can be brought over
+-- nothing is wrong with the input: each line is good, or the bytes are the file of a lawful log, or of an old one that can be brought over, or of an image that restores a tree
 abbrev pub IsGoodInput : Form → List ℕ → Type 0
 IsGoodInput Run input = first_fault (readings_by reading_of input) ≡ None
 IsGoodInput Fast input = first_fault (readings_by reading_of input) ≡ None

@@ -83,15 +83,15 @@ fn dispatch<S: Source, K: Sink, G: Gate + Sync, R: Threads + Wait + Sync>(
 /// alone, reads a script of two trees, runs its sessions beside each other on one shared pair, and writes the same and the keys
 /// of the second tree. `raw`, alone, does what `run` does, and writes the file of the log. `image`, alone, does what `run` does,
 /// with one more session that copies all pages beside the others, and writes the image file of the copy and its tail. `latch`,
-/// alone, reads events, makes them on the latch machine
-/// of one thread, and writes each with its answer and its latch's word afterwards. `replay`, alone, reads a raw log, and
-/// writes its log and its map. `upgrade`, alone, reads a log of version 1, brings it over, and writes the file of the log that
-/// it became. `restore`, alone, reads an image file, and writes the map that it restores. `gen N SEED SESSIONS` reads nothing,
-/// runs the script that these numbers generate, and writes how often each reply came. Any other words get the usage line,
-/// which names none of `fast`, `image`, `pair`, `upgrade` and `restore`.
+/// alone, reads events, makes them on the latch machine of one thread, and writes each with its answer and its latch's word
+/// afterwards. `replay`, alone, reads a raw log, and writes its log and its map. `upgrade`, alone, reads a log of version 1,
+/// brings it over, and writes the file of the log that it became. `restore`, alone, reads an image file, and writes the map
+/// that it restores. `gen N SEED SESSIONS` reads nothing, runs the script that these numbers generate, and writes how often
+/// each reply came, and how many pairs the map has. Any other words get the usage line, which names none of `fast`, `image`,
+/// `pair`, `upgrade` and `restore`.
 ///
 /// The gate is called before each command of a session, and once after its last, and so for the session that copies, as for
-/// one of one command. The sessions of `run`, `fast`, `pair`, `raw`, `image` and `gen` wait for each other, so this may wait too.
+/// one of one command; and so once more for all, where a first run on a shorter log filled that. The sessions of `run`, `fast`, `pair`, `raw`, `image` and `gen` wait for each other, so this may wait too.
 pub fn top<S: Source, K: Sink, G: Gate + Sync, R: Threads + Wait + Sync>(
     rt: &R,
     alloc: Global,

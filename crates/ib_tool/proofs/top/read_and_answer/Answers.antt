@@ -10,4 +10,4 @@ returns-in-Ok-clause-told g c = told_input c.args.form (g.S.Source.left c.args.s
     (g.K.Sink.written c.args.sink.now) (g.K.Sink.written c.answer.new.sink) c.answer.result (rw c.deref.ensures.value at c.answer.ensures.told)
 
 pub returns-in-Err-TooLarge-clause-told : goal.returns-in-Err-TooLarge-clause-told
-returns-in-Err-TooLarge-clause-told g c = inl (ends TooLarge too_large_line, inl (rw c.in-Err-TooLarge.field-0-is at c.in-Err-TooLarge.ensures.reads, refl), c.tell.ensures.told)
+returns-in-Err-TooLarge-clause-told g c = inl (ends TooLarge too_large_line, inl (rw c.in-Err-TooLarge.field-0-is at c.in-Err-TooLarge.ensures.reads, c.read_all.ensures.within, refl), c.tell.ensures.told)

@@ -14,6 +14,7 @@ use Rattle.ib_rule.proofs.Passing.{pass_knows}
 use Rattle.ib_rule.proofs.Watching.{watching_same}
 use Rattle.ib_rule.proofs.Spelling.{length_spelled, longer_fits_more}
 use Rattle.ib_rule.proofs.Stored.{store_end_allowed}
+use Rattle.ib_rule.proofs.RoomLaws.{room-of}
 use Rattle.ib_rule.proofs.space.Space.store_end.Goals as goal
 
 pub store-requires-clause-allowed : goal.store-requires-clause-allowed
@@ -51,6 +52,7 @@ invariant_of-pass g c =
     let told = c.store.ensures.told.1 in
     pass_knows c.pass.inside _ (appending (entry_in c.as_slice-2.result.now) c.pass.inside.seat.me.0).memory c.pass.invariant (λ j. (told.0.view j, told.1 j)) told.0.known
     (let p = c.pass.invariant.place in omega arith) (let u = c.pass.invariant.used in let l = c.entry_length-length.ensures in omega arith) (let m = c.pass.invariant.made in omega arith)
-    (longer_fits_more c.pass.inside.geometry c.pass.inside.seat.me.0 (entry_in c.as_slice-2.result.now) c.pass.invariant.front ready.fits.room)
+    (longer_fits_more c.pass.inside.geometry c.pass.inside.seat.me.0 (entry_in c.as_slice-2.result.now) c.pass.invariant.front
+    (room-of c.pass.inside.geometry (g.L.Law.lawful c.pass.inside.geometry.pages) _ _ _ v.memory.seen (entry_in c.as_slice-2.result.now) ready.fits))
     refl refl refl refl refl refl
     (watching_same c.pass.inside.looked_after c.pass.inside.seat.me.0 _ (ap (λ (v : View). v.grants) told.0.view) (ap (λ (v : View). v.session) told.0.view) (ap (λ (v : View). v.memory.since) told.0.view) c.pass.invariant.watches)
