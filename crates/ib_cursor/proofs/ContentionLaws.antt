@@ -38,12 +38,8 @@ refused-by latch level (TryRaced w found) p q tried =
     subst (λ (k : Looks). WasRaced latch.0 w found p.view.looks k) (sym (ap (λ (r : PassState). r.view.looks) tried.2))
     (record { count = omega arith; high = tried.0; other = tried.1; at = p.view.looks.steps; before = p.view.looks.all; is = refl })
 
--- a refused try looks once or twice
-pub looks_of-few : (fault : TryFault) → looks_of fault ≤ 2
-looks_of-few (TryBusy w) = omega arith
-looks_of-few (TryRaced w found) = omega arith
-
-latch-of : (latch : Latch) (fault : TryFault) → refused_latch (fault_on latch fault) ≡ latch.0
+-- the latch of a fault
+pub latch-of : (latch : Latch) (fault : TryFault) → refused_latch (fault_on latch fault) ≡ latch.0
 latch-of latch (TryBusy w) = refl
 latch-of latch (TryRaced w found) = refl
 

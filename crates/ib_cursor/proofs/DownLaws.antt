@@ -78,6 +78,9 @@ raised_more opening root front seen more new e r = record {
 }
 
 -- one level lower
+pub child_level : (level : ℕ) → level - 1 + 1 - 1 ≡ level - 1
+child_level level = omega arith
+
 pub down_step : (sizes : Sizes) (lawful : List Entry → Type 0) (opening : ℕ → ℕ) (root : ℕ) (key : MapKey) (exclusive b : Bool) (above page child level : ℕ) (p q r : PassState)
     → b ≡ (exclusive && (level == 0)) → IsDown sizes lawful opening root key (index_grant ∷ []) exclusive above page (suc level) p q
     → IsAt sizes lawful opening root key (index_grant ∷ []) child level (mode_by b) r → WentOn q r → r.view.grants ≡ with_grant (Some (mode_by b)) q.view.grants

@@ -1,6 +1,6 @@
 -- A latch that was tried in vain in any mode, and a search that gave up.
 use Rattle.std.specs.Prelude.{Result, Ok, Err, OnOk, IsOk, IsSomeAnd}
-use Rattle.std.proofs.Common.{◌≡◌, ℕ, ◌+◌, List, [], Option, Some, None, slice_get, refl, sym, ap, subst, ◌∙◌, arith}
+use Rattle.std.proofs.Common.{◌≡◌, ℕ, ◌+◌, ◌≤◌, List, [], Option, Some, None, slice_get, refl, sym, ap, subst, ◌∙◌, arith}
 use Rattle.ib_levels.specs.declared.latch.Latch.{Latch}
 use Rattle.ib_levels.specs.declared.level.Level.{Level}
 use Rattle.ib_levels.specs.declared.level.Mode.{Mode}
@@ -36,6 +36,7 @@ use Rattle.ib_cursor.specs.Reading.{HasReadWords, with_loads}
 use Rattle.ib_cursor.specs.Refusals.{AreFewGrants, AreFewLooks, HasGivenUp, IsRefusal, IsVainTry, WasRefusedIn, try_of}
 use Rattle.ib_cursor.specs.Shapes.{HasLookedOn}
 use Rattle.ib_cursor.proofs.ClaimLaws.{keeps_after}
+use Rattle.ib_cursor.proofs.ContentionLaws.{latch-of}
 use Rattle.ib_cursor.proofs.LatchingLaws.{IsBeside, known_beside, looked_first, looked_then, seen_after, some_end, taken_claim, went_beside, went_both}
 
 -- one try for SX or X that is won is a grant more
@@ -65,6 +66,9 @@ few_won mode l v p q tried grants =
     let won = won_looks mode l v p (with_memo p.memo q) tried in let more = total_more mode p.view.grants in let is = ap total grants in
     record { least = omega arith; most = omega arith }
 
+pub few_granted : (mode : Mode) (v w : View) → w.grants ≡ with_grant (Some mode) v.grants → v.looks.count ≤ w.looks.count → w.looks.count ≤ v.looks.count + 2 → AreFewLooks 0 v w
+few_granted mode v w grants least most = let more = total_more mode v.grants in let is = ap total grants in record { least = omega arith; most = omega arith }
+
 -- looks of one call after another
 pub few_both : (n : ℕ) (u v w : View) → AreFewLooks 0 u v → AreFewLooks n v w → AreFewLooks n u w
 few_both n u v w one two =
@@ -74,11 +78,7 @@ pub few_same : (n : ℕ) (u v w : View) → w.looks ≡ v.looks → w.grants ≡
 few_same n u v w looks grants few =
     let l = ap (λ (k : Looks). k.count) looks in let g = ap total grants in let a = few.least in let b = few.most in record { least = omega arith; most = omega arith }
 
--- a fault by its latch and its try
-latch_of : (latch : Latch) (fault : TryFault) → refused_latch (fault_on latch fault) ≡ latch.0
-latch_of latch (TryBusy w) = refl
-latch_of latch (TryRaced w found) = refl
-
+-- the try of a fault
 try_is : (latch : Latch) (fault : TryFault) → try_of (fault_on latch fault) ≡ fault
 try_is latch (TryBusy w) = refl
 try_is latch (TryRaced w found) = refl
@@ -100,7 +100,7 @@ vain_by_try sizes lawful mode latch v fault p q r same un tried on memo session 
     let was = refused_looks mode latch.0 v fault p (with_memo p.memo q) tried in
     let later : WasRefusedFor mode latch.0 fault p.view.looks r.view.looks = subst (WasRefusedFor mode latch.0 fault p.view.looks) (sym looks) was in
     let named : WasRefusedIn mode (fault_on latch fault) p.view.looks r.view.looks =
-    subst (λ (l : ℕ). WasRefusedFor mode l (try_of (fault_on latch fault)) p.view.looks r.view.looks) (sym (latch_of latch fault))
+    subst (λ (l : ℕ). WasRefusedFor mode l (try_of (fault_on latch fault)) p.view.looks r.view.looks) (sym (latch-of latch fault))
     (subst (λ (f : TryFault). WasRefusedFor mode latch.0 f p.view.looks r.view.looks) (sym (try_is latch fault)) later) in
     let few = looks_few fault in let count = ap (λ (k : Looks). k.count) looks in let more = un.looks in let g = ap total (grants ∙ un.grants) in
     record {
@@ -109,7 +109,7 @@ vain_by_try sizes lawful mode latch v fault p q r same un tried on memo session 
       session = session ∙ un.session;
       grants = grants ∙ un.grants;
       work = work ∙ ap (λ (s : PassState). s.work) same;
-      at = latch_of latch fault;
+      at = latch-of latch fault;
       refused = named;
       few = record { least = omega arith; most = omega arith };
     }

@@ -1,7 +1,7 @@
 -- A page more is taken behind the claimed index.
 use Rattle.std.specs.List.{All, AllByRecursion}
 use Rattle.std.specs.Prelude.{◌==◌, ◌||◌, nat_lt, take, drop, get_or}
-use Rattle.std.proofs.Common.{◌≡◌, inl, inr, ℕ, ◌+◌, ◌<◌, Bool, true, false, cond, List, [], ◌∷◌, ◌++◌, Some, None, length, map, refl, sym, ap, subst, ◌∙◌, arith, eq-eqb, ne_eqb, length-append, append_assoc, append-nil, ◌≤◌}
+use Rattle.std.proofs.Common.{◌≡◌, ◌≢◌, inl, inr, ℕ, ◌+◌, ◌<◌, Bool, true, false, cond, List, [], ◌∷◌, ◌++◌, Some, None, length, map, refl, sym, ap, subst, ◌∙◌, arith, eq-eqb, ne_eqb, length-append, append_assoc, append-nil, ◌≤◌}
 use Rattle.std.proofs.lemmas.Bool.{cases_eq}
 use Rattle.std.proofs.lemmas.List.{map-append, take_at, take-append-drop, get_or_append_left}
 use Rattle.std.proofs.lemmas.Grind.{take_at_read}
@@ -321,6 +321,13 @@ right_link sizes lawful opening held page right p h among kind next =
 
 pub among_last : (held : List ℕ) (page : ℕ) → is_listed (held ++ page ∷ []) page ≡ true
 among_last held page = among-more held page page ∙ ap (λ b. b || is_listed held page) (eq-eqb page page refl)
+
+-- the page of a link: none, or one
+pub beside_none : (page : ℕ) → page ≡ 0 → beside page ≡ []
+beside_none page z = ap (λ b. cond b [] (page ∷ [])) (eq-eqb page 0 z)
+
+pub beside_one : (page : ℕ) → page ≢ 0 → beside page ≡ page ∷ []
+beside_one page ne = ap (λ b. cond b [] (page ∷ [])) (ne_eqb page 0 ne)
 
 pub beside_few : (page : ℕ) → length (beside page) ≤ 1
 beside_few page = by_test (page == 0)

@@ -38,7 +38,7 @@ pub refusal_wider : (sizes : Sizes) (lawful : List Entry → Type 0) (few more :
 refusal_wider sizes lawful few more most f p q so v = record { went = v.went; looked = v.looked; known = v.known; mode = v.mode; taken = so q.view.memory.seen v.mode (refused_latch f) v.taken; refused = v.refused; few = v.few; grants = v.grants }
 
 -- pages of a list
-listed_at : (xs : List ℕ) (at : ℕ) → at < length xs → is_listed xs (get_or xs at 0) ≡ true
+pub listed_at : (xs : List ℕ) (at : ℕ) → at < length xs → is_listed xs (get_or xs at 0) ≡ true
 listed_at [] at within = absurd (omega arith)
 listed_at (x ∷ xs) zero within = among-left (x ∷ []) xs x (among_last [] x)
 listed_at (x ∷ xs) (suc at) within = among_right (x ∷ []) xs (get_or xs at 0) (listed_at xs at (omega arith))

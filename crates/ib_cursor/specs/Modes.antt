@@ -14,10 +14,6 @@ abbrev pub mode_by : Bool → Mode
 mode_by false = S
 mode_by true = X
 
--- the mode in which it takes its leaf
-abbrev pub leaf_mode : Search → Mode
-leaf_mode mode = mode_by (is_exclusive mode)
-
--- .. and a page of this level
+-- the mode in which it takes a page of this level
 abbrev pub mode_at : Search → ℕ → Mode
 mode_at mode level = mode_by (is_exclusive mode && (level == 0))

@@ -87,7 +87,7 @@ pub record IsLatchOf (pages : List ℕ) (l : ℕ) : Type 0 where
 abbrev pub IsPathLatch : (ℕ → ℕ) → List Entry → ℕ → MapKey → ℕ → Type 0
 IsPathLatch opening log root key l = (page : ℕ) × (level : ℕ) × (l ≡ page + 2) × IsOnPath (pages_after opening log) root key page level
 
--- what a search takes that is to change the key's leaf: in S the index and pages of the key's path, in X the leaf, and the root where that was one
+-- what a search takes that is to change the key's leaf: in S the index and pages of the key's path, in X the leaf, or the root
 abbrev pub TakesForLeaf : (ℕ → ℕ) → ℕ → MapKey → List Entry → Mode → ℕ → Type 0
 TakesForLeaf opening root key log S l = IsAnywhereOnPath opening log root key l
 TakesForLeaf opening root key log Sx l = ⊥

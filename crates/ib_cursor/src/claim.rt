@@ -2,7 +2,7 @@
 
 ghost use Rattle.std.specs.Prelude.{◌≡◌, ℕ, ◌<◌, ◌≤◌, ◌+◌, ◌∷◌, ◌++◌, [], true, false, List, Some};
 ghost use Rattle.ib_map.specs.Space.{has_pages};
-ghost use Rattle.ib_levels.specs.declared.level.Mode.TheVariants.{S};
+ghost use Rattle.ib_levels.specs.declared.level.Mode.TheVariants.{S as ModeS};
 ghost use Rattle.ib_page.specs.Image.{IsFormed, next_of, prev_of};
 ghost use Rattle.ib_page.specs.Work.{changed_of};
 ghost use Rattle.ib_heap.specs.declared.TheConstants.{MOST_LEVEL};
@@ -74,15 +74,16 @@ fn left_of<L: Law, S: Sleep>(mtr: &Mtr<'_, L, S>, leaf: u32) -> u32
 
 // The leaf before a leaf that is held behind the claimed index, 0 for none: the leaf is loaded for it,
 // and leaves the work set again.
-fn left_link<L: Trees>(mtr: &mut Mtr<'_, L, Parkers>, sought: Sought, leaf: u32) -> u32
+fn left_link<L: Trees, S: Sleep>(mtr: &mut Mtr<'_, L, S>, sought: Sought, leaf: u32) -> u32
     requires mtr { IsMtr mtr.old.latches.now mtr.old.pass.now }
     requires at { under L.Law mtr.old.latches.now IsAt sought.root sought.key (claim_grant ∷ [])
-        leaf 0 S mtr.old.pass.now }
+        leaf 0 ModeS mtr.old.pass.now }
     requires claimed { is_claimed mtr.old.pass.now.view.memory.since ≡ true }
     requires sought { IsSought L.ROOTS sought.root sought.key }
     ensures still { IsStillMtr mtr.old mtr.new }
     ensures linked { under L.Law mtr.old.latches.now NamesLink sought.root sought.key leaf 0
         result mtr.old.pass.now mtr.new.pass.now }
+    ensures looks { mtr.new.pass.now.view.looks ≡ mtr.old.pass.now.view.looks }
 {
     facts_of_trees(mtr);
     read(mtr, leaf);
@@ -92,16 +93,22 @@ fn left_link<L: Trees>(mtr: &mut Mtr<'_, L, Parkers>, sought: Sought, leaf: u32)
 }
 
 // What a page that is held behind the claimed index names: a node the child of the key, a leaf the
-// leaf before it.
-fn link_here<L: Trees>(mtr: &mut Mtr<'_, L, Parkers>, sought: Sought, page: u32, level: u32) -> u32
+// leaf before it. No lock word is looked at.
+pub(crate) fn link_here<L: Trees, S: Sleep>(
+    mtr: &mut Mtr<'_, L, S>,
+    sought: Sought,
+    page: u32,
+    level: u32,
+) -> u32
     requires mtr { IsMtr mtr.old.latches.now mtr.old.pass.now }
     requires at { under L.Law mtr.old.latches.now IsAt sought.root sought.key (claim_grant ∷ [])
-        page level S mtr.old.pass.now }
+        page level ModeS mtr.old.pass.now }
     requires claimed { is_claimed mtr.old.pass.now.view.memory.since ≡ true }
     requires sought { IsSought L.ROOTS sought.root sought.key }
     ensures still { IsStillMtr mtr.old mtr.new }
     ensures linked { under L.Law mtr.old.latches.now NamesLink sought.root sought.key page level
         result mtr.old.pass.now mtr.new.pass.now }
+    ensures looks { mtr.new.pass.now.view.looks ≡ mtr.old.pass.now.view.looks }
 {
     facts_of_trees(mtr);
     if level == 0 {
@@ -112,9 +119,9 @@ fn link_here<L: Trees>(mtr: &mut Mtr<'_, L, Parkers>, sought: Sought, page: u32,
 
 // What is read of a page of the path: its level, and the page that it names.
 #[derive(Clone, Copy)]
-struct Named {
-    level: u32,
-    link: u32,
+pub(crate) struct Named {
+    pub(crate) level: u32,
+    pub(crate) link: u32,
 }
 
 // Looks at a page of the key's path in S behind the claimed index, and gives it up again.

@@ -1,6 +1,6 @@
 //! The descent, from the index to the leaf of a key.
 
-ghost use Rattle.std.specs.Prelude.{◌≡◌, ◌+◌, ◌-◌, ◌*◌, ◌<◌, ◌≤◌, ◌∷◌, [], Bool, false, Some, IfErr, IfOk};
+ghost use Rattle.std.specs.Prelude.{◌≡◌, ◌+◌, ◌-◌, ◌*◌, ◌<◌, ◌≤◌, ◌∷◌, [], Bool, false, Some, IfErr, IfOk, OnOk};
 ghost use Rattle.ib_heap.specs.declared.TheConstants.{MOST_LEVEL};
 ghost use Rattle.ib_rule.specs.Conditions.{HasGrantLeft};
 ghost use Rattle.ib_rule.specs.Pass.{PassState};
@@ -13,6 +13,7 @@ ghost use Rattle.ib_cursor.specs.Going.{HasSeen, WentOn};
 ghost use Rattle.ib_cursor.specs.Grants.{HasGrants, index_grant};
 ghost use Rattle.ib_cursor.specs.Contention.{IsContended};
 ghost use Rattle.ib_cursor.specs.Modes.{is_exclusive};
+ghost use Rattle.ib_cursor.specs.Refusals.{AreFewLooks};
 ghost use Rattle.ib_cursor.specs.Spaces.{pages_under};
 ghost use Rattle.ib_cursor.specs.OnPath.{IsSought, IsRoot};
 
@@ -161,6 +162,7 @@ pub(crate) fn load_end<L: Trees, S: Sleep>(mtr: &mut Mtr<'_, L, S>, path: &Path,
         mtr.old.pass.now → under L.Law mtr.old.latches.now HasDescended sought.root sought.key
         exclusive path.now p mtr.new.pass.now }
     ensures looks { mtr.new.pass.now.view.looks ≡ mtr.old.pass.now.view.looks }
+    ensures grants { mtr.new.pass.now.view.grants ≡ mtr.old.pass.now.view.grants }
 {
     // For the proof: the laws of trees, at the number of pages that the space has.
     L::trees_law();
@@ -222,13 +224,18 @@ pub fn descend_nowait<L: Trees, S: Sleep>(
     ensures still { IsStillMtr mtr.old mtr.new }
     ensures descended { IfOk result (λ path. under L.Law mtr.old.latches.now HasDescended 1 key
         false path mtr.old.pass.now mtr.new.pass.now) }
+    ensures twice { OnOk result (AreFewLooks 0 mtr.old.pass.now.view mtr.new.pass.now.view) }
     ensures contended { IfErr result (λ fault. under L.Law mtr.old.latches.now IsContended 1 key
         fault mtr.old.pass.now mtr.new.pass.now) }
     ensures few { mtr.new.pass.now.view.looks.count
         ≤ mtr.old.pass.now.view.looks.count + 2 * (MOST_LEVEL + 2) }
 {
     let sought = Sought { root: 1, key };
-    let path = reach_leaf_nowait(mtr, sought)?;
-    load_end(mtr, &path, sought);
-    Ok(path)
+    match reach_leaf_nowait(mtr, sought) {
+        Ok(path) => {
+            load_end(mtr, &path, sought);
+            Ok(path)
+        }
+        Err(fault) => Err(fault),
+    }
 }

@@ -28,8 +28,12 @@ pub enum NowaitFault {
 impl NowaitFault {
     ghost use Rattle.ib_cursor.specs.Contention.{fault_on};
 
-    // A try on a latch that was refused.
-    pub(crate) fn of(latch: Latch, fault: TryFault) -> NowaitFault
+    /// A try on a latch that was refused.
+    ///
+    /// ```
+    /// Err(CommitFault::LogRefused(fault)) => Err(NowaitFault::of(Latch::LOG, fault)),
+    /// ```
+    pub fn of(latch: Latch, fault: TryFault) -> NowaitFault
         ensures { result ≡ fault_on latch fault }
     {
         match fault {

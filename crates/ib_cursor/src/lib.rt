@@ -34,3 +34,4 @@ pub use pairs::descend_pair_to_insert;
 pub use position::{Position, Restored, restore, store};
 pub use search::{Search, Sought};
 pub use siblings::{descend_to_delete, take_behind, take_rows};
+pub use try_latch::try_take;

@@ -15,6 +15,7 @@ ghost use Rattle.ib_cursor.specs.Going.{HasSeen, HasLatched, WentOn};
 ghost use Rattle.ib_cursor.specs.Grants.{HasGrants, HasTaken, index_grant, page_grant};
 ghost use Rattle.ib_cursor.specs.Contention.{IsRefusedTry, IsStopped, IsContended};
 ghost use Rattle.ib_cursor.specs.OnPath.{IsSought};
+ghost use Rattle.ib_cursor.specs.Refusals.{AreFewLooks};
 
 use crate::fault::NowaitFault;
 use crate::held_page::{child_of, level_of};
@@ -157,6 +158,7 @@ pub(crate) fn reach_leaf_nowait<L: Trees, S: Sleep>(
     ensures reached { IfOk result (λ path. under L.Law mtr.old.latches.now HasReached sought.root
         sought.key false path mtr.old.pass.now mtr.new.pass.now) }
     ensures none { OnOk result (mtr.new.pass.now.work ≡ []) }
+    ensures twice { OnOk result (AreFewLooks 0 mtr.old.pass.now.view mtr.new.pass.now.view) }
     ensures contended { IfErr result (λ fault. under L.Law mtr.old.latches.now IsContended
         sought.root sought.key fault mtr.old.pass.now mtr.new.pass.now) }
     ensures few { mtr.new.pass.now.view.looks.count

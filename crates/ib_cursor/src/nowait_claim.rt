@@ -1,26 +1,24 @@
 //! The index claimed, and the path of a key read and taken for an insert, without waiting.
 
-ghost use Rattle.std.specs.Prelude.{◌≡◌, ℕ, ◌<◌, ◌≤◌, ◌+◌, ◌*◌, ◌∷◌, ◌++◌, [], true, false, List, Some, IfErr, IfOk, OnOk};
+ghost use Rattle.std.specs.Prelude.{◌≡◌, ℕ, ◌<◌, ◌≤◌, ◌+◌, ◌*◌, ◌∷◌, ◌++◌, [], true, false, List, IfErr, IfOk, OnOk};
 ghost use Rattle.ib_levels.specs.declared.level.Mode.TheVariants.{S as ModeS, Sx as ModeSx};
-ghost use Rattle.ib_page.specs.Image.{IsFormed, prev_of};
-ghost use Rattle.ib_page.specs.Work.{changed_of};
 ghost use Rattle.ib_heap.specs.declared.TheConstants.{MOST_LEVEL};
 ghost use Rattle.ib_rule.specs.Conditions.{HasGrantLeft, HasGrantsLeft};
 ghost use Rattle.ib_rule.specs.Under.{under, under_lawful};
 ghost use Rattle.ib_rule.specs.Views.{is_watched};
 ghost use Rattle.ib_mtr.specs.Mtr.{IsMtr, IsStillMtr};
 ghost use Rattle.ib_cursor.specs.Claims.{HasClaimed, IsPathWithLeaves, beside, claim_grant};
-ghost use Rattle.ib_cursor.specs.Descent.{IsAt, MayDescend};
+ghost use Rattle.ib_cursor.specs.Descent.{MayDescend};
 ghost use Rattle.ib_cursor.specs.Going.{HasLatched};
 ghost use Rattle.ib_cursor.specs.OnPath.{IsOnPath, IsRoot, IsSought};
 ghost use Rattle.ib_cursor.specs.Refusals.{AreFewLooks, IsInsertRefusal, IsInsertRefused, IsPageRefused, IsPathRefusal, IsRefusedBehind, IsVainOnPath, IsVainTry};
-ghost use Rattle.ib_cursor.specs.Shapes.{HasIndex, HasReadLink, HasReadPath, NamesLink, is_claimed};
+ghost use Rattle.ib_cursor.specs.Shapes.{HasIndex, HasReadLink, HasReadPath, is_claimed};
 ghost use Rattle.ib_cursor.specs.Spaces.{pages_under};
 ghost use Rattle.ib_cursor.specs.Takings.{CanTakePage, HasTakenMore, HasTakenPage, MayTakeFirst, MayTakeLeaves, TakesFirst, WillTake};
 
-use crate::claim::{FoundPath, facts_of_trees, right_of};
+use crate::claim::{FoundPath, Named, facts_of_trees, link_here, right_of};
 use crate::fault::NowaitFault;
-use crate::held_page::{child_of, level_of};
+use crate::held_page::level_of;
 use crate::latch_page::{look, read};
 use crate::search::Sought;
 use crate::try_latch::{try_page, try_take};
@@ -56,70 +54,6 @@ pub(crate) fn try_claim<L: Law, S: Sleep>(mtr: &mut Mtr<'_, L, S>) -> Result<(),
     }
 }
 
-// The leaf before one that is loaded, by its link, 0 for none.
-fn left_of<L: Law, S: Sleep>(mtr: &Mtr<'_, L, S>, leaf: u32) -> u32
-    requires mtr { IsMtr mtr.now.latches.now mtr.now.pass.now }
-    requires loaded { (image : List ℕ) × (changed_of leaf mtr.now.pass.now.work ≡ Some image)
-        × IsFormed image }
-    ensures { (image : List ℕ) → changed_of leaf mtr.now.pass.now.work ≡ Some image
-        → result ≡ prev_of image }
-{
-    let image = mtr.image(leaf).unwrap();
-    image.prev()
-}
-
-// The leaf before a leaf that is held behind the claimed index, 0 for none: the leaf is loaded for it,
-// and leaves the work set again.
-fn left_named<L: Trees, S: Sleep>(mtr: &mut Mtr<'_, L, S>, sought: Sought, leaf: u32) -> u32
-    requires mtr { IsMtr mtr.old.latches.now mtr.old.pass.now }
-    requires at { under L.Law mtr.old.latches.now IsAt sought.root sought.key (claim_grant ∷ [])
-        leaf 0 ModeS mtr.old.pass.now }
-    requires claimed { is_claimed mtr.old.pass.now.view.memory.since ≡ true }
-    requires sought { IsSought L.ROOTS sought.root sought.key }
-    ensures still { IsStillMtr mtr.old mtr.new }
-    ensures linked { under L.Law mtr.old.latches.now NamesLink sought.root sought.key leaf 0
-        result mtr.old.pass.now mtr.new.pass.now }
-    ensures looks { mtr.new.pass.now.view.looks ≡ mtr.old.pass.now.view.looks }
-{
-    facts_of_trees(mtr);
-    read(mtr, leaf);
-    let left = left_of(mtr, leaf);
-    mtr.forget(leaf);
-    left
-}
-
-// What a page that is held behind the claimed index names: a node the child of the key, a leaf the
-// leaf before it. No lock word is looked at.
-fn link_named<L: Trees, S: Sleep>(
-    mtr: &mut Mtr<'_, L, S>,
-    sought: Sought,
-    page: u32,
-    level: u32,
-) -> u32
-    requires mtr { IsMtr mtr.old.latches.now mtr.old.pass.now }
-    requires at { under L.Law mtr.old.latches.now IsAt sought.root sought.key (claim_grant ∷ [])
-        page level ModeS mtr.old.pass.now }
-    requires claimed { is_claimed mtr.old.pass.now.view.memory.since ≡ true }
-    requires sought { IsSought L.ROOTS sought.root sought.key }
-    ensures still { IsStillMtr mtr.old mtr.new }
-    ensures linked { under L.Law mtr.old.latches.now NamesLink sought.root sought.key page level
-        result mtr.old.pass.now mtr.new.pass.now }
-    ensures looks { mtr.new.pass.now.view.looks ≡ mtr.old.pass.now.view.looks }
-{
-    facts_of_trees(mtr);
-    if level == 0 {
-        return left_named(mtr, sought, page);
-    }
-    child_of(mtr, page, sought.key)
-}
-
-// What is read of a page of the path: its level, and the page that it names.
-#[derive(Clone, Copy)]
-struct Named {
-    level: u32,
-    link: u32,
-}
-
 // Looks at a page of the key's path, had in S by a try behind the claimed index, and gives it up again.
 fn try_link<L: Trees, S: Sleep>(
     mtr: &mut Mtr<'_, L, S>,
@@ -147,7 +81,7 @@ fn try_link<L: Trees, S: Sleep>(
         Err(fault) => return Err(fault),
     }
     let level = level_of(mtr, page);
-    let link = link_named(mtr, sought, page, level);
+    let link = link_here(mtr, sought, page, level);
     mtr.release_at(1);
     Ok(Named { level, link })
 }
@@ -328,6 +262,7 @@ fn take_to_insert<L: Trees, S: Sleep>(
         HasClaimed sought.root sought.key path held mtr.old.pass.now mtr.new.pass.now
         × IsPathWithLeaves (pages_under L.Law mtr.old.latches.now mtr.new.pass.now) path held) }
     ensures alone { OnOk result (is_claimed mtr.new.pass.now.view.memory.since ≡ true) }
+    ensures twice { OnOk result (AreFewLooks 0 mtr.old.pass.now.view mtr.new.pass.now.view) }
     ensures few { mtr.new.pass.now.view.looks.count
         ≤ mtr.old.pass.now.view.looks.count + 4 * (MOST_LEVEL + 3) }
     ensures refusal { IfErr result (λ fault. under L.Law mtr.old.latches.now IsInsertRefusal
@@ -382,6 +317,7 @@ pub fn descend_to_insert_nowait<L: Trees, S: Sleep>(
         HasClaimed root key path held mtr.old.pass.now mtr.new.pass.now × IsPathWithLeaves
         (pages_under L.Law mtr.old.latches.now mtr.new.pass.now) path held) }
     ensures alone { OnOk result (is_claimed mtr.new.pass.now.view.memory.since ≡ true) }
+    ensures twice { OnOk result (AreFewLooks 0 mtr.old.pass.now.view mtr.new.pass.now.view) }
     ensures few { mtr.new.pass.now.view.looks.count
         ≤ mtr.old.pass.now.view.looks.count + 4 * (MOST_LEVEL + 3) }
     ensures refused { IfErr result (λ fault. under L.Law mtr.old.latches.now IsInsertRefused root

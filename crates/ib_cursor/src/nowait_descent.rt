@@ -194,6 +194,7 @@ pub fn descend_to_change_nowait<L: Trees, S: Sleep>(
     ensures still { IsStillMtr mtr.old mtr.new }
     ensures descended { IfOk result (λ path. under L.Law mtr.old.latches.now HasDescended root key
         true path mtr.old.pass.now mtr.new.pass.now) }
+    ensures twice { OnOk result (AreFewLooks 0 mtr.old.pass.now.view mtr.new.pass.now.view) }
     ensures few { mtr.new.pass.now.view.looks.count
         ≤ mtr.old.pass.now.view.looks.count + 2 * (MOST_LEVEL + 4) }
     ensures refused { IfErr result (λ fault. under L.Law mtr.old.latches.now IsLeafRefused root key

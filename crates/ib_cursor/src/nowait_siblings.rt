@@ -6,7 +6,7 @@ ghost use Rattle.ib_page.specs.Work.{changed_of};
 ghost use Rattle.ib_heap.specs.declared.TheConstants.{MOST_LEVEL};
 ghost use Rattle.ib_plans.specs.Agreement.{last_of, path_of};
 ghost use Rattle.ib_rule.specs.Conditions.{HasGrantLeft, HasGrantsLeft};
-ghost use Rattle.ib_rule.specs.Under.{under, under_lawful};
+ghost use Rattle.ib_rule.specs.Under.{under};
 ghost use Rattle.ib_rule.specs.Views.{is_watched};
 ghost use Rattle.ib_mtr.specs.Mtr.{IsMtr, IsStillMtr};
 ghost use Rattle.ib_cursor.specs.Claims.{HasClaimed, beside};
@@ -185,6 +185,7 @@ fn take_to_delete<L: Trees, S: Sleep>(
         × IsPathWithSiblings (pages_under L.Law mtr.old.latches.now mtr.new.pass.now) sought.root
         sought.key path held) }
     ensures alone { OnOk result (is_claimed mtr.new.pass.now.view.memory.since ≡ true) }
+    ensures twice { OnOk result (AreFewLooks 0 mtr.old.pass.now.view mtr.new.pass.now.view) }
     ensures few { mtr.new.pass.now.view.looks.count
         ≤ mtr.old.pass.now.view.looks.count + 8 * (MOST_LEVEL + 2) }
     ensures refusal { IfErr result (λ fault. under L.Law mtr.old.latches.now IsDeleteRefusal
@@ -239,6 +240,7 @@ pub fn descend_to_delete_nowait<L: Trees, S: Sleep>(
         HasClaimed root key path held mtr.old.pass.now mtr.new.pass.now × IsPathWithSiblings
         (pages_under L.Law mtr.old.latches.now mtr.new.pass.now) root key path held) }
     ensures alone { OnOk result (is_claimed mtr.new.pass.now.view.memory.since ≡ true) }
+    ensures twice { OnOk result (AreFewLooks 0 mtr.old.pass.now.view mtr.new.pass.now.view) }
     ensures few { mtr.new.pass.now.view.looks.count
         ≤ mtr.old.pass.now.view.looks.count + 8 * (MOST_LEVEL + 2) }
     ensures refused { IfErr result (λ fault. under L.Law mtr.old.latches.now IsDeleteRefused root

@@ -49,9 +49,17 @@ fn try_once<L: Law, S: Sleep>(
     }
 }
 
-// A step of a cursor that does not wait: tries a latch of which the session holds nothing. Where it is refused,
-// the log's end is looked at.
-pub(crate) fn try_take<L: Law, S: Sleep>(
+/// A step of a cursor that does not wait: tries a latch of which the session holds nothing
+/// (`rw_lock_s_lock_nowait`, `rw_lock_sx_lock_nowait`, `rw_lock_x_lock_func_nowait`). Where it is refused, the
+/// log's end is looked at, and nothing else is changed.
+///
+/// ```
+/// match try_take(&mut mtr, Latch::page(page), Mode::X, Level::TreeNode) {
+///     Ok(()) => read(&mut mtr, page),
+///     Err(fault) => return Err(fault),
+/// }
+/// ```
+pub fn try_take<L: Law, S: Sleep>(
     mtr: &mut Mtr<'_, L, S>,
     latch: Latch,
     mode: Mode,

@@ -15,6 +15,7 @@ use Rattle.ib_rule.specs.Pass.{PassState}
 use Rattle.ib_cursor.specs.Claims.{HasClaimed, IsPathWithLeaves}
 use Rattle.ib_cursor.specs.Shapes.{ShapeLaws, is_claimed}
 use Rattle.ib_cursor.specs.OnPath.{IsOnPath}
+use Rattle.ib_cursor.specs.Refusals.{AreFewGrants}
 use Rattle.ib_cursor.proofs.EndLaws.{all_once, beside-leaf}
 use Rattle.ib_cursor.proofs.OnceLaws.{AreBeside}
 use Rattle.ib_index.specs.Grows.{HasClaimedPath}
@@ -82,3 +83,9 @@ module _ (sizes : Sizes) (fits : has_pages sizes.pages ≡ true) (key : MapKey) 
         let a = c.s in let b = c.sx in let d = c.x in let g = path-long sizes fits key path held p q c claims in
         let j = path-low sizes fits key path held p q c claims in let f = held-few in omega arith;
   }
+
+  -- .. and how many grants it took
+  pub few-claimed : AreFewGrants (record { s = 8; sx = 1; x = 10 }) p.view q.view
+  few-claimed =
+      let a = c.s in let b = c.sx in let d = c.x in let g = path-long sizes fits key path held p q c claims in
+      let j = path-low sizes fits key path held p q c claims in let f = held-few in record { s = omega arith; sx = omega arith; x = omega arith }

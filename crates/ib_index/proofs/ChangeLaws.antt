@@ -9,7 +9,7 @@ use Rattle.ib_rule.specs.Pass.{PassState}
 use Rattle.ib_rule.specs.Views.{total}
 use Rattle.ib_cursor.specs.Descent.{one_if}
 use Rattle.ib_cursor.proofs.LatchingLaws.{seen_longer}
-use Rattle.ib_index.specs.Changes.{TakesFewUnless}
+use Rattle.ib_index.specs.Changes.{TakesFewUnless, WasLeaf}
 use Rattle.ib_index.specs.Grows.{TakesAtMost}
 use Rattle.ib_leaf.specs.Ends.{reaches_log}
 use Rattle.ib_leaf.specs.Leaf.{HasLeaf}
@@ -18,6 +18,15 @@ use Rattle.ib_index.specs.Leaf.{AddsFewX, NeedsTree, TakesFew, TakesFor}
 one-most : (b : Bool) → one_if b ≤ 1
 one-most true = omega arith
 one-most false = omega arith
+
+-- the key's leaf was one that needs more, as an earlier look told
+pub was-leaf : (sizes : Sizes) (why : ℕ → PageState → Type 0) (key : MapKey) (p q r : PassState) → NeedsTree sizes why key p q → (more : List Entry) → r.view.memory.seen ≡ q.view.memory.seen ++ more → WasLeaf sizes why key p r
+was-leaf sizes why key p q r needs more longer = record {
+  place = length q.view.memory.seen;
+  from = seen_longer p q needs.stopped.went;
+  to = let a = ap length longer in let b = length-append q.view.memory.seen more in omega arith;
+  was = subst (HasLeaf sizes why key) (sym (ap (take (length q.view.memory.seen)) longer ∙ take_at q.view.memory.seen more (length q.view.memory.seen) refl)) needs.needs;
+}
 
 module _ (sizes : Sizes) (lawful : List Entry → Type 0) (opens : ℕ → ℕ) (why : ℕ → PageState → Type 0) (key : MapKey) (p q r : PassState) where
   -- the leaf alone was enough
@@ -31,12 +40,7 @@ module _ (sizes : Sizes) (lawful : List Entry → Type 0) (opens : ℕ → ℕ) 
   -- or the key's leaf was found to need more
   pub few-again : (reply : Reply) → NeedsTree sizes why key p q → TakesFew sizes 1 p q → TakesAtMost 64 q r → (more : List Entry) → r.view.memory.seen ≡ q.view.memory.seen ++ more → TakesFewUnless sizes why key reply p r
   few-again reply needs few most more longer = record {
-    few = inr (record {
-      place = length q.view.memory.seen;
-      from = seen_longer p q needs.stopped.went;
-      to = let a = ap length longer in let b = length-append q.view.memory.seen more in omega arith;
-      was = subst (HasLeaf sizes why key) (sym (ap (take (length q.view.memory.seen)) longer ∙ take_at q.view.memory.seen more (length q.view.memory.seen) refl)) needs.needs;
-    });
+    few = inr (was-leaf sizes why key p q r needs more longer);
     claims = let sx = few.sx in let m = most.claims in omega arith;
     all = by-x few.x;
   }

@@ -1,4 +1,6 @@
 mod ChangeLaws
+mod ContendedLaws
+mod LogEndLaws
 pub mod LookupLaws
 mod EndLaws
 mod LeafTries
@@ -16,6 +18,7 @@ mod GrowCalls
 pub mod FreshLaws
 mod ReadyLaws
 mod GrowWhole
+mod VainLaws
 mod SpaceTicks
 mod SiblingWays
 mod SiblingBegins

@@ -12,6 +12,7 @@ use Rattle.ib_planned_log.specs.Kept.{IsKeptLog}
 use Rattle.ib_planned_log.specs.LeafChange.{kept_pages}
 use Rattle.ib_rule.specs.Pass.{PassState}
 use Rattle.ib_cursor.specs.Claims.{HasClaimed}
+use Rattle.ib_cursor.specs.Refusals.{AreFewGrants}
 use Rattle.ib_cursor.specs.Shapes.{is_claimed}
 use Rattle.ib_cursor.specs.Siblings.{IsPathWithSiblings}
 use Rattle.ib_index.specs.Shrinks.{HasClaimedSiblings}
@@ -56,3 +57,9 @@ module _ (sizes : Sizes) (fits : has_pages sizes.pages ≡ true) (key : MapKey) 
         let a = c.s in let b = c.sx in let d = c.x in let g = path-long sizes fits key path held p q c claims in
         let j = path-low sizes fits key path held p q c claims in let f = held-few in omega arith;
   }
+
+  -- .. and how many grants it took
+  pub few-claimed-siblings : AreFewGrants (record { s = 8; sx = 1; x = 23 }) p.view q.view
+  few-claimed-siblings =
+      let a = c.s in let b = c.sx in let d = c.x in let g = path-long sizes fits key path held p q c claims in
+      let j = path-low sizes fits key path held p q c claims in let f = held-few in record { s = omega arith; sx = omega arith; x = omega arith }

@@ -4,3 +4,5 @@ pub mod Grows
 pub mod Shrinks
 pub mod Changes
 pub mod IndexLaw
+pub mod Refusals
+pub mod NowaitGrows

@@ -10,9 +10,10 @@ ghost use Rattle.ib_index.specs.Changes.{TakesFewUnless};
 ghost use Rattle.ib_index.specs.IndexLaw.{index_law};
 ghost use Rattle.ib_leaf.specs.Leaf.{IsFullFor, IsShortFor};
 ghost use Rattle.ib_index.specs.Lookups.{HasLookedUp};
+ghost use Rattle.ib_index.specs.Refusals.{IsDeleteContended, IsInsertContended};
 ghost use Rattle.ib_leaf.specs.Under.{under_plans};
 
-use crate::{change, lookup, nowait};
+use crate::{change, lookup, nowait, nowait_change};
 use ib_cursor::NowaitFault;
 use ib_latch::{Latches, LatchesCloseRefused, Parkers, Sleep};
 use ib_layout::Geometry;
@@ -148,6 +149,63 @@ impl<S: Sleep> Index<S> {
             ≤ pass.old.view.looks.count + 2 * (MOST_LEVEL + 2) }
     {
         nowait::get_nowait(&self.latches, pass, key)
+    }
+
+    /// Puts a pair in as `insert` does, with its answers, but without waiting: each latch is tried
+    /// (`rw_lock_s_lock_nowait`, `rw_lock_sx_lock_nowait`, `rw_lock_x_lock_func_nowait`), the log's too
+    /// (`mutex_enter_nowait`). Where one is refused, the log's end is looked at and then all is given up, with
+    /// nothing changed; `Busy` and `Raced` tell the latch that was not had and the words of the last looks,
+    /// both of this call. It is the index or a page of the key's path, in S; the key's leaf or the log's
+    /// latch, in X; or where the key's leaf is full, the index in SX, or in X a page of the key's path, a leaf
+    /// beside its last page, page 0, or one of the fresh pages. There are two looks at most for each latch that
+    /// was had, and two more. The session holds nothing before and after.
+    ///
+    /// ```
+    /// if pass.may_call() {
+    ///     match index.insert_nowait(&mut pass, key, 70) {
+    ///         Ok(answer) => tell(answer.reply),
+    ///         Err(NowaitFault::Busy { latch, word }) => later(latch),
+    ///         Err(NowaitFault::Raced { latch, .. }) => later(latch),
+    ///     }
+    /// }
+    /// ```
+    pub fn insert_nowait(
+        &self,
+        pass: &mut Pass,
+        key: Key,
+        value: u64,
+    ) -> Result<Record, NowaitFault>
+        requires may { MayCall self.now pass.old }
+        ensures rest { IsAtRest self.now pass.new }
+        ensures called { IfOk result (λ answer. under_plans self.now HasCalled (Insert key value) answer pass.old pass.new) }
+        ensures grants { IfOk result (λ answer. TakesFewUnless self.now.sizes (IsFullFor key) key answer.reply pass.old pass.new) }
+        ensures contended { IfErr result (λ fault. IsInsertContended self.now.sizes key fault pass.old pass.new) }
+    {
+        nowait_change::insert_nowait(&self.latches, pass, key, value)
+    }
+
+    /// Takes a key out as `delete` does, with its answers, but without waiting, as `insert_nowait`. The latch
+    /// that was not had is the index or a page of the key's path, in S; the key's leaf or the log's latch, in X;
+    /// or where the key's leaf is not the root and has 17 records or fewer, the index in SX, or in X a page of
+    /// the key's path, a page beside one of these, or page 0.
+    ///
+    /// ```
+    /// if pass.may_call() {
+    ///     match index.delete_nowait(&mut pass, key) {
+    ///         Ok(answer) => tell(answer.reply),
+    ///         Err(NowaitFault::Busy { latch, word }) => later(latch),
+    ///         Err(NowaitFault::Raced { latch, .. }) => later(latch),
+    ///     }
+    /// }
+    /// ```
+    pub fn delete_nowait(&self, pass: &mut Pass, key: Key) -> Result<Record, NowaitFault>
+        requires may { MayCall self.now pass.old }
+        ensures rest { IsAtRest self.now pass.new }
+        ensures called { IfOk result (λ answer. under_plans self.now HasCalled (Delete key) answer pass.old pass.new) }
+        ensures grants { IfOk result (λ answer. TakesFewUnless self.now.sizes (IsShortFor key) key answer.reply pass.old pass.new) }
+        ensures contended { IfErr result (λ fault. IsDeleteContended self.now.sizes key fault pass.old pass.new) }
+    {
+        nowait_change::delete_nowait(&self.latches, pass, key)
     }
 }
 

@@ -4,8 +4,13 @@
 mod change;
 mod index;
 mod leaf;
+mod log_end;
 mod lookup;
 mod nowait;
+mod nowait_change;
+mod nowait_delete;
+mod nowait_insert;
+mod nowait_leaf;
 mod pessimistic_delete;
 mod pessimistic_insert;
 

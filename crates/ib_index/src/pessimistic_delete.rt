@@ -14,7 +14,7 @@ ghost use Rattle.ib_index.specs.Shrinks.{HasClaimedSiblings};
 
 use crate::pessimistic_insert::take_space;
 use ib_cursor::descend_to_delete;
-use ib_latch::{Latches, Parkers};
+use ib_latch::{Latches, Parkers, Sleep};
 use ib_leaf::{ROOT, Work, changed, facts_of_session, value_in};
 use ib_map::{Call, Change, Key, Record, Reply};
 use ib_merge::plan_delete;
@@ -38,7 +38,7 @@ fn claim_siblings<R: Wait>(rt: &R, mtr: &mut Work<'_>, key: Key) -> Path
 }
 
 // Plans the delete on the images of the work set, where the key is there.
-fn plan_in(mtr: &mut Work<'_>, path: &Path, key: Key)
+pub(crate) fn plan_in<S: Sleep>(mtr: &mut Mtr<'_, KeptLaw, S>, path: &Path, key: Key)
     requires mtr { IsMtr mtr.old.latches.now mtr.old.pass.now }
     requires can { CanDelete path.now key mtr.old.pass.now.work }
     requires there { IsSome (value_at key (memory_in mtr.old.pass.now.work (last_of path.now)).records) }

@@ -23,7 +23,7 @@ ghost use Rattle.ib_map.specs.declared.call.Call.TheVariants.{Insert as InsertCa
 ghost use Rattle.ib_index.specs.Grows.{HasChangedTree, HasClaimedPath, HasGrown, HasTakenNew, HoldsAllPages, IsChosen, IsGrowing, IsLacking, IsShort, MayChangeTree, NeedsPages, pages_held, space_pages, tree_pages};
 
 use ib_cursor::{descend_to_insert, read, take};
-use ib_latch::{Latches, Parkers};
+use ib_latch::{Latches, Parkers, Sleep};
 use ib_leaf::{ROOT, Work, changed, facts_of_session, value_in};
 use ib_levels::{Latch, Level, Mode};
 use ib_map::{Call, Change, Key, Record, Reply};
@@ -69,7 +69,7 @@ fn take_at<R: Wait>(rt: &R, mtr: &mut Work<'_>, page: u32, level: Level)
 }
 
 // How many pages the insert takes.
-fn needed(mtr: &mut Work<'_>, path: &Path) -> Result<u32, TreeFault>
+pub(crate) fn needed<S: Sleep>(mtr: &mut Mtr<'_, KeptLaw, S>, path: &Path) -> Result<u32, TreeFault>
     requires mtr { IsMtr mtr.old.latches.now mtr.old.pass.now }
     requires some { path.now ≢ [] }
     requires trees { HasTreePages path.now mtr.old.pass.now.work }
@@ -85,7 +85,13 @@ fn needed(mtr: &mut Work<'_>, path: &Path) -> Result<u32, TreeFault>
 }
 
 // Plans the insert on the images of the work set.
-fn plan_in(mtr: &mut Work<'_>, path: &Path, fresh: &Path, key: Key, value: u64)
+pub(crate) fn plan_in<S: Sleep>(
+    mtr: &mut Mtr<'_, KeptLaw, S>,
+    path: &Path,
+    fresh: &Path,
+    key: Key,
+    value: u64,
+)
     requires mtr { IsMtr mtr.old.latches.now mtr.old.pass.now }
     requires can { CanInsert path.now fresh.now key mtr.old.pass.now.work }
     requires missing { value_at key (memory_in mtr.old.pass.now.work (last_of path.now)).records ≡ None }
@@ -118,7 +124,7 @@ pub(crate) fn take_space<R: Wait>(rt: &R, mtr: &mut Work<'_>)
 }
 
 // Chooses the fresh pages by page 0, which is loaded.
-fn choose(mtr: &mut Work<'_>, need: u32) -> Result<Path, TreeFault>
+pub(crate) fn choose<S: Sleep>(mtr: &mut Mtr<'_, KeptLaw, S>, need: u32) -> Result<Path, TreeFault>
     requires mtr { IsMtr mtr.old.latches.now mtr.old.pass.now }
     requires space { IsThere mtr.old.pass.now.work 0 }
     requires few { need ≤ MOST_PATH }
@@ -155,7 +161,7 @@ fn take_new<R: Wait>(rt: &R, mtr: &mut Work<'_>, fresh: &Path)
 }
 
 // How many pages are free where too few are.
-fn free_pages(fault: TreeFault) -> u32
+pub(crate) fn free_pages(fault: TreeFault) -> u32
     ensures { (free need : ℕ) → fault ≡ TreeFault.NeedPages free need → result ≡ free }
 {
     match fault {

@@ -12,7 +12,7 @@ ghost use Rattle.ib_mtr.specs.Commits.{MayCommit};
 ghost use Rattle.ib_mtr.specs.Mtr.{IsStillMtr, with_work};
 ghost use Rattle.ib_leaf.specs.Leaf.{WorksOnLeaf, leaf_page};
 
-use ib_latch::Parkers;
+use ib_latch::{Parkers, Sleep};
 use ib_map::Key;
 use ib_mtr::Mtr;
 use ib_page::MOST_RECORDS;
@@ -20,7 +20,7 @@ use ib_planned_change::{put_pair, take_pair};
 use ib_planned_log::KeptLaw;
 use ib_plans::FEWEST_RECORDS;
 
-/// A mini-transaction on the pages of kept logs.
+/// A mini-transaction on the pages of kept logs, whose waiters park.
 pub type Work<'a> = Mtr<'a, KeptLaw, Parkers>;
 
 /// The page of the first tree's root (`dict_index_t::page`). It may have as few records as it likes.
@@ -42,7 +42,7 @@ pub struct Looked {
 /// let looked = look_in(&mtr, leaf, key);
 /// is_new = looked.value.is_none();
 /// ```
-pub fn look_in(mtr: &Work<'_>, leaf: u32, key: Key) -> Looked
+pub fn look_in<S: Sleep>(mtr: &Mtr<'_, KeptLaw, S>, leaf: u32, key: Key) -> Looked
     requires on { WorksOnLeaf mtr.now.latches.now key leaf mtr.now.pass.now }
     ensures value { result.value
         ≡ value_at key (leaf_page mtr.now.latches.now.sizes key mtr.now.pass.now).records }
@@ -64,7 +64,7 @@ pub fn look_in(mtr: &Work<'_>, leaf: u32, key: Key) -> Looked
 /// put_in(&mut mtr, leaf, key, value);
 /// let committed = mtr.commit(rt, Change::Insert { key, value });
 /// ```
-pub fn put_in(mtr: &mut Work<'_>, leaf: u32, key: Key, value: u64)
+pub fn put_in<S: Sleep>(mtr: &mut Mtr<'_, KeptLaw, S>, leaf: u32, key: Key, value: u64)
     requires on { WorksOnLeaf mtr.old.latches.now key leaf mtr.old.pass.now }
     requires grows { HasGrantLeft mtr.old.pass.now.view }
     requires missing { value_at key (leaf_page mtr.old.latches.now.sizes key mtr.old.pass.now).records ≡ None }
@@ -83,7 +83,7 @@ pub fn put_in(mtr: &mut Work<'_>, leaf: u32, key: Key, value: u64)
 /// take_out(&mut mtr, leaf, key);
 /// let committed = mtr.commit(rt, Change::Delete { key });
 /// ```
-pub fn take_out(mtr: &mut Work<'_>, leaf: u32, key: Key)
+pub fn take_out<S: Sleep>(mtr: &mut Mtr<'_, KeptLaw, S>, leaf: u32, key: Key)
     requires on { WorksOnLeaf mtr.old.latches.now key leaf mtr.old.pass.now }
     requires grows { HasGrantLeft mtr.old.pass.now.view }
     requires there { IsSome (value_at key (leaf_page mtr.old.latches.now.sizes key mtr.old.pass.now).records) }

@@ -5,7 +5,7 @@ ghost use Rattle.ib_map.specs.Pairs.{value_at};
 ghost use Rattle.ib_plans.specs.Agreement.{HasTreePages, last_of, memory_in};
 ghost use Rattle.ib_mtr.specs.Mtr.{IsMtr};
 
-use ib_latch::Parkers;
+use ib_latch::Sleep;
 use ib_logrec::Law;
 use ib_map::Key;
 use ib_mtr::Mtr;
@@ -18,7 +18,7 @@ use ib_page::Path;
 /// let path = descend_to_insert(rt, &mut mtr, ROOT, key);
 /// is_new = value_in(&mtr, &path, key).is_none();
 /// ```
-pub fn value_in<L: Law>(mtr: &Mtr<'_, L, Parkers>, path: &Path, key: Key) -> Option<u64>
+pub fn value_in<L: Law, S: Sleep>(mtr: &Mtr<'_, L, S>, path: &Path, key: Key) -> Option<u64>
     requires mtr { IsMtr mtr.now.latches.now mtr.now.pass.now }
     requires some { path.now ≢ [] }
     requires trees { HasTreePages path.now mtr.now.pass.now.work }

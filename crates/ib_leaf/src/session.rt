@@ -3,7 +3,7 @@
 ghost use Rattle.ib_mtr.specs.Mtr.{IsMtr};
 ghost use Rattle.ib_leaf.specs.Leaf.{IsSeated};
 
-use ib_latch::Parkers;
+use ib_latch::Sleep;
 use ib_logrec::Law;
 use ib_mtr::Mtr;
 
@@ -14,7 +14,7 @@ use ib_mtr::Mtr;
 /// let path = descend(rt, &mut mtr, Search::ModifyLeaf, key);
 /// facts_of_session(&mtr);
 /// ```
-pub fn facts_of_session<L: Law>(mtr: &Mtr<'_, L, Parkers>)
+pub fn facts_of_session<L: Law, S: Sleep>(mtr: &Mtr<'_, L, S>)
     requires mtr { IsMtr mtr.now.latches.now mtr.now.pass.now }
     ensures { IsSeated mtr.now.latches.now.sizes mtr.now.pass.now }
 {

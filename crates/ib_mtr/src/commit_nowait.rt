@@ -1,6 +1,6 @@
 //! The commit that does not wait for the log latch.
 
-ghost use Rattle.std.specs.Prelude.{◌≡◌, ◌+◌, IfErr, IfOk, IfSome, OnOk};
+ghost use Rattle.std.specs.Prelude.{◌≡◌, ◌+◌, ◌≤◌, IfErr, IfOk, IfSome, OnOk};
 ghost use Rattle.ib_frames.specs.Appends.{IsLaidOut};
 ghost use Rattle.ib_rule.specs.Under.{under, under_lawful};
 ghost use Rattle.ib_mtr.specs.Commits.{HasCommitted, MayCommit};
@@ -50,6 +50,8 @@ impl<'a, L: Law, S: Sleep> Mtr<'a, L, S> {
             HasNotCommitted self.entry.pass.now fault self.exit.1.0.now) }
         ensures looks { OnOk result (self.exit.1.0.now.view.looks.count
             ≡ self.entry.pass.now.view.looks.count + 2) }
+        ensures most { self.exit.1.0.now.view.looks.count
+            ≤ self.entry.pass.now.view.looks.count + 2 }
     {
         let Mtr { latches, pass } = self;
         commit_in_nowait(latches, pass, change)
@@ -69,6 +71,7 @@ fn commit_in_nowait<L: Law, S: Sleep>(
     ensures not_committed { IfErr result (λ fault. under_lawful L.Law latches.now HasNotCommitted
         pass.old fault pass.new) }
     ensures looks { OnOk result (pass.new.view.looks.count ≡ pass.old.view.looks.count + 2) }
+    ensures most { pass.new.view.looks.count ≤ pass.old.view.looks.count + 2 }
 {
     let laid = lay_out_early(latches, pass, change);
     commit_laid_nowait(latches, pass, change, laid)
@@ -89,6 +92,7 @@ fn commit_laid_nowait<L: Law, S: Sleep>(
     ensures not_committed { IfErr result (λ fault. under_lawful L.Law latches.now HasNotCommitted
         pass.old fault pass.new) }
     ensures looks { OnOk result (pass.new.view.looks.count ≡ pass.old.view.looks.count + 2) }
+    ensures most { pass.new.view.looks.count ≤ pass.old.view.looks.count + 2 }
 {
     // For the proof: the session's number, which no step changes.
     let _ = pass.number();

@@ -1,10 +1,11 @@
 -- The leaf is loaded, its link read, and the leaf forgotten.
-use Rattle.std.proofs.Common.{◌∷◌, [], ap, arith, length}
+use Rattle.std.proofs.Common.{◌∷◌, [], ◌∙◌, ap, arith, length}
 use Rattle.ib_layout.specs.Geometry.{Sizes}
 use Rattle.ib_logrec.specs.Log.{by_place}
 use Rattle.ib_levels.specs.declared.level.Mode.TheVariants.{S}
 use Rattle.ib_cursor.specs.Claims.{claim_grant}
 use Rattle.ib_page.specs.Work.{changed_of}
+use Rattle.ib_rule.specs.Pass.{PassState}
 use Rattle.ib_cursor.proofs.LinkReadLaws.{page_image, left_loaded, left_formed, left_linked}
 use Rattle.ib_cursor.proofs.StepLaws.{at_held}
 use Rattle.ib_cursor.proofs.claim.left_link.Goals as goal
@@ -39,3 +40,6 @@ returns-clause-linked g c =
     let l = c.read.ensures in
     left_linked sizes g.L.Trees.ROOTS (g.L.Law.lawful sizes.pages) (by_place g.L.Law.opening sizes.pages) c.facts_of_trees.ensures.shapes c.args.sought.root c.requires.sought.some c.requires.sought.there c.args.sought.key c.requires.sought.is_key c.args.leaf p q c.requires.at c.requires.claimed l.looked_on l.memo l.session l.grants l.loaded c.left_of-left.result c.forget.new.self.pass.now
     (c.left_of-left.ensures l.loaded.image (left_loaded sizes g.L.Trees.ROOTS (g.L.Law.lawful sizes.pages) (by_place g.L.Law.opening sizes.pages) c.facts_of_trees.ensures.shapes c.args.sought.root c.requires.sought.some c.requires.sought.there c.args.sought.key c.requires.sought.is_key c.args.leaf p q c.requires.at c.requires.claimed l.looked_on l.memo l.session l.grants l.loaded)) c.forget.ensures.forgotten
+
+pub returns-clause-looks : goal.returns-clause-looks
+returns-clause-looks g c = ap (λ (r : PassState). r.view.looks) c.forget.ensures.forgotten ∙ c.read.ensures.looks

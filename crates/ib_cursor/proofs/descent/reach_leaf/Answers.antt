@@ -10,12 +10,8 @@ use Rattle.ib_mtr.proofs.Keeping.{still_then}
 use Rattle.ib_cursor.specs.Grants.{index_grant}
 use Rattle.ib_cursor.specs.Descent.{IsAt, IsDown}
 use Rattle.ib_cursor.specs.Modes.{is_exclusive}
-use Rattle.ib_cursor.proofs.DownLaws.{down_step, reached, reached_work}
+use Rattle.ib_cursor.proofs.DownLaws.{child_level, down_step, reached, reached_work}
 use Rattle.ib_cursor.proofs.descent.reach_leaf.Goals as goal
-
--- the level of the child
-levels : (l : ℕ) → l - 1 + 1 - 1 ≡ l - 1
-levels l = omega arith
 
 pub loop-level-preserved : goal.loop-level-preserved
 loop-level-preserved g c =
@@ -27,7 +23,7 @@ loop-level-preserved g c =
     let same = ap (λ m. m.now.sizes) inv.still.latches in
     let b = is_exclusive c.args.search && (n == 0) in
     let here = subst (λ (s : Sizes). IsAt s (g.L.Law.lawful s.pages) (by_place g.L.Law.opening s.pages) c.args.sought.root c.args.sought.key (index_grant ∷ []) c.step_down-page.result (c.loop-level.level - 1 + 1 - 1) c.mode_at.result r) same c.step_down-page.ensures.here in
-    let there = subst (λ (z : ℕ × Mode). IsAt sizes (g.L.Law.lawful sizes.pages) (by_place g.L.Law.opening sizes.pages) c.args.sought.root c.args.sought.key (index_grant ∷ []) c.step_down-page.result z.0 z.1 r) (λ j. (levels c.loop-level.level j, c.mode_at.ensures j)) here in
+    let there = subst (λ (z : ℕ × Mode). IsAt sizes (g.L.Law.lawful sizes.pages) (by_place g.L.Law.opening sizes.pages) c.args.sought.root c.args.sought.key (index_grant ∷ []) c.step_down-page.result z.0 z.1 r) (λ j. (child_level c.loop-level.level j, c.mode_at.ensures j)) here in
     let step = down_step sizes (g.L.Law.lawful sizes.pages) (by_place g.L.Law.opening sizes.pages) c.args.sought.root c.args.sought.key (is_exclusive c.args.search) b (length c.loop-level.path) c.loop-level.page c.step_down-page.result n p q r refl
     (subst (λ l. IsDown sizes (g.L.Law.lawful sizes.pages) (by_place g.L.Law.opening sizes.pages) c.args.sought.root c.args.sought.key (index_grant ∷ []) (is_exclusive c.args.search) (length c.loop-level.path) c.loop-level.page l p q) up inv.down)
     there c.step_down-page.ensures.went (c.step_down-page.ensures.grants ∙ ap (λ m. with_grant (Some m) q.view.grants) c.mode_at.ensures) in

@@ -12,6 +12,7 @@ use Rattle.ib_cursor.specs.Contention.{IsStopped}
 use Rattle.ib_cursor.proofs.GrantLaws.{none_granted, may_take_index, released-looks}
 use Rattle.ib_cursor.proofs.ContentionLaws.{contended_index, contended_root, contended_below}
 use Rattle.ib_cursor.proofs.DownLaws.{down_root, down_step, reached, reached_work}
+use Rattle.ib_cursor.proofs.RefusalLaws.{few_both, few_granted, few_released}
 use Rattle.ib_cursor.proofs.nowait.reach_leaf_nowait.Goals as goal
 
 pub try_latch-requires-clause-may : goal.try_latch-requires-clause-may
@@ -41,6 +42,8 @@ loop-level-init g c =
       still = still_then c.try_latch.ensures.still c.try_root.ensures.still;
       down = subst (λ n. IsDown sizes (g.L.Law.lawful sizes.pages) (by_place g.L.Law.opening sizes.pages) c.args.sought.root c.args.sought.key (index_grant ∷ []) false n c.args.sought.root c.in-Ok-try_root.level p r) (sym (ap length c.new-path.ensures)) down;
       looks = let a = c.try_latch.ensures.looks in let b = c.try_root.ensures.looks in omega arith;
+      twice = few_both 0 p.view q.view r.view (few_granted S p.view q.view c.in-Ok.ensures.taken.taken.grants c.try_latch.ensures.looks c.try_latch.ensures.few)
+          (few_granted S q.view r.view c.in-Ok-try_root.ensures.grants c.try_root.ensures.looks c.try_root.ensures.few);
       few = let a = c.try_latch.ensures.few in let b = c.try_root.ensures.few in let l = c.in-Ok-try_root.ensures.low in omega arith;
     }
 
@@ -61,6 +64,7 @@ loop-level-preserved g c =
       still = still_then inv.still c.try_down.ensures.still;
       down = subst (λ k. IsDown sizes (g.L.Law.lawful sizes.pages) (by_place g.L.Law.opening sizes.pages) c.args.sought.root c.args.sought.key (index_grant ∷ []) false k c.in-Ok-try_down.child n p r) (sym long) step;
       looks = let a = inv.looks in let b = c.try_down.ensures.looks in omega arith;
+      twice = few_both 0 p.view q.view r.view inv.twice (few_granted S q.view r.view c.in-Ok-try_down.ensures.grants c.try_down.ensures.looks c.try_down.ensures.few);
       few = let a = inv.few in let b = c.try_down.ensures.few in omega (arith, up);
     }
 
@@ -106,3 +110,6 @@ pub returns-clause-few : goal.returns-clause-few
 returns-clause-few g c =
     let a = c.loop-level.invariant.few in
     let d = released-looks 0 c.loop-level.mtr.pass.now c.release_at-2.new.self.pass.now c.release_at-2.ensures.released in omega arith
+
+pub returns-clause-twice : goal.returns-clause-twice
+returns-clause-twice g c = few_released 0 0 c.args.mtr.now.pass.now c.loop-level.mtr.pass.now c.release_at-2.new.self.pass.now c.release_at-2.ensures.released c.loop-level.invariant.twice

@@ -5,6 +5,7 @@ use Rattle.ib_rule.specs.Under.{under}
 use Rattle.ib_mtr.specs.Mtr.{IsStillMtr}
 use Rattle.ib_cursor.specs.Descent.{IsDown}
 use Rattle.ib_cursor.specs.Grants.{index_grant}
+use Rattle.ib_cursor.specs.Refusals.{AreFewLooks}
 use Rattle.ib_cursor.proofs.nowait.reach_leaf_nowait.Given as goal
 
 abbrev pub invariant-loop-level : goal.invariant-loop-level
@@ -13,6 +14,7 @@ invariant-loop-level g l = record {
   down : under g.L.Law l.fn.mtr.latches.now IsDown l.sought.root l.sought.key (index_grant ∷ []) false
       (length l.path) l.page l.level l.fn.mtr.pass.now l.mtr.pass.now;
   looks : l.fn.mtr.pass.now.view.looks.count ≤ l.mtr.pass.now.view.looks.count;
+  twice : AreFewLooks 0 l.fn.mtr.pass.now.view l.mtr.pass.now.view;
   few : l.mtr.pass.now.view.looks.count + 2 * l.level ≤ l.fn.mtr.pass.now.view.looks.count + 2 * (MOST_LEVEL + 2);
 }
 

@@ -5,7 +5,8 @@ use Rattle.ib_rule.specs.declared.looks.Looks.{Looks}
 use Rattle.ib_rule.specs.Pass.{PassState}
 use Rattle.ib_cursor.specs.Going.{HasSeen}
 use Rattle.ib_cursor.specs.Contention.{IsRefusedTry}
-use Rattle.ib_cursor.proofs.ContentionLaws.{looks_of-few, refused_by_try}
+use Rattle.ib_latch.proofs.RefusalLaws.{looks_few}
+use Rattle.ib_cursor.proofs.ContentionLaws.{refused_by_try}
 use Rattle.ib_cursor.proofs.nowait.try_latch.Goals as goal
 
 pub returns-in-Err-clause-refused_try : goal.returns-in-Err-clause-refused_try
@@ -24,5 +25,5 @@ returns-in-Ok-clause-few g c =
 
 pub returns-in-Err-clause-few : goal.returns-in-Err-clause-few
 returns-in-Err-clause-few g c =
-    let more = c.in-Err.ensures.refused.looks in let few = looks_of-few c.in-Err.fault in
+    let more = c.in-Err.ensures.refused.looks in let few = looks_few c.in-Err.fault in
     let same = ap (λ (k : Looks). k.count) c.look.ensures.looks in omega arith

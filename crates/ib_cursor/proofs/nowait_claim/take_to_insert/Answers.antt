@@ -12,6 +12,7 @@ use Rattle.ib_cursor.specs.Shapes.{HasIndex, HasReadPath}
 use Rattle.ib_cursor.specs.Takings.{WillTake, HasTakenMore, MayTakeLeaves}
 use Rattle.ib_cursor.proofs.EndLaws.{start_index, will_nodes, ready, has_claimed, with_leaves}
 use Rattle.ib_cursor.proofs.GrantLaws.{none_granted}
+use Rattle.ib_cursor.proofs.RefusalLaws.{few_both}
 use Rattle.ib_cursor.proofs.TakeLaws.{beside_few}
 use Rattle.ib_cursor.proofs.TakeRefusalLaws.{claim_refused, insert_leaf, insert_node, path_refused}
 use Rattle.ib_cursor.proofs.nowait_claim.take_to_insert.Given.{Over}
@@ -179,6 +180,11 @@ returns-in-Ok-try_take_leaves-clause-few g c =
     let b1 = beside_few left in let b2 = beside_few (pages_after (by_place g.L.Law.opening sizes.pages) r.view.memory.seen leaf).next in
     let b3 = length-append (beside left) (leaf ∷ beside (pages_after (by_place g.L.Law.opening sizes.pages) r.view.memory.seen leaf).next) in
     let one = c.in-Ok.ensures.few.most in let two = c.in-Ok-try_path.ensures.few.most in let three = c.in-Ok-try_take_nodes.ensures.few.most in let four = c.in-Ok-try_take_leaves.ensures.few.most in omega arith
+
+pub returns-in-Ok-try_take_leaves-clause-twice : goal.returns-in-Ok-try_take_leaves-clause-twice
+returns-in-Ok-try_take_leaves-clause-twice g c =
+    let p : PassState = c.args.mtr.now.pass.now in let q : PassState = c.try_claim.new.mtr.pass.now in let r : PassState = c.try_path.new.mtr.pass.now in let s : PassState = c.try_take_nodes.new.mtr.pass.now in let t : PassState = c.try_take_leaves.new.mtr.pass.now in
+    few_both 0 p.view q.view t.view c.in-Ok.ensures.few (few_both 0 q.view r.view t.view c.in-Ok-try_path.ensures.few (few_both 0 r.view s.view t.view c.in-Ok-try_take_nodes.ensures.few c.in-Ok-try_take_leaves.ensures.few))
 
 pub returns-in-Err-try_take_leaves-clause-refusal : goal.returns-in-Err-try_take_leaves-clause-refusal
 returns-in-Err-try_take_leaves-clause-refusal g c =

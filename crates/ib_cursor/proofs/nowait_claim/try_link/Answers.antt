@@ -55,8 +55,8 @@ level_of-level-requires-clause-tree g c =
     let image = page_image sizes g.L.Trees.ROOTS (g.L.Law.lawful sizes.pages) (by_place g.L.Law.opening sizes.pages) c.facts_of_trees.ensures.shapes c.args.sought.root c.requires.sought.some c.requires.sought.there c.args.sought.key c.requires.sought.is_key q.view.memory.seen c.args.page n at.known.legal at.on_path in
     subst (λ (s : Sizes). IsTreePage (image_of (memory_after (by_place g.L.Law.opening s.pages) c.try_page.new.mtr.pass.now.view.memory.seen) c.args.page)) (sym same_sizes) image.image.tree
 
-pub link_named-link-requires-clause-at : goal.link_named-link-requires-clause-at
-link_named-link-requires-clause-at g c =
+pub link_here-link-requires-clause-at : goal.link_here-link-requires-clause-at
+link_here-link-requires-clause-at g c =
     let sizes : Sizes = c.args.mtr.now.latches.now.sizes in
     let p : PassState = c.args.mtr.now.pass.now in let q : PassState = c.try_page.new.mtr.pass.now in
     let n : ℕ = c.requires.on_path.0 in
@@ -73,11 +73,11 @@ link_named-link-requires-clause-at g c =
     let both = ap (λ m. m.now.sizes) (c.level_of-level.ensures.still.latches ∙ c.try_page.ensures.still.latches) in
     subst (λ (s : Sizes). IsAt s (g.L.Law.lawful s.pages) (by_place g.L.Law.opening s.pages) c.args.sought.root c.args.sought.key (claim_grant ∷ []) c.args.page c.level_of-level.result S r) (sym both) there
 
-pub link_named-link-requires-clause-claimed : goal.link_named-link-requires-clause-claimed
-link_named-link-requires-clause-claimed g c = ap (λ (r : PassState). is_claimed r.view.memory.since) c.level_of-level.ensures.read.same ∙ (c.in-Ok.ensures.keeps c.requires.index.claimed).claimed
+pub link_here-link-requires-clause-claimed : goal.link_here-link-requires-clause-claimed
+link_here-link-requires-clause-claimed g c = ap (λ (r : PassState). is_claimed r.view.memory.since) c.level_of-level.ensures.read.same ∙ (c.in-Ok.ensures.keeps c.requires.index.claimed).claimed
 
 pub release_at-requires-clause-at : goal.release_at-requires-clause-at
-release_at-requires-clause-at g c = let l = ap length c.link_named-link.ensures.linked.at.grants.memo in omega arith
+release_at-requires-clause-at g c = let l = ap length c.link_here-link.ensures.linked.at.grants.memo in omega arith
 
 pub returns-clause-link_read : goal.returns-clause-link_read
 returns-clause-link_read g c =
@@ -95,18 +95,18 @@ returns-clause-link_read g c =
     at_read sizes (g.L.Law.lawful sizes.pages) (by_place g.L.Law.opening sizes.pages) c.args.sought.root c.args.sought.key (claim_grant ∷ []) c.args.page c.level_of-level.result S q r
     (subst (λ k. IsAt sizes (g.L.Law.lawful sizes.pages) (by_place g.L.Law.opening sizes.pages) c.args.sought.root c.args.sought.key (claim_grant ∷ []) c.args.page k S q) (sym image.height ∙ sym level) at) c.level_of-level.ensures.read in
     let both = ap (λ m. m.now.sizes) (c.level_of-level.ensures.still.latches ∙ c.try_page.ensures.still.latches) in
-    let s : PassState = c.link_named-link.new.mtr.pass.now in
-    let linked = subst (λ (k : Sizes). NamesLink k (g.L.Law.lawful k.pages) (by_place g.L.Law.opening k.pages) c.args.sought.root c.args.sought.key c.args.page c.level_of-level.result c.link_named-link.result r s) both c.link_named-link.ensures.linked in
-    let here = subst (λ k. (NamesLink sizes (g.L.Law.lawful sizes.pages) (by_place g.L.Law.opening sizes.pages) c.args.sought.root c.args.sought.key c.args.page k c.link_named-link.result q s)) (level ∙ image.height)
-    (link_read_linked sizes (g.L.Law.lawful sizes.pages) (by_place g.L.Law.opening sizes.pages) c.args.sought.root c.args.sought.key c.args.page c.level_of-level.result c.link_named-link.result q r s keeps.claimed c.level_of-level.ensures.read linked) in
-    subst (λ k. HasReadLink sizes (g.L.Law.lawful sizes.pages) (by_place g.L.Law.opening sizes.pages) c.args.sought.root c.args.sought.key c.args.page k c.link_named-link.result p c.release_at.new.self.pass.now) (sym image.height ∙ sym level)
-    (link_read sizes g.L.Trees.ROOTS (g.L.Law.lawful sizes.pages) (by_place g.L.Law.opening sizes.pages) c.facts_of_trees.ensures.shapes c.args.sought.root c.requires.sought.some c.requires.sought.there c.args.sought.key c.requires.sought.is_key c.args.page n p c.requires.index c.requires.on_path.1 q c.in-Ok.ensures.latched keeps c.link_named-link.result s c.release_at.new.self.pass.now here c.release_at.ensures.released)
+    let s : PassState = c.link_here-link.new.mtr.pass.now in
+    let linked = subst (λ (k : Sizes). NamesLink k (g.L.Law.lawful k.pages) (by_place g.L.Law.opening k.pages) c.args.sought.root c.args.sought.key c.args.page c.level_of-level.result c.link_here-link.result r s) both c.link_here-link.ensures.linked in
+    let here = subst (λ k. (NamesLink sizes (g.L.Law.lawful sizes.pages) (by_place g.L.Law.opening sizes.pages) c.args.sought.root c.args.sought.key c.args.page k c.link_here-link.result q s)) (level ∙ image.height)
+    (link_read_linked sizes (g.L.Law.lawful sizes.pages) (by_place g.L.Law.opening sizes.pages) c.args.sought.root c.args.sought.key c.args.page c.level_of-level.result c.link_here-link.result q r s keeps.claimed c.level_of-level.ensures.read linked) in
+    subst (λ k. HasReadLink sizes (g.L.Law.lawful sizes.pages) (by_place g.L.Law.opening sizes.pages) c.args.sought.root c.args.sought.key c.args.page k c.link_here-link.result p c.release_at.new.self.pass.now) (sym image.height ∙ sym level)
+    (link_read sizes g.L.Trees.ROOTS (g.L.Law.lawful sizes.pages) (by_place g.L.Law.opening sizes.pages) c.facts_of_trees.ensures.shapes c.args.sought.root c.requires.sought.some c.requires.sought.there c.args.sought.key c.requires.sought.is_key c.args.page n p c.requires.index c.requires.on_path.1 q c.in-Ok.ensures.latched keeps c.link_here-link.result s c.release_at.new.self.pass.now here c.release_at.ensures.released)
 
 pub returns-clause-few : goal.returns-clause-few
 returns-clause-few g c =
-    let p : PassState = c.args.mtr.now.pass.now in let q : PassState = c.try_page.new.mtr.pass.now in let r : PassState = c.level_of-level.new.mtr.pass.now in let s : PassState = c.link_named-link.new.mtr.pass.now in
+    let p : PassState = c.args.mtr.now.pass.now in let q : PassState = c.try_page.new.mtr.pass.now in let r : PassState = c.level_of-level.new.mtr.pass.now in let s : PassState = c.link_here-link.new.mtr.pass.now in
     few_released 0 1 p s c.release_at.new.self.pass.now c.release_at.ensures.released
-    (few_same 0 p.view r.view s.view c.link_named-link.ensures.looks c.link_named-link.ensures.linked.grants (few_read 0 p q r c.level_of-level.ensures.read c.in-Ok.ensures.few))
+    (few_same 0 p.view r.view s.view c.link_here-link.ensures.looks c.link_here-link.ensures.linked.grants (few_read 0 p q r c.level_of-level.ensures.read c.in-Ok.ensures.few))
 
 pub returns-in-Err-clause-vain : goal.returns-in-Err-clause-vain
 returns-in-Err-clause-vain g c =

@@ -1,11 +1,11 @@
 -- The leaf is loaded, or all is given back.
-use Rattle.std.proofs.Common.{◌⊎◌, inl, inr, ap, subst, sym, arith}
+use Rattle.std.proofs.Common.{inl, inr, ap, arith}
 use Rattle.ib_map.proofs.KeyLaws.{rank-lt_end}
 use Rattle.ib_layout.specs.Geometry.{Sizes}
 use Rattle.ib_logrec.specs.Log.{by_place}
 use Rattle.ib_rule.specs.declared.looks.Looks.{Looks}
 use Rattle.ib_cursor.specs.Refusals.{TakesForLeaf}
-use Rattle.ib_cursor.proofs.RefusalLaws.{given_up, without_work}
+use Rattle.ib_cursor.proofs.RefusalLaws.{few_same, given_up, without_work}
 use Rattle.ib_cursor.proofs.nowait_descent.descend_to_change_nowait.Goals as goal
 
 pub reach_leaf_to_change-requires-clause-sought : goal.reach_leaf_to_change-requires-clause-sought
@@ -19,6 +19,10 @@ returns-in-Ok-clause-few g c =
     let few = c.in-Ok.ensures.few.most in let d = c.in-Ok.ensures.reached in let same = ap (λ (k : Looks). k.count) c.load_end.ensures.looks in
     let s = d.s in let sx = d.sx in
     elim (d.x Rattle.std.proofs.Common.refl) [ inl x ↦ omega arith | inr x ↦ let y = x.0 in omega arith ]
+
+pub returns-in-Ok-clause-twice : goal.returns-in-Ok-clause-twice
+returns-in-Ok-clause-twice g c =
+    few_same 0 c.args.mtr.now.pass.now.view c.reach_leaf_to_change.new.mtr.pass.now.view c.load_end.new.mtr.pass.now.view c.load_end.ensures.looks c.load_end.ensures.grants c.in-Ok.ensures.few
 
 pub give_back-requires : goal.give_back-requires
 give_back-requires g c = without_work c.reach_leaf_to_change.new.mtr.latches.now c.reach_leaf_to_change.new.mtr.pass.now c.reach_leaf_to_change.ensures.still.mtr

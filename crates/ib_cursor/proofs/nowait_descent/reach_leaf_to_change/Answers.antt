@@ -11,14 +11,10 @@ use Rattle.ib_cursor.specs.Grants.{index_grant}
 use Rattle.ib_cursor.specs.Descent.{IsAt, IsDown}
 use Rattle.ib_cursor.specs.Modes.{mode_by}
 use Rattle.ib_cursor.specs.Refusals.{IsVainOnPath}
-use Rattle.ib_cursor.proofs.DownLaws.{down_step, reached, reached_work}
+use Rattle.ib_cursor.proofs.DownLaws.{child_level, down_step, reached, reached_work}
 use Rattle.ib_cursor.proofs.LeafRefusalLaws.{allowed_at, down_grants, leaf_page}
 use Rattle.ib_cursor.proofs.RefusalLaws.{few_both, few_released}
 use Rattle.ib_cursor.proofs.nowait_descent.reach_leaf_to_change.Goals as goal
-
--- the level of the child
-levels : (l : ℕ) → l - 1 + 1 - 1 ≡ l - 1
-levels l = omega arith
 
 pub returns-in-Err-try_down_in-clause-refusal : goal.returns-in-Err-try_down_in-clause-refusal
 returns-in-Err-try_down_in-clause-refusal g c =
@@ -27,7 +23,7 @@ returns-in-Err-try_down_in-clause-refusal g c =
     let inv = c.loop-level.invariant in let f = c.in-Err-try_down_in.fault in let had = c.in-Err-try_down_in.ensures.vain in
     let same = ap (λ m. m.now.sizes) inv.still.latches in
     let v = subst (λ (s : Sizes). IsVainOnPath s (g.L.Law.lawful s.pages) (by_place g.L.Law.opening s.pages) c.args.sought.root c.args.sought.key c.mode_at-mode.result had.0 (c.loop-level.level - 1 + 1 - 1) f q r) same had.1 in
-    let w = subst (λ (z : ℕ × Mode). IsVainOnPath sizes (g.L.Law.lawful sizes.pages) (by_place g.L.Law.opening sizes.pages) c.args.sought.root c.args.sought.key z.1 had.0 z.0 f q r) (λ j. (levels c.loop-level.level j, c.mode_at-mode.ensures j)) v in
+    let w = subst (λ (z : ℕ × Mode). IsVainOnPath sizes (g.L.Law.lawful sizes.pages) (by_place g.L.Law.opening sizes.pages) c.args.sought.root c.args.sought.key z.1 had.0 z.0 f q r) (λ j. (child_level c.loop-level.level j, c.mode_at-mode.ensures j)) v in
     leaf_page sizes (g.L.Law.lawful sizes.pages) (by_place g.L.Law.opening sizes.pages) c.args.sought.root c.args.sought.key f (mode_by (c.loop-level.level - 1 == 0)) had.0 (c.loop-level.level - 1) p q r
     (allowed_at had.0 (c.loop-level.level - 1) c.args.sought.root) inv.down.went inv.few
     (down_grants sizes (g.L.Law.lawful sizes.pages) (by_place g.L.Law.opening sizes.pages) c.args.sought.root c.args.sought.key (index_grant ∷ []) (length c.loop-level.path) c.loop-level.page c.loop-level.level p q c.loop-level-test.true inv.down) w
@@ -41,7 +37,7 @@ loop-level-preserved g c =
     let up : c.loop-level.level ≡ suc n = omega (arith, c.loop-level-test.true) in
     let same = ap (λ m. m.now.sizes) inv.still.latches in
     let here = subst (λ (s : Sizes). IsAt s (g.L.Law.lawful s.pages) (by_place g.L.Law.opening s.pages) c.args.sought.root c.args.sought.key (index_grant ∷ []) child (c.loop-level.level - 1 + 1 - 1) c.mode_at-mode.result r) same o.here in
-    let there = subst (λ (z : ℕ × Mode). IsAt sizes (g.L.Law.lawful sizes.pages) (by_place g.L.Law.opening sizes.pages) c.args.sought.root c.args.sought.key (index_grant ∷ []) child z.0 z.1 r) (λ j. (levels c.loop-level.level j, c.mode_at-mode.ensures j)) here in
+    let there = subst (λ (z : ℕ × Mode). IsAt sizes (g.L.Law.lawful sizes.pages) (by_place g.L.Law.opening sizes.pages) c.args.sought.root c.args.sought.key (index_grant ∷ []) child z.0 z.1 r) (λ j. (child_level c.loop-level.level j, c.mode_at-mode.ensures j)) here in
     let step = down_step sizes (g.L.Law.lawful sizes.pages) (by_place g.L.Law.opening sizes.pages) c.args.sought.root c.args.sought.key true (n == 0) (length c.loop-level.path) c.loop-level.page child n p q r refl
     (subst (λ l. IsDown sizes (g.L.Law.lawful sizes.pages) (by_place g.L.Law.opening sizes.pages) c.args.sought.root c.args.sought.key (index_grant ∷ []) true (length c.loop-level.path) c.loop-level.page l p q) up inv.down)
     there o.went (o.grants ∙ ap (λ m. with_grant (Some m) q.view.grants) c.mode_at-mode.ensures) in

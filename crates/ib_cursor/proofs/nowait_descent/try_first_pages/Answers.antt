@@ -1,5 +1,5 @@
 -- The index and the root are tried, the root once more where it is a leaf.
-use Rattle.std.proofs.Common.{Some, ◌≡◌, ◌∷◌, [], ◌∙◌, ap, subst, arith, inr, sym, refl}
+use Rattle.std.proofs.Common.{Some, ◌≡◌, ◌∷◌, [], ◌∙◌, ap, subst, arith, inr, refl}
 use Rattle.ib_levels.specs.declared.level.Mode.TheVariants.{S, X}
 use Rattle.ib_layout.specs.Geometry.{Sizes}
 use Rattle.ib_logrec.specs.Log.{by_place}

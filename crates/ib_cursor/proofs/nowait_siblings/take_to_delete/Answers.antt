@@ -16,6 +16,7 @@ use Rattle.ib_cursor.specs.Shapes.{HasIndex, HasReadPath}
 use Rattle.ib_cursor.specs.Takings.{HasTakenMore, WillTake, MayTakeFirst, TakesFirst}
 use Rattle.ib_cursor.proofs.GrantLaws.{none_granted}
 use Rattle.ib_cursor.proofs.EndLaws.{claimed_with, start_index, path_long}
+use Rattle.ib_cursor.proofs.RefusalLaws.{few_both}
 use Rattle.ib_cursor.proofs.RowRefusalLaws.{delete_behind, delete_row}
 use Rattle.ib_cursor.proofs.TakeLaws.{beside_few}
 use Rattle.ib_cursor.proofs.TakeRefusalLaws.{claim_refused, path_refused}
@@ -220,6 +221,11 @@ returns-in-Ok-try_take_behind-clause-few g c =
     let l = long.0 in let own = few-own sizes g.L.Trees.ROOTS (g.L.Law.lawful sizes.pages) (by_place g.L.Law.opening sizes.pages) c.facts_of_trees.ensures.shapes c.args.sought.root c.requires.sought.some c.requires.sought.there c.args.sought.key c.requires.sought.is_key path [] (length path - 1) last r s may rows in
     let n1 = rows.taken.s in let n2 = rows.taken.sx in let n3 = rows.taken.x in let m1 = more.s in let m2 = more.sx in let m3 = more.x in let k = beside_few (pages_after (by_place g.L.Law.opening sizes.pages) s.view.memory.seen last).next in
     let one = c.in-Ok.ensures.few.most in let two = c.in-Ok-try_path.ensures.few.most in let three = c.in-Ok-try_take_rows.ensures.few.most in let four = c.in-Ok-try_take_behind.ensures.few.most in omega arith
+
+pub returns-in-Ok-try_take_behind-clause-twice : goal.returns-in-Ok-try_take_behind-clause-twice
+returns-in-Ok-try_take_behind-clause-twice g c =
+    let p : PassState = c.args.mtr.now.pass.now in let q : PassState = c.try_claim.new.mtr.pass.now in let r : PassState = c.try_path.new.mtr.pass.now in let s : PassState = c.try_take_rows.new.mtr.pass.now in let t : PassState = c.try_take_behind.new.mtr.pass.now in
+    few_both 0 p.view q.view t.view c.in-Ok.ensures.few (few_both 0 q.view r.view t.view c.in-Ok-try_path.ensures.few (few_both 0 r.view s.view t.view c.in-Ok-try_take_rows.ensures.few c.in-Ok-try_take_behind.ensures.few))
 
 pub returns-in-Err-try_take_behind-clause-refusal : goal.returns-in-Err-try_take_behind-clause-refusal
 returns-in-Err-try_take_behind-clause-refusal g c =

@@ -5,7 +5,7 @@ use Rattle.ib_index.proofs.GrowLaws.{planned-mtr}
 use Rattle.ib_index.proofs.pessimistic_delete.plan_in.Goals as goal
 
 pub returns-clause-still : goal.returns-clause-still
-returns-clause-still c = record {
+returns-clause-still g c = record {
   mtr = planned-mtr c.args.mtr.now.latches.now c.args.mtr.now.pass.now c.plan_delete.new.work c.requires.mtr (c.plan_delete.ensures.reads ∙ ap reads_of c.work-work.ensures.work);
   latches = search rules;
   pass = search rules;

@@ -9,4 +9,4 @@ few-pages : (n : ℕ) → has_pages n ≡ true → n ≤ MAPPED_PAGES
 few-pages n has = grind (arith, nat_tests, has)
 
 pub choose_pages-requires-clause-pages : goal.choose_pages-requires-clause-pages
-choose_pages-requires-clause-pages c = few-pages c.pages-pages.result c.pages-pages.ensures.in_range
+choose_pages-requires-clause-pages g c = few-pages c.pages-pages.result c.pages-pages.ensures.in_range

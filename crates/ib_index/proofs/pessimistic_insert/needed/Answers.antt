@@ -5,5 +5,5 @@ use Rattle.ib_plans.specs.Agreement.{Agrees}
 use Rattle.ib_index.proofs.pessimistic_insert.needed.Goals as goal
 
 pub returns-clause-needed : goal.returns-clause-needed
-returns-clause-needed c = λ pages root key memory bits agrees.
+returns-clause-needed g c = λ pages root key memory bits agrees.
     c.pages_needed.ensures.needed pages root key memory bits (subst (λ (ws : List WorkPage). Agrees pages 1 root key c.args.path.now ws memory bits) (sym c.work.ensures.work) agrees)

@@ -16,14 +16,14 @@ formed (Free clock) tree = absurd tree
 formed Malformed tree = absurd tree
 
 pub get-requires : goal.get-requires
-get-requires c =
+get-requires g c =
     let p = c.args.mtr.now.pass.now in let sizes = c.args.mtr.now.latches.now.sizes in
     let got = subst (λ o. MatchOption o (changed_of c.args.leaf p.work ≡ None) (λ image. changed_of c.args.leaf p.work ≡ Some image.now)) c.unwrap-image.ensures c.image.ensures in
     let same = image-got sizes c.requires.on.seated.fits c.args.key c.args.leaf p c.requires.on.at c.unwrap-image.result.now got in
     subst IsTreePage (sym same) (leaf-tree sizes c.requires.on.seated.fits c.args.key c.args.leaf p c.requires.on.at)
 
 pub len-requires : goal.len-requires
-len-requires c =
+len-requires g c =
     let p = c.args.mtr.now.pass.now in let sizes = c.args.mtr.now.latches.now.sizes in
     let got = subst (λ o. MatchOption o (changed_of c.args.leaf p.work ≡ None) (λ image. changed_of c.args.leaf p.work ≡ Some image.now)) c.unwrap-image.ensures c.image.ensures in
     let same = image-got sizes c.requires.on.seated.fits c.args.key c.args.leaf p c.requires.on.at c.unwrap-image.result.now got in
@@ -31,7 +31,7 @@ len-requires c =
     formed (page_of c.unwrap-image.result.now) tree
 
 pub returns-clause-value : goal.returns-clause-value
-returns-clause-value c =
+returns-clause-value g c =
     let p = c.args.mtr.now.pass.now in let sizes = c.args.mtr.now.latches.now.sizes in
     let got = subst (λ o. MatchOption o (changed_of c.args.leaf p.work ≡ None) (λ image. changed_of c.args.leaf p.work ≡ Some image.now)) c.unwrap-image.ensures c.image.ensures in
     let same = image-got sizes c.requires.on.seated.fits c.args.key c.args.leaf p c.requires.on.at c.unwrap-image.result.now got in
@@ -39,7 +39,7 @@ returns-clause-value c =
     ∙ ap (value_at c.args.key) (records-are sizes c.requires.on.seated.fits c.args.key c.args.leaf p c.requires.on.at))
 
 pub returns-clause-count : goal.returns-clause-count
-returns-clause-count c =
+returns-clause-count g c =
     let p = c.args.mtr.now.pass.now in let sizes = c.args.mtr.now.latches.now.sizes in
     let got = subst (λ o. MatchOption o (changed_of c.args.leaf p.work ≡ None) (λ image. changed_of c.args.leaf p.work ≡ Some image.now)) c.unwrap-image.ensures c.image.ensures in
     let same = image-got sizes c.requires.on.seated.fits c.args.key c.args.leaf p c.requires.on.at c.unwrap-image.result.now got in

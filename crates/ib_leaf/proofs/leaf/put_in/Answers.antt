@@ -18,35 +18,35 @@ use Rattle.ib_leaf.proofs.LeafCommits.{may-insert, work-is}
 use Rattle.ib_leaf.proofs.leaf.put_in.Goals as goal
 
 pub put_pair-requires-clause-tree : goal.put_pair-requires-clause-tree
-put_pair-requires-clause-tree c =
+put_pair-requires-clause-tree g c =
     let p = c.args.mtr.now.pass.now in let sizes = c.args.mtr.now.latches.now.sizes in let r = c.requires in
     let same = image-got sizes r.on.seated.fits c.args.key c.args.leaf p r.on.at c.edit.result.now c.edit.ensures.image in
     subst IsTreePage (sym same) (leaf-tree sizes r.on.seated.fits c.args.key c.args.leaf p r.on.at)
 
 pub put_pair-requires-clause-missing : goal.put_pair-requires-clause-missing
-put_pair-requires-clause-missing c =
+put_pair-requires-clause-missing g c =
     let p = c.args.mtr.now.pass.now in let sizes = c.args.mtr.now.latches.now.sizes in let r = c.requires in
     let same = image-got sizes r.on.seated.fits c.args.key c.args.leaf p r.on.at c.edit.result.now c.edit.ensures.image in
     ap (λ (ws : List ℕ). value_at c.args.key (records_of ws)) same ∙ (ap (value_at c.args.key) (records-are sizes r.on.seated.fits c.args.key c.args.leaf p r.on.at) ∙ r.missing)
 
 pub put_pair-requires-clause-room : goal.put_pair-requires-clause-room
-put_pair-requires-clause-room c =
+put_pair-requires-clause-room g c =
     let p = c.args.mtr.now.pass.now in let sizes = c.args.mtr.now.latches.now.sizes in let r = c.requires in
     let same = image-got sizes r.on.seated.fits c.args.key c.args.leaf p r.on.at c.edit.result.now c.edit.ensures.image in
     let count = ap (λ (ws : List ℕ). length (records_of ws)) same ∙ ap length (records-are sizes r.on.seated.fits c.args.key c.args.leaf p r.on.at) in
     let room = r.room in omega arith
 
 pub put_pair-requires-clause-clock : goal.put_pair-requires-clause-clock
-put_pair-requires-clause-clock c =
+put_pair-requires-clause-clock g c =
     let p = c.args.mtr.now.pass.now in let sizes = c.args.mtr.now.latches.now.sizes in let r = c.requires in
     let same = image-got sizes r.on.seated.fits c.args.key c.args.leaf p r.on.at c.edit.result.now c.edit.ensures.image in
     subst (λ (ws : List ℕ). clock_of ws < 2 ^ 63) (sym same) (clock-low sizes r.on.seated.fits c.args.key c.args.leaf p r.on.at r.on.seated.few)
 
 pub returns-clause-still : goal.returns-clause-still
-returns-clause-still c = record { mtr = edited_mtr c.args.mtr.now.latches.now c.args.mtr.now.pass.now c.args.leaf c.put_pair.new.image c.requires.on.mtr; latches = search rules; pass = search rules }
+returns-clause-still g c = record { mtr = edited_mtr c.args.mtr.now.latches.now c.args.mtr.now.pass.now c.args.leaf c.put_pair.new.image c.requires.on.mtr; latches = search rules; pass = search rules }
 
 pub returns-clause-put : goal.returns-clause-put
-returns-clause-put c =
+returns-clause-put g c =
     let p = c.args.mtr.now.pass.now in let sizes = c.args.mtr.now.latches.now.sizes in let r = c.requires in
     let same = image-got sizes r.on.seated.fits c.args.key c.args.leaf p r.on.at c.edit.result.now c.edit.ensures.image in
     let put : state_of (page_of c.put_pair.new.image) ≡ with_pair c.args.key c.args.value (state_of (page_of r.on.at.image)) =

@@ -21,28 +21,28 @@ use Rattle.ib_leaf.proofs.LeafCommits.{may-delete, work-is}
 use Rattle.ib_leaf.proofs.leaf.take_out.Goals as goal
 
 pub take_pair-requires-clause-tree : goal.take_pair-requires-clause-tree
-take_pair-requires-clause-tree c =
+take_pair-requires-clause-tree g c =
     let p = c.args.mtr.now.pass.now in let sizes = c.args.mtr.now.latches.now.sizes in let r = c.requires in
     let same = image-got sizes r.on.seated.fits c.args.key c.args.leaf p r.on.at c.edit.result.now c.edit.ensures.image in
     subst IsTreePage (sym same) (leaf-tree sizes r.on.seated.fits c.args.key c.args.leaf p r.on.at)
 
 pub take_pair-requires-clause-there : goal.take_pair-requires-clause-there
-take_pair-requires-clause-there c =
+take_pair-requires-clause-there g c =
     let p = c.args.mtr.now.pass.now in let sizes = c.args.mtr.now.latches.now.sizes in let r = c.requires in
     let same = image-got sizes r.on.seated.fits c.args.key c.args.leaf p r.on.at c.edit.result.now c.edit.ensures.image in
     subst IsSome (sym (ap (λ (ws : List ℕ). value_at c.args.key (records_of ws)) same ∙ ap (value_at c.args.key) (records-are sizes r.on.seated.fits c.args.key c.args.leaf p r.on.at))) r.there
 
 pub take_pair-requires-clause-clock : goal.take_pair-requires-clause-clock
-take_pair-requires-clause-clock c =
+take_pair-requires-clause-clock g c =
     let p = c.args.mtr.now.pass.now in let sizes = c.args.mtr.now.latches.now.sizes in let r = c.requires in
     let same = image-got sizes r.on.seated.fits c.args.key c.args.leaf p r.on.at c.edit.result.now c.edit.ensures.image in
     subst (λ (ws : List ℕ). clock_of ws < 2 ^ 63) (sym same) (clock-low sizes r.on.seated.fits c.args.key c.args.leaf p r.on.at r.on.seated.few)
 
 pub returns-clause-still : goal.returns-clause-still
-returns-clause-still c = record { mtr = edited_mtr c.args.mtr.now.latches.now c.args.mtr.now.pass.now c.args.leaf c.take_pair.new.image c.requires.on.mtr; latches = search rules; pass = search rules }
+returns-clause-still g c = record { mtr = edited_mtr c.args.mtr.now.latches.now c.args.mtr.now.pass.now c.args.leaf c.take_pair.new.image c.requires.on.mtr; latches = search rules; pass = search rules }
 
 pub returns-clause-taken : goal.returns-clause-taken
-returns-clause-taken c =
+returns-clause-taken g c =
     let p = c.args.mtr.now.pass.now in let sizes = c.args.mtr.now.latches.now.sizes in let r = c.requires in
     let same = image-got sizes r.on.seated.fits c.args.key c.args.leaf p r.on.at c.edit.result.now c.edit.ensures.image in
     let some = some-value (value_at c.args.key (leaf_page sizes c.args.key p).records) r.there in
