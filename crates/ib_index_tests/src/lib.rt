@@ -12,6 +12,8 @@ mod leaves;
 #[cfg(test)]
 mod lookups;
 #[cfg(test)]
+mod nowait;
+#[cfg(test)]
 mod pages;
 #[cfg(test)]
 mod positions;

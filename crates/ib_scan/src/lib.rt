@@ -11,5 +11,7 @@ mod stored;
 mod walk;
 
 pub use more::More;
-pub use scans::{scan, scan_at};
+pub use part::{Part, part_of, put};
+pub use scans::{answer, scan, scan_at};
 pub use stored::{Stored, scan_on};
+pub use walk::{Found, facts_of_trees, leave_front};

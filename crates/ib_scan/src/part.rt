@@ -14,12 +14,12 @@ use ib_map::{Chunks, Key, is_below};
 use ib_mtr::Mtr;
 use ib_page::{Image, MOST_RECORDS};
 
-// What a leaf is to the chunk that begins at a key.
+/// What a leaf is to the chunk that begins at a key.
 #[derive(Clone, Copy)]
-pub(crate) enum Part {
-    // It gives none, and the leaf `next` is behind it.
+pub enum Part {
+    /// It gives none, and the leaf `next` is behind it.
     Passed { next: u32 },
-    // The chunk ends in it.
+    /// The chunk ends in it.
     Ends { end: Key },
 }
 
@@ -60,13 +60,8 @@ fn part_in(image: &Image, start: Key, high: Key) -> Part
     }
 }
 
-// .. of a leaf that is loaded.
-pub(crate) fn part_of<L: Law, S: Sleep>(
-    mtr: &Mtr<'_, L, S>,
-    leaf: u32,
-    start: Key,
-    high: Key,
-) -> Part
+/// What a leaf that is loaded is to the chunk that begins at `start`, of a scan up to `high`.
+pub fn part_of<L: Law, S: Sleep>(mtr: &Mtr<'_, L, S>, leaf: u32, start: Key, high: Key) -> Part
     requires mtr { IsMtr mtr.now.latches.now mtr.now.pass.now }
     requires loaded { (image : List ℕ) × (changed_of leaf mtr.now.pass.now.work ≡ Some image)
         × IsTreePage image }
@@ -77,9 +72,9 @@ pub(crate) fn part_of<L: Law, S: Sleep>(
     part_in(image, start, high)
 }
 
-// Appends a chunk that was read at a place, with what the leaf has from `start` to `end`, where there is
-// room for it: a chunk place, and as many pair places as it has pairs.
-pub(crate) fn put<L: Law, S: Sleep>(
+/// Appends a chunk that was read at a place, with what the leaf has from `start` to `end`, where there is
+/// room for it: a chunk place, and as many pair places as it has pairs.
+pub fn put<L: Law, S: Sleep>(
     mtr: &Mtr<'_, L, S>,
     leaf: u32,
     start: Key,

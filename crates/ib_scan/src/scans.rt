@@ -147,8 +147,8 @@ pub fn scan<L: Trees, R: Wait>(
     scan_at(rt, latches, 1, pass, low, high, out)
 }
 
-// A record of a scan with so many chunks and pairs.
-pub(crate) fn answer(low: Key, high: Key, chunks: u32, pairs: u32, place: u32) -> Record
+/// The record of a scan from `low` to `high` that appended so many chunks and pairs, at a place of the log.
+pub fn answer(low: Key, high: Key, chunks: u32, pairs: u32, place: u32) -> Record
     ensures { result ≡ scan_answer low high chunks pairs place }
 {
     Record {

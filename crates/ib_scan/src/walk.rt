@@ -26,12 +26,12 @@ pub(crate) struct Sought {
     pub(crate) high: Key,
 }
 
-// The leaf in which a chunk ends, where it ends, and how many leaves before it are held.
+/// The leaf in which a chunk ends, where it ends, and how many leaves before it are held.
 #[derive(Clone, Copy)]
-struct Found {
-    leaf: u32,
-    end: Key,
-    passed: usize,
+pub struct Found {
+    pub leaf: u32,
+    pub end: Key,
+    pub passed: usize,
 }
 
 // Where a scan stopped: at the key at which the first chunk begins that found no room. The leaf that gave the
@@ -42,8 +42,8 @@ pub(crate) struct Stop {
     pub(crate) kept: Position,
 }
 
-// The trees of the space obey their law.
-pub(crate) fn facts_of_trees<L: Trees, S: Sleep>(mtr: &Mtr<'_, L, S>)
+/// For proofs: the trees of the space obey their law, at its number of pages. It does nothing.
+pub fn facts_of_trees<L: Trees, S: Sleep>(mtr: &Mtr<'_, L, S>)
     ensures laws { Laws mtr.now.latches.now.sizes.pages L.ROOTS
         (L.lawful mtr.now.latches.now.sizes.pages)
         (by_place L.opening mtr.now.latches.now.sizes.pages) }
@@ -107,14 +107,15 @@ fn reach_end<L: Trees, R: Wait>(
     }
 }
 
-// The leaves in front of the one on which the scan stands are given up.
-fn leave_front<L: Law, S: Sleep>(mtr: &mut Mtr<'_, L, S>, count: usize)
+/// Gives up the leaves in front of the one on which a scan stands, so many as are held there.
+pub fn leave_front<L: Law, S: Sleep>(mtr: &mut Mtr<'_, L, S>, count: usize)
     requires mtr { IsMtr mtr.old.latches.now mtr.old.pass.now }
     requires front { HasSomeFront count mtr.old.pass.now }
     ensures still { IsStillMtr mtr.old mtr.new }
     ensures left { (h : HasSomeFront count mtr.old.pass.now)
         → HasFront 0 h.leaf h.image mtr.new.pass.now }
     ensures aside { IsAside mtr.old.pass.now mtr.new.pass.now }
+    ensures looks { mtr.new.pass.now.view.looks.count ≡ mtr.old.pass.now.view.looks.count }
 {
     for _ in 0..count {
         mtr.release_at(0);

@@ -12,4 +12,5 @@ invariant-loop g l = record {
   few : l.counter ≤ l.count;
   left : (h : HasSomeFront l.count l.fn.mtr.pass.now) → HasFront (l.count - l.counter) h.leaf h.image l.mtr.pass.now;
   aside : IsAside l.fn.mtr.pass.now l.mtr.pass.now;
+  looks : l.mtr.pass.now.view.looks.count ≡ l.fn.mtr.pass.now.view.looks.count;
 }

@@ -1,0 +1,4 @@
+pub mod LookLaws
+pub mod NextLaws
+pub mod LoopLaws
+pub mod EndLaws
