@@ -1,11 +1,13 @@
 /* Latches that block, over bukhloem.h: a mutex and a condition for each of some stripes of latches. Whoever is refused
  * sleeps on its latch's condition while the generation that it recorded stands; whoever raised a generation wakes all.
- * No wake is lost: the sleeper looks at the generation under the mutex, and the waker takes the mutex after the raise. */
+ * No wake of these calls is lost: the sleeper looks at the generation under the mutex, and the waker takes the mutex after the
+ * raise. The calls on the index raise generations too, and wake nobody: a sleeper looks again after a millisecond. */
 #ifndef BUKHLOEM_WAIT_H
 #define BUKHLOEM_WAIT_H
 
 #include <pthread.h>
 #include <sched.h>
+#include <time.h>
 
 #include "bukhloem.h"
 
@@ -33,8 +35,13 @@ static inline void ib_parking_destroy(ib_parking *p) {
 static inline uint32_t ib_park(ib_parking *p, ib_session *s, uint32_t latch) {
     uint32_t status;
     pthread_mutex_lock(&p->at[latch % IB_STRIPES].mutex);
-    while ((status = ib_look(s, latch).status) == IB_ASLEEP)
-        pthread_cond_wait(&p->at[latch % IB_STRIPES].wake, &p->at[latch % IB_STRIPES].mutex);
+    while ((status = ib_look(s, latch).status) == IB_ASLEEP) {
+        struct timespec until;
+        timespec_get(&until, TIME_UTC);
+        until.tv_nsec += 1000000;
+        if (until.tv_nsec >= 1000000000) until.tv_sec++, until.tv_nsec -= 1000000000;
+        pthread_cond_timedwait(&p->at[latch % IB_STRIPES].wake, &p->at[latch % IB_STRIPES].mutex, &until);
+    }
     pthread_mutex_unlock(&p->at[latch % IB_STRIPES].mutex);
     return status;
 }

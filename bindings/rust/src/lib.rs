@@ -1,23 +1,33 @@
-//! Bukhloem for Rust: the latches and pages of one tree, over the static library `libib_c.a`. Every public call is safe: a
-//! space and a session are owned values, a session may go to another thread (`Send`), and a space may be shared (`Sync`).
+//! Bukhloem for Rust: one tree of records, with its latches and pages, over the static library `libib_c.a`. Every public call is
+//! safe: a space and a session are owned values, a session may go to another thread (`Send`), and a space may be shared (`Sync`).
 //! Calls that wait are made here, by a mutex and a condition for each of some stripes of latches; the library's never do.
 //!
 //! ```
 //! let space = Space::open(16, 8196, 8)?;
 //! let mut session = space.connect()?;
+//! session.try_insert(b"seven", 7)?;
+//! assert_eq!(session.try_get(b"seven")?.reply, Reply::Found { value: 7 });
 //! session.lock(Latch::page(5), Mode::X, Level::TreeNode)?;
 //! session.unlock(Latch::page(5), Mode::X)?;
 //! ```
 #![deny(unsafe_op_in_unsafe_fn)]
 
 mod raw;
+mod replay;
+mod scan;
+
+pub use replay::{Fault, LOG_FORM, Map, PAGE_WORDS, Rule, Words, check_tree, replay};
+pub use scan::{Chunk, Scan, ScanEnd};
 
 use std::fmt;
 use std::ptr;
 use std::sync::{Arc, Condvar, Mutex, MutexGuard, PoisonError};
+use std::time::Duration;
 
 const STRIPES: usize = 64;
 const SPINS: u32 = 30;
+// A call on the tree wakes nobody: who sleeps on a latch looks again after this time.
+const NAP: Duration = Duration::from_millis(1);
 
 /// Why a call did nothing, or what it came to: the numbers of `ib_status` in `bukhloem.h`.
 #[derive(Clone, Copy, PartialEq, Eq, Debug)]
@@ -43,6 +53,12 @@ impl Status {
     pub const NO_SESSION_LEFT: Status = Status(28);
     pub const CONNECTED: Status = Status(29);
     pub const OUT_OF_MEMORY: Status = Status(31);
+    pub const BAD_KEY: Status = Status(32);
+    pub const BAD_RANGE: Status = Status(33);
+    pub const FAULTY: Status = Status(34);
+    pub const IN_CALL: Status = Status(35);
+    pub const NOT_CONNECTED: Status = Status(36);
+    pub const NO_ROOM: Status = Status(6);
 
     fn check(number: u32) -> Result<(), Status> {
         if number == 0 { Ok(()) } else { Err(Status(number)) }
@@ -138,17 +154,31 @@ impl Space {
     /// Closes the space, and gives the words of its log. Where somebody else has the space still, a session say, it comes
     /// back as it was.
     pub fn into_log(self) -> Result<Vec<u64>, Space> {
+        self.into_words().map(|words| words.log)
+    }
+
+    /// Closes the space, and gives the words of its log and of its pages. Where somebody else has the space still, it comes
+    /// back as it was.
+    pub fn into_words(self) -> Result<Words, Space> {
         let mut shared = Arc::try_unwrap(self.0).map_err(Space)?;
         let slot = shared.space.get_mut().unwrap_or_else(PoisonError::into_inner);
         if raw::close(slot) != Status::OK.0 {
             // A session that was dropped with latches is connected still.
             return Err(Space(Arc::new(shared)));
         }
-        let mut words = vec![0; raw::log_words(slot, 0, &mut []).used as usize];
-        let copied = raw::log_words(slot, 0, &mut words);
+        let mut log = vec![0; raw::log_words(slot, 0, &mut []).used as usize];
+        let copied = raw::log_words(slot, 0, &mut log);
         debug_assert_eq!(copied.status, Status::OK.0);
+        let mut pages = Vec::new();
+        let mut page = [0; PAGE_WORDS];
+        for number in 0.. {
+            if raw::page_words(slot, number, &mut page).status != Status::OK.0 {
+                break;
+            }
+            pages.extend_from_slice(&page);
+        }
         raw::free(slot);
-        Ok(words)
+        Ok(Words { log, pages })
     }
 }
 
@@ -158,6 +188,78 @@ pub struct Counts {
     pub s: u64,
     pub sx: u64,
     pub x: u64,
+}
+
+/// What a lookup, an insert or a delete was answered (`ib_reply` in `bukhloem.h`). Each but `Inserted` and `Deleted` changed
+/// nothing.
+#[derive(Clone, Copy, PartialEq, Eq, Debug)]
+pub enum Reply {
+    Found { value: u64 },
+    NotFound,
+    Inserted,
+    /// The key was there.
+    Duplicate,
+    Deleted { value: u64 },
+    /// The key was not there.
+    Missing,
+    /// The tree would get a ninth level.
+    TooHigh,
+    /// So many pages are free where more are needed.
+    SpaceFull { free: u32, need: u32 },
+    /// So many of the log's words are taken.
+    LogFull { used: u32, cap: u32 },
+}
+
+/// A reply, at a place of the log: how many entries are before it.
+#[derive(Clone, Copy, PartialEq, Eq, Debug)]
+pub struct Answer {
+    pub reply: Reply,
+    pub place: u32,
+}
+
+/// Why a call on the tree has no answer. Nothing is changed, and nothing held.
+#[derive(Clone, Copy, PartialEq, Eq, Debug)]
+pub enum CallError {
+    /// The latch was not had: its word refuses it.
+    Busy { latch: Latch, word: i32 },
+    /// The latch was not had: the exchange found another word than the look before it.
+    Raced { latch: Latch, expected: i32, found: i32 },
+    /// The call is not allowed: BAD_KEY, or NOT_ALLOWED for a session that holds something; or a scan has no memory: OUT_OF_MEMORY.
+    Refused(Status),
+}
+
+impl fmt::Display for CallError {
+    fn fmt(&self, f: &mut fmt::Formatter<'_>) -> fmt::Result {
+        match self {
+            CallError::Busy { latch, word } => write!(f, "the word {word} of latch {} refuses it", latch.0),
+            CallError::Raced { latch, expected, found } => {
+                write!(f, "the word of latch {} was {found} where {expected} was expected", latch.0)
+            }
+            CallError::Refused(status) => status.fmt(f),
+        }
+    }
+}
+
+impl std::error::Error for CallError {}
+
+// What the library told, with its replies and faults as they are here.
+fn answer_of(told: raw::Answered) -> Result<Answer, CallError> {
+    let raw::Answered { status, reply, value, place, latch, expected, found, used, cap, free, need } = told;
+    let reply = match (Status(status), reply) {
+        (Status::OK, 1) => Reply::Found { value },
+        (Status::OK, 2) => Reply::NotFound,
+        (Status::OK, 3) => Reply::Inserted,
+        (Status::OK, 4) => Reply::Duplicate,
+        (Status::OK, 5) => Reply::Deleted { value },
+        (Status::OK, 6) => Reply::Missing,
+        (Status::OK, 7) => Reply::TooHigh,
+        (Status::OK, 8) => Reply::SpaceFull { free, need },
+        (Status::OK, 9) => Reply::LogFull { used, cap },
+        (Status::BUSY, _) => return Err(CallError::Busy { latch: Latch(latch), word: found }),
+        (Status::RACED, _) => return Err(CallError::Raced { latch: Latch(latch), expected, found }),
+        (status, _) => return Err(CallError::Refused(status)),
+    };
+    Ok(Answer { reply, place })
 }
 
 /// A session. It is given back when it is dropped; one that holds latches then stays connected, with them.
@@ -237,6 +339,28 @@ impl Session {
         Status::check(released.status)
     }
 
+    /// Looks a key of 15 bytes at most up, without waiting: `Found` or `NotFound`. The session holds nothing before and after.
+    pub fn try_get(&mut self, key: &[u8]) -> Result<Answer, CallError> {
+        answer_of(raw::get_nowait(&mut self.slot, key))
+    }
+
+    /// Puts a pair in, without waiting: `Inserted`, `Duplicate`, `TooHigh`, `SpaceFull` or `LogFull`.
+    pub fn try_insert(&mut self, key: &[u8], value: u64) -> Result<Answer, CallError> {
+        answer_of(raw::insert_nowait(&mut self.slot, key, value))
+    }
+
+    /// Takes a key out, without waiting: `Deleted`, `Missing` or `LogFull`.
+    pub fn try_delete(&mut self, key: &[u8]) -> Result<Answer, CallError> {
+        answer_of(raw::delete_nowait(&mut self.slot, key))
+    }
+
+    /// Scans from `low` to `high`, both with them, without waiting, into room for so many chunks and pairs: what is there, chunk
+    /// by chunk, each as the tree has it at the chunk's own place. A chunk has 35 pairs at most: with room for one chunk and 35
+    /// pairs a scan gets ahead. Where it ended before its end, it goes on from `next` on.
+    pub fn try_scan(&mut self, low: &[u8], high: &[u8], chunks: usize, pairs: usize) -> Result<Scan, CallError> {
+        scan::try_scan(&mut self.slot, low, high, chunks, pairs)
+    }
+
     /// Takes a latch, and waits until it is granted.
     pub fn lock(&mut self, latch: Latch, mode: Mode, level: Level) -> Result<(), Status> {
         for spins in 0u32.. {
@@ -288,13 +412,14 @@ impl Session {
         }
     }
 
-    // Sleeps while the generation stands that the session recorded.
+    // Sleeps while the generation stands that the session recorded. The index's calls raise generations and wake nobody, so
+    // it looks again after a millisecond.
     fn park(&mut self, latch: Latch) -> Result<(), Status> {
         let (mutex, wake) = &self.shared.parking[latch.stripe()];
         let mut held = mutex.lock().unwrap_or_else(PoisonError::into_inner);
         loop {
             match Status::check(raw::look(&mut self.slot, latch.0)) {
-                Err(Status::ASLEEP) => held = wake.wait(held).unwrap_or_else(PoisonError::into_inner),
+                Err(Status::ASLEEP) => held = wake.wait_timeout(held, NAP).unwrap_or_else(PoisonError::into_inner).0,
                 done => return done,
             }
         }

@@ -66,6 +66,45 @@ pub(crate) struct Copied {
     pub(crate) used: u32,
 }
 
+#[repr(C)]
+pub(crate) struct Answered {
+    pub(crate) status: u32,
+    pub(crate) reply: u32,
+    pub(crate) value: u64,
+    pub(crate) place: u32,
+    pub(crate) latch: u32,
+    pub(crate) expected: i32,
+    pub(crate) found: i32,
+    pub(crate) used: u32,
+    pub(crate) cap: u32,
+    pub(crate) free: u32,
+    pub(crate) need: u32,
+}
+
+#[repr(C)]
+pub(crate) struct Scanned {
+    pub(crate) status: u32,
+    pub(crate) chunks: u32,
+    pub(crate) pairs: u32,
+    pub(crate) place: u32,
+    pub(crate) next_first: u64,
+    pub(crate) next_second: u64,
+    pub(crate) latch: u32,
+    pub(crate) expected: i32,
+    pub(crate) found: i32,
+}
+
+#[repr(C)]
+pub(crate) struct Replayed {
+    pub(crate) status: u32,
+    pub(crate) pages: u32,
+    pub(crate) entries: u64,
+    pub(crate) pairs: u64,
+    pub(crate) fault: u32,
+    pub(crate) place: u32,
+    pub(crate) word: u64,
+}
+
 unsafe extern "C" {
     fn ib_c_open(space: &mut Slot, pages: u32, log_words: u32, sessions: u32) -> u32;
     fn ib_c_connect(space: &mut Slot, session: &mut Slot) -> u32;
@@ -91,12 +130,67 @@ unsafe extern "C" {
     fn ib_c_counts(session: &mut Slot, latch: u32) -> Counted;
     fn ib_c_phase(session: &mut Slot) -> InPhase;
     fn ib_c_may_take(session: &mut Slot, latch: u32, mode: u32, level: u32) -> u32;
+    fn ib_c_get_nowait(session: &mut Slot, key: *const u8, length: usize) -> Answered;
+    fn ib_c_insert_nowait(session: &mut Slot, key: *const u8, length: usize, value: u64) -> Answered;
+    fn ib_c_delete_nowait(session: &mut Slot, key: *const u8, length: usize) -> Answered;
+    fn ib_c_scan_nowait(
+        session: &mut Slot,
+        low: *const u8,
+        low_length: usize,
+        high: *const u8,
+        high_length: usize,
+        chunks: *mut u64,
+        chunk_count: usize,
+        pairs: *mut u64,
+        pair_count: usize,
+    ) -> Scanned;
     fn ib_c_log_words(space: &mut Slot, first: u32, out: *mut u64, count: usize) -> Copied;
+    fn ib_c_page_words(space: &mut Slot, page: u32, out: *mut u64, count: usize) -> Copied;
+    fn ib_c_replay(bytes: *const u8, length: usize, out: *mut u64, count: usize) -> Replayed;
+    fn ib_c_check_tree(words: *const u64, count: usize) -> u32;
+}
+
+/// Looks a key up.
+pub(crate) fn get_nowait(session: &mut Slot, key: &[u8]) -> Answered {
+    unsafe { ib_c_get_nowait(session, key.as_ptr(), key.len()) }
+}
+
+/// Puts a pair in.
+pub(crate) fn insert_nowait(session: &mut Slot, key: &[u8], value: u64) -> Answered {
+    unsafe { ib_c_insert_nowait(session, key.as_ptr(), key.len(), value) }
+}
+
+/// Takes a key out.
+pub(crate) fn delete_nowait(session: &mut Slot, key: &[u8]) -> Answered {
+    unsafe { ib_c_delete_nowait(session, key.as_ptr(), key.len()) }
+}
+
+/// Scans from one key to another, with the words of the chunks in front of `chunks`, and those of their pairs in front of `pairs`.
+pub(crate) fn scan_nowait(session: &mut Slot, low: &[u8], high: &[u8], chunks: &mut [u64], pairs: &mut [u64]) -> Scanned {
+    let (chunk_words, pair_words) = (chunks.as_mut_ptr(), pairs.as_mut_ptr());
+    unsafe {
+        ib_c_scan_nowait(session, low.as_ptr(), low.len(), high.as_ptr(), high.len(), chunk_words, chunks.len(), pair_words, pairs.len())
+    }
 }
 
 /// Words of a closed space's log, as many as `out` has room for.
 pub(crate) fn log_words(space: &mut Slot, first: u32, out: &mut [u64]) -> Copied {
     unsafe { ib_c_log_words(space, first, out.as_mut_ptr(), out.len()) }
+}
+
+/// The words of a page of a closed space, where `out` has the room of a page.
+pub(crate) fn page_words(space: &mut Slot, page: u32, out: &mut [u64]) -> Copied {
+    unsafe { ib_c_page_words(space, page, out.as_mut_ptr(), out.len()) }
+}
+
+/// What the log in a file makes, with its pairs in front of `out`.
+pub(crate) fn replay(bytes: &[u8], out: &mut [u64]) -> Replayed {
+    unsafe { ib_c_replay(bytes.as_ptr(), bytes.len(), out.as_mut_ptr(), out.len()) }
+}
+
+/// Whether the words of all pages are those of a tree.
+pub(crate) fn check_tree(words: &[u64]) -> u32 {
+    unsafe { ib_c_check_tree(words.as_ptr(), words.len()) }
 }
 
 // Each handle comes from this crate alone, is never copied, and is borrowed by one call at a time.

@@ -1,6 +1,6 @@
 //! Wrong arguments of every kind: a status, and nothing is changed.
 
-use bukhloem::{Latch, Level, Mode, Session, Space, Status};
+use bukhloem::{CallError, Latch, Level, Mode, Reply, Session, Space, Status};
 
 const NODE: Level = Level::TreeNode;
 
@@ -72,6 +72,31 @@ fn readers() -> Result<(), Status> {
     b.ready(page)?;
     assert_eq!(b.awaits(), Ok(None));
     b.unlock(page, Mode::X)
+}
+
+#[test]
+fn calls_on_the_tree() -> Result<(), Box<dyn std::error::Error>> {
+    let space = Space::open(16, 100_000, 2)?;
+    let (mut a, mut b) = (space.connect()?, space.connect()?);
+    assert_eq!(a.try_get(&[7; 16]), Err(CallError::Refused(Status::BAD_KEY)));
+    assert_eq!(a.try_get(b"seven")?.reply, Reply::NotFound);
+    assert_eq!(a.try_delete(b"seven")?.reply, Reply::Missing);
+    assert_eq!(a.try_insert(b"seven", 70)?.place, 0);
+    assert_eq!(b.try_insert(b"seven", 71)?.reply, Reply::Duplicate);
+    assert_eq!(b.try_get(b"seven")?.reply, Reply::Found { value: 70 });
+    assert_eq!(b.try_insert(b"", 0)?.reply, Reply::Inserted);
+    assert_eq!(a.try_get(b"")?.place, 2);
+    a.try_take(Latch::INDEX, Mode::X, Level::IndexTree)?;
+    assert_eq!(a.try_get(b"seven"), Err(CallError::Refused(Status::NOT_ALLOWED)));
+    let busy = CallError::Busy { latch: Latch::INDEX, word: 0 };
+    assert_eq!(b.try_get(b"seven"), Err(busy));
+    assert_eq!(b.try_insert(b"eight", 80), Err(busy));
+    assert_eq!(b.try_delete(b"seven"), Err(busy));
+    a.unlock(Latch::INDEX, Mode::X)?;
+    assert_eq!(b.try_delete(b"seven")?.reply, Reply::Deleted { value: 70 });
+    let full = (0u64..).find_map(|n| a.try_insert(&n.to_be_bytes(), n).ok().filter(|answer| answer.reply != Reply::Inserted));
+    assert!(matches!(full.map(|answer| answer.reply), Some(Reply::SpaceFull { .. } | Reply::LogFull { .. })));
+    Ok(())
 }
 
 #[test]

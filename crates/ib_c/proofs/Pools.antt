@@ -1,8 +1,8 @@
--- Passes at rest, one more and one fewer, and beside a space that has changed.
-use Rattle.std.proofs.Common.{◌≡◌, List, [], ◌∷◌, ◌++◌, sym, ◌∙◌}
+-- Passes at rest, one more and one fewer, and beside a space that has changed; and passes that nobody used.
+use Rattle.std.proofs.Common.{◌≡◌, ℕ, ◌+◌, List, [], ◌∷◌, ◌++◌, length, arith, subst, sym, zero-add, ◌∙◌}
 use Rattle.ib_rule.specs.Pass.{PassState, IsAtRest}
 use Rattle.ib_rule.specs.Space.{SpaceState}
-use Rattle.ib_c.specs.SpaceStates.{AreAtRest}
+use Rattle.ib_c.specs.SpaceStates.{AreAtRest, AreUnused, IsUnused}
 
 pub one_more : (s : SpaceState) (xs : List PassState) (p : PassState) → AreAtRest s xs → IsAtRest s p → AreAtRest s (xs ++ p ∷ [])
 one_more s [] p rest own = (own, tt)
@@ -22,3 +22,9 @@ still_at_rest s t p tables sizes rest = record {
 pub are_still : (s t : SpaceState) (xs : List PassState) → t.table ≡ s.table → t.sizes ≡ s.sizes → AreAtRest s xs → AreAtRest t xs
 are_still s t [] tables sizes rest = tt
 are_still s t (x ∷ xs) tables sizes rest = (still_at_rest s t x tables sizes rest.0, are_still s t xs tables sizes rest.1)
+
+pub one_unused_more : (n : ℕ) (xs : List PassState) (p : PassState) → AreUnused n xs → IsUnused (length xs + n) p → AreUnused n (xs ++ p ∷ [])
+one_unused_more n [] p unused next = (subst (λ m. IsUnused m p) (zero-add n) next, tt)
+one_unused_more n (x ∷ xs) p unused next =
+    let same : length xs + (n + 1) ≡ length (x ∷ xs) + n = omega arith in
+    (unused.0, one_unused_more (n + 1) xs p unused.1 (rw same next))

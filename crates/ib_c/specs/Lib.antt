@@ -1,6 +1,14 @@
+pub mod Answers
+pub mod Calls
+pub mod Checks
 pub mod Handles
 pub mod LogWords
+pub mod PageWords
 pub mod Readers
+pub mod Replays
+pub mod ScanWords
+pub mod Scanned
+pub mod Scans
 pub mod SessionHandle
 pub mod SessionState
 pub mod Sessions

@@ -8,7 +8,7 @@ use Rattle.ib_c.specs.declared.status.Status.{Status}
 use Rattle.ib_c.specs.declared.status.Status.TheVariants.{Done, BadRange, NoHandle, WrongState}
 use Rattle.ib_c.specs.Statuses.{status_number}
 
--- a status, and how many words the log has, which is 0 where that is not known
+-- a status, and how many words the log or a page has, which is 0 where that is not known
 abbrev pub told_copy : Status → ℕ → Copied
 told_copy s n = record { status = status_number s; used = n }
 

@@ -1,7 +1,9 @@
 -- What contracts see of a space: open, with the passes that no session has, or closed.
-use Rattle.std.specs.Prelude.{◌≡◌, ℕ, ◌+◌, List, [], ◌∷◌, length}
+use Rattle.std.specs.Prelude.{◌≡◌, ℕ, ◌+◌, ◌≤◌, List, [], ◌∷◌, length}
+use Rattle.ib_rule.specs.declared.view.Role.TheVariants.{Session}
 use Rattle.ib_rule.specs.Pass.{PassState, IsAtRest}
 use Rattle.ib_rule.specs.Space.{SpaceState}
+use Rattle.ib_rule.specs.Views.{seated}
 
 pub record OpenState : Type 0 where
   pub space : SpaceState
@@ -15,3 +17,19 @@ AreAtRest space (p ∷ ps) = IsAtRest space p × AreAtRest space ps
 -- the passes that were drawn and have not ended are those of the pool
 abbrev pub IsWhole : SpaceState → List PassState → Type 0
 IsWhole space pool = length space.ended + length pool ≡ space.drawn
+
+-- the passes of a pool are at rest, and no more than were drawn and have not ended; and it has a place for each that was drawn
+pub record IsPool (space : SpaceState) (pool : List PassState) (places : ℕ) : Type 0 where
+  pub rest : AreAtRest space pool
+  pub few : length space.ended + length pool ≤ space.drawn
+  pub room : space.drawn ≤ places
+
+-- the pass of this number, which has seen, holds and was granted nothing
+pub record IsUnused (n : ℕ) (p : PassState) : Type 0 where
+  pub number : p.number ≡ n
+  pub view : p.view ≡ seated (Session n)
+
+-- passes that nobody used, with the numbers from this one on
+abbrev pub AreUnused : ℕ → List PassState → Type 0
+AreUnused n [] = Unit {0}
+AreUnused n (p ∷ ps) = IsUnused n p × AreUnused (n + 1) ps

@@ -1,7 +1,7 @@
 -- The numbers of statuses, as the header has them: below 16 what a call came to, from 16 on why it did nothing.
 use Rattle.std.specs.Prelude.{ℕ}
 use Rattle.ib_c.specs.declared.status.Status.{Status}
-use Rattle.ib_c.specs.declared.status.Status.TheVariants.{Done, Busy, Raced, Next, NotReady, Asleep, NoHandle, InUse, BadLatch, BadLevel, BadMode, NotAllowed, TooManyGrants, NotHeld, WrongPhase, BadPages, BadLog, BadSessions, NoSessionLeft, Connected, WrongState, OutOfMemory, BadKey, BadRange, Faulty}
+use Rattle.ib_c.specs.declared.status.Status.TheVariants.{Done, Busy, Raced, Next, NotReady, Asleep, NoHandle, InUse, BadLatch, BadLevel, BadMode, NotAllowed, TooManyGrants, NotHeld, WrongPhase, BadPages, BadLog, BadSessions, NoSessionLeft, Connected, WrongState, OutOfMemory, BadKey, BadRange, Faulty, InCall, NotConnected, NoRoom}
 
 abbrev pub status_number : Status → ℕ
 status_number Done = 0
@@ -10,6 +10,7 @@ status_number Raced = 2
 status_number Next = 3
 status_number NotReady = 4
 status_number Asleep = 5
+status_number NoRoom = 6
 status_number NoHandle = 16
 status_number InUse = 17
 status_number BadLatch = 18
@@ -29,3 +30,5 @@ status_number OutOfMemory = 31
 status_number BadKey = 32
 status_number BadRange = 33
 status_number Faulty = 34
+status_number InCall = 35
+status_number NotConnected = 36

@@ -10,7 +10,7 @@ use crate::status::Status;
 use ib_rule::SpaceWords;
 use std::alloc::Global;
 
-/// What a copy came to: its status, and how many words the log has, 0 where that is not known.
+/// What a copy came to: its status, and how many words the log or a page has, 0 where that is not known.
 #[repr(C)]
 #[derive(Clone, Copy, PartialEq, Eq, Debug)]
 pub struct Copied {
@@ -18,8 +18,8 @@ pub struct Copied {
     pub used: u32,
 }
 
-// A status, and how many words the log has, in C's words.
-fn told_copy(status: Status, used: u32) -> Copied
+// A status, and how many words the log or a page has, in C's words.
+pub(crate) fn told_copy(status: Status, used: u32) -> Copied
     ensures { result ≡ told_copy status used }
 {
     Copied {

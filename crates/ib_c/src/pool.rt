@@ -3,14 +3,15 @@
 ghost use Rattle.std.specs.Prelude.{◌≡◌, ◌+◌, ◌≤◌, [], length, vec_capacity, IfNone, IfSome, IsTrue};
 ghost use Rattle.ib_rule.specs.Connects.{IsDeserted};
 ghost use Rattle.ib_rule.specs.Pass.{IsAtRest};
-ghost use Rattle.ib_c.specs.SpaceStates.{AreAtRest, IsWhole};
+ghost use Rattle.ib_c.specs.SpaceStates.{AreAtRest, AreUnused, IsUnused, IsWhole};
 
 use crate::table::Table;
 use ib_rule::Pass;
+use ib_shared::SharedSpace;
 use std::alloc::Global;
 
 /// Draws so many passes from a new space into the pool, or fewer where memory lacks.
-#[tactic(auto, using(crate::proofs::Pools::one_more, crate::proofs::Pools::are_still))]
+#[tactic(auto, using(crate::proofs::Pools::one_more, crate::proofs::Pools::are_still, crate::proofs::Pools::one_unused_more))]
 pub(crate) fn connect_all(
     table: &mut Table,
     alloc: Global,
@@ -23,6 +24,9 @@ pub(crate) fn connect_all(
     ensures rest { AreAtRest table.new pool.new.items }
     ensures whole { IsWhole table.new pool.new.items }
     ensures sizes { table.new.sizes ≡ table.old.sizes }
+    ensures ended { table.new.ended ≡ [] }
+    ensures unused { AreUnused 1 pool.new.items }
+    ensures room { sessions ≤ vec_capacity pool.new }
     ensures all { IsTrue result → length pool.new.items ≡ sessions }
 {
     for _ in 0..sessions {
@@ -36,7 +40,7 @@ pub(crate) fn connect_all(
 
 // Draws a pass from the space, where memory does not lack.
 fn draw(table: &mut Table, alloc: Global) -> Option<Pass>
-    ensures some { IfSome result (λ p. IsAtRest table.new p
+    ensures some { IfSome result (λ p. IsAtRest table.new p × IsUnused (table.old.drawn + 1) p
         × (table.new ≡ record table.old { drawn = table.old.drawn + 1 })) }
     ensures none { IfNone result (table.new ≡ table.old) }
 {

@@ -77,7 +77,7 @@ pub(crate) fn word(table: &Table, pass: &mut Pass, latch: u32) -> Looked
 {
     match may_look_at(table, pass, latch) {
         Err(status) => told_word(Err(status)),
-        Ok(()) => told_word(Ok(table.word_of(pass, Latch(latch)))),
+        Ok(()) => told_word(Ok(table.latches().word_of(pass, Latch(latch)))),
     }
 }
 

@@ -3,17 +3,22 @@
 ghost use Rattle.std.specs.Prelude.{◌≡◌, ◌↔◌, IsTrue};
 ghost use Rattle.std.specs.Arc.{arc_value};
 ghost use Rattle.ib_rule.specs.Pass.{IsAtRest};
+ghost use Rattle.ib_c.specs.Calls.{HasDeleted, HasInserted, HasLookedUp};
+ghost use Rattle.ib_c.specs.Scans.{HasScanned, filled};
 ghost use Rattle.ib_c.specs.Sessions.{OnPass};
 ghost use Rattle.ib_c.specs.Tries.{HasLookedReady, HasReservedX, HasTriedS, HasTriedSx, HasTriedX};
 ghost use Rattle.ib_c.specs.Unlocks.{HasReleasedS, HasReleasedSx, HasReleasedX};
 ghost use Rattle.ib_c.specs.Readers.{HasAskedTake, HasCounted, HasLookedAt, HasToldHeld, HasToldPhase};
 ghost use Rattle.ib_c.specs.Waits.{HasArmed, HasArmedNext, HasLooked, HasRechecked, HasStoodDown, HasVerified};
 
+use crate::answers::Answered;
 use crate::readers::{self, Counted, Held, InPhase, Looked};
+use crate::scanned::Scanned;
 use crate::table::Table;
 use crate::tries::{self, Tried};
 use crate::unlocks::{self, Released};
 use crate::waits::{self, Generation};
+use crate::{calls, scans};
 use ib_rule::Pass;
 use std::alloc::Global;
 use std::marker::Model;
@@ -198,5 +203,43 @@ impl Session {
         ensures { OnPass (HasAskedTake latch mode level) self.old result self.new }
     {
         readers::asked_take(&self.table, &self.pass, latch, mode, level)
+    }
+}
+
+impl Session {
+    /// Looks a key up without waiting.
+    pub(crate) fn get_nowait(&mut self, key: &[u8]) -> Answered
+        ensures { OnPass (HasLookedUp key.now) self.old result self.new }
+    {
+        calls::get_nowait(&self.table, &mut self.pass, key)
+    }
+
+    /// Puts a pair in without waiting.
+    pub(crate) fn insert_nowait(&mut self, key: &[u8], value: u64) -> Answered
+        ensures { OnPass (HasInserted key.now value) self.old result self.new }
+    {
+        calls::insert_nowait(&self.table, &mut self.pass, key, value)
+    }
+
+    /// Takes a key out without waiting.
+    pub(crate) fn delete_nowait(&mut self, key: &[u8]) -> Answered
+        ensures { OnPass (HasDeleted key.now) self.old result self.new }
+    {
+        calls::delete_nowait(&self.table, &mut self.pass, key)
+    }
+
+    /// Scans from one key to another without waiting.
+    pub(crate) fn scan_nowait(
+        &mut self,
+        alloc: Global,
+        low: &[u8],
+        high: &[u8],
+        chunks: &mut [u64],
+        pairs: &mut [u64],
+    ) -> Scanned
+        ensures { OnPass (HasScanned low.now high.now chunks.old pairs.old) self.old
+            (filled result chunks.new pairs.new) self.new }
+    {
+        scans::scan_nowait(alloc, &self.table, &mut self.pass, low, high, chunks, pairs)
     }
 }

@@ -1,25 +1,24 @@
 //! A space as C holds it: open, with the passes that no session has, or closed, with its words.
 
-ghost use Rattle.std.specs.Prelude.{◌≡◌, false, length, IfErr, IfOk};
+ghost use Rattle.std.specs.Prelude.{◌≡◌, ◌↔◌, false, IfErr, IfOk, IsTrue};
 ghost use Rattle.ib_rule.specs.Pass.{IsFrom};
 ghost use Rattle.ib_c.specs.declared.space.Space.TheVariants.{Open};
 ghost use Rattle.ib_c.specs.declared.status.Status.TheVariants.{OutOfMemory};
 ghost use Rattle.ib_c.specs.SpaceStates.{AreAtRest, IsWhole};
-ghost use Rattle.ib_c.specs.Spaces.{HasClosedSpace, HasConnected, HasConnectedTo, HasDisconnected, HasDisconnectedFrom, HasEnded, HasOpened, IsFromSpace, IsNotConnected, IsNotDisconnected, IsRefusedEnd, IsRefusedStart, is_open};
+ghost use Rattle.ib_c.specs.Spaces.{HasClosedSpace, HasConnected, HasConnectedTo, HasDisconnected, HasDisconnectedFrom, HasEnded, HasOpened, IsFromSpace, IsNotConnected, IsNotDisconnected, IsNotEnded, IsOpened, IsRefusedEnd, IsRefusedStart, is_open};
 
 use crate::pool::{connect_all, disconnect_all};
 use crate::session::Session;
 use crate::status::Status;
 use crate::table::Table;
 use ib_layout::{Geometry, LayoutFault};
+use ib_logrec::MOST_SESSIONS;
 use ib_rule::{Pass, SpaceWords};
+use ib_shared::SharedSpace;
 use std::alloc::{AllocFailed, Global};
 use std::marker::Model;
 use std::mem::{ManuallyDrop, replace};
 use std::sync::Arc;
-
-/// The most sessions of a space.
-const MOST_SESSIONS: u32 = 1024;
 
 /// A space that is open.
 pub(crate) struct Opened {
@@ -29,13 +28,14 @@ pub(crate) struct Opened {
 
 impl Model for Opened {
     ghost use Rattle.std.specs.Arc.{arc_value};
-    ghost use Rattle.ib_c.specs.SpaceStates.{AreAtRest, OpenState};
+    ghost use Rattle.std.specs.Vec.{vec_capacity};
+    ghost use Rattle.ib_c.specs.SpaceStates.{IsPool, OpenState};
 
     ghost Value = { OpenState };
 
     ghost view = { λ s. record { space = arc_value s.table; pool = s.pool.items } };
 
-    ghost invariant = { λ s. AreAtRest (arc_value s.table) s.pool.items };
+    ghost invariant = { λ s. IsPool (arc_value s.table) s.pool.items (vec_capacity s.pool) };
 }
 
 /// A space: open, or closed with its words. `Gone` stands in its place while it is closed, and at no other time.
@@ -80,7 +80,7 @@ impl Opened {
 
     // A new space of these sizes, with so many passes. Refused for want of memory alone.
     fn with_sizes(alloc: Global, sizes: Geometry, sessions: u32) -> Result<Opened, Status>
-        ensures ok { IfOk result (λ s. (s.space.sizes ≡ sizes) × (length s.pool ≡ sessions)) }
+        ensures ok { IfOk result (IsOpened sizes sessions) }
         ensures err { IfErr result (λ e. e ≡ OutOfMemory) }
     {
         let Ok(mut pool) = Vec::with_capacity(alloc, sessions as usize) else {
@@ -109,12 +109,12 @@ impl Opened {
         ensures ok { IfOk result (λ b. HasConnected self.old b.value self.new) }
         ensures err { IfErr result (λ e. (self.new ≡ self.old) × IsRefusedStart self.old e) }
     {
-        let Ok(table) = Arc::try_clone(&self.table) else {
-            return Err(Status::OutOfMemory);
-        };
         let Some(pass) = self.pool.pop() else {
-            leak(table);
             return Err(Status::NoSessionLeft);
+        };
+        let Ok(table) = Arc::try_clone(&self.table) else {
+            self.pool.push_reserved(pass);
+            return Err(Status::OutOfMemory);
         };
         match Box::new(alloc, Session { table, pass }) {
             Ok(session) => Ok(session),
@@ -133,13 +133,13 @@ impl Opened {
         requires from { IsFrom self.old.space session.value.pass }
         ensures ok { IfOk result (λ x. HasDisconnected self.old session.value self.new) }
         ensures err { IfErr result (λ r. (r.0.value ≡ session.value) × (self.new ≡ self.old)
-            × IsRefusedEnd session.value r.1) }
+            × IsRefusedEnd self.old session.value r.1) }
     {
         if !session.is_at_rest() {
             return Err((session, Status::NotAllowed));
         }
-        if self.pool.reserve(1).is_err() {
-            return Err((session, Status::OutOfMemory));
+        if self.is_whole() {
+            return Err((session, Status::NotConnected));
         }
         let (table, pass) = Box::into_inner(session).into_parts();
         leak(table);
@@ -149,17 +149,25 @@ impl Opened {
 }
 
 impl Opened {
-    // What its sessions shared, with all passes given back. Where sessions are connected, it stays as it was.
-    fn end(self) -> Result<Table, Opened>
-        ensures ok { IfOk result (HasEnded self) }
-        ensures err { IfErr result (λ opened. opened ≡ self) }
+    // Whether all passes that were drawn and have not ended are in the pool: no session is connected.
+    fn is_whole(&self) -> bool
+        ensures { IsTrue result ↔ IsWhole self.now.space self.now.pool }
     {
-        let Opened { table, mut pool } = self;
-        if table.connected() as usize != pool.len() {
-            return Err(Opened { table, pool });
+        self.table.connected() as usize == self.pool.len()
+    }
+
+    // What its sessions shared, with all passes given back. Where sessions are connected, or a call on one has not
+    // ended, it stays as it was.
+    fn end(self) -> Result<Table, (Opened, Status)>
+        ensures ok { IfOk result (HasEnded self) }
+        ensures err { IfErr result (λ r. (r.0 ≡ self) × IsNotEnded self r.1) }
+    {
+        if !self.is_whole() {
+            return Err((self, Status::Connected));
         }
+        let Opened { table, mut pool } = self;
         match Arc::try_unwrap(table) {
-            Err(table) => Err(Opened { table, pool }),
+            Err(table) => Err((Opened { table, pool }, Status::InCall)),
             Ok(mut table) => {
                 disconnect_all(&mut table, &mut pool);
                 pool.destroy_empty();
@@ -172,7 +180,7 @@ impl Opened {
     pub(crate) fn give_up(self) {
         match self.end() {
             Ok(table) => table.discard(),
-            Err(opened) => {
+            Err((opened, _)) => {
                 let _ = unsafe { ManuallyDrop::new_unchecked(opened) };
             }
         }
@@ -196,14 +204,14 @@ impl Space {
         status
     }
 
-    // The space closed, where it is open and no session is connected, and else as it was, with why.
+    // The space closed, where it is open and all its sessions are given back, and else as it was, with why.
     fn into_closed(self) -> (Space, Status)
         ensures { HasClosedSpace self result.1 result.0 }
     {
         match self {
             Space::Open(opened) => match opened.end() {
                 Ok(table) => (Space::Closed(table.into_words()), Status::Done),
-                Err(opened) => (Space::Open(opened), Status::Connected),
+                Err((opened, status)) => (Space::Open(opened), status),
             },
             Space::Closed(words) => (Space::Closed(words), Status::WrongState),
             Space::Gone => (Space::Gone, Status::WrongState),

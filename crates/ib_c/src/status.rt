@@ -18,6 +18,8 @@ pub(crate) enum Status {
     NotReady,
     /// The generation is the one recorded: the session may sleep.
     Asleep,
+    /// There is no room for the next chunk of a scan.
+    NoRoom,
     /// The handle is empty.
     NoHandle,
     /// The handle is not empty, where a call is to fill it.
@@ -52,10 +54,14 @@ pub(crate) enum Status {
     OutOfMemory,
     /// A key has 15 bytes at most.
     BadKey,
-    /// A place behind the end, or too many bytes.
+    /// A place behind the end, too many bytes, or no room for what is to be written.
     BadRange,
     /// The bytes, or the pages, are not lawful.
     Faulty,
+    /// A call on a session of the space has not ended.
+    InCall,
+    /// All sessions of the space are given back: this is none of them.
+    NotConnected,
 }
 
 impl Status {
@@ -70,6 +76,7 @@ impl Status {
             Status::Next => 3,
             Status::NotReady => 4,
             Status::Asleep => 5,
+            Status::NoRoom => 6,
             Status::NoHandle => 16,
             Status::InUse => 17,
             Status::BadLatch => 18,
@@ -89,6 +96,8 @@ impl Status {
             Status::BadKey => 32,
             Status::BadRange => 33,
             Status::Faulty => 34,
+            Status::InCall => 35,
+            Status::NotConnected => 36,
         }
     }
 }

@@ -1,7 +1,7 @@
 //! What sessions share.
 
-use ib_latch::{Latches, NoSleep};
-use ib_planned_log::KeptLaw;
+use ib_index::Index;
+use ib_latch::NoSleep;
 
 /// The latches and pages of one tree, where nobody sleeps inside a call.
-pub(crate) type Table = Latches<KeptLaw, NoSleep>;
+pub(crate) type Table = Index<NoSleep>;

@@ -91,7 +91,7 @@ pub(crate) fn try_s(table: &Table, pass: &mut Pass, latch: u32, level: u32) -> T
 {
     match may_take(table, pass, latch, level) {
         Err(status) => Tried::only(status),
-        Ok(level) => told(table.try_s(pass, Latch(latch), level)),
+        Ok(level) => told(table.latches().try_s(pass, Latch(latch), level)),
     }
 }
 
@@ -103,7 +103,7 @@ pub(crate) fn try_sx(table: &Table, pass: &mut Pass, latch: u32, level: u32) -> 
 {
     match may_claim(table, pass, latch, level) {
         Err(status) => Tried::only(status),
-        Ok(level) => told(table.try_sx(pass, Latch(latch), level)),
+        Ok(level) => told(table.latches().try_sx(pass, Latch(latch), level)),
     }
 }
 
@@ -115,7 +115,7 @@ pub(crate) fn try_x(table: &Table, pass: &mut Pass, latch: u32, level: u32) -> T
 {
     match may_try_x(table, pass, latch, level) {
         Err(status) => Tried::only(status),
-        Ok(level) => told(table.try_x(pass, Latch(latch), level)),
+        Ok(level) => told(table.latches().try_x(pass, Latch(latch), level)),
     }
 }
 
@@ -127,7 +127,7 @@ pub(crate) fn reserve_x(table: &Table, pass: &mut Pass, latch: u32, level: u32) 
 {
     match may_claim(table, pass, latch, level) {
         Err(status) => Tried::only(status),
-        Ok(level) => told_reserve(table.reserve_x(pass, Latch(latch), level)),
+        Ok(level) => told_reserve(table.latches().reserve_x(pass, Latch(latch), level)),
     }
 }
 
@@ -139,7 +139,7 @@ pub(crate) fn ready_x(table: &Table, pass: &mut Pass, latch: u32) -> Tried
 {
     match may_ready(table, pass, latch) {
         Err(status) => Tried::only(status),
-        Ok(()) => told_ready(table.ready_x(pass, Latch(latch))),
+        Ok(()) => told_ready(table.latches().ready_x(pass, Latch(latch))),
     }
 }
 

@@ -110,7 +110,7 @@ fn give_s(table: &Table, pass: &mut Pass, latch: Latch) -> Raise
         pass.old pass.new }
     ensures raised { IsSRaise latch.0 pass.old result pass.new }
 {
-    let space = table.space();
+    let space = table.latches().space();
     let word = space.give_s(pass, latch);
     if !is_drained(word) {
         return Raise::Nothing;
@@ -142,7 +142,7 @@ fn give_sx(table: &Table, pass: &mut Pass, latch: Latch) -> Raise
         (given_back ModeSx latch.0 pass.old.view.session) pass.old pass.new }
     ensures raised { IsSxRaise latch.0 pass.old result pass.new }
 {
-    let space = table.space();
+    let space = table.latches().space();
     let counts = pass.counts(latch);
     if counts.sx > 1 {
         space.give_sx_again(pass, latch);
@@ -178,7 +178,7 @@ fn give_x(table: &Table, pass: &mut Pass, latch: Latch) -> Raise
         pass.old pass.new }
     ensures raised { IsXRaise latch.0 pass.old result pass.new }
 {
-    let space = table.space();
+    let space = table.latches().space();
     if pass.counts(latch).x > 1 {
         space.give_x_again(pass, latch);
         return Raise::Nothing;
@@ -201,7 +201,7 @@ fn pay(table: &Table, pass: &mut Pass, latch: Latch) -> Raise
     if !clear(table, pass, latch) {
         return Raise::Nothing;
     }
-    let space = table.space();
+    let space = table.latches().space();
     Raise::Generation {
         now: space.raise_gen(pass, latch),
     }
@@ -214,7 +214,7 @@ fn look(table: &Table, pass: &mut Pass, latch: Latch) -> bool
     ensures same { pass.new ≡ with_view pass.old
         (phased (if result then OwesClear latch.0 else Free) pass.old.view) }
 {
-    let space = table.space();
+    let space = table.latches().space();
     space.load_waiters(pass, latch) > 0
 }
 
@@ -225,6 +225,6 @@ fn clear(table: &Table, pass: &mut Pass, latch: Latch) -> bool
     ensures same { pass.new ≡ with_view pass.old
         (phased (if result then OwesRaise latch.0 else Free) pass.old.view) }
 {
-    let space = table.space();
+    let space = table.latches().space();
     space.swap_waiters(pass, latch) > 0
 }

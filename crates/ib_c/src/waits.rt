@@ -54,7 +54,7 @@ pub(crate) fn arm(table: &Table, pass: &mut Pass, latch: u32, mode: u32, level: 
     match may_arm(table, pass, latch, mode, level) {
         Err(status) => told_generation(Err(status)),
         Ok((mode, level)) => {
-            let generation = table.arm(pass, Latch(latch), mode, level);
+            let generation = table.latches().arm(pass, Latch(latch), mode, level);
             told_generation(Ok((Status::Done, generation)))
         }
     }
@@ -95,7 +95,7 @@ pub(crate) fn recheck(table: &Table, pass: &mut Pass, latch: u32) -> Tried
 {
     match may_recheck(table, pass, latch) {
         Err(status) => Tried::only(status),
-        Ok(()) => told_reserve(table.recheck(pass, Latch(latch))),
+        Ok(()) => told_reserve(table.latches().recheck(pass, Latch(latch))),
     }
 }
 
@@ -129,7 +129,7 @@ pub(crate) fn stand_down(table: &Table, pass: &mut Pass, latch: u32) -> u32
     match may_stand_down(table, pass, latch) {
         Err(status) => status.number(),
         Ok(()) => {
-            table.stand_down(pass);
+            table.latches().stand_down(pass);
             Status::Done.number()
         }
     }
@@ -190,7 +190,7 @@ fn load_ex_gen(table: &Table, pass: &mut Pass, latch: Latch) -> u64
     ensures own { IsOf table.now pass.new }
     ensures loaded { IsExLoad latch.0 pass.old result pass.new }
 {
-    let space = table.space();
+    let space = table.latches().space();
     space.load_ex_gen(pass, latch)
 }
 
@@ -231,7 +231,7 @@ fn load_word(table: &Table, pass: &mut Pass, latch: Latch) -> LockWord
     ensures own { IsOf table.now pass.new }
     ensures loaded { IsWordLoad latch.0 pass.old result pass.new }
 {
-    let space = table.space();
+    let space = table.latches().space();
     space.load_word(pass, latch)
 }
 
@@ -304,7 +304,7 @@ fn look_first(table: &Table, pass: &mut Pass, latch: Latch) -> u64
     ensures own { IsOf table.now pass.new }
     ensures slept { IsSleepLook pass.old result pass.new }
 {
-    let space = table.space();
+    let space = table.latches().space();
     space.load_gen(pass, latch, None)
 }
 
@@ -316,7 +316,7 @@ fn look_next(table: &Table, pass: &mut Pass, latch: Latch) -> u64
     ensures own { IsOf table.now pass.new }
     ensures slept { IsSleepLook pass.old result pass.new }
 {
-    let space = table.space();
+    let space = table.latches().space();
     space.load_ex_gen(pass, latch)
 }
 

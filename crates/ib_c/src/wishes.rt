@@ -16,7 +16,7 @@ use ib_rule::Pass;
 pub(crate) fn has_latch(table: &Table, latch: u32) -> bool
     ensures { IsTrue result ↔ (latch < latches_of table.now.sizes) }
 {
-    latch < table.space().geometry().pages() + 2
+    latch < table.latches().space().geometry().pages() + 2
 }
 
 /// Whether the pass may take a first grant: the level, or why not.

@@ -9,5 +9,5 @@ use Rattle.ib_c.proofs.space.Opened.connect.Goals as goal
 pub invariant_of-new : goal.invariant_of-new
 invariant_of-new c =
     let s = arc_value c.self.inside.table in
-    let rest = one_fewer s c.pop.new.self.items c.in-Some.pass (subst (λ (xs : List PassState). AreAtRest s xs) c.in-Some.ensures.items c.self.invariant) in
+    let rest = one_fewer s c.pop.new.self.items c.in-Some.pass (subst (λ (xs : List PassState). AreAtRest s xs) c.in-Some.ensures.items c.self.invariant.rest) in
     subst (λ (t : SpaceState). IsOf t c.in-Some.pass) (sym c.in-Ok.ensures) rest.1.own
