@@ -1,9 +1,9 @@
 -- The chain after a slot of three is balanced.
 use Rattle.std.proofs.Common.{◌≡◌, ℕ, zero, suc, ◌+◌, ◌-◌, ◌*◌, ◌<◌, ◌≤◌, ◌≢◌, ◌⊎◌, false, [], ◌∷◌, ◌∙◌, List, length, take, drop, get_or, refl, ap, sym, arith, eqb, inl, inr, subst}
 use Rattle.std.proofs.lemmas.Bool.{cases_eq, eq-eqb, ne_eqb, cases_lt, le-leb, lt-leb}
-use Rattle.ib_heap.specs.Heap.{Node, first_of, owners, times, offsets_of}
-use Rattle.ib_heap.specs.Put.{owner_from, owned_by}
-use Rattle.ib_heap.specs.Take.{own_one_fewer, own_three_more, last_three_more, lend, lend_last, balance, balance_last}
+use Rattle.ib_heap.specs.Chain.{Node, first_of, owners, times, offsets_of}
+use Rattle.ib_heap.specs.ChainPut.{owner_from, owned_by}
+use Rattle.ib_heap.specs.ChainTake.{own_one_fewer, own_three_more, last_three_more, lend, lend_last, balance, balance_last}
 use Rattle.ib_heap.proofs.HeapLaws.{Chained, Owned}
 use Rattle.ib_heap.proofs.PutLaws.{one-same, Apart, apart-rest, apart-first, apart-owner, chain-same, first-member}
 use Rattle.ib_heap.proofs.SplitLaws.{first-offsets}

@@ -6,11 +6,11 @@ use Rattle.ib_map.specs.Keys.{MapKey}
 use Rattle.ib_map.specs.Pairs.{without, value_at, index_of}
 use Rattle.ib_map.specs.declared.TheConstants.{PAGE_WORDS}
 use Rattle.ib_heap.specs.Page.{Page, PageValue}
-use Rattle.ib_heap.specs.Heap.{Node, Heap, first_of, owners, times, offsets_of, records_in, used_offsets, page_with, nodes_of, read_heap, is_shaped}
+use Rattle.ib_heap.specs.Chain.{Node, Chain, first_of, owners, times, offsets_of, records_in, used_in_chain, page_with, nodes_of, read_chain, is_shaped}
 use Rattle.ib_heap.specs.Form.{page_of}
 use Rattle.ib_heap.specs.Image.{value_with_records, records_of}
-use Rattle.ib_heap.specs.Put.{owner_from, owned_by}
-use Rattle.ib_heap.specs.Take.{unlink_node, unlink_last, unlink_in, balance, balance_last, remove_in}
+use Rattle.ib_heap.specs.ChainPut.{owner_from, owned_by}
+use Rattle.ib_heap.specs.ChainTake.{unlink_node, unlink_last, unlink_from_chain, balance, balance_last, remove_from_chain}
 use Rattle.ib_heap.specs.Kept.{IsKept}
 use Rattle.ib_heap.specs.Steps.{IsOffsetOfKey, IsLent, IsSlotJoined}
 use Rattle.ib_heap.proofs.KeptLaws.{kept-fixed, kept-offset, kept-far}
@@ -29,19 +29,19 @@ use Rattle.ib_heap.proofs.SlotLaws.{count, owner-count, owner-skip, count-step, 
 use Rattle.ib_heap.proofs.UnlinkSteps.{lt, slot-is, apart, slot-range, used-unlink}
 
 module _ (ws w0 : List ℕ) (key : MapKey) (slot before at : ℕ) (kn : Known ws) (st : IsOffsetOfKey ws key slot before at) (found : value_at key (records_of ws) ≢ None)
-    (shp : is_shaped w0 (unlink_in (index_of key (records_of ws)) (read_heap ws)) ≡ true)
+    (shp : is_shaped w0 (unlink_from_chain (index_of key (records_of ws)) (read_chain ws)) ≡ true)
     (pg : page_with w0 (records_in w0 (unlink_node (index_of key (records_of ws)) (nodes_of ws))) ≡ page_with ws (without key (records_of ws))) where
   abbrev k : ℕ
   k = index_of key (records_of ws)
 
-  abbrev h1 : Heap
-  h1 = unlink_in k (read_heap ws)
+  abbrev h1 : Chain
+  h1 = unlink_from_chain k (read_chain ws)
 
   abbrev ys : List Node
   ys = unlink_node k (nodes_of ws)
 
   abbrev yl : ℕ
-  yl = unlink_last k (nodes_of ws) (read_heap ws).last
+  yl = unlink_last k (nodes_of ws) (read_chain ws).last
 
   abbrev short : ℕ
   short = get_or w0 (8 + slot) 0
@@ -53,7 +53,7 @@ module _ (ws w0 : List ℕ) (key : MapKey) (slot before at : ℕ) (kn : Known ws
   sh = (Shaped-Decides w0 h1).0 shp
 
   cs : UnlinkSlot ys yl slot
-  cs = unlink-slot k slot (nodes_of ws) (read_heap ws).last (lt ws key slot before at kn st found) kn.is.owned (apart ws key slot before at kn st found) (slot-is ws key slot before at kn st found)
+  cs = unlink-slot k slot (nodes_of ws) (read_chain ws).last (lt ws key slot before at kn st found) kn.is.owned (apart ws key slot before at kn st found) (slot-is ws key slot before at kn st found)
 
   abbrev m0 : ℕ
   m0 = cs.number
@@ -68,7 +68,7 @@ module _ (ws w0 : List ℕ) (key : MapKey) (slot before at : ℕ) (kn : Known ws
   low q m = low-member h1 offsets1 sh.few q (omega arith)
 
   under1 : Under 0 ys yl
-  under1 = under-unlink k 0 (nodes_of ws) (read_heap ws).last (lt ws key slot before at kn st found) (λ z. omega arith) kn.is.owned
+  under1 = under-unlink k 0 (nodes_of ws) (read_chain ws).last (lt ws key slot before at kn st found) (λ z. omega arith) kn.is.owned
 
   slot-few : slot ≤ 9
   slot-few = slot-range ws key slot before at kn st found
@@ -90,11 +90,11 @@ module _ (ws w0 : List ℕ) (key : MapKey) (slot before at : ℕ) (kn : Known ws
   pub short-range : (19 ≤ short) × (short ≤ 156)
   short-range = range-of short (owner-cases m0 short short-is)
 
-  offsets-ok : AreOffsets (used_offsets h1) (offsets_of ys)
+  offsets-ok : AreOffsets (used_in_chain h1) (offsets_of ys)
   offsets-ok = AreOffsets-left _ _ _ sh.offsets
 
   short-word : OwnerWord (get_or w0 short 0) (owned_by (drop m0 ys) yl)
-  short-word = let o = owner-word w0 (used_offsets h1) m0 ys yl sh.few offsets-ok sh.chained cs.within in record { next = o.next; is = ap (λ n. get_or w0 n 0) short-is ∙ o.is; low = o.low }
+  short-word = let o = owner-word w0 (used_in_chain h1) m0 ys yl sh.few offsets-ok sh.chained cs.within in record { next = o.next; is = ap (λ n. get_or w0 n 0) short-is ∙ o.is; low = o.low }
 
   pub well-from : ((short ≡ 19) ⊎ (get_or w0 short 0 / 256 ≢ 3)) → Owned 0 ys yl
   well-from c = elim cs.well [
@@ -103,24 +103,24 @@ module _ (ws w0 : List ℕ) (key : MapKey) (slot before at : ℕ) (kn : Known ws
   ]
 
   wanted : value_with_records (without key (records_of ws)) (page_of ws) ≡ Tree (page_with ws (without key (records_of ws)))
-  wanted = ap (λ (v : PageValue). value_with_records (without key (records_of ws)) v) (page-from ws (read_heap ws) kn.is)
+  wanted = ap (λ (v : PageValue). value_with_records (without key (records_of ws)) v) (page-from ws (read_chain ws) kn.is)
 
   pub well-page : Owned 0 ys yl → page_of w0 ≡ value_with_records (without key (records_of ws)) (page_of ws)
   well-page owned = page-from w0 h1 (record { shape = sh; owned = owned }) ∙ (ap (λ (q : Page). Tree q) pg ∙ sym wanted)
 
-  abbrev mk : List Node → ℕ → Heap
+  abbrev mk : List Node → ℕ → Chain
   mk ns n = record { nodes = ns; last = n; free = h1.free }
 
-  pub well-heap : Owned 0 ys yl → read_heap w0 ≡ remove_in k (read_heap ws)
+  pub well-heap : Owned 0 ys yl → read_chain w0 ≡ remove_from_chain k (read_chain ws)
   well-heap owned = let s = balance-well 0 ys yl owned in heap-read w0 h1 (record { shape = sh; owned = owned }) ∙ (ap (λ (ns : List Node). mk ns yl) (sym s.0) ∙ ap (λ (n : ℕ). mk (balance ys yl) n) (sym s.1))
 
-  kept-here : (i : ℕ) → IsKept (used_offsets (read_heap ws)) i → IsKept (used_offsets h1) i
+  kept-here : (i : ℕ) → IsKept (used_in_chain (read_chain ws)) i → IsKept (used_in_chain h1) i
   kept-here i kept = subst (λ (n : ℕ). IsKept n i) (sym (used-unlink ws key slot before at kn st found)) kept
 
-  kept-low : (i q : ℕ) → IsKept (used_offsets (read_heap ws)) i → (q ≡ 19) ⊎ (0 < times q (offsets_of ys)) → i ≢ q
+  kept-low : (i q : ℕ) → IsKept (used_in_chain (read_chain ws)) i → (q ≡ 19) ⊎ (0 < times q (offsets_of ys)) → i ≢ q
   kept-low i q kept c = elim c [
     | inl e ↦ kept-fixed _ i q kept (inr (omega arith, omega arith))
-    | inr m ↦ kept-offset (used_offsets h1) i q (kept-here i kept) (offsets1.offset q (omega arith))
+    | inr m ↦ kept-offset (used_in_chain h1) i q (kept-here i kept) (offsets1.offset q (omega arith))
   ]
 
   not-in : (i q : ℕ) → times i (offsets_of ys) ≡ 0 → i ≢ 19 → (q ≡ 19) ⊎ (0 < times q (offsets_of ys)) → i ≢ q
@@ -179,7 +179,7 @@ module _ (ws w0 : List ℕ) (key : MapKey) (slot before at : ℕ) (kn : Known ws
     after-word : OwnerWord (get_or w0 after 0) (owned_by (drop (suc t) ys) yl)
     after-word =
         let l1 = lt1 in
-        let o = owner-word w0 (used_offsets h1) (suc t) ys yl sh.few offsets-ok sh.chained (omega arith) in let i = o.is in
+        let o = owner-word w0 (used_in_chain h1) (suc t) ys yl sh.few offsets-ok sh.chained (omega arith) in let i = o.is in
         record { next = o.next; is = ap (λ n. get_or w0 n 0) after-is ∙ o.is; low = o.low }
 
     word-t : get_or w0 short 0 ≡ 3 * 256 + first_of (drop (suc t) ys)
@@ -234,7 +234,7 @@ module _ (ws w0 : List ℕ) (key : MapKey) (slot before at : ℕ) (kn : Known ws
           let lw = next-low (suc (suc t)) (let l1 = ls.0 in omega arith) in omega arith
         where
           next-low : (i : ℕ) → i ≤ length ys → first_of (drop i ys) < 256
-          next-low i le = elim (first-in (used_offsets h1) ys i sh.few offsets-ok le) [ inl e ↦ (let f = e.0 in omega arith) | inr e ↦ (let f = e.1.0 in omega arith) ]
+          next-low i le = elim (first-in (used_in_chain h1) ys i sh.few offsets-ok le) [ inl e ↦ (let f = e.0 in omega arith) | inr e ↦ (let f = e.1.0 in omega arith) ]
 
       pub after-much : 256 ≤ get_or w0 after 0
       after-much = omega arith
@@ -263,21 +263,21 @@ module _ (ws w0 : List ℕ) (key : MapKey) (slot before at : ℕ) (kn : Known ws
         size2 : length w1 ≡ PAGE_WORDS
         size2 = u.size ∙ sh.size
 
-        top1 : get_or w1 7 0 ≡ (1 + length (owners (balance ys yl))) * 256 + (20 + 4 * used_offsets h1)
+        top1 : get_or w1 7 0 ≡ (1 + length (owners (balance ys yl))) * 256 + (20 + 4 * used_in_chain h1)
         top1 =
             let a = short-range.0 in let b = after-range.0 in let d = first-range.0 in let l1 = set1.long in let t0 = sh.top in
             let e = u.other 7 (λ z. absurd (omega arith)) (λ z. absurd (omega arith)) (λ z. absurd (omega arith)) (λ z. absurd (omega arith)) in omega arith
 
-        heap1 : IsHeap w1 (remove_in k (read_heap ws))
+        heap1 : IsHeap w1 (remove_from_chain k (read_chain ws))
         heap1 = record { shape = other-shaped w0 w1 h1 (balance ys yl) (balance_last ys yl) sh (offsets-balance ys yl) size2 other1 chained1 directory1 top1; owned = owned-balance 0 ys yl under1 }
 
         pub lend-page : page_of w1 ≡ value_with_records (without key (records_of ws)) (page_of ws)
-        lend-page = page-from w1 (remove_in k (read_heap ws)) heap1 ∙ (ap (λ (q : Page). Tree q) (other-page w0 w1 h1 (balance ys yl) (balance_last ys yl) sh (offsets-balance ys yl) size2 other1 ∙ pg) ∙ sym wanted)
+        lend-page = page-from w1 (remove_from_chain k (read_chain ws)) heap1 ∙ (ap (λ (q : Page). Tree q) (other-page w0 w1 h1 (balance ys yl) (balance_last ys yl) sh (offsets-balance ys yl) size2 other1 ∙ pg) ∙ sym wanted)
 
-        pub lend-heap : read_heap w1 ≡ remove_in k (read_heap ws)
-        lend-heap = heap-read w1 (remove_in k (read_heap ws)) heap1
+        pub lend-heap : read_chain w1 ≡ remove_from_chain k (read_chain ws)
+        lend-heap = heap-read w1 (remove_from_chain k (read_chain ws)) heap1
 
-        pub lend-kept : (i : ℕ) → IsKept (used_offsets (read_heap ws)) i → get_or w1 i 0 ≡ get_or w0 i 0
+        pub lend-kept : (i : ℕ) → IsKept (used_in_chain (read_chain ws)) i → get_or w1 i 0 ≡ get_or w0 i 0
         lend-kept i kept = let s = slot-few in u.other i (kept-low i short kept (inr short-in)) (kept-low i first kept (inr lent-in)) (kept-low i after kept after-cases) (λ z. elim (kept-far _ i kept) [ inl f ↦ absurd (omega arith) | inr f ↦ absurd (omega arith) ])
 
     -- it joins the slot after it
@@ -331,17 +331,17 @@ module _ (ws w0 : List ℕ) (key : MapKey) (slot before at : ℕ) (kn : Known ws
         size3 : length w1 ≡ PAGE_WORDS
         size3 = u.size ∙ sh.size
 
-        top3 : get_or w1 7 0 ≡ (1 + length (owners (balance ys yl))) * 256 + (20 + 4 * used_offsets h1)
+        top3 : get_or w1 7 0 ≡ (1 + length (owners (balance ys yl))) * 256 + (20 + 4 * used_in_chain h1)
         top3 = let l1 = gone1.long in let t0 = sh.top in let e = u.top in omega arith
 
-        heap3 : IsHeap w1 (remove_in k (read_heap ws))
+        heap3 : IsHeap w1 (remove_from_chain k (read_chain ws))
         heap3 = record { shape = other-shaped w0 w1 h1 (balance ys yl) (balance_last ys yl) sh (offsets-balance ys yl) size3 other3 chained3 directory3 top3; owned = owned-balance 0 ys yl under1 }
 
         pub join-page : page_of w1 ≡ value_with_records (without key (records_of ws)) (page_of ws)
-        join-page = page-from w1 (remove_in k (read_heap ws)) heap3 ∙ (ap (λ (q : Page). Tree q) (other-page w0 w1 h1 (balance ys yl) (balance_last ys yl) sh (offsets-balance ys yl) size3 other3 ∙ pg) ∙ sym wanted)
+        join-page = page-from w1 (remove_from_chain k (read_chain ws)) heap3 ∙ (ap (λ (q : Page). Tree q) (other-page w0 w1 h1 (balance ys yl) (balance_last ys yl) sh (offsets-balance ys yl) size3 other3 ∙ pg) ∙ sym wanted)
 
-        pub join-heap : read_heap w1 ≡ remove_in k (read_heap ws)
-        join-heap = heap-read w1 (remove_in k (read_heap ws)) heap3
+        pub join-heap : read_chain w1 ≡ remove_from_chain k (read_chain ws)
+        join-heap = heap-read w1 (remove_from_chain k (read_chain ws)) heap3
 
-        pub join-kept : (i : ℕ) → IsKept (used_offsets (read_heap ws)) i → get_or w1 i 0 ≡ get_or w0 i 0
+        pub join-kept : (i : ℕ) → IsKept (used_in_chain (read_chain ws)) i → get_or w1 i 0 ≡ get_or w0 i 0
         join-kept i kept = let a = top-few in u.other i (elim (kept-far _ i kept) [ inl f ↦ inl f | inr f ↦ inr (omega arith) ]) (kept-low i short kept (inr short-in)) (kept-low i after kept after-cases)

@@ -1,9 +1,9 @@
 -- The slots after a record is taken out, and after a short slot is balanced.
 use Rattle.std.proofs.Common.{◌≡◌, ℕ, zero, suc, ◌+◌, ◌<◌, ◌≤◌, ◌⊎◌, [], ◌∷◌, List, length, refl, ap, sym, arith, inl, inr, subst}
 use Rattle.std.proofs.lemmas.Bool.{cases_eq, eq-eqb, ne_eqb, cases_lt, le-leb, lt-leb}
-use Rattle.ib_heap.specs.Heap.{Node, offsets_of}
-use Rattle.ib_heap.specs.Put.{owned_by}
-use Rattle.ib_heap.specs.Take.{own_one_fewer, last_one_fewer, unlink_node, unlink_last, own_three_more, last_three_more, lend, lend_last, balance, balance_last}
+use Rattle.ib_heap.specs.Chain.{Node, offsets_of}
+use Rattle.ib_heap.specs.ChainPut.{owned_by}
+use Rattle.ib_heap.specs.ChainTake.{own_one_fewer, last_one_fewer, unlink_node, unlink_last, own_three_more, last_three_more, lend, lend_last, balance, balance_last}
 use Rattle.ib_heap.proofs.HeapLaws.{Owned, IsOwner}
 
 -- slots of which one, that of a record, may own three

@@ -5,9 +5,10 @@ use Rattle.ib_map.specs.Keys as K
 use Rattle.ib_heap.specs.declared.TheConstants.{MOST_LEVEL}
 use Rattle.ib_heap.specs.Words.{zeros}
 use Rattle.ib_heap.specs.Page.PageValue.{Tree}
-use Rattle.ib_heap.specs.Heap.{read_heap}
-use Rattle.ib_heap.specs.Form.{page_of, empty_leaf_words}
+use Rattle.ib_heap.specs.Chain.{Chain}
+use Rattle.ib_heap.specs.Heap.{read_heap, heap_of}
 use Rattle.ib_heap.specs.Filled.{empty_heap}
+use Rattle.ib_heap.specs.Form.{page_of, empty_leaf_words}
 use Rattle.ib_heap.proofs.HeapLaws.{IsHeap, heap-read, page-from}
 use Rattle.ib_heap.specs.Laws.{FormLaw}
 use Rattle.ib_heap.proofs.FreeLaws.{zeros-at}
@@ -17,7 +18,11 @@ use Rattle.ib_heap.proofs.FormLaws.{tree_fits, length-formed, formed-tree, page_
 abbrev pub empty_words : ℕ → ℕ → List ℕ
 empty_words level clock = set (set (set (set (set (set (set (set (replicate PAGE_WORDS 0) 0 1) 1 level) 5 clock) 7 532) 8 18) 9 19) 18 275) 19 256
 
-empty-is : (level clock : ℕ) → level ≤ MOST_LEVEL → IsHeap (empty_words level clock) empty_heap
+-- no records, and no free offsets
+abbrev empty_chain : Chain
+empty_chain = record { nodes = []; last = 1; free = [] }
+
+empty-is : (level clock : ℕ) → level ≤ MOST_LEVEL → IsHeap (empty_words level clock) empty_chain
 unfolding K.end_rank
 empty-is level clock le = record {
   shape = record {
@@ -40,10 +45,10 @@ empty-is level clock le = record {
 }
 
 pub empty-page : (level clock : ℕ) → level ≤ MOST_LEVEL → page_of (empty_words level clock) ≡ Tree (record { level = level; prev = 0; next = 0; clock = clock; records = [] })
-empty-page level clock le = page-from (empty_words level clock) empty_heap (empty-is level clock le)
+empty-page level clock le = page-from (empty_words level clock) empty_chain (empty-is level clock le)
 
 pub empty-heap : (level clock : ℕ) → level ≤ MOST_LEVEL → read_heap (empty_words level clock) ≡ empty_heap
-empty-heap level clock le = heap-read (empty_words level clock) empty_heap (empty-is level clock le)
+empty-heap level clock le = ap heap_of (heap-read (empty_words level clock) empty_chain (empty-is level clock le))
 
 -- an empty leaf, word for word
 pub leaf-words : (level clock : ℕ) → level ≡ 0 → empty_words level clock ≡ empty_leaf_words clock

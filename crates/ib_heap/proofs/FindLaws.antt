@@ -5,7 +5,7 @@ use Rattle.ib_map.specs.Keys.{MapKey, rank, end_rank}
 use Rattle.ib_map.specs.Pairs.{value_at, index_of, index_after}
 use Rattle.ib_map.proofs.IndexLaws.{index_of-le, value_at-found, value_at-past, value_at-differs}
 use Rattle.ib_heap.proofs.RouteLaws.{routed-found, routed-absent, index-positive}
-use Rattle.ib_heap.specs.Heap.{key_at, is_key_at, first_of, used_offsets, read_heap, last_from, nodes_of}
+use Rattle.ib_heap.specs.Chain.{key_at, is_key_at, first_of, used_in_chain, read_chain, last_from, nodes_of}
 use Rattle.ib_heap.specs.Image.{records_of}
 use Rattle.ib_heap.proofs.SeekLaws.{Known, first-in, last-in, last-first, keyed-at, record-is}
 
@@ -17,13 +17,13 @@ module _ (ws : List ℕ) (key : MapKey) (before at : ℕ) (kn : Known ws) (befor
   k_le = let a = index_of-le key (records_of ws) in let l = kn.long in omega arith
 
   pub at-low : at ≤ 156
-  at-low = elim (first-in (used_offsets (read_heap ws)) (nodes_of ws) k kn.few kn.offsets k_le) [ inl e ↦ (let a = e.0 in let b = at_is in omega arith) | inr e ↦ (let a = e.1.0 in let b = at_is in omega arith) ]
+  at-low = elim (first-in (used_in_chain (read_chain ws)) (nodes_of ws) k kn.few kn.offsets k_le) [ inl e ↦ (let a = e.0 in let b = at_is in omega arith) | inr e ↦ (let a = e.1.0 in let b = at_is in omega arith) ]
 
   pub before-low : before ≤ 156
-  before-low = elim (last-in (used_offsets (read_heap ws)) 18 (nodes_of ws) k kn.few kn.offsets k_le) [ inl e ↦ (let a = e.1 in let b = before_is in omega arith) | inr e ↦ (let a = e.1 in let b = before_is in omega arith) ]
+  before-low = elim (last-in (used_in_chain (read_chain ws)) 18 (nodes_of ws) k kn.few kn.offsets k_le) [ inl e ↦ (let a = e.1 in let b = before_is in omega arith) | inr e ↦ (let a = e.1 in let b = before_is in omega arith) ]
 
   within : at ≢ 19 → k < length (nodes_of ws)
-  within ne = elim (first-in (used_offsets (read_heap ws)) (nodes_of ws) k kn.few kn.offsets k_le) [ inl e ↦ absurd (ne (at_is ∙ e.0)) | inr e ↦ e.1.1 ]
+  within ne = elim (first-in (used_in_chain (read_chain ws)) (nodes_of ws) k kn.few kn.offsets k_le) [ inl e ↦ absurd (ne (at_is ∙ e.0)) | inr e ↦ e.1.1 ]
 
   -- the record at the offset has a key
   pub at-keyed : at ≢ 19 → is_key_at ws at ≡ true
@@ -40,7 +40,7 @@ module _ (ws : List ℕ) (key : MapKey) (before at : ℕ) (kn : Known ws) (befor
       subst (λ (o : Option (MapKey × ℕ)). IsSomeAnd o (λ r. value_at key (records_of ws) ≡ Some r.1)) (has-record ne) got
 
   pub absent-end : at ≡ 19 → value_at key (records_of ws) ≡ None
-  absent-end e = elim (first-in (used_offsets (read_heap ws)) (nodes_of ws) k kn.few kn.offsets k_le) [
+  absent-end e = elim (first-in (used_in_chain (read_chain ws)) (nodes_of ws) k kn.few kn.offsets k_le) [
     | inl f ↦ value_at-past key 0 (records_of ws) end_rank k kn.rises refl (slice_get_past (records_of ws) k (let g = f.1 in let l = kn.long in omega arith))
     | inr f ↦ absurd (let a = f.0 in let b = at_is in omega arith)
   ]

@@ -9,7 +9,7 @@ use Rattle.ib_heap.specs.declared.TheConstants.{MOST_LEVEL, MOST_RECORDS}
 use Rattle.ib_heap.specs.Words.{zeros, free_page_words}
 use Rattle.ib_heap.specs.Page.{Page, IsPage, HoldsTree, HoldsPage, page_in}
 use Rattle.ib_heap.specs.Page.PageValue.{Malformed, Free, Tree}
-use Rattle.ib_heap.specs.Heap.{records_in, is_heap, read_heap, page_with, nodes_of}
+use Rattle.ib_heap.specs.Chain.{records_in, is_heap, read_chain, page_with, nodes_of}
 use Rattle.ib_heap.specs.Form.{page_of}
 use Rattle.ib_heap.proofs.HeapLaws.{IsHeap, IsHeap-Decides, page-from}
 use Rattle.ib_heap.proofs.SeekLaws.{length-records}
@@ -19,7 +19,7 @@ pub record HasTree (ws : List ℕ) : Type 0 where
   pub page : Page
   pub holds : page_of ws ≡ Tree page
   pub fits : IsPage page
-  pub is : IsHeap ws (read_heap ws)
+  pub is : IsHeap ws (read_chain ws)
 
 -- what is known of an image that holds a free page
 pub record HasFree (ws : List ℕ) : Type 0 where
@@ -35,8 +35,8 @@ pub data Kinds (ws : List ℕ) : Type 0 where
 
 pub kinds_of : (ws : List ℕ) → Kinds ws
 unfolding page_of
-kinds_of ws = elim (cases_Bool (is_heap ws (read_heap ws))) [
-  | inl good ↦ tree (let k = (IsHeap-Decides ws (read_heap ws)).0 good in record { page = page_with ws (records_in ws (nodes_of ws)); holds = page-from ws (read_heap ws) k; fits = k.shape.fits; is = k })
+kinds_of ws = elim (cases_Bool (is_heap ws (read_chain ws))) [
+  | inl good ↦ tree (let k = (IsHeap-Decides ws (read_chain ws)).0 good in record { page = page_with ws (records_in ws (nodes_of ws)); holds = page-from ws (read_chain ws) k; fits = k.shape.fits; is = k })
   | inr none ↦ elim (cases_Bool (bytes_eq ws (free_page_words (get_or ws 5 0)))) [
     | inl is_free ↦ free (record {
       clock = get_or ws 5 0;
@@ -97,10 +97,10 @@ pub record HeaderRead (ws : List ℕ) : Type 0 where
   pub few : length (page_in (page_of ws)).records ≤ MOST_RECORDS
   pub size : length ws ≡ PAGE_WORDS
 
-header_read-tree : (ws : List ℕ) → IsHeap ws (read_heap ws) → HeaderRead ws
+header_read-tree : (ws : List ℕ) → IsHeap ws (read_chain ws) → HeaderRead ws
 header_read-tree ws is =
     let here : Page = page_with ws (records_in ws (nodes_of ws)) in
-    let at : page_in (page_of ws) ≡ here = ap page_in (page-from ws (read_heap ws) is) in
+    let at : page_in (page_of ws) ≡ here = ap page_in (page-from ws (read_chain ws) is) in
     record {
       level = ap (λ (q : Page). q.level) (sym at);
       count = is.shape.count ∙ (sym (length-records ws (nodes_of ws)) ∙ ap (λ (q : Page). length q.records) (sym at));
@@ -162,12 +162,12 @@ kind_read ws holds = elim (kinds_of ws) [
 ]
 
 -- words are formed by their heap, or as a free page
-pub formed-heap : (ws : List ℕ) → is_heap ws (read_heap ws) ≡ true → HoldsPage (page_of ws)
-formed-heap ws good = subst HoldsPage (sym (page-from ws (read_heap ws) ((IsHeap-Decides ws (read_heap ws)).0 good))) tt
+pub formed-heap : (ws : List ℕ) → is_heap ws (read_chain ws) ≡ true → HoldsPage (page_of ws)
+formed-heap ws good = subst HoldsPage (sym (page-from ws (read_chain ws) ((IsHeap-Decides ws (read_chain ws)).0 good))) tt
 
-pub heap-formed : (ws : List ℕ) → get_or ws 0 0 ≡ 1 → HoldsPage (page_of ws) → is_heap ws (read_heap ws) ≡ true
+pub heap-formed : (ws : List ℕ) → get_or ws 0 0 ≡ 1 → HoldsPage (page_of ws) → is_heap ws (read_chain ws) ≡ true
 heap-formed ws one holds = elim (kinds_of ws) [
-  | tree h ↦ (IsHeap-Decides ws (read_heap ws)).1 h.is
+  | tree h ↦ (IsHeap-Decides ws (read_chain ws)).1 h.is
   | free h ↦ absurd (let none : get_or ws 0 0 ≡ 0 = ap (λ (xs : List ℕ). get_or xs 0 0) h.words ∙ first-free_page_words h.clock in omega arith)
   | neither is ↦ absurd (subst HoldsPage is holds)
 ]

@@ -2,7 +2,7 @@
 use Rattle.std.proofs.Common.{inl, inr, ◌≡◌, ℕ, zero, suc, ◌+◌, ◌-◌, ◌*◌, ◌/◌, ◌%◌, ◌<◌, ◌≤◌, true, false, ◌∙◌, List, [], ◌∷◌, length, get_or, set, refl, ap, sym, arith, Bool, ◌&&◌, eqb}
 use Rattle.std.proofs.lemmas.Bool.{and_left, and_right, eq-eqb, ne_eqb, cases_eq}
 use Rattle.ib_heap.specs.declared.formed.ChainStep.{ChainStep}
-use Rattle.ib_heap.specs.Heap.{Node, offsets_of, chain_from, free_from, is_directory, owners, first_of, first_free}
+use Rattle.ib_heap.specs.Chain.{Node, offsets_of, chain_from, free_from, is_directory, owners, first_of, first_free}
 use Rattle.ib_heap.specs.Walks.{is_new, are_new, met_with, chain_holds, LeavesStep, end_from, free_end}
 use Rattle.ib_heap.proofs.HeapLaws.{Chained, Freed, AreOffsets}
 

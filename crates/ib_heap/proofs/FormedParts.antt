@@ -3,7 +3,7 @@ use Rattle.std.proofs.Common.{inl, inr, ◌≡◌, ℕ, zero, suc, ◌+◌, ◌-
 use Rattle.std.proofs.lemmas.Bool.{cases_Bool, cases_eq, eq-eqb, eqb-true, and_from, and_parts}
 use Rattle.ib_map.specs.Keys.{end_rank}
 use Rattle.ib_heap.specs.Page.{rises, HasLimits}
-use Rattle.ib_heap.specs.Heap.{Heap, is_heap, read_heap, offsets_of, chain_from, free_from, is_directory, is_owned, owners, records_in, first_of, first_free, used_offsets}
+use Rattle.ib_heap.specs.Chain.{Chain, is_heap, read_chain, offsets_of, chain_from, free_from, is_directory, is_owned, owners, records_in, first_of, first_free, used_in_chain}
 use Rattle.ib_heap.specs.Walks.{HasHeader, HasSlots, IsUnmet, are_new, met_with, first_step, chain_holds, end_from, free_end}
 use Rattle.ib_heap.proofs.PageLaws.{rises-Decides}
 use Rattle.ib_heap.proofs.HeapLaws.{Chained, Freed, Directory, AreOffsets, EachOnce, IsHeap, IsHeap-Decides, Owned-Decides, Directory-Decides, AreOffsets-left, last-word}
@@ -27,25 +27,25 @@ pub freed-end : (ws : List ℕ) (n p : ℕ) → Freed ws (free_from ws n p) → 
 freed-end ws zero p h e = e
 freed-end ws (suc n) p h e = freed-end ws n (get_or ws p 0) h.1 h.0
 
-pub refuse : (ws : List ℕ) → (IsHeap ws (read_heap ws) → ⊥) → false ≡ is_heap ws (read_heap ws)
-refuse ws bad = elim (cases_Bool (is_heap ws (read_heap ws))) [
-  | inl good ↦ absurd (bad ((IsHeap-Decides ws (read_heap ws)).0 good))
+pub refuse : (ws : List ℕ) → (IsHeap ws (read_chain ws) → ⊥) → false ≡ is_heap ws (read_chain ws)
+refuse ws bad = elim (cases_Bool (is_heap ws (read_chain ws))) [
+  | inl good ↦ absurd (bad ((IsHeap-Decides ws (read_chain ws)).0 good))
   | inr f ↦ sym f
 ]
 
-module _ (ws : List ℕ) (k : IsHeap ws (read_heap ws)) where
-  abbrev h : Heap
-  h = read_heap ws
+module _ (ws : List ℕ) (k : IsHeap ws (read_chain ws)) where
+  abbrev h : Chain
+  h = read_chain ws
 
   low : first_of h.nodes < 256
-  low = elim (first-in (used_offsets h) h.nodes 0 k.shape.few (AreOffsets-left _ _ _ k.shape.offsets) (omega arith)) [ inl e ↦ (let f = e.0 in omega arith) | inr e ↦ (let f = e.1.0 in omega arith) ]
+  low = elim (first-in (used_in_chain h) h.nodes 0 k.shape.few (AreOffsets-left _ _ _ k.shape.offsets) (omega arith)) [ inl e ↦ (let f = e.0 in omega arith) | inr e ↦ (let f = e.1.0 in omega arith) ]
 
   pub header-of : HasHeader ws
   header-of =
       let t = k.shape.top in let c = k.shape.count in let f = k.shape.few in let s = k.shape.start in let l = low in let w = last-word ws h.nodes h.last k.shape.chained in
       (k.shape.kind, (omega arith, (omega arith, (omega arith, (omega arith, (omega arith, (omega arith, (omega arith, k.shape.directory.0))))))))
 
-  used-is : used_offsets h ≡ (get_or ws 7 0 % 256 - 20) / 4
+  used-is : used_in_chain h ≡ (get_or ws 7 0 % 256 - 20) / 4
   used-is = let t = k.shape.top in let f = k.shape.few in omega arith
 
   pub end-of : end_from ws (get_or ws 2 0) (get_or ws 18 0 % 256) ≡ 19
@@ -79,10 +79,10 @@ module _ (ws : List ℕ) (k : IsHeap ws (read_heap ws)) where
 
   new-of : (met : List ℕ) → IsUnmet met → are_new ((get_or ws 7 0 % 256 - 20) / 4) met (offsets_of h.nodes ++ h.free) ≡ true
   new-of met unmet =
-      let few : used_offsets h ≤ 35 = k.shape.few in
+      let few : used_in_chain h ≤ 35 = k.shape.few in
       subst (λ (n : ℕ). are_new n met (offsets_of h.nodes ++ h.free) ≡ true) used-is
-      (few-new (used_offsets h) met (offsets_of h.nodes ++ h.free) few unmet.size k.shape.offsets
-      (λ r lt. let z = unmet.none r (omega arith) in let o = once-few (used_offsets h) (offsets_of h.nodes ++ h.free) k.shape.once r lt in omega arith))
+      (few-new (used_in_chain h) met (offsets_of h.nodes ++ h.free) few unmet.size k.shape.offsets
+      (λ r lt. let z = unmet.none r (omega arith) in let o = once-few (used_in_chain h) (offsets_of h.nodes ++ h.free) k.shape.once r lt in omega arith))
 
   new-parts : (met : List ℕ) → IsUnmet met → (are_new ((get_or ws 7 0 % 256 - 20) / 4) met (offsets_of h.nodes) ≡ true) × (are_new ((get_or ws 7 0 % 256 - 20) / 4) (met_with met (offsets_of h.nodes)) h.free ≡ true)
   new-parts met unmet = and_parts (are_new ((get_or ws 7 0 % 256 - 20) / 4) met (offsets_of h.nodes)) (are_new ((get_or ws 7 0 % 256 - 20) / 4) (met_with met (offsets_of h.nodes)) h.free)
@@ -109,10 +109,10 @@ top-fits ws h =
     let a = h.1.0 in let b = h.1.1.0 in let d = h.1.1.1.1.0 in
     record { low = b; few = omega arith; count = h.1.1.1.1.1.0; records = a }
 
-pub formed-from : (ws met : List ℕ) → IsUnmet met → length ws ≡ 160 → HasHeader ws → HasLimits (get_or ws 1 0) (get_or ws 3 0) (get_or ws 4 0) → HasSlots ws → (are_new (top_n ws) met (offsets_of (read_heap ws).nodes) && chain_holds ws (get_or ws 2 0) (first_step ws)) ≡ true
-    → (are_new (top_n ws) (met_with met (offsets_of (read_heap ws).nodes)) (read_heap ws).free && eqb (free_end ws (top_n ws - get_or ws 2 0) (get_or ws 6 0)) 0) ≡ true → IsHeap ws (read_heap ws)
+pub formed-from : (ws met : List ℕ) → IsUnmet met → length ws ≡ 160 → HasHeader ws → HasLimits (get_or ws 1 0) (get_or ws 3 0) (get_or ws 4 0) → HasSlots ws → (are_new (top_n ws) met (offsets_of (read_chain ws).nodes) && chain_holds ws (get_or ws 2 0) (first_step ws)) ≡ true
+    → (are_new (top_n ws) (met_with met (offsets_of (read_chain ws).nodes)) (read_chain ws).free && eqb (free_end ws (top_n ws - get_or ws 2 0) (get_or ws 6 0)) 0) ≡ true → IsHeap ws (read_chain ws)
 formed-from ws met unmet size hd lm sl chain rest =
-    let g : Heap = read_heap ws in
+    let g : Chain = read_chain ws in
     let a0 = and_parts _ _ chain in let b0 = and_parts _ _ rest in
     let new : are_new (top_n ws) met (offsets_of g.nodes ++ g.free) ≡ true = new-append (top_n ws) met (offsets_of g.nodes) g.free ∙ and_from _ _ a0.0 b0.0 in
     let fe = eqb-true _ _ b0.1 in
@@ -121,7 +121,7 @@ formed-from ws met unmet size hd lm sl chain rest =
     let hd2 = hd.1.0 in let hd3 = hd.1.1.0 in let hd4 = hd.1.1.1.0 in let hd5 = hd.1.1.1.1.0 in let hd6 = hd.1.1.1.1.1.0 in let hd7 = hd.1.1.1.1.1.1.0 in let hd8 = hd.1.1.1.1.1.1.1.0 in let hd9 = hd.1.1.1.1.1.1.1.1 in
     let ln = length-chain ws (get_or ws 2 0) (get_or ws 18 0 % 256) in
     let lf = length-free ws (top_n ws - get_or ws 2 0) (get_or ws 6 0) in
-    let us : top_n ws ≡ used_offsets g = omega arith in
+    let us : top_n ws ≡ used_in_chain g = omega arith in
     let few : top_n ws ≤ 35 = omega arith in
     let pl : AreOffsets (top_n ws) (offsets_of g.nodes ++ g.free) = new-offsets (top_n ws) met (offsets_of g.nodes ++ g.free) new in
     let lp : length (offsets_of g.nodes ++ g.free) ≡ top_n ws = (let a = length-append (offsets_of g.nodes) g.free in let b = length-offsets g.nodes in omega arith) in

@@ -5,7 +5,7 @@ use Rattle.std.proofs.lemmas.Bool.{eq-eqb, ne_eqb, le-leb, cases_lt, and_left, a
 use Rattle.ib_map.specs.Keys.{rank, end_rank, MapKey}
 use Rattle.ib_heap.specs.declared.formed.ChainStep.{ChainStep}
 use Rattle.ib_heap.specs.Page.{rises}
-use Rattle.ib_heap.specs.Heap.{chain_from, is_owned, is_directory, owners, records_in, key_at, is_key_at, are_keys}
+use Rattle.ib_heap.specs.Chain.{chain_from, is_owned, is_directory, owners, records_in, key_at, is_key_at, are_keys}
 use Rattle.ib_heap.specs.Walks.{end_from, low_of, chain_holds}
 use Rattle.ib_heap.proofs.HeapLaws.{IsOwner}
 

@@ -8,7 +8,7 @@ use Rattle.ib_heap.specs.Words.{zeros, free_page_words}
 use Rattle.ib_heap.specs.Page.{Page, PageValue, IsPage, HoldsTree, HoldsPage, page_in}
 use Rattle.ib_heap.specs.Image.{level_of, prev_of, next_of, with_links, with_level, value_with_clock}
 use Rattle.ib_heap.proofs.FormLaws.{HasFree, kinds_of, tree, free, neither, page_of-free_page_words}
-use Rattle.ib_heap.specs.Heap.{owners, Heap, records_in, page_with, read_heap, nodes_of, times, offsets_of}
+use Rattle.ib_heap.specs.Chain.{owners, Chain, records_in, page_with, read_chain, nodes_of, times, offsets_of}
 use Rattle.ib_heap.specs.Form.{page_of}
 use Rattle.ib_heap.specs.Page.PageValue.{Tree}
 use Rattle.ib_heap.proofs.HeapLaws.{IsHeap, HasHeap, heap_in, heap-read, page-from}
@@ -20,7 +20,7 @@ abbrev pub IsHeaderWord : ℕ → Type 0
 IsHeaderWord i = (i ≡ 1) ⊎ ((i ≡ 3) ⊎ ((i ≡ 4) ⊎ (i ≡ 5)))
 
 -- the heap stays, and the page has the words of level, links and clock as they are now
-module _ (ws vs : List ℕ) (h : Heap) (is : IsHeap ws h) (size : length vs ≡ PAGE_WORDS) (same : (i : ℕ) → (IsHeaderWord i → ⊥) → get_or vs i 0 ≡ get_or ws i 0) where
+module _ (ws vs : List ℕ) (h : Chain) (is : IsHeap ws h) (size : length vs ≡ PAGE_WORDS) (same : (i : ℕ) → (IsHeaderWord i → ⊥) → get_or vs i 0 ≡ get_or ws i 0) where
   far : (i : ℕ) → (5 < i) ⊎ ((i ≡ 0) ⊎ (i ≡ 2)) → get_or vs i 0 ≡ get_or ws i 0
   far i m = same i (λ w. elim w [
     | inl e ↦ elim m [ inl l ↦ (omega arith) | inr r ↦ elim r [ inl z ↦ (omega arith) | inr z ↦ (omega arith) ] ]
@@ -69,7 +69,7 @@ module _ (ws vs : List ℕ) (h : Heap) (is : IsHeap ws h) (size : length vs ≡ 
 -- a page with other level, links and clock in its words
 pub record Headered (ws vs : List ℕ) (v : PageValue) : Type 0 where
   pub page : page_of vs ≡ v
-  pub heap : read_heap vs ≡ read_heap ws
+  pub heap : read_chain vs ≡ read_chain ws
 
 headered : (ws vs : List ℕ) (level prev next clock : ℕ) → (h : HasHeap ws) → length vs ≡ PAGE_WORDS → ((i : ℕ) → (IsHeaderWord i → ⊥) → get_or vs i 0 ≡ get_or ws i 0)
     → get_or vs 1 0 ≡ level → get_or vs 3 0 ≡ prev → get_or vs 4 0 ≡ next → get_or vs 5 0 ≡ clock
@@ -79,8 +79,8 @@ headered ws vs level prev next clock h size same l p n k fits =
     let is : page_with vs rs ≡ page_of_parts level prev next clock rs = page-parts vs rs level prev next clock l p n k in
     let good = subst IsPage (sym is) fits in
     record {
-      page = header-page ws vs (read_heap ws) h.is size same good ∙ ap (λ (q : Page). Tree q) is;
-      heap = heap-read vs (read_heap ws) (header-heap ws vs (read_heap ws) h.is size same good);
+      page = header-page ws vs (read_chain ws) h.is size same good ∙ ap (λ (q : Page). Tree q) is;
+      heap = heap-read vs (read_chain ws) (header-heap ws vs (read_chain ws) h.is size same good);
     }
 
 pub links-set : (ws : List ℕ) (prev next : ℕ) → HoldsTree (page_of ws) → prev < 2 ^ 32 → next < 2 ^ 32 → (0 < level_of ws → prev ≡ 0) → (0 < level_of ws → next ≡ 0)
@@ -128,7 +128,7 @@ free-clock : (old clock : ℕ) → set (free_page_words old) 5 clock ≡ free_pa
 unfolding free_page_words
 free-clock old clock = refl
 
-free-heap : (old clock : ℕ) → read_heap (free_page_words clock) ≡ read_heap (free_page_words old)
+free-heap : (old clock : ℕ) → read_chain (free_page_words clock) ≡ read_chain (free_page_words old)
 unfolding free_page_words zeros
 free-heap old clock = refl
 
@@ -137,12 +137,12 @@ clock-free ws clock h =
     let made : set ws 5 clock ≡ free_page_words clock = ap (λ (vs : List ℕ). set vs 5 clock) h.words ∙ free-clock h.clock clock in
     record {
       page = ap page_of made ∙ (page_of-free_page_words clock ∙ ap (λ v. value_with_clock clock v) (sym h.holds));
-      heap = ap read_heap made ∙ (free-heap h.clock clock ∙ ap read_heap (sym h.words));
+      heap = ap read_chain made ∙ (free-heap h.clock clock ∙ ap read_chain (sym h.words));
     }
 
 pub clock-set : (ws : List ℕ) (clock : ℕ) → HoldsPage (page_of ws) → Headered ws (set ws 5 clock) (value_with_clock clock (page_of ws))
 clock-set ws clock holds = elim (kinds_of ws) [
-  | tree h ↦ clock-tree ws clock (record { is = h.is; holds = page-from ws (read_heap ws) h.is })
+  | tree h ↦ clock-tree ws clock (record { is = h.is; holds = page-from ws (read_chain ws) h.is })
   | free h ↦ clock-free ws clock h
   | neither is ↦ absurd (subst HoldsPage is holds)
 ]

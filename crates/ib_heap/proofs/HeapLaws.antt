@@ -7,7 +7,7 @@ use Rattle.std.proofs.lemmas.Bool.Decides.{Decides-and, Decides-like, Decides-eq
 use Rattle.ib_map.specs.declared.TheConstants.{PAGE_WORDS}
 use Rattle.ib_heap.specs.Words.{free_page_words}
 use Rattle.ib_heap.specs.Page.{IsPage, HoldsTree}
-use Rattle.ib_heap.specs.Heap.{Node, Heap, first_of, first_free, is_chained, is_freed, is_owned, owners, is_directory, times, is_offset, are_offsets, each_once, offsets_of, records_in, used_offsets, page_with, is_shaped, is_heap, chain_from, free_from, read_heap, are_keys}
+use Rattle.ib_heap.specs.Chain.{Node, Chain, first_of, first_free, is_chained, is_freed, is_owned, owners, is_directory, times, is_offset, are_offsets, each_once, offsets_of, records_in, used_in_chain, page_with, is_shaped, is_heap, chain_from, free_from, read_chain, are_keys}
 use Rattle.ib_heap.specs.Form.{page_of}
 use Rattle.ib_heap.specs.Page.PageValue.{Tree}
 use Rattle.ib_heap.proofs.PageLaws.{Decides-leb, Decides-ltb, counts_page-Decides}
@@ -92,23 +92,23 @@ EachOnce-Decides zero ps = (λ h. tt, λ h. refl)
 EachOnce-Decides (suc n) ps = Decides-and _ _ (Decides-eqb _ _) (EachOnce-Decides n ps)
 
 -- what a page in heap form is, but for how many records each slot owns
-pub record Shaped (ws : List ℕ) (h : Heap) : Type 0 where
+pub record Shaped (ws : List ℕ) (h : Chain) : Type 0 where
   pub size : length ws ≡ PAGE_WORDS
   pub kind : get_or ws 0 0 ≡ 1
   pub count : get_or ws 2 0 ≡ length h.nodes
   pub fits : IsPage (page_with ws (records_in ws h.nodes))
   pub front : get_or ws 6 0 ≡ first_free h.free
-  pub top : get_or ws 7 0 ≡ (1 + length (owners h.nodes)) * 256 + (20 + 4 * used_offsets h)
-  pub few : used_offsets h ≤ 35
+  pub top : get_or ws 7 0 ≡ (1 + length (owners h.nodes)) * 256 + (20 + 4 * used_in_chain h)
+  pub few : used_in_chain h ≤ 35
   pub start : get_or ws 18 0 ≡ 256 + first_of h.nodes
   pub chained : Chained ws h.nodes h.last
   pub freed : Freed ws h.free
   pub directory : Directory ws 10 8 (18 ∷ owners h.nodes)
-  pub offsets : AreOffsets (used_offsets h) (offsets_of h.nodes ++ h.free)
-  pub once : EachOnce (used_offsets h) (offsets_of h.nodes ++ h.free)
+  pub offsets : AreOffsets (used_in_chain h) (offsets_of h.nodes ++ h.free)
+  pub once : EachOnce (used_in_chain h) (offsets_of h.nodes ++ h.free)
   pub keyed : are_keys ws h.nodes ≡ true
 
-pub Shaped-Decides : (ws : List ℕ) (h : Heap) → Decides (is_shaped ws h) (Shaped ws h)
+pub Shaped-Decides : (ws : List ℕ) (h : Chain) → Decides (is_shaped ws h) (Shaped ws h)
 Shaped-Decides ws h = Decides-like (is_shaped ws h)
     (λ k. record {
       size = k.0;
@@ -134,11 +134,11 @@ Shaped-Decides ws h = Decides-like (is_shaped ws h)
     (λ yes. yes, λ yes. yes))))))))))))))
 
 -- words that are a page with this heap
-pub record IsHeap (ws : List ℕ) (h : Heap) : Type 0 where
+pub record IsHeap (ws : List ℕ) (h : Chain) : Type 0 where
   pub shape : Shaped ws h
   pub owned : Owned 0 h.nodes h.last
 
-pub IsHeap-Decides : (ws : List ℕ) (h : Heap) → Decides (is_heap ws h) (IsHeap ws h)
+pub IsHeap-Decides : (ws : List ℕ) (h : Chain) → Decides (is_heap ws h) (IsHeap ws h)
 IsHeap-Decides ws h = Decides-like (is_heap ws h) (λ k. record { shape = k.0; owned = k.1 }) (λ k. (k.shape, k.owned)) (Decides-and _ _ (Shaped-Decides ws h) (Owned-Decides 0 h.nodes h.last))
 
 -- offsets of two lists
@@ -175,42 +175,42 @@ pub free-read : (ws : List ℕ) (ps : List ℕ) → Freed ws ps → free_from ws
 free-read ws [] h = refl
 free-read ws (p ∷ ps) h = ap (λ k. p ∷ free_from ws (length ps) k) h.0 ∙ ap (λ (qs : List ℕ). p ∷ qs) (free-read ws ps h.1)
 
-pub heap-read : (ws : List ℕ) (h : Heap) → IsHeap ws h → read_heap ws ≡ h
+pub heap-read : (ws : List ℕ) (h : Chain) → IsHeap ws h → read_chain ws ≡ h
 heap-read ws h k =
     let few = k.shape.few in
     let top = k.shape.top in
     let count = k.shape.count in
     let start = k.shape.start in
-    let nodes_offsets = AreOffsets-left (used_offsets h) (offsets_of h.nodes) h.free k.shape.offsets in
-    let low = first-low (used_offsets h) h.nodes few nodes_offsets in
+    let nodes_offsets = AreOffsets-left (used_in_chain h) (offsets_of h.nodes) h.free k.shape.offsets in
+    let low = first-low (used_in_chain h) h.nodes few nodes_offsets in
     let first : get_or ws 18 0 % 256 ≡ first_of h.nodes = omega arith in
     let nodes : chain_from ws (get_or ws 2 0) (get_or ws 18 0 % 256) ≡ h.nodes =
-    ap (λ n. chain_from ws n (get_or ws 18 0 % 256)) count ∙ (ap (λ n. chain_from ws (length h.nodes) n) first ∙ chain-read ws (used_offsets h) h.nodes h.last few nodes_offsets k.shape.chained) in
+    ap (λ n. chain_from ws n (get_or ws 18 0 % 256)) count ∙ (ap (λ n. chain_from ws (length h.nodes) n) first ∙ chain-read ws (used_in_chain h) h.nodes h.last few nodes_offsets k.shape.chained) in
     let last : get_or ws 19 0 / 256 ≡ h.last = let e = last-word ws h.nodes h.last k.shape.chained in omega arith in
     let long : (get_or ws 7 0 % 256 - 20) / 4 - get_or ws 2 0 ≡ length h.free = omega arith in
     let free : free_from ws ((get_or ws 7 0 % 256 - 20) / 4 - get_or ws 2 0) (get_or ws 6 0) ≡ h.free =
     ap (λ n. free_from ws n (get_or ws 6 0)) long ∙ (ap (λ n. free_from ws (length h.free) n) k.shape.front ∙ free-read ws h.free k.shape.freed) in
-    ap (λ (xs : List Node). let g : Heap = record { nodes = xs; last = get_or ws 19 0 / 256; free = free_from ws ((get_or ws 7 0 % 256 - 20) / 4 - get_or ws 2 0) (get_or ws 6 0) } in g) nodes
-    ∙ (ap (λ (n : ℕ). let g : Heap = record { nodes = h.nodes; last = n; free = free_from ws ((get_or ws 7 0 % 256 - 20) / 4 - get_or ws 2 0) (get_or ws 6 0) } in g) last
-    ∙ ap (λ (ps : List ℕ). let g : Heap = record { nodes = h.nodes; last = h.last; free = ps } in g) free)
+    ap (λ (xs : List Node). let g : Chain = record { nodes = xs; last = get_or ws 19 0 / 256; free = free_from ws ((get_or ws 7 0 % 256 - 20) / 4 - get_or ws 2 0) (get_or ws 6 0) } in g) nodes
+    ∙ (ap (λ (n : ℕ). let g : Chain = record { nodes = h.nodes; last = n; free = free_from ws ((get_or ws 7 0 % 256 - 20) / 4 - get_or ws 2 0) (get_or ws 6 0) } in g) last
+    ∙ ap (λ (ps : List ℕ). let g : Chain = record { nodes = h.nodes; last = h.last; free = ps } in g) free)
 
 -- the page that words with a heap are
-pub page-from : (ws : List ℕ) (h : Heap) → IsHeap ws h → page_of ws ≡ Tree (page_with ws (records_in ws h.nodes))
+pub page-from : (ws : List ℕ) (h : Chain) → IsHeap ws h → page_of ws ≡ Tree (page_with ws (records_in ws h.nodes))
 unfolding page_of
 page-from ws h k =
     let read = heap-read ws h k in
-    let yes : is_heap ws (read_heap ws) ≡ true = ap (λ (g : Heap). is_heap ws g) read ∙ (IsHeap-Decides ws h).1 k in
-    cond-true _ _ _ yes ∙ ap (λ (g : Heap). Tree (page_with ws (records_in ws g.nodes))) read
+    let yes : is_heap ws (read_chain ws) ≡ true = ap (λ (g : Chain). is_heap ws g) read ∙ (IsHeap-Decides ws h).1 k in
+    cond-true _ _ _ yes ∙ ap (λ (g : Chain). Tree (page_with ws (records_in ws g.nodes))) read
 
 -- an image of a page of the tree has a heap
 pub record HasHeap (ws : List ℕ) : Type 0 where
-  pub is : IsHeap ws (read_heap ws)
-  pub holds : page_of ws ≡ Tree (page_with ws (records_in ws (read_heap ws).nodes))
+  pub is : IsHeap ws (read_chain ws)
+  pub holds : page_of ws ≡ Tree (page_with ws (records_in ws (read_chain ws).nodes))
 
 pub heap_in : (ws : List ℕ) → HoldsTree (page_of ws) → HasHeap ws
 unfolding page_of
-heap_in ws holds = elim (cases_Bool (is_heap ws (read_heap ws))) [
-  | inl good ↦ let k = (IsHeap-Decides ws (read_heap ws)).0 good in record { is = k; holds = page-from ws (read_heap ws) k }
+heap_in ws holds = elim (cases_Bool (is_heap ws (read_chain ws))) [
+  | inl good ↦ let k = (IsHeap-Decides ws (read_chain ws)).0 good in record { is = k; holds = page-from ws (read_chain ws) k }
   | inr bad ↦ absurd (elim (cases_Bool (bytes_eq ws (free_page_words (get_or ws 5 0)))) [
     | inl is_free ↦ subst HoldsTree (cond-false _ _ _ bad ∙ cond-true _ _ _ is_free) holds
     | inr other ↦ subst HoldsTree (cond-false _ _ _ bad ∙ cond-false _ _ _ other) holds

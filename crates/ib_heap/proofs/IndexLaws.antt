@@ -1,8 +1,8 @@
 -- How many records stand before a slot, by what the slots before it own.
 use Rattle.std.proofs.Common.{◌≡◌, ℕ, zero, suc, ◌+◌, ◌/◌, ◌<◌, ◌≤◌, [], ◌∷◌, ◌∙◌, List, length, drop, get_or, refl, ap, sym, arith, inl, inr, subst}
 use Rattle.std.proofs.lemmas.Bool.{eq-eqb, ne_eqb}
-use Rattle.ib_heap.specs.Heap.{Node, owners, up_to, used_offsets, read_heap, nodes_of}
-use Rattle.ib_heap.specs.Put.{owned_by, owner_from}
+use Rattle.ib_heap.specs.Chain.{Node, owners, up_to, used_in_chain, read_chain, nodes_of}
+use Rattle.ib_heap.specs.ChainPut.{owned_by, owner_from}
 use Rattle.ib_heap.proofs.HeapLaws.{Owned}
 use Rattle.ib_heap.proofs.SeekLaws.{Known, directory-at, up_to-le}
 use Rattle.ib_heap.proofs.SplitLaws.{InSlot, owner-slot}
@@ -35,14 +35,14 @@ up_to-next (suc j) n (x ∷ xs) last none (inr h) lt =
 -- the number of a slot's owner, by its header
 pub index-step : (ws : List ℕ) (j : ℕ) → Known ws → suc j < length (owners (nodes_of ws)) → up_to (suc j) (nodes_of ws) ≡ up_to j (nodes_of ws) + get_or ws (get_or ws (8 + suc j) 0) 0 / 256
 index-step ws j kn lt =
-    let xs = nodes_of ws in let last = (read_heap ws).last in
+    let xs = nodes_of ws in let last = (read_chain ws).last in
     let next = up_to-next j 0 xs last (λ z. refl) kn.is.owned lt in
     let some = owned-some 0 (up_to j xs) xs last kn.is.owned in
     let le = up_to-le j xs in
     let within : InSlot j (up_to j xs) xs = (omega arith, (inl (omega arith), omega arith)) in
     let slots = kn.slots in
     let offset : get_or ws (8 + suc j) 0 ≡ owner_from (drop (up_to j xs) xs) = directory-at ws 10 8 (18 ∷ owners xs) (suc j) kn.is.shape.directory (omega arith) ∙ owner-slot 18 j (up_to j xs) xs within le in
-    let o = owner-word ws (used_offsets (read_heap ws)) (up_to j xs) xs last kn.few kn.offsets kn.is.shape.chained le in
+    let o = owner-word ws (used_in_chain (read_chain ws)) (up_to j xs) xs last kn.few kn.offsets kn.is.shape.chained le in
     let i = o.is in let l = o.low in
     let word : get_or ws (get_or ws (8 + suc j) 0) 0 ≡ get_or ws (owner_from (drop (up_to j xs) xs)) 0 = ap (λ n. get_or ws n 0) offset in
     omega arith

@@ -4,10 +4,12 @@ use Rattle.ib_map.specs.Keys.{MapKey, rank, end_rank}
 use Rattle.ib_map.specs.Pairs.{put, value_at, index_of}
 use Rattle.ib_heap.specs.Page.{Page, HoldsTree}
 use Rattle.ib_heap.specs.Page.PageValue.{Tree}
-use Rattle.ib_heap.specs.Heap.{Heap, first_of, nodes_of, read_heap, up_to, used_offsets}
+use Rattle.ib_heap.specs.Chain.{Chain, first_of, nodes_of, read_chain, up_to, used_in_chain}
+use Rattle.ib_heap.specs.Heap.{read_heap, used_offsets}
+use Rattle.ib_heap.specs.Put.{offset_for, put_in}
 use Rattle.ib_heap.specs.Form.{page_of}
 use Rattle.ib_heap.specs.Image.{records_of, value_with_records}
-use Rattle.ib_heap.specs.Put.{owned_by, owner_from, offset_for, rest_of, put_in}
+use Rattle.ib_heap.specs.ChainPut.{owned_by, owner_from, rest_of}
 use Rattle.ib_heap.specs.Kept.{IsKept, IsOutside}
 use Rattle.ib_heap.specs.Steps.{IsOffsetOfKey, IsHeader, IsOffsetTaken, CanLink, IsLinkedIn, CanSplitSlot, IsSlotSplit}
 use Rattle.ib_heap.specs.Walks.{end_from}
@@ -20,6 +22,7 @@ use Rattle.ib_heap.proofs.ShapeLaws.{Gives, Written}
 use Rattle.ib_heap.proofs.SplitPage.{used-split}
 use Rattle.ib_heap.proofs.PutSteps.{gv, before-range, owner-range, apart-all, at-le, before-low, owner-low, count-low, written, plain, full-nine, walked, top-is, room, two-apart, middle-low, split-done, split-heap-is, split-kept, plain-heap, plain-read}
 use Rattle.ib_heap.proofs.PutHeap.{put-in-split}
+use Rattle.ib_heap.proofs.HeapSteps.{heap-put, kept-put}
 
 -- what an insert leaves
 pub record IsPut (ws vs : List ℕ) (key : MapKey) (value : ℕ) : Type 0 where
@@ -73,20 +76,20 @@ module _ (ws : List ℕ) (key : MapKey) (slot before at : ℕ) (holds : HoldsTre
       pub owner-read : own < length vs
       owner-read = let o = owner-range ws w1 key slot before at p kn st nodes-few tk in let z = o.1 in let s = size in omega arith
 
-      abbrev gives : Gives (read_heap ws) p (rest_of (read_heap ws).free)
+      abbrev gives : Gives (read_chain ws) p (rest_of (read_chain ws).free)
       gives = gv ws w1 key slot before at p kn st nodes-few tk
 
-      abbrev wr : Written ws vs (read_heap ws) k p key value (rest_of (read_heap ws).free)
+      abbrev wr : Written ws vs (read_chain ws) k p key value (rest_of (read_chain ws).free)
       wr = written ws w1 key slot before at p kn st nodes-few tk vs value lk absent below
 
       pub put-plain : get_or vs own 0 / 256 ≤ 8 → IsPut ws vs key value
       put-plain few = record {
         page = plain ws w1 key slot before at p kn st nodes-few tk vs value lk absent below few;
-        heap = plain-heap ws w1 key slot before at p kn st nodes-few tk vs value lk absent below few;
-        kept = λ i kept out.
+        heap = heap-put ws vs key holds (plain-heap ws w1 key slot before at p kn st nodes-few tk vs value lk absent below few);
+        kept = kept-put ws vs (λ i kept out.
             kept1 ws key slot before at p kn st nodes-few gives vs value wr absent below i
-            (subst (λ (n : ℕ). IsKept n i) (ap used_offsets (plain-read ws w1 key slot before at p kn st nodes-few tk vs value lk absent below few)) kept)
-            (subst (λ (q : ℕ). IsOutside q i) (sym tk.offset) out);
+            (subst (λ (n : ℕ). IsKept n i) (ap used_in_chain (plain-read ws w1 key slot before at p kn st nodes-few tk vs value lk absent below few)) kept)
+            (subst (λ (q : ℕ). IsOutside q i) (sym tk.offset) out));
       }
 
       -- a slot of nine
@@ -108,7 +111,7 @@ module _ (ws : List ℕ) (key : MapKey) (slot before at : ℕ) (holds : HoldsTre
         fourth-read (suc (suc (suc (suc n)))) lt = absurd (omega arith)
 
         module _ (middle : ℕ) (is : middle ≡ end_from vs 4 first) where
-          abbrev h1 : Heap
+          abbrev h1 : Chain
           h1 = heap1 ws key slot before at p kn st nodes-few gives vs value wr absent below
 
           abbrev sh : Shaped vs h1
@@ -160,9 +163,9 @@ module _ (ws : List ℕ) (key : MapKey) (slot before at : ℕ) (holds : HoldsTre
               record {
                 page = split-done vs h1 k slot own middle sh st.some ov nn wi oi mi v2 sp owner-header.low middle-header.low
                     ∙ (ap (λ (q : Page). Tree q) (page1 ws key slot before at p kn st nodes-few gives vs value wr absent below) ∙ sym (wanted ws key slot before at p kn st nodes-few gives vs value wr absent below));
-                heap = after ∙ put-in-split _ p slot (read_heap ws) tk.offset (omega arith) (within ws key slot before at p kn st nodes-few gives) (k_le ws key slot before at p kn st nodes-few gives);
-                kept = λ i kept out.
-                    let now = subst (λ (n : ℕ). IsKept n i) (ap used_offsets after ∙ used-split _ h1) kept in
+                heap = heap-put ws v2 key holds (after ∙ put-in-split _ p slot (read_chain ws) tk.offset (omega arith) (within ws key slot before at p kn st nodes-few gives) (k_le ws key slot before at p kn st nodes-few gives));
+                kept = kept-put ws v2 (λ i kept out.
+                    let now = subst (λ (n : ℕ). IsKept n i) (ap used_in_chain after ∙ used-split _ h1) kept in
                     split-kept vs h1 k slot own middle sh st.some ov nn wi oi mi v2 sp i now (own-apart ws key slot before at p kn st nodes-few gives vs value wr absent below i now)
-                    ∙ kept1 ws key slot before at p kn st nodes-few gives vs value wr absent below i now (subst (λ (q : ℕ). IsOutside q i) (sym tk.offset) out);
+                    ∙ kept1 ws key slot before at p kn st nodes-few gives vs value wr absent below i now (subst (λ (q : ℕ). IsOutside q i) (sym tk.offset) out));
               }

@@ -26,6 +26,11 @@ pub mod CopyLaws
 pub mod FillLaws
 pub mod RecordsLaws
 pub mod FilledLaws
+pub mod CutLaws
+pub mod PutCuts
+pub mod TakeCuts
+pub mod HeapSteps
+pub mod SameChain
 pub mod HeaderLaws
 pub mod CountLaws
 pub mod UnlinkLaws

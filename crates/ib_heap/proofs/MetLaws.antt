@@ -3,7 +3,7 @@ use Rattle.std.proofs.Common.{inl, inr, ◌≡◌, ℕ, zero, suc, ◌+◌, ◌*
 use Rattle.std.proofs.Math.Bool.{and_assoc}
 use Rattle.std.proofs.lemmas.Bool.{and_parts, and_from, eq-eqb, ne_eqb, eqb-true, cases_eq, cases_lt}
 use Rattle.std.proofs.lemmas.List.{get_or-set_same, get_or-set_other, length-set}
-use Rattle.ib_heap.specs.Heap.{times}
+use Rattle.ib_heap.specs.Chain.{times}
 use Rattle.ib_heap.specs.Walks.{is_new, are_new, met_with}
 use Rattle.ib_heap.proofs.HeapLaws.{IsOffset, IsOffset-Decides, AreOffsets, EachOnce}
 

@@ -1,8 +1,8 @@
 -- The heap that a put leaves.
 use Rattle.std.proofs.Common.{◌≡◌, ℕ, zero, suc, ◌+◌, ◌-◌, ◌<◌, ◌≤◌, ◌⊎◌, [], ◌∷◌, ◌∙◌, List, length, take, drop, refl, ap, sym, arith, inl, inr, subst}
 use Rattle.std.proofs.lemmas.Bool.{cases_eq, eq-eqb, ne_eqb, le-leb, lt-leb, cond-true, cond-false}
-use Rattle.ib_heap.specs.Heap.{Node, Heap, owners, up_to}
-use Rattle.ib_heap.specs.Put.{put_node, put_last, give_slot, give_slot_last, offset_for, rest_of, owned_by, put_in}
+use Rattle.ib_heap.specs.Chain.{Node, Chain, owners, up_to}
+use Rattle.ib_heap.specs.ChainPut.{put_node, put_last, give_slot, give_slot_last, chain_offset, rest_of, owned_by, put_in_chain}
 use Rattle.ib_heap.proofs.SeekLaws.{owners-some}
 use Rattle.ib_heap.proofs.SplitLaws.{InSlot}
 
@@ -40,21 +40,21 @@ slot-number (suc j) (suc k) (x ∷ xs) within le = elim (cases_eq x.owned 0) [
       rw e (omega arith))
 ]
 
-module _ (k p slot : ℕ) (h : Heap) (offset : p ≡ offset_for h) where
-  abbrev made : ℕ → Heap
+module _ (k p slot : ℕ) (h : Chain) (offset : p ≡ chain_offset h) where
+  abbrev made : ℕ → Chain
   made q = record { nodes = put_node k q h.nodes; last = put_last k h.nodes h.last; free = rest_of h.free }
 
-  abbrev split : ℕ → ℕ → Heap
+  abbrev split : ℕ → ℕ → Chain
   split q j = record { nodes = give_slot (up_to j (put_node k q h.nodes) + 3) (put_node k q h.nodes); last = give_slot_last (up_to j (put_node k q h.nodes) + 3) (put_node k q h.nodes) (put_last k h.nodes h.last); free = rest_of h.free }
 
-  pub put-in-plain : owned_by (drop k (put_node k p h.nodes)) (put_last k h.nodes h.last) ≤ 8 → made p ≡ put_in k h
+  pub put-in-plain : owned_by (drop k (put_node k p h.nodes)) (put_last k h.nodes h.last) ≤ 8 → made p ≡ put_in_chain k h
   put-in-plain room =
       let r = subst (λ (q : ℕ). owned_by (drop k (put_node k q h.nodes)) (put_last k h.nodes h.last) ≤ 8) offset room in
-      ap made offset ∙ sym (cond-true _ _ _ (le-leb (owned_by (drop k (put_node k (offset_for h) h.nodes)) (put_last k h.nodes h.last)) 8 (omega arith)))
+      ap made offset ∙ sym (cond-true _ _ _ (le-leb (owned_by (drop k (put_node k (chain_offset h) h.nodes)) (put_last k h.nodes h.last)) 8 (omega arith)))
 
-  pub put-in-split : 8 < owned_by (drop k (put_node k p h.nodes)) (put_last k h.nodes h.last) → InSlot (slot - 1) k h.nodes → k ≤ length h.nodes → split p (slot - 1) ≡ put_in k h
+  pub put-in-split : 8 < owned_by (drop k (put_node k p h.nodes)) (put_last k h.nodes h.last) → InSlot (slot - 1) k h.nodes → k ≤ length h.nodes → split p (slot - 1) ≡ put_in_chain k h
   put-in-split full within le =
       let r = subst (λ (q : ℕ). 8 < owned_by (drop k (put_node k q h.nodes)) (put_last k h.nodes h.last)) offset full in
       let n = slot-number (slot - 1) k h.nodes within le in
-      ap (λ q. split q (slot - 1)) offset ∙ (ap (λ j. split (offset_for h) j) (let f : slot - 1 ≡ length (owners (take k h.nodes)) - 1 = omega arith in f)
-      ∙ sym (cond-false _ _ _ (lt-leb (owned_by (drop k (put_node k (offset_for h) h.nodes)) (put_last k h.nodes h.last)) 8 (omega arith))))
+      ap (λ q. split q (slot - 1)) offset ∙ (ap (λ j. split (chain_offset h) j) (let f : slot - 1 ≡ length (owners (take k h.nodes)) - 1 = omega arith in f)
+      ∙ sym (cond-false _ _ _ (lt-leb (owned_by (drop k (put_node k (chain_offset h) h.nodes)) (put_last k h.nodes h.last)) 8 (omega arith))))

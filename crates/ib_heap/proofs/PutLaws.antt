@@ -2,8 +2,8 @@
 use Rattle.std.proofs.Common.{◌≡◌, ℕ, zero, suc, ◌+◌, ◌*◌, ◌<◌, ◌≤◌, ◌≢◌, ◌⊎◌, [], ◌∷◌, ◌++◌, ◌∙◌, List, length, take, drop, get_or, refl, ap, sym, arith, inl, inr, subst}
 use Rattle.std.specs.Prelude.{if◌then◌else◌, ◌==◌}
 use Rattle.std.proofs.lemmas.Bool.{cases_eq, eq-eqb, ne_eqb}
-use Rattle.ib_heap.specs.Heap.{Node, first_of, owners, times, offsets_of, last_from}
-use Rattle.ib_heap.specs.Put.{owned_by, owner_from, own_one_more, last_one_more, put_node, put_last}
+use Rattle.ib_heap.specs.Chain.{Node, first_of, owners, times, offsets_of, last_from}
+use Rattle.ib_heap.specs.ChainPut.{owned_by, owner_from, own_one_more, last_one_more, put_node, put_last}
 use Rattle.ib_heap.proofs.HeapLaws.{Chained, Owned, IsOwner}
 
 -- whether two numbers are one

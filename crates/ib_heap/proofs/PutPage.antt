@@ -5,10 +5,10 @@ use Rattle.ib_map.specs.Keys.{MapKey, rank, end_rank}
 use Rattle.ib_map.specs.Pairs.{Pairs, put, value_at, index_of}
 use Rattle.ib_map.proofs.IndexLaws.{index_of-le}
 use Rattle.ib_heap.specs.Page.{Page, PageValue}
-use Rattle.ib_heap.specs.Heap.{Node, Heap, first_of, owners, times, offsets_of, records_in, used_offsets, page_with, read_heap, last_from, up_to, nodes_of}
+use Rattle.ib_heap.specs.Chain.{Node, Chain, first_of, owners, times, offsets_of, records_in, used_in_chain, page_with, read_chain, last_from, up_to, nodes_of}
 use Rattle.ib_heap.specs.Form.{page_of}
 use Rattle.ib_heap.specs.Image.{value_with_records, records_of}
-use Rattle.ib_heap.specs.Put.{owned_by, owner_from, own_one_more, put_node, put_last, rest_of}
+use Rattle.ib_heap.specs.ChainPut.{owned_by, owner_from, own_one_more, put_node, put_last, rest_of}
 use Rattle.ib_heap.specs.Page.PageValue.{Tree}
 use Rattle.ib_heap.specs.Steps.{IsOffsetOfKey}
 use Rattle.ib_heap.proofs.HeapLaws.{Chained, Owned, AreOffsets, AreOffsets-left, IsOffset, page-from, Shaped}
@@ -126,7 +126,7 @@ owner-drop zero p xs le = go xs
 owner-drop (suc k) p [] le = absurd (omega arith)
 owner-drop (suc k) p (x ∷ xs) le = owner-drop k p xs (omega arith)
 
-module _ (ws : List ℕ) (key : MapKey) (slot before at p : ℕ) (kn : Known ws) (st : IsOffsetOfKey ws key slot before at) (few : length (nodes_of ws) < 35) (gives : Gives (read_heap ws) p (rest_of (read_heap ws).free)) where
+module _ (ws : List ℕ) (key : MapKey) (slot before at p : ℕ) (kn : Known ws) (st : IsOffsetOfKey ws key slot before at) (few : length (nodes_of ws) < 35) (gives : Gives (read_chain ws) p (rest_of (read_chain ws).free)) where
   abbrev pub k : ℕ
   k = index_of key (records_of ws)
 
@@ -140,7 +140,7 @@ module _ (ws : List ℕ) (key : MapKey) (slot before at p : ℕ) (kn : Known ws)
   nodes1 = put_node k p nodes
 
   abbrev pub last1 : ℕ
-  last1 = put_last k nodes (read_heap ws).last
+  last1 = put_last k nodes (read_chain ws).last
 
   pub k_le : k ≤ length nodes
   k_le = let a = index_of-le key (records_of ws) in let b = kn.long in omega arith
@@ -149,10 +149,10 @@ module _ (ws : List ℕ) (key : MapKey) (slot before at p : ℕ) (kn : Known ws)
   within = in-slot slot k nodes st.some st.in_range st.low st.high
 
   pub apart : Apart nodes
-  apart = (offsets-known (read_heap ws) kn.is.shape.offsets kn.is.shape.once).apart
+  apart = (offsets-known (read_chain ws) kn.is.shape.offsets kn.is.shape.once).apart
 
-  new : NewOffset (read_heap ws) p (rest_of (read_heap ws).free)
-  new = new-offset (read_heap ws) p (rest_of (read_heap ws).free) (offsets-known (read_heap ws) kn.is.shape.offsets kn.is.shape.once) kn.few gives
+  new : NewOffset (read_chain ws) p (rest_of (read_chain ws).free)
+  new = new-offset (read_chain ws) p (rest_of (read_chain ws).free) (offsets-known (read_chain ws) kn.is.shape.offsets kn.is.shape.once) kn.few gives
 
   pub owner_is : owner ≡ owner_from (drop k nodes)
   owner_is =
@@ -160,7 +160,7 @@ module _ (ws : List ℕ) (key : MapKey) (slot before at p : ℕ) (kn : Known ws)
       directory-at ws 10 8 (18 ∷ owners nodes) slot kn.is.shape.directory (omega arith)
       ∙ (ap (λ i. get_or (18 ∷ owners nodes) i 0) (let e : slot ≡ suc (slot - 1) = omega arith in e) ∙ owner-slot 18 (slot - 1) k nodes within k_le)
 
-  p_offset : IsOffset (length nodes + 1 + length (rest_of (read_heap ws).free)) p
+  p_offset : IsOffset (length nodes + 1 + length (rest_of (read_chain ws).free)) p
   p_offset = new.offset p (let o = one-same p in omega arith)
 
   not_p : (q : ℕ) → 0 < times q (offsets_of nodes) → IsOutside p q
@@ -192,36 +192,36 @@ module _ (ws : List ℕ) (key : MapKey) (slot before at p : ℕ) (kn : Known ws)
 
   pub before_header : HeaderWord (get_or ws before 0) at 8
   before_header =
-      let h = before-word ws 18 0 k nodes (read_heap ws).last start_word kn.is.shape.chained kn.is.owned k_le in
+      let h = before-word ws 18 0 k nodes (read_chain ws).last start_word kn.is.shape.chained kn.is.owned k_le in
       let i = h.is in
       record { owned = h.owned; is = ap (λ n. get_or ws n 0) st.before_is ∙ (h.is ∙ ap (λ n. h.owned * 256 + n) (sym st.at_is)); few = h.few }
 
   pub at_low : at < 256
-  at_low = let e = st.at_is in elim (first-in (used_offsets (read_heap ws)) nodes k kn.few kn.offsets k_le) [ inl z ↦ (let y = z.0 in omega arith) | inr z ↦ (let y = z.1.0 in omega arith) ]
+  at_low = let e = st.at_is in elim (first-in (used_in_chain (read_chain ws)) nodes k kn.few kn.offsets k_le) [ inl z ↦ (let y = z.0 in omega arith) | inr z ↦ (let y = z.1.0 in omega arith) ]
 
   pub owner_header : get_or ws owner 0 < 65536
   owner_header =
-      let o = owner-word ws (used_offsets (read_heap ws)) k nodes (read_heap ws).last kn.few kn.offsets kn.is.shape.chained k_le in
-      let f = owned-few 0 k nodes (read_heap ws).last kn.is.owned in
+      let o = owner-word ws (used_in_chain (read_chain ws)) k nodes (read_chain ws).last kn.few kn.offsets kn.is.shape.chained k_le in
+      let f = owned-few 0 k nodes (read_chain ws).last kn.is.owned in
       let i = o.is in let l = o.low in
       let e : get_or ws owner 0 ≡ get_or ws (owner_from (drop k nodes)) 0 = ap (λ n. get_or ws n 0) owner_is in omega arith
 
   -- the page after the record is written
-  module _ (vs : List ℕ) (value : ℕ) (w : Written ws vs (read_heap ws) k p key value (rest_of (read_heap ws).free)) (none : value_at key (records_of ws) ≡ None) (in_range : rank key < end_rank) where
-    abbrev pub heap1 : Heap
-    heap1 = put_heap k p (rest_of (read_heap ws).free) (read_heap ws)
+  module _ (vs : List ℕ) (value : ℕ) (w : Written ws vs (read_chain ws) k p key value (rest_of (read_chain ws).free)) (none : value_at key (records_of ws) ≡ None) (in_range : rank key < end_rank) where
+    abbrev pub heap1 : Chain
+    heap1 = put_heap k p (rest_of (read_chain ws).free) (read_chain ws)
 
     at_key : k ≡ index_of key (records_in ws nodes)
     at_key = ap (λ (rs : Pairs). index_of key rs) kn.records
 
     pub shaped1 : Shaped vs heap1
-    shaped1 = put-shaped ws vs (read_heap ws) k p key value (rest_of (read_heap ws).free) kn.is gives w k_le few at_key (subst (λ (rs : Pairs). value_at key rs ≡ None) kn.records none) in_range
+    shaped1 = put-shaped ws vs (read_chain ws) k p key value (rest_of (read_chain ws).free) kn.is gives w k_le few at_key (subst (λ (rs : Pairs). value_at key rs ≡ None) kn.records none) in_range
 
     pub page1 : page_with vs (records_in vs nodes1) ≡ page_with ws (put key value (records_in ws nodes))
-    page1 = put-page ws vs (read_heap ws) k p key value (rest_of (read_heap ws).free) kn.is gives w k_le few at_key
+    page1 = put-page ws vs (read_chain ws) k p key value (rest_of (read_chain ws).free) kn.is gives w k_le few at_key
 
     pub over1 : OverAt k 0 nodes1 last1
-    over1 = over-put k 0 p nodes (read_heap ws).last k_le kn.is.owned
+    over1 = over-put k 0 p nodes (read_chain ws).last k_le kn.is.owned
 
     pub long1 : length nodes1 ≡ length nodes + 1
     long1 = length-put k p nodes k_le
@@ -229,30 +229,30 @@ module _ (ws : List ℕ) (key : MapKey) (slot before at p : ℕ) (kn : Known ws)
     pub owner1 : OwnerWord (get_or vs owner 0) (owned_by (drop k nodes1) last1)
     owner1 =
         let l = long1 in let a = k_le in
-        let o = owner-word vs (used_offsets heap1) k nodes1 last1 shaped1.few (AreOffsets-left _ _ _ shaped1.offsets) shaped1.chained (omega arith) in
+        let o = owner-word vs (used_in_chain heap1) k nodes1 last1 shaped1.few (AreOffsets-left _ _ _ shaped1.offsets) shaped1.chained (omega arith) in
         let e : owner ≡ owner_from (drop k nodes1) = owner_is ∙ sym (owner-drop k p nodes k_le) in
         record { next = o.next; is = ap (λ n. get_or vs n 0) e ∙ o.is; low = o.low }
 
     -- the words that are kept are no offset of the chain
-    pub member-apart : (i q : ℕ) → IsKept (used_offsets heap1) i → 0 < times q (offsets_of nodes1) → i ≢ q
-    member-apart i q kept m = kept-offset (used_offsets heap1) i q kept ((offsets-known heap1 shaped1.offsets shaped1.once).offset q (omega arith))
+    pub member-apart : (i q : ℕ) → IsKept (used_in_chain heap1) i → 0 < times q (offsets_of nodes1) → i ≢ q
+    member-apart i q kept m = kept-offset (used_in_chain heap1) i q kept ((offsets-known heap1 shaped1.offsets shaped1.once).offset q (omega arith))
 
     in-nodes1 : (q : ℕ) → 0 < times q (offsets_of nodes) → 0 < times q (offsets_of nodes1)
     in-nodes1 q m = let t = times-put k p q nodes k_le in omega arith
 
-    before-apart : (i : ℕ) → IsKept (used_offsets heap1) i → i ≢ before
+    before-apart : (i : ℕ) → IsKept (used_in_chain heap1) i → i ≢ before
     before-apart i kept = elim (before-in k nodes k_le) [
       | inl e ↦ (let b = st.before_is ∙ e.1 in kept-fixed _ i before kept (inr (omega arith, omega arith)))
       | inr m ↦ member-apart i before kept (in-nodes1 before (subst (λ (q : ℕ). 0 < times q (offsets_of nodes)) (sym st.before_is) m.1))
     ]
 
-    pub own-apart : (i : ℕ) → IsKept (used_offsets heap1) i → i ≢ owner
+    pub own-apart : (i : ℕ) → IsKept (used_in_chain heap1) i → i ≢ owner
     own-apart i kept = elim (owner-in (drop k nodes)) [
       | inl e ↦ (let o = owner_is ∙ e in kept-fixed _ i owner kept (inr (omega arith, omega arith)))
       | inr m ↦ (let d = times-drop k (owner_from (drop k nodes)) nodes in member-apart i owner kept (in-nodes1 owner (subst (λ (q : ℕ). 0 < times q (offsets_of nodes)) (sym owner_is) (omega arith))))
     ]
 
-    pub kept1 : (i : ℕ) → IsKept (used_offsets heap1) i → IsOutside p i → get_or vs i 0 ≡ get_or ws i 0
+    pub kept1 : (i : ℕ) → IsKept (used_in_chain heap1) i → IsOutside p i → get_or vs i 0 ≡ get_or ws i 0
     kept1 i kept out =
         w.other i (kept-fixed _ i 2 kept (inl refl)) (kept-fixed _ i 6 kept (inr (omega arith, omega arith))) (kept-fixed _ i 7 kept (inr (omega arith, omega arith)))
         out (λ z. before-apart i kept (z ∙ sym st.before_is)) (λ z. own-apart i kept (z ∙ sym owner_is))
@@ -260,7 +260,7 @@ module _ (ws : List ℕ) (key : MapKey) (slot before at p : ℕ) (kn : Known ws)
     -- the page that is wanted
     pub wanted : value_with_records (put key value (records_of ws)) (page_of ws) ≡ Tree (page_with ws (put key value (records_in ws nodes)))
     wanted =
-        let hh = page-from ws (read_heap ws) kn.is in
+        let hh = page-from ws (read_chain ws) kn.is in
         ap (λ (v : PageValue). value_with_records (put key value (records_of ws)) v) hh
         ∙ ap (λ (rs : Pairs). Tree (page_with ws (put key value rs))) kn.records
 
@@ -287,17 +287,17 @@ module _ (ws : List ℕ) (key : MapKey) (slot before at p : ℕ) (kn : Known ws)
     pub group1 : owned_by (drop k nodes1) last1 ≡ 9 → Group (slot - 1) k t nodes1 last1
     group1 full = group (slot - 1) k 0 nodes1 last1 (λ z. refl) over1 full within1
 
-    offsets1 : AreOffsets (used_offsets heap1) (offsets_of nodes1)
+    offsets1 : AreOffsets (used_in_chain heap1) (offsets_of nodes1)
     offsets1 = AreOffsets-left _ _ _ shaped1.offsets
 
     next1 : (i q : ℕ) → i < length nodes1 → q ≡ last_from 18 (take i nodes1) → get_or vs q 0 % 256 ≡ last_from 18 (take (suc i) nodes1)
     next1 i q lt e =
         let s = shaped1.start in
-        let low : first_of nodes1 < 256 = elim (first-in (used_offsets heap1) nodes1 0 shaped1.few offsets1 (omega arith)) [ inl z ↦ (let y = z.0 in omega arith) | inr z ↦ (let y = z.1.0 in omega arith) ] in
-        ap (λ n. get_or vs n 0 % 256) e ∙ (link-at vs (used_offsets heap1) 18 nodes1 last1 i shaped1.few offsets1 (omega arith) shaped1.chained (omega arith) ∙ sym (last-first 18 nodes1 i lt))
+        let low : first_of nodes1 < 256 = elim (first-in (used_in_chain heap1) nodes1 0 shaped1.few offsets1 (omega arith)) [ inl z ↦ (let y = z.0 in omega arith) | inr z ↦ (let y = z.1.0 in omega arith) ] in
+        ap (λ n. get_or vs n 0 % 256) e ∙ (link-at vs (used_in_chain heap1) 18 nodes1 last1 i shaped1.few offsets1 (omega arith) shaped1.chained (omega arith) ∙ sym (last-first 18 nodes1 i lt))
 
     pub low1 : (i q : ℕ) → i ≤ length nodes1 → q ≡ last_from 18 (take i nodes1) → q ≤ 156
-    low1 i q le e = elim (last-in (used_offsets heap1) 18 nodes1 i shaped1.few offsets1 le) [ inl z ↦ (let y = z.1 in omega arith) | inr z ↦ (let y = z.1 in omega arith) ]
+    low1 i q le e = elim (last-in (used_in_chain heap1) 18 nodes1 i shaped1.few offsets1 le) [ inl z ↦ (let y = z.1 in omega arith) | inr z ↦ (let y = z.1 in omega arith) ]
 
     pub first_is : get_or ws (8 + (slot - 1)) 0 ≡ last_from 18 (take (up_to (slot - 1) nodes1) nodes1)
     first_is =
@@ -332,6 +332,6 @@ module _ (ws : List ℕ) (key : MapKey) (slot before at p : ℕ) (kn : Known ws)
           low2 = low1 (suc (suc u)) q2 (omega arith) p2;
           low3 = low1 (suc (suc (suc u))) q3 (omega arith) p3;
           low4 = low1 (suc (suc (suc (suc u)))) q4 (omega arith) p4;
-          high4 = elim (first-in (used_offsets heap1) nodes1 (suc (suc (suc u))) shaped1.few offsets1 (omega arith)) [ inl z ↦ absurd (let y = z.1 in omega arith) | inr z ↦ (let y = z.0 in omega arith) ];
+          high4 = elim (first-in (used_in_chain heap1) nodes1 (suc (suc (suc u))) shaped1.few offsets1 (omega arith)) [ inl z ↦ absurd (let y = z.1 in omega arith) | inr z ↦ (let y = z.0 in omega arith) ];
           is = f4 ∙ ap (λ n. first_of (drop n nodes1)) e;
         }

@@ -7,8 +7,8 @@ use Rattle.ib_map.specs.Pairs.{Pairs, put, value_at, index_of}
 use Rattle.ib_map.proofs.PairLaws.{Rises-put, length-put as length-put-pairs}
 use Rattle.ib_map.proofs.IndexLaws.{insert-index}
 use Rattle.ib_heap.specs.Page.{Page, IsPage}
-use Rattle.ib_heap.specs.Heap.{Node, Heap, first_of, owners, times, offsets_of, records_in, used_offsets, page_with, last_from, nodes_of, read_heap}
-use Rattle.ib_heap.specs.Put.{owner_from, put_node, put_last}
+use Rattle.ib_heap.specs.Chain.{Node, Chain, first_of, owners, times, offsets_of, records_in, used_in_chain, page_with, last_from, nodes_of, read_chain}
+use Rattle.ib_heap.specs.ChainPut.{owner_from, put_node, put_last}
 use Rattle.ib_heap.proofs.HeapLaws.{Chained, Freed, Directory, IsOffset, AreOffsets, EachOnce, IsHeap, Shaped}
 use Rattle.ib_heap.proofs.SeekLaws.{length-records, Known}
 use Rattle.ib_heap.proofs.KeptLaws.{outside-other}
@@ -16,8 +16,8 @@ use Rattle.ib_heap.proofs.PutLaws.{one, one-same, one-other, owners-put, length-
 use Rattle.ib_heap.proofs.ShapeLaws.{Offsets, offsets-known, offsets-from, once-from, freed-same, directory-same, records-put, keys-put, SameRecord, Gives, Written, put_heap, same-page}
 
 -- what is known of the offset that a record takes
-pub record NewOffset (h : Heap) (p : ℕ) (free : List ℕ) : Type 0 where
-  pub more : used_offsets h ≤ length h.nodes + 1 + length free
+pub record NewOffset (h : Chain) (p : ℕ) (free : List ℕ) : Type 0 where
+  pub more : used_in_chain h ≤ length h.nodes + 1 + length free
   pub few : length h.nodes < 35 → length h.nodes + 1 + length free ≤ 35
   pub not_node : times p (offsets_of h.nodes) ≡ 0
   pub not_free : times p free ≡ 0
@@ -28,23 +28,23 @@ pub record NewOffset (h : Heap) (p : ℕ) (free : List ℕ) : Type 0 where
 wider : (n m q : ℕ) → IsOffset n q → n ≤ m → IsOffset m q
 wider n m q h le = let b = h.below in record { number = h.number; is = h.is; below = omega arith }
 
-pub new-offset : (h : Heap) (p : ℕ) (free : List ℕ) → Offsets h → used_offsets h ≤ 35 → Gives h p free → NewOffset h p free
+pub new-offset : (h : Chain) (p : ℕ) (free : List ℕ) → Offsets h → used_in_chain h ≤ 35 → Gives h p free → NewOffset h p free
 new-offset h p free known few (inl e) =
     let times_is : (q : ℕ) → times q h.free ≡ one p q + times q free = λ q. ap (λ (ps : List ℕ). times q ps) e in
     let long : length h.free ≡ 1 + length free = ap length e ∙ (let l : length (p ∷ free) ≡ 1 + length free = omega arith in l) in
-    let same : length h.nodes + 1 + length free ≡ used_offsets h = omega arith in
+    let same : length h.nodes + 1 + length free ≡ used_in_chain h = omega arith in
     record {
       more = omega arith;
       few = λ lt. omega arith;
       not_node = let o = known.once p in let t = times_is p in let s = one-same p in omega arith;
       not_free = let o = known.once p in let t = times_is p in let s = one-same p in omega arith;
       was_free = λ q. let t = times_is q in omega arith;
-      offset = λ q lt. wider (used_offsets h) _ q (known.offset q (let t = times_is q in omega arith)) (omega arith);
+      offset = λ q lt. wider (used_in_chain h) _ q (known.offset q (let t = times_is q in omega arith)) (omega arith);
       each = λ r lt. let o = known.each r (omega arith) in let t = times_is (20 + 4 * r) in omega arith;
     }
 new-offset h p free known few (inr e) =
     let none : h.free ≡ [] = e.0 in
-    let at : p ≡ 20 + 4 * used_offsets h = e.1.0 in
+    let at : p ≡ 20 + 4 * used_in_chain h = e.1.0 in
     let empty : free ≡ [] = e.1.1 in
     let times_old : (q : ℕ) → times q h.free ≡ 0 = λ q. ap (λ (ps : List ℕ). times q ps) none in
     let times_new : (q : ℕ) → times q free ≡ 0 = λ q. ap (λ (ps : List ℕ). times q ps) empty in
@@ -61,8 +61,8 @@ new-offset h p free known few (inr e) =
       not_free = times_new p;
       was_free = λ q. let t = times_new q in omega arith;
       offset = λ q lt. elim (cases_eq p q) [
-        | inl same ↦ record { number = used_offsets h; is = sym same ∙ at; below = omega arith }
-        | inr ne ↦ wider (used_offsets h) _ q (known.offset q (let o = one-other p q ne in let t = times_new q in omega arith)) (omega arith)
+        | inl same ↦ record { number = used_in_chain h; is = sym same ∙ at; below = omega arith }
+        | inr ne ↦ wider (used_in_chain h) _ q (known.offset q (let o = one-other p q ne in let t = times_new q in omega arith)) (omega arith)
       ];
       each = λ r lt. elim (cases_eq p (20 + 4 * r)) [
         | inl same ↦ (let s = one-same p in let z : one p (20 + 4 * r) ≡ 1 = ap (λ n. one p n) (sym same) ∙ s in let m : times (20 + 4 * r) (offsets_of h.nodes) ≡ 0 = ap (λ n. times n (offsets_of h.nodes)) (sym same) ∙ not_node in let t = times_new (20 + 4 * r) in omega arith)
@@ -76,10 +76,10 @@ before-in zero xs le = inl (refl, refl)
 before-in (suc k) xs le = inr (omega arith, last-member 18 k xs (omega arith))
 
 -- an offset of the chain or of the supremum that is not one of the two neighbours
-abbrev pub IsBefore : Heap → ℕ → Type 0
+abbrev pub IsBefore : Chain → ℕ → Type 0
 IsBefore h b = (b ≡ 18) ⊎ (0 < times b (offsets_of h.nodes))
 
-abbrev pub IsOwnerOffset : Heap → ℕ → Type 0
+abbrev pub IsOwnerOffset : Chain → ℕ → Type 0
 IsOwnerOffset h o = (o ≡ 19) ⊎ (0 < times o (offsets_of h.nodes))
 
 -- an offset of the heap is 20 and four times a number below 35
@@ -88,12 +88,12 @@ pub record Low (p : ℕ) : Type 0 where
   pub is : p ≡ 20 + 4 * number
   pub below : number < 35
 
-pub low-member : (h : Heap) → Offsets h → used_offsets h ≤ 35 → (q : ℕ) → 0 < times q (offsets_of h.nodes) + times q h.free → Low q
+pub low-member : (h : Chain) → Offsets h → used_in_chain h ≤ 35 → (q : ℕ) → 0 < times q (offsets_of h.nodes) + times q h.free → Low q
 low-member h known few q m = let pl = known.offset q m in let b = pl.below in record { number = pl.number; is = pl.is; below = omega arith }
 
 -- the same of an image of a page
 pub low-node : (ws : List ℕ) → Known ws → (q : ℕ) → 0 < times q (offsets_of (nodes_of ws)) → Low q
-low-node ws kn q m = low-member (read_heap ws) (offsets-known (read_heap ws) kn.is.shape.offsets kn.is.shape.once) kn.few q (omega arith)
+low-node ws kn q m = low-member (read_chain ws) (offsets-known (read_chain ws) kn.is.shape.offsets kn.is.shape.once) kn.few q (omega arith)
 
 -- a word that is the header of no record offset
 abbrev pub Off : ℕ → Type 0
@@ -103,21 +103,21 @@ pub off-low : (i q : ℕ) → Off i → Low q → i ≢ q
 off-low i q off l z = let a = l.is in let b = l.below in elim off [ inl f ↦ absurd (omega arith) | inr f ↦ elim f [ inl g ↦ absurd (omega arith) | inr g ↦ g l.number (z ∙ a) ] ]
 
 -- no record stands there
-pub off-none : (h : Heap) → Offsets h → used_offsets h ≤ 35 → (i : ℕ) → Off i → times i (offsets_of h.nodes) ≡ 0
+pub off-none : (h : Chain) → Offsets h → used_in_chain h ≤ 35 → (i : ℕ) → Off i → times i (offsets_of h.nodes) ≡ 0
 off-none h known few i off = elim (cases_lt 0 (times i (offsets_of h.nodes))) [
   | inl lt ↦ absurd (off-low i i off (low-member h known few i (omega arith)) refl)
   | inr ge ↦ omega arith
 ]
 
 -- a record keeps its key and value where each word behind 20 that is no header stays as it is
-pub kept-pair : (ws vs : List ℕ) (h : Heap) → Offsets h → used_offsets h ≤ 35 → ((i : ℕ) → 20 < i → Off i → get_or vs i 0 ≡ get_or ws i 0) → (q : ℕ) → 0 < times q (offsets_of h.nodes)
+pub kept-pair : (ws vs : List ℕ) (h : Chain) → Offsets h → used_in_chain h ≤ 35 → ((i : ℕ) → 20 < i → Off i → get_or vs i 0 ≡ get_or ws i 0) → (q : ℕ) → 0 < times q (offsets_of h.nodes)
     → SameRecord ws vs q
 kept-pair ws vs h known few same q m =
     let l = low-member h known few q (omega arith) in let a = l.is in
     let off : (j : ℕ) → 0 < j → j < 4 → Off (q + j) = λ j pos lt. inr (inr (λ r z. absurd (omega arith))) in
     record { first = same (q + 1) (omega arith) (off 1 (omega arith) (omega arith)); second = same (q + 2) (omega arith) (off 2 (omega arith) (omega arith)); value = same (q + 3) (omega arith) (off 3 (omega arith) (omega arith)) }
 
-module _ (ws vs : List ℕ) (h : Heap) (k p : ℕ) (key : MapKey) (value : ℕ) (free : List ℕ) (is : IsHeap ws h) (gives : Gives h p free) (w : Written ws vs h k p key value free) (le : k ≤ length h.nodes) (lt : length h.nodes < 35) where
+module _ (ws vs : List ℕ) (h : Chain) (k p : ℕ) (key : MapKey) (value : ℕ) (free : List ℕ) (is : IsHeap ws h) (gives : Gives h p free) (w : Written ws vs h k p key value free) (le : k ≤ length h.nodes) (lt : length h.nodes < 35) where
   abbrev before : ℕ
   before = last_from 18 (take k h.nodes)
 
@@ -199,7 +199,7 @@ module _ (ws vs : List ℕ) (h : Heap) (k p : ℕ) (key : MapKey) (value : ℕ) 
   times_new : (q : ℕ) → times q (offsets_of (put_node k p h.nodes) ++ free) ≡ one p q + times q (offsets_of h.nodes) + times q free
   times_new q = let a = times-append q (offsets_of (put_node k p h.nodes)) free in let b = times-put k p q h.nodes le in omega arith
 
-  used_is : used_offsets (put_heap k p free h) ≡ length h.nodes + 1 + length free
+  used_is : used_in_chain (put_heap k p free h) ≡ length h.nodes + 1 + length free
   used_is = let longer = length-put k p h.nodes le in omega arith
 
   same_at : SameAt ws vs h.nodes before owner
@@ -248,7 +248,7 @@ module _ (ws vs : List ℕ) (h : Heap) (k p : ℕ) (key : MapKey) (value : ℕ) 
   new_count : get_or vs 2 0 ≡ length (put_node k p h.nodes)
   new_count = let longer = length-put k p h.nodes le in let a = w.count in let b = is.shape.count in omega arith
 
-  new_top : get_or vs 7 0 ≡ (1 + length (owners (put_node k p h.nodes))) * 256 + (20 + 4 * used_offsets (put_heap k p free h))
+  new_top : get_or vs 7 0 ≡ (1 + length (owners (put_node k p h.nodes))) * 256 + (20 + 4 * used_in_chain (put_heap k p free h))
   new_top =
       let longer = used_is in let a = w.top in let b = is.shape.top in let m = new.more in
       let owners_long : length (owners (put_node k p h.nodes)) ≡ length (owners h.nodes) = ap length (owners-put k p h.nodes le) in omega arith
@@ -257,11 +257,11 @@ module _ (ws vs : List ℕ) (h : Heap) (k p : ℕ) (key : MapKey) (value : ℕ) 
   new_directory = subst (λ (os : List ℕ). Directory vs 10 8 (18 ∷ os)) (sym (owners-put k p h.nodes le))
       (directory-same ws vs 10 8 (18 ∷ owners h.nodes) is.shape.directory (λ j a b. far_word j (λ z. absurd (omega arith)) (λ z. absurd (omega arith)) (λ z. absurd (omega arith)) (inl (omega arith))))
 
-  new_offsets : AreOffsets (used_offsets (put_heap k p free h)) (offsets_of (put_node k p h.nodes) ++ free)
-  new_offsets = offsets-from (used_offsets (put_heap k p free h)) (offsets_of (put_node k p h.nodes) ++ free) (λ q m. wider _ _ q (new.offset q (let t = times_new q in omega arith)) (let u = used_is in omega arith))
+  new_offsets : AreOffsets (used_in_chain (put_heap k p free h)) (offsets_of (put_node k p h.nodes) ++ free)
+  new_offsets = offsets-from (used_in_chain (put_heap k p free h)) (offsets_of (put_node k p h.nodes) ++ free) (λ q m. wider _ _ q (new.offset q (let t = times_new q in omega arith)) (let u = used_is in omega arith))
 
-  new_once : EachOnce (used_offsets (put_heap k p free h)) (offsets_of (put_node k p h.nodes) ++ free)
-  new_once = once-from (used_offsets (put_heap k p free h)) (offsets_of (put_node k p h.nodes) ++ free) (λ r m. (let u = used_is in let t = times_new (20 + 4 * r) in let e = new.each r (omega arith) in omega arith))
+  new_once : EachOnce (used_in_chain (put_heap k p free h)) (offsets_of (put_node k p h.nodes) ++ free)
+  new_once = once-from (used_in_chain (put_heap k p free h)) (offsets_of (put_node k p h.nodes) ++ free) (λ r m. (let u = used_is in let t = times_new (20 + 4 * r) in let e = new.each r (omega arith) in omega arith))
 
   pub put-shaped : k ≡ index_of key (records_in ws h.nodes) → value_at key (records_in ws h.nodes) ≡ None → rank key < end_rank → Shaped vs (put_heap k p free h)
   put-shaped at none in_range = record {

@@ -5,10 +5,10 @@ use Rattle.std.proofs.lemmas.List.{get_or_past}
 use Rattle.ib_map.specs.Keys.{MapKey, rank, end_rank}
 use Rattle.ib_map.specs.Pairs.{put, value_at, index_of}
 use Rattle.ib_heap.specs.Page.{Page}
-use Rattle.ib_heap.specs.Heap.{Node, Heap, first_of, owners, used_offsets, page_with, read_heap, up_to, nodes_of, records_in, times, offsets_of}
+use Rattle.ib_heap.specs.Chain.{Node, Chain, first_of, owners, used_in_chain, page_with, read_chain, up_to, nodes_of, records_in, times, offsets_of}
 use Rattle.ib_heap.specs.Form.{page_of}
 use Rattle.ib_heap.specs.Image.{value_with_records, records_of}
-use Rattle.ib_heap.specs.Put.{owned_by, owner_from, give_slot, give_slot_last, offset_for, rest_of, put_in}
+use Rattle.ib_heap.specs.ChainPut.{owned_by, owner_from, give_slot, give_slot_last, chain_offset, rest_of, put_in_chain}
 use Rattle.ib_heap.specs.Kept.{IsKept, IsOutside}
 use Rattle.ib_heap.specs.Steps.{IsOffsetOfKey, IsOffsetTaken, IsLinkedIn, IsSlotSplit}
 use Rattle.ib_heap.proofs.KeptLaws.{kept-offset, kept-far}
@@ -23,15 +23,15 @@ use Rattle.ib_heap.proofs.SplitPage.{SplitWords, split_heap, split-page, split-s
 use Rattle.ib_heap.proofs.ShapeLaws.{Offsets, offsets-known, Gives, Written}
 use Rattle.ib_heap.proofs.PutPage.{done_plain, k, nodes1, last1, owner_is, before_facts, owner_facts, two, before_header, at_low, owner_header, heap1, shaped1, over1, owner1, nine, Steps, steps, middle-apart}
 
-gives-from : (ns : List Node) (last : ℕ) (free : List ℕ) (p : ℕ) → p ≡ offset_for (record { nodes = ns; last = last; free = free }) → Gives (record { nodes = ns; last = last; free = free }) p (rest_of free)
+gives-from : (ns : List Node) (last : ℕ) (free : List ℕ) (p : ℕ) → p ≡ chain_offset (record { nodes = ns; last = last; free = free }) → Gives (record { nodes = ns; last = last; free = free }) p (rest_of free)
 gives-from ns last [] p e = inr (refl, (e, refl))
 gives-from ns last (q ∷ qs) p e = inl (ap (λ n. n ∷ qs) (sym e))
 
-pub taken-gives : (ws vs : List ℕ) (p : ℕ) → IsOffsetTaken ws vs p → Gives (read_heap ws) p (rest_of (read_heap ws).free)
-taken-gives ws vs p h = gives-from (nodes_of ws) (read_heap ws).last (read_heap ws).free p h.offset
+pub taken-gives : (ws vs : List ℕ) (p : ℕ) → IsOffsetTaken ws vs p → Gives (read_chain ws) p (rest_of (read_chain ws).free)
+taken-gives ws vs p h = gives-from (nodes_of ws) (read_chain ws).last (read_chain ws).free p h.offset
 
 module _ (ws w1 : List ℕ) (key : MapKey) (slot before at p : ℕ) (kn : Known ws) (st : IsOffsetOfKey ws key slot before at) (few : length (nodes_of ws) < 35) (tk : IsOffsetTaken ws w1 p) where
-  abbrev pub gv : Gives (read_heap ws) p (rest_of (read_heap ws).free)
+  abbrev pub gv : Gives (read_chain ws) p (rest_of (read_chain ws).free)
   gv = taken-gives ws w1 p tk
 
   abbrev pub own : ℕ
@@ -65,7 +65,7 @@ module _ (ws w1 : List ℕ) (key : MapKey) (slot before at p : ℕ) (kn : Known 
   count-low = let c = kn.is.shape.count in let o = tk.other 2 (λ z. absurd (omega arith)) (λ z. absurd (omega arith)) in omega arith
 
   module _ (vs : List ℕ) (value : ℕ) (lk : IsLinkedIn w1 vs before at own p key value) (absent : value_at key (records_of ws) ≡ None) (in_range : rank key < end_rank) where
-    pub written : Written ws vs (read_heap ws) (index_of key (records_of ws)) p key value (rest_of (read_heap ws).free)
+    pub written : Written ws vs (read_chain ws) (index_of key (records_of ws)) p key value (rest_of (read_chain ws).free)
     written =
         let o_is = owner_is ws key slot before at p kn st few gv in
         let bs = before-same in let os = owner-same in
@@ -88,7 +88,7 @@ module _ (ws w1 : List ℕ) (key : MapKey) (slot before at p : ℕ) (kn : Known 
     pub plain : get_or vs own 0 / 256 ≤ 8 → page_of vs ≡ value_with_records (put key value (records_of ws)) (page_of ws)
     plain room = done_plain ws key slot before at p kn st few gv vs value written absent in_range room
 
-    pub plain-read : get_or vs own 0 / 256 ≤ 8 → read_heap vs ≡ heap1 ws key slot before at p kn st few gv vs value written absent in_range
+    pub plain-read : get_or vs own 0 / 256 ≤ 8 → read_chain vs ≡ heap1 ws key slot before at p kn st few gv vs value written absent in_range
     plain-read room =
         let o = owner1 ws key slot before at p kn st few gv vs value written absent in_range in let i = o.is in let l = o.low in
         let ov = over1 ws key slot before at p kn st few gv vs value written absent in_range in
@@ -96,11 +96,11 @@ module _ (ws w1 : List ℕ) (key : MapKey) (slot before at p : ℕ) (kn : Known 
         let owned : Owned 0 (nodes1 ws key slot before at p kn st few gv) (last1 ws key slot before at p kn st few gv) = over_at-room (index_of key (records_of ws)) 0 (nodes1 ws key slot before at p kn st few gv) (last1 ws key slot before at p kn st few gv) ov (omega arith) in
         heap-read vs (heap1 ws key slot before at p kn st few gv vs value written absent in_range) (record { shape = sh; owned = owned })
 
-    pub plain-heap : get_or vs own 0 / 256 ≤ 8 → read_heap vs ≡ put_in (index_of key (records_of ws)) (read_heap ws)
+    pub plain-heap : get_or vs own 0 / 256 ≤ 8 → read_chain vs ≡ put_in_chain (index_of key (records_of ws)) (read_chain ws)
     plain-heap room =
         let o = owner1 ws key slot before at p kn st few gv vs value written absent in_range in let i = o.is in let l = o.low in
         plain-read room
-        ∙ put-in-plain (index_of key (records_of ws)) p slot (read_heap ws) tk.offset (omega arith)
+        ∙ put-in-plain (index_of key (records_of ws)) p slot (read_chain ws) tk.offset (omega arith)
 
     pub full-nine : (get_or vs own 0 / 256 ≤ 8 → ⊥) → owned_by (drop (k ws key slot before at p kn st few gv) (nodes1 ws key slot before at p kn st few gv)) (last1 ws key slot before at p kn st few gv) ≡ 9
     full-nine full = nine ws key slot before at p kn st few gv vs value written absent in_range full
@@ -109,7 +109,7 @@ module _ (ws w1 : List ℕ) (key : MapKey) (slot before at p : ℕ) (kn : Known 
         → Steps ws key slot before at p kn st few gv vs value written absent in_range q0 q1 q2 q3 q4
     walked full = steps ws key slot before at p kn st few gv vs value written absent in_range (full-nine full)
 
-module _ (vs : List ℕ) (h : Heap) (kk slot own middle : ℕ) (sh : Shaped vs h) (some : 0 < slot) (over : OverAt kk 0 h.nodes h.last) (nn : owned_by (drop kk h.nodes) h.last ≡ 9) (within : InSlot (slot - 1) kk h.nodes)
+module _ (vs : List ℕ) (h : Chain) (kk slot own middle : ℕ) (sh : Shaped vs h) (some : 0 < slot) (over : OverAt kk 0 h.nodes h.last) (nn : owned_by (drop kk h.nodes) h.last ≡ 9) (within : InSlot (slot - 1) kk h.nodes)
     (own_is : own ≡ owner_from (drop kk h.nodes)) (middle_is : middle ≡ first_of (drop (up_to (slot - 1) h.nodes + 3) h.nodes)) where
   abbrev tt1 : ℕ
   tt1 = up_to (slot - 1) h.nodes + 3
@@ -141,17 +141,17 @@ module _ (vs : List ℕ) (h : Heap) (kk slot own middle : ℕ) (sh : Shaped vs h
       let z = grp.header in
       let g = grp.in_range in
       let e : get_or vs middle 0 ≡ get_or vs (first_of (drop tt1 h.nodes)) 0 = ap (λ n. get_or vs n 0) middle_is in
-      let l = elim (first-in (used_offsets h) h.nodes (suc tt1) sh.few (AreOffsets-left _ _ _ sh.offsets) (omega arith)) as (λ u. first_of (drop (suc tt1) h.nodes) < 256) [ inl y ↦ (let x = y.0 in omega arith) | inr y ↦ (let x = y.1.0 in omega arith) ] in
+      let l = elim (first-in (used_in_chain h) h.nodes (suc tt1) sh.few (AreOffsets-left _ _ _ sh.offsets) (omega arith)) as (λ u. first_of (drop (suc tt1) h.nodes) < 256) [ inl y ↦ (let x = y.0 in omega arith) | inr y ↦ (let x = y.1.0 in omega arith) ] in
       omega arith
 
   -- the record that owns the new slot is one of the chain
   middle-in : 0 < times middle (offsets_of h.nodes)
   middle-in = subst (λ (q : ℕ). 0 < times q (offsets_of h.nodes)) (sym middle_is) (first-member tt1 h.nodes grp.in_range)
 
-  pub split-kept : (v2 : List ℕ) → IsSlotSplit vs v2 slot middle own → (i : ℕ) → IsKept (used_offsets h) i → i ≢ own → get_or v2 i 0 ≡ get_or vs i 0
+  pub split-kept : (v2 : List ℕ) → IsSlotSplit vs v2 slot middle own → (i : ℕ) → IsKept (used_in_chain h) i → i ≢ own → get_or v2 i 0 ≡ get_or vs i 0
   split-kept v2 sc i kept other =
       let ti = top-is in let rm = room in
-      sc.other i (elim (kept-far _ i kept) [ inl low ↦ inl low | inr high ↦ inr (omega arith) ]) (kept-offset (used_offsets h) i middle kept (pl1.offset middle (let a = times-append middle (offsets_of h.nodes) h.free in let m = middle-in in omega arith))) other
+      sc.other i (elim (kept-far _ i kept) [ inl low ↦ inl low | inr high ↦ inr (omega arith) ]) (kept-offset (used_in_chain h) i middle kept (pl1.offset middle (let a = times-append middle (offsets_of h.nodes) h.free in let m = middle-in in omega arith))) other
 
   pub split-done : (v2 : List ℕ) → IsSlotSplit vs v2 slot middle own → 18 ≤ own → 18 ≤ middle → (page_of v2 ≡ Tree (page_with vs (records_in vs h.nodes)))
   split-done v2 sc ol ml =
@@ -175,7 +175,7 @@ module _ (vs : List ℕ) (h : Heap) (kk slot own middle : ℕ) (sh : Shaped vs h
       let owned2 : Owned 0 (give_slot tt1 h.nodes) (give_slot_last tt1 h.nodes h.last) = split-owned (slot - 1) kk 0 h.nodes h.last (λ z. refl) over nn within in
       page-from v2 (split_heap tt1 h) (record { shape = shaped2; owned = owned2 }) ∙ ap (λ (q : Page). Tree q) (split-page vs v2 h (slot - 1) kk sh over nn within sw few1)
 
-  pub split-heap-is : (v2 : List ℕ) → IsSlotSplit vs v2 slot middle own → 18 ≤ own → 18 ≤ middle → read_heap v2 ≡ split_heap tt1 h
+  pub split-heap-is : (v2 : List ℕ) → IsSlotSplit vs v2 slot middle own → 18 ≤ own → 18 ≤ middle → read_chain v2 ≡ split_heap tt1 h
   split-heap-is v2 sc ol ml =
       let ti = top-is in let rm = room in
       let mi = middle_is in

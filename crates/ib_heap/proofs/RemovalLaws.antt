@@ -3,21 +3,24 @@ use Rattle.std.proofs.Common.{◌≡◌, ◌≢◌, ℕ, ◌+◌, ◌/◌, ◌%�
 use Rattle.ib_map.specs.Keys.{MapKey}
 use Rattle.ib_map.specs.Pairs.{without, value_at, index_of}
 use Rattle.ib_heap.specs.Page.{HoldsTree}
-use Rattle.ib_heap.specs.Heap.{nodes_of, read_heap, used_offsets, records_in, page_with, is_shaped}
+use Rattle.ib_heap.specs.Chain.{nodes_of, read_chain, used_in_chain, records_in, page_with, is_shaped}
+use Rattle.ib_heap.specs.Heap.{read_heap, used_offsets}
+use Rattle.ib_heap.specs.Take.{remove_in}
 use Rattle.ib_heap.specs.Form.{page_of}
 use Rattle.ib_heap.specs.Image.{records_of, value_with_records}
-use Rattle.ib_heap.specs.Take.{unlink_node, unlink_in, remove_in}
+use Rattle.ib_heap.specs.ChainTake.{unlink_node, unlink_from_chain}
 use Rattle.ib_heap.specs.Kept.{IsKept}
 use Rattle.ib_heap.specs.Steps.{IsOffsetOfKey, IsHeader, CanUnlink, IsLinkedPast, CanHandOver, IsHandedOver, CanGiveBack, IsGivenBack, CanLend, IsLent, CanJoin, IsSlotJoined}
 use Rattle.ib_heap.proofs.SeekLaws.{Known, known}
-use Rattle.ib_heap.proofs.UnlinkSteps.{at-range, before-range, own-range, slot-range, at-le, before-few, own-word, two, count-some, plain, owning, plain-shaped, plain-page, plain-kept, owner-shaped, owner-page, owner-kept, value-is}
+use Rattle.ib_heap.proofs.HeapSteps.{heap-take, kept-take}
+use Rattle.ib_heap.proofs.UnlinkSteps.{lt, at-range, before-range, own-range, slot-range, at-le, before-few, own-word, two, count-some, plain, owning, plain-shaped, plain-page, plain-kept, owner-shaped, owner-page, owner-kept, value-is}
 use Rattle.ib_heap.proofs.BalanceSteps.{size1, short-range, well-from, well-page, well-heap, slot-small, after-range, short-much, short-after, first-range, apart-lend, first-few, after-much, lend-page, lend-heap, lend-kept, after-few, slot-below, top-few, join-page, join-heap, join-kept}
 
 -- what is left where the record is out of the chain, and its slot as it is then
 pub record IsOut (ws vs : List ℕ) (key : MapKey) : Type 0 where
-  pub shaped : is_shaped vs (unlink_in (index_of key (records_of ws)) (read_heap ws)) ≡ true
+  pub shaped : is_shaped vs (unlink_from_chain (index_of key (records_of ws)) (read_chain ws)) ≡ true
   pub page : page_with vs (records_in vs (unlink_node (index_of key (records_of ws)) (nodes_of ws))) ≡ page_with ws (without key (records_of ws))
-  pub kept : (i : ℕ) → IsKept (used_offsets (read_heap ws)) i → get_or vs i 0 ≡ get_or ws i 0
+  pub kept : (i : ℕ) → IsKept (used_in_chain (read_chain ws)) i → get_or vs i 0 ≡ get_or ws i 0
 
 -- what a removal leaves
 pub record IsRemoved (ws vs : List ℕ) (key : MapKey) : Type 0 where
@@ -28,6 +31,9 @@ pub record IsRemoved (ws vs : List ℕ) (key : MapKey) : Type 0 where
 module _ (ws : List ℕ) (key : MapKey) (slot before at : ℕ) (holds : HoldsTree (page_of ws)) (found : value_at key (records_of ws) ≢ None) (st : IsOffsetOfKey ws key slot before at) where
   kn : Known ws
   kn = known ws holds
+
+  below : index_of key (records_of ws) < length (nodes_of ws)
+  below = lt ws key slot before at kn st found
 
   abbrev own : ℕ
   own = get_or ws (8 + slot) 0
@@ -117,7 +123,7 @@ module _ (ws : List ℕ) (key : MapKey) (slot before at : ℕ) (holds : HoldsTre
     pub removed-well : (short ≡ 19) ⊎ (get_or w0 short 0 / 256 ≢ 3) → IsRemoved ws w0 key
     removed-well well =
         let owned = well-from ws w0 key slot before at kn st found out.shaped out.page well in
-        record { page = well-page ws w0 key slot before at kn st found out.shaped out.page owned; heap = well-heap ws w0 key slot before at kn st found out.shaped out.page owned; kept = out.kept }
+        record { page = well-page ws w0 key slot before at kn st found out.shaped out.page owned; heap = heap-take ws w0 key holds below (well-heap ws w0 key slot before at kn st found out.shaped out.page owned); kept = kept-take ws w0 out.kept }
 
     module _ (ne : short ≢ 19) (three : get_or w0 short 0 / 256 ≡ 3) where
       small : slot ≤ 8
@@ -161,8 +167,8 @@ module _ (ws : List ℕ) (key : MapKey) (slot before at : ℕ) (holds : HoldsTre
         pub removed-lent : (w1 : List ℕ) → IsLent w0 w1 slot short first after → IsRemoved ws w1 key
         removed-lent w1 u = record {
           page = lend-page ws w0 key slot before at kn st found out.shaped out.page ne three five w1 u st.some;
-          heap = lend-heap ws w0 key slot before at kn st found out.shaped out.page ne three five w1 u st.some;
-          kept = λ i kept. lend-kept ws w0 key slot before at kn st found out.shaped out.page ne three five w1 u st.some i kept ∙ out.kept i kept;
+          heap = heap-take ws w1 key holds below (lend-heap ws w0 key slot before at kn st found out.shaped out.page ne three five w1 u st.some);
+          kept = kept-take ws w1 (λ i kept. lend-kept ws w0 key slot before at kn st found out.shaped out.page ne three five w1 u st.some i kept ∙ out.kept i kept);
         }
 
       -- it has none to lend
@@ -183,6 +189,6 @@ module _ (ws : List ℕ) (key : MapKey) (slot before at : ℕ) (holds : HoldsTre
         pub removed-joined : (w1 : List ℕ) → IsSlotJoined w0 w1 slot short after → IsRemoved ws w1 key
         removed-joined w1 u = record {
           page = join-page ws w0 key slot before at kn st found out.shaped out.page ne three few w1 u st.some;
-          heap = join-heap ws w0 key slot before at kn st found out.shaped out.page ne three few w1 u st.some;
-          kept = λ i kept. join-kept ws w0 key slot before at kn st found out.shaped out.page ne three few w1 u st.some i kept ∙ out.kept i kept;
+          heap = heap-take ws w1 key holds below (join-heap ws w0 key slot before at kn st found out.shaped out.page ne three few w1 u st.some);
+          kept = kept-take ws w1 (λ i kept. join-kept ws w0 key slot before at kn st found out.shaped out.page ne three few w1 u st.some i kept ∙ out.kept i kept);
         }

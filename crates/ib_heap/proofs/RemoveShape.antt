@@ -7,8 +7,8 @@ use Rattle.ib_map.specs.Pairs.{Pairs, without, value_at}
 use Rattle.ib_map.proofs.PairLaws.{Rises-without, length-without}
 use Rattle.ib_map.specs.declared.TheConstants.{PAGE_WORDS}
 use Rattle.ib_heap.specs.Page.{Page, IsPage}
-use Rattle.ib_heap.specs.Heap.{Node, Heap, first_of, owners, times, offsets_of, records_in, used_offsets, page_with}
-use Rattle.ib_heap.specs.Take.{unlink_node, unlink_last}
+use Rattle.ib_heap.specs.Chain.{Node, Chain, first_of, owners, times, offsets_of, records_in, used_in_chain, page_with}
+use Rattle.ib_heap.specs.ChainTake.{unlink_node, unlink_last}
 use Rattle.ib_heap.proofs.HeapLaws.{Chained, Directory, IsOffset, AreOffsets, EachOnce, IsHeap, Shaped}
 use Rattle.ib_heap.proofs.SeekLaws.{directory-at, directory-few, length-offsets}
 use Rattle.ib_heap.proofs.PutLaws.{times-append}
@@ -42,9 +42,9 @@ directory-gone ws vs s os ps h gone same back = directory-from vs 10 8 (18 ∷ p
     ]
 
 -- other headers of the same records
-module _ (ws vs : List ℕ) (h : Heap) (ys : List Node) (l : ℕ) (is : Shaped ws h) (same : offsets_of ys ≡ offsets_of h.nodes) (size : length vs ≡ PAGE_WORDS)
+module _ (ws vs : List ℕ) (h : Chain) (ys : List Node) (l : ℕ) (is : Shaped ws h) (same : offsets_of ys ≡ offsets_of h.nodes) (size : length vs ≡ PAGE_WORDS)
     (other : (i : ℕ) → (i < 7) ⊎ (17 < i) → times i (offsets_of h.nodes) ≡ 0 → i ≢ 19 → get_or vs i 0 ≡ get_or ws i 0) where
-  abbrev pub other_heap : Heap
+  abbrev pub other_heap : Chain
   other_heap = record { nodes = ys; last = l; free = h.free }
 
   known : Offsets h
@@ -66,7 +66,7 @@ module _ (ws vs : List ℕ) (h : Heap) (ys : List Node) (l : ℕ) (is : Shaped w
       let l = low-member h known is.few q (omega arith) in let a = l.is in let o = known.once q in
       other q (inr (omega arith)) (omega arith) (λ z. absurd (omega arith))
 
-  pub other-shaped : Chained vs ys l → Directory vs 10 8 (18 ∷ owners ys) → get_or vs 7 0 ≡ (1 + length (owners ys)) * 256 + (20 + 4 * used_offsets h) → Shaped vs other_heap
+  pub other-shaped : Chained vs ys l → Directory vs 10 8 (18 ∷ owners ys) → get_or vs 7 0 ≡ (1 + length (owners ys)) * 256 + (20 + 4 * used_in_chain h) → Shaped vs other_heap
   other-shaped chained directory top =
       let lo = long in let few = is.few in let c = is.count in let hc = header_word 2 (omega arith) in
       record {
@@ -81,13 +81,13 @@ module _ (ws vs : List ℕ) (h : Heap) (ys : List Node) (l : ℕ) (is : Shaped w
         chained = chained;
         freed = freed-same ws vs h.free is.freed free_word;
         directory = directory;
-        offsets = subst (λ (ps : List ℕ). AreOffsets (used_offsets other_heap) (ps ++ h.free)) (sym same) (subst (λ (n : ℕ). AreOffsets n (offsets_of h.nodes ++ h.free)) (let e : used_offsets h ≡ used_offsets other_heap = omega arith in e) is.offsets);
-        once = subst (λ (ps : List ℕ). EachOnce (used_offsets other_heap) (ps ++ h.free)) (sym same) (subst (λ (n : ℕ). EachOnce n (offsets_of h.nodes ++ h.free)) (let e : used_offsets h ≡ used_offsets other_heap = omega arith in e) is.once);
+        offsets = subst (λ (ps : List ℕ). AreOffsets (used_in_chain other_heap) (ps ++ h.free)) (sym same) (subst (λ (n : ℕ). AreOffsets n (offsets_of h.nodes ++ h.free)) (let e : used_in_chain h ≡ used_in_chain other_heap = omega arith in e) is.offsets);
+        once = subst (λ (ps : List ℕ). EachOnce (used_in_chain other_heap) (ps ++ h.free)) (sym same) (subst (λ (n : ℕ). EachOnce n (offsets_of h.nodes ++ h.free)) (let e : used_in_chain h ≡ used_in_chain other_heap = omega arith in e) is.once);
         keyed = keys-offsets vs ys h.nodes same ∙ (keys-same ws vs h.nodes (kept-pair ws vs h known is.few (λ i high off. other i (inr (omega arith)) (off-none h known is.few i off) (λ z. absurd (omega arith)))) ∙ is.keyed);
       }
 
 -- what was written for a record taken out
-pub record UnlinkWords (ws vs : List ℕ) (h : Heap) (k : ℕ) : Type 0 where
+pub record UnlinkWords (ws vs : List ℕ) (h : Chain) (k : ℕ) : Type 0 where
   pub size : length vs ≡ PAGE_WORDS
   pub count : get_or vs 2 0 + 1 ≡ get_or ws 2 0
   pub front : get_or vs 6 0 ≡ first_of (drop k h.nodes)
@@ -95,9 +95,9 @@ pub record UnlinkWords (ws vs : List ℕ) (h : Heap) (k : ℕ) : Type 0 where
   pub start : get_or vs 18 0 ≡ 256 + first_of (unlink_node k h.nodes)
   pub other : (i : ℕ) → i ≢ 2 → i ≢ 6 → (i < 8) ⊎ (18 < i) → times i (offsets_of h.nodes) ≡ 0 → i ≢ 19 → get_or vs i 0 ≡ get_or ws i 0
 
-module _ (ws vs : List ℕ) (h : Heap) (k : ℕ) (key : MapKey) (value : ℕ) (is : IsHeap ws h) (lt : k < length h.nodes) (w : UnlinkWords ws vs h k)
+module _ (ws vs : List ℕ) (h : Chain) (k : ℕ) (key : MapKey) (value : ℕ) (is : IsHeap ws h) (lt : k < length h.nodes) (w : UnlinkWords ws vs h k)
     (gone : remove (records_in ws h.nodes) k ≡ without key (records_in ws h.nodes)) (found : value_at key (records_in ws h.nodes) ≡ Some value) where
-  abbrev pub unlink_heap : Heap
+  abbrev pub unlink_heap : Chain
   unlink_heap = record { nodes = unlink_node k h.nodes; last = unlink_last k h.nodes h.last; free = first_of (drop k h.nodes) ∷ h.free }
 
   abbrev at : ℕ
@@ -131,7 +131,7 @@ module _ (ws vs : List ℕ) (h : Heap) (k : ℕ) (key : MapKey) (value : ℕ) (i
   times_new : (q : ℕ) → times q (offsets_of (unlink_node k h.nodes) ++ (at ∷ h.free)) ≡ times q (offsets_of h.nodes) + times q h.free
   times_new q = let a = times-append q (offsets_of (unlink_node k h.nodes)) (at ∷ h.free) in let b = times-unlink k q h.nodes lt in omega arith
 
-  used_is : used_offsets unlink_heap ≡ used_offsets h
+  used_is : used_in_chain unlink_heap ≡ used_in_chain h
   used_is = let l = length-unlink k h.nodes lt in omega arith
 
   kept_free : (q : ℕ) → 0 < times q h.free → get_or vs q 0 ≡ get_or ws q 0
@@ -154,7 +154,7 @@ module _ (ws vs : List ℕ) (h : Heap) (k : ℕ) (key : MapKey) (value : ℕ) (i
         chained = chained;
         freed = (w.freed ∙ is.shape.front, freed-same ws vs h.free is.shape.freed kept_free);
         directory = directory;
-        offsets = offsets-from (used_offsets unlink_heap) (offsets_of (unlink_node k h.nodes) ++ (at ∷ h.free)) (λ q m. subst (λ (n : ℕ). IsOffset n q) (sym used_is) (known_before.offset q (let t1 = times_new q in omega arith)));
-        once = once-from (used_offsets unlink_heap) (offsets_of (unlink_node k h.nodes) ++ (at ∷ h.free)) (λ r m. let t1 = times_new (20 + 4 * r) in let e = known_before.each r (omega arith) in omega arith);
+        offsets = offsets-from (used_in_chain unlink_heap) (offsets_of (unlink_node k h.nodes) ++ (at ∷ h.free)) (λ q m. subst (λ (n : ℕ). IsOffset n q) (sym used_is) (known_before.offset q (let t1 = times_new q in omega arith)));
+        once = once-from (used_in_chain unlink_heap) (offsets_of (unlink_node k h.nodes) ++ (at ∷ h.free)) (λ r m. let t1 = times_new (20 + 4 * r) in let e = known_before.each r (omega arith) in omega arith);
         keyed = keys-same ws vs (unlink_node k h.nodes) same-records ∙ keys-unlink ws k h.nodes is.shape.keyed;
       }

@@ -5,13 +5,13 @@ use Rattle.ib_map.specs.Keys.{MapKey, rank, end_rank}
 use Rattle.ib_map.specs.Pairs.{Pairs, Rises, index_of}
 use Rattle.ib_map.specs.declared.TheConstants.{PAGE_WORDS}
 use Rattle.ib_heap.specs.Page.{HoldsTree, page_in}
-use Rattle.ib_heap.specs.Heap.{key_at, is_key_at, are_keys, Node, first_of, owners, offsets_of, records_in, used_offsets, read_heap, last_from, up_to, nodes_of}
+use Rattle.ib_heap.specs.Chain.{key_at, is_key_at, are_keys, Node, first_of, owners, offsets_of, records_in, used_in_chain, read_chain, last_from, up_to, nodes_of}
 use Rattle.ib_heap.specs.Form.{page_of}
 use Rattle.ib_heap.specs.Image.{records_of}
 use Rattle.ib_map.proofs.IndexLaws.{index_of-le}
 use Rattle.ib_heap.proofs.RouteLaws.{index_of-behind_lower, index_of-not_behind}
 use Rattle.ib_heap.proofs.HeapLaws.{Chained, Directory, AreOffsets, AreOffsets-left, IsHeap, heap_in, first-low}
-use Rattle.ib_heap.specs.Put.{owner_from}
+use Rattle.ib_heap.specs.ChainPut.{owner_from}
 
 -- the word of a slot
 pub directory-at : (ws : List ℕ) (n i : ℕ) (slots : List ℕ) (j : ℕ) → Directory ws n i slots → j < n → get_or ws (i + j) 0 ≡ get_or slots j 0
@@ -146,10 +146,10 @@ length-offsets (x ∷ xs) = ap suc (length-offsets xs)
 
 -- what is known of an image of a page of the tree
 pub record Known (ws : List ℕ) : Type 0 where
-  pub is : IsHeap ws (read_heap ws)
+  pub is : IsHeap ws (read_chain ws)
   pub records : records_of ws ≡ records_in ws (nodes_of ws)
-  pub offsets : AreOffsets (used_offsets (read_heap ws)) (offsets_of (nodes_of ws))
-  pub few : used_offsets (read_heap ws) ≤ 35
+  pub offsets : AreOffsets (used_in_chain (read_chain ws)) (offsets_of (nodes_of ws))
+  pub few : used_in_chain (read_chain ws) ≤ 35
   pub slots : 1 + length (owners (nodes_of ws)) ≤ 10
   pub some : 0 < length (owners (nodes_of ws))
   pub size : length ws ≡ 160
@@ -216,7 +216,7 @@ owner-is ws slot k le =
       | inl lt ↦
           let offset : get_or ws (8 + slot) 0 ≡ last_from 18 (take (up_to slot (nodes_of ws)) (nodes_of ws)) = word ∙ owner-at 18 (nodes_of ws) slot lt in
           let keyed : 0 < slot → slot < length (owners (nodes_of ws)) → is_key_at ws (get_or ws (8 + slot) 0) ≡ true = λ pos within. let here = slot-offset ws slot (get_or ws (8 + slot) 0) pos within offset in keyed-at ws _ _ k here.0 here.1 in
-          elim (last-in (used_offsets (read_heap ws)) 18 (nodes_of ws) (up_to slot (nodes_of ws)) k.few k.offsets (up_to-le slot (nodes_of ws))) [
+          elim (last-in (used_in_chain (read_chain ws)) 18 (nodes_of ws) (up_to slot (nodes_of ws)) k.few k.offsets (up_to-le slot (nodes_of ws))) [
             | inl e ↦ let f = e.1 in let z = e.0 in record { at = λ h. offset; low = omega arith; high = omega arith; is_record = λ pos within. absurd (let s = up_to-some slot (nodes_of ws) pos within in omega arith); keyed = keyed }
             | inr e ↦ let f = e.0 in let z = e.1 in record { at = λ h. offset; low = omega arith; high = omega arith; is_record = λ pos within. omega arith; keyed = keyed }
           ]
@@ -230,8 +230,8 @@ owner-is ws slot k le =
 pub next-is : (ws : List ℕ) (k offset : ℕ) → Known ws → k ≤ length (nodes_of ws) → offset ≡ last_from 18 (take k (nodes_of ws)) → get_or ws offset 0 % 256 ≡ first_of (drop k (nodes_of ws))
 next-is ws k offset kn le at =
     let start = kn.is.shape.start in
-    let low : first_of (nodes_of ws) < 256 = elim (first-in (used_offsets (read_heap ws)) (nodes_of ws) 0 kn.few kn.offsets (omega arith)) [ inl e ↦ (let f = e.0 in omega arith) | inr e ↦ (let f = e.1.0 in omega arith) ] in
-    ap (λ i. get_or ws i 0 % 256) at ∙ link-at ws (used_offsets (read_heap ws)) 18 (nodes_of ws) (read_heap ws).last k kn.few kn.offsets (omega arith) kn.is.shape.chained le
+    let low : first_of (nodes_of ws) < 256 = elim (first-in (used_in_chain (read_chain ws)) (nodes_of ws) 0 kn.few kn.offsets (omega arith)) [ inl e ↦ (let f = e.0 in omega arith) | inr e ↦ (let f = e.1.0 in omega arith) ] in
+    ap (λ i. get_or ws i 0 % 256) at ∙ link-at ws (used_in_chain (read_chain ws)) 18 (nodes_of ws) (read_chain ws).last k kn.few kn.offsets (omega arith) kn.is.shape.chained le
 
 -- the record at an offset of the chain
 pub record-is : (ws : List ℕ) (k offset : ℕ) → Known ws → k < length (nodes_of ws) → offset ≡ first_of (drop k (nodes_of ws)) → slice_get (records_of ws) k ≡ Some (key_at ws offset, get_or ws (offset + 3) 0)
@@ -267,14 +267,14 @@ pub record Walk (ws : List ℕ) (key : MapKey) (first before at step : ℕ) : Ty
   pub at_is : at ≡ first_of (drop number (nodes_of ws))
 
 pub walk-offset : (ws : List ℕ) (key : MapKey) (first before at step : ℕ) → Known ws → Walk ws key first before at step → (at ≡ 19 → ⊥) → (20 ≤ at) × ((at ≤ 156) × (0 < 1))
-walk-offset ws key first before at step kn w ne = elim (first-in (used_offsets (read_heap ws)) (nodes_of ws) w.number kn.few kn.offsets w.within) [
+walk-offset ws key first before at step kn w ne = elim (first-in (used_in_chain (read_chain ws)) (nodes_of ws) w.number kn.few kn.offsets w.within) [
   | inl e ↦ absurd (ne (w.at_is ∙ e.0))
   | inr e ↦ let a = e.0 in let b = e.1.0 in let i = w.at_is in (omega arith, (omega arith, omega arith))
 ]
 
 pub walk-on : (ws : List ℕ) (key : MapKey) (first before at step next : ℕ) → Known ws → Walk ws key first before at step → (at ≡ 19 → ⊥) → rank (key_at ws at) < rank key
     → ((k : ℕ) → k ≤ length (nodes_of ws) → at ≡ last_from 18 (take k (nodes_of ws)) → next ≡ first_of (drop k (nodes_of ws))) → Walk ws key first at next (step + 1)
-walk-on ws key first before at step next kn w ne below reads = elim (first-in (used_offsets (read_heap ws)) (nodes_of ws) w.number kn.few kn.offsets w.within) [
+walk-on ws key first before at step next kn w ne below reads = elim (first-in (used_in_chain (read_chain ws)) (nodes_of ws) w.number kn.few kn.offsets w.within) [
   | inl e ↦ absurd (ne (w.at_is ∙ e.0))
   | inr e ↦
       let lt = e.1.1 in
@@ -290,7 +290,7 @@ walk-end ws key first before at step kn w ends =
     let most = index_of-le key (records_of ws) in
     let long = kn.long in
     let low = w.low in
-    elim (first-in (used_offsets (read_heap ws)) (nodes_of ws) w.number kn.few kn.offsets w.within) [
+    elim (first-in (used_in_chain (read_chain ws)) (nodes_of ws) w.number kn.few kn.offsets w.within) [
       | inl e ↦ let f = e.1 in omega arith
       | inr e ↦ elim ends [
         | inl is ↦ absurd (let a = w.at_is in let b = e.0 in omega arith)
@@ -299,7 +299,7 @@ walk-end ws key first before at step kn w ends =
     ]
 
 pub walk-full : (ws : List ℕ) (key : MapKey) (first before at step : ℕ) → Known ws → Walk ws key first before at step → 35 ≤ step → at ≡ 19
-walk-full ws key first before at step kn w full = elim (first-in (used_offsets (read_heap ws)) (nodes_of ws) w.number kn.few kn.offsets w.within) [
+walk-full ws key first before at step kn w full = elim (first-in (used_in_chain (read_chain ws)) (nodes_of ws) w.number kn.few kn.offsets w.within) [
   | inl e ↦ w.at_is ∙ e.0
   | inr e ↦ absurd (let lt = e.1.1 in let number = w.number_is in let few = kn.few in omega arith)
 ]
@@ -309,13 +309,13 @@ pub walk-start : (ws : List ℕ) (key : MapKey) (slot before at : ℕ) → Known
 walk-start ws key slot before at kn low is reads = record { number = up_to slot (nodes_of ws); number_is = omega arith; within = up_to-le slot (nodes_of ws); low = low; before_is = is; at_is = reads _ (up_to-le slot (nodes_of ws)) is }
 
 pub walk-low : (ws : List ℕ) (key : MapKey) (first before at step : ℕ) → Known ws → Walk ws key first before at step → at ≤ 156
-walk-low ws key first before at step kn w = elim (first-in (used_offsets (read_heap ws)) (nodes_of ws) w.number kn.few kn.offsets w.within) [
+walk-low ws key first before at step kn w = elim (first-in (used_in_chain (read_chain ws)) (nodes_of ws) w.number kn.few kn.offsets w.within) [
   | inl e ↦ let a = e.0 in let i = w.at_is in omega arith
   | inr e ↦ let a = e.1.0 in let i = w.at_is in omega arith
 ]
 
 pub walk-keyed : (ws : List ℕ) (key : MapKey) (first before at step : ℕ) → Known ws → Walk ws key first before at step → (at ≡ 19 → ⊥) → is_key_at ws at ≡ true
-walk-keyed ws key first before at step kn w ne = elim (first-in (used_offsets (read_heap ws)) (nodes_of ws) w.number kn.few kn.offsets w.within) [
+walk-keyed ws key first before at step kn w ne = elim (first-in (used_in_chain (read_chain ws)) (nodes_of ws) w.number kn.few kn.offsets w.within) [
   | inl e ↦ absurd (ne (w.at_is ∙ e.0))
   | inr e ↦ keyed-at ws w.number at kn e.1.1 w.at_is
 ]
@@ -350,7 +350,7 @@ chain-on ws k at holds lt is =
 pub chain-within : (ws : List ℕ) (k at : ℕ) → HoldsTree (page_of ws) → k < length (nodes_of ws) → at ≡ first_of (drop k (nodes_of ws)) → at ≤ 156
 chain-within ws k at holds lt is =
     let kn = known ws holds in
-    elim (first-in (used_offsets (read_heap ws)) (nodes_of ws) k kn.few kn.offsets (omega arith)) [ inl e ↦ (let a = e.0 in omega arith) | inr e ↦ (let a = e.1.0 in omega arith) ]
+    elim (first-in (used_in_chain (read_chain ws)) (nodes_of ws) k kn.few kn.offsets (omega arith)) [ inl e ↦ (let a = e.0 in omega arith) | inr e ↦ (let a = e.1.0 in omega arith) ]
 
 pub nodes-length : (ws : List ℕ) → HoldsTree (page_of ws) → length (records_of ws) ≡ length (nodes_of ws)
 nodes-length ws holds = (known ws holds).long

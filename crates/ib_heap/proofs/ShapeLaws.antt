@@ -7,9 +7,9 @@ use Rattle.ib_map.specs.Keys.{MapKey, key_in}
 use Rattle.ib_map.specs.Pairs.{Pairs}
 use Rattle.ib_map.specs.declared.TheConstants.{PAGE_WORDS}
 use Rattle.ib_heap.specs.Page.{Page}
-use Rattle.ib_heap.specs.Heap.{key_at, Node, Heap, first_of, first_free, times, offsets_of, records_in, used_offsets, page_with, last_from, are_keys, is_key_at}
+use Rattle.ib_heap.specs.Chain.{key_at, Node, Chain, first_of, first_free, times, offsets_of, records_in, used_in_chain, page_with, last_from, are_keys, is_key_at}
 use Rattle.ib_heap.specs.Kept.{IsOutside}
-use Rattle.ib_heap.specs.Put.{owner_from, own_one_more, put_node, put_last}
+use Rattle.ib_heap.specs.ChainPut.{owner_from, own_one_more, put_node, put_last}
 use Rattle.ib_heap.proofs.HeapLaws.{Freed, Directory, IsOffset, AreOffsets, EachOnce}
 use Rattle.ib_heap.proofs.PutLaws.{one-same, one-other, offsets-own_one_more, times-append, Apart}
 
@@ -43,21 +43,21 @@ at_most_once n ps q offsets once = elim (cases_lt 0 (times q ps)) [
 ]
 
 -- what is known of the offsets of a heap
-pub record Offsets (h : Heap) : Type 0 where
+pub record Offsets (h : Chain) : Type 0 where
   pub once : (q : ℕ) → times q (offsets_of h.nodes) + times q h.free ≤ 1
-  pub offset : (q : ℕ) → 0 < times q (offsets_of h.nodes) + times q h.free → IsOffset (used_offsets h) q
-  pub each : (r : ℕ) → r < used_offsets h → times (20 + 4 * r) (offsets_of h.nodes) + times (20 + 4 * r) h.free ≡ 1
+  pub offset : (q : ℕ) → 0 < times q (offsets_of h.nodes) + times q h.free → IsOffset (used_in_chain h) q
+  pub each : (r : ℕ) → r < used_in_chain h → times (20 + 4 * r) (offsets_of h.nodes) + times (20 + 4 * r) h.free ≡ 1
   pub apart : Apart h.nodes
 
-pub offsets-known : (h : Heap) → AreOffsets (used_offsets h) (offsets_of h.nodes ++ h.free) → EachOnce (used_offsets h) (offsets_of h.nodes ++ h.free) → Offsets h
+pub offsets-known : (h : Chain) → AreOffsets (used_in_chain h) (offsets_of h.nodes ++ h.free) → EachOnce (used_in_chain h) (offsets_of h.nodes ++ h.free) → Offsets h
 offsets-known h offsets once =
     let both : (q : ℕ) → times q (offsets_of h.nodes ++ h.free) ≡ times q (offsets_of h.nodes) + times q h.free = λ q. times-append q (offsets_of h.nodes) h.free in
-    let most : (q : ℕ) → times q (offsets_of h.nodes) + times q h.free ≤ 1 = λ q. let a = at_most_once (used_offsets h) (offsets_of h.nodes ++ h.free) q offsets once in let b = both q in omega arith in
-    let is : (q : ℕ) → 0 < times q (offsets_of h.nodes) + times q h.free → IsOffset (used_offsets h) q = λ q lt. offset-member (used_offsets h) (offsets_of h.nodes ++ h.free) q offsets (let b = both q in omega arith) in
+    let most : (q : ℕ) → times q (offsets_of h.nodes) + times q h.free ≤ 1 = λ q. let a = at_most_once (used_in_chain h) (offsets_of h.nodes ++ h.free) q offsets once in let b = both q in omega arith in
+    let is : (q : ℕ) → 0 < times q (offsets_of h.nodes) + times q h.free → IsOffset (used_in_chain h) q = λ q lt. offset-member (used_in_chain h) (offsets_of h.nodes ++ h.free) q offsets (let b = both q in omega arith) in
     record {
       once = most;
       offset = is;
-      each = λ r lt. let o = once-at (used_offsets h) (offsets_of h.nodes ++ h.free) r once lt in let b = both (20 + 4 * r) in omega arith;
+      each = λ r lt. let o = once-at (used_in_chain h) (offsets_of h.nodes ++ h.free) r once lt in let b = both (20 + 4 * r) in omega arith;
       apart = record { once = λ q. let m = most q in omega arith; above = λ q lt. let p = is q (omega arith) in let e = p.is in omega arith };
     }
 
@@ -148,11 +148,11 @@ keys-put ws vs (suc k) p (x ∷ xs) le same new old =
     and_from _ _ (is_key-same ws vs x.offset here ∙ parts.0) (keys-put ws vs k p xs (omega arith) (λ q lt. same q (omega arith)) new parts.1)
 
 -- an offset for a record: the first free one, or where there is none the one at the top
-abbrev pub Gives : Heap → ℕ → List ℕ → Type 0
-Gives h p free = (h.free ≡ p ∷ free) ⊎ ((h.free ≡ []) × ((p ≡ 20 + 4 * used_offsets h) × (free ≡ [])))
+abbrev pub Gives : Chain → ℕ → List ℕ → Type 0
+Gives h p free = (h.free ≡ p ∷ free) ⊎ ((h.free ≡ []) × ((p ≡ 20 + 4 * used_in_chain h) × (free ≡ [])))
 
 -- what was written for a put
-pub record Written (ws vs : List ℕ) (h : Heap) (k p : ℕ) (key : MapKey) (value : ℕ) (free : List ℕ) : Type 0 where
+pub record Written (ws vs : List ℕ) (h : Chain) (k p : ℕ) (key : MapKey) (value : ℕ) (free : List ℕ) : Type 0 where
   pub size : length vs ≡ PAGE_WORDS
   pub offset_word : get_or vs p 0 ≡ first_of (drop k h.nodes)
   pub key_word : key_at vs p ≡ key
@@ -162,8 +162,8 @@ pub record Written (ws vs : List ℕ) (h : Heap) (k p : ℕ) (key : MapKey) (val
   pub raised : get_or vs (owner_from (drop k h.nodes)) 0 ≡ get_or ws (owner_from (drop k h.nodes)) 0 + 256
   pub count : get_or vs 2 0 ≡ get_or ws 2 0 + 1
   pub front : get_or vs 6 0 ≡ first_free free
-  pub top : get_or vs 7 0 ≡ get_or ws 7 0 + 4 * (length h.nodes + 1 + length free - used_offsets h)
+  pub top : get_or vs 7 0 ≡ get_or ws 7 0 + 4 * (length h.nodes + 1 + length free - used_in_chain h)
   pub other : (i : ℕ) → i ≢ 2 → i ≢ 6 → i ≢ 7 → IsOutside p i → i ≢ last_from 18 (take k h.nodes) → i ≢ owner_from (drop k h.nodes) → get_or vs i 0 ≡ get_or ws i 0
 
-abbrev pub put_heap : ℕ → ℕ → List ℕ → Heap → Heap
+abbrev pub put_heap : ℕ → ℕ → List ℕ → Chain → Chain
 put_heap k p free h = record { nodes = put_node k p h.nodes; last = put_last k h.nodes h.last; free = free }

@@ -1,9 +1,9 @@
 -- The slot from which a record was taken.
 use Rattle.std.proofs.Common.{◌≡◌, ℕ, zero, suc, ◌+◌, ◌-◌, ◌<◌, ◌≤◌, ◌≢◌, ◌⊎◌, [], ◌∷◌, ◌∙◌, List, length, take, drop, get_or, refl, ap, arith, inl, inr}
 use Rattle.std.proofs.lemmas.Bool.{cases_eq, eq-eqb, ne_eqb}
-use Rattle.ib_heap.specs.Heap.{Node, first_of, owners}
-use Rattle.ib_heap.specs.Put.{owned_by, owner_from}
-use Rattle.ib_heap.specs.Take.{own_one_fewer, last_one_fewer, unlink_node, unlink_last}
+use Rattle.ib_heap.specs.Chain.{Node, first_of, owners}
+use Rattle.ib_heap.specs.ChainPut.{owned_by, owner_from}
+use Rattle.ib_heap.specs.ChainTake.{own_one_fewer, last_one_fewer, unlink_node, unlink_last}
 use Rattle.ib_heap.proofs.HeapLaws.{Owned}
 use Rattle.ib_heap.proofs.PutLaws.{Apart, apart-rest, apart-offset}
 use Rattle.ib_heap.proofs.UnlinkLaws.{length-unlink}

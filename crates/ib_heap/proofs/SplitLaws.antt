@@ -1,8 +1,8 @@
 -- The chain after a slot of nine is split.
 use Rattle.std.proofs.Common.{◌≡◌, ℕ, zero, suc, ◌+◌, ◌<◌, ◌≤◌, ◌⊎◌, false, [], ◌∷◌, ◌∙◌, List, length, drop, get_or, refl, ap, sym, arith, eqb, inl, inr, subst}
 use Rattle.std.proofs.lemmas.Bool.{cases_eq, eq-eqb, ne_eqb}
-use Rattle.ib_heap.specs.Heap.{Node, first_of, owners, offsets_of, up_to}
-use Rattle.ib_heap.specs.Put.{owned_by, owner_from, put_node, own_four_fewer, last_four_fewer, give_slot, give_slot_last}
+use Rattle.ib_heap.specs.Chain.{Node, first_of, owners, offsets_of, up_to}
+use Rattle.ib_heap.specs.ChainPut.{owned_by, owner_from, put_node, own_four_fewer, last_four_fewer, give_slot, give_slot_last}
 use Rattle.ib_heap.proofs.HeapLaws.{Owned}
 use Rattle.ib_heap.proofs.SeekLaws.{owners-some, owner-first}
 use Rattle.ib_heap.proofs.PutLaws.{Over, OverAt}

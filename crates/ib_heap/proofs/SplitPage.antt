@@ -4,8 +4,8 @@ use Rattle.std.proofs.lemmas.List.Edits.{length-insert}
 use Rattle.ib_map.specs.Pairs.{Pairs}
 use Rattle.ib_map.specs.declared.TheConstants.{PAGE_WORDS}
 use Rattle.ib_heap.specs.Page.{Page, IsPage}
-use Rattle.ib_heap.specs.Heap.{Node, Heap, first_of, owners, times, offsets_of, records_in, used_offsets, page_with, up_to}
-use Rattle.ib_heap.specs.Put.{owned_by, owner_from, give_slot, give_slot_last}
+use Rattle.ib_heap.specs.Chain.{Node, Chain, first_of, owners, times, offsets_of, records_in, used_in_chain, page_with, up_to}
+use Rattle.ib_heap.specs.ChainPut.{owned_by, owner_from, give_slot, give_slot_last}
 use Rattle.ib_heap.proofs.HeapLaws.{Directory, AreOffsets, EachOnce, Shaped}
 use Rattle.ib_heap.proofs.PutLaws.{OverAt, owner-in, times-drop, SameAt, first-member}
 use Rattle.ib_heap.proofs.SplitLaws.{InSlot, offsets-give_slot, first-offsets}
@@ -25,17 +25,17 @@ pub record SplitWords (ws vs : List ℕ) (nodes : List Node) (j t : ℕ) : Type 
   pub behind : (m : ℕ) → j + 1 ≤ m → m + 1 < 10 → get_or vs (8 + (m + 1)) 0 ≡ get_or ws (8 + m) 0
   pub other : (i : ℕ) → (i < 7) ⊎ (17 < i) → i ≢ first_of (drop t nodes) → i ≢ owner_from (drop (suc t) nodes) → get_or vs i 0 ≡ get_or ws i 0
 
-abbrev pub split_heap : ℕ → Heap → Heap
+abbrev pub split_heap : ℕ → Chain → Chain
 split_heap t h = record { nodes = give_slot t h.nodes; last = give_slot_last t h.nodes h.last; free = h.free }
 
 pub length-give_slot : (t : ℕ) (xs : List Node) → length (give_slot t xs) ≡ length xs
 length-give_slot t xs = sym (length-offsets (give_slot t xs)) ∙ (ap length (offsets-give_slot t xs) ∙ length-offsets xs)
 
 -- as many offsets are used as before
-pub used-split : (t : ℕ) (h : Heap) → used_offsets (split_heap t h) ≡ used_offsets h
+pub used-split : (t : ℕ) (h : Chain) → used_in_chain (split_heap t h) ≡ used_in_chain h
 used-split t h = let a = length-give_slot t h.nodes in omega arith
 
-module _ (ws vs : List ℕ) (h : Heap) (j k : ℕ) (is : Shaped ws h) (over : OverAt k 0 h.nodes h.last) (nine : owned_by (drop k h.nodes) h.last ≡ 9) (within : InSlot j k h.nodes) (w : SplitWords ws vs h.nodes j (up_to j h.nodes + 3)) (few : length h.nodes ≤ 35) where
+module _ (ws vs : List ℕ) (h : Chain) (j k : ℕ) (is : Shaped ws h) (over : OverAt k 0 h.nodes h.last) (nine : owned_by (drop k h.nodes) h.last ≡ 9) (within : InSlot j k h.nodes) (w : SplitWords ws vs h.nodes j (up_to j h.nodes + 3)) (few : length h.nodes ≤ 35) where
   abbrev t : ℕ
   t = up_to j h.nodes + 3
 
@@ -108,7 +108,7 @@ module _ (ws vs : List ℕ) (h : Heap) (j k : ℕ) (is : Shaped ws h) (over : Ov
         freed = freed-same ws vs h.free is.freed free_word;
         directory = subst (λ (os : List ℕ). Directory vs 10 8 (18 ∷ os)) (sym g.slots) (directory-insert ws vs 10 8 (suc j) middle (18 ∷ owners h.nodes) is.directory (omega arith) (omega arith)
             (λ m lt. w.before m (omega arith)) (ap (λ i. get_or vs i 0) (let e : 8 + suc j ≡ 8 + (j + 1) = omega arith in e) ∙ w.here) (λ m le lt. w.behind m (omega arith) lt));
-        offsets = subst (λ (ps : List ℕ). AreOffsets (used_offsets (split_heap t h)) (ps ++ h.free)) (sym (offsets-give_slot t h.nodes)) (subst (λ (n : ℕ). AreOffsets n (offsets_of h.nodes ++ h.free)) (let e : used_offsets h ≡ used_offsets (split_heap t h) = omega arith in e) is.offsets);
-        once = subst (λ (ps : List ℕ). EachOnce (used_offsets (split_heap t h)) (ps ++ h.free)) (sym (offsets-give_slot t h.nodes)) (subst (λ (n : ℕ). EachOnce n (offsets_of h.nodes ++ h.free)) (let e : used_offsets h ≡ used_offsets (split_heap t h) = omega arith in e) is.once);
+        offsets = subst (λ (ps : List ℕ). AreOffsets (used_in_chain (split_heap t h)) (ps ++ h.free)) (sym (offsets-give_slot t h.nodes)) (subst (λ (n : ℕ). AreOffsets n (offsets_of h.nodes ++ h.free)) (let e : used_in_chain h ≡ used_in_chain (split_heap t h) = omega arith in e) is.offsets);
+        once = subst (λ (ps : List ℕ). EachOnce (used_in_chain (split_heap t h)) (ps ++ h.free)) (sym (offsets-give_slot t h.nodes)) (subst (λ (n : ℕ). EachOnce n (offsets_of h.nodes ++ h.free)) (let e : used_in_chain h ≡ used_in_chain (split_heap t h) = omega arith in e) is.once);
         keyed = keys-offsets vs (give_slot t h.nodes) h.nodes (offsets-give_slot t h.nodes) ∙ (keys-same ws vs h.nodes (kept-pair ws vs h known is.few (λ i high off. off_word i (inr (omega arith)) off (λ z. absurd (omega arith)))) ∙ is.keyed);
       }

@@ -2,8 +2,8 @@
 use Rattle.std.proofs.Common.{◌≡◌, ℕ, zero, suc, ◌+◌, ◌-◌, ◌*◌, ◌<◌, ◌≤◌, ◌≢◌, ◌⊎◌, false, [], ◌∷◌, ◌∙◌, List, length, drop, get_or, refl, ap, sym, arith, eqb, inl, inr, subst}
 use Rattle.std.specs.List.{insert}
 use Rattle.std.proofs.lemmas.Bool.{cases_eq, eq-eqb, ne_eqb}
-use Rattle.ib_heap.specs.Heap.{Node, first_of, owners, times, offsets_of, up_to}
-use Rattle.ib_heap.specs.Put.{owned_by, owner_from, own_four_fewer, last_four_fewer, give_slot, give_slot_last}
+use Rattle.ib_heap.specs.Chain.{Node, first_of, owners, times, offsets_of, up_to}
+use Rattle.ib_heap.specs.ChainPut.{owned_by, owner_from, own_four_fewer, last_four_fewer, give_slot, give_slot_last}
 use Rattle.ib_heap.proofs.HeapLaws.{Chained, Owned, Directory}
 use Rattle.ib_heap.proofs.SeekLaws.{directory-at, header_owned}
 use Rattle.ib_heap.proofs.PutLaws.{one-same, Over, OverAt, Apart, SameAt, apart-rest, apart-first, apart-offset, apart-owner, chain-same, first-member, times-apart}

@@ -3,7 +3,7 @@ use Rattle.std.proofs.Common.{◌≡◌, ◌≢◌, ℕ, ◌≤◌, List, length
 use Rattle.std.proofs.lemmas.Bool.{cases_eq, eq-eqb, ne_eqb}
 use Rattle.ib_map.specs.Keys.{MapKey}
 use Rattle.ib_map.specs.Pairs.{index_of, value_at}
-use Rattle.ib_heap.specs.Heap.{first_of, last_from, nodes_of, read_heap, used_offsets}
+use Rattle.ib_heap.specs.Chain.{first_of, last_from, nodes_of, read_chain, used_in_chain}
 use Rattle.ib_heap.specs.Image.{records_of}
 use Rattle.ib_heap.specs.Standing.{standing_of}
 use Rattle.ib_heap.specs.declared.search.KeyStanding.TheVariants.{Between, Outside}
@@ -15,7 +15,7 @@ module _ (ws : List ℕ) (key : MapKey) (before at : ℕ) (kn : Known ws) (befor
   fits = let le = up_to-records ws key before at kn before_is at_is in let long = kn.long in omega arith
 
   pub stands-first : value_at key (records_of ws) ≡ None → before ≡ 18 → Outside ≡ standing_of key (records_of ws)
-  stands-first none front = elim (last-in (used_offsets (read_heap ws)) 18 (nodes_of ws) (index_of key (records_of ws)) kn.few kn.offsets fits) [
+  stands-first none front = elim (last-in (used_in_chain (read_chain ws)) 18 (nodes_of ws) (index_of key (records_of ws)) kn.few kn.offsets fits) [
     | inl first ↦ rw (none, eq-eqb (index_of key (records_of ws)) 0 first.0) refl
     | inr some ↦ absurd (let low = some.0 in omega arith)
   ]
@@ -23,7 +23,7 @@ module _ (ws : List ℕ) (key : MapKey) (before at : ℕ) (kn : Known ws) (befor
   pub stands-last : value_at key (records_of ws) ≡ None → at ≡ 19 → Outside ≡ standing_of key (records_of ws)
   stands-last none end = elim (cases_eq (index_of key (records_of ws)) 0) [
     | inl first ↦ rw (none, eq-eqb (index_of key (records_of ws)) 0 first) refl
-    | inr some ↦ elim (first-in (used_offsets (read_heap ws)) (nodes_of ws) (index_of key (records_of ws)) kn.few kn.offsets fits) [
+    | inr some ↦ elim (first-in (used_in_chain (read_chain ws)) (nodes_of ws) (index_of key (records_of ws)) kn.few kn.offsets fits) [
       | inl last ↦ rw (none, ne_eqb (index_of key (records_of ws)) 0 some, eq-eqb (index_of key (records_of ws)) (length (records_of ws)) (last.1 ∙ sym kn.long)) refl
       | inr low ↦ absurd (let above = low.0 in omega arith)
     ]

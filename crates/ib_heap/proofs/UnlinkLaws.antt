@@ -3,9 +3,9 @@ use Rattle.std.proofs.Common.{◌≡◌, ℕ, zero, suc, ◌+◌, ◌-◌, ◌*�
 use Rattle.std.specs.List.{remove}
 use Rattle.std.proofs.lemmas.Bool.{cases_eq, eq-eqb, ne_eqb, and_parts, and_from}
 use Rattle.ib_map.specs.Pairs.{Pairs}
-use Rattle.ib_heap.specs.Heap.{key_at, Node, first_of, owners, times, offsets_of, records_in, last_from, are_keys, is_key_at}
-use Rattle.ib_heap.specs.Put.{owner_from}
-use Rattle.ib_heap.specs.Take.{own_one_fewer, last_one_fewer, unlink_node, unlink_last}
+use Rattle.ib_heap.specs.Chain.{key_at, Node, first_of, owners, times, offsets_of, records_in, last_from, are_keys, is_key_at}
+use Rattle.ib_heap.specs.ChainPut.{owner_from}
+use Rattle.ib_heap.specs.ChainTake.{own_one_fewer, last_one_fewer, unlink_node, unlink_last}
 use Rattle.ib_heap.proofs.HeapLaws.{Chained, Owned}
 use Rattle.ib_heap.proofs.PutLaws.{one, one-same, last-member, Apart, apart-rest, apart-first, apart-offset, apart-owner, chain-same, first-member}
 use Rattle.ib_heap.proofs.SplitLaws.{first-offsets}

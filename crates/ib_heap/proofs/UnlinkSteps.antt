@@ -6,10 +6,10 @@ use Rattle.std.proofs.lemmas.Option.{slice_get_past}
 use Rattle.ib_map.specs.Keys.{MapKey, rank, end_rank}
 use Rattle.ib_map.specs.Pairs.{Pairs, without, value_at, index_of}
 use Rattle.ib_map.proofs.IndexLaws.{value_at-index, remove-index}
-use Rattle.ib_heap.specs.Heap.{key_at, Node, first_of, owners, times, offsets_of, records_in, used_offsets, page_with, last_from, nodes_of, read_heap, is_shaped}
+use Rattle.ib_heap.specs.Chain.{key_at, Node, first_of, owners, times, offsets_of, records_in, used_in_chain, page_with, last_from, nodes_of, read_chain, is_shaped}
 use Rattle.ib_heap.specs.Image.{records_of}
-use Rattle.ib_heap.specs.Put.{owner_from}
-use Rattle.ib_heap.specs.Take.{unlink_node, unlink_last, unlink_in, own_one_fewer}
+use Rattle.ib_heap.specs.ChainPut.{owner_from}
+use Rattle.ib_heap.specs.ChainTake.{unlink_node, unlink_last, unlink_from_chain, own_one_fewer}
 use Rattle.ib_heap.specs.Kept.{IsKept}
 use Rattle.ib_heap.specs.Steps.{IsOffsetOfKey, IsLinkedPast, IsHandedOver, IsGivenBack}
 use Rattle.ib_heap.proofs.KeptLaws.{kept-fixed, kept-offset}
@@ -38,7 +38,7 @@ module _ (ws : List ℕ) (key : MapKey) (slot before at : ℕ) (kn : Known ws) (
   nodes = nodes_of ws
 
   abbrev l : ℕ
-  l = (read_heap ws).last
+  l = (read_chain ws).last
 
   abbrev own : ℕ
   own = get_or ws (8 + slot) 0
@@ -74,8 +74,8 @@ module _ (ws : List ℕ) (key : MapKey) (slot before at : ℕ) (kn : Known ws) (
   k_le : k ≤ length nodes
   k_le = let a = lt in omega arith
 
-  offsets : Offsets (read_heap ws)
-  offsets = offsets-known (read_heap ws) kn.is.shape.offsets kn.is.shape.once
+  offsets : Offsets (read_chain ws)
+  offsets = offsets-known (read_chain ws) kn.is.shape.offsets kn.is.shape.once
 
   pub apart : Apart nodes
   apart = offsets.apart
@@ -111,7 +111,7 @@ module _ (ws : List ℕ) (key : MapKey) (slot before at : ℕ) (kn : Known ws) (
   slot-range = let s = kn.slots in let r = st.in_range in omega arith
 
   next-low : first_of (drop (suc k) nodes) < 256
-  next-low = elim (first-in (used_offsets (read_heap ws)) nodes (suc k) kn.few kn.offsets (let a = lt in omega arith)) [ inl z ↦ (let y = z.0 in omega arith) | inr z ↦ (let y = z.1.0 in omega arith) ]
+  next-low = elim (first-in (used_in_chain (read_chain ws)) nodes (suc k) kn.few kn.offsets (let a = lt in omega arith)) [ inl z ↦ (let y = z.0 in omega arith) | inr z ↦ (let y = z.1.0 in omega arith) ]
 
   at-word : get_or ws at 0 ≡ header_owned (drop k nodes) * 256 + first_of (drop (suc k) nodes)
   at-word = ap (λ n. get_or ws n 0) st.at_is ∙ node-word ws k nodes l lt kn.is.shape.chained
@@ -133,7 +133,7 @@ module _ (ws : List ℕ) (key : MapKey) (slot before at : ℕ) (kn : Known ws) (
 
   pub own-word : 256 ≤ get_or ws own 0
   own-word =
-      let o = owner-word ws (used_offsets (read_heap ws)) k nodes l kn.few kn.offsets kn.is.shape.chained k_le in
+      let o = owner-word ws (used_in_chain (read_chain ws)) k nodes l kn.few kn.offsets kn.is.shape.chained k_le in
       let s = owned-some 0 k nodes l kn.is.owned in
       let i = o.is in
       let e : get_or ws own 0 ≡ get_or ws (owner_from (drop k nodes)) 0 = ap (λ n. get_or ws n 0) own-is in omega arith
@@ -154,20 +154,20 @@ module _ (ws : List ℕ) (key : MapKey) (slot before at : ℕ) (kn : Known ws) (
   owning e none = middle-apart k nodes apart lt (sym st.at_is ∙ (e ∙ (own-is ∙ owner-skip k nodes lt none)))
 
   -- a word that is neither the offset taken out nor its neighbours
-  kept-member : (i q : ℕ) → IsKept (used_offsets (read_heap ws)) i → 0 < times q (offsets_of nodes) → i ≢ q
-  kept-member i q kept m = kept-offset (used_offsets (read_heap ws)) i q kept (offsets.offset q (omega arith))
+  kept-member : (i q : ℕ) → IsKept (used_in_chain (read_chain ws)) i → 0 < times q (offsets_of nodes) → i ≢ q
+  kept-member i q kept m = kept-offset (used_in_chain (read_chain ws)) i q kept (offsets.offset q (omega arith))
 
-  kept-at : (i : ℕ) → IsKept (used_offsets (read_heap ws)) i → i ≢ at
+  kept-at : (i : ℕ) → IsKept (used_in_chain (read_chain ws)) i → i ≢ at
   kept-at i kept = kept-member i at kept at-in
 
-  kept-before : (i : ℕ) → IsKept (used_offsets (read_heap ws)) i → i ≢ before
+  kept-before : (i : ℕ) → IsKept (used_in_chain (read_chain ws)) i → i ≢ before
   kept-before i kept = elim before-cases [ inl e ↦ (let b = e.1 in kept-fixed _ i before kept (inr (omega arith, omega arith))) | inr m ↦ kept-member i before kept m.1 ]
 
-  kept-own : (i : ℕ) → IsKept (used_offsets (read_heap ws)) i → i ≢ own
+  kept-own : (i : ℕ) → IsKept (used_in_chain (read_chain ws)) i → i ≢ own
   kept-own i kept = elim own-cases [ inl e ↦ kept-fixed _ i own kept (inr (omega arith, omega arith)) | inr m ↦ kept-member i own kept m ]
 
   -- as many offsets are used as before
-  pub used-unlink : used_offsets (unlink_in k (read_heap ws)) ≡ used_offsets (read_heap ws)
+  pub used-unlink : used_in_chain (unlink_from_chain k (read_chain ws)) ≡ used_in_chain (read_chain ws)
   used-unlink = let c = length-unlink k nodes lt in omega arith
 
   -- no offset of the chain
@@ -227,7 +227,7 @@ module _ (ws : List ℕ) (key : MapKey) (slot before at : ℕ) (kn : Known ws) (
             both 18 (λ z. absurd (omega arith)) (λ z. absurd (omega arith)) (λ z. absurd (omega arith)) nb (λ z. absurd (omega arith))
             ∙ (kn.is.shape.start ∙ (ap (λ n. 256 + n) (sym (first-unlink j nodes)) ∙ ap (λ n. 256 + first_of (unlink_node n nodes)) (sym e)))
 
-    unlink-words : UnlinkWords ws w2 (read_heap ws) k
+    unlink-words : UnlinkWords ws w2 (read_chain ws) k
     unlink-words =
         let s2 = small 2 (omega arith) in let s6 = small 6 (omega arith) in
         record {
@@ -255,14 +255,14 @@ module _ (ws : List ℕ) (key : MapKey) (slot before at : ℕ) (kn : Known ws) (
     directory-now = subst (λ (os : List ℕ). Directory w2 10 8 (18 ∷ os)) (sym slots-now)
         (directory-same ws w2 10 8 (18 ∷ owners nodes) kn.is.shape.directory (λ j a b. let s = small j (omega arith) in both j (λ z. absurd (omega arith)) (λ z. absurd (omega arith)) s.0 s.1.0 s.1.1))
 
-    pub plain-shaped : is_shaped w2 (unlink_in k (read_heap ws)) ≡ true
-    plain-shaped = (Shaped-Decides w2 (unlink_in k (read_heap ws))).1
-        (unlink-shaped ws w2 (read_heap ws) k key (get_or ws (at + 3) 0) kn.is lt unlink-words gone value-in chained-now directory-now (ap length slots-now))
+    pub plain-shaped : is_shaped w2 (unlink_from_chain k (read_chain ws)) ≡ true
+    plain-shaped = (Shaped-Decides w2 (unlink_from_chain k (read_chain ws))).1
+        (unlink-shaped ws w2 (read_chain ws) k key (get_or ws (at + 3) 0) kn.is lt unlink-words gone value-in chained-now directory-now (ap length slots-now))
 
     pub plain-page : page_with w2 (records_in w2 (unlink_node k nodes)) ≡ page_with ws (without key (records_of ws))
-    plain-page = unlink-page ws w2 (read_heap ws) k key (get_or ws (at + 3) 0) kn.is lt unlink-words gone value-in ∙ ap (λ (rs : Pairs). page_with ws (without key rs)) (sym kn.records)
+    plain-page = unlink-page ws w2 (read_chain ws) k key (get_or ws (at + 3) 0) kn.is lt unlink-words gone value-in ∙ ap (λ (rs : Pairs). page_with ws (without key rs)) (sym kn.records)
 
-    pub plain-kept : (i : ℕ) → IsKept (used_offsets (read_heap ws)) i → get_or w2 i 0 ≡ get_or ws i 0
+    pub plain-kept : (i : ℕ) → IsKept (used_in_chain (read_chain ws)) i → get_or w2 i 0 ≡ get_or ws i 0
     plain-kept i kept = both i (kept-fixed _ i 2 kept (inl refl)) (kept-fixed _ i 6 kept (inr (omega arith, omega arith))) (kept-at i kept) (kept-before i kept) (kept-own i kept)
 
   -- a record that owns a slot
@@ -311,7 +311,7 @@ module _ (ws : List ℕ) (key : MapKey) (slot before at : ℕ) (kn : Known ws) (
           both2 18 (λ z. absurd (omega arith)) (λ z. absurd (omega arith)) (λ z. absurd (omega arith)) (λ z. absurd (omega arith)) (λ z. absurd (omega arith))
           ∙ (kn.is.shape.start ∙ (ap (λ n. 256 + n) (sym (first-unlink j nodes)) ∙ ap (λ n. 256 + first_of (unlink_node n nodes)) (sym kj)))
 
-      words2 : UnlinkWords ws w2 (read_heap ws) k
+      words2 : UnlinkWords ws w2 (read_chain ws) k
       words2 =
           let h = before-high in let sl = slot-range in
           record {
@@ -338,17 +338,17 @@ module _ (ws : List ℕ) (key : MapKey) (slot before at : ℕ) (kn : Known ws) (
           (λ m ne l1. both2 (8 + m) (λ z. absurd (omega arith)) (λ z. absurd (omega arith)) (λ z. absurd (omega arith)) (λ z. absurd (omega arith)) (λ z. ne (omega arith)))
           (ap (λ n. get_or w2 n 0) (let e : 8 + suc (slot - 1) ≡ 8 + slot = omega arith in e) ∙ (g.other (8 + slot) (λ z. absurd (omega arith)) (λ z. absurd (omega arith)) (λ z. absurd (omega arith)) ∙ (u.here ∙ before-j)))
 
-      owner-shaped-j : is_shaped w2 (unlink_in k (read_heap ws)) ≡ true
-      owner-shaped-j = (Shaped-Decides w2 (unlink_in k (read_heap ws))).1
-          (unlink-shaped ws w2 (read_heap ws) k key (get_or ws (at + 3) 0) kn.is lt words2 gone value-in chained2 directory2 set2.long)
+      owner-shaped-j : is_shaped w2 (unlink_from_chain k (read_chain ws)) ≡ true
+      owner-shaped-j = (Shaped-Decides w2 (unlink_from_chain k (read_chain ws))).1
+          (unlink-shaped ws w2 (read_chain ws) k key (get_or ws (at + 3) 0) kn.is lt words2 gone value-in chained2 directory2 set2.long)
 
       owner-page-j : page_with w2 (records_in w2 (unlink_node k nodes)) ≡ page_with ws (without key (records_of ws))
-      owner-page-j = unlink-page ws w2 (read_heap ws) k key (get_or ws (at + 3) 0) kn.is lt words2 gone value-in ∙ ap (λ (rs : Pairs). page_with ws (without key rs)) (sym kn.records)
+      owner-page-j = unlink-page ws w2 (read_chain ws) k key (get_or ws (at + 3) 0) kn.is lt words2 gone value-in ∙ ap (λ (rs : Pairs). page_with ws (without key rs)) (sym kn.records)
 
-    pub owner-shaped : is_shaped w2 (unlink_in k (read_heap ws)) ≡ true
+    pub owner-shaped : is_shaped w2 (unlink_from_chain k (read_chain ws)) ≡ true
     owner-shaped = go k refl
       where
-        go : (i : ℕ) → k ≡ i → is_shaped w2 (unlink_in k (read_heap ws)) ≡ true
+        go : (i : ℕ) → k ≡ i → is_shaped w2 (unlink_from_chain k (read_chain ws)) ≡ true
         go zero e = absurd (some (ap (λ n. header_owned (drop n nodes)) e ∙ first-none nodes l kn.is.owned))
         go (suc j) e = owner-shaped-j j e
 
@@ -359,7 +359,7 @@ module _ (ws : List ℕ) (key : MapKey) (slot before at : ℕ) (kn : Known ws) (
         go zero e = absurd (some (ap (λ n. header_owned (drop n nodes)) e ∙ first-none nodes l kn.is.owned))
         go (suc j) e = owner-page-j j e
 
-    pub owner-kept : (i : ℕ) → IsKept (used_offsets (read_heap ws)) i → get_or w2 i 0 ≡ get_or ws i 0
+    pub owner-kept : (i : ℕ) → IsKept (used_in_chain (read_chain ws)) i → get_or w2 i 0 ≡ get_or ws i 0
     owner-kept i kept =
         let s = slot-range in
         both2 i (kept-fixed _ i 2 kept (inl refl)) (kept-fixed _ i 6 kept (inr (omega arith, omega arith))) (kept-at i kept) (kept-before i kept) (kept-fixed _ i (8 + slot) kept (inr (omega arith, omega arith)))

@@ -4,7 +4,7 @@ use Rattle.ib_map.specs.KeyWords.{is_key_words, zero_bytes}
 use Rattle.ib_map.specs.Keys as K
 use Rattle.ib_heap.specs.Words as W
 use Rattle.ib_heap.specs.Page.PageValue.{Malformed, Tree}
-use Rattle.ib_heap.specs.Heap.{read_heap}
+use Rattle.ib_heap.specs.Heap.{Heap, read_heap}
 use Rattle.ib_heap.specs.Form.{page_of, empty_leaf_words}
 use Rattle.ib_heap.specs.Put.{put_in}
 use Rattle.ib_heap.specs.Take.{remove_in}
@@ -69,6 +69,31 @@ removed_heap = refl
 
 again_heap : read_heap again ≡ put_in 3 (read_heap removed)
 again_heap = refl
+
+-- the same slot by slot: a slot of nine is split, one of three takes a record of a slot of five and joins one of four, and a free offset is taken before the top
+abbrev heap : List (List ℕ) → List ℕ → Heap
+heap slots free = record { slots = slots; free = free }
+
+eight_slots : read_heap eight ≡ heap ((20 ∷ 24 ∷ 28 ∷ 32 ∷ []) ∷ (36 ∷ 40 ∷ 44 ∷ 48 ∷ 19 ∷ []) ∷ []) []
+eight_slots = refl
+
+removed_slots : read_heap removed ≡ heap ((20 ∷ 24 ∷ 28 ∷ 36 ∷ []) ∷ (40 ∷ 44 ∷ 48 ∷ 19 ∷ []) ∷ []) (32 ∷ [])
+removed_slots = refl
+
+abbrev joined : Heap
+joined = heap ((24 ∷ 28 ∷ 36 ∷ 40 ∷ 44 ∷ 48 ∷ 19 ∷ []) ∷ []) (20 ∷ 32 ∷ [])
+
+joined_slots : remove_in 0 (read_heap removed) ≡ joined
+joined_slots = refl
+
+abbrev two_more : Heap
+two_more = heap ((32 ∷ 24 ∷ 28 ∷ 36 ∷ []) ∷ (40 ∷ 44 ∷ 48 ∷ 20 ∷ 19 ∷ []) ∷ []) []
+
+two_more_slots : put_in 0 (put_in 6 joined) ≡ two_more
+two_more_slots = refl
+
+third_slots : put_in 8 two_more ≡ heap ((32 ∷ 24 ∷ 28 ∷ 36 ∷ []) ∷ (40 ∷ 44 ∷ 48 ∷ 20 ∷ 52 ∷ 19 ∷ []) ∷ []) []
+third_slots = refl
 
 -- the words of a free offset may hold anything, also what is no key, and those behind the top; its header and the chain's may not
 free_value : page_of (set (set removed 33 77) 34 255) ≡ page_of removed

@@ -1,9 +1,12 @@
 pub mod Words
 pub mod Page
+pub mod Chain
 pub mod Heap
 pub mod Order
 pub mod Form
 pub mod Image
+pub mod ChainPut
+pub mod ChainTake
 pub mod Put
 pub mod Take
 pub mod Kept

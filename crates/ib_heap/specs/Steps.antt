@@ -4,9 +4,9 @@ use Rattle.ib_map.specs.Keys.{MapKey}
 use Rattle.ib_map.specs.Pairs.{index_of}
 use Rattle.ib_map.specs.declared.TheConstants.{PAGE_WORDS}
 use Rattle.ib_heap.specs.declared.form.TheConstants.{COUNT, FREE, TOP, DIRECTORY, MOST_SLOTS, INFIMUM, FIRST_OFFSET, RECORD_WORDS, LAST_OFFSET, VALUE_WORD, OWNED_UNIT, FEWEST_OWNED, ONE_TOO_FEW}
-use Rattle.ib_heap.specs.Heap.{key_at, is_key_at, first_of, first_free, owners, used_offsets, read_heap, nodes_of, last_from, up_to}
+use Rattle.ib_heap.specs.Chain.{key_at, is_key_at, first_of, first_free, owners, used_in_chain, read_chain, nodes_of, last_from, up_to}
 use Rattle.ib_heap.specs.Image.{records_of}
-use Rattle.ib_heap.specs.Put.{offset_for, rest_of}
+use Rattle.ib_heap.specs.ChainPut.{chain_offset, rest_of}
 use Rattle.ib_heap.specs.Kept.{IsOutside}
 
 -- where a key stands on a page: its neighbours in the chain, and its slot
@@ -25,11 +25,11 @@ pub record IsHeader (offset : ℕ) : Type 0 where
 
 -- the offset for a new record is taken from the free ones, or from the top
 pub record IsOffsetTaken (ws vs : List ℕ) (p : ℕ) : Type 0 where
-  pub offset : p ≡ offset_for (read_heap ws)
+  pub offset : p ≡ chain_offset (read_chain ws)
   pub low : FIRST_OFFSET ≤ p
   pub high : p ≤ LAST_OFFSET
-  pub front : slice_index vs FREE ≡ first_free (rest_of (read_heap ws).free)
-  pub top : slice_index vs TOP ≡ slice_index ws TOP + RECORD_WORDS * (length (nodes_of ws) + 1 + length (rest_of (read_heap ws).free) - used_offsets (read_heap ws))
+  pub front : slice_index vs FREE ≡ first_free (rest_of (read_chain ws).free)
+  pub top : slice_index vs TOP ≡ slice_index ws TOP + RECORD_WORDS * (length (nodes_of ws) + 1 + length (rest_of (read_chain ws).free) - used_in_chain (read_chain ws))
   pub other : (i : ℕ) → i ≢ FREE → i ≢ TOP → slice_index vs i ≡ slice_index ws i
   pub size : length vs ≡ length ws
 

@@ -6,7 +6,7 @@ use Rattle.ib_heap.specs.declared.form.TheConstants.{KIND, COUNT, TREE, TOP, DIR
 use Rattle.ib_heap.specs.declared.TheConstants.{MOST_RECORDS}
 use Rattle.ib_heap.specs.declared.formed.ChainStep.{ChainStep}
 use Rattle.ib_heap.specs.Page.{rises}
-use Rattle.ib_heap.specs.Heap.{is_offset, chain_from, owners, is_owned, is_directory, records_in, are_keys}
+use Rattle.ib_heap.specs.Chain.{is_offset, chain_from, owners, is_owned, is_directory, records_in, are_keys}
 
 -- where the chain stands after n records from an offset on
 abbrev pub end_from : List ℕ → ℕ → ℕ → ℕ

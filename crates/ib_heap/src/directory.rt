@@ -4,7 +4,7 @@ ghost use Rattle.std.specs.Prelude.{◌≡◌, ℕ, ◌+◌, ◌-◌, ◌/◌, �
 ghost use Rattle.ib_map.specs.Keys.{rank};
 ghost use Rattle.ib_map.specs.Pairs.{index_of};
 ghost use Rattle.ib_heap.specs.Image.{records_of};
-ghost use Rattle.ib_heap.specs.Heap.{key_at, is_key_at, nodes_of, owners, up_to, last_from, first_of};
+ghost use Rattle.ib_heap.specs.Chain.{key_at, is_key_at, nodes_of, owners, up_to, last_from, first_of};
 ghost use Rattle.ib_heap.specs.Order.{IsOrder};
 ghost use Rattle.ib_heap.specs.Source.{IsStillSource, IsTreeSource};
 

@@ -3,7 +3,7 @@
 ghost use Rattle.std.specs.Prelude.{[], ◌∷◌, ℕ, ◌≡◌, true, false, suc, ◌+◌, ◌-◌, ◌/◌, ◌%◌, ◌<◌, ◌≤◌, ◌==◌, ◌&&◌, IsTrue, ◌↔◌, SomeIff, MatchOption, length, slice_index, slice_set};
 ghost use Rattle.ib_map.specs.Keys.{rank, end_rank};
 ghost use Rattle.ib_heap.specs.Image.{IsFormed};
-ghost use Rattle.ib_heap.specs.Heap.{key_at, is_key_at, offsets_of, chain_from, free_from, is_directory, is_heap, read_heap};
+ghost use Rattle.ib_heap.specs.Chain.{key_at, is_key_at, offsets_of, chain_from, free_from, is_directory, is_heap, read_chain};
 ghost use Rattle.ib_heap.specs.Walks.{IsUnmet, HasOnlyOffsets, is_new, are_new, met_with, first_step, low_of, chain_holds, LeavesStep, free_end, HasHeader, HasSlots};
 
 use crate::MOST_RECORDS;
@@ -43,7 +43,7 @@ pub fn is_formed(words: &[u64]) -> bool
 // Whether the words are those of a page of the tree.
 fn has_heap(words: &[u64]) -> bool
     requires { length words.now ≡ PAGE_WORDS }
-    ensures { result ≡ is_heap words.now (read_heap words.now) }
+    ensures { result ≡ is_heap words.now (read_chain words.now) }
 {
     if !has_header(words) {
         return false;

@@ -4,7 +4,8 @@ ghost use Rattle.std.specs.Prelude.{◌≡◌, ◌≢◌, ◌+◌, ◌-◌, ◌<
 ghost use Rattle.ib_map.specs.Pairs.{put, value_at, index_of};
 ghost use Rattle.ib_heap.specs.Form.{page_of};
 ghost use Rattle.ib_heap.specs.Image.{IsTreePage, records_of, value_with_records};
-ghost use Rattle.ib_heap.specs.Heap.{nodes_of, read_heap, used_offsets};
+ghost use Rattle.ib_heap.specs.Chain.{nodes_of};
+ghost use Rattle.ib_heap.specs.Heap.{read_heap, used_offsets};
 ghost use Rattle.ib_heap.specs.Put.{offset_for, put_in};
 ghost use Rattle.ib_heap.specs.Changes.{HasPut};
 ghost use Rattle.ib_heap.specs.Kept.{IsKept, IsOutside};

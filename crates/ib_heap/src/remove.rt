@@ -4,8 +4,10 @@ ghost use Rattle.std.specs.Prelude.{◌≡◌, ◌≢◌, true, ◌+◌, ◌-◌
 ghost use Rattle.ib_map.specs.Pairs.{without, value_at, index_of};
 ghost use Rattle.ib_heap.specs.Form.{page_of};
 ghost use Rattle.ib_heap.specs.Image.{IsTreePage, records_of, value_with_records};
-ghost use Rattle.ib_heap.specs.Heap.{nodes_of, read_heap, used_offsets, records_in, page_with, is_shaped};
-ghost use Rattle.ib_heap.specs.Take.{unlink_node, unlink_in, remove_in};
+ghost use Rattle.ib_heap.specs.Chain.{nodes_of, read_chain, used_in_chain, records_in, page_with, is_shaped};
+ghost use Rattle.ib_heap.specs.ChainTake.{unlink_node, unlink_from_chain};
+ghost use Rattle.ib_heap.specs.Heap.{read_heap, used_offsets};
+ghost use Rattle.ib_heap.specs.Take.{remove_in};
 ghost use Rattle.ib_heap.specs.Changes.{HasRemoved};
 ghost use Rattle.ib_heap.specs.Kept.{IsKept};
 ghost use Rattle.ib_heap.specs.Steps.{IsOffsetOfKey, CanUnlink, IsLinkedPast, CanHandOver, IsHandedOver, CanGiveBack, IsGivenBack, CanLend, IsLent, CanJoin, IsSlotJoined};
@@ -70,9 +72,9 @@ fn take_out(words: &mut [u64], key: Key, cursor: Cursor)
     requires tree { IsTreePage words.old }
     requires found { value_at key (records_of words.old) ≢ None }
     requires stands { IsOffsetOfKey words.old key cursor.slot cursor.before cursor.at }
-    ensures shaped { is_shaped words.new (unlink_in (index_of key (records_of words.old)) (read_heap words.old)) ≡ true }
+    ensures shaped { is_shaped words.new (unlink_from_chain (index_of key (records_of words.old)) (read_chain words.old)) ≡ true }
     ensures page { let nodes = unlink_node (index_of key (records_of words.old)) (nodes_of words.old) in page_with words.new (records_in words.new nodes) ≡ page_with words.old (without key (records_of words.old)) }
-    ensures kept { (i : ℕ) → IsKept (used_offsets (read_heap words.old)) i → slice_index words.new i ≡ slice_index words.old i }
+    ensures kept { (i : ℕ) → IsKept (used_in_chain (read_chain words.old)) i → slice_index words.new i ≡ slice_index words.old i }
 {
     let owner = slot_word(words, cursor.slot);
     if cursor.at == owner {

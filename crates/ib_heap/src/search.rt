@@ -10,7 +10,7 @@ ghost use Rattle.ib_heap.specs.Found.{IsFound, IsRouted};
 ghost use Rattle.ib_heap.specs.Standing.{IsWithin, standing_of};
 ghost use Rattle.ib_heap.specs.declared.search.KeyStanding.TheVariants.{Outside};
 ghost use Rattle.ib_heap.specs.Source.{IsStillSource, IsTreeSource};
-ghost use Rattle.ib_heap.specs.Heap.{key_at, is_key_at, nodes_of, owners, up_to, last_from, first_of};
+ghost use Rattle.ib_heap.specs.Chain.{key_at, is_key_at, nodes_of, owners, up_to, last_from, first_of};
 
 use crate::MOST_RECORDS;
 use crate::directory::{index_behind, next_offset, order_at, owner, slot_of, value_word};

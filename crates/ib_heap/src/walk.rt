@@ -3,7 +3,7 @@
 ghost use Rattle.std.specs.Prelude.{◌≡◌, ◌+◌, ◌/◌, ◌%◌, ◌<◌, ◌≤◌, ◌++◌, length, drop, slice_get, slice_index, IsTrue, Some, ◌↔◌};
 ghost use Rattle.ib_map.specs.Keys.{rank};
 ghost use Rattle.ib_map.specs.Pairs.{cut};
-ghost use Rattle.ib_heap.specs.Heap.{key_at};
+ghost use Rattle.ib_heap.specs.Chain.{key_at};
 ghost use Rattle.ib_heap.specs.Image.{IsTreePage, records_of};
 
 use crate::form::{

@@ -1,6 +1,6 @@
 -- One more slot's records.
 use Rattle.std.proofs.Common.{arith, suc, ◌∙◌, ◌≡◌, ◌+◌, ◌/◌, ap, get_or, List, ℕ}
-use Rattle.ib_heap.specs.Heap.{nodes_of, up_to}
+use Rattle.ib_heap.specs.Chain.{nodes_of, up_to}
 use Rattle.ib_heap.proofs.SeekLaws.{known}
 use Rattle.ib_heap.proofs.IndexLaws.{index-step, index-low}
 use Rattle.ib_heap.proofs.directory.index_behind.Goals as goal

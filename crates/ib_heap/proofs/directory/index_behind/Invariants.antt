@@ -1,6 +1,6 @@
 -- The records of the slots so far.
 use Rattle.std.proofs.Common.{◌≡◌}
-use Rattle.ib_heap.specs.Heap.{nodes_of, up_to}
+use Rattle.ib_heap.specs.Chain.{nodes_of, up_to}
 use Rattle.ib_heap.proofs.directory.index_behind.Given as goal
 
 abbrev pub invariant-loop-j : goal.invariant-loop-j

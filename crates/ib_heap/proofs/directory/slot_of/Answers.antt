@@ -3,7 +3,7 @@ use Rattle.std.proofs.Common.{◌≡◌, arith, ◌+◌, ◌-◌, ◌/◌, ◌�
 use Rattle.std.proofs.lemmas.Bool.{cases_lt}
 use Rattle.ib_map.specs.Keys.{rank}
 use Rattle.ib_map.specs.Pairs.{index_of}
-use Rattle.ib_heap.specs.Heap.{is_key_at, key_at, nodes_of, owners, up_to}
+use Rattle.ib_heap.specs.Chain.{is_key_at, key_at, nodes_of, owners, up_to}
 use Rattle.ib_heap.specs.Image.{records_of}
 use Rattle.ib_heap.proofs.SeekLaws.{known, slot-below, slot-above}
 use Rattle.ib_heap.proofs.directory.slot_of.Goals as goal

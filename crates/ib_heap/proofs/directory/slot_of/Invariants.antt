@@ -1,7 +1,7 @@
 -- The owners up to the lower slot are below the key, and that of the slot behind the rest is not.
 use Rattle.std.proofs.Common.{◌≡◌, ◌+◌, ◌<◌, ◌≤◌, ◌⊎◌, length}
 use Rattle.ib_map.specs.Pairs.{index_of}
-use Rattle.ib_heap.specs.Heap.{nodes_of, owners, up_to}
+use Rattle.ib_heap.specs.Chain.{nodes_of, owners, up_to}
 use Rattle.ib_heap.specs.Image.{records_of}
 use Rattle.ib_heap.proofs.directory.slot_of.Given as goal
 

@@ -1,6 +1,7 @@
 -- One word of the header is written.
-use Rattle.std.proofs.Common.{arith}
+use Rattle.std.proofs.Common.{ap, arith}
 use Rattle.ib_heap.proofs.FormLaws.{formed-tree, header_read}
+use Rattle.ib_heap.specs.Heap.{heap_of}
 use Rattle.ib_heap.proofs.HeaderLaws.{level-set}
 use Rattle.ib_heap.proofs.form.set_level.Goals as goal
 
@@ -11,4 +12,4 @@ pub returns-clause-page : goal.returns-clause-page
 returns-clause-page c = (level-set c.args.words.now c.args.level c.requires.tree c.requires.low c.requires.prev c.requires.next).page
 
 pub returns-clause-heap : goal.returns-clause-heap
-returns-clause-heap c = (level-set c.args.words.now c.args.level c.requires.tree c.requires.low c.requires.prev c.requires.next).heap
+returns-clause-heap c = ap heap_of ((level-set c.args.words.now c.args.level c.requires.tree c.requires.low c.requires.prev c.requires.next).heap)

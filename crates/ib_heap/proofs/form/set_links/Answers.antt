@@ -1,7 +1,8 @@
 -- Two words of the header are written.
-use Rattle.std.proofs.Common.{arith}
+use Rattle.std.proofs.Common.{ap, arith}
 use Rattle.std.proofs.lemmas.List.{length-set}
 use Rattle.ib_heap.proofs.FormLaws.{formed-tree, header_read}
+use Rattle.ib_heap.specs.Heap.{heap_of}
 use Rattle.ib_heap.proofs.HeaderLaws.{links-set}
 use Rattle.ib_heap.proofs.form.set_links.Goals as goal
 
@@ -15,4 +16,4 @@ pub returns-clause-page : goal.returns-clause-page
 returns-clause-page c = (links-set c.args.words.now c.args.prev c.args.next c.requires.tree c.ranges.prev.fits c.ranges.next.fits c.requires.prev c.requires.next).page
 
 pub returns-clause-heap : goal.returns-clause-heap
-returns-clause-heap c = (links-set c.args.words.now c.args.prev c.args.next c.requires.tree c.ranges.prev.fits c.ranges.next.fits c.requires.prev c.requires.next).heap
+returns-clause-heap c = ap heap_of ((links-set c.args.words.now c.args.prev c.args.next c.requires.tree c.ranges.prev.fits c.ranges.next.fits c.requires.prev c.requires.next).heap)

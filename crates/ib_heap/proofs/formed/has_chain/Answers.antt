@@ -1,6 +1,6 @@
 -- One more record, or none that goes on.
 use Rattle.std.proofs.Common.{arith, ◌∙◌, ◌≡◌, ◌+◌, ◌-◌, ◌%◌, sym, ap, Bool, ◌&&◌, get_or}
-use Rattle.ib_heap.specs.Heap.{offsets_of, chain_from}
+use Rattle.ib_heap.specs.Chain.{offsets_of, chain_from}
 use Rattle.ib_heap.specs.Walks.{are_new, met_with, first_step, chain_holds}
 use Rattle.ib_heap.proofs.FormedLoops.{chain-new, chain-met, chain-more, chain-not, chain-bad, chain-last}
 use Rattle.ib_heap.proofs.formed.has_chain.Goals as goal

@@ -1,7 +1,7 @@
 -- What is left is what is asked.
 use Rattle.std.proofs.Common.{◌≡◌, ◌-◌, ◌%◌, ◌≤◌, ◌&&◌, get_or}
 use Rattle.ib_map.specs.Keys.{end_rank}
-use Rattle.ib_heap.specs.Heap.{offsets_of, chain_from}
+use Rattle.ib_heap.specs.Chain.{offsets_of, chain_from}
 use Rattle.ib_heap.specs.Walks.{HasOnlyOffsets, are_new, met_with, first_step, low_of, chain_holds}
 use Rattle.ib_heap.proofs.formed.has_chain.Given as goal
 

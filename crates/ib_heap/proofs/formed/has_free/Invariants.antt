@@ -1,7 +1,7 @@
 -- What is left is what is asked.
 use Rattle.std.proofs.Common.{◌≡◌, ◌-◌, ◌&&◌, get_or}
 use Rattle.std.specs.Prelude.{◌==◌}
-use Rattle.ib_heap.specs.Heap.{free_from}
+use Rattle.ib_heap.specs.Chain.{free_from}
 use Rattle.ib_heap.specs.Walks.{HasOnlyOffsets, are_new, free_end}
 use Rattle.ib_heap.proofs.formed.has_free.Given as goal
 

@@ -1,7 +1,7 @@
 -- The parts of the test, joined.
 use Rattle.std.proofs.Common.{◌∙◌, ◌-◌, ◌/◌, ◌%◌, ◌&&◌, sym, ap, get_or, ℕ, List, eqb, inl, inr}
 use Rattle.std.proofs.lemmas.Bool.{cases_Bool}
-use Rattle.ib_heap.specs.Heap.{read_heap}
+use Rattle.ib_heap.specs.Chain.{read_chain}
 use Rattle.ib_heap.specs.Walks.{are_new, free_end}
 use Rattle.ib_heap.proofs.HeapLaws.{IsHeap-Decides}
 use Rattle.ib_heap.proofs.FormedParts.{refuse, header-of, limits-of, slots-of, chain-of, free-of, formed-from}
@@ -23,9 +23,9 @@ pub returns : goal.returns
 returns c =
     let ws = c.args.words.now in
     let met = c.has_chain.ensures.meets c.if-not-has_chain.false in
-    let same = ap (λ (v : List ℕ). are_new ((get_or ws 7 0 % 256 - 20) / 4) v (read_heap ws).free && eqb (free_end ws ((get_or ws 7 0 % 256 - 20) / 4 - get_or ws 2 0) (get_or ws 6 0)) 0) met in
+    let same = ap (λ (v : List ℕ). are_new ((get_or ws 7 0 % 256 - 20) / 4) v (read_chain ws).free && eqb (free_end ws ((get_or ws 7 0 % 256 - 20) / 4 - get_or ws 2 0) (get_or ws 6 0)) 0) met in
     elim (cases_Bool c.has_free.result) [
-      | inl good ↦ good ∙ sym ((IsHeap-Decides ws (read_heap ws)).1 (formed-from ws c.unmet-met.result c.unmet-met.ensures c.requires (c.has_header.ensures.0 c.if-not-has_header.false) (c.has_limits.ensures.0 c.if-not-has_limits.false)
+      | inl good ↦ good ∙ sym ((IsHeap-Decides ws (read_chain ws)).1 (formed-from ws c.unmet-met.result c.unmet-met.ensures c.requires (c.has_header.ensures.0 c.if-not-has_header.false) (c.has_limits.ensures.0 c.if-not-has_limits.false)
           (c.has_slots.ensures.0 c.if-not-has_slots.false) (sym c.has_chain.ensures.holds ∙ c.if-not-has_chain.false) (sym same ∙ (sym c.has_free.ensures ∙ good))))
       | inr bad ↦ bad ∙ refuse ws (λ k. absurd (let yes = c.has_free.ensures ∙ (same ∙ free-of ws k c.unmet-met.result c.unmet-met.ensures) in cc))
     ]

@@ -1,6 +1,6 @@
 -- What is left is what is asked.
 use Rattle.std.proofs.Common.{◌≡◌, ◌+◌, ◌-◌, []}
-use Rattle.ib_heap.specs.Heap.{is_directory}
+use Rattle.ib_heap.specs.Chain.{is_directory}
 use Rattle.ib_heap.proofs.formed.no_more.Given as goal
 
 abbrev pub invariant-loop-j : goal.invariant-loop-j

@@ -2,7 +2,7 @@
 use Rattle.std.proofs.Common.{ℕ, ◌≡◌, ◌<◌, true, ◌*◌, ◌+◌, ◌∙◌, get_or, eqb, refl, sym}
 use Rattle.std.proofs.lemmas.Bool.{agree_below_at, eqb-true, eq-eqb}
 use Rattle.ib_heap.specs.declared.formed.TheConstants.{NO_OFFSETS}
-use Rattle.ib_heap.specs.Heap.{is_offset}
+use Rattle.ib_heap.specs.Chain.{is_offset}
 use Rattle.ib_heap.proofs.formed.unmet.Goals as goal
 
 none : (r : ℕ) → r < 35 → get_or NO_OFFSETS (20 + 4 * r) 0 ≡ 0

@@ -3,7 +3,7 @@ use Rattle.std.proofs.Common.{ℕ, List, arith, ◌∙◌, ◌+◌, ◌≡◌, �
 use Rattle.ib_map.specs.Keys.{MapKey, key_in}
 use Rattle.ib_map.specs.KeyWords.{is_key_words}
 use Rattle.ib_heap.specs.Kept.{IsOutside}
-use Rattle.ib_heap.specs.Heap.{key_at, is_key_at}
+use Rattle.ib_heap.specs.Chain.{key_at, is_key_at}
 use Rattle.ib_heap.proofs.KeptLaws.{outside-apart}
 use Rattle.ib_heap.proofs.insert.link.Goals as goal
 

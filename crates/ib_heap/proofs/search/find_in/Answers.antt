@@ -2,7 +2,7 @@
 use Rattle.std.proofs.Common.{arith, ◌≡◌, ◌∙◌, ◌+◌, ◌-◌, ap, sym, subst, List, ℕ, Some, Option, slice_get, IsSomeAnd}
 use Rattle.ib_map.specs.Keys.{MapKey, rank}
 use Rattle.ib_map.specs.Pairs.{index_of, value_at}
-use Rattle.ib_heap.specs.Heap.{nodes_of, up_to}
+use Rattle.ib_heap.specs.Chain.{nodes_of, up_to}
 use Rattle.ib_heap.specs.Image.{records_of}
 use Rattle.ib_heap.proofs.SeekLaws.{known}
 use Rattle.ib_heap.proofs.FindLaws.{found, absent-at, has-record, within-records, up_to-records}

@@ -1,6 +1,6 @@
 -- The walk goes on from behind the slot before.
 use Rattle.std.proofs.Common.{◌≡◌, ◌-◌}
-use Rattle.ib_heap.specs.Heap.{nodes_of, up_to}
+use Rattle.ib_heap.specs.Chain.{nodes_of, up_to}
 use Rattle.ib_heap.proofs.SeekLaws.{Walk}
 use Rattle.ib_heap.proofs.search.seek.Given as goal
 

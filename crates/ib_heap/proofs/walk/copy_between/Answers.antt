@@ -2,7 +2,7 @@
 use Rattle.std.proofs.Common.{◌<◌, ◌∙◌, ◌+◌, ◌++◌, ◌∷◌, [], length, take, drop, set, ap, sym, arith, length-append, slice_get, Some, ◌≡◌, refl}
 use Rattle.std.proofs.lemmas.List.{length-take-le}
 use Rattle.ib_map.specs.Pairs.{Pairs, cut}
-use Rattle.ib_heap.specs.Heap.{nodes_of}
+use Rattle.ib_heap.specs.Chain.{nodes_of}
 use Rattle.ib_heap.specs.Image.{records_of}
 use Rattle.ib_heap.proofs.CopyLaws.{length-cut, cut_inside, cut_outside, set_next}
 use Rattle.ib_heap.proofs.FormLaws.{formed-tree}

@@ -1,7 +1,7 @@
 -- The records so far that lie between the keys stand at the front, and the walk stands at the next one.
 use Rattle.std.proofs.Common.{◌≡◌, ◌++◌, length, take, drop}
 use Rattle.ib_map.specs.Pairs.{cut}
-use Rattle.ib_heap.specs.Heap.{nodes_of, first_of}
+use Rattle.ib_heap.specs.Chain.{nodes_of, first_of}
 use Rattle.ib_heap.specs.Image.{records_of}
 use Rattle.ib_heap.proofs.walk.copy_between.Given as goal
 

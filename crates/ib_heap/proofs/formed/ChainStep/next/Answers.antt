@@ -2,7 +2,7 @@
 use Rattle.std.proofs.Common.{arith, refl, ◌≡◌, ◌≤◌, ◌+◌, ◌%◌, get_or, subst, sym, Some, suc}
 use Rattle.ib_map.specs.Keys.{MapKey, rank}
 use Rattle.ib_map.proofs.KeyLaws.{rank-lt_end}
-use Rattle.ib_heap.specs.Heap.{key_at}
+use Rattle.ib_heap.specs.Chain.{key_at}
 use Rattle.ib_heap.specs.declared.formed.ChainStep.{ChainStep}
 use Rattle.ib_heap.specs.Walks.{chain_holds, low_of}
 use Rattle.ib_heap.proofs.FormedSteps.{holds-keyless, holds-none, holds-some, holds-unowned}
