@@ -43,6 +43,7 @@ use Rattle.ib_cursor.proofs.ReadLaws.{keeps_path}
 use Rattle.ib_cursor.proofs.TakeLaws.{more_both, will_rest, beside_few}
 use Rattle.ib_cursor.proofs.OnceLaws.{AreBeside, are_beside}
 use Rattle.ib_cursor.proofs.LevelLaws.{first-of, others-of}
+use Rattle.ib_walk.proofs.CountLaws.{bits-met, met-weight}
 
 -- a claimed index is watched
 pub claimed_watched : (ss : List Since) → is_claimed ss ≡ true → is_watched 1 ss ≡ true
@@ -106,7 +107,7 @@ module _ (sizes : Sizes) (roots : ℕ) (lawful : List Entry → Type 0) (opening
       let a = met_on-path m root (tree_of-log sizes.pages roots lawful opening shape.laws root some le p.view.memory.seen (shape.laws.begins p.view.memory.seen k.more legal)) key lt leaf 0 o in
       let r : PageRange = record { root = root; low = a.visit.low; end = a.visit.high; level = 0 } in
       let same : a.visit ≡ record { page = leaf; low = a.visit.low; high = a.visit.high } = ap (λ (n : ℕ). let w : Visit = record { page = n; low = a.visit.low; high = a.visit.high } in w) a.here in
-      let met : HasRange roots m leaf r = (some, le, subst (λ u. 0 < weight_of (counts_visit 0 u) m root) same a.met) in
+      let met : HasRange roots m leaf r = (some, le, met-weight m root 0 (record { page = leaf; low = a.visit.low; high = a.visit.high }) (subst (λ u. 0 < weight_of (counts_visit 0 u) m root) same a.met)) in
       subst (λ l. HasLinks m (pages_after opening l) leaf) (sym k.seen) (single_links sizes.pages roots lawful opening shape p.view.memory.seen k.more leaf r legal k.single refl met)
 
   module _ (log : List Entry) (legal : lawful log) where
@@ -125,7 +126,7 @@ module _ (sizes : Sizes) (roots : ℕ) (lawful : List Entry → Type 0) (opening
     pub inside-met : (page : ℕ) → 1 ≤ weight_of (counts_page page) m root → page < sizes.pages
     inside-met page one =
         let all = weight_of-le (counts_page page) m root roots some le in
-        let law = (shape.laws.memory log legal).law.met page in
+        let law = bits-met (shape.laws.memory log legal).law page in
         bit_inside sizes.pages (memory_after opening log) page (let e : weight_of (counts_page page) m root ≡ weight_of (counts_page page) (pages_after opening log) root = refl in omega (arith, one, all, law))
 
     pub beside-leaf : (leaf : ℕ) → IsOnPath m root key leaf 0 → AreBeside m root leaf

@@ -52,6 +52,7 @@ use Rattle.ib_cursor.proofs.LogLaws.{tree_of-log, range_stays, bit_inside}
 use Rattle.ib_cursor.proofs.OnPathLaws.{IsIn, latch_page, met_on-path}
 use Rattle.ib_cursor.proofs.DownLaws.{leaf_path}
 use Rattle.ib_cursor.proofs.PageLaws.{IsTreeImage, tree_image}
+use Rattle.ib_walk.proofs.CountLaws.{bits-met, weight-met, met-weight}
 
 -- a leaf among the leaves
 pub record IsLeaf (m : PageMemory) (root : ℕ) (v : Visit) : Type 0 where
@@ -128,7 +129,7 @@ module _ (pages roots : ℕ) (lawful : List Entry → Type 0) (opening : ℕ →
   image-is = image_of-list (memory_after opening log) leaf image size (λ index lt. sym (right index lt))
 
   here : 0 < weight_of (counts_visit 0 (record { page = leaf; low = r.low; high = r.end })) (pages_after opening log) r.root
-  here = subst (λ l. 0 < weight_of (counts_visit l (record { page = leaf; low = r.low; high = r.end })) (pages_after opening log) r.root) lowest met.2
+  here = subst (λ l. 0 < weight_of (counts_visit l (record { page = leaf; low = r.low; high = r.end })) (pages_after opening log) r.root) lowest (weight-met met.2)
 
   good : IsGoodAt (pages_after opening log) 0 (record { page = leaf; low = r.low; high = r.end })
   good = IsGoodAt-tree (pages_after opening log) (height_of (pages_after opening log) r.root) (top_of r.root) tree.tree 0 (record { page = leaf; low = r.low; high = r.end }) here
@@ -147,7 +148,7 @@ module _ (pages roots : ℕ) (lawful : List Entry → Type 0) (opening : ℕ →
       let own = counts_page-own page 0 v at in
       let one = leaf-counts (pages_after opening log) r.root v l (counts_page page) (omega arith) in
       let all = weight_of-le (counts_page page) (pages_after opening log) r.root roots met.0 met.1 in
-      let law = (laws.memory log legal).law.met page in
+      let law = bits-met (laws.memory log legal).law page in
       bit_inside pages (memory_after opening log) page (omega (arith, one, all, law))
 
   pub leaf_inside : leaf < pages
@@ -166,8 +167,9 @@ module _ (pages roots : ℕ) (lawful : List Entry → Type 0) (opening : ℕ →
         met = (
           met.0,
           met.1,
-          leaf-counts (pages_after opening log) r.root (record { page = (pages_after opening log leaf).next; low = r.end; high = b.end }) b.leaf
-              (counts_visit 0 (record { page = (pages_after opening log leaf).next; low = r.end; high = b.end })) (let own = counts_visit-own 0 (record { page = (pages_after opening log leaf).next; low = r.end; high = b.end }) in omega arith),
+          met-weight (pages_after opening log) r.root 0 (record { page = (pages_after opening log leaf).next; low = r.end; high = b.end })
+              (leaf-counts (pages_after opening log) r.root (record { page = (pages_after opening log leaf).next; low = r.end; high = b.end }) b.leaf
+              (counts_visit 0 (record { page = (pages_after opening log leaf).next; low = r.end; high = b.end })) (let own = counts_visit-own 0 (record { page = (pages_after opening log leaf).next; low = r.end; high = b.end }) in omega arith)),
         );
         inside = inside-of (pages_after opening log leaf).next (record { page = (pages_after opening log leaf).next; low = r.end; high = b.end }) refl b.leaf;
       }
@@ -239,7 +241,7 @@ holds_end sizes roots lawful opening laws root some le key lt path p q end =
         is_page = end.is_page;
         known = end.reached.known;
         lowest = refl;
-        met = (some, le, subst (λ u. 0 < weight_of (counts_visit 0 u) m root) same a.met);
+        met = (some, le, met-weight m root 0 (record { page = leaf; low = a.visit.low; high = a.visit.high }) (subst (λ u. 0 < weight_of (counts_visit 0 u) m root) same a.met));
       },
     )
 

@@ -20,6 +20,7 @@ use Rattle.ib_validate.specs.Patch.{IsGoodAt}
 use Rattle.ib_tree.specs.Logs.{HasRange}
 use Rattle.ib_tree.proofs.PatchLaws.{counts_visit-own, counts_visit-same, IsGoodAt-tree}
 use Rattle.ib_cursor.specs.OnPath.{IsOnPath}
+use Rattle.ib_walk.proofs.CountLaws.{bits-met, weight-met, met-weight}
 
 pub root_on-path : (m : PageMemory) (root : ℕ) (key : MapKey) → IsOnPath m root key root (height_of m root)
 root_on-path m root key = record { depth = 0; height = omega arith; below = refl }
@@ -174,8 +175,8 @@ stays_on-path roots m new root key page level some le lt tree later stays o =
     let r : PageRange = record { root = root; low = v.low; end = v.high; level = level } in
     let w : Visit = record { page = page; low = v.low; high = v.high } in
     let same : v ≡ w = ap (λ (p : ℕ). let w : Visit = record { page = p; low = v.low; high = v.high } in w) a.here in
-    let kept = stays r (some, le, subst (λ u. 0 < weight_of (counts_visit level u) m root) same a.met) in
-    on-path_met new root later key lt level w kept.2 a.low a.high
+    let kept = stays r (some, le, met-weight m root level w (subst (λ u. 0 < weight_of (counts_visit level u) m root) same a.met)) in
+    on-path_met new root later key lt level w (weight-met kept.2) a.low a.high
 
 -- what the page says
 pub record HasPathPage (m : PageMemory) (key : MapKey) (page level : ℕ) : Type 0 where
@@ -203,5 +204,5 @@ bit_on-path m bits roots root key page level law some le lt o =
     let a = met_on-path m root (law.trees root some le).0 key lt page level o in
     let w = weight_of-le (counts_page page) m root roots some le in
     let met : 0 < times_met m roots page = omega (arith, a.met_page) in
-    let c = law.met page in let b = law.bit page in
+    let c = bits-met law page in let b = law.bit page in
     (λ z. let y = eq-eqb page 0 z in let d : bits page ≡ times_met m roots page + 1 = rw y at c in absurd (omega arith), omega arith)

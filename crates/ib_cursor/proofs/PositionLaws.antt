@@ -46,6 +46,7 @@ use Rattle.ib_cursor.proofs.GrantLaws.{HasGiven, away-none, given, grants_left, 
 use Rattle.ib_cursor.proofs.LatchingLaws.{beside_taken, seen_after, went_beside, went_both}
 use Rattle.ib_cursor.proofs.LogLaws.{bit_inside, range_stays}
 use Rattle.ib_cursor.proofs.NextLaws.{there_in}
+use Rattle.ib_walk.proofs.CountLaws.{bits-met, weight-met}
 
 -- how a page's clock goes while entries are seen
 module _ (lawful : List Entry → Type 0) (opening : ℕ → ℕ) (begins : (xs ys : List Entry) → lawful (xs ++ ys) → lawful xs) (counts : CountsWrites lawful opening) (page : ℕ) (some : page ≢ 0) where
@@ -93,11 +94,11 @@ module _ (pages roots : ℕ) (lawful : List Entry → Type 0) (opening : ℕ →
   met_page : (page : ℕ) (r : PageRange) → HasRange roots (pages_after opening log) page r → (page < pages) × (page ≢ 0)
   met_page page r met =
       let le = weight_along-le (counts_visit r.level (visit_with page r)) (counts_page page) (pages_after opening log) (height_of (pages_after opening log) r.root) (top_of r.root) (counts_visit-le_page r.level (visit_with page r)) in
-      let here = met.2 in
+      let here = weight-met met.2 in
       let some : 0 < weight_of (counts_page page) (pages_after opening log) r.root = omega arith in
       let all = weight_of-le (counts_page page) (pages_after opening log) r.root roots met.0 met.1 in
       let times : 0 < times_met (pages_after opening log) roots page = omega (arith, some, all) in
-      let law = (laws.memory log legal).law.met page in let bit = (laws.memory log legal).law.bit page in (
+      let law = bits-met (laws.memory log legal).law page in let bit = (laws.memory log legal).law.bit page in (
         bit_inside pages (memory_after opening log) page (omega (arith, times, law)),
         λ z. let yes = eq-eqb page 0 z in let full : bits_of pages (memory_after opening log) page ≡ times_met (pages_after opening log) roots page + 1 = rw yes at law in absurd (omega arith),
       )

@@ -16,6 +16,7 @@ use Rattle.ib_cursor.specs.Shapes.{ShapeLaws, AreSingle}
 use Rattle.ib_cursor.proofs.OnPathLaws.{stays_on-path}
 use Rattle.ib_cursor.proofs.LogLaws.{laws_of, tree_of-log}
 use Rattle.ib_cursor.proofs.LoneLaws.{IsLone, lone_met, lone_links, one_page}
+use Rattle.ib_walk.proofs.CountLaws.{weight-met, met-weight}
 
 -- the links of a page are those that it had
 pub record HasLinks (old new : PageMemory) (page : ℕ) : Type 0 where
@@ -47,15 +48,19 @@ module _ (pages roots : ℕ) (lawful : List Entry → Type 0) (opening : ℕ →
     was = tree_of-log pages roots lawful opening shape.laws root some le xs (shape.laws.begins xs (e ∷ []) legal);
     is = tree_of-log pages roots lawful opening shape.laws root some le (xs ++ e ∷ []) legal;
     same = λ n ne. pages_after-untouched opening xs e n (other n ne);
-    stays = λ level v ne met. (shape.laws.stays xs e v.page (record { root = root; low = v.low; end = v.high; level = level }) legal (other v.page ne) (some, le, met)).2;
-    stayed = λ level v ne met. (shape.stayed xs e v.page (record { root = root; low = v.low; end = v.high; level = level }) legal (other v.page ne) (some, le, met)).2;
+    stays = λ level v ne met. weight-met (shape.laws.stays xs e v.page (record { root = root; low = v.low; end = v.high; level = level }) legal (other v.page ne) (some, le, met-weight (pages_after opening xs) root level v met)).2;
+    stayed = λ level v ne met. weight-met (shape.stayed xs e v.page (record { root = root; low = v.low; end = v.high; level = level }) legal (other v.page ne) (some, le, met-weight (pages_after opening (xs ++ e ∷ [])) root level v met)).2;
   }
 
   lone_stays : (xs : List Entry) (e : Entry) (page : ℕ) (r : PageRange) → lawful (xs ++ e ∷ []) → e.structural ≡ false
       → HasRange roots (pages_after opening xs) page r → HasRange roots (pages_after opening (xs ++ e ∷ [])) page r
   lone_stays xs e page r legal calm met =
-      let one = one_page e.writes (sym (shape.single xs e legal) ∙ calm) in
-      (met.0, met.1, lone_met (pages_after opening xs) (pages_after opening (xs ++ e ∷ [])) r.root one.page (lone-of xs e legal one.page one.other r.root met.0 met.1) r.level (visit_with page r) met.2)
+      let one = one_page e.writes (sym (shape.single xs e legal) ∙ calm) in (
+        met.0,
+        met.1,
+        met-weight (pages_after opening (xs ++ e ∷ [])) r.root r.level (visit_with page r)
+            (lone_met (pages_after opening xs) (pages_after opening (xs ++ e ∷ [])) r.root one.page (lone-of xs e legal one.page one.other r.root met.0 met.1) r.level (visit_with page r) (weight-met met.2)),
+      )
 
   lone_linked : (xs : List Entry) (e : Entry) (page : ℕ) (r : PageRange) → lawful (xs ++ e ∷ []) → e.structural ≡ false → r.level ≡ 0
       → HasRange roots (pages_after opening xs) page r → HasLinks (pages_after opening xs) (pages_after opening (xs ++ e ∷ [])) page
@@ -63,7 +68,7 @@ module _ (pages roots : ℕ) (lawful : List Entry → Type 0) (opening : ℕ →
       let one = one_page e.writes (sym (shape.single xs e legal) ∙ calm) in
       let at : HasRange roots (pages_after opening xs) page (record { root = r.root; low = r.low; end = r.end; level = 0 }) =
       subst (λ n. HasRange roots (pages_after opening xs) page (record { root = r.root; low = r.low; end = r.end; level = n })) low met in
-      let l = lone_links (pages_after opening xs) (pages_after opening (xs ++ e ∷ [])) r.root one.page (lone-of xs e legal one.page one.other r.root met.0 met.1) (visit_with page r) at.2 in
+      let l = lone_links (pages_after opening xs) (pages_after opening (xs ++ e ∷ [])) r.root one.page (lone-of xs e legal one.page one.other r.root met.0 met.1) (visit_with page r) (weight-met at.2) in
       record { prev = l.0; next = l.1 }
 
   -- each page's range stays, whichever page the entries write

@@ -23,6 +23,7 @@ use Rattle.ib_tree.proofs.PatchLaws.{counts_visit-own}
 use Rattle.ib_cursor.specs.Guesses.{is_leaf, is_tree, leaf_standing}
 use Rattle.ib_cursor.proofs.OnPathLaws.{leaf_on-path, on-path_met}
 use Rattle.ib_hash.specs.Right.{IsRightGuess, is_right}
+use Rattle.ib_walk.proofs.CountLaws.{bits-met}
 
 -- one of these visits is of the page, between those before it and those behind it
 record IsAmong (page : ℕ) (visits : List Visit) : Type 0 where
@@ -126,7 +127,7 @@ module _ (m : PageMemory) (bits : ℕ → ℕ) (law : IsLawful m bits 1) where
   met-tree page some kind = elim (cases_lt 0 (bits page)) [
     | inl pos ↦
         let none = bit-none page some in
-        let is : bits page ≡ times_met m 1 page + 0 = law.met page ∙ ap (λ (n : ℕ). times_met m 1 page + n) none in omega arith
+        let is : bits page ≡ times_met m 1 page + 0 = bits-met law page ∙ ap (λ (n : ℕ). times_met m 1 page + n) none in omega arith
     | inr non ↦ absurd (let free : (m page).kind ≡ Free = law.unmet page (omega arith) in let e : Tree ≡ Free = sym kind ∙ free in cc)
   ]
 

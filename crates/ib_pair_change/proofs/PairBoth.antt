@@ -17,7 +17,8 @@ use Rattle.ib_plans.specs.Insert.{planned_insert}
 use Rattle.ib_plans.specs.Marks.{ticked}
 use Rattle.ib_plans.proofs.MetLaws.{met-some}
 use Rattle.ib_split.specs.Inserts.{HasFresh, IsPlannedInsert}
-use Rattle.ib_planned_log.specs.Kept.{planned, MayPlan}
+use Rattle.ib_planned_log.specs.Kept.{MayPlan}
+use Rattle.ib_planned_log.specs.Steps.{planned}
 use Rattle.ib_pair_plans.proofs.TreeStays.{height-stays, need-stays, root_full-stays, path-stays}
 use Rattle.ib_pair_change.specs.PairCommits.{HasPlan, IsPlannedBoth}
 use Rattle.ib_pair_change.specs.PairPlans.{CanInsertPair, IsPlannedPair}

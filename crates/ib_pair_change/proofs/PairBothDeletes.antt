@@ -14,7 +14,8 @@ use Rattle.ib_plans.specs.Agreement.{Agrees, HasBits}
 use Rattle.ib_plans.specs.Delete.{planned_delete}
 use Rattle.ib_plans.specs.Marks.{ticked}
 use Rattle.ib_plans.proofs.MetLaws.{met-some}
-use Rattle.ib_planned_log.specs.Kept.{planned, MayPlan}
+use Rattle.ib_planned_log.specs.Kept.{MayPlan}
+use Rattle.ib_planned_log.specs.Steps.{planned}
 use Rattle.ib_pair_plans.proofs.TreeStays.{path-stays}
 use Rattle.ib_pair_change.specs.PairCommits.{HasPlan, IsPlannedBoth}
 use Rattle.ib_pair_change.specs.PairPlans.{CanDeletePair, IsPlannedPairDelete}

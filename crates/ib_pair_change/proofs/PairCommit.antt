@@ -33,7 +33,8 @@ use Rattle.ib_planned_log.proofs.LeafPlanLaws.{leaf-page}
 use Rattle.ib_planned_log.proofs.PageChangeLaws.{some-writes}
 use Rattle.ib_tree.proofs.LogLaws.{pages_after-untouched}
 use Rattle.ib_pair_law.specs.Opening.{pair_opening}
-use Rattle.ib_planned_log.specs.Kept.{planned, MayPlan}
+use Rattle.ib_planned_log.specs.Kept.{MayPlan, IsPlannedStep}
+use Rattle.ib_planned_log.specs.Steps.{planned}
 use Rattle.ib_pair_law.specs.PairKept.{IsPairEntry, IsPairLog, IsStepOf}
 use Rattle.ib_second_key.specs.SecondChanges.{IsPrimaryChange, second_change}
 use Rattle.ib_second_key.specs.SecondKeys.{ArePrimary, second_of}
@@ -47,6 +48,7 @@ use Rattle.ib_planned_change.proofs.PlanLaws.{plan-bits, plan-on}
 use Rattle.ib_planned_change.proofs.ShrinkPlanLaws.{delete-bits, delete-on}
 use Rattle.ib_pair_change.proofs.StepLaws.{overlay-away, overlay-there, size-of, space-is, step-is}
 use Rattle.ib_planned_change.proofs.WorkLaws.{image-after, image-still, none-same, work-count, work-differ}
+use Rattle.ib_planned_log.proofs.PlanIs.{plan_of-is}
 
 -- what a plan leaves, and what it touches at least
 planned-stays : (root : ℕ) (m : PageMemory) (bits : ℕ → ℕ) (pages : ℕ) (change : Change) (n : ℕ) → (planned root m bits pages change).touched n ≡ false → (planned root m bits pages change).moves n ≡ Stays
@@ -112,11 +114,14 @@ module _ (pages : ℕ) (fits : has_pages pages ≡ true) (log : List Entry) (kep
   first-space = space-is pages m p1 old mid h.plans.first (λ n ne. (leads1.lawful.sound n ne).formed) words middle refl leads1.same (planned-stays 1 m bits pages change)
       (planned-bits 1 m bits pages change) h.from.was now1 (overlay-away words mid) before.space
 
+  steps1 : IsPlannedStep pages words middle m (pages_of middle) p1
+  steps1 = step-is pages m p1 old mid h.plans.first (λ n ne. (leads1.lawful.sound n ne).formed) words middle refl leads1.same (planned-stays 1 m bits pages change)
+      (planned-bits 1 m bits pages change) h.from.was now1 (overlay-away words mid) before.space
+
   step1 : IsStepOf pages 1 change words middle
   step1 = record {
     may = h.plans.may;
-    step = step-is pages m p1 old mid h.plans.first (λ n ne. (leads1.lawful.sound n ne).formed) words middle refl leads1.same (planned-stays 1 m bits pages change)
-        (planned-bits 1 m bits pages change) h.from.was now1 (overlay-away words mid) before.space;
+    step = subst (IsPlannedStep pages words middle m (pages_of middle)) (sym (plan_of-is m bits pages 2 1 before.law few (omega arith) (omega arith) change made1 h.plans.may)) steps1;
   }
 
   changed1 : IsChanged pages 1 change words middle p1.touched
@@ -136,7 +141,7 @@ module _ (pages : ℕ) (fits : has_pages pages ≡ true) (log : List Entry) (kep
   made2 = subst (λ xs. is_made (answer_of xs other) ≡ true) (sym second-map) (second-made (map_of log) change map-is primary h.primary h.made)
 
   both : MayPlan 2 2 (pages_of middle) (bits_of pages middle) pages other × HasPlan pages 2 (pages_of middle) (bits_of pages middle) other mid new
-  both = h.plans.second (pages_of middle) (bits_of pages middle) changed1.lawful step1.step.pages_are step1.step.bits_are
+  both = h.plans.second (pages_of middle) (bits_of pages middle) changed1.lawful steps1.pages_are steps1.bits_are
 
   abbrev p2 : Planned
   p2 = planned 2 (pages_of middle) (bits_of pages middle) pages other
@@ -167,11 +172,15 @@ module _ (pages : ℕ) (fits : has_pages pages ≡ true) (log : List Entry) (kep
   second-space = space-is pages (pages_of middle) p2 mid new both.1 (λ n ne. (leads2.lawful.sound n ne).formed) middle after refl leads2.same (planned-stays 2 (pages_of middle) (bits_of pages middle) pages other)
       (planned-bits 2 (pages_of middle) (bits_of pages middle) pages other) was2 now2 still2 first-space
 
+  steps2 : IsPlannedStep pages middle after (pages_of middle) (pages_of after) p2
+  steps2 = step-is pages (pages_of middle) p2 mid new both.1 (λ n ne. (leads2.lawful.sound n ne).formed) middle after refl leads2.same (planned-stays 2 (pages_of middle) (bits_of pages middle) pages other)
+      (planned-bits 2 (pages_of middle) (bits_of pages middle) pages other) was2 now2 still2 first-space
+
   step2 : IsStepOf pages 2 other middle after
   step2 = record {
     may = both.0;
-    step = step-is pages (pages_of middle) p2 mid new both.1 (λ n ne. (leads2.lawful.sound n ne).formed) middle after refl leads2.same (planned-stays 2 (pages_of middle) (bits_of pages middle) pages other)
-        (planned-bits 2 (pages_of middle) (bits_of pages middle) pages other) was2 now2 still2 first-space;
+    step = subst (IsPlannedStep pages middle after (pages_of middle) (pages_of after))
+        (sym (plan_of-is (pages_of middle) (bits_of pages middle) pages 2 2 changed1.lawful few (omega arith) (omega arith) other made2 both.0)) steps2;
   }
 
   changed2 : IsChanged pages 2 other middle after p2.touched

@@ -21,7 +21,8 @@ use Rattle.ib_split.specs.Inserts.{CanInsert, HasFresh, HasInsertImages, IsPlann
 use Rattle.ib_planned_log.proofs.LeadLaws.{low-enough}
 use Rattle.ib_pair_plans.specs.Apart.{IsApart}
 use Rattle.ib_pair_plans.proofs.InsertApart.{IsApart-insert}
-use Rattle.ib_pair_plans.proofs.TakenLaws.{bits-taken, free_of-left}
+use Rattle.ib_pair_plans.proofs.TakenLaws.{free_of-left}
+use Rattle.ib_plans.proofs.TakenLaws.{bits-taken}
 use Rattle.ib_pair_plans.proofs.TreeStays.{height-stays, need-stays, root_full-stays}
 use Rattle.ib_pair_change.specs.PairPlans.{CanInsertPair}
 use Rattle.ib_pair_change.proofs.BehindLaws.{agrees-mid, clocks-mid, last-kept, leaf-content, map-all, same, there, tick-once, trees-mid}

@@ -30,7 +30,8 @@ use Rattle.ib_planned_log.proofs.LeadLaws.{made-missing}
 use Rattle.ib_planned_log.proofs.LeafPlanLaws.{leaf-page}
 use Rattle.ib_tree.proofs.LogLaws.{made-last, pages_after-untouched}
 use Rattle.ib_pair_law.specs.Opening.{pair_opening}
-use Rattle.ib_planned_log.specs.Kept.{planned, MayPlan}
+use Rattle.ib_planned_log.specs.Kept.{MayPlan, IsPlannedStep}
+use Rattle.ib_planned_log.specs.Steps.{planned}
 use Rattle.ib_pair_law.specs.PairKept.{IsPairEntry, IsPairLog}
 use Rattle.ib_pair_law.specs.PairLog.{IsPairLog-front}
 use Rattle.ib_second_key.specs.SecondChanges.{second_change}
@@ -44,6 +45,7 @@ use Rattle.ib_pair_plans.proofs.DeleteApart.{IsApart-delete}
 use Rattle.ib_pair_plans.proofs.InsertApart.{IsApart-insert}
 use Rattle.ib_pair_plans.proofs.TreeStays.{weight-stays}
 use Rattle.ib_pair_change.proofs.PairCommit.{planned-on}
+use Rattle.ib_planned_log.proofs.PlanIs.{plan_of-is}
 
 -- writes on two pages span pages
 other-page : (ws : List Write) (a p : ℕ) → a ≢ p → touches a ws ≡ true → list_any (λ v. not (page_at v.place == p)) ws ≡ true
@@ -169,7 +171,8 @@ module _ (pages : ℕ) (fits : has_pages pages ≡ true) (log : List Entry) (e :
       let ne = met-some (λ q. MOST_RECORDS) m (bits_of pages words) 2 law 2 (omega arith) (omega arith) n (omega arith) in
       let off = planned-apart m (bits_of pages words) pages law few e.change made1 p.first.may 2 n (omega arith) (omega arith) (λ q. omega arith) met in
       let leads = planned-leads m (bits_of pages words) pages 2 1 law few (omega arith) (omega arith) e.change made1 p.first.may in
-      p.first.step.pages_are n ne ∙ leads.same n off
+      let step = subst (IsPlannedStep pages words p.middle m (pages_of p.middle)) (plan_of-is m (bits_of pages words) pages 2 1 law few (omega arith) (omega arith) e.change made1 p.first.may) p.first.step in
+      step.pages_are n ne ∙ leads.same n off
 
   off2 : one leaf2 ≡ false
   off2 =

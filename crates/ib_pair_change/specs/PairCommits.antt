@@ -11,7 +11,8 @@ use Rattle.ib_walk.specs.Trees.{IsLawful}
 use Rattle.ib_walk.specs.Words.{bits_of, image_of, pages_of}
 use Rattle.ib_plans.specs.Agreement.{IsPlanned, reads_of}
 use Rattle.ib_plans.specs.Marks.{ticked}
-use Rattle.ib_planned_log.specs.Kept.{planned, MayPlan}
+use Rattle.ib_planned_log.specs.Kept.{MayPlan}
+use Rattle.ib_planned_log.specs.Steps.{planned}
 use Rattle.ib_planned_change.specs.Changes.{IsNextEntry, most_changed}
 use Rattle.ib_second_key.specs.SecondChanges.{IsPrimaryChange, second_change}
 use Rattle.ib_pair_law.specs.Opening.{pair_opening}

@@ -1,5 +1,5 @@
 -- What a planned change of one of two trees leaves of both.
-use Rattle.std.proofs.Common.{◌≡◌, ◌≢◌, ℕ, ◌+◌, ◌<◌, ◌≤◌, ◌∙◌, Bool, true, false, refl, ap}
+use Rattle.std.proofs.Common.{◌≡◌, ◌≢◌, ℕ, ◌+◌, ◌<◌, ◌≤◌, ◌∙◌, Bool, true, false, refl, ap, subst}
 use Rattle.ib_map.specs.Map.{answer_of, effect_of, is_made}
 use Rattle.ib_map.specs.declared.call.Change.{Change}
 use Rattle.ib_page.specs.declared.space.TheConstants.{MAPPED_PAGES}
@@ -8,10 +8,12 @@ use Rattle.ib_walk.specs.Trees.{IsLawful, content_of, weight_of}
 use Rattle.ib_walk.specs.Walk.{Visit, counts_visit}
 use Rattle.ib_walk.specs.Words.{pages_of, bits_of}
 use Rattle.ib_plans.specs.Marks.{ticked}
-use Rattle.ib_planned_log.specs.Kept.{Planned, planned}
+use Rattle.ib_planned_log.specs.Kept.{Planned, IsPlannedStep}
+use Rattle.ib_planned_log.specs.Steps.{planned}
 use Rattle.ib_planned_log.proofs.LeadLaws.{planned-leads}
 use Rattle.ib_planned_log.proofs.SameLaws.{IsLawful-same, content_of-same, weight_of-same}
 use Rattle.ib_pair_law.specs.PairKept.{IsStepOf}
+use Rattle.ib_planned_log.proofs.PlanIs.{plan_of-is}
 
 -- what a step says of the trees after it: they are lawful, the one that is changed has the content that the change makes, the other has what it had, a page that is not touched is as it was and where it was, and a clock rises by one where it is touched
 pub record IsChanged (pages root : ℕ) (change : Change) (before after : ℕ → ℕ) (touched : ℕ → Bool) : Type 0 where
@@ -41,7 +43,7 @@ module _ (pages root : ℕ) (few : pages ≤ MAPPED_PAGES) (some : 0 < root) (le
   pub IsChanged-step : IsLawful m bits 2 → is_made (answer_of (content_of m root) change) ≡ true → IsStepOf pages root change before after
       → IsChanged pages root change before after plan.touched
   IsChanged-step law made of =
-      let step = of.step in
+      let step = subst (IsPlannedStep pages before after m new) (plan_of-is m bits pages 2 root law few some le change made of.may) of.step in
       let leads = planned-leads m bits pages 2 root law few some le change made of.may in
       record {
         lawful = IsLawful-same then new plan.bits (bits_of pages after) 2 leads.lawful step.pages_are step.bits_are;

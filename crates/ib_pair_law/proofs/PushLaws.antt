@@ -29,7 +29,7 @@ use Rattle.ib_tree.proofs.WeightLaws.{weight_along-le}
 use Rattle.ib_tree.proofs.WholeLaws.{counts_visit-le_page}
 use Rattle.ib_planned_log.proofs.PushLaws.{each-push}
 use Rattle.ib_pair_law.specs.Opening.{pair_opening}
-use Rattle.ib_planned_log.specs.Kept.{planned}
+use Rattle.ib_planned_log.specs.Steps.{planned}
 use Rattle.ib_pair_law.specs.PairKept.{IsPairEntry, IsPairLog}
 use Rattle.ib_pair_law.specs.PairLog.{IsPairLog-front}
 use Rattle.ib_second_key.specs.SecondKeys.{second_of, ArePrimary}
@@ -37,6 +37,7 @@ use Rattle.ib_second_key.specs.SecondChanges.{second_change}
 use Rattle.ib_pair_law.proofs.ChangedLaws.{IsChanged, IsChanged-step}
 use Rattle.ib_pair_law.proofs.OpeningLaws.{opens, opens-empty}
 use Rattle.ib_second_key.proofs.SecondMapLaws.{ArePrimary-effect, second-effect, second-made}
+use Rattle.ib_walk.proofs.CountLaws.{weight-met, met-weight}
 
 -- a page that is met with a range is met
 range-met : (m : PageMemory) (page : ℕ) (r : PageRange) → 0 < weight_of (counts_visit r.level (visit_with page r)) m r.root → 0 < weight_of (counts_page page) m r.root
@@ -45,7 +46,7 @@ range-met m page r met =
 
 -- so page 0 has no range
 no-range : (m : PageMemory) (bits : ℕ → ℕ) (roots : ℕ) → IsLawful m bits roots → (r : PageRange) → HasRange roots m 0 r → ⊥
-no-range m bits roots law r h = met-some (λ q. MOST_RECORDS) m bits roots law r.root h.0 h.1 0 (let a = range-met m 0 r h.2 in omega arith) refl
+no-range m bits roots law r h = met-some (λ q. MOST_RECORDS) m bits roots law r.root h.0 h.1 0 (let a = range-met m 0 r (weight-met h.2) in omega arith) refl
 
 -- the pairs of the map of a kept log are primary
 primary-counted : (pages n : ℕ) (log : List Entry) → length log ≡ n → IsPairLog pages log → (log ≡ []) ⊎ ((front : List Entry) × (e : Entry) × (log ≡ front ++ e ∷ [])) → ArePrimary (map_of log)
@@ -175,8 +176,8 @@ module _ (pages : ℕ) (fits : has_pages pages ≡ true) (log : List Entry) (kep
         λ h. absurd (no-range m (bits_of pages words) 2 lawful-before.law r (subst (λ n. HasRange 2 m n r) z h)),
       )
       | inr ne ↦ (
-        λ h. (h.0, h.1, let same = others page r ne none h.0 h.1 in let met = h.2 in omega arith),
-        λ h. (h.0, h.1, let same = others page r ne none h.0 h.1 in let met = h.2 in omega arith),
+        λ h. (h.0, h.1, met-weight m r.root r.level (visit_with page r) (let same = others page r ne none h.0 h.1 in let met = weight-met h.2 in omega arith)),
+        λ h. (h.0, h.1, met-weight new r.root r.level (visit_with page r) (let same = others page r ne none h.0 h.1 in let met = weight-met h.2 in omega arith)),
       )
     ]
 

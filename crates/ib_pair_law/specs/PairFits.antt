@@ -30,7 +30,7 @@ abbrev pub FitsSecondScan : TreeSpace → List Entry → ℕ → MapKey → MapK
 FitsSecondScan space log reach low high place spans =
     ((spans ≡ []) × (rank high < rank low) × (place ≡ reach)) ⊎ ((rank low ≤ rank high) × AreWhole space.opening log 2 low high reach spans place)
 
--- a change and a lookup are answered as the map of the log answers them, a change that is refused for want of room by both trees, a scan as the second tree has it
+-- a change and a lookup are answered as the map of the log answers them, a change that is refused for want of room as the trees stand: too high is what either tree is, and the pages needed are those of both. A scan is answered as the second tree has it
 abbrev pub FitsPairCall : TreeSpace → List Entry → ℕ → ℕ → Call → Reply → ℕ → List Span → Type 0
 FitsPairCall space log session reach (Insert key value) reply place spans =
     FitsChange (history_of log) session (InsertChange key value) reply place

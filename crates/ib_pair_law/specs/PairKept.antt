@@ -10,13 +10,13 @@ use Rattle.ib_logrec.specs.Log.{memory_after, map_of, by_place}
 use Rattle.ib_walk.specs.Trees.{content_of}
 use Rattle.ib_walk.specs.Words.{pages_of, bits_of}
 use Rattle.ib_tree.specs.Logs.{pages_after, IsLawfulLog}
-use Rattle.ib_planned_log.specs.Kept.{planned, MayPlan, IsPlannedStep}
+use Rattle.ib_planned_log.specs.Kept.{plan_of, MayPlan, IsPlannedStep}
 use Rattle.ib_pair_law.specs.Opening.{pair_opening}
 
 -- the plan of a change of one of the two trees leads from these words of all pages to those, and is not refused
 pub record IsStepOf (pages root : ℕ) (change : Change) (before after : ℕ → ℕ) : Type 0 where
   pub may : MayPlan 2 root (pages_of before) (bits_of pages before) pages change
-  pub step : IsPlannedStep pages before after (pages_of before) (pages_of after) (planned root (pages_of before) (bits_of pages before) pages change)
+  pub step : IsPlannedStep pages before after (pages_of before) (pages_of after) (plan_of root (pages_of before) (bits_of pages before) pages change)
 
 -- an entry after others makes the change that is planned for the first tree, then the one that is planned for the second over the pages that the first leaves, and writes exactly the words that differ. `middle` are the words of all pages between the two
 pub record IsPairEntry (pages : ℕ) (start : ℕ → ℕ) (front : List Entry) (e : Entry) : Type 0 where

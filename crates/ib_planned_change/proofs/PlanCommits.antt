@@ -34,7 +34,8 @@ use Rattle.ib_plans.specs.Marks.{ticked}
 use Rattle.ib_plans.specs.Moves.{Move, Stays, IsMovedHeap}
 use Rattle.ib_tree.specs.TreeLog.{opening}
 use Rattle.ib_tree.proofs.LogLaws.{pages_after-untouched}
-use Rattle.ib_planned_log.specs.Kept.{IsKeptLog, IsPlannedEntry, IsPlannedStep, MayPlan, Planned, planned}
+use Rattle.ib_planned_log.specs.Kept.{IsKeptLog, IsPlannedEntry, IsPlannedStep, MayPlan, Planned, plan_of}
+use Rattle.ib_planned_log.specs.Steps.{planned}
 use Rattle.ib_planned_log.specs.LeafChange.{kept_pages}
 use Rattle.ib_planned_log.proofs.LeadLaws.{planned-leads}
 use Rattle.ib_planned_log.proofs.LeafPlanLaws.{leaf-page}
@@ -43,6 +44,7 @@ use Rattle.ib_planned_log.proofs.PushLaws.{IsKeptLog-push, content-before, lawfu
 use Rattle.ib_planned_change.specs.Changes.{IsNextEntry, most_changed}
 use Rattle.ib_planned_change.proofs.WorkLaws.{IsAsBefore, image-after, image-still, none-same, still-after, work-count, work-differ}
 use Rattle.ib_split.proofs.Planning.{if-some}
+use Rattle.ib_planned_log.proofs.PlanIs.{plan_of-is}
 
 -- the work set as it is changed: in order, within the space, with the images as read those of the words, and so were those that it had
 pub record IsReadFrom (pages : ℕ) (words : ℕ → ℕ) (old new : List WorkPage) : Type 0 where
@@ -94,9 +96,11 @@ module _ (pages : ℕ) (fits : has_pages pages ≡ true) (log : List Entry) (kep
   few : pages ≤ MAPPED_PAGES
   few = grind (arith, nat_tests, fits)
 
+  made-here : is_made (answer_of (content_of m 1) change) ≡ true
+  made-here = subst (λ xs. is_made (answer_of xs change) ≡ true) (sym (content-before pages fits log kept)) made
+
   leads : LeadsTo m then g.bits 1 1 g.touched (effect_of (content_of m 1) change)
-  leads = planned-leads m bits pages 1 1 before.law few (omega arith) (omega arith) change
-      (subst (λ xs. is_made (answer_of xs change) ≡ true) (sym (content-before pages fits log kept)) made) has.may
+  leads = planned-leads m bits pages 1 1 before.law few (omega arith) (omega arith) change made-here has.may
 
   ascends : PagesAscend 0 new
   ascends = let work = from.work in work.ascends
@@ -245,7 +249,9 @@ module _ (pages : ℕ) (fits : has_pages pages ≡ true) (log : List Entry) (kep
       record { pages_are = pages-are; moved = moved-is; kept = kept-is; bits_are = s.bits_are; clock = s.clock } in
       record {
         may = subst (MayPlan 1 1 m bits pages) (sym next.change_is) has.may;
-        step = subst (λ k. IsPlannedStep pages (memory_after start log) after m (kept_pages pages (log ++ e ∷ [])) (planned 1 m bits pages k)) (sym next.change_is) step;
+        step = subst (λ k. IsPlannedStep pages (memory_after start log) after m (kept_pages pages (log ++ e ∷ [])) (plan_of 1 m bits pages k)) (sym next.change_is)
+            (subst (IsPlannedStep pages (memory_after start log) after m (kept_pages pages (log ++ e ∷ [])))
+            (sym (plan_of-is m bits pages 1 1 before.law few (omega arith) (omega arith) change made-here has.may)) step);
         differ = subst (AllByRecursion (λ (w : Write). memory_after start log w.place ≢ w.value)) (sym next.writes_are) (work-differ (memory_after start log) new from.read);
       }
 

@@ -21,7 +21,8 @@ use Rattle.ib_plans.proofs.ChosenLaws.{chosen-fresh, chosen-length}
 use Rattle.ib_plans.proofs.NeedLaws.{IsPlannedInsert-need}
 use Rattle.ib_plans.proofs.DeletePlanLaws.{IsPlannedDelete-plan}
 use Rattle.ib_plans.proofs.LeadsLaws.{LeadsTo-ticked}
-use Rattle.ib_planned_log.specs.Kept.{planned, MayPlan}
+use Rattle.ib_planned_log.specs.Kept.{MayPlan}
+use Rattle.ib_planned_log.specs.Steps.{planned}
 
 -- an insert that is made is one of a missing key
 pub made-missing : (m : Pairs) (key : MapKey) (value : ℕ) → is_made (answer_of m (Insert key value)) ≡ true → value_at key m ≡ None

@@ -29,11 +29,13 @@ use Rattle.ib_plans.proofs.ChosenLaws.{chosen-fresh}
 use Rattle.ib_plans.proofs.MetLaws.{met-set}
 use Rattle.ib_plans.proofs.PathLaws.{PathPage}
 use Rattle.ib_tree.specs.TreeLog.{opening}
-use Rattle.ib_planned_log.specs.Kept.{MayPlan, Planned, planned, IsPlannedEntry, IsPlannedStep, IsKeptLog}
+use Rattle.ib_planned_log.specs.Kept.{MayPlan, Planned, IsPlannedEntry, IsPlannedStep, IsKeptLog, plan_of}
+use Rattle.ib_planned_log.specs.Steps.{planned}
 use Rattle.ib_planned_log.specs.LeafChange.{ChangesPage, kept_pages, leaf_after, with_pair, without_pair}
 use Rattle.ib_planned_log.proofs.LeafPlanLaws.{delete-leaf, insert-leaf, leaf-page, no-need, not-high}
 use Rattle.ib_planned_log.proofs.PageChangeLaws.{IsInGrammar-page, IsPlannedStep-page, differ-page, space-page}
 use Rattle.ib_planned_log.proofs.PushLaws.{IsKeptLog-push, content-before, lawful-before}
+use Rattle.ib_planned_log.proofs.PlanIs.{plan_of-is}
 
 -- a page whose bit is set is one of the space
 bit-inside : (pages : ℕ) (words : ℕ → ℕ) (page : ℕ) → bits_of pages words page ≢ 0 → page < pages
@@ -96,11 +98,12 @@ module _ (pages : ℕ) (fits : has_pages pages ≡ true) (log : List Entry) (kep
         (chosen-fresh bits pages (need_of m key 1) few) (in-content ∙ missing) in
         let as-planned : planned 1 m bits pages (Insert key value) ≡ record { memory = put_at m leaf key value; bits = bits; touched = mark leaf untouched; moves = with_move leaf (Puts key) unmoved } =
         ap (λ (g : Growth). let p : Planned = record { memory = g.memory; bits = g.bits; touched = g.touched; moves = g.moves } in p) plan in
+        let as-said = plan_of-is m bits pages 1 1 lawful few (omega arith) (omega arith) (Insert key value) (made-insert key value (value_at key (content_of m 1)) (in-content ∙ missing)) may ∙ as-planned in
         let step = IsPlannedStep-page pages log e leaf (put key value (m leaf).records) (Puts key) (Insert key value) the-leaf.kind the-leaf.some c in
         record {
           may = subst (MayPlan 1 1 m bits pages) (sym c.change_is) may;
-          step = subst (λ k. IsPlannedStep pages (memory_after start log) (memory_after start (log ++ e ∷ [])) m (kept_pages pages (log ++ e ∷ [])) (planned 1 m bits pages k)) (sym c.change_is)
-              (subst (IsPlannedStep pages (memory_after start log) (memory_after start (log ++ e ∷ [])) m (kept_pages pages (log ++ e ∷ []))) (sym as-planned) step);
+          step = subst (λ k. IsPlannedStep pages (memory_after start log) (memory_after start (log ++ e ∷ [])) m (kept_pages pages (log ++ e ∷ [])) (plan_of 1 m bits pages k)) (sym c.change_is)
+              (subst (IsPlannedStep pages (memory_after start log) (memory_after start (log ++ e ∷ [])) m (kept_pages pages (log ++ e ∷ []))) (sym as-said) step);
           differ = differ-page pages log e leaf (put key value (m leaf).records) (Puts key) (Insert key value) the-leaf.kind the-leaf.some c;
         }
 
@@ -120,11 +123,14 @@ module _ (pages : ℕ) (fits : has_pages pages ≡ true) (log : List Entry) (kep
         let plan = delete-leaf m bits 1 lawful key (rank-lt_end key) 1 (omega arith) (omega arith) value there short in
         let as-planned : planned 1 m bits pages (Delete key) ≡ record { memory = drop_at m leaf key; bits = bits; touched = mark leaf untouched; moves = with_move leaf (Takes key) unmoved } =
         ap (λ (s : Shrinkage). let p : Planned = record { memory = s.memory; bits = s.bits; touched = s.touched; moves = s.moves } in p) plan.1 in
+        let few : pages ≤ MAPPED_PAGES = grind (arith, nat_tests, fits) in
+        let made : is_made (answer_of (content_of m 1) (Delete key)) ≡ true = ap (λ o. is_made (delete_answer o)) (in-content ∙ there) in
+        let as-said = plan_of-is m bits pages 1 1 lawful few (omega arith) (omega arith) (Delete key) made tt ∙ as-planned in
         let step = IsPlannedStep-page pages log e leaf (without key (m leaf).records) (Takes key) (Delete key) the-leaf.kind the-leaf.some c in
         record {
           may = subst (MayPlan 1 1 m bits pages) (sym c.change_is) tt;
-          step = subst (λ k. IsPlannedStep pages (memory_after start log) (memory_after start (log ++ e ∷ [])) m (kept_pages pages (log ++ e ∷ [])) (planned 1 m bits pages k)) (sym c.change_is)
-              (subst (IsPlannedStep pages (memory_after start log) (memory_after start (log ++ e ∷ [])) m (kept_pages pages (log ++ e ∷ []))) (sym as-planned) step);
+          step = subst (λ k. IsPlannedStep pages (memory_after start log) (memory_after start (log ++ e ∷ [])) m (kept_pages pages (log ++ e ∷ [])) (plan_of 1 m bits pages k)) (sym c.change_is)
+              (subst (IsPlannedStep pages (memory_after start log) (memory_after start (log ++ e ∷ [])) m (kept_pages pages (log ++ e ∷ []))) (sym as-said) step);
           differ = differ-page pages log e leaf (without key (m leaf).records) (Takes key) (Delete key) the-leaf.kind the-leaf.some c;
         }
 

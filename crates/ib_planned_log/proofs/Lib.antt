@@ -1,5 +1,6 @@
 pub mod SameLaws
 pub mod LeadLaws
+pub mod PlanIs
 pub mod PushLaws
 pub mod ClockLaws
 pub mod WordLaws

@@ -29,9 +29,12 @@ use Rattle.ib_tree.proofs.LogLaws.{IsLawfulLog-push, IsLawfulMemory-after, conte
 use Rattle.ib_tree.proofs.OpeningLaws.{opens, opens-empty}
 use Rattle.ib_tree.proofs.WeightLaws.{weight_along-le}
 use Rattle.ib_tree.proofs.WholeLaws.{counts_visit-le_page}
-use Rattle.ib_planned_log.specs.Kept.{Planned, planned, IsPlannedEntry, IsKeptLog}
+use Rattle.ib_planned_log.specs.Kept.{Planned, IsPlannedEntry, IsKeptLog, IsPlannedStep}
+use Rattle.ib_planned_log.specs.Steps.{planned}
 use Rattle.ib_planned_log.proofs.LeadLaws.{planned-leads}
 use Rattle.ib_planned_log.proofs.SameLaws.{IsLawful-same, content_of-same, weight_of-same}
+use Rattle.ib_walk.proofs.CountLaws.{weight-met, met-weight}
+use Rattle.ib_planned_log.proofs.PlanIs.{plan_of-is}
 
 -- what holds of each entry behind those before it, and of one more, holds of each with that one
 pub each-push : (P : List Entry → Entry → Type 0) (front : List Entry) (e : Entry) → ((xs : List Entry) (x : Entry) (back : List Entry) → front ≡ xs ++ x ∷ back → P xs x) → P front e
@@ -52,7 +55,7 @@ range-met m page r met =
 
 -- so page 0 has no range
 no-range : (m : PageMemory) (bits : ℕ → ℕ) (roots : ℕ) → IsLawful m bits roots → (r : PageRange) → HasRange roots m 0 r → ⊥
-no-range m bits roots law r h = met-some (λ q. MOST_RECORDS) m bits roots law r.root h.0 h.1 0 (let a = range-met m 0 r h.2 in omega arith) refl
+no-range m bits roots law r h = met-some (λ q. MOST_RECORDS) m bits roots law r.root h.0 h.1 0 (let a = range-met m 0 r (weight-met h.2) in omega arith) refl
 
 module _ (pages : ℕ) (fits : has_pages pages ≡ true) (log : List Entry) (kept : IsKeptLog pages log) where
   abbrev start : ℕ → ℕ
@@ -83,17 +86,26 @@ module _ (pages : ℕ) (fits : has_pages pages ≡ true) (log : List Entry) (kep
     abbrev then : PageMemory
     then = ticked m plan.touched plan.memory
 
+    few : pages ≤ MAPPED_PAGES
+    few = grind (arith, nat_tests, fits)
+
+    made-here : is_made (answer_of (content_of m 1) e.change) ≡ true
+    made-here = subst (λ xs. is_made (answer_of xs e.change) ≡ true) (sym content-before) made
+
+    -- the entry makes just what the steps of the plan come to
+    step : IsPlannedStep pages (memory_after start log) (memory_after start (log ++ e ∷ [])) m new plan
+    step = subst (IsPlannedStep pages (memory_after start log) (memory_after start (log ++ e ∷ [])) m new)
+        (plan_of-is m bits pages 1 1 lawful-before.law few (omega arith) (omega arith) e.change made-here p.may) p.step
+
     leads : LeadsTo m then plan.bits 1 1 plan.touched (effect_of (content_of m 1) e.change)
-    leads =
-        let few : pages ≤ MAPPED_PAGES = grind (arith, nat_tests, fits) in
-        planned-leads m bits pages 1 1 lawful-before.law few (omega arith) (omega arith) e.change (subst (λ xs. is_made (answer_of xs e.change) ≡ true) (sym content-before) made) p.may
+    leads = planned-leads m bits pages 1 1 lawful-before.law few (omega arith) (omega arith) e.change made-here p.may
 
     law-after : IsLawful new after 1
-    law-after = IsLawful-same then new plan.bits after 1 leads.lawful p.step.pages_are p.step.bits_are
+    law-after = IsLawful-same then new plan.bits after 1 leads.lawful step.pages_are step.bits_are
 
     content-after : content_of new 1 ≡ map_of (log ++ e ∷ [])
     content-after =
-        content_of-same then new plan.bits after 1 leads.lawful p.step.pages_are p.step.bits_are 1 (omega arith) (omega arith)
+        content_of-same then new plan.bits after 1 leads.lawful step.pages_are step.bits_are 1 (omega arith) (omega arith)
         ∙ (leads.content_is ∙ (ap (λ xs. effect_of xs e.change) content-before ∙ sym (map_of-push log e)))
 
     -- a page that isn't written wasn't touched, or its clock would be higher
@@ -104,14 +116,14 @@ module _ (pages : ℕ) (fits : has_pages pages ≡ true) (log : List Entry) (kep
         go false is = is
         go true is =
             let same = pages_after-untouched start log e page none in
-            let now : then page ≡ m page = sym (p.step.pages_are page ne) ∙ same in
+            let now : then page ≡ m page = sym (step.pages_are page ne) ∙ same in
             let clock : (then page).clock ≡ (m page).clock + 1 = rw is refl in
             let was = ap (λ (q : PageState). q.clock) now in absurd (omega arith)
 
     others : (page : ℕ) (r : PageRange) → page ≢ 0 → touches page e.writes ≡ false → 0 < r.root → r.root ≤ 1
         → weight_of (counts_visit r.level (visit_with page r)) new r.root ≡ weight_of (counts_visit r.level (visit_with page r)) m r.root
     others page r ne none some le =
-        weight_of-same then new plan.bits after 1 leads.lawful p.step.pages_are p.step.bits_are (counts_visit r.level (visit_with page r)) r.root some le
+        weight_of-same then new plan.bits after 1 leads.lawful step.pages_are step.bits_are (counts_visit r.level (visit_with page r)) r.root some le
         ∙ leads.ranges r.root r.level (visit_with page r) some le (not-touched page ne none)
 
     ranges : (page : ℕ) (r : PageRange) → touches page e.writes ≡ false → HasRange 1 new page r ↔ HasRange 1 m page r
@@ -121,8 +133,8 @@ module _ (pages : ℕ) (fits : has_pages pages ≡ true) (log : List Entry) (kep
         λ h. absurd (no-range m bits 1 lawful-before.law r (subst (λ n. HasRange 1 m n r) z h)),
       )
       | inr ne ↦ (
-        λ h. (h.0, h.1, let same = others page r ne none h.0 h.1 in let met = h.2 in omega arith),
-        λ h. (h.0, h.1, let same = others page r ne none h.0 h.1 in let met = h.2 in omega arith),
+        λ h. (h.0, h.1, met-weight m r.root r.level (visit_with page r) (let same = others page r ne none h.0 h.1 in let met = weight-met h.2 in omega arith)),
+        λ h. (h.0, h.1, met-weight new r.root r.level (visit_with page r) (let same = others page r ne none h.0 h.1 in let met = weight-met h.2 in omega arith)),
       )
     ]
 
@@ -135,10 +147,10 @@ module _ (pages : ℕ) (fits : has_pages pages ≡ true) (log : List Entry) (kep
       where
         go : (b : Bool) → plan.touched page ≡ b → (new page).clock ≤ (m page).clock + 1
         go false is =
-            let a = ap (λ (q : PageState). q.clock) (p.step.pages_are page ne) in
+            let a = ap (λ (q : PageState). q.clock) (step.pages_are page ne) in
             let b = ap (λ (q : PageState). q.clock) (leads.same page is) in omega arith
         go true is =
-            let a = ap (λ (q : PageState). q.clock) (p.step.pages_are page ne) in
+            let a = ap (λ (q : PageState). q.clock) (step.pages_are page ne) in
             let clock : (then page).clock ≡ (m page).clock + 1 = rw is refl in omega arith
 
     legal-after : e.number ≡ length (changes_of e.session (history_of log)) + 1 → IsLegalHistory (history_of (log ++ e ∷ []))

@@ -8,6 +8,7 @@ use Rattle.ib_walk.proofs.MeetLaws.{AllByRecursion-met, AreLinked-same, HasLinks
 use Rattle.ib_walk.proofs.TreeLaws.{weight_all-same}
 use Rattle.ib_walk.proofs.WalkLaws.{IsAlike-same, IsSameTree}
 use Rattle.ib_plans.proofs.MetLaws.{clear-some, met-some}
+use Rattle.ib_walk.proofs.CountLaws.{bits-met, IsPageMap-bits}
 
 module _ (m new : PageMemory) (bits after : ℕ → ℕ) (roots : ℕ) (law : IsLawful m bits roots) (same : (n : ℕ) → n ≢ 0 → new n ≡ m n) (turned : (n : ℕ) → after n ≡ bits n) where
   met-same : (r : ℕ) → 0 < r → r ≤ roots → (n : ℕ) → 0 < weight_of (counts_page n) m r → new n ≡ m n
@@ -33,18 +34,20 @@ module _ (m new : PageMemory) (bits after : ℕ → ℕ) (roots : ℕ) (law : Is
       record { prev = ap (λ (p : PageState). p.prev) e; next = ap (λ (p : PageState). p.next) e })) (law.trees r some le).0.linked
 
   pub IsLawful-same : IsLawful new after roots
-  IsLawful-same = record {
-    sound = λ n ne. subst (IsSound MOST_RECORDS) (sym (same n ne)) (law.sound n ne);
-    trees = λ r some le. (
-      subst (λ h. IsTreeOf new h r) (sym (root-same r some)) (record {
-        tree = (tree-same r some le).tree;
-        linked = subst (λ us. AreLinked new 0 us 0) (sym (tree-same r some le).lowest) (linked-same r some le);
-      }),
-      let e = root-same r some in let b = (law.trees r some le).1 in omega arith,
-    );
-    met = λ n. let e = law.met n in let t = turned n in let s = weight_all-same (counts_page n) m new roots (λ r a b. weight_of-same (counts_page n) r a b) in omega arith;
-    bit = λ n. let t = turned n in let b = law.bit n in omega arith;
-    few = λ n high. turned n ∙ law.few n high;
-    unmet = λ n none. let clear = sym (turned n) ∙ none in
-        ap (λ (p : PageState). p.kind) (same n (clear-some (λ q. MOST_RECORDS) m bits roots law n clear)) ∙ law.unmet n clear;
-  }
+  IsLawful-same =
+      let few-bits : (n : ℕ) → after n ≤ 1 = λ n. let t = turned n in let b = law.bit n in omega arith in
+      record {
+        sound = λ n ne. subst (IsSound MOST_RECORDS) (sym (same n ne)) (law.sound n ne);
+        trees = λ r some le. (
+          subst (λ h. IsTreeOf new h r) (sym (root-same r some)) (record {
+            tree = (tree-same r some le).tree;
+            linked = subst (λ us. AreLinked new 0 us 0) (sym (tree-same r some le).lowest) (linked-same r some le);
+          }),
+          let e = root-same r some in let b = (law.trees r some le).1 in omega arith,
+        );
+        met = IsPageMap-bits new after roots (λ n. let e = bits-met law n in let t = turned n in let s = weight_all-same (counts_page n) m new roots (λ r a b. weight_of-same (counts_page n) r a b) in omega arith) few-bits;
+        bit = few-bits;
+        few = λ n high. turned n ∙ law.few n high;
+        unmet = λ n none. let clear = sym (turned n) ∙ none in
+            ap (λ (p : PageState). p.kind) (same n (clear-some (λ q. MOST_RECORDS) m bits roots law n clear)) ∙ law.unmet n clear;
+      }

@@ -19,7 +19,7 @@ use Rattle.ib_tree.specs.Clocks.{CountsWrites}
 use Rattle.ib_tree.specs.Logs.{pages_after}
 use Rattle.ib_tree.specs.TreeLog.{opening}
 use Rattle.ib_tree.proofs.LogLaws.{pages_after-untouched}
-use Rattle.ib_planned_log.specs.Kept.{Planned, planned, IsKeptLog, IsPlannedEntry}
+use Rattle.ib_planned_log.specs.Kept.{Planned, plan_of, IsKeptLog, IsPlannedEntry}
 
 -- a word on the page that the writes leave another
 record HasDiffering (low : ℕ) (ws : List Write) (words : ℕ → ℕ) (page : ℕ) : Type 0 where
@@ -49,7 +49,7 @@ module _ (pages : ℕ) (front : List Entry) (e : Entry) (kept : IsKeptLog pages 
   start = by_place opening pages
 
   abbrev plan : Planned
-  plan = planned 1 (pages_after start front) (bits_of pages (memory_after start front)) pages e.change
+  plan = plan_of 1 (pages_after start front) (bits_of pages (memory_after start front)) pages e.change
 
   grammar : IsInGrammar pages e
   grammar = let lawful = kept.lawful in (AllByRecursion-right (IsInGrammar pages) front (e ∷ []) lawful.grammar).0

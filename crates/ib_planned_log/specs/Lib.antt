@@ -1,3 +1,4 @@
 pub mod Kept
+pub mod Steps
 pub mod KeptLog
 pub mod LeafChange

@@ -9,6 +9,7 @@ use Rattle.ib_walk.proofs.MeetLaws.{AllByRecursion-met, AreLinked-same, HasLinks
 use Rattle.ib_walk.proofs.TreeLaws.{weight_all-same}
 use Rattle.ib_walk.proofs.WalkLaws.{IsAlike, IsSameTree}
 use Rattle.ib_plans.specs.Marks.{ticked, with_clock}
+use Rattle.ib_walk.proofs.CountLaws.{bits-met, IsPageMap-bits}
 
 -- a memory whose pages are alike, and have the same links: each visit, the content and what is lawful are the same
 module _ (most : ℕ → ℕ) (m new : PageMemory) (bits : ℕ → ℕ) (roots : ℕ) (law : IsLawfulUpTo most m bits roots)
@@ -41,7 +42,7 @@ module _ (most : ℕ → ℕ) (m new : PageMemory) (bits : ℕ → ℕ) (roots :
       }),
       let e = (alike r).level in let b = (law.trees r s l).1 in omega arith,
     );
-    met = λ n. let e = law.met n in let s = weight_all-same (counts_page n) m new roots (λ r a b. weight_of-clocks (counts_page n) r a b) in omega arith;
+    met = IsPageMap-bits new bits roots (λ n. let e = bits-met law n in let s = weight_all-same (counts_page n) m new roots (λ r a b. weight_of-clocks (counts_page n) r a b) in omega arith) law.bit;
     bit = law.bit;
     few = law.few;
     unmet = λ n none. (alike n).kind ∙ law.unmet n none;

@@ -26,6 +26,9 @@ pub mod SiblingRecordLaws
 pub mod MergePageLaws
 pub mod DeleteLaws
 pub mod DeletePlanLaws
+pub mod DeletedLaws
+pub mod TakenLaws
+pub mod InsertedLaws
 pub mod SettledLaws
 pub mod EditLaws
 pub mod MoveLaws

@@ -14,6 +14,7 @@ use Rattle.ib_walk.proofs.WalkLaws.{IsAlike, IsAlike-same, IsSameTree, IsSameTre
 use Rattle.ib_plans.proofs.LevelLaws.{level-le_weight, level-visit}
 use Rattle.ib_plans.proofs.LinkLaws.{HasLinks-same}
 use Rattle.ib_plans.proofs.MetLaws.{bit-none, met-apart, met-some, root-met, weight_all-plus}
+use Rattle.ib_walk.proofs.CountLaws.{bits-met, IsPageMap-bits}
 
 -- what a lift writes: the root takes the records and the level of its one child
 pub record IsLifted (m new : PageMemory) (root child height : ℕ) : Type 0 where
@@ -198,41 +199,43 @@ module _ (most : ℕ → ℕ) (m new : PageMemory) (bits : ℕ → ℕ) (roots :
   -- so trees are lawful, with the bit of the child clear
   pub IsLawful-lift : (now after : ℕ → ℕ) → after child ≡ 0 → ((n : ℕ) → n ≢ child → after n ≡ bits n) → IsSound (now child) (new child)
       → ((n : ℕ) → n ≢ root → n ≢ child → most n ≤ now n) → length (m child).records ≤ now root → IsLawfulUpTo now new after roots
-  IsLawful-lift now after there elsewhere gone-sound wide short = record {
-    sound = λ n ne. elim (cases_eq n child) [
-      | inl e ↦ subst (λ q. IsSound (now q) (new q)) (sym e) gone-sound
-      | inr nc ↦ elim (cases_eq n root) [
-        | inl e ↦ subst (λ q. IsSound (now q) (new q)) (sym e) (let s = law.sound child child-some in record {
-          formed = λ bad. let k = lifted.kind in cc;
-          ascends = subst (λ rs. Rises 0 rs end_rank) (sym lifted.records) s.ascends;
-          short = let y = ap length lifted.records in omega arith;
-          low = let y = lifted.level in let z = s.low in omega (arith, at);
-          prev = let y = lifted.alone.0 in omega arith;
-          next = let y = lifted.alone.1 in omega arith;
-          node = λ up. lifted.alone;
-        })
-        | inr nr ↦ subst (IsSound (now n)) (sym (lifted.others n nr nc)) (IsSound-wider (most n) (now n) (m n) (wide n nr nc) (law.sound n ne))
-      ]
-    ];
-    trees = λ r s l. (
-      new-tree r s l,
-      elim (cases_eq r root) [
-        | inl e ↦ let x = ap (height_of new) e in let y = lifted.level in let z = (law.trees root some le).1 in let w = lifted.level_was in omega arith
-        | inr ne ↦ let x = other-height r s l ne in let y = (law.trees r s l).1 in omega arith
-      ],
-    );
-    met = λ n. elim (cases_eq n child) [
-      | inl e ↦ subst (λ q. after q ≡ times_met new roots q + cond (eqb q 0) 1 0) (sym e)
-          (let a = met-fewer child in let b = counts_page-own child 0 child-visit refl in let c = times_met-le most m bits roots child law in let z = bit-none child child-some in omega arith)
-      | inr nc ↦ let a = met-fewer n in let b = counts_page-other n 0 child-visit (λ e. nc (sym e)) in let c = law.met n in let d = elsewhere n nc in omega arith
-    ];
-    bit = λ n. elim (cases_eq n child) [ inl e ↦ let d = ap after e in omega arith | inr nc ↦ let d = elsewhere n nc in let b = law.bit n in omega arith ];
-    few = λ n big. elim (cases_eq n child) [ inl e ↦ ap after e ∙ there | inr nc ↦ elsewhere n nc ∙ law.few n big ];
-    unmet = λ n free. elim (cases_eq n child) [
-      | inl e ↦ subst (λ q. (new q).kind ≡ Free) (sym e) freed
-      | inr nc ↦
-          let none : bits n ≡ 0 = sym (elsewhere n nc) ∙ free in
-          let nr : n ≢ root = λ e. (let x = law.met root in let y = root-met m root in let z = weight_of-le (counts_page root) m root roots some le in let d = ap bits e in omega arith) in
-          ap (λ (p : PageState). p.kind) (lifted.others n nr nc) ∙ law.unmet n none
-    ];
-  }
+  IsLawful-lift now after there elsewhere gone-sound wide short =
+      let few-bits : (n : ℕ) → after n ≤ 1 = λ n. elim (cases_eq n child) [ inl e ↦ let d = ap after e in omega arith | inr nc ↦ let d = elsewhere n nc in let b = law.bit n in omega arith ] in
+      record {
+        sound = λ n ne. elim (cases_eq n child) [
+          | inl e ↦ subst (λ q. IsSound (now q) (new q)) (sym e) gone-sound
+          | inr nc ↦ elim (cases_eq n root) [
+            | inl e ↦ subst (λ q. IsSound (now q) (new q)) (sym e) (let s = law.sound child child-some in record {
+              formed = λ bad. let k = lifted.kind in cc;
+              ascends = subst (λ rs. Rises 0 rs end_rank) (sym lifted.records) s.ascends;
+              short = let y = ap length lifted.records in omega arith;
+              low = let y = lifted.level in let z = s.low in omega (arith, at);
+              prev = let y = lifted.alone.0 in omega arith;
+              next = let y = lifted.alone.1 in omega arith;
+              node = λ up. lifted.alone;
+            })
+            | inr nr ↦ subst (IsSound (now n)) (sym (lifted.others n nr nc)) (IsSound-wider (most n) (now n) (m n) (wide n nr nc) (law.sound n ne))
+          ]
+        ];
+        trees = λ r s l. (
+          new-tree r s l,
+          elim (cases_eq r root) [
+            | inl e ↦ let x = ap (height_of new) e in let y = lifted.level in let z = (law.trees root some le).1 in let w = lifted.level_was in omega arith
+            | inr ne ↦ let x = other-height r s l ne in let y = (law.trees r s l).1 in omega arith
+          ],
+        );
+        met = IsPageMap-bits new after roots (λ n. elim (cases_eq n child) [
+          | inl e ↦ subst (λ q. after q ≡ times_met new roots q + cond (eqb q 0) 1 0) (sym e)
+              (let a = met-fewer child in let b = counts_page-own child 0 child-visit refl in let c = times_met-le most m bits roots child law in let z = bit-none child child-some in omega arith)
+          | inr nc ↦ let a = met-fewer n in let b = counts_page-other n 0 child-visit (λ e. nc (sym e)) in let c = bits-met law n in let d = elsewhere n nc in omega arith
+        ]) few-bits;
+        bit = few-bits;
+        few = λ n big. elim (cases_eq n child) [ inl e ↦ ap after e ∙ there | inr nc ↦ elsewhere n nc ∙ law.few n big ];
+        unmet = λ n free. elim (cases_eq n child) [
+          | inl e ↦ subst (λ q. (new q).kind ≡ Free) (sym e) freed
+          | inr nc ↦
+              let none : bits n ≡ 0 = sym (elsewhere n nc) ∙ free in
+              let nr : n ≢ root = λ e. (let x = bits-met law root in let y = root-met m root in let z = weight_of-le (counts_page root) m root roots some le in let d = ap bits e in omega arith) in
+              ap (λ (p : PageState). p.kind) (lifted.others n nr nc) ∙ law.unmet n none
+        ];
+      }

@@ -20,6 +20,7 @@ use Rattle.ib_plans.proofs.LinkLaws.{AreLinked-append, AreLinked-left, first_pag
 use Rattle.ib_plans.proofs.MergeWalkLaws.{IsMerged, IsMergedTree, IsMergedTree-merge}
 use Rattle.ib_plans.proofs.MetLaws.{bit-none, met-apart, met-few, met-some, root-met, weight_all-plus, zero-unmet}
 use Rattle.ib_plans.proofs.RecordLaws.{Rises-between}
+use Rattle.ib_walk.proofs.CountLaws.{bits-met, IsPageMap-bits}
 
 -- what a merge writes into the links
 pub record IsUnlinked (m new : PageMemory) (child gone : ℕ) : Type 0 where
@@ -376,30 +377,32 @@ module _ (most : ℕ → ℕ) (m new : PageMemory) (bits : ℕ → ℕ) (roots :
   pub IsLawful-merge : (now after : ℕ → ℕ) → after gone ≡ 0 → ((n : ℕ) → n ≢ gone → after n ≡ bits n) → IsSound (now gone) (new gone)
       → ((n : ℕ) → n ≢ parent → n ≢ child → n ≢ gone → most n ≤ now n) → length (new parent).records ≤ now parent → length (new child).records ≤ now child
       → IsLawfulUpTo now new after roots
-  IsLawful-merge now after there elsewhere gone-sound wide short-parent short-child = record {
-    sound = λ n ne. elim (cases_eq n gone) [
-      | inl e ↦ subst (λ q. IsSound (now q) (new q)) (sym e) gone-sound
-      | inr ng ↦ elim (cases_eq n child) [
-        | inl e ↦ subst (λ q. IsSound (now q) (new q)) (sym e) child-sound
-        | inr nc ↦ elim (cases_eq n (m gone).next) [
-          | inl e ↦ next-sound n ne ng nc e
-          | inr nn ↦ rest-sound n ne ng nc nn
-        ]
-      ]
-    ];
-    trees = λ r s l. (new-tree r s l, let e = height-kept r s l in let b = (law.trees r s l).1 in omega arith);
-    met = λ n. elim (cases_eq n gone) [
-      | inl e ↦ subst (λ q. after q ≡ times_met new roots q + cond (eqb q 0) 1 0) (sym e)
-          (let a = met-fewer gone in let b = gone-here in let c = times_met-le most m bits roots gone law in let z = bit-none gone (met-some most m bits roots law root some le gone gone-met) in omega arith)
-      | inr ng ↦ let a = met-fewer n in let b = counts_page-other n 0 gone-visit (λ e. ng (sym e ∙ merge.there)) in let c = law.met n in let d = elsewhere n ng in omega arith
-    ];
-    bit = λ n. elim (cases_eq n gone) [ inl e ↦ let d = ap after e in omega arith | inr ng ↦ let d = elsewhere n ng in let b = law.bit n in omega arith ];
-    few = λ n big. elim (cases_eq n gone) [ inl e ↦ ap after e ∙ there | inr ng ↦ elsewhere n ng ∙ law.few n big ];
-    unmet = λ n free. elim (cases_eq n gone) [
-      | inl e ↦ subst (λ q. (new q).kind ≡ Free) (sym e) freed
-      | inr ng ↦ kind-kept n ng ∙ law.unmet n (sym (elsewhere n ng) ∙ free)
-    ];
-  }
+  IsLawful-merge now after there elsewhere gone-sound wide short-parent short-child =
+      let few-bits : (n : ℕ) → after n ≤ 1 = λ n. elim (cases_eq n gone) [ inl e ↦ let d = ap after e in omega arith | inr ng ↦ let d = elsewhere n ng in let b = law.bit n in omega arith ] in
+      record {
+        sound = λ n ne. elim (cases_eq n gone) [
+          | inl e ↦ subst (λ q. IsSound (now q) (new q)) (sym e) gone-sound
+          | inr ng ↦ elim (cases_eq n child) [
+            | inl e ↦ subst (λ q. IsSound (now q) (new q)) (sym e) child-sound
+            | inr nc ↦ elim (cases_eq n (m gone).next) [
+              | inl e ↦ next-sound n ne ng nc e
+              | inr nn ↦ rest-sound n ne ng nc nn
+            ]
+          ]
+        ];
+        trees = λ r s l. (new-tree r s l, let e = height-kept r s l in let b = (law.trees r s l).1 in omega arith);
+        met = IsPageMap-bits new after roots (λ n. elim (cases_eq n gone) [
+          | inl e ↦ subst (λ q. after q ≡ times_met new roots q + cond (eqb q 0) 1 0) (sym e)
+              (let a = met-fewer gone in let b = gone-here in let c = times_met-le most m bits roots gone law in let z = bit-none gone (met-some most m bits roots law root some le gone gone-met) in omega arith)
+          | inr ng ↦ let a = met-fewer n in let b = counts_page-other n 0 gone-visit (λ e. ng (sym e ∙ merge.there)) in let c = bits-met law n in let d = elsewhere n ng in omega arith
+        ]) few-bits;
+        bit = few-bits;
+        few = λ n big. elim (cases_eq n gone) [ inl e ↦ ap after e ∙ there | inr ng ↦ elsewhere n ng ∙ law.few n big ];
+        unmet = λ n free. elim (cases_eq n gone) [
+          | inl e ↦ subst (λ q. (new q).kind ≡ Free) (sym e) freed
+          | inr ng ↦ kind-kept n ng ∙ law.unmet n (sym (elsewhere n ng) ∙ free)
+        ];
+      }
     where
       child-sound : IsSound (now child) (new child)
       child-sound =

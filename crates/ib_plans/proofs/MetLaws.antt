@@ -9,6 +9,7 @@ use Rattle.ib_walk.specs.Walk.{Visit, weight_along, counts_page}
 use Rattle.ib_walk.specs.Trees.{top_of, height_of, weight_of, weight_all, times_met, IsLawfulUpTo}
 use Rattle.ib_walk.proofs.MeetLaws.{counts_page-own}
 use Rattle.ib_walk.proofs.TreeLaws.{weight_of-le, weight_of-two_le, times_met-le}
+use Rattle.ib_walk.proofs.CountLaws.{bits-met}
 
 -- page 0's own bit counts for no other page
 pub bit-none : (n : ℕ) → n ≢ 0 → cond {A = ℕ} (eqb n 0) 1 0 ≡ 0
@@ -52,14 +53,14 @@ weight_all-plus f m new root roots extra some le own other =
 module _ (most : ℕ → ℕ) (m : PageMemory) (bits : ℕ → ℕ) (roots : ℕ) (law : IsLawfulUpTo most m bits roots) where
   -- a page whose bit is clear is not met, and is not page 0
   pub clear-unmet : (n : ℕ) → bits n ≡ 0 → times_met m roots n ≡ 0
-  clear-unmet n none = let e = law.met n in omega arith
+  clear-unmet n none = let e = bits-met law n in omega arith
 
   pub clear-some : (n : ℕ) → bits n ≡ 0 → n ≢ 0
-  clear-some n none z = let e : bits 0 ≡ times_met m roots 0 + 1 = law.met 0 in let b = ap bits z in omega arith
+  clear-some n none z = let e : bits 0 ≡ times_met m roots 0 + 1 = bits-met law 0 in let b = ap bits z in omega arith
 
   -- page 0 is not met
   pub zero-unmet : times_met m roots 0 ≡ 0
-  zero-unmet = let e : bits 0 ≡ times_met m roots 0 + 1 = law.met 0 in let b = law.bit 0 in omega arith
+  zero-unmet = let e : bits 0 ≡ times_met m roots 0 + 1 = bits-met law 0 in let b = law.bit 0 in omega arith
 
   -- each root is met
   pub root-times_met : (r : ℕ) → 0 < r → r ≤ roots → 1 ≤ times_met m roots r
@@ -71,7 +72,7 @@ module _ (most : ℕ → ℕ) (m : PageMemory) (bits : ℕ → ℕ) (roots : ℕ
     met-some n h z = let a = zero-unmet in let c = weight_of-le (counts_page n) m root roots some le in let d = ap (times_met m roots) z in omega arith
 
     pub met-set : (n : ℕ) → 1 ≤ weight_of (counts_page n) m root → bits n ≢ 0
-    met-set n h none = let a = law.met n in let c = weight_of-le (counts_page n) m root roots some le in omega arith
+    met-set n h none = let a = bits-met law n in let c = weight_of-le (counts_page n) m root roots some le in omega arith
 
     pub met-few : (n : ℕ) → 1 ≤ weight_of (counts_page n) m root → n < MAPPED_PAGES
     met-few n h = elim (cases_lt n MAPPED_PAGES) [

@@ -183,13 +183,13 @@ module _ (m : PageMemory) (bits : ℕ → ℕ) (roots : ℕ) (law : IsLawful m b
   abbrev whole : Growth
   whole = insert_below m bits fresh key value (height_of m root) root
 
-  run-is : run_of m key root ≡ full_run m (pages_up m key (height_of m root) root)
+  pub run-is : run_of m key root ≡ full_run m (pages_up m key (height_of m root) root)
   run-is = ap (full_run m) (path_of-pages m key root in-range (law.trees root some le).0)
 
-  run-le : run_of m key root ≤ suc (height_of m root)
+  pub run-le : run_of m key root ≤ suc (height_of m root)
   run-le = let a = full_run-le m (pages_up m key (height_of m root) root) in let b = length-pages_up m key (height_of m root) root in let c = run-is in omega arith
 
-  counted-whole : need_of m key root ≤ length fresh → IsCounted m bits fresh key value (height_of m root) root
+  pub counted-whole : need_of m key root ≤ length fresh → IsCounted m bits fresh key value (height_of m root) root
   counted-whole room = let e = run-is in IsCounted-path (height_of m root) 0 root refl refl (omega arith)
 
   -- with as many fresh pages as are needed, so it is counted at each page of the path, and what holds of an insert holds there

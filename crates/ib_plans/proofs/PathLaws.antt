@@ -10,6 +10,7 @@ use Rattle.ib_walk.proofs.MeetLaws.{sum_of-own}
 use Rattle.ib_walk.proofs.SearchLaws.{AllByRecursion-at, IsPageFor-below, IsPageFor-children, IsTree-below, above, above-le}
 use Rattle.ib_walk.proofs.TreeLaws.{IsPageFor-top, weight_of-le}
 use Rattle.ib_plans.proofs.LevelLaws.{above-suc, below-le_weight, kind-root, kind-visit, level-le_weight, level-visit}
+use Rattle.ib_walk.proofs.CountLaws.{bits-met}
 
 -- the page one level further down is the child for the key
 pub page_below-child : (m : PageMemory) (key : MapKey) (depth page : ℕ) → page_below m key (suc depth) page ≡ child_for key 0 (m (page_below m key depth page)).records
@@ -49,7 +50,7 @@ PathPage-below most m bits roots law key in-range root some le depth height tall
     let d = below-le_weight (counts_page n) m depth height (top_of root) in
     let f = ap (λ h. weight_along (counts_page n) m h (top_of root)) tall in
     let g = weight_of-le (counts_page n) m root roots some le in
-    let x : bits 0 ≡ times_met m roots 0 + 1 = law.met 0 in let y = law.bit 0 in
+    let x : bits 0 ≡ times_met m roots 0 + 1 = bits-met law 0 in let y = law.bit 0 in
     record {
       kind = subst (λ q. (m q).kind ≡ Tree) p.here (kind-visit m height p.before p.visit p.behind row);
       level = subst (λ q. (m q).level ≡ height) p.here (level-visit m height p.before p.visit p.behind row);

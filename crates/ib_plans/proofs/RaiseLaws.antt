@@ -18,6 +18,7 @@ use Rattle.ib_plans.proofs.HalfLaws.{IsHalved, IsHalvedRow, IsHalvedRow-halved}
 use Rattle.ib_plans.proofs.LevelLaws.{AllByRecursion-both, Rises-visit, below-zero}
 use Rattle.ib_plans.proofs.MetLaws.{bit-none, clear-some, clear-unmet, met-apart, root-met, root-times_met, weight_all-plus}
 use Rattle.ib_plans.proofs.RecordLaws.{Rises-apart}
+use Rattle.ib_walk.proofs.CountLaws.{bits-met, IsPageMap-bits}
 
 -- what a raise writes, but for links and clocks: a is the left page and b the right one
 pub record IsRaised (m new : PageMemory) (root a b : ℕ) (height : ℕ) : Type 0 where
@@ -256,40 +257,42 @@ module _ (most : ℕ → ℕ) (m new : PageMemory) (bits : ℕ → ℕ) (roots :
   pub IsLawful-raise : (now after : ℕ → ℕ) → after a ≡ 1 → after b ≡ 1 → ((n : ℕ) → n ≢ a → n ≢ b → after n ≡ bits n)
       → ((n : ℕ) → n ≢ root → n ≢ a → n ≢ b → most n ≤ now n) → 2 ≤ now root → length raised.halved.left ≤ now a → length (raised.halved.first ∷ raised.halved.rest) ≤ now b
       → IsLawfulUpTo now new after roots
-  IsLawful-raise now after at-a at-b elsewhere wide short-root short-a short-b = record {
-    sound = λ n ne. elim (cases_eq n a) [
-      | inl e ↦ subst (λ q. IsSound (now q) (new q)) (sym e) (a-sound (now a) short-a)
-      | inr na ↦ elim (cases_eq n b) [
-        | inl e ↦ subst (λ q. IsSound (now q) (new q)) (sym e) (b-sound (now b) short-b)
-        | inr nb ↦ elim (cases_eq n root) [
-          | inl e ↦ subst (λ q. IsSound (now q) (new q)) (sym e) (root-sound (now root) short-root)
-          | inr nr ↦ subst (IsSound (now n)) (sym (others n nr na nb)) (IsSound-wider (most n) (now n) (m n) (wide n nr na nb) (law.sound n ne))
-        ]
-      ]
-    ];
-    trees = λ r s l. (
-      new-tree r s l,
-      elim (cases_eq r root) [
-        | inl e ↦ let x = ap (height_of new) e in let y = height-raised in omega arith
-        | inr ne ↦ let x = height-other r s l ne in let y = (law.trees r s l).1 in omega arith
-      ],
-    );
-    met = λ n. let x = met-now n in elim (cases_eq n a) [
-      | inl e ↦ let p = counts_page-own n 0 (record { page = a; low = 0; high = 0 }) (sym e) in let q = counts_page-other n 0 (record { page = b; low = 0; high = 0 }) (λ z. apart-ab (sym e ∙ sym z)) in
-          let u = clear-unmet most m bits roots law a none-a in let d = ap (times_met m roots) e in let z = bit-none n (λ i. clear-some most m bits roots law a none-a (sym e ∙ i)) in let f = ap after e in omega arith
-      | inr na ↦ elim (cases_eq n b) [
-        | inl e ↦ let p = counts_page-own n 0 (record { page = b; low = 0; high = 0 }) (sym e) in let q = counts_page-other n 0 (record { page = a; low = 0; high = 0 }) (λ z. apart-ab (z ∙ e)) in
-            let u = clear-unmet most m bits roots law b none-b in let d = ap (times_met m roots) e in let z = bit-none n (λ i. clear-some most m bits roots law b none-b (sym e ∙ i)) in let f = ap after e in omega arith
-        | inr nb ↦ let p = counts_page-other n 0 (record { page = a; low = 0; high = 0 }) (λ z. na (sym z)) in let q = counts_page-other n 0 (record { page = b; low = 0; high = 0 }) (λ z. nb (sym z)) in
-            let w = law.met n in let d = elsewhere n na nb in omega arith
-      ]
-    ];
-    bit = λ n. elim (cases_eq n a) [ inl e ↦ let d = ap after e in omega arith | inr na ↦ elim (cases_eq n b) [ inl e ↦ let d = ap after e in omega arith | inr nb ↦ let d = elsewhere n na nb in let k = law.bit n in omega arith ] ];
-    few = λ n big. elsewhere n (λ e. omega arith) (λ e. omega arith) ∙ law.few n big;
-    unmet = λ n free.
-        let na : n ≢ a = λ e. (let d = ap after e in omega arith) in
-        let nb : n ≢ b = λ e. (let d = ap after e in omega arith) in
-        let none : bits n ≡ 0 = sym (elsewhere n na nb) ∙ free in
-        let nr : n ≢ root = λ e. (let x = law.met root in let y = root-of root some le in let d = ap bits e in omega arith) in
-        ap (λ (p : PageState). p.kind) (others n nr na nb) ∙ law.unmet n none;
-  }
+  IsLawful-raise now after at-a at-b elsewhere wide short-root short-a short-b =
+      let few-bits : (n : ℕ) → after n ≤ 1 = λ n. elim (cases_eq n a) [ inl e ↦ let d = ap after e in omega arith | inr na ↦ elim (cases_eq n b) [ inl e ↦ let d = ap after e in omega arith | inr nb ↦ let d = elsewhere n na nb in let k = law.bit n in omega arith ] ] in
+      record {
+        sound = λ n ne. elim (cases_eq n a) [
+          | inl e ↦ subst (λ q. IsSound (now q) (new q)) (sym e) (a-sound (now a) short-a)
+          | inr na ↦ elim (cases_eq n b) [
+            | inl e ↦ subst (λ q. IsSound (now q) (new q)) (sym e) (b-sound (now b) short-b)
+            | inr nb ↦ elim (cases_eq n root) [
+              | inl e ↦ subst (λ q. IsSound (now q) (new q)) (sym e) (root-sound (now root) short-root)
+              | inr nr ↦ subst (IsSound (now n)) (sym (others n nr na nb)) (IsSound-wider (most n) (now n) (m n) (wide n nr na nb) (law.sound n ne))
+            ]
+          ]
+        ];
+        trees = λ r s l. (
+          new-tree r s l,
+          elim (cases_eq r root) [
+            | inl e ↦ let x = ap (height_of new) e in let y = height-raised in omega arith
+            | inr ne ↦ let x = height-other r s l ne in let y = (law.trees r s l).1 in omega arith
+          ],
+        );
+        met = IsPageMap-bits new after roots (λ n. let x = met-now n in elim (cases_eq n a) [
+          | inl e ↦ let p = counts_page-own n 0 (record { page = a; low = 0; high = 0 }) (sym e) in let q = counts_page-other n 0 (record { page = b; low = 0; high = 0 }) (λ z. apart-ab (sym e ∙ sym z)) in
+              let u = clear-unmet most m bits roots law a none-a in let d = ap (times_met m roots) e in let z = bit-none n (λ i. clear-some most m bits roots law a none-a (sym e ∙ i)) in let f = ap after e in omega arith
+          | inr na ↦ elim (cases_eq n b) [
+            | inl e ↦ let p = counts_page-own n 0 (record { page = b; low = 0; high = 0 }) (sym e) in let q = counts_page-other n 0 (record { page = a; low = 0; high = 0 }) (λ z. apart-ab (z ∙ e)) in
+                let u = clear-unmet most m bits roots law b none-b in let d = ap (times_met m roots) e in let z = bit-none n (λ i. clear-some most m bits roots law b none-b (sym e ∙ i)) in let f = ap after e in omega arith
+            | inr nb ↦ let p = counts_page-other n 0 (record { page = a; low = 0; high = 0 }) (λ z. na (sym z)) in let q = counts_page-other n 0 (record { page = b; low = 0; high = 0 }) (λ z. nb (sym z)) in
+                let w = bits-met law n in let d = elsewhere n na nb in omega arith
+          ]
+        ]) few-bits;
+        bit = few-bits;
+        few = λ n big. elsewhere n (λ e. omega arith) (λ e. omega arith) ∙ law.few n big;
+        unmet = λ n free.
+            let na : n ≢ a = λ e. (let d = ap after e in omega arith) in
+            let nb : n ≢ b = λ e. (let d = ap after e in omega arith) in
+            let none : bits n ≡ 0 = sym (elsewhere n na nb) ∙ free in
+            let nr : n ≢ root = λ e. (let x = bits-met law root in let y = root-of root some le in let d = ap bits e in omega arith) in
+            ap (λ (p : PageState). p.kind) (others n nr na nb) ∙ law.unmet n none;
+      }

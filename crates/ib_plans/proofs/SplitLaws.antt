@@ -20,6 +20,7 @@ use Rattle.ib_plans.proofs.LinkLaws.{AreLinked-append, AreLinked-left, first_pag
 use Rattle.ib_plans.proofs.MetLaws.{bit-none, clear-some, clear-unmet, met-apart, met-few, met-some, root-times_met, weight_all-plus, zero-unmet}
 use Rattle.ib_plans.proofs.RecordLaws.{Rises-from, first_rank-above}
 use Rattle.ib_plans.proofs.SplitWalkLaws.{ChildRecord, ChildRecord-of, IsSplit, IsSplitTree, IsSplitTree-split, first-high, first-low, new-records}
+use Rattle.ib_walk.proofs.CountLaws.{bits-met, IsPageMap-bits}
 
 -- what a split writes into the links
 pub record IsRelinked (m new : PageMemory) (child fresh : ℕ) : Type 0 where
@@ -477,26 +478,28 @@ module _ (most : ℕ → ℕ) (m new : PageMemory) (bits : ℕ → ℕ) (roots :
       → ((n : ℕ) → n ≢ parent → n ≢ child → n ≢ fresh → most n ≤ now n)
       → length (new parent).records ≤ now parent → length split.left ≤ now child → length (split.first ∷ split.rest) ≤ now fresh
       → IsLawfulUpTo now new after roots
-  IsLawful-split now after there elsewhere wide short-parent short-child short-fresh = record {
-    sound = λ n ne. elim (cases_eq n fresh) [
-      | inl e ↦ subst (λ q. IsSound (now q) (new q)) (sym e) (fresh-sound (now fresh) short-fresh)
-      | inr nf ↦ elim (cases_eq n child) [
-        | inl e ↦ subst (λ q. IsSound (now q) (new q)) (sym e) (child-sound (now child) short-child)
-        | inr nc ↦ elim (cases_eq n parent) [
-          | inl e ↦ subst (λ q. IsSound (now q) (new q)) (sym e) (parent-sound (now parent) short-parent)
-          | inr np ↦ rest-sound (now n) n ne np nc nf (wide n np nc nf)
-        ]
-      ]
-    ];
-    trees = λ r s l. (new-tree r s l, let e = height-kept r s l in let b = (law.trees r s l).1 in omega arith);
-    met = λ n. elim (cases_eq n fresh) [
-      | inl e ↦ subst (λ q. after q ≡ times_met new roots q + cond (eqb q 0) 1 0) (sym e)
-          (let a = met-now fresh in let b = counts_page-own fresh 0 right-child refl in let c = no-fresh in
-          let z = bit-none fresh (clear-some most m bits roots law fresh none) in omega arith)
-      | inr nf ↦ let a = met-now n in let b = counts_page-other n 0 right-child (λ e. nf (sym e)) in let c = law.met n in let d = elsewhere n nf in omega arith
-    ];
-    bit = λ n. elim (cases_eq n fresh) [ inl e ↦ let d = ap after e in omega arith | inr nf ↦ let d = elsewhere n nf in let b = law.bit n in omega arith ];
-    few = λ n big. elsewhere n (λ e. omega arith) ∙ law.few n big;
-    unmet = λ n free. let nf : n ≢ fresh = λ e. (let d = ap after e in omega arith) in
-        kind-kept n nf ∙ law.unmet n (sym (elsewhere n nf) ∙ free);
-  }
+  IsLawful-split now after there elsewhere wide short-parent short-child short-fresh =
+      let few-bits : (n : ℕ) → after n ≤ 1 = λ n. elim (cases_eq n fresh) [ inl e ↦ let d = ap after e in omega arith | inr nf ↦ let d = elsewhere n nf in let b = law.bit n in omega arith ] in
+      record {
+        sound = λ n ne. elim (cases_eq n fresh) [
+          | inl e ↦ subst (λ q. IsSound (now q) (new q)) (sym e) (fresh-sound (now fresh) short-fresh)
+          | inr nf ↦ elim (cases_eq n child) [
+            | inl e ↦ subst (λ q. IsSound (now q) (new q)) (sym e) (child-sound (now child) short-child)
+            | inr nc ↦ elim (cases_eq n parent) [
+              | inl e ↦ subst (λ q. IsSound (now q) (new q)) (sym e) (parent-sound (now parent) short-parent)
+              | inr np ↦ rest-sound (now n) n ne np nc nf (wide n np nc nf)
+            ]
+          ]
+        ];
+        trees = λ r s l. (new-tree r s l, let e = height-kept r s l in let b = (law.trees r s l).1 in omega arith);
+        met = IsPageMap-bits new after roots (λ n. elim (cases_eq n fresh) [
+          | inl e ↦ subst (λ q. after q ≡ times_met new roots q + cond (eqb q 0) 1 0) (sym e)
+              (let a = met-now fresh in let b = counts_page-own fresh 0 right-child refl in let c = no-fresh in
+              let z = bit-none fresh (clear-some most m bits roots law fresh none) in omega arith)
+          | inr nf ↦ let a = met-now n in let b = counts_page-other n 0 right-child (λ e. nf (sym e)) in let c = bits-met law n in let d = elsewhere n nf in omega arith
+        ]) few-bits;
+        bit = few-bits;
+        few = λ n big. elsewhere n (λ e. omega arith) ∙ law.few n big;
+        unmet = λ n free. let nf : n ≢ fresh = λ e. (let d = ap after e in omega arith) in
+            kind-kept n nf ∙ law.unmet n (sym (elsewhere n nf) ∙ free);
+      }

@@ -3,6 +3,9 @@ pub mod Moves
 pub mod Split
 pub mod Insert
 pub mod Merge
+pub mod Changed
+pub mod Deleted
+pub mod Inserted
 pub mod Delete
 pub mod Leads
 pub mod Agreement

@@ -28,7 +28,8 @@ use Rattle.ib_plans.specs.Marks.{ticked}
 use Rattle.ib_plans.proofs.MetLaws.{root-times_met}
 use Rattle.ib_tree.specs.Logs.{pages_after}
 use Rattle.ib_tree.specs.TreeLog.{opening}
-use Rattle.ib_planned_log.specs.Kept.{IsKeptLog, IsPlannedEntry, Planned, planned}
+use Rattle.ib_planned_log.specs.Kept.{IsKeptLog, IsPlannedEntry, Planned, plan_of}
+use Rattle.ib_walk.proofs.CountLaws.{bits-met}
 
 -- two logs have the same history, and lead to the same pages and bits
 pub record SaySame (pages : ℕ) (xs ys : List Entry) : Type 0 where
@@ -50,7 +51,7 @@ root-taken pages words lawful true is = is
 root-taken pages words lawful false is =
     let law = lawful.law in
     let clear : bits_of pages words 1 ≡ 0 = ap (λ (b : Bool). cond {A = ℕ} (ltb 1 pages) (cond {A = ℕ} b 1 0) 0) is ∙ cond-both (ltb 1 pages) 0 in
-    let met = law.met 1 in
+    let met = bits-met law 1 in
     let some = root-times_met (λ n. MOST_RECORDS) (pages_of words) (bits_of pages words) 1 law 1 (omega arith) (omega arith) in
     absurd (omega arith)
 
@@ -71,12 +72,12 @@ module _ (pages : ℕ) (xs ys : List Entry) (e f : Entry) (same : SaySame pages 
   bits log = bits_of pages (memory_after start log)
 
   abbrev plan : List Entry → Entry → Planned
-  plan log entry = planned 1 (before log) (bits log) pages entry.change
+  plan log entry = plan_of 1 (before log) (bits log) pages entry.change
 
   plan-same : plan xs e ≡ plan ys f
   plan-same =
-      ap (λ (m : PageMemory). planned 1 m (bits xs) pages e.change) same.pages_are ∙ (ap (λ (b : ℕ → ℕ). planned 1 (before ys) b pages e.change) same.bits_are
-      ∙ ap (λ (l : LoggedChange). planned 1 (before ys) (bits ys) pages l.change) is)
+      ap (λ (m : PageMemory). plan_of 1 m (bits xs) pages e.change) same.pages_are ∙ (ap (λ (b : ℕ → ℕ). plan_of 1 (before ys) b pages e.change) same.bits_are
+      ∙ ap (λ (l : LoggedChange). plan_of 1 (before ys) (bits ys) pages l.change) is)
 
   module _ (p : IsPlannedEntry pages start xs e) (q : IsPlannedEntry pages start ys f) (lawful : IsLawfulMemory pages 1 (memory_after start (xs ++ e ∷ [])))
       (also : IsLawfulMemory pages 1 (memory_after start (ys ++ f ∷ []))) where

@@ -21,6 +21,7 @@ use Rattle.ib_scan.specs.Walked.{ReadLeaf, first_read, ArePassed, leaf_grants}
 use Rattle.ib_scan.specs.Leaves.{IsBehind, leaf_pages}
 use Rattle.ib_scan.specs.Steps.{AreApart}
 use Rattle.ib_scan.proofs.KeyLaws.{rises_below}
+use Rattle.ib_walk.proofs.CountLaws.{bits-met}
 
 -- a leaf is met once, and is a page of the space but not page 0
 pub record AreMetOnce (pages : ℕ) (m : PageMemory) (root : ℕ) : Type 0 where
@@ -34,9 +35,9 @@ met_once pages m bits roots root law some le within =
     let a = lowest-le_weight (counts_page n) m (height_of m root) (top_of root) in
     let b = weight_of-le (counts_page n) m root roots some le in omega arith in
     record {
-      once = λ n. let a = most n in let b = law.met n in let c = law.bit n in omega arith;
-      none = let a = most 0 in let b = law.met 0 in let c = law.bit 0 in omega arith;
-      inside = λ n lt. within n (let a = most n in let b = law.met n in omega arith);
+      once = λ n. let a = most n in let b = bits-met law n in let c = law.bit n in omega arith;
+      none = let a = most 0 in let b = bits-met law 0 in let c = law.bit 0 in omega arith;
+      inside = λ n lt. within n (let a = most n in let b = bits-met law n in omega arith);
     }
 
 abbrev pub grant_at : Visit → Grant

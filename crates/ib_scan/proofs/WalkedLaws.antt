@@ -27,6 +27,7 @@ use Rattle.ib_scan.specs.Walked.{ReadLeaf, first_read, EndsBy, IsReadOf, IsWalke
 use Rattle.ib_scan.proofs.ChunkLaws.{chunk_leaf, chunk_read, some_chunk}
 use Rattle.ib_scan.proofs.KeyLaws.{last_between}
 use Rattle.ib_scan.proofs.LatchingLaws.{AreMetOnce, met_once, Stands, IsSameLeaf, stands_at, stands_behind, stands_kind, stands_leaf}
+use Rattle.ib_walk.proofs.CountLaws.{weight-met, met-weight}
 
 -- entries write no word of the page
 abbrev pub AreCalm : List Entry → ℕ → Type 0
@@ -71,7 +72,7 @@ module _ (pages roots : ℕ) (lawful : List Entry → Type 0) (opening : ℕ →
 
     module _ (start : MapKey) (ps : List ReadLeaf) (last : ReadLeaf) (w : IsWalked roots opening log root start ps last) where
       pub walked_stands : Stands tree_at_log root start ps last.page
-      walked_stands = stands_at tree_at_log root (tree_is w.met.0 w.met.1) start (IsReadOf opening log) same-leaf ps last w.low w.high w.met.2 w.le w.passed w.images
+      walked_stands = stands_at tree_at_log root (tree_is w.met.0 w.met.1) start (IsReadOf opening log) same-leaf ps last w.low w.high (weight-met w.met.2) w.le w.passed w.images
 
       walked-kind : (tree_at_log last.page).kind ≡ Tree
       walked-kind = stands_kind tree_at_log root (tree_is w.met.0 w.met.1) start ps last.page walked_stands
@@ -120,7 +121,8 @@ module _ (pages roots : ℕ) (lawful : List Entry → Type 0) (opening : ℕ →
             met = (
               w.met.0,
               w.met.1,
-              subst (λ k. 0 < weight_of (counts_visit 0 (record { page = k; low = s.visit.low; high = s.visit.high })) tree_at_log root) s.here (let c = counts in omega arith),
+              met-weight tree_at_log root 0 (record { page = last.page; low = s.visit.low; high = s.visit.high })
+                  (subst (λ k. 0 < weight_of (counts_visit 0 (record { page = k; low = s.visit.low; high = s.visit.high })) tree_at_log root) s.here (let c = counts in omega arith)),
             );
             le = omega arith;
           }
@@ -137,6 +139,11 @@ module _ (pages roots : ℕ) (lawful : List Entry → Type 0) (opening : ℕ →
           passed = tt;
           low = met.visit.low;
           high = met.visit.high;
-          met = (some, le, subst (λ k. 0 < weight_of (counts_visit 0 (record { page = k; low = met.visit.low; high = met.visit.high })) tree_at_log root) met.here met.met);
+          met = (
+            some,
+            le,
+            met-weight tree_at_log root 0 (record { page = leaf; low = met.visit.low; high = met.visit.high })
+                (subst (λ k. 0 < weight_of (counts_visit 0 (record { page = k; low = met.visit.low; high = met.visit.high })) tree_at_log root) met.here met.met),
+          );
           le = met.low;
         }

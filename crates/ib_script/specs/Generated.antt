@@ -24,7 +24,7 @@ key_of load session at = key_of_bytes (to_be_bytes w64 (number_of load session a
 abbrev pub call_back : ℕ → MapKey → Call
 call_back at key = if at % 4 == 3 then Get key else Delete key
 
--- a session's command: the first half put keys in, and the second half comes back to them in the same order
+-- a session's command: the first half put keys in, and the second half comes back to them in the same order. Where the share is odd, the last call comes to a key that was not put in
 abbrev pub call_at : Load → ℕ → ℕ → Call
 call_at load session at =
     let half = share_of load session / 2 in

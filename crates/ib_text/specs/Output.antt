@@ -83,12 +83,6 @@ sessions_from_by t session (rs ∷ runs) = session_text_by t session rs ++ sessi
 abbrev pub chunk_telling : Telling
 chunk_telling = record { line = record_line; span = span_text }
 
-abbrev pub record_text : FullRecord → List ℕ
-record_text = record_text_by chunk_telling
-
-abbrev pub session_text : ℕ → List FullRecord → List ℕ
-session_text = session_text_by chunk_telling
-
 abbrev pub sessions_from : ℕ → Runs → List ℕ
 sessions_from = sessions_from_by chunk_telling
 

@@ -22,6 +22,7 @@ use Rattle.ib_validate.proofs.ChildLaws.{drop-slice_get}
 use Rattle.ib_validate.proofs.PassLaws.{image_bits-past}
 use Rattle.ib_tree.specs.Roots.{HasRoot}
 use Rattle.ib_tree.proofs.WholeTestLaws.{lawful-positions}
+use Rattle.ib_walk.proofs.CountLaws.{bits-met}
 
 -- a key above all keys goes behind them
 pub put-last : (xs : Pairs) (x : MapKey × ℕ) (ys : Pairs) → Rises 0 (xs ++ x ∷ ys) end_rank → put x.0 x.1 xs ≡ xs ++ x ∷ []
@@ -134,7 +135,7 @@ module _ (images : List (List ℕ)) (root : ℕ) (has : HasRoot images root) whe
   met-inside : (page : ℕ) → 0 < weight_of (counts_page page) (memory_of images) root → IsInside page
   met-inside page lt =
       let times = weight_of-le (counts_page page) (memory_of images) root has.roots has.some has.within in
-      let met = has.lawful.law.met page in
+      let met = bits-met has.lawful.law page in
       let bit = has.lawful.law.bit page in
       record {
         low = elim (cases_eq page 0) [

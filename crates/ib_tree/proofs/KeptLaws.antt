@@ -14,6 +14,7 @@ use Rattle.ib_tree.proofs.PatchLaws.{counts_visit-own, counts_visit-same, weight
 use Rattle.ib_tree.proofs.PatchedLaws.{AreKept, written-cases}
 use Rattle.ib_tree.proofs.WeightLaws.{over-written_below, weight_along-le, weight_along-same}
 use Rattle.ib_tree.proofs.WholeLaws.{counts_visit-le_page}
+use Rattle.ib_walk.proofs.CountLaws.{bits-met, weight-met, met-weight}
 
 -- the list without a visit that it has
 record Without (s : LevelVisit) (ss : List LevelVisit) : Type 0 where
@@ -69,12 +70,15 @@ pub counts_visit-once : (m : PageMemory) (bits : ℕ → ℕ) (roots : ℕ) → 
 counts_visit-once m bits roots law root some le h v =
     let a = weight_along-le (counts_visit h v) (counts_page v.page) m (height_of m root) (top_of root) (counts_visit-le_page h v) in
     let b = weight_of-le (counts_page v.page) m root roots some le in
-    let c = law.met v.page in
+    let c = bits-met law v.page in
     let d = law.bit v.page in omega arith
 
 module _ (written : ℕ → Bool) (m new : PageMemory) (roots : ℕ) where
   pub AreKept-ranges : AreKept written m new roots → KeepRanges written m new roots
-  AreKept-ranges kept page r un = (λ has. (has.0, has.1, let a = same has.0 has.1 in let b = has.2 in omega arith), λ has. (has.0, has.1, let a = same has.0 has.1 in let b = has.2 in omega arith))
+  AreKept-ranges kept page r un = (
+    λ has. (has.0, has.1, met-weight m r.root r.level (visit_with page r) (let a = same has.0 has.1 in let b = weight-met has.2 in omega arith)),
+    λ has. (has.0, has.1, met-weight new r.root r.level (visit_with page r) (let a = same has.0 has.1 in let b = weight-met has.2 in omega arith)),
+  )
     where
       same : 0 < r.root → r.root ≤ roots → weight_of (counts_visit r.level (visit_with page r)) new r.root ≡ weight_of (counts_visit r.level (visit_with page r)) m r.root
       same some le =
@@ -90,9 +94,9 @@ module _ (written : ℕ → Bool) (m new : PageMemory) (roots : ℕ) where
       let a = counts_visit-once m bits roots law root some le h v in
       let b = counts_visit-once new after roots new-law root some le h v in
       elim (cases_lt 0 (weight_of (counts_visit h v) new root)) [
-        | inl pos ↦ let c = iff.0 (some, le, pos) in let d = c.2 in omega arith
+        | inl pos ↦ let c = iff.0 (some, le, met-weight new root h v pos) in let d = weight-met c.2 in omega arith
         | inr none ↦ elim (cases_lt 0 (weight_of (counts_visit h v) m root)) [
-          | inl pos ↦ let c = iff.1 (some, le, pos) in let d = c.2 in omega arith
+          | inl pos ↦ let c = iff.1 (some, le, met-weight m root h v pos) in let d = weight-met c.2 in omega arith
           | inr neither ↦ omega arith
         ]
       ])

@@ -18,6 +18,7 @@ use Rattle.ib_tree.proofs.PositionLaws.{Stands-counted, counted-Stands}
 use Rattle.ib_tree.proofs.RootLaws.{set_roots-cases}
 use Rattle.ib_tree.proofs.SoundLaws.{AllByRecursion-fresh_of, IsBalanced-visited, IsGoodAt-visited, height-visited, levels-visited, over-fresh_of, positions_over-off_written, positions_over-split, unwritten-stands, written-listed, written-visited}
 use Rattle.ib_tree.proofs.VisitedLaws.{Moved}
+use Rattle.ib_walk.proofs.CountLaws.{bits-met}
 
 pub IsTiled-same_low : (low : ℕ) (vs : List Visit) (high : ℕ) → IsTiled low vs high → AllByRecursion HasWidth vs → (u v : Visit) → IsAmong u vs → IsAmong v vs → u.low ≡ v.low → u ≡ v
 IsTiled-same_low low [] high t r u v hu hv e = absurd hu
@@ -308,11 +309,11 @@ module _ (written : ℕ → Bool) (m new : PageMemory) (same : (p : ℕ) → wri
         back = all_back-reached written m new same bits roots law n few old kept ps listed good bits-after new-law stay good-so run.0 run.2;
         linked = linked-by;
         sound = λ p ne w. new-law.sound p ne;
-        taken = λ p w. new-law.met p ∙ ap (λ k. k + cond (eqb p 0) 1 0) (met-is p w);
+        taken = λ p w. bits-met new-law p ∙ ap (λ k. k + cond (eqb p 0) 1 0) (met-is p w);
         once = λ p w. new-law.bit p;
         few = λ p big w. new-law.few p big;
         freed = λ p w z. new-law.unmet p z;
-        others = λ p w. new-law.met p ∙ (ap (λ k. k + cond (eqb p 0) 1 0) (unwritten p w roots (omega arith)) ∙ sym (law.met p));
+        others = λ p w. bits-met new-law p ∙ (ap (λ k. k + cond (eqb p 0) 1 0) (unwritten p w roots (omega arith)) ∙ sym (bits-met law p));
       },
     )
       where

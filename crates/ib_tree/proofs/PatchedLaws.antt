@@ -15,6 +15,7 @@ use Rattle.ib_walk.proofs.TreeLaws.{most_height-le, AreNodes-above}
 use Rattle.ib_walk.proofs.WalkLaws.{IsAlike-same, IsLeafAt-same, IsNodeAt-same}
 use Rattle.ib_tree.proofs.PatchLaws.{AllByRecursion-over, AreLinked-neighbours, AreNeighbours-linked, HasWidth, HasWidth-below, IsAmong, IsAmong-counted, IsGoodAt-tree, IsTree-good, counted-IsAmong, end_rank-some, counts_visit-height, counts_visit-other, counts_visit-same, next-last, over-holds, over-other, prev-first, weight_along-lowest, weight_along-off_other, weight_along-off_written}
 use Rattle.ib_tree.proofs.WeightLaws.{IsBalanced-kept, over-written_below, weight_along-same, weight_along-split, weight_along-zero, weight_of-patched}
+use Rattle.ib_walk.proofs.CountLaws.{bits-met, IsPageMap-bits}
 
 pub IsGoodAt-same : (m new : PageMemory) (h : ℕ) (v : Visit) → new v.page ≡ m v.page → IsGoodAt m h v → IsGoodAt new h v
 IsGoodAt-same m new zero v e g = IsLeafAt-same m new v (IsAlike-same (new v.page) (m v.page) e) g
@@ -230,16 +231,18 @@ module _ (written : ℕ → Bool) (m new : PageMemory) (bits bits-after : ℕ �
     AreKept-patched r s l = AreKept-after written m new same r (law.trees r s l).0 (low-of r s l) (fresh r) (p.trees r s l).0.grounded (low-then r s l)
 
     pub IsLawful-patched : IsLawful new bits-after roots
-    IsLawful-patched = record {
-      sound = λ n ne. written-cases written n (IsSound MOST_RECORDS (new n)) (λ w. p.sound n ne w) (λ w. subst (IsSound MOST_RECORDS) (sym (same n w)) (law.sound n ne));
-      trees = λ r s l. (IsTreeOf-after written m new same r (law.trees r s l).0 (low-of r s l) (fresh r) (p.trees r s l).0.grounded (low-then r s l) (p.trees r s l).0.linked, (p.trees r s l).1);
-      met = λ n. written-cases written n (bits-after n ≡ times_met new roots n + cond (eqb n 0) 1 0)
-          (λ w. let a = met-written n w in p.taken n w ∙ ap (λ k. k + cond (eqb n 0) 1 0) (sym a))
-          (λ w. let a = met-other n w in p.others n w ∙ (law.met n ∙ ap (λ k. k + cond (eqb n 0) 1 0) (sym a)));
-      bit = λ n. written-cases written n (bits-after n ≤ 1) (p.once n) (λ w. let a = p.others n w in let b = law.bit n in omega arith);
-      few = λ n big. written-cases written n (bits-after n ≡ 0) (p.few n big) (λ w. p.others n w ∙ law.few n big);
-      unmet = λ n z. written-cases written n ((new n).kind ≡ Free) (λ w. p.freed n w z) (λ w. ap (λ (q : PageState). q.kind) (same n w) ∙ law.unmet n (sym (p.others n w) ∙ z));
-    }
+    IsLawful-patched =
+        let few-bits : (n : ℕ) → bits-after n ≤ 1 = λ n. written-cases written n (bits-after n ≤ 1) (p.once n) (λ w. let a = p.others n w in let b = law.bit n in omega arith) in
+        record {
+          sound = λ n ne. written-cases written n (IsSound MOST_RECORDS (new n)) (λ w. p.sound n ne w) (λ w. subst (IsSound MOST_RECORDS) (sym (same n w)) (law.sound n ne));
+          trees = λ r s l. (IsTreeOf-after written m new same r (law.trees r s l).0 (low-of r s l) (fresh r) (p.trees r s l).0.grounded (low-then r s l) (p.trees r s l).0.linked, (p.trees r s l).1);
+          met = IsPageMap-bits new bits-after roots (λ n. written-cases written n (bits-after n ≡ times_met new roots n + cond (eqb n 0) 1 0)
+              (λ w. let a = met-written n w in p.taken n w ∙ ap (λ k. k + cond (eqb n 0) 1 0) (sym a))
+              (λ w. let a = met-other n w in p.others n w ∙ (bits-met law n ∙ ap (λ k. k + cond (eqb n 0) 1 0) (sym a)))) few-bits;
+          bit = few-bits;
+          few = λ n big. written-cases written n (bits-after n ≡ 0) (p.few n big) (λ w. p.others n w ∙ law.few n big);
+          unmet = λ n z. written-cases written n ((new n).kind ≡ Free) (λ w. p.freed n w z) (λ w. ap (λ (q : PageState). q.kind) (same n w) ∙ law.unmet n (sym (p.others n w) ∙ z));
+        }
 
   -- a lawful memory in which all other pages keep range and level passes the test
   module _ (new-law : IsLawful new bits-after roots) (kept : AreKept written m new roots) where
@@ -254,10 +257,10 @@ module _ (written : ℕ → Bool) (m new : PageMemory) (bits bits-after : ℕ �
     IsPatched-lawful = record {
       trees = λ r s l. (IsPatch-lawful written m new same r (law.trees r s l).0 (low-of r s l) (new-law.trees r s l).0 (low-now r s l) (kept r s l), (new-law.trees r s l).1);
       sound = λ n ne w. new-law.sound n ne;
-      taken = λ n w. let a = times_met-fresh written new (old_visits written new) roots n (λ r s l. over-is r n s l w) in new-law.met n ∙ ap (λ k. k + cond (eqb n 0) 1 0) a;
+      taken = λ n w. let a = times_met-fresh written new (old_visits written new) roots n (λ r s l. over-is r n s l w) in bits-met new-law n ∙ ap (λ k. k + cond (eqb n 0) 1 0) a;
       once = λ n w. new-law.bit n;
       few = λ n big w. new-law.few n big;
       freed = λ n w z. new-law.unmet n z;
       others = λ n w. let a = times_met-kept m new roots n (λ r s l. sym (weight_of-off_other written new r n w) ∙ (kept r s l (counts_page n) ∙ weight_of-off_other written m r n w)) in
-          new-law.met n ∙ (ap (λ k. k + cond (eqb n 0) 1 0) a ∙ sym (law.met n));
+          bits-met new-law n ∙ (ap (λ k. k + cond (eqb n 0) 1 0) a ∙ sym (bits-met law n));
     }

@@ -24,6 +24,7 @@ use Rattle.ib_tree.proofs.RootPositionLaws.{IsKeptBeside-opening}
 use Rattle.ib_tree.proofs.PatchLaws.{counts_visit-other, counts_visit-own}
 use Rattle.ib_tree.proofs.PatchTheorem.{test-complete, test-sound}
 use Rattle.ib_tree.proofs.WeightLaws.{weight_along-le}
+use Rattle.ib_walk.proofs.CountLaws.{bits-met}
 
 sum-none : (f : Visit → ℕ) (h : ℕ) (vs : List Visit) → ((v : Visit) → 0 < sum_of (counts_visit h v h) vs → f v ≡ 0) → sum_of f vs ≡ 0
 sum-none f h [] e = refl
@@ -62,7 +63,7 @@ weight_of-beyond m bits roots n law end root s l f =
     weight_along-none (off_written (is_below n) f) m (height_of m root) (top_of root) (λ k v pos.
     let a = weight_along-le (counts_visit k v) (counts_page v.page) m (height_of m root) (top_of root) (counts_visit-le_page k v) in
     let b = weight_of-le (counts_page v.page) m root roots s l in
-    let c = law.met v.page in
+    let c = bits-met law v.page in
     elim (cases_lt v.page n) [
       | inl lt ↦ let t = lt-ltb v.page n lt in rw t refl
       | inr ge ↦ absurd (let d = end v.page ge in omega arith)

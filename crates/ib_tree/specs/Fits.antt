@@ -40,7 +40,7 @@ is_refused _ = false
 abbrev pub entry_room : ℕ
 entry_room = HEAD_WORDS + 2 * MOST_WRITES + 1
 
--- the log has less left behind the entries before the place
+-- the log has less left behind the entries before the place than an append asks for
 pub record IsLogFull (space : TreeSpace) (log : List Entry) (place words cap : ℕ) : Type 0 where
   pub words_are : words ≡ used (take place log)
   pub cap_is : cap ≡ space.log_words

@@ -6,8 +6,8 @@ use Rattle.ib_logrec.specs.declared.entry.Entry.{Entry}
 use Rattle.ib_logrec.specs.Law.{AreInGrammar, PageRange}
 use Rattle.ib_logrec.specs.Log.{memory_after, history_of, map_of}
 use Rattle.ib_walk.specs.Pages.{PageMemory}
-use Rattle.ib_walk.specs.Walk.{Visit, counts_visit}
-use Rattle.ib_walk.specs.Trees.{weight_of, content_of}
+use Rattle.ib_walk.specs.Walk.{Visit}
+use Rattle.ib_walk.specs.Trees.{content_of, IsMetAt}
 use Rattle.ib_walk.specs.Words.{pages_of, IsLawfulMemory}
 
 -- the visit that a range says of a page
@@ -16,7 +16,7 @@ visit_with page r = record { page = page; low = r.low; high = r.end }
 
 -- the walk of one of the trees meets the page just there: under its root, at its level, with its range
 abbrev pub HasRange : ℕ → PageMemory → ℕ → PageRange → Type 0
-HasRange roots memory page r = (0 < r.root) × (r.root ≤ roots) × (0 < weight_of (counts_visit r.level (visit_with page r)) memory r.root)
+HasRange roots memory page r = (0 < r.root) × (r.root ≤ roots) × IsMetAt memory r.root r.level (visit_with page r)
 
 -- the pages after the entries
 abbrev pub pages_after : (ℕ → ℕ) → List Entry → PageMemory

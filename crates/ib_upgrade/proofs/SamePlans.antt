@@ -18,7 +18,7 @@ use Rattle.ib_plans.specs.Marks.{ticked}
 use Rattle.ib_plans.proofs.MetLaws.{met-set, root-met}
 use Rattle.ib_tree.specs.TreeLog.{opening}
 use Rattle.ib_tree.proofs.LogLaws.{last-entry}
-use Rattle.ib_planned_log.specs.Kept.{IsKeptLog, planned}
+use Rattle.ib_planned_log.specs.Kept.{IsKeptLog, plan_of}
 use Rattle.ib_planned_log.specs.KeptLog.{IsKeptLog-front}
 use Rattle.ib_planned_log.specs.LeafChange.{kept_pages}
 use Rattle.ib_planned_log.proofs.PushLaws.{lawful-before}
@@ -66,7 +66,7 @@ module _ (pages : ℕ) (fits : has_pages pages ≡ true) where
 
   -- what a change is planned to leave
   abbrev then : PageMemory → (ℕ → ℕ) → Change → ℕ → PageState
-  then m bits change n = let p = planned 1 m bits pages change in ticked m p.touched p.memory n
+  then m bits change n = let p = plan_of 1 m bits pages change in ticked m p.touched p.memory n
 
   same-push : (f g : List Entry) (e d : Entry) → IsKeptLog pages (f ++ e ∷ []) → IsKeptLog pages (g ++ d ∷ []) → e.change ≡ d.change → AreSame f g → AreSame (f ++ e ∷ []) (g ++ d ∷ [])
   same-push f g e d one two change same =
@@ -81,7 +81,7 @@ module _ (pages : ℕ) (fits : has_pages pages ≡ true) where
       ] in
       let bit : (n : ℕ) → bits-after (f ++ e ∷ []) n ≡ bits-after (g ++ d ∷ []) n = λ n.
       p.step.bits_are n
-      ∙ ((λ i. (planned 1 (same.pages_are i) (same.bits_are i) pages (change i)).bits n)
+      ∙ ((λ i. (plan_of 1 (same.pages_are i) (same.bits_are i) pages (change i)).bits n)
       ∙ sym (q.step.bits_are n)) in
       record { pages_are = λ i n. page n i; bits_are = λ i n. bit n i }
 

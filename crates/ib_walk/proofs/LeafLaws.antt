@@ -14,6 +14,7 @@ use Rattle.ib_walk.proofs.WalkLaws.{AllByRecursion-left, AllByRecursion-right, A
 use Rattle.ib_walk.proofs.MeetLaws.{sum_of-own, lowest-le_weight, AllByRecursion-other, AllByRecursion-met, IsSameTree-met, AreLinked-same, HasLinks}
 use Rattle.ib_walk.proofs.SearchLaws.{above-zero, Rises-records_along, AllByRecursion-at, upper-nodes, upper-lowest, upper-weight, IsTiled-left, IsTiled-right}
 use Rattle.ib_walk.proofs.TreeLaws.{weight_of-le, weight_of-two_le, weight_all-same, IsPageFor-leaf, IsTiled-leaves, times_met-le, AreNodes-above}
+use Rattle.ib_walk.proofs.CountLaws.{IsPageMap-bits, bits-met}
 
 -- the records of the key's leaf give way to others that fit every range that has the key and those before
 pub record IsLeafEdit (m new : PageMemory) (key : MapKey) (page : ℕ) : Type 0 where
@@ -181,12 +182,12 @@ module _ (most : ℕ → ℕ) (m new : PageMemory) (bits : ℕ → ℕ) (roots :
     ];
     trees = λ r s l. let e = height_of-edit r in
         (subst (λ h. IsTreeOf new h r) (sym e) (new-tree r s l), let b = (law.trees r s l).1 in omega arith);
-    met = λ n. let e = law.met n in let s = weight_all-same (counts_page n) m new roots (λ r a b. weight_of-edit (counts_page n) r a b) in omega arith;
+    met = IsPageMap-bits new bits roots (λ n. let e = bits-met law n in let s = weight_all-same (counts_page n) m new roots (λ r a b. weight_of-edit (counts_page n) r a b) in omega arith) law.bit;
     bit = law.bit;
     few = law.few;
     unmet = λ n none. let ne : n ≢ leaf_for m key root = λ e.
         (let a = weight_of-le (counts_page (leaf_for m key root)) m root roots some le in
-        let b = law.met (leaf_for m key root) in
+        let b = bits-met law (leaf_for m key root) in
         let c = leaf_for-met in
         let d = ap bits e in omega arith) in
         ap (λ p. p.kind) (edit.other n ne) ∙ law.unmet n none;

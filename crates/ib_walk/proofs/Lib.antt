@@ -1,5 +1,6 @@
 pub mod ChoiceLaws
 pub mod WalkLaws
+pub mod CountLaws
 pub mod MeetLaws
 pub mod SearchLaws
 pub mod TreeLaws

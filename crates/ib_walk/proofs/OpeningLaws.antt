@@ -8,6 +8,7 @@ use Rattle.ib_page.specs.declared.space.TheConstants.{MAPPED_PAGES}
 use Rattle.ib_walk.specs.Pages.{PageState, PageMemory, IsSound}
 use Rattle.ib_walk.specs.Walk.{Visit, counts_page, weight_along, records_along, below}
 use Rattle.ib_walk.specs.Trees.{top_of, height_of, content_of, weight_of, weight_all, IsTreeOf, IsLawful, opening_pages, opening_bits, empty_leaf, free_page}
+use Rattle.ib_walk.proofs.CountLaws.{IsPageMap-bits}
 
 -- pages that are those of a new space but for page 0, which no walk meets
 module _ (roots : ℕ) (few : roots < MAPPED_PAGES) (m : PageMemory) (same : (n : ℕ) → n ≢ 0 → m n ≡ opening_pages roots n) where
@@ -56,10 +57,10 @@ module _ (roots : ℕ) (few : roots < MAPPED_PAGES) (m : PageMemory) (same : (n 
       | inr le ↦ subst (IsSound MOST_RECORDS) (sym (is_root n ne le)) leaf-sound
     ];
     trees = λ r some le. (open-tree r (λ e. omega arith) le, let e = ap (λ p. p.level) (is_root r (λ e. omega arith) le) in grind (arith, nat_tests));
-    met = λ n. elim (cases_lt roots n) [
+    met = IsPageMap-bits m (opening_bits roots) roots (λ n. elim (cases_lt roots n) [
       | inl lt ↦ let e = lt-ltb roots n lt in let w = no-weight n roots (omega arith) lt in grind (arith, nat_tests)
       | inr le ↦ let e = le-ltb roots n le in let w = all-weight n roots (omega arith) le in grind (arith, nat_tests)
-    ];
+    ]) (λ n. grind (arith, nat_tests));
     bit = λ n. grind (arith, nat_tests);
     few = λ n big. let e = lt-ltb roots n (omega arith) in rw e refl;
     unmet = λ n none. elim (cases_lt roots n) [

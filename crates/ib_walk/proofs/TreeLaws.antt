@@ -9,6 +9,7 @@ use Rattle.ib_walk.specs.Walk.{Visit, AreNodes, IsTiled}
 use Rattle.ib_walk.specs.Trees.{top_of, height_of, leaves_of, content_of, weight_of, weight_all, times_met, most_height, IsTreeOf, IsLawfulUpTo}
 use Rattle.ib_walk.specs.Search.{leaf_for, IsPageFor}
 use Rattle.ib_walk.proofs.SearchLaws.{above, above-zero, IsPageFor-below, IsTiled-below, value_at-records_along, Rises-records_along}
+use Rattle.ib_walk.proofs.CountLaws.{bits-met}
 
 pub weight_of-le : (f : ℕ → Visit → ℕ) (m : PageMemory) (root roots : ℕ) → 0 < root → root ≤ roots → weight_of f m root ≤ weight_all f m roots
 weight_of-le f m root zero some le = absurd (omega arith)
@@ -70,7 +71,7 @@ value_at-content_of m key root lt t =
 
 -- a page is met at most once
 pub times_met-le : (most : ℕ → ℕ) (m : PageMemory) (bits : ℕ → ℕ) (roots : ℕ) (n : ℕ) → IsLawfulUpTo most m bits roots → times_met m roots n ≤ 1
-times_met-le most m bits roots n law = let e = law.met n in let b = law.bit n in omega arith
+times_met-le most m bits roots n law = let e = bits-met law n in let b = law.bit n in omega arith
 
 -- no root may be higher than the highest page
 pub most_height-le : (roots : ℕ) → most_height roots ≤ MOST_LEVEL

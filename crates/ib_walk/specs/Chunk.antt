@@ -26,7 +26,7 @@ abbrev pub EndsAt : Pairs → List Visit → MapKey → MapKey → Type 0
 EndsAt records [] high end = end ≡ high
 EndsAt records (next ∷ back) high end = (last : MapKey) × IsLastKey records last × ((rank high ≤ rank last) × (end ≡ high) ⊎ (rank last < rank high) × (end ≡ last))
 
--- a chunk that a scan up to `high` reads from `start` on, none below `high`: its end, and all that the tree has up to there
+-- a chunk that a scan up to `high` reads from `start` on: its end, and all that the tree has up to there
 pub record IsChunk (memory : PageMemory) (root : ℕ) (start high end : MapKey) (pairs : Pairs) : Type 0 where
   pub front : List Visit
   pub leaf : Visit

@@ -1,11 +1,12 @@
 -- Lawful memories, for trees with the roots 1 to `roots`.
-use Rattle.std.specs.Prelude.{◌≡◌, ◌≢◌, ℕ, zero, suc, ◌+◌, ◌<◌, ◌≤◌, List, [], ◌∷◌, ◌==◌, nat_lt, if◌then◌else◌}
+use Rattle.std.specs.Prelude.{◌≡◌, ◌≢◌, ◌↔◌, ℕ, zero, suc, ◌+◌, ◌<◌, ◌≤◌, List, [], ◌∷◌, ◌++◌, map, ◌==◌, nat_lt, if◌then◌else◌}
+use Rattle.std.specs.List.{Contains, IsDistinct}
 use Rattle.ib_map.specs.Keys.{end_rank}
 use Rattle.ib_map.specs.Pairs.{Pairs}
 use Rattle.ib_heap.specs.declared.TheConstants.{MOST_LEVEL, MOST_RECORDS}
 use Rattle.ib_page.specs.declared.space.TheConstants.{MAPPED_PAGES}
 use Rattle.ib_walk.specs.Pages.{Free, Tree, PageState, PageMemory, IsSound}
-use Rattle.ib_walk.specs.Walk.{Visit, below, records_along, weight_along, counts_page, IsTree, AreLinked}
+use Rattle.ib_walk.specs.Walk.{Visit, below, walk_down, records_along, weight_along, counts_page, IsTree, AreLinked}
 
 -- the root with the range of all keys
 abbrev pub top_of : ℕ → List Visit
@@ -21,7 +22,26 @@ leaves_of memory root = below memory (height_of memory root) (top_of root)
 abbrev pub content_of : PageMemory → ℕ → Pairs
 content_of memory root = records_along memory (leaves_of memory root)
 
--- what all visits of the tree weigh
+-- a page is met with this range, at this level, in the tree of a root: the visit stands in the list of its level
+pub record IsMetAt (memory : PageMemory) (root level : ℕ) (visit : Visit) : Type 0 where
+  pub depth : ℕ
+  pub at : depth + level ≡ height_of memory root
+  pub there : Contains (below memory depth (top_of root)) visit
+
+-- the pages that the walk of a tree meets, and those that the walks of the trees of the roots 1 to `roots` meet, each as often as it is met
+abbrev pub pages_met_from : PageMemory → ℕ → List ℕ
+pages_met_from memory root = map (λ v. v.page) (walk_down memory (height_of memory root) (top_of root))
+
+abbrev pub pages_met : PageMemory → ℕ → List ℕ
+pages_met memory zero = []
+pages_met memory (suc roots) = pages_met_from memory (suc roots) ++ pages_met memory roots
+
+-- page 0 and the pages met are those that have their bit set, and no page is met twice, nor page 0 at all
+pub record IsPageMap (memory : PageMemory) (bits : ℕ → ℕ) (roots : ℕ) : Type 0 where
+  pub once : IsDistinct ◌==◌ (0 ∷ pages_met memory roots)
+  pub set : (n : ℕ) → bits n ≡ 1 ↔ Contains (0 ∷ pages_met memory roots) n
+
+-- Weights, by which proofs count: what all visits of the tree weigh
 abbrev pub weight_of : (ℕ → Visit → ℕ) → PageMemory → ℕ → ℕ
 weight_of f memory root = weight_along f memory (height_of memory root) (top_of root)
 
@@ -47,8 +67,7 @@ most_height roots = if roots == 1 then MOST_LEVEL else 3
 pub record IsLawfulUpTo (most : ℕ → ℕ) (memory : PageMemory) (bits : ℕ → ℕ) (roots : ℕ) : Type 0 where
   pub sound : (n : ℕ) → n ≢ 0 → IsSound (most n) (memory n)
   pub trees : (root : ℕ) → 0 < root → root ≤ roots → IsTreeOf memory (height_of memory root) root × (height_of memory root ≤ most_height roots)
-  -- page 0 has its bit set and no walk meets it; each other page is met once where its bit is set, else never
-  pub met : (n : ℕ) → bits n ≡ times_met memory roots n + (if n == 0 then 1 else 0)
+  pub met : IsPageMap memory bits roots
   pub bit : (n : ℕ) → bits n ≤ 1
   pub few : (n : ℕ) → MAPPED_PAGES ≤ n → bits n ≡ 0
   pub unmet : (n : ℕ) → bits n ≡ 0 → (memory n).kind ≡ Free

@@ -26,11 +26,17 @@ abbrev pub below : PageMemory → ℕ → List Visit → List Visit
 below memory zero vs = vs
 below memory (suc depth) vs = below memory depth (children memory vs)
 
+-- all visits of a level and of the levels below it
+abbrev pub walk_down : PageMemory → ℕ → List Visit → List Visit
+walk_down memory zero vs = vs
+walk_down memory (suc height) vs = vs ++ walk_down memory height (children memory vs)
+
 -- the records of these pages in order
 abbrev pub records_along : PageMemory → List Visit → Pairs
 records_along memory [] = []
 records_along memory (v ∷ vs) = (memory v.page).records ++ records_along memory vs
 
+-- Weights of visits: proofs count by them. What all visits of a level weigh together
 abbrev pub sum_of : (Visit → ℕ) → List Visit → ℕ
 sum_of f [] = 0
 sum_of f (v ∷ vs) = f v + sum_of f vs

@@ -1,6 +1,7 @@
 //! The laws of walks and of lawful memories, as a contract.
 
-ghost use Rattle.std.specs.Prelude.{◌≡◌, ℕ, ◌<◌, ◌≤◌, [], true};
+ghost use Rattle.std.specs.Prelude.{◌≡◌, ℕ, ◌<◌, ◌≤◌, ◌==◌, [], true};
+ghost use Rattle.std.specs.List.{IsDistinct};
 ghost use Rattle.ib_map.specs.Keys.{MapKey, end_rank};
 ghost use Rattle.ib_map.specs.Pairs.{value_at};
 ghost use Rattle.ib_map.specs.Map.{IsMap};
@@ -8,7 +9,7 @@ ghost use Rattle.ib_map.specs.Space.{has_pages};
 ghost use Rattle.ib_page.specs.Opening.{opening_words};
 ghost use Rattle.ib_walk.specs.Pages.{PageMemory};
 ghost use Rattle.ib_walk.specs.Walk.{IsTiled};
-ghost use Rattle.ib_walk.specs.Trees.{leaves_of, content_of, times_met, IsLawful};
+ghost use Rattle.ib_walk.specs.Trees.{leaves_of, content_of, pages_met, IsLawful};
 ghost use Rattle.ib_walk.specs.Search.{leaf_for, IsPageFor};
 ghost use Rattle.ib_walk.specs.Opening.{opening_word};
 ghost use Rattle.ib_walk.specs.Words.{image_of, pages_of, IsLawfulMemory};
@@ -22,8 +23,8 @@ pub fn walk_law()
         → 0 < root → root ≤ roots → IsMap (content_of memory root) }
     ensures tiled { (memory : PageMemory) (bits : ℕ → ℕ) (roots root : ℕ) → IsLawful memory bits roots
         → 0 < root → root ≤ roots → IsTiled 0 (leaves_of memory root) end_rank }
-    ensures once { (memory : PageMemory) (bits : ℕ → ℕ) (roots page : ℕ) → IsLawful memory bits roots
-        → times_met memory roots page ≤ 1 }
+    ensures once { (memory : PageMemory) (bits : ℕ → ℕ) (roots : ℕ) → IsLawful memory bits roots
+        → IsDistinct ◌==◌ (pages_met memory roots) }
     // The path of a key ends at the leaf whose range has it, and the tree has of the key what that leaf has.
     ensures leaf { (memory : PageMemory) (bits : ℕ → ℕ) (roots root : ℕ) (key : MapKey) → IsLawful memory bits roots
         → 0 < root → root ≤ roots → IsPageFor key (leaves_of memory root) (leaf_for memory key root) }

@@ -26,8 +26,17 @@ single-there image o b is answer =
     ap (λ l. ltb 0 l && eqb (length (state_or_free o).records) 1) (sym (level-there image o is))
     ∙ (ap (λ (rs : Pairs). ltb 0 (level_of image) && eqb (length rs) 1) (sym (records-there image o is)) ∙ sym answer)
 
+pub overflow_sub-path : goal.overflow_sub-path
+overflow_sub-path c = path-some c.args.path.now c.args.key c.args.work.now c.requires.can
+
+pub bounds-path-path : goal.bounds-path-path
+bounds-path-path c = let some = path-some c.args.path.now c.args.key c.args.work.now c.requires.can in omega arith
+
 pub take_record-requires-clause-tree : goal.take_record-requires-clause-tree
 take_record-requires-clause-tree c = let some = path-some c.args.path.now c.args.key c.args.work.now c.requires.can in path-tree c.args.path.now c.args.key c.args.work.now c.requires.can (length c.args.path.now - 1) (omega arith)
+
+pub overflow_sub-height-end : goal.overflow_sub-height-end
+overflow_sub-height-end c = path-some c.args.path.now c.args.key c.args.work.now c.requires.can
 
 pub loop-height-init : goal.loop-height-init
 loop-height-init c =
@@ -69,6 +78,9 @@ loop-height-preserved c =
       count,
     )
 
+pub bounds-path-0 : goal.bounds-path-0
+bounds-path-0 c = path-some c.args.path.now c.args.key c.args.work.now c.requires.can
+
 pub image_of-requires-2 : goal.image_of-requires-2
 image_of-requires-2 c =
     let h : c.loop-height.height ≡ length c.args.path.now - 1 = omega arith in
@@ -87,6 +99,9 @@ lift-requires c =
     root-can_lift c.args.path.now c.args.key c.args.work.now c.requires.can c.loop-height.freed c.loop-height.work
     (subst (λ n. IsAtForAll c.args.path.now c.args.key n c.loop-height.freed c.args.work.now c.loop-height.work) h c.loop-height.invariant.0)
     (single-there c.image_of-2.result.now _ c.is_single.result c.image_of-2.ensures c.is_single.ensures ∙ c.if-is_single.true)
+
+pub bounds-path-0-then-is_single : goal.bounds-path-0-then-is_single
+bounds-path-0-then-is_single c = path-some c.args.path.now c.args.key c.args.work.now c.requires.can
 
 pub returns-then-is_single : goal.returns-then-is_single
 returns-then-is_single c =

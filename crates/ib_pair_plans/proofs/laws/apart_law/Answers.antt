@@ -4,7 +4,8 @@ use Rattle.ib_heap.specs.declared.TheConstants.{MOST_RECORDS}
 use Rattle.ib_pair_plans.proofs.InsertApart.{IsApart-insert}
 use Rattle.ib_pair_plans.proofs.DeleteApart.{IsApart-delete}
 use Rattle.ib_pair_plans.proofs.TreeStays.{content-stays, height-stays, need-stays, root_full-stays, path-stays}
-use Rattle.ib_pair_plans.proofs.TakenLaws.{bits-taken, chosen-both, free_of-left}
+use Rattle.ib_pair_plans.proofs.TakenLaws.{chosen-both, free_of-left}
+use Rattle.ib_plans.proofs.TakenLaws.{bits-taken}
 use Rattle.ib_pair_plans.proofs.laws.apart_law.Goals as goal
 
 pub returns-clause-insert : goal.returns-clause-insert

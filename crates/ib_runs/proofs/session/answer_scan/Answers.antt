@@ -18,6 +18,9 @@ overflow_sub-pairs g c =
     let b = ap length c.pairs-pairs_before.ensures.pairs in
     let d = ap length c.pairs.ensures.pairs in omega arith
 
+pub overflow_cast-pairs : goal.overflow_cast-pairs
+overflow_cast-pairs g c = let few = c.room.ensures.few_pairs in let d = ap length c.pairs.ensures.pairs in omega arith
+
 pub returns-clause-more : goal.returns-clause-more
 returns-clause-more g c =
     let space : SpaceState = g.S.Shared.space c.args.shared.now in

@@ -6,6 +6,8 @@ use Rattle.ib_map.specs.Keys.{MapKey}
 use Rattle.ib_map.specs.Pairs.{value_at}
 use Rattle.ib_page.specs.Work.{WorkPage}
 use Rattle.ib_walk.specs.Full.{need_of, chosen}
+use Rattle.ib_walk.specs.Trees.{height_of}
+use Rattle.ib_plans.proofs.PathListLaws.{length-path_down}
 use Rattle.ib_plans.specs.Agreement.{SetsBits, memory_in, reads_of, last_of}
 use Rattle.ib_split.specs.Inserts.{CanInsert, IsInsertClimbedForAll, IsPlannedInsertForAll, MayTakePages}
 use Rattle.ib_split.proofs.Climbing.{has-room}
@@ -52,6 +54,19 @@ climb-of path path2 fresh fresh2 key value used old mid p f climbed =
 none-of : (o : Option ℕ) → is_some o ≡ false → o ≡ None
 none-of None e = refl
 none-of (Some x) e = cc
+
+-- a path has a page
+path-some : (path fresh : List ℕ) (key : MapKey) (work : List WorkPage) → CanInsert path fresh key work → 0 < length path
+path-some path fresh key work can =
+    let a = ap length can.agrees.way in let b = length-path_down can.memory key (height_of can.memory can.root) can.root in omega arith
+
+pub value_in-requires-clause-some : goal.value_in-requires-clause-some
+value_in-requires-clause-some c =
+    let some = path-some c.args.path.now c.args.fresh.now c.args.key c.args.work.now c.requires in let e = ap length c.pages.ensures.pages in omega arith
+
+pub climb-used-requires-clause-some : goal.climb-used-requires-clause-some
+climb-used-requires-clause-some c =
+    let some = path-some c.args.path.now c.args.fresh.now c.args.key c.args.work.now c.requires in let e = ap length c.pages-2.ensures.pages in omega arith
 
 pub take_pages-requires : goal.take_pages-requires
 take_pages-requires c =

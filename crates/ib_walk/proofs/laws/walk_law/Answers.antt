@@ -1,9 +1,11 @@
 -- The law of walks, clause by clause.
+use Rattle.std.specs.Prelude.{◌==◌}
 use Rattle.std.proofs.Common.{arith}
+use Rattle.std.proofs.lemmas.Map.Keys.{IsDistinct-tail}
+use Rattle.ib_walk.specs.Trees.{pages_met}
 use Rattle.ib_map.proofs.KeyLaws.{rank-lt_end}
-use Rattle.ib_walk.proofs.TreeLaws.{IsPageFor-leaf, value_at-content_of, IsTiled-leaves, Rises-content_of, times_met-le}
+use Rattle.ib_walk.proofs.TreeLaws.{IsPageFor-leaf, value_at-content_of, IsTiled-leaves, Rises-content_of}
 use Rattle.ib_walk.proofs.SpaceLaws.{image_of-opening, IsLawfulMemory-opening, content_of-opening}
-use Rattle.ib_heap.specs.declared.TheConstants.{MOST_RECORDS}
 use Rattle.ib_walk.proofs.laws.walk_law.Goals as goal
 
 pub returns-clause-map : goal.returns-clause-map
@@ -13,7 +15,7 @@ pub returns-clause-tiled : goal.returns-clause-tiled
 returns-clause-tiled c memory bits roots root law some le = IsTiled-leaves memory root (law.trees root some le).0
 
 pub returns-clause-once : goal.returns-clause-once
-returns-clause-once c memory bits roots page law = times_met-le (λ n. MOST_RECORDS) memory bits roots page law
+returns-clause-once c memory bits roots law = IsDistinct-tail ◌==◌ 0 (pages_met memory roots) law.met.once
 
 pub returns-clause-leaf : goal.returns-clause-leaf
 returns-clause-leaf c memory bits roots root key law some le = IsPageFor-leaf memory key root (rank-lt_end key) (law.trees root some le).0
