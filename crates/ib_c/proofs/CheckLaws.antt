@@ -1,48 +1,36 @@
 -- The words of pages as images, and whether those are a tree.
-use Rattle.std.specs.Prelude.{slice_index, nat_le}
-use Rattle.std.proofs.Common.{◌≡◌, ◌∙◌, ℕ, zero, suc, ◌+◌, ◌*◌, ◌<◌, ◌≤◌, List, [], ◌∷◌, ◌++◌, length, drop, refl, sym, ap, subst, arith, inl, inr, length-append}
-use Rattle.std.proofs.lemmas.Bool.{cases_eq, cases_lt, leb-true, and_parts}
+use Rattle.std.specs.Prelude.{map, slice_index, nat_le}
+use Rattle.std.specs.Fork.{slice_chunk}
+use Rattle.std.specs.List.{range_with_len}
+use Rattle.std.proofs.Common.{◌≡◌, ◌∙◌, ℕ, ◌+◌, ◌*◌, ◌≤◌, List, [], length, drop, sym, ap, subst, arith, inl, inr}
+use Rattle.std.proofs.lemmas.Bool.{cases_lt, leb-true, and_parts}
 use Rattle.std.proofs.lemmas.List.{get_or-drop, get_or-take, get_or_past}
-use Rattle.std.proofs.Math.ListN.{get_or-append}
-use Rattle.std.proofs.Math.Seq.{get_or-append_seam}
+use Rattle.std.proofs.lemmas.List.FromFn.{length-map-range_with_len, get_or-map-range_with_len}
 use Rattle.ib_map.specs.declared.TheConstants.{LEAST_PAGES, MOST_PAGES, PAGE_WORDS}
 use Rattle.ib_map.specs.Writes.{index_at, page_at}
 use Rattle.ib_page.specs.Memory.{image_at, word_at}
 use Rattle.ib_walk.specs.Words.{IsLawfulMemory}
-use Rattle.ib_c.specs.Checks.{ArePages, IsTree, image_in, images_in}
-
-pub length-images_in : (words : List ℕ) (n : ℕ) → length (images_in words n) ≡ n
-length-images_in words zero = refl
-length-images_in words (suc n) = let more = length-append (images_in words n) (image_in words n ∷ []) in let size = length-images_in words n in omega arith
-
-image_at-images_in : (words : List ℕ) (n page : ℕ) → page < n → image_at (images_in words n) page ≡ image_in words page
-image_at-images_in words zero page lt = absurd (omega arith)
-image_at-images_in words (suc n) page lt =
-    let size = length-images_in words n in
-    elim (cases_eq page n) [
-      | inl e ↦
-          let at : page ≡ length (images_in words n) = omega (arith, e, size) in
-          ap (image_at (images_in words n ++ image_in words n ∷ [])) at ∙ (get_or-append_seam (images_in words n) (image_in words n) [] [] ∙ ap (image_in words) (sym e))
-      | inr ne ↦ get_or-append (images_in words n) (image_in words n ∷ []) [] page (omega (arith, lt, ne, size)) ∙ image_at-images_in words n page (omega (arith, lt, ne))
-    ]
+use Rattle.ib_c.specs.Checks.{ArePages, IsTree}
 
 -- the word at a place of the images is that of the list
-word_at-images_in : (words : List ℕ) (pages place : ℕ) → length words ≡ pages * PAGE_WORDS → word_at (images_in words pages) place ≡ slice_index words place
-word_at-images_in words pages place size = elim (cases_lt (page_at place) pages) [
-  | inl lt ↦
-      let at : page_at place * PAGE_WORDS + index_at place ≡ place = omega arith in
-      ap (λ (ws : List ℕ). slice_index ws (index_at place)) (image_at-images_in words pages (page_at place) lt)
-      ∙ (get_or-take PAGE_WORDS (drop (page_at place * PAGE_WORDS) words) (index_at place) 0 (omega arith)
-      ∙ (get_or-drop (page_at place * PAGE_WORDS) words (index_at place) 0 ∙ ap (slice_index words) at))
-  | inr far ↦
-      let none : image_at (images_in words pages) (page_at place) ≡ [] = get_or_past (images_in words pages) (page_at place) [] (omega (arith, length-images_in words pages, far)) in
-      ap (λ (ws : List ℕ). slice_index ws (index_at place)) none ∙ sym (get_or_past words place 0 (omega (arith, far, size)))
-]
+word_at-images : (words : List ℕ) (pages place : ℕ) → length words ≡ pages * PAGE_WORDS → word_at (map (slice_chunk words PAGE_WORDS) (range_with_len 0 pages)) place ≡ slice_index words place
+word_at-images words pages place size =
+    let chunk : ℕ → List ℕ = slice_chunk words PAGE_WORDS in
+    elim (cases_lt (page_at place) pages) [
+      | inl lt ↦
+          let at : page_at place * PAGE_WORDS + index_at place ≡ place = omega arith in
+          ap (λ (ws : List ℕ). slice_index ws (index_at place)) (get_or-map-range_with_len chunk 0 pages (page_at place) (page_at place) [] lt (omega arith))
+          ∙ (get_or-take PAGE_WORDS (drop (page_at place * PAGE_WORDS) words) (index_at place) 0 (omega arith)
+          ∙ (get_or-drop (page_at place * PAGE_WORDS) words (index_at place) 0 ∙ ap (slice_index words) at))
+      | inr far ↦
+          let none : image_at (map chunk (range_with_len 0 pages)) (page_at place) ≡ [] = get_or_past (map chunk (range_with_len 0 pages)) (page_at place) [] (omega (arith, length-map-range_with_len chunk 0 pages, far)) in
+          ap (λ (ws : List ℕ). slice_index ws (index_at place)) none ∙ sym (get_or_past words place 0 (omega (arith, far, size)))
+    ]
 
 -- the images of pages are a lawful memory exactly where the words are a tree
-module _ (words : List ℕ) (pages : ℕ) (are : ArePages words pages) (images : List (List ℕ)) (is : images ≡ images_in words pages) where
+module _ (words : List ℕ) (pages : ℕ) (are : ArePages words pages) (images : List (List ℕ)) (is : images ≡ map (slice_chunk words PAGE_WORDS) (range_with_len 0 pages)) where
   size : length images ≡ pages
-  size = ap length is ∙ length-images_in words pages
+  size = ap length is ∙ length-map-range_with_len (slice_chunk words PAGE_WORDS) 0 pages
 
   pub least : LEAST_PAGES ≤ length images
   least = let low = leb-true LEAST_PAGES pages (and_parts (nat_le LEAST_PAGES pages) (nat_le pages MOST_PAGES) are.space).0 in omega (arith, low, size)
@@ -51,7 +39,7 @@ module _ (words : List ℕ) (pages : ℕ) (are : ArePages words pages) (images :
   most = let high = leb-true pages MOST_PAGES (and_parts (nat_le LEAST_PAGES pages) (nat_le pages MOST_PAGES) are.space).1 in omega (arith, high, size)
 
   same : word_at images ≡ slice_index words
-  same = ap word_at is ∙ (λ i place. word_at-images_in words pages place are.size i)
+  same = ap word_at is ∙ (λ i place. word_at-images words pages place are.size i)
 
   pub tree : IsLawfulMemory (length images) 1 (word_at images) → IsTree words pages
   tree lawful = subst (λ (n : ℕ). IsLawfulMemory n 1 (slice_index words)) size (subst (IsLawfulMemory (length images) 1) same lawful)

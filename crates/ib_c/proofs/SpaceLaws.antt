@@ -1,7 +1,7 @@
 -- What the calls on a space's handle come to, case by case.
-use Rattle.std.proofs.Common.{◌≡◌, ℕ, Bool, true, false, Option, Some, None, refl}
+use Rattle.std.proofs.Common.{◌≡◌, ℕ, true, false, Option, Some, None, refl}
 use Rattle.std.proofs.lemmas.Bool.{true≢false, false≢true}
-use Rattle.std.specs.Prelude.{is_some, Result, Ok, Err}
+use Rattle.std.specs.Prelude.{is_some, Ok, Err}
 use Rattle.ib_c.specs.declared.status.Status.{Status}
 use Rattle.ib_c.specs.declared.status.Status.TheVariants.{Done, InUse, NoHandle, WrongState}
 use Rattle.ib_c.specs.declared.space.Space.{Space}

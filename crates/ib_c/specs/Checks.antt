@@ -1,20 +1,11 @@
 -- What a test of the words of all pages comes to.
-use Rattle.std.specs.Prelude.{◌≡◌, ℕ, zero, suc, ◌*◌, true, List, [], ◌∷◌, ◌++◌, length, take, drop, slice_index}
+use Rattle.std.specs.Prelude.{◌≡◌, ℕ, ◌*◌, true, List, length, slice_index}
 use Rattle.ib_map.specs.declared.TheConstants.{PAGE_WORDS}
 use Rattle.ib_map.specs.Space.{has_pages}
 use Rattle.ib_walk.specs.Words.{IsLawfulMemory}
 use Rattle.ib_c.specs.declared.status.Status.{Status}
 use Rattle.ib_c.specs.declared.status.Status.TheVariants.{Done, BadPages, OutOfMemory, Faulty}
 use Rattle.ib_c.specs.Statuses.{status_number}
-
--- the words of a page among those of all pages, which stand one behind another
-abbrev pub image_in : List ℕ → ℕ → List ℕ
-image_in words page = take PAGE_WORDS (drop (page * PAGE_WORDS) words)
-
--- .. of the first pages
-abbrev pub images_in : List ℕ → ℕ → List (List ℕ)
-images_in words zero = []
-images_in words (suc n) = images_in words n ++ image_in words n ∷ []
 
 -- the words are those of so many pages, as many as a space may have
 pub record ArePages (words : List ℕ) (pages : ℕ) : Type 0 where

@@ -1,6 +1,6 @@
 -- What a copy of a closed space's log comes to, and how C is told.
-use Rattle.std.specs.Prelude.{◌≡◌, ◌⊎◌, ℕ, ◌+◌, ◌<◌, ◌≤◌, List, length, slice_index, Option, Some, None, Result, Ok, Err}
-use Rattle.ib_rule.specs.Closed.{ClosedState, log_in}
+use Rattle.std.specs.Prelude.{◌≡◌, ℕ, ◌+◌, ◌<◌, ◌≤◌, List, length, slice_index, Option, Some, None}
+use Rattle.ib_rule.specs.Closed.{log_in}
 use Rattle.ib_c.specs.declared.log_words.Copied.{Copied}
 use Rattle.ib_c.specs.declared.space.Space.{Space}
 use Rattle.ib_c.specs.declared.space.Space.TheVariants.{Open, Closed, Gone}

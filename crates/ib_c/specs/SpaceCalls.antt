@@ -1,11 +1,10 @@
 -- What the calls on a space's handle come to, as C is told of them.
-use Rattle.std.specs.Prelude.{◌≡◌, ℕ, Option, Some, None, Result, Ok, Err}
+use Rattle.std.specs.Prelude.{◌≡◌, ℕ, Option, Some, None, Ok, Err}
 use Rattle.ib_c.specs.declared.status.Status.{Status}
 use Rattle.ib_c.specs.declared.status.Status.TheVariants.{Done, InUse, NoHandle, WrongState}
 use Rattle.ib_c.specs.declared.space.Space.{Space}
 use Rattle.ib_c.specs.declared.space.Space.TheVariants.{Open, Closed, Gone}
 use Rattle.ib_c.specs.SessionState.{SessionState}
-use Rattle.ib_c.specs.SpaceStates.{OpenState}
 use Rattle.ib_c.specs.Spaces.{HasClosedSpace, HasConnectedTo, HasDisconnectedFrom, HasOpened, IsFromSpace, IsNotConnected, IsNotDisconnected}
 use Rattle.ib_c.specs.Statuses.{status_number}
 

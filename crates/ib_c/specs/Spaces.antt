@@ -1,5 +1,5 @@
 -- What the calls on a space's handle come to.
-use Rattle.std.specs.Prelude.{Bool, ◌≡◌, ◌⊎◌, ℕ, ◌+◌, ◌<◌, ◌++◌, true, false, List, [], ◌∷◌, length, Result, Ok, Err}
+use Rattle.std.specs.Prelude.{Bool, ◌≡◌, ◌⊎◌, ℕ, ◌+◌, ◌<◌, ◌++◌, true, false, [], ◌∷◌, length, Result, Ok, Err}
 use Rattle.ib_map.specs.Space.{has_pages}
 use Rattle.ib_layout.specs.Geometry.{Sizes, has_log}
 use Rattle.ib_logrec.specs.declared.entry.TheConstants.{MOST_SESSIONS}

@@ -1,5 +1,5 @@
 -- What a release on a session's handle comes to, which generation it raised, and how C is told.
-use Rattle.std.specs.Prelude.{◌≡◌, ◌≢◌, ◌⊎◌, ℕ, ◌+◌, ◌-◌, ◌<◌, ◌≤◌, Bool, true, false, nat_lt, Result, Ok, Err}
+use Rattle.std.specs.Prelude.{◌≡◌, ◌≢◌, ◌⊎◌, ℕ, ◌-◌, ◌<◌, ◌≤◌, Bool, true, false, nat_lt, Result, Ok, Err}
 use Rattle.ib_word.specs.Word.{cell_of, is_drained}
 use Rattle.ib_word.specs.Weight.{x_weight}
 use Rattle.ib_word.specs.declared.word.LockWord.{LockWord}

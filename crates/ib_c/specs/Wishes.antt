@@ -1,6 +1,5 @@
 -- Which wishes the library refuses by itself, and why.
-use Rattle.std.specs.Prelude.{◌≡◌, ◌≢◌, ℕ, ◌<◌, ◌≤◌, Result, Ok, Err}
-use Rattle.ib_levels.specs.declared.latch.Latch.{Latch}
+use Rattle.std.specs.Prelude.{◌≡◌, ◌≢◌, ℕ, ◌<◌, ◌≤◌}
 use Rattle.ib_levels.specs.declared.level.Level.{Level}
 use Rattle.ib_levels.specs.Level.{number_of}
 use Rattle.ib_layout.specs.Places.{latches_of}
@@ -9,7 +8,6 @@ use Rattle.ib_levels.specs.declared.level.Mode.{Mode}
 use Rattle.ib_levels.specs.declared.level.Mode.TheVariants.{S, Sx, X}
 use Rattle.ib_core.specs.declared.phase.Phase.TheVariants.{Free}
 use Rattle.ib_core.specs.Sessions.{sx_grants, x_grants}
-use Rattle.ib_core.specs.Holders.{CanWish}
 use Rattle.ib_rule.specs.Conditions.{MayClaim, MayGrow}
 use Rattle.ib_rule.specs.Pass.{PassState}
 use Rattle.ib_rule.specs.Space.{SpaceState}

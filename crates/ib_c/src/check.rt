@@ -1,9 +1,11 @@
 //! Whether the words of all pages are those of one tree, for C.
 
-ghost use Rattle.std.specs.Prelude.{◌≡◌, ◌*◌, ◌≤◌, ℕ, length, IfNone, IfOk, IfSome};
+ghost use Rattle.std.specs.Prelude.{◌≡◌, ◌*◌, ◌≤◌, ℕ, length, map, IfNone, IfOk, IfSome};
+ghost use Rattle.std.specs.Fork.{slice_chunk};
+ghost use Rattle.std.specs.List.{range_with_len};
 ghost use Rattle.ib_map.specs.declared.TheConstants.{MOST_PAGES, PAGE_WORDS};
 ghost use Rattle.ib_map.specs.Space.{has_pages};
-ghost use Rattle.ib_c.specs.Checks.{ArePages, HasCheckedTree, IsChecked, images_in};
+ghost use Rattle.ib_c.specs.Checks.{ArePages, HasCheckedTree, IsChecked};
 
 use crate::status::Status;
 use ib_map::{LEAST_PAGES, MOST_PAGES, PAGE_WORDS};
@@ -46,7 +48,7 @@ fn image_with(words: &[u64]) -> Image
 fn images_with(alloc: Global, words: &[u64], pages: usize) -> Result<Vec<Image>, AllocError>
     requires few { pages ≤ MOST_PAGES }
     requires size { length words.now ≡ pages * PAGE_WORDS }
-    ensures { IfOk result (λ images. images.items ≡ images_in words.now pages) }
+    ensures { IfOk result (λ images. images.items ≡ map (slice_chunk words.now PAGE_WORDS) (range_with_len 0 pages)) }
 {
     let mut images = Vec::with_capacity(alloc, pages)?;
     for page in 0..pages {

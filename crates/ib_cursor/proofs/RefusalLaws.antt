@@ -23,17 +23,18 @@ use Rattle.ib_latch.specs.declared.tries.TryFault.{TryFault}
 use Rattle.ib_latch.specs.declared.tries.TryFault.TheVariants.{Busy as TryBusy, Raced as TryRaced}
 use Rattle.ib_latch.specs.Refusals.{IsOneTry, WasRefusedFor}
 use Rattle.ib_latch.specs.Tries.{HasTakenGrant, IsUnchanged, held_with, looks_of}
-use Rattle.ib_latch.proofs.RefusalLaws.{looks_few, refused_later, refused_looks, won_looks}
+use Rattle.ib_latch.proofs.RefusalLaws.{refused_later, refused_looks, won_looks}
 use Rattle.ib_mtr.specs.Mtr.{IsMtr, IsReleasedAt, released_at, released_to, with_granted, with_memo, with_work, without_all}
 use Rattle.ib_mtr.proofs.Ending.{IsKeptBy, kept_by_releases}
 use Rattle.ib_mtr.proofs.Keeping.{with_pages}
 use Rattle.ib_mtr.proofs.NowaitCommitting.{all_looks}
 use Rattle.ib_cursor.specs.declared.fault.NowaitFault.{NowaitFault}
+use Rattle.ib_cursor.specs.declared.fault.NowaitFault.TheVariants.{Busy, Raced}
 use Rattle.ib_cursor.specs.Contention.{fault_on, refused_latch}
 use Rattle.ib_cursor.specs.Going.{WentOn}
 use Rattle.ib_cursor.specs.Grants.{HasTaken}
 use Rattle.ib_cursor.specs.Reading.{HasReadWords, with_loads}
-use Rattle.ib_cursor.specs.Refusals.{AreFewGrants, AreFewLooks, HasGivenUp, IsRefusal, IsVainTry, WasRefusedIn, try_of}
+use Rattle.ib_cursor.specs.Refusals.{AreFewGrants, AreFewLooks, HasGivenUp, IsRefusal, IsVainTry, WasRefusedIn, looks_of as looks_in, try_of}
 use Rattle.ib_cursor.specs.Shapes.{HasLookedOn}
 use Rattle.ib_cursor.proofs.ClaimLaws.{keeps_after}
 use Rattle.ib_cursor.proofs.ContentionLaws.{latch-of}
@@ -66,8 +67,9 @@ few_won mode l v p q tried grants =
     let won = won_looks mode l v p (with_memo p.memo q) tried in let more = total_more mode p.view.grants in let is = ap total grants in
     record { least = omega arith; most = omega arith }
 
-pub few_granted : (mode : Mode) (v w : View) → w.grants ≡ with_grant (Some mode) v.grants → v.looks.count ≤ w.looks.count → w.looks.count ≤ v.looks.count + 2 → AreFewLooks 0 v w
-few_granted mode v w grants least most = let more = total_more mode v.grants in let is = ap total grants in record { least = omega arith; most = omega arith }
+-- .. and no more where that is all that was had
+pub looks_granted : (mode : Mode) (v w : View) → w.grants ≡ with_grant (Some mode) v.grants → AreFewLooks 0 v w → w.looks.count ≤ v.looks.count + 2
+looks_granted mode v w grants few = let more = total_more mode v.grants in let is = ap total grants in let most = few.most in omega arith
 
 -- looks of one call after another
 pub few_both : (n : ℕ) (u v w : View) → AreFewLooks 0 u v → AreFewLooks n v w → AreFewLooks n u w
@@ -82,6 +84,15 @@ few_same n u v w looks grants few =
 try_is : (latch : Latch) (fault : TryFault) → try_of (fault_on latch fault) ≡ fault
 try_is latch (TryBusy w) = refl
 try_is latch (TryRaced w found) = refl
+
+-- its looks, two at most
+pub looks-on : (latch : Latch) (fault : TryFault) → looks_in (fault_on latch fault) ≡ looks_of fault
+looks-on latch (TryBusy w) = refl
+looks-on latch (TryRaced w found) = refl
+
+pub looks_two : (fault : NowaitFault) → looks_in fault ≤ 2
+looks_two (Busy latch word) = omega arith
+looks_two (Raced latch expected found) = omega arith
 
 -- a try in vain, and a look
 pub vain_by_try : (sizes : Sizes) (lawful : List Entry → Type 0) (mode : Mode) (latch : Latch) (v : Level) (fault : TryFault) (p q r : PassState)
@@ -102,7 +113,7 @@ vain_by_try sizes lawful mode latch v fault p q r same un tried on memo session 
     let named : WasRefusedIn mode (fault_on latch fault) p.view.looks r.view.looks =
     subst (λ (l : ℕ). WasRefusedFor mode l (try_of (fault_on latch fault)) p.view.looks r.view.looks) (sym (latch-of latch fault))
     (subst (λ (f : TryFault). WasRefusedFor mode latch.0 f p.view.looks r.view.looks) (sym (try_is latch fault)) later) in
-    let few = looks_few fault in let count = ap (λ (k : Looks). k.count) looks in let more = un.looks in let g = ap total (grants ∙ un.grants) in
+    let few = looks-on latch fault in let count = ap (λ (k : Looks). k.count) looks in let more = un.looks in let g = ap total (grants ∙ un.grants) in
     record {
       looked_on = record { seen = seen_after sizes lawful p q r beside un.memory on.seen; keeps = keeps_after p q r un.memory on.keeps };
       memo = memo ∙ ap (λ (s : PassState). s.memo) same;
@@ -113,6 +124,9 @@ vain_by_try sizes lawful mode latch v fault p q r same un tried on memo session 
       refused = named;
       few = record { least = omega arith; most = omega arith };
     }
+
+pub looks_vain : (sizes : Sizes) (lawful : List Entry → Type 0) (mode : Mode) (l : ℕ) (fault : NowaitFault) (p q : PassState) → IsVainTry sizes lawful mode l fault p q → q.view.looks.count ≤ p.view.looks.count + 2
+looks_vain sizes lawful mode l fault p q v = let two = looks_two fault in let is = ap total v.grants in let most = v.few.most in omega arith
 
 -- .. after words were loaded
 vain-loads : (sizes : Sizes) (lawful : List Entry → Type 0) (mode : Mode) (l : ℕ) (f : NowaitFault) (p q : PassState) (loaded : List Loaded) → IsVainTry sizes lawful mode l f (with_view p (with_loads loaded p.view)) q → IsVainTry sizes lawful mode l f p q
@@ -179,7 +193,7 @@ module _ (sizes : Sizes) (lawful : List Entry → Type 0) (takes : List Entry �
     mode = v.mode;
     taken = v.taken;
     refused = refused_later v.mode (refused_latch f) (try_of f) p.view.looks q.view.looks r.view.looks r.view.looks few.least v.refused refl refl;
-    few = few_both 2 p.view q.view r.view few v.few;
+    few = few_both (looks_in f) p.view q.view r.view few v.few;
     grants = grants;
   }
 

@@ -17,7 +17,7 @@ use Rattle.ib_latch.specs.declared.tries.TryFault.TheVariants.{Busy as TryBusy, 
 use Rattle.ib_cursor.specs.declared.fault.NowaitFault.{NowaitFault}
 use Rattle.ib_cursor.specs.declared.fault.NowaitFault.TheVariants.{Busy, Raced}
 use Rattle.ib_cursor.specs.Grants.{HasGrants}
-use Rattle.ib_cursor.specs.Going.{IsKnown, WentOn, HasSeen}
+use Rattle.ib_cursor.specs.Going.{IsKnown, WentOn}
 use Rattle.ib_cursor.specs.OnPath.{IsOnPath}
 
 -- a try on the latch that was refused, and the latch of a fault
@@ -50,23 +50,6 @@ pub record WasRaced (l : ℕ) (expected found : LockWord) (first last : Looks) :
 abbrev pub WasRefused : NowaitFault → Looks → Looks → Type 0
 WasRefused (Busy latch word) first last = WasBusy latch.0 word first last
 WasRefused (Raced latch expected found) first last = WasRaced latch.0 expected found first last
-
--- a latch was tried in vain, and then the log's end looked at; nothing else is changed
-pub record IsRefusedTry (sizes : Sizes) (lawful : List Entry → Type 0) (l : ℕ) (fault : NowaitFault) (p q : PassState) : Type 0 where
-  pub seen : HasSeen sizes lawful p q
-  pub memo : q.memo ≡ p.memo
-  pub session : q.view.session ≡ p.view.session
-  pub grants : q.view.grants ≡ p.view.grants
-  pub work : q.work ≡ p.work
-  pub at : refused_latch fault ≡ l
-  pub refused : WasRefused fault p.view.looks q.view.looks
-
--- .. on a page of the key's path in the tree after all seen
-pub record IsStopped (sizes : Sizes) (lawful : List Entry → Type 0) (opening : ℕ → ℕ) (root : ℕ) (key : MapKey) (fault : NowaitFault) (p q : PassState) : Type 0 where
-  pub page : ℕ
-  pub level : ℕ
-  pub refused_try : IsRefusedTry sizes lawful (page + 2) fault p q
-  pub on_path : IsOnPath (pages_after opening q.view.memory.seen) root key page level
 
 -- the index, or a page of the key's path
 abbrev pub IsAnywhereOnPath : (ℕ → ℕ) → List Entry → ℕ → MapKey → ℕ → Type 0

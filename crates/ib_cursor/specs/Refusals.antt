@@ -34,6 +34,11 @@ abbrev pub try_of : NowaitFault → TryFault
 try_of (Busy latch word) = TryBusy word
 try_of (Raced latch expected found) = TryRaced expected found
 
+-- how many looks at its lock word a refused try takes: one that finds it taken; or one and an exchange, which finds another word
+abbrev pub looks_of : NowaitFault → ℕ
+looks_of (Busy latch word) = 1
+looks_of (Raced latch expected found) = 2
+
 -- the latch of the fault was tried for the mode in the steps between, and refused at the words that the fault tells
 abbrev pub WasRefusedIn : Mode → NowaitFault → Looks → Looks → Type 0
 WasRefusedIn mode fault first last = WasRefusedFor mode (refused_latch fault) (try_of fault) first last
@@ -58,9 +63,9 @@ pub record IsVainTry (sizes : Sizes) (lawful : List Entry → Type 0) (mode : Mo
   pub work : q.work ≡ p.work
   pub at : refused_latch fault ≡ l
   pub refused : WasRefusedIn mode fault p.view.looks q.view.looks
-  pub few : AreFewLooks 2 p.view q.view
+  pub few : AreFewLooks (looks_of fault) p.view q.view
 
--- a search that takes such latches was refused one of them, at its last looks, and looked at the log's end since: it changed nothing, and took so many grants at most, with two looks for each and two for the refused try
+-- a search that takes such latches was refused one of them, at its last looks, and looked at the log's end since: it changed nothing, and took so many grants at most, with two looks at most for each and those of the refused try
 pub record IsRefusal (sizes : Sizes) (lawful : List Entry → Type 0) (takes : List Entry → Mode → ℕ → Type 0) (most : Grants) (fault : NowaitFault) (p q : PassState) : Type 0 where
   pub went : WentOn p q
   pub looked : 0 < length went.added
@@ -68,7 +73,7 @@ pub record IsRefusal (sizes : Sizes) (lawful : List Entry → Type 0) (takes : L
   pub mode : Mode
   pub taken : takes q.view.memory.seen mode (refused_latch fault)
   pub refused : WasRefusedIn mode fault p.view.looks q.view.looks
-  pub few : AreFewLooks 2 p.view q.view
+  pub few : AreFewLooks (looks_of fault) p.view q.view
   pub grants : AreFewGrants most p.view q.view
 
 -- .. and gave up: nothing is held, and no page is loaded

@@ -13,7 +13,7 @@ ghost use Rattle.ib_cursor.specs.Going.{HasSeen, WentOn};
 ghost use Rattle.ib_cursor.specs.Grants.{HasGrants, index_grant};
 ghost use Rattle.ib_cursor.specs.Contention.{IsContended};
 ghost use Rattle.ib_cursor.specs.Modes.{is_exclusive};
-ghost use Rattle.ib_cursor.specs.Refusals.{AreFewLooks};
+ghost use Rattle.ib_cursor.specs.Refusals.{AreFewLooks, looks_of};
 ghost use Rattle.ib_cursor.specs.Spaces.{pages_under};
 ghost use Rattle.ib_cursor.specs.OnPath.{IsSought, IsRoot};
 
@@ -214,7 +214,8 @@ pub fn descend<L: Trees, R: Wait>(
 /// The same as a reader without waiting: each latch is tried (`rw_lock_s_lock_nowait`). Where one is
 /// refused, the log's end is looked at, and then the latches are given up: memo and work set are empty
 /// again. `Busy` and `Raced` tell the latch that was not had, the index or a page of the key's path, and
-/// the words of the try. There are two looks at most for each latch of the longest path that a tree can have.
+/// the words of the try. There are two looks at most for each latch that was had, and for `Busy` one more, for
+/// `Raced` two; so two at most for each latch of the longest path that a tree can have.
 pub fn descend_nowait<L: Trees, S: Sleep>(
     mtr: &mut Mtr<'_, L, S>,
     key: Key,
@@ -227,6 +228,8 @@ pub fn descend_nowait<L: Trees, S: Sleep>(
     ensures twice { OnOk result (AreFewLooks 0 mtr.old.pass.now.view mtr.new.pass.now.view) }
     ensures contended { IfErr result (λ fault. under L.Law mtr.old.latches.now IsContended 1 key
         fault mtr.old.pass.now mtr.new.pass.now) }
+    ensures vain { IfErr result (λ fault. AreFewLooks (looks_of fault) mtr.old.pass.now.view
+        mtr.new.pass.now.view) }
     ensures few { mtr.new.pass.now.view.looks.count
         ≤ mtr.old.pass.now.view.looks.count + 2 * (MOST_LEVEL + 2) }
 {

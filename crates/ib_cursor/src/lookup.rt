@@ -8,6 +8,7 @@ ghost use Rattle.ib_walk.specs.Search.{leaf_for};
 ghost use Rattle.ib_mtr.specs.Mtr.{IsMtr, IsStillMtr};
 ghost use Rattle.ib_cursor.specs.Descent.{HasReached, HasFound, MayDescend};
 ghost use Rattle.ib_cursor.specs.Contention.{IsContended};
+ghost use Rattle.ib_cursor.specs.Refusals.{AreFewLooks, looks_of};
 ghost use Rattle.ib_cursor.specs.Spaces.{pages_under};
 
 use crate::descent::reach_leaf;
@@ -71,7 +72,8 @@ pub fn find<L: Trees, R: Wait>(rt: &R, mtr: &mut Mtr<'_, L, Parkers>, key: Key) 
 /// The same without waiting: each latch is tried (`rw_lock_s_lock_nowait`). Where one is refused, the log's
 /// end is looked at, and then the latches are given up: memo and work set are empty again. `Busy` and
 /// `Raced` tell the latch that was not had, the index or a page of the key's path, and the words of the
-/// try. There are two looks at most for each latch of the longest path that a tree can have.
+/// try. There are two looks at most for each latch that was had, and for `Busy` one more, for `Raced` two; so two
+/// at most for each latch of the longest path that a tree can have.
 pub fn find_nowait<L: Trees, S: Sleep>(
     mtr: &mut Mtr<'_, L, S>,
     key: Key,
@@ -83,6 +85,8 @@ pub fn find_nowait<L: Trees, S: Sleep>(
         mtr.old.pass.now mtr.new.pass.now) }
     ensures contended { IfErr result (λ fault. under L.Law mtr.old.latches.now IsContended 1 key
         fault mtr.old.pass.now mtr.new.pass.now) }
+    ensures vain { IfErr result (λ fault. AreFewLooks (looks_of fault) mtr.old.pass.now.view
+        mtr.new.pass.now.view) }
     ensures looks { mtr.new.pass.now.view.looks.count
         ≤ mtr.old.pass.now.view.looks.count + 2 * (MOST_LEVEL + 2) }
 {

@@ -27,7 +27,7 @@ use ib_page::Path;
 use ib_tree::Trees;
 
 // Tries the root behind the index, looks, and reads its level.
-fn try_root_in<L: Trees, S: Sleep>(
+pub(crate) fn try_root_in<L: Trees, S: Sleep>(
     mtr: &mut Mtr<'_, L, S>,
     sought: Sought,
     mode: Mode,
@@ -62,7 +62,7 @@ fn try_root_in<L: Trees, S: Sleep>(
 }
 
 // From a node that is held to the key's child, tried and looked at before the node is given up.
-fn try_down_in<L: Trees, S: Sleep>(
+pub(crate) fn try_down_in<L: Trees, S: Sleep>(
     mtr: &mut Mtr<'_, L, S>,
     sought: Sought,
     page: u32,

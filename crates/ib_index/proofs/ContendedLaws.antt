@@ -20,7 +20,7 @@ use Rattle.ib_rule.specs.Views.{total}
 use Rattle.ib_latch.specs.declared.tries.TryFault.{TryFault}
 use Rattle.ib_latch.specs.declared.tries.TryFault.TheVariants.{Busy as TryBusy, Raced as TryRaced}
 use Rattle.ib_latch.specs.Refusals.{WasRefusedFor}
-use Rattle.ib_latch.proofs.RefusalLaws.{looks_few, refused_later}
+use Rattle.ib_latch.proofs.RefusalLaws.{refused_later}
 use Rattle.ib_mtr.specs.Commits.{HasEnded, HasRead}
 use Rattle.ib_mtr.specs.Mtr.{finished, released_to, started, with_work}
 use Rattle.ib_mtr.specs.NowaitCommits.{IsRefusedByLog}
@@ -29,7 +29,7 @@ use Rattle.ib_cursor.specs.Contention.{fault_on, refused_latch}
 use Rattle.ib_cursor.specs.Going.{WentOn}
 use Rattle.ib_cursor.specs.Refusals.{AreFewGrants, AreFewLooks, HasGivenUp, IsRefusal, WasRefusedIn}
 use Rattle.ib_cursor.proofs.LatchingLaws.{looked_then, went_both}
-use Rattle.ib_cursor.proofs.RefusalLaws.{given_up, refusal_after}
+use Rattle.ib_cursor.proofs.RefusalLaws.{given_up, looks-on, refusal_after}
 use Rattle.ib_cursor.proofs.TakeRefusalLaws.{refusal_wider}
 use Rattle.ib_leaf.proofs.CallLaws.{ended-before, read-end, read-known}
 use Rattle.ib_index.specs.Changes.{WasLeaf}
@@ -77,7 +77,7 @@ contended-log sizes takes most f work p q r went few grants role h taken =
     let on : WentOn q r = record { table = end.table; sizes = end.sizes; number = end.number; own = ap (λ (m : Knowledge). m.own) ended.memory; more = end.more; seen = end.seen; added = length h.log ∷ []; ends = end.ends; bounds = ((end.low, end.high), tt) } in
     let s = ap (λ (g : Grants). g.s) ended.grants in let sx = ap (λ (g : Grants). g.sx) ended.grants in let x = ap (λ (g : Grants). g.x) ended.grants in
     let a = grants.s in let b = grants.sx in let d = grants.x in
-    let count = h.looks in let two = looks_few f in let least = few.least in let most-looks = few.most in
+    let count = h.looks in let tried = looks-on (record { 0 = 0 }) f in let least = few.least in let most-looks = few.most in
     record {
       refusal = record {
         went = went_both p q r went on;

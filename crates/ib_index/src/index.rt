@@ -4,6 +4,7 @@ ghost use Rattle.std.specs.Prelude.{◌≡◌, ◌+◌, ◌*◌, ◌≤◌, IfOk
 ghost use Rattle.ib_heap.specs.declared.TheConstants.{MOST_LEVEL};
 ghost use Rattle.ib_rule.specs.Pass.{IsAtRest};
 ghost use Rattle.ib_cursor.specs.Contention.{IsContended};
+ghost use Rattle.ib_cursor.specs.Refusals.{AreFewLooks, looks_of};
 ghost use Rattle.ib_map.specs.declared.call.Call.TheVariants.{Delete, Insert};
 ghost use Rattle.ib_leaf.specs.Calls.{HasCalled, MayCall};
 ghost use Rattle.ib_index.specs.Changes.{TakesFewUnless};
@@ -126,8 +127,9 @@ impl<S: Sleep> Index<S> {
     /// Looks a key up without waiting: each latch is tried (`rw_lock_s_lock_nowait`). Where one is refused,
     /// the log's end is looked at and then all latches are given up; `Busy` and `Raced` tell the latch that
     /// was not had, the index or a page of the key's path, and the words of the last looks, both of this
-    /// call. There are two looks at most for each latch of the longest path that a tree can have. The session
-    /// holds nothing before and after.
+    /// call. There are two looks at most for each latch that was had, and for `Busy` one more, for `Raced` two;
+    /// so two at most for each latch of the longest path that a tree can have. The session holds nothing before
+    /// and after.
     ///
     /// ```
     /// if pass.may_call() {
@@ -145,6 +147,8 @@ impl<S: Sleep> Index<S> {
             pass.old pass.new) }
         ensures contended { IfErr result (λ fault. under_plans self.now IsContended 1 key fault
             pass.old pass.new) }
+        ensures vain { IfErr result (λ fault. AreFewLooks (looks_of fault) pass.old.view
+            pass.new.view) }
         ensures looks { pass.new.view.looks.count
             ≤ pass.old.view.looks.count + 2 * (MOST_LEVEL + 2) }
     {
@@ -158,7 +162,7 @@ impl<S: Sleep> Index<S> {
     /// both of this call. It is the index or a page of the key's path, in S; the key's leaf or the log's
     /// latch, in X; or where the key's leaf is full, the index in SX, or in X a page of the key's path, a leaf
     /// beside its last page, page 0, or one of the fresh pages. There are two looks at most for each latch that
-    /// was had, and two more. The session holds nothing before and after.
+    /// was had, and for `Busy` one more, for `Raced` two. The session holds nothing before and after.
     ///
     /// ```
     /// if pass.may_call() {

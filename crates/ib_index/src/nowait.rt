@@ -5,6 +5,7 @@ ghost use Rattle.ib_heap.specs.declared.TheConstants.{MOST_LEVEL};
 ghost use Rattle.ib_rule.specs.Pass.{IsAtRest};
 ghost use Rattle.ib_rule.specs.Under.{under};
 ghost use Rattle.ib_cursor.specs.Contention.{IsContended};
+ghost use Rattle.ib_cursor.specs.Refusals.{AreFewLooks, looks_of};
 ghost use Rattle.ib_leaf.specs.Calls.{MayCall};
 ghost use Rattle.ib_index.specs.Lookups.{HasLookedUp};
 
@@ -29,6 +30,8 @@ pub(crate) fn get_nowait<L: Trees, S: Sleep>(
         pass.old pass.new) }
     ensures contended { IfErr result (λ fault. under L.Law latches.now IsContended 1 key fault
         pass.old pass.new) }
+    ensures vain { IfErr result (λ fault. AreFewLooks (looks_of fault) pass.old.view
+        pass.new.view) }
     ensures looks { pass.new.view.looks.count
         ≤ pass.old.view.looks.count + 2 * (MOST_LEVEL + 2) }
 {

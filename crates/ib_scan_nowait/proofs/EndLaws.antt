@@ -15,7 +15,7 @@ use Rattle.ib_mtr.specs.Mtr.{finished, started}
 use Rattle.ib_cursor.specs.declared.fault.NowaitFault.{NowaitFault}
 use Rattle.ib_cursor.specs.Contention.{IsContended, refused_latch}
 use Rattle.ib_cursor.specs.Going.{WentOn}
-use Rattle.ib_cursor.specs.Refusals.{AreFewLooks, try_of}
+use Rattle.ib_cursor.specs.Refusals.{AreFewLooks, looks_of, try_of}
 use Rattle.ib_cursor.proofs.LatchingLaws.{IsBeside, added_both, known_beside, went_beside, went_both}
 use Rattle.ib_cursor.proofs.RefusalLaws.{few_both}
 use Rattle.ib_scan.specs.Scanning.{AreHeld}
@@ -31,8 +31,8 @@ use Rattle.ib_scan_nowait.proofs.LookLaws.{HasGivenAll, few_as, refused_reader}
 
 -- a latch was refused on the way to the first leaf
 pub contended_scan : (sizes : Sizes) (lawful : List Entry → Type 0) (opening : ℕ → ℕ) (root : ℕ) (low high : MapKey) → rank low ≤ rank high → (f : NowaitFault) (out : HeldChunks) (p q t : PassState)
-    → IsContended sizes lawful opening root low f (started p) q → q.view.looks.count ≤ p.view.looks.count + 2 * (MOST_LEVEL + 2) → t ≡ finished q → IsRefusedScan sizes lawful opening root low high low f out out p t
-contended_scan sizes lawful opening root low high le f out p q t h few is =
+    → IsContended sizes lawful opening root low f (started p) q → AreFewLooks (looks_of f) p.view q.view → q.view.looks.count ≤ p.view.looks.count + 2 * (MOST_LEVEL + 2) → t ≡ finished q → IsRefusedScan sizes lawful opening root low high low f out out p t
+contended_scan sizes lawful opening root low high le f out p q t h few looks is =
     let look = first_look h.went.added (length p.view.memory.seen) (length q.view.memory.seen) h.looked h.went.bounds in
     let s = h.s in
     subst (IsRefusedScan sizes lawful opening root low high low f out out p) (sym is) (record {
@@ -57,7 +57,8 @@ contended_scan sizes lawful opening root low high le f out p q t h few is =
       to = le;
       none = λ e. refl;
       refused = refused_reader f p.view.looks q.view.looks h.refused;
-      at = inl (record { none = refl; on_path = h.on_path; few = few });
+      few = record { least = few.least; most = few.most };
+      at = inl (record { none = refl; on_path = h.on_path; few = looks });
     })
 
 -- from the start to the end: the pass as the caller sees it, as it was when the scan had its first leaf, as the loop left it, and once all was given up
@@ -123,11 +124,11 @@ module _ (sizes : Sizes) (lawful : List Entry → Type 0) (opening : ℕ → ℕ
         to = h.to;
         none = h.none;
         refused = refused_later S (refused_latch f) (try_of f) p.view.looks q.view.looks r.view.looks end.view.looks few.least h.refused gave.all gave.count;
+        few = few_as (looks_of f) p.view r.view end.view gave.count gave.aside.grants (few_both (looks_of f) p.view q.view r.view few h.few);
         at = inr (record {
           to_come = subst (λ es. IsLeafToCome (pages_after opening es) root next (refused_latch f)) (sym gave.aside.seen) h.to_come;
           spare = h.spare;
           least = omega arith;
-          few = few_as 2 p.view r.view end.view gave.count gave.aside.grants (few_both 2 p.view q.view r.view few h.few);
         });
       }
 

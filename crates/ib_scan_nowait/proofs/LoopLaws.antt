@@ -19,7 +19,7 @@ use Rattle.ib_cursor.specs.declared.fault.NowaitFault.{NowaitFault}
 use Rattle.ib_cursor.specs.declared.position.Position.{Position}
 use Rattle.ib_cursor.specs.Contention.{refused_latch}
 use Rattle.ib_cursor.specs.Laws.{Laws}
-use Rattle.ib_cursor.specs.Refusals.{AreFewLooks, try_of}
+use Rattle.ib_cursor.specs.Refusals.{AreFewLooks, looks_of, try_of}
 use Rattle.ib_cursor.proofs.LatchingLaws.{seen_longer, went_both}
 use Rattle.ib_cursor.proofs.RefusalLaws.{few_both}
 use Rattle.ib_scan.specs.declared.walk.Found.{Found}
@@ -58,7 +58,7 @@ module _ (sizes : Sizes) (roots : ℕ) (lawful : List Entry → Type 0) (opening
         sx = omega arith;
         x = omega arith;
         refused = refused_later S (refused_latch f) (try_of f) p.view.looks q.view.looks r.view.looks r.view.looks few.least n.refused refl refl;
-        few = few_both 2 p.view q.view r.view few n.few;
+        few = few_both (looks_of f) p.view q.view r.view few n.few;
         to_come = subst (IsLeafToCome (pages_after opening r.view.memory.seen) h.root start) (sym n.at)
             (leaf_to_come sizes roots lawful opening laws h.root start a.ps a.last r.view.memory.seen n.known.legal there n.walked);
         still = subst (IsReadOf opening r.view.memory.seen) first
@@ -91,7 +91,7 @@ module _ (sizes : Sizes) (roots : ℕ) (lawful : List Entry → Type 0) (opening
           to = i.up_to.to;
           none = λ e. elim i.up_to.first [ inl at ↦ at.0 | inr lt ↦ absurd (let z = ap rank e in omega arith) ];
           refused = refused_later S (refused_latch f) (try_of f) p0.view.looks p.view.looks q.view.looks q.view.looks few.least h.refused refl refl;
-          few = few_both 2 p0.view p.view q.view few h.few;
+          few = few_both (looks_of f) p0.view p.view q.view few h.few;
           to_come = h.to_come;
           spare = some;
         }

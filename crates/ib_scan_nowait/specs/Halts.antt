@@ -18,7 +18,7 @@ use Rattle.ib_rule.specs.Pass.{PassState}
 use Rattle.ib_cursor.specs.declared.fault.NowaitFault.{NowaitFault}
 use Rattle.ib_cursor.specs.Contention.{IsAnywhereOnPath, refused_latch}
 use Rattle.ib_cursor.specs.Going.{IsKnown, WentOn}
-use Rattle.ib_cursor.specs.Refusals.{AreFewLooks, WasRefusedIn}
+use Rattle.ib_cursor.specs.Refusals.{AreFewLooks, WasRefusedIn, looks_of}
 use Rattle.ib_scan.specs.Scanning.{Appends, AreHeld, HasStopped}
 use Rattle.ib_scan_nowait.specs.declared.halt.Halt.{Halt}
 use Rattle.ib_scan_nowait.specs.declared.halt.Halt.TheVariants.{NoRoom, Refused}
@@ -53,14 +53,13 @@ pub record IsRefusedOnWay (opening : ℕ → ℕ) (root : ℕ) (low : MapKey) (f
   pub on_path : IsAnywhereOnPath opening q.view.memory.seen root low (refused_latch fault)
   pub few : q.view.looks.count ≤ p.view.looks.count + 2 * (MOST_LEVEL + 2)
 
--- the latch is that of a leaf to which the scan had come for the chunk from `next`, with a chunk place spare. Two grants of S at least were taken, and at lock words it looked twice at most for each grant, and twice for the leaf that was refused
+-- the latch is that of a leaf to which the scan had come for the chunk from `next`, with a chunk place spare. Two grants of S at least were taken
 pub record IsRefusedAtLeaf (opening : ℕ → ℕ) (root : ℕ) (next : MapKey) (fault : NowaitFault) (new : HeldChunks) (p q : PassState) : Type 0 where
   pub to_come : IsLeafToCome (pages_after opening q.view.memory.seen) root next (refused_latch fault)
   pub spare : 0 < new.chunk_room
   pub least : p.view.grants.s + 2 ≤ q.view.grants.s
-  pub few : AreFewLooks 2 p.view q.view
 
--- chunks from `low` up to what is before `next` were appended, each as the tree of the root was at its place, off a leaf that was held until the next one was read, the last one's until the end. Then a latch was refused in S at the last looks, and all was given up
+-- chunks from `low` up to what is before `next` were appended, each as the tree of the root was at its place, off a leaf that was held until the next one was read, the last one's until the end. Then a latch was refused in S at the last looks, and all was given up. At lock words it looked twice at most for each grant, and as often more as the refused try takes
 pub record IsRefusedScan (sizes : Sizes) (lawful : List Entry → Type 0) (opening : ℕ → ℕ) (root : ℕ) (low high next : MapKey) (fault : NowaitFault) (out new : HeldChunks) (p q : PassState) : Type 0 where
   pub gone : HasGoneSome sizes lawful out new p q
   pub last : ℕ
@@ -71,6 +70,7 @@ pub record IsRefusedScan (sizes : Sizes) (lawful : List Entry → Type 0) (openi
   pub to : rank next ≤ rank high
   pub none : next ≡ low → gone.spans ≡ []
   pub refused : WasRefusedIn S fault p.view.looks q.view.looks
+  pub few : AreFewLooks (looks_of fault) p.view q.view
   pub at : IsRefusedOnWay opening root low fault gone.spans p q ⊎ IsRefusedAtLeaf opening root next fault new p q
 
 -- the scan stopped as one that waits: the chunk from `next` finds no room. Two grants of S at least were taken, and at lock words it looked twice at most for each

@@ -18,7 +18,7 @@ use Rattle.ib_cursor.specs.declared.fault.NowaitFault.{NowaitFault}
 use Rattle.ib_cursor.specs.declared.position.Position.{Position}
 use Rattle.ib_cursor.specs.Contention.{refused_latch}
 use Rattle.ib_cursor.specs.Going.{IsKnown, WentOn}
-use Rattle.ib_cursor.specs.Refusals.{AreFewLooks, WasRefusedIn}
+use Rattle.ib_cursor.specs.Refusals.{AreFewLooks, WasRefusedIn, looks_of}
 use Rattle.ib_scan.specs.Scanning.{Appends, AreHeld}
 use Rattle.ib_scan.specs.Steps.{HasRunToStop}
 use Rattle.ib_scan.specs.Walked.{IsReadOf, IsWalked, ReadLeaf}
@@ -40,7 +40,7 @@ pub record IsNextRefused (sizes : Sizes) (lawful : List Entry → Type 0) (openi
   pub grants : q.view.grants ≡ p.view.grants
   pub at : refused_latch fault ≡ next_of last.image + 2
   pub refused : WasRefusedIn S fault p.view.looks q.view.looks
-  pub few : AreFewLooks 2 p.view q.view
+  pub few : AreFewLooks (looks_of fault) p.view q.view
   pub walked : IsWalked roots opening q.view.memory.seen root start (ps ++ last ∷ []) (leaf_after opening q.view.memory.seen (next_of last.image))
 
 -- a leaf was refused on the way to the one that gives the chunk from `start`, and the leaf from which the scan went on is as it was read
@@ -52,7 +52,7 @@ pub record IsRefusedFrom (sizes : Sizes) (lawful : List Entry → Type 0) (openi
   pub sx : q.view.grants.sx ≡ p.view.grants.sx
   pub x : q.view.grants.x ≡ p.view.grants.x
   pub refused : WasRefusedIn S fault p.view.looks q.view.looks
-  pub few : AreFewLooks 2 p.view q.view
+  pub few : AreFewLooks (looks_of fault) p.view q.view
   pub to_come : IsLeafToCome (pages_after opening q.view.memory.seen) root start (refused_latch fault)
   pub still : IsReadOf opening q.view.memory.seen from
 
@@ -81,7 +81,7 @@ pub record HasRunToRefusal (sizes : Sizes) (lawful : List Entry → Type 0) (ope
   pub to : rank next ≤ rank high
   pub none : next ≡ low → spans ≡ []
   pub refused : WasRefusedIn S fault p.view.looks q.view.looks
-  pub few : AreFewLooks 2 p.view q.view
+  pub few : AreFewLooks (looks_of fault) p.view q.view
   pub to_come : IsLeafToCome (pages_after opening q.view.memory.seen) root next (refused_latch fault)
   pub spare : 0 < new.chunk_room
 

@@ -97,9 +97,9 @@ fn scan_chunks_nowait<L: Trees, S: Sleep>(
 /// path of `low`, with nothing appended, or a leaf to which the scan had come for the chunk that begins at `next`,
 /// with a chunk place spare. The chunks before `next` were appended, and all that is said of the chunks of a scan
 /// holds of them. The log's end is looked at, and then all is given up. `Busy` and `Raced` tell the latch and the
-/// words of the last looks, both of this call. There are two looks at most for each latch that was had, and two more
-/// for the leaf that was refused; where the way to the first leaf was refused, two at most for each latch of the
-/// longest path that a tree can have. The session holds nothing before and after.
+/// words of the last looks, both of this call. There are two looks at most for each latch that was had, and for
+/// `Busy` one more, for `Raced` two; where the way to the first leaf was refused, so two at most for each latch of
+/// the longest path that a tree can have. The session holds nothing before and after.
 ///
 /// ```
 /// if pass.may_scan(chunks.room().0) {

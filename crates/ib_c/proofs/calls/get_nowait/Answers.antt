@@ -13,6 +13,7 @@ returns-in-Ok-clause-looked_up c =
       rest = c.get_nowait.ensures.rest;
       looked_up = c.get_nowait.ensures.looked_up;
       contended = c.get_nowait.ensures.contended;
+      vain = c.get_nowait.ensures.vain;
       looks = c.get_nowait.ensures.looks;
     } in
     let same = subst (λ (key : MapKey). IsLookup key c.args.table.now c.args.pass.now c.get_nowait.result c.get_nowait.new.pass) c.in-Ok.ensures.ok.0 is in

@@ -1,5 +1,5 @@
 -- The key's leaf is taken, what it has of the key is read, and it is given up.
-use Rattle.std.proofs.Common.{◌≡◌, ◌<◌, ◌∷◌, [], ◌∙◌, ap, sym, subst, arith, length}
+use Rattle.std.proofs.Common.{◌≡◌, ◌<◌, ◌∷◌, [], ap, sym, subst, arith, length}
 use Rattle.ib_map.specs.Pairs.{value_at}
 use Rattle.ib_layout.specs.Geometry.{Sizes}
 use Rattle.ib_logrec.specs.Log.{by_place, memory_after}

@@ -1,5 +1,5 @@
 -- The nodes, and then the leaves.
-use Rattle.std.proofs.Common.{◌≡◌, ◌∷◌, ◌++◌, ap, sym, subst, arith, length-append}
+use Rattle.std.proofs.Common.{◌∷◌, ◌++◌, ap, sym, subst, arith, length-append}
 use Rattle.ib_layout.specs.Geometry.{Sizes}
 use Rattle.ib_logrec.specs.Log.{by_place}
 use Rattle.ib_rule.specs.Pass.{PassState}

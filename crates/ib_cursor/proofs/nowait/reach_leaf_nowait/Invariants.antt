@@ -13,7 +13,6 @@ invariant-loop-level g l = record {
   still : IsStillMtr l.fn.mtr l.mtr;
   down : under g.L.Law l.fn.mtr.latches.now IsDown l.sought.root l.sought.key (index_grant ∷ []) false
       (length l.path) l.page l.level l.fn.mtr.pass.now l.mtr.pass.now;
-  looks : l.fn.mtr.pass.now.view.looks.count ≤ l.mtr.pass.now.view.looks.count;
   twice : AreFewLooks 0 l.fn.mtr.pass.now.view l.mtr.pass.now.view;
   few : l.mtr.pass.now.view.looks.count + 2 * l.level ≤ l.fn.mtr.pass.now.view.looks.count + 2 * (MOST_LEVEL + 2);
 }

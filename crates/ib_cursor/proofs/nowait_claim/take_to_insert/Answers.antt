@@ -12,7 +12,7 @@ use Rattle.ib_cursor.specs.Shapes.{HasIndex, HasReadPath}
 use Rattle.ib_cursor.specs.Takings.{WillTake, HasTakenMore, MayTakeLeaves}
 use Rattle.ib_cursor.proofs.EndLaws.{start_index, will_nodes, ready, has_claimed, with_leaves}
 use Rattle.ib_cursor.proofs.GrantLaws.{none_granted}
-use Rattle.ib_cursor.proofs.RefusalLaws.{few_both}
+use Rattle.ib_cursor.proofs.RefusalLaws.{few_both, looks_two}
 use Rattle.ib_cursor.proofs.TakeLaws.{beside_few}
 use Rattle.ib_cursor.proofs.TakeRefusalLaws.{claim_refused, insert_leaf, insert_node, path_refused}
 use Rattle.ib_cursor.proofs.nowait_claim.take_to_insert.Given.{Over}
@@ -67,7 +67,7 @@ returns-in-Err-clause-refusal g c =
 
 pub returns-in-Err-clause-few : goal.returns-in-Err-clause-few
 returns-in-Err-clause-few g c =
-    let v = c.in-Err.ensures.vain in let few = v.few.most in let a = ap (λ (g : Grants). g.s) v.grants in let b = ap (λ (g : Grants). g.sx) v.grants in let d = ap (λ (g : Grants). g.x) v.grants in omega arith
+    let v = c.in-Err.ensures.vain in let few = v.few.most in let tried = looks_two c.in-Err.fault in let a = ap (λ (g : Grants). g.s) v.grants in let b = ap (λ (g : Grants). g.sx) v.grants in let d = ap (λ (g : Grants). g.x) v.grants in omega arith
 
 pub try_path-requires-clause-index : goal.try_path-requires-clause-index
 try_path-requires-clause-index g c =
@@ -92,7 +92,7 @@ returns-in-Err-try_path-clause-refusal g c =
 pub returns-in-Err-try_path-clause-few : goal.returns-in-Err-try_path-clause-few
 returns-in-Err-try_path-clause-few g c =
     let gs = c.in-Ok.ensures.latched.grants in let a = ap (λ (g : Grants). g.s) gs in let b = ap (λ (g : Grants). g.sx) gs in let d = ap (λ (g : Grants). g.x) gs in
-    let one = c.in-Ok.ensures.few.most in let v = c.in-Err-try_path.ensures.refusal in let two = v.few.most in let e = v.grants.s in let h = v.grants.sx in let i = v.grants.x in omega arith
+    let one = c.in-Ok.ensures.few.most in let v = c.in-Err-try_path.ensures.refusal in let two = v.few.most in let tried = looks_two c.in-Err-try_path.fault in let e = v.grants.s in let h = v.grants.sx in let i = v.grants.x in omega arith
 
 pub try_take_nodes-requires-clause-room : goal.try_take_nodes-requires-clause-room
 try_take_nodes-requires-clause-room g c =
@@ -129,7 +129,7 @@ returns-in-Err-try_take_nodes-clause-few g c =
     let gs = c.in-Ok.ensures.latched.grants in let a = ap (λ (g : Grants). g.s) gs in let b = ap (λ (g : Grants). g.sx) gs in let d = ap (λ (g : Grants). g.x) gs in
     let w = c.in-Ok-try_path.ensures.on_path in let e = w.s in let f = w.sx in let h = w.x in let i = w.short in let j = ap length w.ends in let k = length-append w.front (c.in-Ok-try_path.found.leaf ∷ []) in
     let v = c.in-Err-try_take_nodes.ensures.refused.refusal in let e2 = v.grants.s in let h2 = v.grants.sx in let i2 = v.grants.x in
-    let one = c.in-Ok.ensures.few.most in let two = c.in-Ok-try_path.ensures.few.most in let three = v.few.most in omega arith
+    let one = c.in-Ok.ensures.few.most in let two = c.in-Ok-try_path.ensures.few.most in let three = v.few.most in let tried = looks_two c.in-Err-try_take_nodes.fault in omega arith
 
 pub try_take_leaves-requires-clause-room : goal.try_take_leaves-requires-clause-room
 try_take_leaves-requires-clause-room g c =
@@ -195,4 +195,4 @@ pub returns-in-Err-try_take_leaves-clause-few : goal.returns-in-Err-try_take_lea
 returns-in-Err-try_take_leaves-clause-few g c =
     let so = taken g (goal.at.returns-in-Err-try_take_leaves-clause-few g c).In-Ok-try_take_nodes in let w = so.0 in let nodes = so.1 in
     let v = refused g (goal.at.returns-in-Err-try_take_leaves-clause-few g c).In-Err-try_take_leaves w nodes in
-    let few = v.few.most in let a = v.grants.s in let b = v.grants.sx in let d = v.grants.x in omega arith
+    let few = v.few.most in let tried = looks_two c.in-Err-try_take_leaves.fault in let a = v.grants.s in let b = v.grants.sx in let d = v.grants.x in omega arith

@@ -5,7 +5,7 @@ use Rattle.ib_layout.specs.Geometry.{Sizes}
 use Rattle.ib_logrec.specs.Log.{by_place}
 use Rattle.ib_rule.specs.declared.looks.Looks.{Looks}
 use Rattle.ib_cursor.specs.Refusals.{TakesForLeaf}
-use Rattle.ib_cursor.proofs.RefusalLaws.{few_same, given_up, without_work}
+use Rattle.ib_cursor.proofs.RefusalLaws.{few_same, given_up, looks_two, without_work}
 use Rattle.ib_cursor.proofs.nowait_descent.descend_to_change_nowait.Goals as goal
 
 pub reach_leaf_to_change-requires-clause-sought : goal.reach_leaf_to_change-requires-clause-sought
@@ -36,4 +36,4 @@ pub returns-in-Err-clause-few : goal.returns-in-Err-clause-few
 returns-in-Err-clause-few g c =
     let sizes : Sizes = c.args.mtr.now.latches.now.sizes in
     let v = given_up sizes (g.L.Law.lawful sizes.pages) (TakesForLeaf (by_place g.L.Law.opening sizes.pages) c.args.root c.args.key) (record { s = 9; sx = 0; x = 1 }) c.in-Err.fault c.args.mtr.now.pass.now c.reach_leaf_to_change.new.mtr.pass.now c.give_back.new.self.pass.now c.in-Err.ensures.refusal c.give_back.ensures.given c.give_back.ensures.idle in
-    let few = v.refusal.few.most in let a = v.refusal.grants.s in let b = v.refusal.grants.sx in let d = v.refusal.grants.x in omega arith
+    let few = v.refusal.few.most in let tried = looks_two c.in-Err.fault in let a = v.refusal.grants.s in let b = v.refusal.grants.sx in let d = v.refusal.grants.x in omega arith

@@ -16,7 +16,7 @@ use Rattle.ib_cursor.specs.Shapes.{HasIndex, HasReadPath}
 use Rattle.ib_cursor.specs.Takings.{HasTakenMore, WillTake, MayTakeFirst, TakesFirst}
 use Rattle.ib_cursor.proofs.GrantLaws.{none_granted}
 use Rattle.ib_cursor.proofs.EndLaws.{claimed_with, start_index, path_long}
-use Rattle.ib_cursor.proofs.RefusalLaws.{few_both}
+use Rattle.ib_cursor.proofs.RefusalLaws.{few_both, looks_two}
 use Rattle.ib_cursor.proofs.RowRefusalLaws.{delete_behind, delete_row}
 use Rattle.ib_cursor.proofs.TakeLaws.{beside_few}
 use Rattle.ib_cursor.proofs.TakeRefusalLaws.{claim_refused, path_refused}
@@ -97,7 +97,7 @@ returns-in-Err-clause-refusal g c =
 
 pub returns-in-Err-clause-few : goal.returns-in-Err-clause-few
 returns-in-Err-clause-few g c =
-    let v = c.in-Err.ensures.vain in let few = v.few.most in let a = ap (λ (g : Grants). g.s) v.grants in let b = ap (λ (g : Grants). g.sx) v.grants in let d = ap (λ (g : Grants). g.x) v.grants in omega arith
+    let v = c.in-Err.ensures.vain in let few = v.few.most in let tried = looks_two c.in-Err.fault in let a = ap (λ (g : Grants). g.s) v.grants in let b = ap (λ (g : Grants). g.sx) v.grants in let d = ap (λ (g : Grants). g.x) v.grants in omega arith
 
 pub try_path-requires-clause-index : goal.try_path-requires-clause-index
 try_path-requires-clause-index g c =
@@ -122,7 +122,7 @@ returns-in-Err-try_path-clause-refusal g c =
 pub returns-in-Err-try_path-clause-few : goal.returns-in-Err-try_path-clause-few
 returns-in-Err-try_path-clause-few g c =
     let gs = c.in-Ok.ensures.latched.grants in let a = ap (λ (g : Grants). g.s) gs in let b = ap (λ (g : Grants). g.sx) gs in let d = ap (λ (g : Grants). g.x) gs in
-    let one = c.in-Ok.ensures.few.most in let v = c.in-Err-try_path.ensures.refusal in let two = v.few.most in let e = v.grants.s in let h = v.grants.sx in let i = v.grants.x in omega arith
+    let one = c.in-Ok.ensures.few.most in let v = c.in-Err-try_path.ensures.refusal in let two = v.few.most in let tried = looks_two c.in-Err-try_path.fault in let e = v.grants.s in let h = v.grants.sx in let i = v.grants.x in omega arith
 
 pub try_take_rows-requires-clause-ready : goal.try_take_rows-requires-clause-ready
 try_take_rows-requires-clause-ready g c =
@@ -146,7 +146,7 @@ pub returns-in-Err-try_take_rows-clause-few : goal.returns-in-Err-try_take_rows-
 returns-in-Err-try_take_rows-clause-few g c =
     let at = goal.at.returns-in-Err-try_take_rows-clause-few g c in let read = path_read g at.In-Ok-try_path in let w = read.0 in let long = read.1 in let may = read.2 in
     let v = row_refusal g at.In-Err-try_take_rows w in
-    let few = v.few.most in let a = v.grants.s in let b = v.grants.sx in let d = v.grants.x in omega arith
+    let few = v.few.most in let tried = looks_two c.in-Err-try_take_rows.fault in let a = v.grants.s in let b = v.grants.sx in let d = v.grants.x in omega arith
 
 pub try_take_behind-requires-clause-loaded : goal.try_take_behind-requires-clause-loaded
 try_take_behind-requires-clause-loaded g c =
@@ -238,4 +238,4 @@ returns-in-Err-try_take_behind-clause-few g c =
     let at = goal.at.returns-in-Err-try_take_behind-clause-few g c in let read = path_read g at.In-Ok-try_path in let w = read.0 in let long = read.1 in let may = read.2 in
     let rows = rows_taken g at.In-Ok-try_take_rows may in let done = long.1 in
     let v = behind_refusal g at.In-Err-try_take_behind w may rows done in
-    let few = v.few.most in let a = v.grants.s in let b = v.grants.sx in let d = v.grants.x in omega arith
+    let few = v.few.most in let tried = looks_two c.in-Err-try_take_behind.fault in let a = v.grants.s in let b = v.grants.sx in let d = v.grants.x in omega arith

@@ -1,5 +1,5 @@
 -- The claim, both paths, and the pages of both.
-use Rattle.std.proofs.Common.{◌≡◌, ◌∙◌, ◌∷◌, ◌++◌, List, [], ℕ, ap, sym, subst, arith, length, length-append}
+use Rattle.std.proofs.Common.{◌∙◌, ◌∷◌, ◌++◌, List, [], ℕ, ap, sym, subst, arith, length, length-append}
 use Rattle.ib_layout.specs.Geometry.{Sizes}
 use Rattle.ib_logrec.specs.Log.{by_place}
 use Rattle.ib_rule.specs.declared.looks.Grants.{Grants}

@@ -34,7 +34,7 @@ use Rattle.ib_index.proofs.ShrinkCalls.{called-missing, called-shrunk}
 use Rattle.ib_index.proofs.ShrinkMay.{may-shrink}
 use Rattle.ib_index.proofs.ShrinkWhole.{IsReadyToShrink, ready-to-shrink, siblings-started}
 use Rattle.ib_index.proofs.nowait_delete.pessimistic_delete_nowait.Given.{Over}
-use Rattle.ib_index.proofs.nowait_delete.pessimistic_delete_nowait.Goals.{After-facts_of_session-2}
+use Rattle.ib_index.proofs.nowait_delete.pessimistic_delete_nowait.Goals.{After-facts_of_session-2, After-give_back}
 use Rattle.ib_index.proofs.nowait_delete.pessimistic_delete_nowait.Goals as goal
 
 moved : (P : PassState → Type 0) (r u : PassState) → r ≡ u → P r → P u
@@ -115,8 +115,9 @@ returns-in-Err-clause-contended g c =
 pub give_back-requires : goal.give_back-requires
 give_back-requires g c = without_work c.try_space.new.mtr.latches.now c.try_space.new.mtr.pass.now c.try_space.ensures.still.mtr
 
-pub returns-in-Err-try_space-clause-contended : goal.returns-in-Err-try_space-clause-contended
-returns-in-Err-try_space-clause-contended g c =
+-- page 0 was refused, and all was given back
+space-refused : (g : Over) (c : After-give_back g) → IsContended c.args.latches.now.sizes (TakesToDelete c.args.latches.now.sizes c.args.key) most_to_delete c.in-Err-try_space.fault c.args.pass.now (finished c.give_back.new.self.pass.now)
+space-refused g c =
     let sizes : Sizes = c.args.latches.now.sizes in let p : PassState = c.args.pass.now in let q : PassState = c.try_siblings.new.mtr.pass.now in let t : PassState = c.try_space.new.mtr.pass.now in let u : PassState = c.give_back.new.self.pass.now in
     let key = c.args.key in let f = c.in-Err-try_space.fault in
     let at = c.in-Ok.ensures.reached in
@@ -125,9 +126,14 @@ returns-in-Err-try_space-clause-contended g c =
     let vain = subst (λ (s : Sizes). IsVainTry s (IsKeptLog s.pages) X 2 f q t) same c.in-Err-try_space.ensures.vain in
     let refused = refusal_by sizes (IsKeptLog sizes.pages) (TakesToDelete sizes key) (record { s = 0; sx = 0; x = 0 }) f X 2 q t vain (inr (refl, inl (record { page = 0; listed = refl; at = refl }))) in
     let few = c.in-Ok.ensures.twice in let took = c.in-Ok.ensures.grants in
-    let ended = contended-behind sizes (TakesToDelete sizes key) (TakesToDelete sizes key) (record { s = 0; sx = 0; x = 0 }) (record { s = 8; sx = 1; x = 23 }) most_to_delete f p q t u (λ log mode l t. t) (omega arith) (omega arith) (omega arith)
-    reached.went (search (rules, few)) (search (rules, took)) refused c.give_back.ensures.given c.give_back.ensures.idle in
-    subst (IsContended sizes (TakesToDelete sizes key) most_to_delete f p) (search rules) (subst (IsContended sizes (TakesToDelete sizes key) most_to_delete f p) (sym c.finish-in-Err-try_space.ensures.finished) ended)
+    contended-behind sizes (TakesToDelete sizes key) (TakesToDelete sizes key) (record { s = 0; sx = 0; x = 0 }) (record { s = 8; sx = 1; x = 23 }) most_to_delete f p q t u (λ log mode l t. t) (omega arith) (omega arith) (omega arith)
+    reached.went (search (rules, few)) (search (rules, took)) refused c.give_back.ensures.given c.give_back.ensures.idle
+
+pub returns-in-Err-try_space-clause-contended : goal.returns-in-Err-try_space-clause-contended
+returns-in-Err-try_space-clause-contended g c =
+    let ended = space-refused g (goal.at.returns-in-Err-try_space-clause-contended g c).After-give_back in
+    subst (IsContended c.args.latches.now.sizes (TakesToDelete c.args.latches.now.sizes c.args.key) most_to_delete c.in-Err-try_space.fault c.args.pass.now) (search rules)
+    (subst (IsContended c.args.latches.now.sizes (TakesToDelete c.args.latches.now.sizes c.args.key) most_to_delete c.in-Err-try_space.fault c.args.pass.now) (sym c.finish-in-Err-try_space.ensures.finished) ended)
 
 pub returns-in-Err-at_log-clause-contended : goal.returns-in-Err-at_log-clause-contended
 returns-in-Err-at_log-clause-contended g c =

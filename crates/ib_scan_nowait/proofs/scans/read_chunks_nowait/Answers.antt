@@ -10,7 +10,7 @@ use Rattle.ib_mtr.specs.Mtr.{finished, started}
 use Rattle.ib_cursor.specs.Contention.{IsContended}
 use Rattle.ib_cursor.specs.Descent.{HasDescended}
 use Rattle.ib_cursor.specs.Laws.{Laws}
-use Rattle.ib_cursor.specs.Refusals.{AreFewLooks}
+use Rattle.ib_cursor.specs.Refusals.{AreFewLooks, looks_of}
 use Rattle.ib_cursor.proofs.RefusalLaws.{without_work}
 use Rattle.ib_scan.specs.Scans.{HasAll}
 use Rattle.ib_scan.specs.Steps.{HasBegun, HasRunToEnd, IsScannedTo, TookTwo}
@@ -131,6 +131,7 @@ returns-in-Err-clause-halted g c =
     let first = ap (λ l. l.now.sizes) c.start-mtr.ensures.latches in
     let on = subst (λ (k : Sizes). IsContended k (g.L.Law.lawful k.pages) (by_place g.L.Law.opening k.pages) 1 c.args.low f c.start-mtr.result.pass.now q) first c.in-Err.ensures.contended in
     let contended = subst (λ (s : PassState). IsContended sizes (g.L.Law.lawful sizes.pages) (by_place g.L.Law.opening sizes.pages) 1 c.args.low f s q) c.start-mtr.ensures.started on in
+    let vain = subst (λ (s : PassState). AreFewLooks (looks_of f) s.view q.view) c.start-mtr.ensures.started c.in-Err.ensures.vain in
     let looks = subst (λ (s : PassState). q.view.looks.count ≤ s.view.looks.count + 2 * (MOST_LEVEL + 2)) c.start-mtr.ensures.started c.descend_nowait.ensures.few in
     subst (λ (t : PassState). IsRefusedScan sizes (g.L.Law.lawful sizes.pages) (by_place g.L.Law.opening sizes.pages) 1 c.args.low c.args.high c.args.low f c.args.out.now c.args.out.now p t) (search rules) (subst (λ (t : PassState). IsRefusedScan sizes (g.L.Law.lawful sizes.pages) (by_place g.L.Law.opening sizes.pages) 1 c.args.low c.args.high c.args.low f c.args.out.now c.args.out.now p t) (sym c.finish-in-Err.ensures.finished)
-    (contended_scan sizes (g.L.Law.lawful sizes.pages) (by_place g.L.Law.opening sizes.pages) 1 c.args.low c.args.high c.requires.ascends f c.args.out.now p q (finished q) contended looks refl))
+    (contended_scan sizes (g.L.Law.lawful sizes.pages) (by_place g.L.Law.opening sizes.pages) 1 c.args.low c.args.high c.requires.ascends f c.args.out.now p q (finished q) contended vain looks refl))
