@@ -8,7 +8,7 @@ use Rattle.ib_levels.specs.declared.level.Mode.TheVariants.{S, Sx, X}
 use Rattle.ib_layout.specs.Geometry.{Sizes}
 use Rattle.ib_core.specs.declared.phase.Phase.TheVariants.{Free}
 use Rattle.ib_core.specs.Holders.{CanWish}
-use Rattle.ib_core.specs.Sessions.{idle}
+use Rattle.ib_core.specs.Sessions.{holdings, idle}
 use Rattle.ib_core.specs.Takings.{holding_too}
 use Rattle.ib_logrec.specs.declared.entry.Entry.{Entry}
 use Rattle.ib_rule.specs.declared.looks.Grants.{Grants}
@@ -96,10 +96,10 @@ looks_two (Raced latch expected found) = omega arith
 
 -- a try in vain, and a look
 pub vain_by_try : (sizes : Sizes) (lawful : List Entry → Type 0) (mode : Mode) (latch : Latch) (v : Level) (fault : TryFault) (p q r : PassState)
-    → q ≡ with_view p q.view → IsUnchanged (looks_of fault) p.view q.view → IsOneTry mode latch.0 v p (Err fault) (with_memo p.memo q)
+    → holdings latch.0 p.view.session ≡ 0 → q ≡ with_view p q.view → IsUnchanged (looks_of fault) p.view q.view → IsOneTry mode latch.0 v p (Err fault) (with_memo p.memo q)
     → HasLookedOn sizes lawful q r → r.memo ≡ q.memo → r.view.session ≡ q.view.session → r.view.grants ≡ q.view.grants → r.work ≡ q.work → r.view.looks ≡ q.view.looks
     → IsVainTry sizes lawful mode latch.0 (fault_on latch fault) p r
-vain_by_try sizes lawful mode latch v fault p q r same un tried on memo session grants work looks =
+vain_by_try sizes lawful mode latch v fault p q r none same un tried on memo session grants work looks =
     let beside : IsBeside p q = record {
       table = ap (λ (s : PassState). s.table) same;
       sizes = ap (λ (s : PassState). s.sizes) same;
@@ -108,7 +108,7 @@ vain_by_try sizes lawful mode latch v fault p q r same un tried on memo session 
       seen = ap (λ (m : Knowledge). m.seen) un.memory;
       ends = ap (λ (m : Knowledge). m.ends) un.memory;
     } in
-    let was = refused_looks mode latch.0 v fault p (with_memo p.memo q) tried in
+    let was = refused_looks mode latch.0 v fault p (with_memo p.memo q) none tried in
     let later : WasRefusedFor mode latch.0 fault p.view.looks r.view.looks = subst (WasRefusedFor mode latch.0 fault p.view.looks) (sym looks) was in
     let named : WasRefusedIn mode (fault_on latch fault) p.view.looks r.view.looks =
     subst (λ (l : ℕ). WasRefusedFor mode l (try_of (fault_on latch fault)) p.view.looks r.view.looks) (sym (latch-of latch fault))

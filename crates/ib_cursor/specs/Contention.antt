@@ -29,22 +29,22 @@ abbrev pub refused_latch : NowaitFault → ℕ
 refused_latch (Busy latch word) = latch.0
 refused_latch (Raced latch expected found) = latch.0
 
--- the last look found this word, in which S is not granted: it is not above 0
+-- the last look found this word of the latch, of which the session held nothing, and S is not granted in the word: it is not above 0
 pub record WasBusy (l : ℕ) (word : LockWord) (first last : Looks) : Type 0 where
   pub count : first.count < last.count
   pub low : is_given_at S word.0 ≡ false
   pub at : ℕ
   pub before : List Look
-  pub is : last.all ≡ record { latch = l; found = cell_of word.0; expected = None; at = at } ∷ before
+  pub is : last.all ≡ record { latch = l; found = cell_of word.0; expected = None; at = at; held = 0 } ∷ before
 
--- the last two looks, with no step on a lock word between them: one of a word in which S is granted, and an exchange that found another
+-- the last two looks, with no step on a lock word between them, at a latch of which the session held nothing: one of a word in which S is granted, and an exchange that found another
 pub record WasRaced (l : ℕ) (expected found : LockWord) (first last : Looks) : Type 0 where
   pub count : first.count + 1 < last.count
   pub high : is_given_at S expected.0 ≡ true
   pub other : found.0 ≢ expected.0
   pub at : ℕ
   pub before : List Look
-  pub is : last.all ≡ record { latch = l; found = cell_of found.0; expected = Some (cell_of expected.0); at = at + 1 } ∷ record { latch = l; found = cell_of expected.0; expected = None; at = at } ∷ before
+  pub is : last.all ≡ record { latch = l; found = cell_of found.0; expected = Some (cell_of expected.0); at = at + 1; held = 0 } ∷ record { latch = l; found = cell_of expected.0; expected = None; at = at; held = 0 } ∷ before
 
 -- a latch was refused in the steps between
 abbrev pub WasRefused : NowaitFault → Looks → Looks → Type 0

@@ -115,6 +115,7 @@ module _ (sizes : Sizes) (lawful : List Entry → Type 0) (opening : ℕ → ℕ
           word = won.won.word;
           given = won.won.given;
           at = won.won.at;
+          held = won.won.held;
           before = won.won.before;
           last_two = ap (λ (s : PassState). s.view.looks.all) three ∙ (ap (λ (s : PassState). s.view.looks.all) two ∙ won.won.last_two);
         };

@@ -12,7 +12,7 @@ use Rattle.ib_levels.specs.Holding.{changed_on}
 use Rattle.ib_levels.specs.declared.level.Level.TheVariants.{Log}
 use Rattle.ib_core.specs.declared.phase.Phase.{Phase}
 use Rattle.ib_core.specs.declared.phase.Phase.TheVariants.{Free, Next, NextArmed, NextChecked}
-use Rattle.ib_core.specs.Sessions.{sx_grants}
+use Rattle.ib_core.specs.Sessions.{holdings, sx_grants}
 use Rattle.ib_core.specs.Table.{owns_x_at}
 use Rattle.ib_core.specs.declared.session.Session.{Session}
 use Rattle.ib_core.specs.Takings.{holding_too, is_given_at, level_on, one_more}
@@ -133,6 +133,7 @@ module _ (l : ℕ) (w : LockWord) (p q : PassState) (is : q ≡ with_view p (loo
         found = cell_of w.0;
         owned = owns_at (sx_grants l p.view.session) (cell_of w.0) waiting waits (sym (row ∙ here) ∙ (sym (ap (λ (q : PassState). q.view.session.phase) is) ∙ free));
         at = p.view.looks.steps;
+        held = holdings l p.view.session;
         before = p.view.looks.all;
         last = ap (λ (q : PassState). q.view.looks.all) is;
       }
@@ -144,20 +145,20 @@ module _ (l : ℕ) (w : LockWord) (p q : PassState) (is : q ≡ with_view p (loo
   armed_owned v g armed = owned_by (NextChecked l v g) (NextArmed l v g) (λ e. absurd (cc)) (ap (word_loaded l (cell_of w.0) p.view.session) armed)
 
 -- who reserved X by a won exchange, and is no next writer, owns it by that
-as_reserved : (l : ℕ) (v : Level) (w : LockWord) (k : Looks) (at : ℕ) (before : List Look)
-    → k.all ≡ record { latch = l; found = cell_of w.0; expected = Some (cell_of w.0); at = at + 1 } ∷ record { latch = l; found = cell_of w.0; expected = None; at = at } ∷ before
+as_reserved : (l : ℕ) (v : Level) (w : LockWord) (k : Looks) (at held : ℕ) (before : List Look)
+    → k.all ≡ record { latch = l; found = cell_of w.0; expected = Some (cell_of w.0); at = at + 1; held = held } ∷ record { latch = l; found = cell_of w.0; expected = None; at = at; held = held } ∷ before
     → EndsAsReserved l (phase_of l v (reserve_at (w.0 -ℤ pos X_LOCK_DECR))) k
-as_reserved l v w k at before last_two = by_test (is_drained (w.0 -ℤ pos X_LOCK_DECR)) refl
+as_reserved l v w k at held before last_two = by_test (is_drained (w.0 -ℤ pos X_LOCK_DECR)) refl
   where
     by_test : (b : Bool) → is_drained (w.0 -ℤ pos X_LOCK_DECR) ≡ b → EndsAsReserved l (phase_of l v (if b then Owned else NextWriter (record { 0 = w.0 -ℤ pos X_LOCK_DECR }))) k
-    by_test true drained = record { word = w; given = drained; at = at; before = before; last_two = last_two }
+    by_test true drained = record { word = w; given = drained; at = at; held = held; before = before; last_two = last_two }
     by_test false drained = tt
 
 -- X that was taken beside one's own SX, at a word
 pub upgraded_is : (l : ℕ) (w : LockWord) (r : Reserve) (p q : PassState) → r ≡ reserve_at (w.0 -ℤ pos X_LOCK_DECR) → q ≡ won_with X l w (upgraded l p.view.session.held w) (looked_at l w p) → IsUpgraded l r p q
 upgraded_is l w r p q came is = record {
   taken = subst (λ (r : Reserve). HasTakenGrant X (changed_on l (one_more X) p.view.session.held) (phase_of l (level_on l Log p.view.session.held) r) p.view q.view) (sym came) (won_taken X l w (upgraded l p.view.session.held w) p q is);
-  owns_x = subst (λ (q : PassState). EndsAsReserved l q.view.session.phase q.view.looks) (sym is) (as_reserved l (level_on l Log p.view.session.held) w (tried_on l w w (looked_on l w p.view)).looks p.view.looks.steps p.view.looks.all refl);
+  owns_x = subst (λ (q : PassState). EndsAsReserved l q.view.session.phase q.view.looks) (sym is) (as_reserved l (level_on l Log p.view.session.held) w (tried_on l w w (looked_on l w p.view)).looks p.view.looks.steps (holdings l p.view.session) p.view.looks.all refl);
   signed = subst (λ (q : PassState). Stores l q.view.written) (sym is) (inl refl);
   looks = let more = ap (λ (q : PassState). q.view.looks.count) is in omega arith;
 }
@@ -187,14 +188,14 @@ module _ (l : ℕ) (v : Level) (w : LockWord) (p q : PassState) where
   won_owns : (mode : Mode) → mode ≡ X → q ≡ won_with mode l w (first_session mode l v p.view.session.held w) (looked_at l w p) → EndsAsReserved l q.view.session.phase q.view.looks
   won_owns S other is = absurd (cc)
   won_owns Sx other is = absurd (cc)
-  won_owns X refl_x is = subst (λ (q : PassState). EndsAsReserved l q.view.session.phase q.view.looks) (sym is) (as_reserved l v w (tried_on l w w (looked_on l w p.view)).looks p.view.looks.steps p.view.looks.all refl)
+  won_owns X refl_x is = subst (λ (q : PassState). EndsAsReserved l q.view.session.phase q.view.looks) (sym is) (as_reserved l v w (tried_on l w w (looked_on l w p.view)).looks p.view.looks.steps (holdings l p.view.session) p.view.looks.all refl)
 
   pub won_is : (mode : Mode) (r : Reserve) → is_given_at mode w.0 ≡ true → r ≡ reserved_by mode w.0 → q ≡ won_with mode l w (first_session mode l v p.view.session.held w) (looked_at l w p) → IsWon mode l v r p q
   won_is mode r given came is =
       let looks = ap (λ (q : PassState). q.view.looks) is ∙ won_looks mode (first_session mode l v p.view.session.held w) in
       record {
         taken = subst (λ (f : Phase). HasTakenGrant mode (holding_too mode l v p.view.session.held) f p.view q.view) (won_phase mode ∙ ap (phase_of l v) (sym came)) (won_taken mode l w (first_session mode l v p.view.session.held w) p q is);
-        won = record { word = w; given = given; at = p.view.looks.steps; before = p.view.looks.all; last_two = ap (λ (k : Looks). k.all) looks };
+        won = record { word = w; given = given; at = p.view.looks.steps; held = holdings l p.view.session; before = p.view.looks.all; last_two = ap (λ (k : Looks). k.all) looks };
         owned = λ other. came ∙ won_owned mode other;
         owns_x = λ is_x. won_owns mode is_x is;
         signed = λ other. subst (λ (q : PassState). Stores l q.view.written) (sym is) (won_signed mode (first_session mode l v p.view.session.held w) other);

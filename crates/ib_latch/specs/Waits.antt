@@ -64,16 +64,18 @@ pub record EndsWon (test : ℤ → Bool) (l : ℕ) (looks : Looks) : Type 0 wher
   pub word : LockWord
   pub given : test word.0 ≡ true
   pub at : ℕ
+  pub held : ℕ
   pub before : List Look
-  pub last_two : looks.all ≡ record { latch = l; found = cell_of word.0; expected = Some (cell_of word.0); at = at + 1 } ∷ record { latch = l; found = cell_of word.0; expected = None; at = at } ∷ before
+  pub last_two : looks.all ≡ record { latch = l; found = cell_of word.0; expected = Some (cell_of word.0); at = at + 1; held = held } ∷ record { latch = l; found = cell_of word.0; expected = None; at = at; held = held } ∷ before
 
 -- the last look was a load of the lock word, at which its next writer owns X
 pub record EndsOwned (has_sx l : ℕ) (looks : Looks) : Type 0 where
   pub found : ℕ
   pub owned : owns_x_at has_sx (word_in found) ≡ true
   pub at : ℕ
+  pub held : ℕ
   pub before : List Look
-  pub last : looks.all ≡ record { latch = l; found = found; expected = None; at = at } ∷ before
+  pub last : looks.all ≡ record { latch = l; found = found; expected = None; at = at; held = held } ∷ before
 
 -- X is left where this much is taken off the word and no reader is there
 abbrev pub is_left_drained : ℤ → Bool

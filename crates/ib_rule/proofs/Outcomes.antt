@@ -108,8 +108,8 @@ module _ (v : View) (l n : ℕ) (known : KnowsHeld v) where
 
   -- a next writer looks whether it owns X
   ready_view : (f : Bool → Phase) → (turn_at (Ready l) n v.session).session ≡ in_phase (f (owns_x_at (sx_grants l v.session) (word_in n))) v.session
-      → view_after (Turn (Ready l)) n v ≡ with_looks (looked l n None v.looks) (phased (f (owns_x_at (sx_grants l v.session) (word_in n))) v)
-  ready_view f session = ap (with_looks (looked l n None v.looks)) (phase_turn (Ready l) n v _ known refl session)
+      → view_after (Turn (Ready l)) n v ≡ with_looks (looked l n None (holdings l v.session) v.looks) (phased (f (owns_x_at (sx_grants l v.session) (word_in n))) v)
+  ready_view f session = ap (with_looks (looked l n None (holdings l v.session) v.looks)) (phase_turn (Ready l) n v _ known refl session)
 
   readied : (waiting : Phase) → (readying l waiting (word_in n) v.session).session ≡ in_phase (if owns_x_at (sx_grants l v.session) (word_in n) then Free else waiting) v.session
   readied waiting = choose (λ (p : Phase). (readying l waiting (word_in n) v.session).session ≡ in_phase p v.session) (owns_x_at (sx_grants l v.session) (word_in n)) _ _
@@ -119,11 +119,11 @@ module _ (v : View) (l n : ℕ) (known : KnowsHeld v) where
 -- a load of the lock word
 module _ (v : View) (n : ℕ) (known : KnowsHeld v) where
   abbrev pub at_word : Phase → ℕ → View
-  at_word p l = with_looks (looked l n None v.looks) (phased p v)
+  at_word p l = with_looks (looked l n None (holdings l v.session) v.looks) (phased p v)
 
   -- a look that is no event
   only_look : (l : ℕ) (p : Phase) → v.session.phase ≡ p → view_after (Look l) n v ≡ at_word p l
-  only_look l p is = ap (with_looks (looked l n None v.looks)) (same_phase v l n known p is)
+  only_look l p is = ap (with_looks (looked l n None (holdings l v.session) v.looks)) (same_phase v l n known p is)
 
   next_looks : (l k : ℕ) (u : Level) → v.session.phase ≡ Next k u → view_after (word_kind l (Next k u)) n v ≡ at_word (word_loaded l n v.session (Next k u)) l
   next_looks l k u is =
@@ -139,13 +139,13 @@ module _ (v : View) (n : ℕ) (known : KnowsHeld v) where
 
   -- who set the flag has checked where its wish is refused
   rechecks : (l : ℕ) (mode : Mode) (u : Level) (g : ℕ) → v.session.phase ≡ Flagged l mode u g → view_after (Recheck l) n v ≡ at_word (if is_given_at mode (word_in n) then Flagged l mode u g else Checked l mode u g) l
-  rechecks l mode u g is = ap (λ p. with_looks (looked l n None v.looks) (turned_by (if refuses p n then Some (Again l) else None) n v)) is ∙ by_given (is_given_at mode (word_in n)) refl
+  rechecks l mode u g is = ap (λ p. with_looks (looked l n None (holdings l v.session) v.looks) (turned_by (if refuses p n then Some (Again l) else None) n v)) is ∙ by_given (is_given_at mode (word_in n)) refl
     where
-      by_given : (b : Bool) → is_given_at mode (word_in n) ≡ b → with_looks (looked l n None v.looks) (turned_by (if not b then Some (Again l) else None) n v) ≡ at_word (if b then Flagged l mode u g else Checked l mode u g) l
-      by_given true given = ap (with_looks (looked l n None v.looks)) (same_phase v l n known (Flagged l mode u g) is)
+      by_given : (b : Bool) → is_given_at mode (word_in n) ≡ b → with_looks (looked l n None (holdings l v.session) v.looks) (turned_by (if not b then Some (Again l) else None) n v) ≡ at_word (if b then Flagged l mode u g else Checked l mode u g) l
+      by_given true given = ap (with_looks (looked l n None (holdings l v.session) v.looks)) (same_phase v l n known (Flagged l mode u g) is)
       by_given false given =
           let r = flagged_response (word_in n) (marks_found n) l v.session mode u g is ∙ if_false (is_given_at mode (word_in n)) _ _ given in
-          ap (with_looks (looked l n None v.looks))
+          ap (with_looks (looked l n None (holdings l v.session) v.looks))
           (left_turn (Again l) n v (in_phase (Checked l mode u g) v.session) (ap (λ (r : Response). won r.answer (wish_of v.session.phase (Again l))) r) (ap (λ (r : Response). r.session) r)
           ∙ all_remains l (in_phase (Checked l mode u g) v.session) v known (λ h. h) (λ h. h))
 
@@ -161,12 +161,12 @@ module _ (v : View) (n : ℕ) (known : KnowsHeld v) where
   by_phase l (Flagged k mode u g) is = flagged_looks l k mode u g is
   by_phase l p is = only_look l p is
 
-  pub word_view : (l : ℕ) → view_after (word_kind l v.session.phase) n v ≡ with_looks (looked l n None v.looks) (phased (word_loaded l n v.session v.session.phase) v)
+  pub word_view : (l : ℕ) → view_after (word_kind l v.session.phase) n v ≡ with_looks (looked l n None (holdings l v.session) v.looks) (phased (word_loaded l n v.session v.session.phase) v)
   word_view l = by_phase l v.session.phase refl
 
 -- an exchange that found the word expected
-pub won_view : (e : Event) (l n : ℕ) (v : View) → latch_of e ≡ l → view_after (Try e n) n v ≡ with_looks (looked l n (Some n) v.looks) (turned e n v)
-won_view e l n v here = ap (λ b. with_looks (looked (latch_of e) n (Some n) v.looks) (turned_by (if b then Some e else None) n v)) (eq-eqb n n refl) ∙ ap (λ (k : ℕ). with_looks (looked k n (Some n) v.looks) (turned e n v)) here
+pub won_view : (e : Event) (l n : ℕ) (v : View) → latch_of e ≡ l → view_after (Try e n) n v ≡ with_looks (looked l n (Some n) (holdings l v.session) v.looks) (turned e n v)
+won_view e l n v here = ap (λ b. with_looks (looked (latch_of e) n (Some n) (holdings (latch_of e) v.session) v.looks) (turned_by (if b then Some e else None) n v)) (eq-eqb n n refl) ∙ ap (λ (k : ℕ). with_looks (looked k n (Some n) (holdings k v.session) v.looks) (turned e n v)) here
 
 -- a wish that came true, by its response
 module _ (v : View) (l n : ℕ) (known : KnowsHeld v) where
@@ -232,20 +232,20 @@ module _ (v : View) (l : ℕ) (word : ℤ) (known : KnowsHeld v) where
 
   pub first_view : (mode : Mode) (level : Level) → MayTry mode l level v.session v.session.phase → is_given_at mode word ≡ true
       → view_after (Try (try_event mode l level v.session.phase) (cell_of word)) (cell_of word) v
-      ≡ with_looks (looked l (cell_of word) (Some (cell_of word)) v.looks) (granted mode (first_response mode l level (word -ℤ pos (first_weight mode)) (holding_too mode l level v.session.held)).session v)
+      ≡ with_looks (looked l (cell_of word) (Some (cell_of word)) (holdings l v.session) v.looks) (granted mode (first_response mode l level (word -ℤ pos (first_weight mode)) (holding_too mode l level v.session.held)).session v)
   first_view mode level may given =
       won_view (try_event mode l level v.session.phase) l (cell_of word) v (try_latch mode l level v.session.phase)
-      ∙ ap (with_looks (looked l (cell_of word) (Some (cell_of word)) v.looks)) (first_at mode level v.session.phase refl may given)
+      ∙ ap (with_looks (looked l (cell_of word) (Some (cell_of word)) (holdings l v.session) v.looks)) (first_at mode level v.session.phase refl may given)
 
   pub upgrade_view : v.session.phase ≡ Free → IsProper v.session → 0 < sx_grants l v.session → x_grants l v.session ≡ 0 → is_above_0 word ≡ true
       → view_after (Try (X l Log) (cell_of word)) (cell_of word) v
-      ≡ with_looks (looked l (cell_of word) (Some (cell_of word)) v.looks) (granted ModeX (reserving l (level_on l Log v.session.held) (word -ℤ pos X_LOCK_DECR) (changed_on l (one_more ModeX) v.session.held)).session v)
+      ≡ with_looks (looked l (cell_of word) (Some (cell_of word)) (holdings l v.session) v.looks) (granted ModeX (reserving l (level_on l Log v.session.held) (word -ℤ pos X_LOCK_DECR) (changed_on l (one_more ModeX) v.session.held)).session v)
   upgrade_view free proper sx x up =
       let there = given_word ModeS word up in
       let held : List Holding = changed_on l (one_more ModeX) v.session.held in
       let r : Response = reserving l (level_on l Log v.session.held) (word -ℤ pos X_LOCK_DECR) held in
       won_view (X l Log) l (cell_of word) v refl
-      ∙ ap (with_looks (looked l (cell_of word) (Some (cell_of word)) v.looks))
+      ∙ ap (with_looks (looked l (cell_of word) (Some (cell_of word)) (holdings l v.session) v.looks))
       (more_by v l (cell_of word) known (X l Log) (reserving l (level_on l Log v.session.held) (word -ℤ pos X_LOCK_DECR) (changed_on l (one_more ModeX) v.session.held)) ModeX refl
       (after_upgrade (word_in (cell_of word)) (marks_found (cell_of word)) l v.session proper free Log sx x (ap is_above_0 there ∙ up)
       ∙ ap (λ (z : ℤ). reserving l (level_on l Log v.session.held) (z -ℤ pos X_LOCK_DECR) (changed_on l (one_more ModeX) v.session.held)) there)
@@ -260,10 +260,10 @@ module _ (v : View) (l n : ℕ) (known : KnowsHeld v) (free : v.session.phase �
   further_sx_turn has = more_by v l n known (Sx l Log) _ ModeSx refl (after_further_sx (word_in n) (marks_found n) l v.session proper free Log has) (wish_free ModeSx l Log v.session.phase free) refl
 
   pub further_sx_view : 0 < claims l v.session → sx_grants l v.session ≡ 0 → view_after (Turn (Sx l Log)) n v ≡ with_step (granted ModeSx (with_phase Free (changed_on l (one_more ModeSx) v.session.held)) v)
-  further_sx_view has none = (λ j. with_looks (turn_looks (if lt_none (sx_grants l v.session) none j then Writer else Lock) (Sx l Log) n v.looks) (further_sx_turn has j))
+  further_sx_view has none = (λ j. with_looks (turn_looks (if lt_none (sx_grants l v.session) none j then Writer else Lock) (Sx l Log) v.session n v.looks) (further_sx_turn has j))
 
   pub counted_sx_view : 0 < claims l v.session → 0 < sx_grants l v.session → view_after (Turn (Sx l Log)) n v ≡ granted ModeSx (with_phase Free (changed_on l (one_more ModeSx) v.session.held)) v
-  counted_sx_view has some = (λ j. with_looks (turn_looks (if lt_some (sx_grants l v.session) some j then Writer else Lock) (Sx l Log) n v.looks) (further_sx_turn has j))
+  counted_sx_view has some = (λ j. with_looks (turn_looks (if lt_some (sx_grants l v.session) some j then Writer else Lock) (Sx l Log) v.session n v.looks) (further_sx_turn has j))
 
 -- .. and after a release of SX or X, of which the session is known
 module _ (v w : View) (l n : ℕ) (a : Session) where
@@ -273,9 +273,9 @@ module _ (v w : View) (l n : ℕ) (a : Session) where
   pub sx_back_view : sx_grants l v.session ≡ 1 → w ≡ view_after (Turn (Usx l)) n v → w.session ≡ a → w ≡ with_step (left_as l a v)
   sx_back_view last is session =
       let one : nat_lt 1 (sx_grants l v.session) ≡ false = ap (λ (k : ℕ). nat_lt 1 k) last in
-      is ∙ (λ j. with_looks (turn_looks (if one j then Writer else Lock) (Usx l) n v.looks) (plain_turn (Usx l) n v a refl (sym (ap (λ (u : View). u.session) is) ∙ session) j))
+      is ∙ (λ j. with_looks (turn_looks (if one j then Writer else Lock) (Usx l) v.session n v.looks) (plain_turn (Usx l) n v a refl (sym (ap (λ (u : View). u.session) is) ∙ session) j))
 
   pub counted_back_view : 1 < sx_grants l v.session → w ≡ view_after (Turn (Usx l)) n v → w.session ≡ a → w ≡ left_as l a v
   counted_back_view more is session =
       let some : nat_lt 1 (sx_grants l v.session) ≡ true = lt_more (sx_grants l v.session) more in
-      is ∙ (λ j. with_looks (turn_looks (if some j then Writer else Lock) (Usx l) n v.looks) (plain_turn (Usx l) n v a refl (sym (ap (λ (u : View). u.session) is) ∙ session) j))
+      is ∙ (λ j. with_looks (turn_looks (if some j then Writer else Lock) (Usx l) v.session n v.looks) (plain_turn (Usx l) n v a refl (sym (ap (λ (u : View). u.session) is) ∙ session) j))

@@ -84,9 +84,9 @@ pub won_turn : (e : Event) (n : ℕ) (v : View) (a : Session) (mode : Mode) → 
 won_turn e n v a mode wins is = λ j. record (left_as (latch_of e) (is j) v) { grants = with_grant (wins j) v.grants }
 
 -- a step on another word than the lock word counts where it is one of who waits
-pub no_look : (c : LatchWord) (e : Event) (n : ℕ) (k : Looks) → c ≢ Lock → turn_looks c e n k ≡ wait_looks e k
-no_look Lock e n k off = absurd (off refl)
-no_look c e n k off = refl
+pub no_look : (c : LatchWord) (e : Event) (a : Session) (n : ℕ) (k : Looks) → c ≢ Lock → turn_looks c e a n k ≡ wait_looks e k
+no_look Lock e a n k off = absurd (off refl)
+no_look c e a n k off = refl
 
 -- a turn that changes no more than the phase
 pub phase_turn : (e : Event) (n : ℕ) (v : View) (p : Phase) → KnowsHeld v → is_plain e ≡ true → (turn_at e n v.session).session ≡ in_phase p v.session → turned e n v ≡ phased p v
@@ -95,7 +95,7 @@ phase_turn e n v p known plain is = plain_turn e n v (in_phase p v.session) plai
 -- .. on another word than the lock word
 pub mark_turn : (e : Event) (n : ℕ) (v w : View) (p : Phase) → KnowsHeld v → is_plain e ≡ true → word_for e v.session ≢ Lock → w ≡ view_after (Turn e) n v → w.session ≡ in_phase p v.session → w ≡ with_looks (wait_looks e v.looks) (phased p v)
 mark_turn e n v w p known plain off is session =
-    is ∙ (λ j. with_looks (no_look (word_for e v.session) e n v.looks off j) (phase_turn e n v p known plain (sym (ap (λ (u : View). u.session) is) ∙ session) j))
+    is ∙ (λ j. with_looks (no_look (word_for e v.session) e v.session n v.looks off j) (phase_turn e n v p known plain (sym (ap (λ (u : View). u.session) is) ∙ session) j))
 
 pub lt_more : (n : ℕ) → 1 < n → nat_lt 1 n ≡ true
 lt_more n is = grind (arith, nat_tests)

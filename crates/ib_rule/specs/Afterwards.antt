@@ -7,7 +7,7 @@ use Rattle.ib_word.specs.declared.word.LockWord.{LockWord}
 use Rattle.ib_core.specs.declared.phase.Phase.{Phase}
 use Rattle.ib_core.specs.declared.phase.Phase.TheVariants.{Free, Armed, Flagged, Checked, Asleep, Next, NextArmed, NextChecked, NextAsleep, OwesLook, OwesClear, OwesRaise}
 use Rattle.ib_core.specs.declared.session.Session.{Session}
-use Rattle.ib_core.specs.Sessions.{sx_grants}
+use Rattle.ib_core.specs.Sessions.{holdings, sx_grants}
 use Rattle.ib_core.specs.Table.{owns_x_at}
 use Rattle.ib_core.specs.Takings.{is_given_at}
 use Rattle.ib_rule.specs.declared.looks.Looks.{Looks}
@@ -29,11 +29,11 @@ granted mode a v = record v { session = a; grants = with_grant (Some mode) v.gra
 
 -- a look at a lock word, which found this
 abbrev pub looked_on : ℕ → LockWord → View → View
-looked_on l found v = with_looks (looked l (cell_of found.0) None v.looks) v
+looked_on l found v = with_looks (looked l (cell_of found.0) None (holdings l v.session) v.looks) v
 
 -- an exchange of a lock word, which found this where it expected that
 abbrev pub tried_on : ℕ → LockWord → LockWord → View → View
-tried_on l expected found v = with_looks (looked l (cell_of found.0) (Some (cell_of expected.0)) v.looks) v
+tried_on l expected found v = with_looks (looked l (cell_of found.0) (Some (cell_of expected.0)) (holdings l v.session) v.looks) v
 
 -- a step on a lock word that is no look
 abbrev pub with_step : View → View

@@ -11,6 +11,7 @@ use Rattle.ib_core.specs.declared.event.Event.{Event}
 use Rattle.ib_core.specs.declared.event.Event.TheVariants.{Again, Arm, Exarm, Flag, Quit, Ready, Sleep}
 use Rattle.ib_core.specs.declared.session.Session.{Session}
 use Rattle.ib_core.specs.Responses.{latch_of}
+use Rattle.ib_core.specs.Sessions.{holdings}
 use Rattle.ib_core.specs.Takings.{is_given_at}
 use Rattle.ib_core.specs.Turns.{word_for}
 use Rattle.ib_rule.specs.declared.kind.StepKind.{StepKind}
@@ -50,9 +51,9 @@ event_at (Try e expected) a n = if n == expected then Some e else None
 event_at (Recheck l) a n = if refuses a.phase n then Some (Again l) else None
 event_at _ a n = None
 
--- a look more
-abbrev pub looked : ℕ → ℕ → Option ℕ → Looks → Looks
-looked l found expected k = record { count = k.count + 1; steps = k.steps + 1; waits = k.waits; all = record { latch = l; found = found; expected = expected; at = k.steps } ∷ k.all }
+-- a look more, of a session that holds this on the latch
+abbrev pub looked : ℕ → ℕ → Option ℕ → ℕ → Looks → Looks
+looked l found expected held k = record { count = k.count + 1; steps = k.steps + 1; waits = k.waits; all = record { latch = l; found = found; expected = expected; at = k.steps; held = held } ∷ k.all }
 
 -- a step more on a lock word, that is no look
 abbrev pub stepped_on : Looks → Looks
@@ -72,16 +73,16 @@ wait_looks (Exarm l) k = one_wait_more k
 wait_looks e k = k
 
 -- a load of the lock word that is an event is a look all the same
-abbrev pub turn_looks : LatchWord → Event → ℕ → Looks → Looks
-turn_looks Lock (Ready l) n k = looked l n None k
-turn_looks Lock e n k = stepped_on k
-turn_looks c e n k = wait_looks e k
+abbrev pub turn_looks : LatchWord → Event → Session → ℕ → Looks → Looks
+turn_looks Lock (Ready l) a n k = looked l n None (holdings l a) k
+turn_looks Lock e a n k = stepped_on k
+turn_looks c e a n k = wait_looks e k
 
 abbrev pub looks_after : StepKind → Session → ℕ → Looks → Looks
-looks_after (Turn e) a n k = turn_looks (word_for e a) e n k
-looks_after (Try e expected) a n k = looked (latch_of e) n (Some expected) k
-looks_after (Recheck l) a n k = looked l n None k
-looks_after (Look l) a n k = looked l n None k
+looks_after (Turn e) a n k = turn_looks (word_for e a) e a n k
+looks_after (Try e expected) a n k = looked (latch_of e) n (Some expected) (holdings (latch_of e) a) k
+looks_after (Recheck l) a n k = looked l n None (holdings l a) k
+looks_after (Look l) a n k = looked l n None (holdings l a) k
 looks_after kind a n k = k
 
 -- the view after a step of this kind that found this word, but for the steps of which `After` says more

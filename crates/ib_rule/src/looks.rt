@@ -29,6 +29,8 @@ pub struct Look {
     pub expected: Option<u64>,
     /// How many steps on lock words the session had made before it.
     pub at: u64,
+    /// How many holdings the session had on the latch then: none where it had no grant there.
+    pub held: u64,
 }
 
 /// The looks of a session, and how many other steps it made.

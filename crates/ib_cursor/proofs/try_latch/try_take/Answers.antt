@@ -17,4 +17,4 @@ returns-in-Err-clause-vain g c =
     let l = c.look.ensures in let t = c.in-Err.ensures in
     let on = subst (λ (s : Sizes). HasLookedOn s (g.L.Law.lawful s.pages) q r) (ap (λ m. m.now.sizes) c.try_once.ensures.still.latches) l.looked_on in
     subst (λ f. IsVainTry sizes (g.L.Law.lawful sizes.pages) c.args.mode c.args.latch.0 f p r) (sym c.of.ensures)
-    (vain_by_try sizes (g.L.Law.lawful sizes.pages) c.args.mode c.args.latch c.args.level c.in-Err.fault p q r t.not_granted t.unchanged t.tried on l.memo l.session l.grants l.work l.looks)
+    (vain_by_try sizes (g.L.Law.lawful sizes.pages) c.args.mode c.args.latch c.args.level c.in-Err.fault p q r c.requires.may.may.none t.not_granted t.unchanged t.tried on l.memo l.session l.grants l.work l.looks)

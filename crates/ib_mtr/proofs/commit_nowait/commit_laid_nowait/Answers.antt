@@ -46,7 +46,7 @@ returns-in-Err-clause-not_committed g c =
     let ended = ended_by p2 c.give_back.new.self.pass.now c.finish.new.self.1.0 b.given e.finished e.known e.idle l.still.mtr.own.closed in
     subst (IsRefusedByLog c.args.latches.now.sizes (g.L.Law.lawful c.args.latches.now.sizes.pages) p c.in-Err.fault) (search rules)
     (refused_by_log c.args.latches.now.sizes (g.L.Law.lawful c.args.latches.now.sizes.pages) p p1 p2 c.finish.new.self.1.0 c.in-Err.fault role t.not_granted t.refused
-    (refused_looks X 0 Log c.in-Err.fault p (with_memo p.memo p1) (t.first (on-none 0 (λ h. h.sx + h.x) p.view.session.held c.requires.may.log.none)))
+    (refused_looks X 0 Log c.in-Err.fault p (with_memo p.memo p1) c.requires.may.log.none (t.first (on-none 0 (λ h. h.sx + h.x) p.view.session.held c.requires.may.log.none)))
     looked.looked looked.pass ended
     (ended_all p2 c.give_back.new.self.pass.now c.finish.new.self.1.0 b.given e.finished) (ended_looks p2 c.give_back.new.self.pass.now c.finish.new.self.1.0 b.given e.finished) (ended_waits p2 c.give_back.new.self.pass.now c.finish.new.self.1.0 b.given e.finished))
 

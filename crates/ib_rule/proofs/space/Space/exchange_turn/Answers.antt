@@ -5,7 +5,7 @@ use Rattle.ib_word.specs.Word.{cell_of, word_in}
 use Rattle.ib_core.specs.declared.latch_word.LatchWord.TheVariants.{Lock}
 use Rattle.ib_core.specs.Good.{IsProper}
 use Rattle.ib_core.specs.Responses.{latch_of}
-use Rattle.ib_core.specs.Sessions.{grants}
+use Rattle.ib_core.specs.Sessions.{grants, holdings}
 use Rattle.ib_core.specs.Turns.{Leaves}
 use Rattle.ib_rule.specs.declared.pass.TheConstants.{MOST_HELD}
 use Rattle.ib_rule.specs.declared.view.View.{View}
@@ -44,7 +44,7 @@ pub invariant_of-pass-2 : goal.invariant_of-pass-2
 invariant_of-pass-2 g c =
     let told = c.act-found.ensures.told in
     pass_turned c.pass.inside _ c.args.event c.act-found.result c.try_on-answer.result _ c.pass.invariant
-    told.1 (told.0.view ∙ ap (λ b. with_looks (looked (latch_of c.args.event) c.act-found.result (Some c.to_cell-old.result) c.pass.inside.seat.me.0.looks) (turned_by (if b then Some c.args.event else None) c.act-found.result c.pass.inside.seat.me.0)) (eq-eqb c.act-found.result c.to_cell-old.result c.if-found-old.false)) told.0.proper told.0.known told.0.few told.0.taken
+    told.1 (told.0.view ∙ ap (λ b. with_looks (looked (latch_of c.args.event) c.act-found.result (Some c.to_cell-old.result) (holdings (latch_of c.args.event) c.pass.inside.seat.me.0.session) c.pass.inside.seat.me.0.looks) (turned_by (if b then Some c.args.event else None) c.act-found.result c.pass.inside.seat.me.0)) (eq-eqb c.act-found.result c.to_cell-old.result c.if-found-old.false)) told.0.proper told.0.known told.0.few told.0.taken
     c.try_on-answer.ensures.turn
     (rw c.phase-before.ensures at c.counted-pass-inside.ensures)
     c.try_on-answer.ensures.latches refl refl refl refl refl refl refl refl

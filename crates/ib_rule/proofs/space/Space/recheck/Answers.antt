@@ -3,7 +3,7 @@ use Rattle.std.proofs.Common.{ℕ, ◌≤◌, refl, ap, sym, ◌∙◌, subst}
 use Rattle.std.specs.Prelude.{if◌then◌else◌, Some, None}
 use Rattle.ib_core.specs.declared.event.Event.TheVariants.{Again}
 use Rattle.ib_core.specs.declared.session.Session.{Session}
-use Rattle.ib_core.specs.Sessions.{grants}
+use Rattle.ib_core.specs.Sessions.{grants, holdings}
 use Rattle.ib_rule.specs.declared.pass.TheConstants.{MOST_HELD}
 use Rattle.ib_rule.specs.Space.{SpaceState}
 use Rattle.ib_rule.specs.Pass.{PassState}
@@ -29,7 +29,7 @@ invariant_of-pass g c =
     let told = c.act-found.ensures.told in
     let refused = ap (λ p. refuses p c.act-found.result) (sym (ap (λ (a : Session). a.phase) c.pass.invariant.session) ∙ sym c.phase-before.ensures) ∙ (sym c.is_refused.ensures ∙ c.if-is_refused.true) in
     pass_turned c.pass.inside _ (Again c.args.latch.0) c.act-found.result c.turn_on-answer.result _ c.pass.invariant
-    told.1 (told.0.view ∙ ap (λ b. with_looks (looked c.args.latch.0 c.act-found.result None c.pass.inside.seat.me.0.looks) (turned_by (if b then Some (Again c.args.latch.0) else None) c.act-found.result c.pass.inside.seat.me.0)) refused) told.0.proper told.0.known told.0.few told.0.taken
+    told.1 (told.0.view ∙ ap (λ b. with_looks (looked c.args.latch.0 c.act-found.result None (holdings c.args.latch.0 c.pass.inside.seat.me.0.session) c.pass.inside.seat.me.0.looks) (turned_by (if b then Some (Again c.args.latch.0) else None) c.act-found.result c.pass.inside.seat.me.0)) refused) told.0.proper told.0.known told.0.few told.0.taken
     c.turn_on-answer.ensures.turn
     (rw c.phase-before.ensures at c.counted-pass-inside.ensures)
     c.turn_on-answer.ensures.latches refl refl refl refl refl refl refl refl
