@@ -14,5 +14,5 @@ mod waiting;
 
 pub use latches::{Latches, LatchesCloseRefused};
 pub use parkers::Parkers;
-pub use sleep::{NoSleep, Raised, Sleep};
+pub use sleep::{NoSleep, Sleep};
 pub use tries::{NotReady, Reserve, TryFault};

@@ -110,8 +110,8 @@ impl<L: Law> Latches<L, Parkers> {
     /// Takes S, and waits until it is granted (sync0rw, `rw_lock_s_lock_func`).
     ///
     /// ```
-    /// if pass.can_wish(Latch::INDEX, Level::Index) && pass.may_grow() {
-    ///     table.lock_s(rt, &mut pass, Latch::INDEX, Level::Index);
+    /// if pass.can_wish(Latch::INDEX, Level::IndexTree) && pass.may_grow() {
+    ///     table.lock_s(rt, &mut pass, Latch::INDEX, Level::IndexTree);
     ///     table.unlock_s(&mut pass, Latch::INDEX);
     /// }
     /// ```
@@ -128,8 +128,8 @@ impl<L: Law> Latches<L, Parkers> {
     /// `rw_lock_sx_lock_func`). Beside one's own SX or X it is granted at once.
     ///
     /// ```
-    /// if pass.may_claim(Latch::INDEX, Level::Index) && pass.may_grow() {
-    ///     table.lock_sx(rt, &mut pass, Latch::INDEX, Level::Index);
+    /// if pass.may_claim(Latch::INDEX, Level::IndexTree) && pass.may_grow() {
+    ///     table.lock_sx(rt, &mut pass, Latch::INDEX, Level::IndexTree);
     ///     table.unlock_sx(&mut pass, Latch::INDEX);
     /// }
     /// ```

@@ -3,7 +3,7 @@
 ghost use Rattle.std.specs.Prelude.{◌≡◌};
 ghost use Rattle.ib_latch.specs.Waits.{IsCellOf};
 
-use crate::sleep::{Raised, Sleep};
+use crate::sleep::Sleep;
 use ib_rule::{OutOfMemory, Pass};
 use ib_wait::{Cell, Sleepers, WaitArray};
 use std::alloc::Global;
@@ -53,8 +53,7 @@ impl Sleep for Parkers {
     }
 
     // A parker is one session's, whatever it sleeps on: each looks again at its own generation.
-    fn wake(&self, raised: Raised) {
-        raised.into_latch();
+    fn wake(&self, _latch: u32) {
         self.sleepers.wake_all();
     }
 }

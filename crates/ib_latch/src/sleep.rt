@@ -5,9 +5,9 @@ ghost use Rattle.std.specs.Prelude.{◌≡◌};
 use ib_rule::OutOfMemory;
 use std::alloc::Global;
 
-/// A generation was raised, and nobody is woken yet. It is not dropped, and no call but
-/// `Sleep::wake` takes it: a release that has one and wakes nobody does not compile.
-pub struct Raised {
+/// A generation was raised, and nobody is woken yet. It is not dropped, and outside this file nothing but
+/// its `wake` takes it: a release that has one and wakes nobody does not compile.
+pub(crate) struct Raised {
     latch: u32,
 }
 
@@ -19,12 +19,10 @@ impl Raised {
         Raised { latch }
     }
 
-    /// The number of the latch of which it is a generation.
-    pub fn into_latch(self) -> u32
-        ensures { result ≡ self.latch }
-    {
+    // Wakes whoever sleeps on it.
+    pub(crate) fn wake<S: Sleep>(self, sleep: &S) {
         let Raised { latch } = self;
-        latch
+        sleep.wake(latch);
     }
 }
 
@@ -44,8 +42,8 @@ pub trait Sleep: Drop {
         ensures admitted { OnOk result (admits self.new number ≡ true) }
         ensures kept { (n : ℕ) → admits self.old n ≡ true → admits self.new n ≡ true };
 
-    /// Wakes whoever sleeps on the generation that was raised. It is called after each raise of one.
-    fn wake(&self, raised: Raised);
+    /// Wakes whoever sleeps on a generation of the latch of this number: one was raised. It is called after each raise.
+    fn wake(&self, latch: u32);
 }
 
 /// Nobody sleeps: who waits tries again.
@@ -65,7 +63,5 @@ impl Sleep for NoSleep {
         Ok(())
     }
 
-    fn wake(&self, raised: Raised) {
-        raised.into_latch();
-    }
+    fn wake(&self, _latch: u32) {}
 }

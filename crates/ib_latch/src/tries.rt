@@ -113,7 +113,7 @@ impl<L: Law, S: Sleep> Latches<L, S> {
     /// writer, and as `Raced` where the exchange found another word.
     ///
     /// ```
-    /// if table.try_sx(&mut pass, Latch::INDEX, Level::Index).is_ok() {
+    /// if table.try_sx(&mut pass, Latch::INDEX, Level::IndexTree).is_ok() {
     ///     table.unlock_sx(&mut pass, Latch::INDEX);
     /// }
     /// ```

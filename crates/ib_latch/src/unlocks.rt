@@ -36,7 +36,7 @@ impl<L: Law, S: Sleep> Latches<L, S> {
         let word = self.space.give_s(pass, latch);
         if is_drained(word) {
             let raised = self.raise_ex(pass, latch);
-            self.sleep.wake(raised);
+            raised.wake(&self.sleep);
         }
     }
 
@@ -44,7 +44,7 @@ impl<L: Law, S: Sleep> Latches<L, S> {
     /// beside it, wakes who waits.
     ///
     /// ```
-    /// table.lock_sx(rt, &mut pass, Latch::INDEX, Level::Index);
+    /// table.lock_sx(rt, &mut pass, Latch::INDEX, Level::IndexTree);
     /// table.unlock_sx(&mut pass, Latch::INDEX);
     /// ```
     pub fn unlock_sx(&self, pass: &mut Pass, latch: Latch)
@@ -94,7 +94,7 @@ impl<L: Law, S: Sleep> Latches<L, S> {
         if self.look(pass, latch) {
             if self.clear(pass, latch) {
                 let raised = self.raise(pass, latch);
-                self.sleep.wake(raised);
+                raised.wake(&self.sleep);
             }
         }
     }
