@@ -1,8 +1,10 @@
--- Passes at rest, one more and one fewer, and beside a space that has changed; and passes that nobody used.
-use Rattle.std.proofs.Common.{◌≡◌, ℕ, ◌+◌, List, [], ◌∷◌, ◌++◌, length, arith, subst, sym, zero-add, ◌∙◌}
+-- Passes at rest, one more and one fewer, and beside a space that has changed; passes that nobody used, and those that have ended.
+use Rattle.std.proofs.Common.{◌≡◌, ℕ, ◌+◌, List, [], ◌∷◌, ◌++◌, length, map, ap, arith, refl, subst, sym, zero-add, ◌∙◌}
 use Rattle.ib_rule.specs.Pass.{PassState, IsAtRest}
 use Rattle.ib_rule.specs.Space.{SpaceState}
-use Rattle.ib_c.specs.SpaceStates.{AreAtRest, AreUnused, IsUnused}
+use Rattle.ib_rule.specs.Views.{ended_as}
+use Rattle.ib_rule.specs.declared.view.Ended.{Ended}
+use Rattle.ib_c.specs.SpaceStates.{AreAtRest, AreUnused, IsUnused, ended_with}
 
 pub one_more : (s : SpaceState) (xs : List PassState) (p : PassState) → AreAtRest s xs → IsAtRest s p → AreAtRest s (xs ++ p ∷ [])
 one_more s [] p rest own = (own, tt)
@@ -28,3 +30,10 @@ one_unused_more n [] p unused next = (subst (λ m. IsUnused m p) (zero-add n) ne
 one_unused_more n (x ∷ xs) p unused next =
     let same : length xs + (n + 1) ≡ length (x ∷ xs) + n = omega arith in
     (unused.0, one_unused_more (n + 1) xs p unused.1 (rw same next))
+
+ended-next : (xs : List PassState) (p : PassState) (es : List Ended) → map (λ q. ended_as q.view) (xs ++ p ∷ []) ++ es ≡ map (λ q. ended_as q.view) xs ++ ended_as p.view ∷ es
+ended-next [] p es = refl
+ended-next (x ∷ xs) p es = ap (λ (ys : List Ended). ended_as x.view ∷ ys) (ended-next xs p es)
+
+pub one_ended_more : (s : SpaceState) (xs : List PassState) (p : PassState) → ended_with xs (record s { ended = ended_as p.view ∷ s.ended }) ≡ ended_with (xs ++ p ∷ []) s
+one_ended_more s xs p = ap (λ (es : List Ended). record s { ended = es }) (sym (ended-next xs p s.ended))

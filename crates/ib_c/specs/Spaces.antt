@@ -14,7 +14,7 @@ use Rattle.ib_rule.specs.Closed.{HasClosed}
 use Rattle.ib_rule.specs.Connects.{IsDeserted}
 use Rattle.ib_rule.specs.Space.{SpaceState}
 use Rattle.ib_c.specs.SessionState.{SessionState}
-use Rattle.ib_c.specs.SpaceStates.{AreAtRest, AreUnused, IsWhole, OpenState}
+use Rattle.ib_c.specs.SpaceStates.{AreAtRest, AreUnused, IsWhole, OpenState, ended_with}
 
 -- a space was opened, with these sizes: so many passes were drawn, numbered from 1 on, nobody has used one, and no session has ended
 pub record IsOpened (sizes : Sizes) (sessions : ℕ) (s : OpenState) : Type 0 where
@@ -59,10 +59,10 @@ pub record HasDisconnected (s : OpenState) (session : SessionState) (t : OpenSta
   pub space : t.space ≡ s.space
   pub pool : t.pool ≡ s.pool ++ session.pass ∷ []
 
--- an open space, whose pool was whole, has become the space that sessions shared, in which nobody is connected any more
+-- an open space, whose pool was whole, has become the space that sessions shared, in which nobody is connected any more: the sessions of the pool have ended, as they were
 pub record HasEnded (s : OpenState) (space : SpaceState) : Type 0 where
   pub whole : IsWhole s.space s.pool
-  pub same : space ≡ record s.space { ended = space.ended }
+  pub same : space ≡ ended_with s.pool s.space
   pub none : IsDeserted space
 
 -- .. or it does not end: the pool has fewer passes than were drawn and have not ended; or it is whole, and a call on a session has not ended

@@ -3,7 +3,7 @@
 ghost use Rattle.std.specs.Prelude.{◌≡◌, ◌+◌, ◌≤◌, [], length, vec_capacity, IfNone, IfSome, IsTrue};
 ghost use Rattle.ib_rule.specs.Connects.{IsDeserted};
 ghost use Rattle.ib_rule.specs.Pass.{IsAtRest};
-ghost use Rattle.ib_c.specs.SpaceStates.{AreAtRest, AreUnused, IsUnused, IsWhole};
+ghost use Rattle.ib_c.specs.SpaceStates.{AreAtRest, AreUnused, IsUnused, IsWhole, ended_with};
 
 use crate::table::Table;
 use ib_rule::Pass;
@@ -51,13 +51,13 @@ fn draw(table: &mut Table, alloc: Global) -> Option<Pass>
 }
 
 /// Gives all passes of the pool back: nobody is connected then.
-#[tactic(auto, using(crate::proofs::Pools::one_fewer, crate::proofs::Pools::are_still))]
+#[tactic(auto, using(crate::proofs::Pools::one_fewer, crate::proofs::Pools::are_still, crate::proofs::Pools::one_ended_more))]
 pub(crate) fn disconnect_all(table: &mut Table, pool: &mut Vec<Pass>)
     requires rest { AreAtRest table.old pool.old.items }
     requires whole { IsWhole table.old pool.old.items }
     ensures none { pool.new.items ≡ [] }
     ensures deserted { IsDeserted table.new }
-    ensures space { table.new ≡ record table.old { ended = table.new.ended } }
+    ensures space { table.new ≡ ended_with pool.old.items table.old }
 {
     while let Some(pass) = pool.pop() {
         table.disconnect(pass);
