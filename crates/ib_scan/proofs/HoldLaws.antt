@@ -48,13 +48,13 @@ module _ (opening : ℕ → ℕ) (root : ℕ) (high : MapKey) where
   held_on log more leaf image spans (inl none) still = subst (λ xs. AreHeld opening (log ++ more) root high xs (length (log ++ more))) (sym none) tt
   held_on log more leaf image spans (inr l) still =
       let all = log ++ more in
-      let own = take-append-le l.last.place log more l.within in
+      let own = take-append-le l.last.place log more (let e = l.placed in omega arith) in
       let now : image_of (memory_after opening (take (length all) all)) leaf ≡ image_of (memory_after opening (take l.last.place all)) leaf =
       ap (λ es. image_of (memory_after opening es) leaf) (take-length all) ∙ (sym still ∙ (l.read ∙ sym (ap (λ es. image_of (memory_after opening es) leaf) own))) in
       subst (λ xs. AreHeld opening all root high xs (length all)) (sym l.are) (held_push all l.before l.last (length all) (held-longer log more l.before l.last.place l.held) (record {
         leaf = leaf;
         given = subst (λ es. IsGivenBy opening es root leaf high l.last) (sym own) l.given;
-        from = let a = l.within in let b = length-append log more in omega arith;
+        from = let a = l.placed in let b = length-append log more in omega arith;
         within = omega arith;
         same = same_page opening (take (length all) all) (take l.last.place all) leaf now;
       }))

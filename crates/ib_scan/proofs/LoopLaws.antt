@@ -138,13 +138,14 @@ module _ (sizes : Sizes) (roots : ℕ) (lawful : List Entry → Type 0) (opening
 
     -- the leaf that is kept gave the last chunk, or it is the first one
     kept-of : (more : List Entry) (kept : Position) → kept.page ≡ leaf → kept.place ≡ length p.view.memory.seen
-        → ((i.up_to.spans ≡ []) × (kept.page ≡ begun) × (kept.place ≡ length p0.view.memory.seen)) ⊎ GaveLast opening (p.view.memory.seen ++ more) root kept.page high i.up_to.spans
+        → ((i.up_to.spans ≡ []) × (kept.page ≡ begun) × (kept.place ≡ length p0.view.memory.seen)) ⊎ GaveLast opening (p.view.memory.seen ++ more) root kept high i.up_to.spans
     kept-of more kept page place = elim i.on [
       | inr l ↦ inr (record {
         before = l.before;
         last = l.last;
         are = l.are;
-        given = subst (λ es. IsGivenBy opening es root kept.page high l.last) (sym (take-append-le l.last.place p.view.memory.seen more l.within))
+        placed = place ∙ sym l.placed;
+        given = subst (λ es. IsGivenBy opening es root kept.page high l.last) (sym (take-append-le l.last.place p.view.memory.seen more (let e = l.placed in omega arith)))
             (subst (λ n. IsGivenBy opening (take l.last.place p.view.memory.seen) root n high l.last) (sym page) l.given);
       })
       | inl none ↦ elim i.up_to.first [
@@ -194,7 +195,7 @@ module _ (sizes : Sizes) (roots : ℕ) (lawful : List Entry → Type 0) (opening
           over = inl (none, record { last = leaf; over = i.up_to.over });
           taken = i.up_to.taken;
           keeps = keeps;
-          of = subst (λ es. ((i.up_to.spans ≡ []) × (kept.page ≡ begun) × (kept.place ≡ length p0.view.memory.seen)) ⊎ GaveLast opening es root kept.page high i.up_to.spans) same (kept-of [] kept page place);
+          of = subst (λ es. ((i.up_to.spans ≡ []) × (kept.page ≡ begun) × (kept.place ≡ length p0.view.memory.seen)) ⊎ GaveLast opening es root kept high i.up_to.spans) same (kept-of [] kept page place);
         }
 
     module _ (found : Found) (q : PassState) (reached : HasReachedEnd sizes lawful opening roots root start high found p q) where
@@ -349,7 +350,7 @@ module _ (sizes : Sizes) (roots : ℕ) (lawful : List Entry → Type 0) (opening
           over = inr (some, subst (λ es. GoesToNext opening es root start high begun i.up_to.spans (i.up_to.count + found.passed)) (sym aside.seen) over-next);
           taken = grants-are;
           keeps = subst (λ es. IsKept lawful opening roots root start es kept) (sym log-is) (kept_longer lawful opening roots root start p.view.memory.seen reached.along.went.more kept keeps);
-          of = subst (λ es. ((i.up_to.spans ≡ []) × (kept.page ≡ begun) × (kept.place ≡ length p0.view.memory.seen)) ⊎ GaveLast opening es root kept.page high i.up_to.spans) (sym log-is) (kept-of reached.along.went.more kept page place);
+          of = subst (λ es. ((i.up_to.spans ≡ []) × (kept.page ≡ begun) × (kept.place ≡ length p0.view.memory.seen)) ⊎ GaveLast opening es root kept high i.up_to.spans) (sym log-is) (kept-of reached.along.went.more kept page place);
         }
 
         module _ (new : HeldChunks) (put : Appends out new (span_read ∷ [])) (most : length span_read.pairs ≤ MOST_RECORDS) where
@@ -430,7 +431,7 @@ module _ (sizes : Sizes) (roots : ℕ) (lawful : List Entry → Type 0) (opening
                   last = span_read;
                   are = refl;
                   held = held;
-                  within = omega arith;
+                  placed = refl;
                   given = given;
                   read = subst (λ es. image ≡ image_of (memory_after opening es) found.leaf) (sym (take-length q.view.memory.seen))
                       (reached.along.scans.walked.image ∙ ap (image_of (memory_after opening q.view.memory.seen)) reached.along.here);

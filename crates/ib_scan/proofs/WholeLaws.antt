@@ -244,6 +244,10 @@ module _ (sizes : Sizes) (lawful : List Entry → Type 0) (opening : ℕ → ℕ
         ahead = h.ahead;
       }
 
+  pub gone-first : (stop : Stop) (h : HasRunToStop sizes lawful opening roots root leaf low high stop out new q r) → (gone_part stop h).gone.first ≤ length q.view.memory.seen
+  unfolding gone_part gone
+  gone-first stop h = look.le
+
 -- a scan that went on: how it began, beside the leaf
 pub record HasBegunOn (opening : ℕ → ℕ) (stored : Stored) (leaf : ℕ) (p q : PassState) : Type 0 where
   pub on : IsBegunOn opening q.view.memory.seen stored.next stored.position leaf
@@ -285,9 +289,10 @@ module _ (sizes : Sizes) (lawful : List Entry → Type 0) (opening : ℕ → ℕ
     stopped = gone_part sizes lawful opening roots 1 stored.next stored.high leaf out new p q r s b aside stop h;
     keeps = subst (λ es. IsKept lawful opening roots 1 stop.next es stop.kept) (sym aside.seen) h.keeps;
     of = elim h.of [
-      | inr gave ↦ inr (subst (λ es. GaveLast opening es 1 stop.kept.page stored.high h.spans) (sym aside.seen) gave)
+      | inr gave ↦ inr (subst (λ es. GaveLast opening es 1 stop.kept stored.high h.spans) (sym aside.seen) gave)
       | inl none ↦ inl (
         none.0,
+        (let f = gone-first sizes lawful opening roots 1 stored.next stored.high leaf out new p q r s b aside stop h in let a = none.2 in omega arith),
         let log : take stop.kept.place ended.view.memory.seen ≡ q.view.memory.seen =
             ap (λ n. take n ended.view.memory.seen) none.2 ∙ (ap (take (length q.view.memory.seen)) (aside.seen ∙ h.run.went.seen)
             ∙ (take-append-le (length q.view.memory.seen) q.view.memory.seen h.run.went.more (omega arith) ∙ take-length q.view.memory.seen)) in

@@ -139,13 +139,13 @@ pub record IsUpTo (sizes : Sizes) (lawful : List Entry → Type 0) (opening : �
   pub to : rank start ≤ rank high
   pub first : ((spans ≡ []) × (start ≡ low) × (new ≡ out) × (q.view.memory.seen ≡ p.view.memory.seen)) ⊎ (rank low < rank start)
 
--- the leaf with this image gave the last of these chunks, and all before it were held
+-- the leaf with this image gave the last of these chunks, at the end of what is seen, and all before it were held
 pub record HasLast (opening : ℕ → ℕ) (log : List Entry) (root leaf : ℕ) (image : List ℕ) (high : MapKey) (spans : List Span) : Type 0 where
   pub before : List Span
   pub last : Span
   pub are : spans ≡ before ++ last ∷ []
   pub held : AreHeld opening log root high before last.place
-  pub within : last.place ≤ length log
+  pub placed : last.place ≡ length log
   pub given : IsGivenBy opening (take last.place log) root leaf high last
   pub read : image ≡ image_of (memory_after opening (take last.place log)) leaf
 
@@ -198,4 +198,4 @@ pub record HasRunToStop (sizes : Sizes) (lawful : List Entry → Type 0) (openin
   pub over : GoesToStop opening q.view.memory.seen root stop.next high begun spans new count
   pub taken : q.view.grants.s ≡ p.view.grants.s + count
   pub keeps : IsKept lawful opening roots root stop.next q.view.memory.seen stop.kept
-  pub of : ((spans ≡ []) × (stop.kept.page ≡ begun) × (stop.kept.place ≡ length p.view.memory.seen)) ⊎ GaveLast opening q.view.memory.seen root stop.kept.page high spans
+  pub of : ((spans ≡ []) × (stop.kept.page ≡ begun) × (stop.kept.place ≡ length p.view.memory.seen)) ⊎ GaveLast opening q.view.memory.seen root stop.kept high spans

@@ -43,12 +43,13 @@ IsBegunOn opening log next None leaf = leaf ≡ leaf_for (pages_after opening lo
 IsBegunOn opening log next (Some at) leaf =
     (((pages_after opening log at.page).clock ≡ at.clock) × (leaf ≡ at.page)) ⊎ (((pages_after opening log at.page).clock ≢ at.clock) × (leaf ≡ leaf_for (pages_after opening log) next 1))
 
--- the leaf gave the last of these chunks, at that chunk's place
-pub record GaveLast (opening : ℕ → ℕ) (log : List Entry) (root leaf : ℕ) (high : MapKey) (spans : List Span) : Type 0 where
+-- the leaf of this position gave the last of these chunks, and the position is at that chunk's place
+pub record GaveLast (opening : ℕ → ℕ) (log : List Entry) (root : ℕ) (kept : Position) (high : MapKey) (spans : List Span) : Type 0 where
   pub before : List Span
   pub last : Span
   pub are : spans ≡ before ++ last ∷ []
-  pub given : IsGivenBy opening (take last.place log) root leaf high last
+  pub placed : kept.place ≡ last.place
+  pub given : IsGivenBy opening (take last.place log) root kept.page high last
 
 -- all chunks from where a scan went on were appended. Where the kept leaf was not written since, one grant of S was taken of it, and one of each leaf behind it, up to that of the last chunk
 pub record HasAllOn (sizes : Sizes) (lawful : List Entry → Type 0) (opening : ℕ → ℕ) (stored : Stored) (out new : HeldChunks) (p q : PassState) : Type 0 where
@@ -62,11 +63,11 @@ pub record HasScannedOn (sizes : Sizes) (lawful : List Entry → Type 0) (openin
   pub grants : (at : Position) → stored.position ≡ Some at → IsUnwritten at q.view.memory.seen
       → (count : ℕ) × GoesToLast opening q.view.memory.seen 1 stored.high at.page scanned.gone.spans count × (q.view.grants.s ≡ p.view.grants.s + 1 + count)
 
--- .. up to a chunk that does not fit. A position is kept from which the scan goes on there: it is of the leaf that gave the last chunk, or where there was none of the leaf on which the call began. Where the leaf kept before was not written since, one grant of S was taken of it, and one of each leaf behind it, up to that of the last chunk where no chunk place is spare, else up to that of the chunk that does not fit
+-- .. up to a chunk that does not fit. A position is kept from which the scan goes on there: it is of the leaf that gave the last chunk, at that chunk's place, or where there was none of the leaf on which the call began, at a place since its first look at the log's end. Where the leaf kept before was not written since, one grant of S was taken of it, and one of each leaf behind it, up to that of the last chunk where no chunk place is spare, else up to that of the chunk that does not fit
 pub record HasStoppedOn (sizes : Sizes) (lawful : List Entry → Type 0) (opening : ℕ → ℕ) (roots : ℕ) (stored : Stored) (next : MapKey) (kept : Position) (out new : HeldChunks) (p q : PassState) : Type 0 where
   pub stopped : HasStopped sizes lawful opening 1 stored.next stored.high next out new p q
   pub keeps : IsKept lawful opening roots 1 next q.view.memory.seen kept
-  pub of : ((stopped.gone.spans ≡ []) × IsBegunOn opening (take kept.place q.view.memory.seen) stored.next stored.position kept.page) ⊎ GaveLast opening q.view.memory.seen 1 kept.page stored.high stopped.gone.spans
+  pub of : ((stopped.gone.spans ≡ []) × (stopped.gone.first ≤ kept.place) × IsBegunOn opening (take kept.place q.view.memory.seen) stored.next stored.position kept.page) ⊎ GaveLast opening q.view.memory.seen 1 kept stored.high stopped.gone.spans
   pub grants : (at : Position) → stored.position ≡ Some at → IsUnwritten at q.view.memory.seen
       → (count : ℕ) × GoesToStop opening q.view.memory.seen 1 next stored.high at.page stopped.gone.spans new count × (q.view.grants.s ≡ p.view.grants.s + 1 + count)
 
