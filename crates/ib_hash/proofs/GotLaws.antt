@@ -1,7 +1,7 @@
 -- A lookup by a guess, and a descent where there is none or it is wrong: both are one call.
 use Rattle.std.specs.List.{AllByRecursion}
 use Rattle.std.specs.Prelude.{MatchOption}
-use Rattle.std.proofs.Common.{◌≡◌, inl, inr, ℕ, ◌≤◌, true, List, ◌∷◌, length, take, drop, Option, Some, None, refl, sym, ap, subst, ◌∙◌, arith}
+use Rattle.std.proofs.Common.{◌≡◌, ◌≢◌, inl, inr, ℕ, ◌≤◌, true, List, ◌∷◌, length, take, drop, Option, Some, None, refl, sym, ap, subst, ◌∙◌, arith}
 use Rattle.std.proofs.lemmas.List.{take-append-drop, take-append-le}
 use Rattle.ib_map.specs.Keys.{MapKey}
 use Rattle.ib_map.specs.Space.{has_pages}
@@ -46,6 +46,7 @@ module _ (sizes : Sizes) (key : MapKey) (guess leaf : ℕ) (answer : Record) (gp
           wrong = λ right. guess-none sizes fits front legal key (subst (λ (n : ℕ). IsRightAfter sizes front n key) none right);
           least = looked.least;
           s = let s = looked.s in omega arith;
+          none = λ none. looked.s;
           sx = looked.sx;
           x = looked.x;
           steps = ap (λ (n : ℕ). stored_at (slot_for key) n found) looked.is_leaf;
@@ -53,8 +54,8 @@ module _ (sizes : Sizes) (key : MapKey) (guess leaf : ℕ) (answer : Record) (gp
       }
 
   -- the guess is wrong
-  got-wrong : (o : PassState) → HasMissed sizes key guess p o → HasLookedByDescent sizes (IsKeptLog sizes.pages) start key leaf answer o q → HasGot sizes (IsKeptLog sizes.pages) start key answer gp (stored_at (slot_for key) leaf found) p q
-  got-wrong o missed looked =
+  got-wrong : (o : PassState) → guess ≢ 0 → HasMissed sizes key guess p o → HasLookedByDescent sizes (IsKeptLog sizes.pages) start key leaf answer o q → HasGot sizes (IsKeptLog sizes.pages) start key answer gp (stored_at (slot_for key) leaf found) p q
+  got-wrong o some missed looked =
       let whole = called-after_looks sizes (IsKeptLog sizes.pages) start (Get key) answer p o q (λ h session one other reply place fits. fits) missed.stopped.went missed.first missed.rest missed.added looked.called in
       let within : AllByRecursion (λ k. (length p.view.memory.seen ≤ k) × (k ≤ length o.view.memory.seen)) (missed.first ∷ missed.rest) =
       subst (AllByRecursion (λ k. (length p.view.memory.seen ≤ k) × (k ≤ length o.view.memory.seen))) missed.added missed.stopped.went.bounds in
@@ -68,6 +69,7 @@ module _ (sizes : Sizes) (key : MapKey) (guess leaf : ℕ) (answer : Record) (gp
           wrong = λ right. missed.wrong (subst (λ (log : List Entry). IsRightAfter sizes log guess key) same right);
           least = let one = ap (λ (g : Grants). g.s) missed.grants in let least = looked.least in omega arith;
           s = let one = ap (λ (g : Grants). g.s) missed.grants in let s = looked.s in omega arith;
+          none = λ none. absurd (some none);
           sx = looked.sx ∙ ap (λ (g : Grants). g.sx) missed.grants;
           x = looked.x ∙ ap (λ (g : Grants). g.x) missed.grants;
           steps = ap (λ (n : ℕ). stored_at (slot_for key) n found) looked.is_leaf;
@@ -76,7 +78,7 @@ module _ (sizes : Sizes) (key : MapKey) (guess leaf : ℕ) (answer : Record) (gp
 
   pub got-else : has_pages sizes.pages ≡ true → (o : PassState) → HasNotLooked sizes key guess p o → HasLookedByDescent sizes (IsKeptLog sizes.pages) start key leaf answer o q → HasGot sizes (IsKeptLog sizes.pages) start key answer gp (stored_at (slot_for key) leaf found) p q
   got-else fits o (inl none) looked = got-none fits none.0 (subst (λ (s : PassState). HasLookedByDescent sizes (IsKeptLog sizes.pages) start key leaf answer s q) none.1 looked)
-  got-else fits o (inr missed) looked = got-wrong o missed looked
+  got-else fits o (inr missed) looked = got-wrong o missed.0 missed.1 looked
 
 -- a try by a guess takes one grant
 pub room-of : (sizes : Sizes) (lawful : List Entry → Type 0) (opens : ℕ → ℕ) (key : MapKey) (guess : ℕ) (p q : PassState) (o : Option Record)
@@ -87,7 +89,8 @@ room-of sizes lawful opens key guess p q (Some answer) looked room =
     let s = ap (λ (g : Grants). g.s) looked.grants in let sx = ap (λ (g : Grants). g.sx) looked.grants in let x = ap (λ (g : Grants). g.x) looked.grants in omega arith
 
 pub else-of : (sizes : Sizes) (lawful : List Entry → Type 0) (opens : ℕ → ℕ) (key : MapKey) (guess : ℕ) (p q : PassState) (o : Option Record)
+    → guess ≢ 0
     → MatchOption o (HasMissed sizes key guess p q) (λ answer. HasLookedByGuess sizes lawful opens key guess answer p q)
     → MatchOption o (HasNotLooked sizes key guess p q) (λ answer. HasLookedByGuess sizes lawful opens key guess answer p q)
-else-of sizes lawful opens key guess p q None missed = inr missed
-else-of sizes lawful opens key guess p q (Some answer) looked = looked
+else-of sizes lawful opens key guess p q None some missed = inr (some, missed)
+else-of sizes lawful opens key guess p q (Some answer) some looked = looked

@@ -18,10 +18,10 @@ pub record GuessesState : Type 0 where
 abbrev pub guesses_state : Inside → GuessesState
 guesses_state g = record { table = g.table.shared.table_id; pages = g.pages; drawn = g.drawn }
 
--- the table's own seat is at rest
+-- the table's own seat is at rest, and has made no step
 abbrev pub Rests : TableId → Option OwnSeat → Type 0
 Rests t None = ⊥
-Rests t (Some r) = (r.seat.table_id ≡ t) × (r.seat.me.1 ≡ [])
+Rests t (Some r) = (r.seat.table_id ≡ t) × (r.seat.me.0 ≡ no_steps) × (r.seat.me.1 ≡ [])
 
 pub record IsGuesses (g : Inside) : Type 0 where
   pub key : g.table.shared.key ≡ g.pages

@@ -1,5 +1,5 @@
 -- What a lookup by a guess comes to.
-use Rattle.std.specs.Prelude.{◌≡◌, ◌⊎◌, ℕ, ◌+◌, ◌<◌, ◌≤◌, List, ◌∷◌, take, Option, Some, None}
+use Rattle.std.specs.Prelude.{◌≡◌, ◌≢◌, ◌⊎◌, ℕ, ◌+◌, ◌<◌, ◌≤◌, List, ◌∷◌, take, Option, Some, None}
 use Rattle.ib_map.specs.Keys.{MapKey}
 use Rattle.ib_map.specs.declared.call.Call.TheVariants.{Get}
 use Rattle.ib_map.specs.declared.call.Record.{Record}
@@ -41,9 +41,9 @@ pub record HasMissed (sizes : Sizes) (key : MapKey) (guess : ℕ) (p q : PassSta
   pub wrong : IsRightAfter sizes (take first q.view.memory.seen) guess key → ⊥
   pub grants : q.view.grants ≡ with_grant (Some S) p.view.grants
 
--- .. or there is no guess, and nothing was done
+-- there is no guess, and nothing was done, or there is one that is wrong
 abbrev pub HasNotLooked : Sizes → MapKey → ℕ → PassState → PassState → Type 0
-HasNotLooked sizes key guess p q = ((guess ≡ 0) × (q ≡ p)) ⊎ HasMissed sizes key guess p q
+HasNotLooked sizes key guess p q = ((guess ≡ 0) × (q ≡ p)) ⊎ ((guess ≢ 0) × HasMissed sizes key guess p q)
 
 -- the key was looked up by a descent, which ended at this leaf: it is the key's in the tree after all seen
 pub record HasLookedByDescent (sizes : Sizes) (lawful : List Entry → Type 0) (opening : ℕ → ℕ) (key : MapKey) (leaf : ℕ) (answer : Record) (p q : PassState) : Type 0 where
@@ -61,11 +61,12 @@ pub record GotByGuess (sizes : Sizes) (key : MapKey) (guess first : ℕ) (gp hp 
   pub grants : q.view.grants ≡ with_grant (Some S) p.view.grants
   pub steps : hp ≡ looked_at (slot_for key) guess gp
 
--- it is not right there: from two to ten grants of S were added, and the leaf of the key stored, in the tree after all seen
+-- it is not right there: from two to ten grants of S were added, to nine where there is no guess, and the leaf of the key stored, in the tree after all seen
 pub record GotByDescent (sizes : Sizes) (key : MapKey) (guess first : ℕ) (gp hp : GuessPassState) (p q : PassState) : Type 0 where
   pub wrong : IsRightAfter sizes (take first q.view.memory.seen) guess key → ⊥
   pub least : p.view.grants.s + 2 ≤ q.view.grants.s
   pub s : q.view.grants.s ≤ p.view.grants.s + 10
+  pub none : guess ≡ 0 → q.view.grants.s ≤ p.view.grants.s + 9
   pub sx : q.view.grants.sx ≡ p.view.grants.sx
   pub x : q.view.grants.x ≡ p.view.grants.x
   pub steps : hp ≡ stored_at (slot_for key) (leaf_after sizes.pages q.view.memory.seen key) (looked_at (slot_for key) guess gp)

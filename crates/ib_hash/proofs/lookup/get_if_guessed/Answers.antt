@@ -19,4 +19,4 @@ returns-clause-room g c =
 pub returns-clause-looked : goal.returns-clause-looked
 returns-clause-looked g c =
     let sizes : Sizes = c.args.latches.now.sizes in let p : PassState = c.args.pass.now in
-    else-of sizes (IsKeptLog sizes.pages) (by_place opening sizes.pages) c.args.key c.args.page p c.get_by_guess.new.pass c.get_by_guess.result c.get_by_guess.ensures.looked
+    else-of sizes (IsKeptLog sizes.pages) (by_place opening sizes.pages) c.args.key c.args.page p c.get_by_guess.new.pass c.get_by_guess.result c.if-page-eq0.false c.get_by_guess.ensures.looked
