@@ -13,9 +13,9 @@ use ib_page::{Image, WorkSet};
 
 /// Makes a change of the tree on the images of all pages of a space, which are those behind a kept log: as it is planned behind
 /// that log, for every such log. The work set has the pages that the change read and wrote then, as they were and as they are:
-/// the words that differ are what the entry of the change writes, and with it the log is kept again. A change of one leaf
-/// copies that leaf alone. Refused exactly where the map does not make the change, or its insert finds the tree or the space
-/// full; nothing is changed then.
+/// the words that differ are what the entry of the change writes, and with it the log is kept again. Refused exactly where the
+/// map does not make the change, or its insert finds the tree or the space full; the images are as they were then, and the
+/// work set may have others of their pages.
 pub fn make_change(images: &mut [Image], work: &mut WorkSet, change: Change) -> Result<(), Refused>
     requires { IsBehindSome images.old }
     ensures made { OnOk result (IsMadeForAll change work.new images.old images.new) }

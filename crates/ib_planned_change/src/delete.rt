@@ -1,6 +1,6 @@
 //! A delete planned on the images of all pages.
 
-ghost use Rattle.std.specs.Prelude.{◌≡◌, ◌⊎◌, ◌+◌, ◌-◌, ◌*◌, ◌^◌, ◌<◌, ◌≤◌, None, Some, length, IsSome, IfSome, IsTrue, IfErr, OnOk};
+ghost use Rattle.std.specs.Prelude.{◌≡◌, ◌⊎◌, ◌↔◌, ◌+◌, ◌-◌, ◌*◌, ◌^◌, ◌<◌, ◌≤◌, None, Some, length, IsSome, IfSome, IsTrue, IfErr, OnOk};
 ghost use Rattle.std.specs.List.{All};
 ghost use Rattle.ib_map.specs.Pairs.{value_at};
 ghost use Rattle.ib_map.specs.declared.call.Change.TheVariants.{Delete};
@@ -57,7 +57,7 @@ fn delete_found(work: &mut WorkSet, images: &[Image], path: &Path, leaf: u32, ke
 // Whether a leaf is the root, or keeps enough records when it loses one.
 fn leaves_enough(leaf: u32, image: &Image) -> bool
     requires { IsFormed image.now }
-    ensures { IsTrue result → (leaf ≡ 1) ⊎ (FEWEST_RECORDS < length (records_of image.now)) }
+    ensures { IsTrue result ↔ (leaf ≡ 1) ⊎ (FEWEST_RECORDS < length (records_of image.now)) }
 {
     leaf == ROOT || image.len() > FEWEST_RECORDS
 }

@@ -19,7 +19,7 @@ delete_in_leaf-requires-clause-leaf c = λ log b.
     let l = c.requires.leaf log b in
     let count = ap (λ (rs : Pairs). length rs) (leaf-records log c.args.images.now b c.args.key c.args.leaf l.0 c.image_at.result.now c.image_at.ensures.image) in
     let enough : (c.args.leaf ≡ 1) ⊎ (FEWEST_RECORDS < length (kept_pages (length c.args.images.now) log c.args.leaf).records) =
-    elim (c.leaves_enough.ensures c.if-leaves_enough.true) [ inl root ↦ inl root | inr more ↦ inr (omega (arith, more, count)) ] in
+    elim (c.leaves_enough.ensures.0 c.if-leaves_enough.true) [ inl root ↦ inl root | inr more ↦ inr (omega (arith, more, count)) ] in
     (l.0, (l.1, enough))
 
 pub delete_in_tree-requires-clause-there : goal.delete_in_tree-requires-clause-there
