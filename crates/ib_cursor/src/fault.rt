@@ -1,4 +1,4 @@
-//! Why a descent that does not wait gave up.
+//! Why a call that does not wait gave up.
 
 ghost use Rattle.std.specs.Prelude.{◌≡◌};
 
@@ -7,10 +7,11 @@ use ib_levels::Latch;
 use ib_word::LockWord;
 use thiserror::Error;
 
-/// The latch that was not had: the index, or a page on the path of the key.
+/// The latch that was not had: the index, a page of the key's path, or of what else a change takes (a page beside
+/// the path, page 0, a fresh page, the log's latch).
 #[derive(Clone, Copy, PartialEq, Eq, Debug, Error)]
 pub enum NowaitFault {
-    /// The word found refuses S.
+    /// At the word found the mode is not had.
     #[error("the word {} of latch {} refuses it", word.0, latch.0)]
     Busy {
         latch: Latch,

@@ -72,8 +72,8 @@ pub fn find<L: Trees, R: Wait>(rt: &R, mtr: &mut Mtr<'_, L, Parkers>, key: Key) 
 /// The same without waiting: each latch is tried (`rw_lock_s_lock_nowait`). Where one is refused, the log's
 /// end is looked at, and then the latches are given up: memo and work set are empty again. `Busy` and
 /// `Raced` tell the latch that was not had, the index or a page of the key's path, and the words of the
-/// try. There are two looks at most for each latch that was had, and for `Busy` one more, for `Raced` two; so two
-/// at most for each latch of the longest path that a tree can have.
+/// try; there are two looks at most for each latch that was had then, and for `Busy` one more, for `Raced` two.
+/// In every case there are two looks at most for each latch of the longest path that a tree can have.
 pub fn find_nowait<L: Trees, S: Sleep>(
     mtr: &mut Mtr<'_, L, S>,
     key: Key,

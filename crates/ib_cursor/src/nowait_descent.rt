@@ -173,7 +173,8 @@ fn reach_leaf_to_change<L: Trees, S: Sleep>(
 /// (`rw_lock_s_lock_nowait`, `rw_lock_x_lock_func_nowait`), for every `Sleep`. Where one is refused, the log's
 /// end is looked at, and then all is given back: memo and work set are empty again. `Busy` and `Raced` tell
 /// the latch that was not had, the index, or a page of the key's path, and the words of the try. There are
-/// two looks at most for each latch of the longest path that a tree can have, the index, and the root again.
+/// two looks at most for each latch of the longest path that a tree can have, the index, and the root again, and
+/// two for the refused try.
 ///
 /// ```
 /// match descend_to_change_nowait(&mut mtr, 1, key) {

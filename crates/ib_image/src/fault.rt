@@ -26,6 +26,7 @@ pub enum ImageFault {
     /// The memory that is restored is no lawful tree.
     #[error("not a tree")]
     NotATree,
+    /// Memory lacks.
     #[error("out of memory")]
     OutOfMemory,
 }

@@ -127,9 +127,9 @@ impl<S: Sleep> Index<S> {
     /// Looks a key up without waiting: each latch is tried (`rw_lock_s_lock_nowait`). Where one is refused,
     /// the log's end is looked at and then all latches are given up; `Busy` and `Raced` tell the latch that
     /// was not had, the index or a page of the key's path, and the words of the last looks, both of this
-    /// call. There are two looks at most for each latch that was had, and for `Busy` one more, for `Raced` two;
-    /// so two at most for each latch of the longest path that a tree can have. The session holds nothing before
-    /// and after.
+    /// call; there are two looks at most for each latch that was had then, and for `Busy` one more, for `Raced`
+    /// two. In every case there are two looks at most for each latch of the longest path that a tree can have.
+    /// The session holds nothing before and after.
     ///
     /// ```
     /// if pass.may_call() {

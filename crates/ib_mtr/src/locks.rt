@@ -42,7 +42,7 @@ impl<'a, L: Law> Mtr<'a, L, Parkers> {
     /// on top of the memo (WL#6363, `mtr_sx_lock`). Beside one's own SX or X it is granted at once.
     ///
     /// ```
-    /// mtr.sx_latch(rt, Latch::INDEX, Level::Index);
+    /// mtr.sx_latch(rt, Latch::INDEX, Level::IndexTree);
     /// ```
     pub fn sx_latch<R: Wait>(&mut self, rt: &R, latch: Latch, level: Level)
         requires mtr { IsMtr self.old.latches.now self.old.pass.now }

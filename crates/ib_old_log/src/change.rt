@@ -8,7 +8,9 @@ use ib_map::{Change, Key, key_law};
 /// What a session changed, in version 1: a pair that is put in, or a key that is taken out.
 #[derive(Clone, Copy, Debug, PartialEq, Eq)]
 pub enum OldChange {
+    /// A pair is put in, whose key is a number.
     Insert { key: u64, value: u64 },
+    /// The pair of a key is taken out.
     Delete { key: u64 },
 }
 

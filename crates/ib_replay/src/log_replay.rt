@@ -24,8 +24,11 @@ use std::alloc::{AllocError, Global};
 /// What a log makes of the opening memory and of the empty map.
 #[derive(Drop)]
 pub struct Replayed {
+    /// The pages after all entries.
     pub memory: Memory,
+    /// The entries, in the order of the log.
     pub entries: Vec<Entry>,
+    /// The map that their changes give.
     pub map: PlainMap,
 }
 

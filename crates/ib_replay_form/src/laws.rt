@@ -20,7 +20,8 @@ pub fn log_law()
 {}
 
 /// The law of what `upgrade` writes, as a contract: it is the file of a kept log that has the old changes, with their keys
-/// brought over, and `replay` prints of it that log and its map, and nothing else.
+/// brought over, and `replay` owes of it that log and its map, and nothing else (a file of more than 67,108,864 bytes it
+/// does not read).
 pub fn upgrade_law()
     ensures kept { (input : List ℕ) (pages : ℕ) (words : List ℕ) → (is : IsBroughtOver input pages words)
         → IsKeptLog pages is.upgraded.log }
