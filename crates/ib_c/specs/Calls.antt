@@ -49,11 +49,12 @@ pub record IsLookup (key : MapKey) (space : SpaceState) (p : PassState) (r : Res
   pub vain : IfErr r (λ fault. AreFewLooks (looks_of fault) p.view q.view)
   pub looks : q.view.looks.count ≤ p.view.looks.count + 2 * (MOST_LEVEL + 2)
 
--- an insert: answered, with the grants that it takes; or refused a latch, with nothing changed
+-- an insert: answered, with the grants that it takes, and two looks at lock words at most for each; or refused a latch, with nothing changed
 pub record IsInsert (value : ℕ) (key : MapKey) (space : SpaceState) (p : PassState) (r : Result Record NowaitFault) (q : PassState) : Type 0 where
   pub rest : IsAtRest space q
   pub called : IfOk r (λ answer. under_plans space HasCalled (Insert key value) answer p q)
   pub grants : IfOk r (λ answer. TakesFewUnless space.sizes (IsFullFor key) key answer.reply p q)
+  pub twice : IfOk r (λ answer. AreFewLooks 0 p.view q.view)
   pub contended : IfErr r (λ fault. IsInsertContended space.sizes key fault p q)
 
 -- a delete, likewise
@@ -61,6 +62,7 @@ pub record IsDelete (key : MapKey) (space : SpaceState) (p : PassState) (r : Res
   pub rest : IsAtRest space q
   pub called : IfOk r (λ answer. under_plans space HasCalled (Delete key) answer p q)
   pub grants : IfOk r (λ answer. TakesFewUnless space.sizes (IsShortFor key) key answer.reply p q)
+  pub twice : IfOk r (λ answer. AreFewLooks 0 p.view q.view)
   pub contended : IfErr r (λ fault. IsDeleteContended space.sizes key fault p q)
 
 abbrev pub HasLookedUp : List ℕ → Does Answered

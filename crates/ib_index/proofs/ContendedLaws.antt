@@ -1,5 +1,5 @@
 -- A change that was refused a latch, by its search or by the log, and gave up.
-use Rattle.std.proofs.Common.{◌≡◌, inl, inr, ℕ, ◌+◌, ◌≤◌, List, [], ◌∷◌, ◌++◌, length, None, Some, refl, ap, arith}
+use Rattle.std.proofs.Common.{◌≡◌, inl, inr, ℕ, ◌+◌, ◌≤◌, List, [], ◌∷◌, ◌++◌, length, Option, refl, ap, arith}
 use Rattle.ib_map.specs.Keys.{MapKey}
 use Rattle.ib_map.specs.declared.call.Call.{Call}
 use Rattle.ib_map.specs.declared.call.Record.{Record}
@@ -119,17 +119,14 @@ contended-behind sizes few more least claimed most f p q t u so fits-s fits-sx f
     }
 
 -- an end that only reads looks at no lock word
-few-read : (sizes : Sizes) (place : ℕ) (p q r : PassState) → HasRead sizes (IsKeptLog sizes.pages) q place r → AreFewLooks 0 p.view q.view → AreFewLooks 0 p.view r.view
+pub few-read : (sizes : Sizes) (place : ℕ) (p q r : PassState) → HasRead sizes (IsKeptLog sizes.pages) q place r → AreFewLooks 0 p.view q.view → AreFewLooks 0 p.view r.view
 few-read sizes place p q r read few =
     let g = ap total read.ended.grants in let l = read.looks in let a = few.least in let b = few.most in record { least = omega arith; most = omega arith }
 
--- a change of the leaf alone was answered without waiting, or needs more than the leaf after an end that only reads
-pub answered-at-once : (sizes : Sizes) (why : ℕ → PageState → Type 0) (key : MapKey) (call : Call) (answer : Record) (p r : PassState) → HasTriedLeaf sizes why key call (Some answer) p r → HasTriedLeafAtOnce sizes why key call (Some answer) p r
-answered-at-once sizes why key call answer p r h = record { tried = h; few = λ none. let bad : Some answer ≡ None = none in cc }
-
-pub stopped-at-once : (sizes : Sizes) (why : ℕ → PageState → Type 0) (key : MapKey) (call : Call) (place : ℕ) (p q r : PassState) → AreFewLooks 0 p.view q.view → HasRead sizes (IsKeptLog sizes.pages) q place r
-    → HasTriedLeaf sizes why key call None p r → HasTriedLeafAtOnce sizes why key call None p r
-stopped-at-once sizes why key call place p q r few read h = record { tried = h; few = λ none. few-read sizes place p q r read few }
+-- .. so of the leaf alone it was tried at once
+pub read-at-once : (sizes : Sizes) (why : ℕ → PageState → Type 0) (key : MapKey) (call : Call) (result : Option Record) (place : ℕ) (p q r : PassState) → AreFewLooks 0 p.view q.view → HasRead sizes (IsKeptLog sizes.pages) q place r
+    → HasTriedLeaf sizes why key call result p r → HasTriedLeafAtOnce sizes why key call result p r
+read-at-once sizes why key call result place p q r few read h = record { tried = h; few = few-read sizes place p q r read few }
 
 -- the grants of a path to the leaf
 pub few-on-leaf : (sizes : Sizes) (p q : PassState) → TakesFew sizes 1 p q → AreFewGrants most_on_leaf p.view q.view

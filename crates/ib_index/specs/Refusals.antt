@@ -1,5 +1,5 @@
 -- A change that does not wait, and found a latch taken.
-use Rattle.std.specs.Prelude.{◌≡◌, ◌⊎◌, ℕ, List, [], ◌∷◌, Option, None, Result, Ok, Err}
+use Rattle.std.specs.Prelude.{◌≡◌, ◌⊎◌, ℕ, List, [], ◌∷◌, Option, Result, Ok, Err}
 use Rattle.ib_map.specs.Keys.{MapKey}
 use Rattle.ib_map.specs.declared.call.Call.{Call}
 use Rattle.ib_map.specs.declared.call.Record.{Record}
@@ -68,10 +68,10 @@ IsInsertContended sizes key fault p q = IsContendedUnless sizes (IsFullFor key) 
 abbrev pub IsDeleteContended : Sizes → MapKey → NowaitFault → PassState → PassState → Type 0
 IsDeleteContended sizes key fault p q = IsContendedUnless sizes (IsShortFor key) (TakesToDelete sizes key) (record { s = 17; sx = 1; x = 26 }) key fault p q
 
--- a change of the leaf alone was tried without waiting, and no latch was refused: where it needs more, there were two looks at lock words at most for each grant
+-- a change of the leaf alone was tried without waiting, and no latch was refused: there were two looks at lock words at most for each grant
 pub record HasTriedLeafAtOnce (sizes : Sizes) (why : ℕ → PageState → Type 0) (key : MapKey) (call : Call) (result : Option Record) (p q : PassState) : Type 0 where
   pub tried : HasTriedLeaf sizes why key call result p q
-  pub few : result ≡ None → AreFewLooks 0 p.view q.view
+  pub few : AreFewLooks 0 p.view q.view
 
 -- what a commit that does not wait answers, where it came as far as the log
 abbrev pub by_log : Result ℕ LogFull → Result ℕ CommitFault

@@ -1,6 +1,6 @@
 //! One tree that sessions share: how it is opened and closed, and how sessions look keys up and change it.
 
-ghost use Rattle.std.specs.Prelude.{◌≡◌, ◌+◌, ◌*◌, ◌≤◌, IfOk, IfErr};
+ghost use Rattle.std.specs.Prelude.{◌≡◌, ◌+◌, ◌*◌, ◌≤◌, IfOk, IfErr, OnOk};
 ghost use Rattle.ib_heap.specs.declared.TheConstants.{MOST_LEVEL};
 ghost use Rattle.ib_rule.specs.Pass.{IsAtRest};
 ghost use Rattle.ib_cursor.specs.Contention.{IsContended};
@@ -183,6 +183,7 @@ impl<S: Sleep> Index<S> {
         ensures rest { IsAtRest self.now pass.new }
         ensures called { IfOk result (λ answer. under_plans self.now HasCalled (Insert key value) answer pass.old pass.new) }
         ensures grants { IfOk result (λ answer. TakesFewUnless self.now.sizes (IsFullFor key) key answer.reply pass.old pass.new) }
+        ensures twice { OnOk result (AreFewLooks 0 pass.old.view pass.new.view) }
         ensures contended { IfErr result (λ fault. IsInsertContended self.now.sizes key fault pass.old pass.new) }
     {
         nowait_change::insert_nowait(&self.latches, pass, key, value)
@@ -207,6 +208,7 @@ impl<S: Sleep> Index<S> {
         ensures rest { IsAtRest self.now pass.new }
         ensures called { IfOk result (λ answer. under_plans self.now HasCalled (Delete key) answer pass.old pass.new) }
         ensures grants { IfOk result (λ answer. TakesFewUnless self.now.sizes (IsShortFor key) key answer.reply pass.old pass.new) }
+        ensures twice { OnOk result (AreFewLooks 0 pass.old.view pass.new.view) }
         ensures contended { IfErr result (λ fault. IsDeleteContended self.now.sizes key fault pass.old pass.new) }
     {
         nowait_change::delete_nowait(&self.latches, pass, key)

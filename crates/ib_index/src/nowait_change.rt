@@ -1,8 +1,9 @@
 //! The changes of the index that never wait: the key's leaf alone where that is enough, else the tree.
 
-ghost use Rattle.std.specs.Prelude.{IfOk, IfErr};
+ghost use Rattle.std.specs.Prelude.{IfOk, IfErr, OnOk};
 ghost use Rattle.ib_map.specs.declared.call.Call.TheVariants.{Delete, Insert};
 ghost use Rattle.ib_rule.specs.Pass.{IsAtRest};
+ghost use Rattle.ib_cursor.specs.Refusals.{AreFewLooks};
 ghost use Rattle.ib_leaf.specs.Calls.{HasCalled, MayCall};
 ghost use Rattle.ib_leaf.specs.Leaf.{IsFullFor, IsShortFor};
 ghost use Rattle.ib_leaf.specs.Under.{under_plans};
@@ -29,6 +30,7 @@ pub(crate) fn insert_nowait<S: Sleep>(
     ensures rest { IsAtRest latches.now pass.new }
     ensures called { IfOk result (λ answer. under_plans latches.now HasCalled (Insert key value) answer pass.old pass.new) }
     ensures grants { IfOk result (λ answer. TakesFewUnless latches.now.sizes (IsFullFor key) key answer.reply pass.old pass.new) }
+    ensures twice { OnOk result (AreFewLooks 0 pass.old.view pass.new.view) }
     ensures contended { IfErr result (λ fault. IsInsertContended latches.now.sizes key fault pass.old pass.new) }
 {
     let tried = match optimistic_insert_nowait(latches, pass, key, value) {
@@ -54,6 +56,7 @@ pub(crate) fn delete_nowait<S: Sleep>(
     ensures rest { IsAtRest latches.now pass.new }
     ensures called { IfOk result (λ answer. under_plans latches.now HasCalled (Delete key) answer pass.old pass.new) }
     ensures grants { IfOk result (λ answer. TakesFewUnless latches.now.sizes (IsShortFor key) key answer.reply pass.old pass.new) }
+    ensures twice { OnOk result (AreFewLooks 0 pass.old.view pass.new.view) }
     ensures contended { IfErr result (λ fault. IsDeleteContended latches.now.sizes key fault pass.old pass.new) }
 {
     let tried = match optimistic_delete_nowait(latches, pass, key) {

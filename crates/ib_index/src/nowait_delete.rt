@@ -52,6 +52,7 @@ pub(crate) fn pessimistic_delete_nowait<S: Sleep>(
     requires may { MayChangeTree latches.now pass.old }
     ensures rest { IsAtRest latches.now pass.new }
     ensures changed { IfOk result (λ answer. HasChangedTree latches.now.sizes (DeleteCall key) answer pass.old pass.new) }
+    ensures twice { OnOk result (AreFewLooks 0 pass.old.view pass.new.view) }
     ensures contended { IfErr result (λ fault. IsContended latches.now.sizes (TakesToDelete latches.now.sizes key) most_to_delete fault pass.old pass.new) }
 {
     let call = Call::Delete { key };

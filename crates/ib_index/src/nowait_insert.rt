@@ -166,6 +166,7 @@ fn try_fresh<S: Sleep>(
         → HoldsAllPages mtr.old.latches.now.sizes key path.now fresh mtr.old.pass.now mtr.new.pass.now) }
     ensures grants { OnOk result (AreFewGrants (record { s = 0; sx = 0; x = 9 }) mtr.old.pass.now.view mtr.new.pass.now.view) }
     ensures twice { OnOk result (AreFewLooks 0 mtr.old.pass.now.view mtr.new.pass.now.view) }
+    ensures short { IfErr result (λ fault. (free : ℕ) → fault ≡ FreshFault.Short free → AreFewLooks 0 mtr.old.pass.now.view mtr.new.pass.now.view) }
     ensures not_taken { IfErr result (λ fault. (key : MapKey) → (p : PassState)
         → HasClaimedPath mtr.old.latches.now.sizes key path.now p mtr.old.pass.now
         → NeedsPages mtr.old.latches.now.sizes.pages key path.now need mtr.old.pass.now.work
@@ -200,6 +201,7 @@ pub(crate) fn pessimistic_insert_nowait<S: Sleep>(
     requires may { MayChangeTree latches.now pass.old }
     ensures rest { IsAtRest latches.now pass.new }
     ensures changed { IfOk result (λ answer. HasChangedTree latches.now.sizes (InsertCall key value) answer pass.old pass.new) }
+    ensures twice { OnOk result (AreFewLooks 0 pass.old.view pass.new.view) }
     ensures contended { IfErr result (λ fault. IsContended latches.now.sizes (TakesToInsert latches.now.sizes key) most_to_insert fault pass.old pass.new) }
 {
     let call = Call::Insert { key, value };

@@ -13,6 +13,7 @@ returns-in-Ok-clause-deleted c =
       rest = c.delete_nowait.ensures.rest;
       called = c.delete_nowait.ensures.called;
       grants = c.delete_nowait.ensures.grants;
+      twice = c.delete_nowait.ensures.twice;
       contended = c.delete_nowait.ensures.contended;
     } in
     let same = subst (λ (key : MapKey). IsDelete key c.args.table.now c.args.pass.now c.delete_nowait.result c.delete_nowait.new.pass) c.in-Ok.ensures.ok.0 is in

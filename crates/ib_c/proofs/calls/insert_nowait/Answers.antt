@@ -13,6 +13,7 @@ returns-in-Ok-clause-inserted c =
       rest = c.insert_nowait.ensures.rest;
       called = c.insert_nowait.ensures.called;
       grants = c.insert_nowait.ensures.grants;
+      twice = c.insert_nowait.ensures.twice;
       contended = c.insert_nowait.ensures.contended;
     } in
     let same = subst (λ (key : MapKey). IsInsert c.args.value key c.args.table.now c.args.pass.now c.insert_nowait.result c.insert_nowait.new.pass) c.in-Ok.ensures.ok.0 is in

@@ -1,5 +1,5 @@
 -- Both tries are one call.
-use Rattle.std.proofs.Common.{inl, inr, Option, None, Some, refl, subst, arith}
+use Rattle.std.proofs.Common.{inl, inr, Option, None, Some, subst, arith}
 use Rattle.ib_map.specs.declared.call.Call.TheVariants.{Delete}
 use Rattle.ib_map.specs.declared.call.Record.{Record}
 use Rattle.ib_logrec.specs.Log.{by_place}
@@ -7,6 +7,7 @@ use Rattle.ib_tree.specs.TreeLog.{opening}
 use Rattle.ib_planned_log.specs.Kept.{IsKeptLog}
 use Rattle.ib_rule.specs.Pass.{PassState}
 use Rattle.ib_layout.specs.Geometry.{Sizes}
+use Rattle.ib_cursor.proofs.RefusalLaws.{few_both}
 use Rattle.ib_leaf.specs.Leaf.{IsShortFor}
 use Rattle.ib_leaf.proofs.AfterLaws.{called-after_stop}
 use Rattle.ib_index.specs.Refusals.{HasTriedLeafAtOnce, TakesToDelete, most_to_delete}
@@ -29,6 +30,9 @@ returns-in-Some-clause-grants g c =
     let tried : HasTriedLeafAtOnce sizes (IsShortFor c.args.key) c.args.key (Delete c.args.key) (Some c.in-Some.answer) p q = subst (λ (o : Option Record). HasTriedLeafAtOnce sizes (IsShortFor c.args.key) c.args.key (Delete c.args.key) o p q) c.in-Some.is c.in-Ok.ensures.tried in
     few-alone sizes (IsKeptLog sizes.pages) (by_place opening sizes.pages) (IsShortFor c.args.key) c.args.key p q q c.in-Some.answer.reply tried.tried.grants
 
+pub returns-in-Some-clause-twice : goal.returns-in-Some-clause-twice
+returns-in-Some-clause-twice g c = c.in-Ok.ensures.tried.few
+
 pub returns-in-Ok-pessimistic_delete_nowait-clause-called : goal.returns-in-Ok-pessimistic_delete_nowait-clause-called
 returns-in-Ok-pessimistic_delete_nowait-clause-called g c =
     let sizes : Sizes = c.args.latches.now.sizes in let p : PassState = c.args.pass.now in let q : PassState = c.optimistic_delete_nowait.new.pass in let r : PassState = c.pessimistic_delete_nowait.new.pass in
@@ -44,9 +48,14 @@ returns-in-Ok-pessimistic_delete_nowait-clause-grants g c =
     few-again sizes (IsKeptLog sizes.pages) (by_place opening sizes.pages) (IsShortFor c.args.key) c.args.key p q r c.in-Ok-pessimistic_delete_nowait.answer.reply
     tried.tried.called tried.tried.grants c.in-Ok-pessimistic_delete_nowait.ensures.changed.grants called.more called.seen
 
+pub returns-in-Ok-pessimistic_delete_nowait-clause-twice : goal.returns-in-Ok-pessimistic_delete_nowait-clause-twice
+returns-in-Ok-pessimistic_delete_nowait-clause-twice g c =
+    let p : PassState = c.args.pass.now in let q : PassState = c.optimistic_delete_nowait.new.pass in let r : PassState = c.pessimistic_delete_nowait.new.pass in
+    few_both 0 p.view q.view r.view c.in-Ok.ensures.tried.few c.in-Ok-pessimistic_delete_nowait.ensures.twice
+
 pub returns-in-Err-pessimistic_delete_nowait-clause-contended : goal.returns-in-Err-pessimistic_delete_nowait-clause-contended
 returns-in-Err-pessimistic_delete_nowait-clause-contended g c =
     let sizes : Sizes = c.args.latches.now.sizes in let p : PassState = c.args.pass.now in let q : PassState = c.optimistic_delete_nowait.new.pass in let r : PassState = c.pessimistic_delete_nowait.new.pass in
     let tried : HasTriedLeafAtOnce sizes (IsShortFor c.args.key) c.args.key (Delete c.args.key) None p q = subst (λ (o : Option Record). HasTriedLeafAtOnce sizes (IsShortFor c.args.key) c.args.key (Delete c.args.key) o p q) c.in-None.is c.in-Ok.ensures.tried in
     inr (contended-again sizes (IsShortFor c.args.key) c.args.key (TakesToDelete sizes c.args.key) most_to_delete (record { s = 17; sx = 1; x = 26 }) c.in-Err-pessimistic_delete_nowait.fault p q r (omega arith) (omega arith) (omega arith)
-    tried.tried.called tried.tried.grants (tried.few refl) c.in-Err-pessimistic_delete_nowait.ensures.contended)
+    tried.tried.called tried.tried.grants tried.few c.in-Err-pessimistic_delete_nowait.ensures.contended)

@@ -22,8 +22,8 @@ use Rattle.ib_cursor.specs.Contention.{fault_on}
 use Rattle.ib_cursor.specs.Refusals.{AreFewGrants, AreFewLooks, IsHeldByDelete, IsVainTry, TakesFor}
 use Rattle.ib_cursor.proofs.RefusalLaws.{few_both, refusal_by, without_work}
 use Rattle.ib_index.specs.Refusals.{IsContended, TakesToDelete, most_to_delete}
-use Rattle.ib_index.proofs.ContendedLaws.{contended-behind, contended-log, contended-search}
-use Rattle.ib_index.proofs.LogEndLaws.{log-refusal, told-full, told-made}
+use Rattle.ib_index.proofs.ContendedLaws.{contended-behind, contended-log, contended-search, few-read}
+use Rattle.ib_index.proofs.LogEndLaws.{log-refusal, told-few, told-full, told-made}
 use Rattle.ib_index.specs.Grows.{HasChangedTree, IsGrowing, tree_pages}
 use Rattle.ib_leaf.specs.Calls.{tree_calls}
 use Rattle.ib_leaf.specs.Leaf.{IsSeated}
@@ -104,6 +104,20 @@ returns-in-Ok-at_log-clause-changed g c =
     let called = called-shrunk sizes key path has.held p t has.went has.looked has.growing has.seated value has.value_is planned.0 c.in-Ok-at_log.committed c.changed.result r ends in
     let changed = changed-ended sizes call (Delete key) (Deleted value) c.in-Ok-at_log.committed c.changed.result planned.0 p t r ends (let a = has.claims in omega arith) (let a = has.grants in omega arith) called in
     subst (HasChangedTree sizes call c.changed.result p) (search rules) changed
+
+pub returns-in_default-clause-twice : goal.returns-in_default-clause-twice
+returns-in_default-clause-twice g c =
+    let sizes : Sizes = c.try_siblings.new.mtr.latches.now.sizes in let p : PassState = c.args.pass.now in let q : PassState = c.try_siblings.new.mtr.pass.now in let r : PassState = c.commit_read-place.new.self.1.0 in
+    let few = c.in-Ok.ensures.twice in
+    let done : AreFewLooks 0 p.view r.view = few-read sizes c.commit_read-place.result p q r c.commit_read-place.ensures (search (rules, few)) in
+    search (rules, done)
+
+pub returns-in-Ok-at_log-clause-twice : goal.returns-in-Ok-at_log-clause-twice
+returns-in-Ok-at_log-clause-twice g c =
+    let p : PassState = c.args.pass.now in let q : PassState = c.try_siblings.new.mtr.pass.now in let t : PassState = c.try_space.new.mtr.pass.now in let r : PassState = c.commit_nowait.new.self.1.0 in
+    let planned = c.plan_in.ensures.planned in let few = c.in-Ok.ensures.twice in let few-q : AreFewLooks 0 p.view q.view = search (rules, few) in
+    let done : AreFewLooks 0 p.view r.view = told-few c.plan_in.new.mtr.latches.now.sizes (Delete c.args.key) c.commit_nowait.result c.plan_in.new.mtr.pass.now r c.commit_nowait.ensures.committed c.commit_nowait.ensures.not_committed c.in-Ok-at_log.committed c.in-Ok-at_log.ensures.told planned.0 p t planned.1 c.commit_nowait.ensures.most (few_both 0 p.view q.view t.view few-q c.in-Ok-try_space.ensures.twice) in
+    search (rules, done)
 
 pub returns-in-Err-clause-contended : goal.returns-in-Err-clause-contended
 returns-in-Err-clause-contended g c =

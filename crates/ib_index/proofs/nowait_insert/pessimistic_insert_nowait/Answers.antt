@@ -31,8 +31,8 @@ use Rattle.ib_index.specs.NowaitGrows.{HasNotTakenFresh, TakesFresh}
 use Rattle.ib_index.specs.declared.nowait_insert.FreshFault.{FreshFault}
 use Rattle.ib_index.specs.declared.nowait_insert.FreshFault.TheVariants.{Refused, Short}
 use Rattle.ib_index.specs.Refusals.{IsContended, TakesToInsert, most_to_insert}
-use Rattle.ib_index.proofs.ContendedLaws.{contended-behind, contended-log, contended-search}
-use Rattle.ib_index.proofs.LogEndLaws.{log-refusal, told-full, told-made}
+use Rattle.ib_index.proofs.ContendedLaws.{contended-behind, contended-log, contended-search, few-read}
+use Rattle.ib_index.proofs.LogEndLaws.{log-refusal, told-few, told-full, told-made}
 use Rattle.ib_index.specs.Grows.{HasChangedTree, HasClaimedPath, IsShort, NeedsPages, tree_pages}
 use Rattle.ib_index.proofs.SpaceTicks.{may-tick}
 use Rattle.ib_leaf.proofs.OptionLaws.{no-value, some-value}
@@ -177,6 +177,40 @@ returns-in-Ok-at_log-clause-changed g c =
     let changed = changed-ended sizes call (Insert key c.args.value) Inserted c.in-Ok-at_log.committed c.changed.result planned.0 p t r ends (let a = holds.claims in let b = reached.claims in omega arith)
     (let a = holds.grants in let b = reached.grants in omega arith) called in
     subst (HasChangedTree sizes call c.changed.result p) (search rules) changed
+
+pub returns-then-is_some-clause-twice : goal.returns-then-is_some-clause-twice
+returns-then-is_some-clause-twice g c =
+    let sizes : Sizes = c.try_path.new.mtr.latches.now.sizes in let p : PassState = c.args.pass.now in let q : PassState = c.try_path.new.mtr.pass.now in let r : PassState = c.commit_read-place.new.self.1.0 in
+    let few = c.in-Ok.ensures.twice in
+    let done : AreFewLooks 0 p.view r.view = few-read sizes c.commit_read-place.result p q r c.commit_read-place.ensures (search (rules, few)) in
+    search (rules, done)
+
+pub returns-in_default-clause-twice : goal.returns-in_default-clause-twice
+returns-in_default-clause-twice g c =
+    let sizes : Sizes = c.needed.new.mtr.latches.now.sizes in let p : PassState = c.args.pass.now in let q : PassState = c.try_path.new.mtr.pass.now in let u : PassState = c.needed.new.mtr.pass.now in let r : PassState = c.commit_read-place-in_default.new.self.1.0 in
+    let pass : q ≡ u = sym (ap (λ m. m.now) c.needed.ensures.pass) in
+    let few = c.in-Ok.ensures.twice in let few-q : AreFewLooks 0 p.view q.view = search (rules, few) in
+    let done : AreFewLooks 0 p.view r.view = few-read sizes c.commit_read-place-in_default.result p u r c.commit_read-place-in_default.ensures (subst (λ (s : PassState). AreFewLooks 0 p.view s.view) pass few-q) in
+    search (rules, done)
+
+pub returns-in-Err-Short-clause-twice : goal.returns-in-Err-Short-clause-twice
+returns-in-Err-Short-clause-twice g c =
+    let sizes : Sizes = c.try_fresh.new.mtr.latches.now.sizes in let p : PassState = c.args.pass.now in let q : PassState = c.try_path.new.mtr.pass.now in let t : PassState = c.try_fresh.new.mtr.pass.now in let r : PassState = c.commit_read-place-in-Err-Short.new.self.1.0 in
+    let pass : c.needed.new.mtr.pass.now ≡ q = ap (λ m. m.now) c.needed.ensures.pass in
+    let few = c.in-Ok.ensures.twice in let few-q : AreFewLooks 0 p.view q.view = search (rules, few) in
+    let is : c.in-Err-Short.field-0 ≡ Short c.in-Err-Short.free = search rules in
+    let few-t : AreFewLooks 0 q.view t.view = subst (λ (v : PassState). AreFewLooks 0 v.view t.view) pass (c.in-Err-Short.ensures.short c.in-Err-Short.free is) in
+    let done : AreFewLooks 0 p.view r.view = few-read sizes c.commit_read-place-in-Err-Short.result p t r c.commit_read-place-in-Err-Short.ensures (few_both 0 p.view q.view t.view few-q few-t) in
+    search (rules, done)
+
+pub returns-in-Ok-at_log-clause-twice : goal.returns-in-Ok-at_log-clause-twice
+returns-in-Ok-at_log-clause-twice g c =
+    let p : PassState = c.args.pass.now in let q : PassState = c.try_path.new.mtr.pass.now in let t : PassState = c.try_fresh.new.mtr.pass.now in let r : PassState = c.commit_nowait.new.self.1.0 in
+    let pass : c.needed.new.mtr.pass.now ≡ q = ap (λ m. m.now) c.needed.ensures.pass in
+    let planned = c.plan_in.ensures.planned in let few = c.in-Ok.ensures.twice in let few-q : AreFewLooks 0 p.view q.view = search (rules, few) in
+    let few-t : AreFewLooks 0 q.view t.view = subst (λ (v : PassState). AreFewLooks 0 v.view t.view) pass c.in-Ok-try_fresh.ensures.twice in
+    let done : AreFewLooks 0 p.view r.view = told-few c.plan_in.new.mtr.latches.now.sizes (Insert c.args.key c.args.value) c.commit_nowait.result c.plan_in.new.mtr.pass.now r c.commit_nowait.ensures.committed c.commit_nowait.ensures.not_committed c.in-Ok-at_log.committed c.in-Ok-at_log.ensures.told planned.0 p t planned.1 c.commit_nowait.ensures.most (few_both 0 p.view q.view t.view few-q few-t) in
+    search (rules, done)
 
 pub returns-in-Err-clause-contended : goal.returns-in-Err-clause-contended
 returns-in-Err-clause-contended g c =

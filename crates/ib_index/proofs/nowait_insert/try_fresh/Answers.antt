@@ -148,3 +148,9 @@ returns-in-Err-try_new-clause-not_taken g c = λ key p reached needs.
     (c.in-Err-try_new.ensures.refused key path reached.held)) in
     fresh-refused sizes fits key path c.args.need p q s reached h needs fresh ch.0 c.in-Ok.ensures.twice (fresh-few g at.In-Ok-choose fits) f t
     (refused h.growing (space-once sizes fits key path c.args.need p q s reached h fresh ch.0))
+
+pub returns-in-Err-choose-clause-short : goal.returns-in-Err-choose-clause-short
+returns-in-Err-choose-clause-short g c = λ free is.
+    let q : PassState = c.args.mtr.now.pass.now in let s : PassState = c.try_space.new.mtr.pass.now in
+    let pass : c.choose.new.mtr.pass.now ≡ s = ap (λ m. m.now) c.choose.ensures.pass in
+    subst (λ (u : PassState). AreFewLooks 0 q.view u.view) (sym pass) c.in-Ok.ensures.twice

@@ -24,8 +24,8 @@ use Rattle.ib_cursor.specs.declared.fault.NowaitFault.{NowaitFault}
 use Rattle.ib_cursor.specs.Contention.{fault_on}
 use Rattle.ib_cursor.specs.Refusals.{TakesForLeaf}
 use Rattle.ib_index.specs.Refusals.{HasTriedLeafAtOnce, IsContended, TakesOnLeaf, most_on_leaf}
-use Rattle.ib_index.proofs.ContendedLaws.{answered-at-once, contended-log, contended-search, few-on-leaf, stopped-at-once}
-use Rattle.ib_index.proofs.LogEndLaws.{log-refusal, told-full, told-made}
+use Rattle.ib_index.proofs.ContendedLaws.{contended-log, contended-search, few-on-leaf, read-at-once}
+use Rattle.ib_index.proofs.LogEndLaws.{log-refusal, told-few, told-full, told-made}
 use Rattle.std.proofs.Common.{inl, inr}
 use Rattle.ib_index.proofs.LeafTries.{HasLookedIn, looked-in, tried}
 use Rattle.ib_index.proofs.nowait_leaf.optimistic_delete_nowait.Given.{Over}
@@ -50,7 +50,7 @@ returns-in_default-clause-tried g c =
     let none : c.look_in-looked.result.value ≡ None = search rules in
     let left = delete-refused space key leaf q has.works place r read (sym has.value_is ∙ none) in
     subst (HasTriedLeafAtOnce space.sizes (IsShortFor key) key call (Some (record { call = call; reply = Missing; place = place })) p) (search rules)
-    (answered-at-once space.sizes (IsShortFor key) key call (record { call = call; reply = Missing; place = place }) p r (tried space (IsShortFor key) key leaf p q has.reached call (Some (record { call = call; reply = Missing; place = place })) r left))
+    (let few = c.in-Ok.ensures.twice in read-at-once space.sizes (IsShortFor key) key call (Some (record { call = call; reply = Missing; place = place })) place p q r (search (rules, few)) read (tried space (IsShortFor key) key leaf p q has.reached call (Some (record { call = call; reply = Missing; place = place })) r left))
 
 pub returns-then-looked-le-FEWEST_RECORDS-clause-tried : goal.returns-then-looked-le-FEWEST_RECORDS-clause-tried
 returns-then-looked-le-FEWEST_RECORDS-clause-tried g c =
@@ -63,7 +63,7 @@ returns-then-looked-le-FEWEST_RECORDS-clause-tried g c =
     let there : IsSome (value_at key (leaf_page space.sizes key q).records) = subst IsSome (sym c.in-Some.is ∙ has.value_is) refl in
     let few : length (leaf_page space.sizes key q).records ≤ FEWEST_RECORDS = (let le = c.if-looked-le-FEWEST_RECORDS.true in omega arith) in
     let left = delete-stopped space key leaf q has.works place r read (there, c.if-leaf-ne-ROOT.true, few) in
-    subst (HasTriedLeafAtOnce space.sizes (IsShortFor key) key call None p) (search rules) (let few = c.in-Ok.ensures.twice in stopped-at-once space.sizes (IsShortFor key) key call place p q r (search (rules, few)) read (tried space (IsShortFor key) key leaf p q has.reached call None r left))
+    subst (HasTriedLeafAtOnce space.sizes (IsShortFor key) key call None p) (search rules) (let few = c.in-Ok.ensures.twice in read-at-once space.sizes (IsShortFor key) key call None place p q r (search (rules, few)) read (tried space (IsShortFor key) key leaf p q has.reached call None r left))
 
 pub returns-in-Ok-at_log-clause-tried : goal.returns-in-Ok-at_log-clause-tried
 returns-in-Ok-at_log-clause-tried g c =
@@ -79,7 +79,12 @@ returns-in-Ok-at_log-clause-tried g c =
     commit-answered space.sizes c.take_out.new.mtr.latches.now.sizes tree_calls call (Delete key) (Deleted c.in-Some.value) c.in-Ok-at_log.committed c.changed.result c.place.result (with_work taken.0 q) c.take_out.new.mtr.pass.now r
     end taken.1 (search rules) c.changed.ensures.made c.changed.ensures.full (told-made c.take_out.new.mtr.latches.now.sizes (Delete c.args.key) c.commit_nowait.result c.take_out.new.mtr.pass.now c.commit_nowait.new.self.1.0 c.commit_nowait.ensures.committed c.commit_nowait.ensures.not_committed c.in-Ok-at_log.committed c.in-Ok-at_log.ensures.told) (told-full c.take_out.new.mtr.latches.now.sizes (Delete c.args.key) c.commit_nowait.result c.take_out.new.mtr.pass.now c.commit_nowait.new.self.1.0 c.commit_nowait.ensures.committed c.commit_nowait.ensures.not_committed c.in-Ok-at_log.committed c.in-Ok-at_log.ensures.told) in
     let left = delete-ended space key leaf q has.works c.in-Ok-at_log.committed taken.0 c.in-Some.value c.changed.result r (sym has.value_is ∙ c.in-Some.is) enough ends in
-    subst (HasTriedLeafAtOnce space.sizes (IsShortFor key) key call (Some c.changed.result) p) (search rules) (answered-at-once space.sizes (IsShortFor key) key call c.changed.result p r (tried space (IsShortFor key) key leaf p q has.reached call (Some c.changed.result) r left))
+    let few = c.in-Ok.ensures.twice in
+    let once : HasTriedLeafAtOnce space.sizes (IsShortFor key) key call (Some c.changed.result) p r = record {
+      tried = tried space (IsShortFor key) key leaf p q has.reached call (Some c.changed.result) r left;
+      few = told-few c.take_out.new.mtr.latches.now.sizes (Delete key) c.commit_nowait.result c.take_out.new.mtr.pass.now r c.commit_nowait.ensures.committed c.commit_nowait.ensures.not_committed c.in-Ok-at_log.committed c.in-Ok-at_log.ensures.told taken.0 p q taken.1 c.commit_nowait.ensures.most (search (rules, few));
+    } in
+    subst (HasTriedLeafAtOnce space.sizes (IsShortFor key) key call (Some c.changed.result) p) (search rules) once
 
 pub returns-in-Err-clause-contended : goal.returns-in-Err-clause-contended
 returns-in-Err-clause-contended g c =

@@ -23,8 +23,8 @@ use Rattle.ib_cursor.specs.declared.fault.NowaitFault.{NowaitFault}
 use Rattle.ib_cursor.specs.Contention.{fault_on}
 use Rattle.ib_cursor.specs.Refusals.{TakesForLeaf}
 use Rattle.ib_index.specs.Refusals.{HasTriedLeafAtOnce, IsContended, TakesOnLeaf, most_on_leaf}
-use Rattle.ib_index.proofs.ContendedLaws.{answered-at-once, contended-log, contended-search, few-on-leaf, stopped-at-once}
-use Rattle.ib_index.proofs.LogEndLaws.{log-refusal, told-full, told-made}
+use Rattle.ib_index.proofs.ContendedLaws.{contended-log, contended-search, few-on-leaf, read-at-once}
+use Rattle.ib_index.proofs.LogEndLaws.{log-refusal, told-few, told-full, told-made}
 use Rattle.std.proofs.Common.{inl, inr}
 use Rattle.ib_index.proofs.LeafTries.{HasLookedIn, looked-in, tried}
 use Rattle.ib_index.proofs.nowait_leaf.optimistic_insert_nowait.Given.{Over}
@@ -49,7 +49,7 @@ returns-then-is_some-clause-tried g c =
     let some = some-value c.look_in-looked.result.value (sym c.is_some.ensures ∙ c.if-is_some.true) in
     let left = insert-refused space key leaf q has.works c.args.value some.0 place r read (sym has.value_is ∙ some.1) in
     subst (HasTriedLeafAtOnce space.sizes (IsFullFor key) key call (Some (record { call = call; reply = Duplicate; place = place })) p) (search rules)
-    (answered-at-once space.sizes (IsFullFor key) key call (record { call = call; reply = Duplicate; place = place }) p r (tried space (IsFullFor key) key leaf p q has.reached call (Some (record { call = call; reply = Duplicate; place = place })) r left))
+    (let few = c.in-Ok.ensures.twice in read-at-once space.sizes (IsFullFor key) key call (Some (record { call = call; reply = Duplicate; place = place })) place p q r (search (rules, few)) read (tried space (IsFullFor key) key leaf p q has.reached call (Some (record { call = call; reply = Duplicate; place = place })) r left))
 
 pub returns-then-looked-eq-MOST_RECORDS-clause-tried : goal.returns-then-looked-eq-MOST_RECORDS-clause-tried
 returns-then-looked-eq-MOST_RECORDS-clause-tried g c =
@@ -60,7 +60,7 @@ returns-then-looked-eq-MOST_RECORDS-clause-tried g c =
     let read : HasRead space.sizes (IsKeptLog space.sizes.pages) q place r = subst (λ (s : Sizes). HasRead s (IsKeptLog s.pages) q place r) same c.commit_read.ensures in
     let none = no-value c.look_in-looked.result.value (sym c.is_some.ensures ∙ c.if-is_some.false) in
     let left = insert-stopped space key leaf q has.works c.args.value place r read (sym has.value_is ∙ none, sym has.count_is ∙ c.if-looked-eq-MOST_RECORDS.true) in
-    subst (HasTriedLeafAtOnce space.sizes (IsFullFor key) key call None p) (search rules) (let few = c.in-Ok.ensures.twice in stopped-at-once space.sizes (IsFullFor key) key call place p q r (search (rules, few)) read (tried space (IsFullFor key) key leaf p q has.reached call None r left))
+    subst (HasTriedLeafAtOnce space.sizes (IsFullFor key) key call None p) (search rules) (let few = c.in-Ok.ensures.twice in read-at-once space.sizes (IsFullFor key) key call None place p q r (search (rules, few)) read (tried space (IsFullFor key) key leaf p q has.reached call None r left))
 
 pub returns-in-Ok-at_log-clause-tried : goal.returns-in-Ok-at_log-clause-tried
 returns-in-Ok-at_log-clause-tried g c =
@@ -77,7 +77,12 @@ returns-in-Ok-at_log-clause-tried g c =
     commit-answered space.sizes c.put_in.new.mtr.latches.now.sizes tree_calls call (Insert key c.args.value) Inserted c.in-Ok-at_log.committed c.changed.result c.place.result (with_work put.0 q) c.put_in.new.mtr.pass.now r
     end put.1 (search rules) c.changed.ensures.made c.changed.ensures.full (told-made c.put_in.new.mtr.latches.now.sizes (Insert c.args.key c.args.value) c.commit_nowait.result c.put_in.new.mtr.pass.now c.commit_nowait.new.self.1.0 c.commit_nowait.ensures.committed c.commit_nowait.ensures.not_committed c.in-Ok-at_log.committed c.in-Ok-at_log.ensures.told) (told-full c.put_in.new.mtr.latches.now.sizes (Insert c.args.key c.args.value) c.commit_nowait.result c.put_in.new.mtr.pass.now c.commit_nowait.new.self.1.0 c.commit_nowait.ensures.committed c.commit_nowait.ensures.not_committed c.in-Ok-at_log.committed c.in-Ok-at_log.ensures.told) in
     let left = insert-ended space key leaf q has.works c.in-Ok-at_log.committed put.0 c.args.value c.changed.result r (sym has.value_is ∙ none) room ends in
-    subst (HasTriedLeafAtOnce space.sizes (IsFullFor key) key call (Some c.changed.result) p) (search rules) (answered-at-once space.sizes (IsFullFor key) key call c.changed.result p r (tried space (IsFullFor key) key leaf p q has.reached call (Some c.changed.result) r left))
+    let few = c.in-Ok.ensures.twice in
+    let once : HasTriedLeafAtOnce space.sizes (IsFullFor key) key call (Some c.changed.result) p r = record {
+      tried = tried space (IsFullFor key) key leaf p q has.reached call (Some c.changed.result) r left;
+      few = told-few c.put_in.new.mtr.latches.now.sizes (Insert key c.args.value) c.commit_nowait.result c.put_in.new.mtr.pass.now r c.commit_nowait.ensures.committed c.commit_nowait.ensures.not_committed c.in-Ok-at_log.committed c.in-Ok-at_log.ensures.told put.0 p q put.1 c.commit_nowait.ensures.most (search (rules, few));
+    } in
+    subst (HasTriedLeafAtOnce space.sizes (IsFullFor key) key call (Some c.changed.result) p) (search rules) once
 
 pub returns-in-Err-clause-contended : goal.returns-in-Err-clause-contended
 returns-in-Err-clause-contended g c =
