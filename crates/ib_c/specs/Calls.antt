@@ -41,10 +41,11 @@ IsCalled bytes does space p (Ok answer) q = (length bytes ≤ 15) × MayCall spa
 abbrev pub HasAnswered : List ℕ → DoesWith → Does Answered
 HasAnswered bytes does space p r q = (answer : Result (Result Record NowaitFault) Status) × (r ≡ told_answer answer) × IsCalled bytes does space p answer q
 
--- a lookup: answered as the log and the tree have it, or refused a latch of the key's path, then with two looks at most for each grant and those of the refused try. There are never more looks than so
+-- a lookup: answered as the log and the tree have it, or refused a latch of the key's path, with two looks at most for each grant and those of the refused try. There are never more looks than so
 pub record IsLookup (key : MapKey) (space : SpaceState) (p : PassState) (r : Result Record NowaitFault) (q : PassState) : Type 0 where
   pub rest : IsAtRest space q
   pub looked_up : IfOk r (λ answer. under_plans space IsLookedUp key answer p q)
+  pub twice : IfOk r (λ answer. AreFewLooks 0 p.view q.view)
   pub contended : IfErr r (λ fault. under_plans space IsContended 1 key fault p q)
   pub vain : IfErr r (λ fault. AreFewLooks (looks_of fault) p.view q.view)
   pub looks : q.view.looks.count ≤ p.view.looks.count + 2 * (MOST_LEVEL + 2)

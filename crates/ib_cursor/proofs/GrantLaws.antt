@@ -24,7 +24,7 @@ use Rattle.ib_core.proofs.Further.{one_more-level}
 use Rattle.ib_page.specs.Work.{WorkPage}
 use Rattle.ib_rule.specs.declared.memory.Since.{Since}
 use Rattle.ib_rule.specs.Conditions.{MayGrow, held_now}
-use Rattle.ib_rule.specs.Pass.{PassState}
+use Rattle.ib_rule.specs.Pass.{PassState, raising_as}
 use Rattle.ib_rule.specs.Takes.{MayTake}
 use Rattle.ib_rule.specs.Views.{is_watched, total}
 use Rattle.ib_rule.specs.Space.{SpaceState}
@@ -147,8 +147,8 @@ pub record HasGiven (g : Grant) (p q : PassState) : Type 0 where
   pub all_looks : q.view.looks.all ≡ p.view.looks.all
   pub count_looks : q.view.looks.count ≡ p.view.looks.count
 
-given-of : (at : ℕ) (g : Grant) (p : PassState) → HasGiven g p (released_at at (memo_of g) p)
-given-of at g p = record {
+given-of : (at : ℕ) (g : Grant) (p q : PassState) → HasGiven g p (raising_as q (released_at at (memo_of g) p))
+given-of at g p q = record {
   beside = record { table = refl; sizes = refl; number = refl; own = refl; seen = refl; ends = refl };
   grants = refl;
   work = λ none. ap (filter (λ (w : WorkPage). not (w.page + 2 == g.latch) || nat_lt 0 (holdings g.latch (released_at at (memo_of g) p).view.session))) none;
@@ -158,11 +158,11 @@ given-of at g p = record {
 }
 
 module _ (front : List Grant) (g : Grant) (back : List Grant) (p q : PassState) (has : HasGrants (front ++ g ∷ back) p) (fa : IsAway g.latch front) (ba : IsAway g.latch back) (release : IsReleasedAt (length front) p q) where
-  pub released_is : q ≡ released_at (length front) (memo_of g) p
-  released_is = subst (λ o. IsSomeAnd o (λ h. q ≡ released_at (length front) h p)) (ap (λ ms. slice_get ms (length front)) has.memo ∙ memo-at g front back) release
+  pub released_is : q ≡ raising_as q (released_at (length front) (memo_of g) p)
+  released_is = subst (λ o. IsSomeAnd o (λ h. q ≡ raising_as q (released_at (length front) h p))) (ap (λ ms. slice_get ms (length front)) has.memo ∙ memo-at g front back) release
 
   pub given : HasGiven g p q
-  given = subst (HasGiven g p) (sym released_is) (given-of (length front) g p)
+  given = subst (HasGiven g p) (sym released_is) (given-of (length front) g p q)
 
   held-left : held_after g.mode g.latch p.view.session ≡ map hold_of (front ++ back)
   held-left =
@@ -179,9 +179,17 @@ module _ (front : List Grant) (g : Grant) (back : List Grant) (p q : PassState) 
 pub released-looks : (at : ℕ) (p q : PassState) → IsReleasedAt at p q → q.view.looks.count ≡ p.view.looks.count
 released-looks at p q is = go (slice_get p.memo at) is
   where
-    go : (o : Option (Latch × Mode)) → IsSomeAnd o (λ g. q ≡ released_at at g p) → q.view.looks.count ≡ p.view.looks.count
+    go : (o : Option (Latch × Mode)) → IsSomeAnd o (λ g. q ≡ raising_as q (released_at at g p)) → q.view.looks.count ≡ p.view.looks.count
     go None h = absurd h
     go (Some g) h = ap (λ (s : PassState). s.view.looks.count) h
+
+-- .. and makes no step of who waits
+pub released-waits : (at : ℕ) (p q : PassState) → IsReleasedAt at p q → q.view.looks.waits ≡ p.view.looks.waits
+released-waits at p q is = go (slice_get p.memo at) is
+  where
+    go : (o : Option (Latch × Mode)) → IsSomeAnd o (λ g. q ≡ raising_as q (released_at at g p)) → q.view.looks.waits ≡ p.view.looks.waits
+    go None h = absurd h
+    go (Some g) h = ap (λ (s : PassState). s.view.looks.waits) h
 
 -- a mini-transaction with an empty memo has no grants
 pub none_granted : (space : SpaceState) (p : PassState) → IsMtr space p → p.memo ≡ [] → HasGrants [] p

@@ -16,16 +16,16 @@ use Rattle.ib_rule.specs.declared.looks.Looks.{Looks}
 use Rattle.ib_rule.specs.declared.memory.Knowledge.{Knowledge}
 use Rattle.ib_rule.specs.declared.memory.Loaded.{Loaded}
 use Rattle.ib_rule.specs.declared.view.View.{View}
-use Rattle.ib_rule.specs.Pass.{PassState, with_view}
+use Rattle.ib_rule.specs.Pass.{PassState, raising_as, with_view}
 use Rattle.ib_rule.specs.Space.{SpaceState}
-use Rattle.ib_rule.specs.Views.{total, with_grant}
+use Rattle.ib_rule.specs.Views.{total, with_grant, with_raises}
 use Rattle.ib_latch.specs.declared.tries.TryFault.{TryFault}
 use Rattle.ib_latch.specs.declared.tries.TryFault.TheVariants.{Busy as TryBusy, Raced as TryRaced}
 use Rattle.ib_latch.specs.Refusals.{IsOneTry, WasRefusedFor}
 use Rattle.ib_latch.specs.Tries.{HasTakenGrant, IsUnchanged, held_with, looks_of}
-use Rattle.ib_latch.proofs.RefusalLaws.{refused_later, refused_looks, won_looks}
-use Rattle.ib_mtr.specs.Mtr.{IsMtr, IsReleasedAt, released_at, released_to, with_granted, with_memo, with_work, without_all}
-use Rattle.ib_mtr.proofs.Ending.{IsKeptBy, kept_by_releases}
+use Rattle.ib_latch.proofs.RefusalLaws.{refused_later, refused_looks, won_looks, won_waits}
+use Rattle.ib_mtr.specs.Mtr.{IsMtr, IsReleasedAt, IsReleasedTo, released_at, with_granted, with_memo, with_work, without_all}
+use Rattle.ib_mtr.proofs.Ending.{IsKeptBy, kept_by_releases, kept_raising}
 use Rattle.ib_mtr.proofs.Keeping.{with_pages}
 use Rattle.ib_mtr.proofs.NowaitCommitting.{all_looks}
 use Rattle.ib_cursor.specs.declared.fault.NowaitFault.{NowaitFault}
@@ -65,7 +65,7 @@ total_more X g = omega arith
 pub few_won : (mode : Mode) (l : ℕ) (v : Level) (p q : PassState) → IsOneTry mode l v p (Ok tt) (with_memo p.memo q) → q.view.grants ≡ with_grant (Some mode) p.view.grants → AreFewLooks 0 p.view q.view
 few_won mode l v p q tried grants =
     let won = won_looks mode l v p (with_memo p.memo q) tried in let more = total_more mode p.view.grants in let is = ap total grants in
-    record { least = omega arith; most = omega arith }
+    record { least = omega arith; most = omega arith; waits = won_waits mode l v p (with_memo p.memo q) tried }
 
 -- .. and no more where that is all that was had
 pub looks_granted : (mode : Mode) (v w : View) → w.grants ≡ with_grant (Some mode) v.grants → AreFewLooks 0 v w → w.looks.count ≤ v.looks.count + 2
@@ -74,11 +74,11 @@ looks_granted mode v w grants few = let more = total_more mode v.grants in let i
 -- looks of one call after another
 pub few_both : (n : ℕ) (u v w : View) → AreFewLooks 0 u v → AreFewLooks n v w → AreFewLooks n u w
 few_both n u v w one two =
-    let a = one.least in let b = two.least in let c = one.most in let d = two.most in record { least = omega arith; most = omega arith }
+    let a = one.least in let b = two.least in let c = one.most in let d = two.most in record { least = omega arith; most = omega arith; waits = two.waits ∙ one.waits }
 
 pub few_same : (n : ℕ) (u v w : View) → w.looks ≡ v.looks → w.grants ≡ v.grants → AreFewLooks n u v → AreFewLooks n u w
 few_same n u v w looks grants few =
-    let l = ap (λ (k : Looks). k.count) looks in let g = ap total grants in let a = few.least in let b = few.most in record { least = omega arith; most = omega arith }
+    let l = ap (λ (k : Looks). k.count) looks in let g = ap total grants in let a = few.least in let b = few.most in record { least = omega arith; most = omega arith; waits = ap (λ (k : Looks). k.waits) looks ∙ few.waits }
 
 -- the try of a fault
 try_is : (latch : Latch) (fault : TryFault) → try_of (fault_on latch fault) ≡ fault
@@ -122,7 +122,7 @@ vain_by_try sizes lawful mode latch v fault p q r none same un tried on memo ses
       work = work ∙ ap (λ (s : PassState). s.work) same;
       at = latch-of latch fault;
       refused = named;
-      few = record { least = omega arith; most = omega arith };
+      few = record { least = omega arith; most = omega arith; waits = ap (λ (k : Looks). k.waits) looks ∙ un.waits };
     }
 
 pub looks_vain : (sizes : Sizes) (lawful : List Entry → Type 0) (mode : Mode) (l : ℕ) (fault : NowaitFault) (p q : PassState) → IsVainTry sizes lawful mode l fault p q → q.view.looks.count ≤ p.view.looks.count + 2
@@ -147,7 +147,7 @@ vain-loads sizes lawful mode l f p q loaded v = let seen = v.looked_on.seen in r
   work = v.work;
   at = v.at;
   refused = v.refused;
-  few = record { least = v.few.least; most = v.few.most };
+  few = record { least = v.few.least; most = v.few.most; waits = v.few.waits };
 }
 
 pub vain_read : (sizes : Sizes) (lawful : List Entry → Type 0) (mode : Mode) (l : ℕ) (f : NowaitFault) (p q r : PassState) → HasReadWords p q → IsVainTry sizes lawful mode l f q r → IsVainTry sizes lawful mode l f p r
@@ -157,16 +157,16 @@ pub few_read : (n : ℕ) (p q r : PassState) → HasReadWords q r → AreFewLook
 few_read n p q r read few = few_same n p.view q.view r.view (ap (λ (s : PassState). s.view.looks) read.same) (ap (λ (s : PassState). s.view.grants) read.same) few
 
 pub few_none : (p : PassState) → AreFewLooks 0 p.view p.view
-few_none p = record { least = omega arith; most = omega arith }
+few_none p = record { least = omega arith; most = omega arith; waits = refl }
 
 pub few_released : (n : ℕ) (at : ℕ) (p q r : PassState) → IsReleasedAt at q r → AreFewLooks n p.view q.view → AreFewLooks n p.view r.view
 few_released n at p q r release few = by_place (slice_get q.memo at) release
   where
-    by_place : (o : Option (Latch × Mode)) → IsSomeAnd o (λ g. r ≡ released_at at g q) → AreFewLooks n p.view r.view
+    by_place : (o : Option (Latch × Mode)) → IsSomeAnd o (λ g. r ≡ raising_as r (released_at at g q)) → AreFewLooks n p.view r.view
     by_place None release = absurd release
     by_place (Some g) is =
         let count = ap (λ (s : PassState). s.view.looks.count) is in let grants = ap (λ (s : PassState). total s.view.grants) is in let a = few.least in let b = few.most in
-        record { least = omega arith; most = omega arith }
+        record { least = omega arith; most = omega arith; waits = ap (λ (s : PassState). s.view.looks.waits) is ∙ few.waits }
 
 -- a latch that was tried in vain is a refusal
 module _ (sizes : Sizes) (lawful : List Entry → Type 0) (takes : List Entry → Mode → ℕ → Type 0) (most : Grants) (f : NowaitFault) where
@@ -198,10 +198,10 @@ module _ (sizes : Sizes) (lawful : List Entry → Type 0) (takes : List Entry �
   }
 
   -- all was given back
-  pub given_up : (p q r : PassState) → IsRefusal sizes lawful takes most f p q → r ≡ released_to 0 (with_work [] q) → r.view.session ≡ idle → HasGivenUp sizes lawful takes most f p r
+  pub given_up : (p q r : PassState) → IsRefusal sizes lawful takes most f p q → IsReleasedTo 0 (with_work [] q) r → r.view.session ≡ idle → HasGivenUp sizes lawful takes most f p r
   given_up p q r v given rests =
-      let view : r.view ≡ without_all q.memo q.view = ap (λ (s : PassState). s.view) given in
-      let kept : IsKeptBy q.view r.view = subst (IsKeptBy q.view) (sym view) (kept_by_releases q.memo q.view) in
+      let view : r.view ≡ with_raises r.view.looks.raises (without_all q.memo q.view) = ap (λ (s : PassState). s.view) given in
+      let kept : IsKeptBy q.view r.view = subst (IsKeptBy q.view) (sym view) (kept_raising r.view.looks.raises q.view (without_all q.memo q.view) (kept_by_releases q.memo q.view)) in
       let beside : IsBeside q r = record {
         table = ap (λ (s : PassState). s.table) given;
         sizes = ap (λ (s : PassState). s.sizes) given;
@@ -222,7 +222,7 @@ module _ (sizes : Sizes) (lawful : List Entry → Type 0) (takes : List Entry �
           mode = v.mode;
           taken = subst (λ (log : List Entry). takes log v.mode (refused_latch f)) (sym kept.seen) v.taken;
           refused = refused_later v.mode (refused_latch f) (try_of f) p.view.looks p.view.looks q.view.looks r.view.looks (omega arith) v.refused all kept.looks;
-          few = (let a = v.few.least in let b = v.few.most in record { least = omega arith; most = omega arith });
+          few = (let a = v.few.least in let b = v.few.most in record { least = omega arith; most = omega arith; waits = kept.waits ∙ v.few.waits });
           grants = (let a = v.grants.s in let b = v.grants.sx in let d = v.grants.x in record { s = omega arith; sx = omega arith; x = omega arith });
         };
         grants = record { memo = ap (λ (s : PassState). s.memo) given; session = rests };

@@ -43,10 +43,11 @@ looks_of (Raced latch expected found) = 2
 abbrev pub WasRefusedIn : Mode → NowaitFault → Looks → Looks → Type 0
 WasRefusedIn mode fault first last = WasRefusedFor mode (refused_latch fault) (try_of fault) first last
 
--- there were two looks at lock words at most for each grant that was taken in the steps between, and so many more
+-- there were two looks at lock words at most for each grant that was taken in the steps between, and so many more, and no step of who waits
 pub record AreFewLooks (more : ℕ) (v w : View) : Type 0 where
   pub least : v.looks.count ≤ w.looks.count
   pub most : w.looks.count + 2 * total v.grants ≤ v.looks.count + 2 * total w.grants + more
+  pub waits : w.looks.waits ≡ v.looks.waits
 
 -- so many grants more at most
 pub record AreFewGrants (most : Grants) (v w : View) : Type 0 where

@@ -1,12 +1,13 @@
 //! A key looked up on its leaf, where it lies.
 
-ghost use Rattle.std.specs.Prelude.{◌≡◌, ◌+◌, ◌*◌, ◌≤◌, [], false, IfErr, IfOk};
+ghost use Rattle.std.specs.Prelude.{◌≡◌, ◌+◌, ◌*◌, ◌≤◌, [], false, IfErr, IfOk, OnOk};
 ghost use Rattle.ib_heap.specs.declared.TheConstants.{MOST_LEVEL};
 ghost use Rattle.ib_rule.specs.Pass.{PassState};
 ghost use Rattle.ib_rule.specs.Under.{under};
 ghost use Rattle.ib_walk.specs.Search.{leaf_for};
 ghost use Rattle.ib_mtr.specs.Mtr.{IsMtr, IsStillMtr};
 ghost use Rattle.ib_cursor.specs.Descent.{HasReached, HasFound, MayDescend};
+ghost use Rattle.ib_cursor.specs.Reading.{HasReadWords};
 ghost use Rattle.ib_cursor.specs.Contention.{IsContended};
 ghost use Rattle.ib_cursor.specs.Refusals.{AreFewLooks, looks_of};
 ghost use Rattle.ib_cursor.specs.Spaces.{pages_under};
@@ -45,6 +46,7 @@ fn found_at_end<L: Trees, S: Sleep>(mtr: &mut Mtr<'_, L, S>, path: &Path, key: K
         mtr.new.pass.now }
     ensures leaf { result.leaf ≡ leaf_for (pages_under L.Law mtr.old.latches.now mtr.new.pass.now)
         key 1 }
+    ensures read { HasReadWords mtr.old.pass.now mtr.new.pass.now }
     ensures looks { mtr.new.pass.now.view.looks.count ≡ mtr.old.pass.now.view.looks.count }
 {
     // For the proof: the laws of trees, at the number of pages that the space has.
@@ -72,8 +74,8 @@ pub fn find<L: Trees, R: Wait>(rt: &R, mtr: &mut Mtr<'_, L, Parkers>, key: Key) 
 /// The same without waiting: each latch is tried (`rw_lock_s_lock_nowait`). Where one is refused, the log's
 /// end is looked at, and then the latches are given up: memo and work set are empty again. `Busy` and
 /// `Raced` tell the latch that was not had, the index or a page of the key's path, and the words of the
-/// try; there are two looks at most for each latch that was had then, and for `Busy` one more, for `Raced` two.
-/// In every case there are two looks at most for each latch of the longest path that a tree can have.
+/// try. There are two looks at most for each latch that was had, and for `Busy` one more, for `Raced` two;
+/// so two at most for each latch of the longest path that a tree can have. No step is made as one that waits.
 pub fn find_nowait<L: Trees, S: Sleep>(
     mtr: &mut Mtr<'_, L, S>,
     key: Key,
@@ -83,6 +85,7 @@ pub fn find_nowait<L: Trees, S: Sleep>(
     ensures still { IsStillMtr mtr.old mtr.new }
     ensures found { IfOk result (λ value. under L.Law mtr.old.latches.now HasFound 1 key value
         mtr.old.pass.now mtr.new.pass.now) }
+    ensures twice { OnOk result (AreFewLooks 0 mtr.old.pass.now.view mtr.new.pass.now.view) }
     ensures contended { IfErr result (λ fault. under L.Law mtr.old.latches.now IsContended 1 key
         fault mtr.old.pass.now mtr.new.pass.now) }
     ensures vain { IfErr result (λ fault. AreFewLooks (looks_of fault) mtr.old.pass.now.view

@@ -85,44 +85,44 @@ module _ (sizes : Sizes) (lawful : List Entry → Type 0) (opening : ℕ → ℕ
   session-is = ap (λ (s : PassState). s.view.session) two ∙ taken_alone (page + 2) level p q idle_before won.taken
 
   seen-is : t.view.memory.seen ≡ r.view.memory.seen
-  seen-is = ap (λ (s : PassState). s.view.memory.seen) three
+  seen-is = ap (λ (s : PassState). s.view.memory.seen) three.rest
 
   ends-are : t.view.memory.ends ≡ p.view.memory.ends ++ c.place ∷ []
-  ends-are = ap (λ (s : PassState). s.view.memory.ends) three ∙ (ap (λ (s : PassState). s.view.memory.ends) two
+  ends-are = ap (λ (s : PassState). s.view.memory.ends) three.rest ∙ (ap (λ (s : PassState). s.view.memory.ends) two
       ∙ (ap (λ m. m.ends ++ length r.view.memory.seen ∷ []) won.taken.memory ∙ ap (λ (n : ℕ). p.view.memory.ends ++ n ∷ []) (sym place)))
 
   own-is : t.view.memory.own ≡ p.view.memory.own
-  own-is = ap (λ (s : PassState). s.view.memory.own) three ∙ (ap (λ (s : PassState). s.view.memory.own) two ∙ ap (λ m. m.own) won.taken.memory)
+  own-is = ap (λ (s : PassState). s.view.memory.own) three.rest ∙ (ap (λ (s : PassState). s.view.memory.own) two ∙ ap (λ m. m.own) won.taken.memory)
 
   pub page_copied : CopiesPage sizes lawful opening page c p t
   page_copied =
       let mem = won.taken.memory in
       record {
-        pass = view_trans p q t one (view_trans q r t (view-own q r (reaching r.view.memory.seen (with_page_loaded page c.image q.view)) two) (view-own r t _ three));
-        idle = ap (λ (s : PassState). s.view.session) three ∙ (ap (λ (a : Session). let b : Session = record { held = without_latch (page + 2) a.held; phase = Free } in b) session-is
+        pass = view_trans p q t one (view_trans q r t (view-own q r (reaching r.view.memory.seen (with_page_loaded page c.image q.view)) two) (view-own r t _ three.rest));
+        idle = ap (λ (s : PassState). s.view.session) three.rest ∙ (ap (λ (a : Session). let b : Session = record { held = without_latch (page + 2) a.held; phase = Free } in b) session-is
             ∙ ap (λ (hs : List Holding). let b : Session = record { held = hs; phase = Free } in b) (none-left (page + 2) level));
         more = look.others;
         seen = seen-is ∙ (sym look.longer ∙ ap (λ m. m.seen ++ look.others) mem);
         memory = only_seen (c.place ∷ []) p.view.memory t.view.memory
-            (ap (λ (s : PassState). s.view.memory.met) three ∙ (ap (λ (s : PassState). s.view.memory.met) two ∙ ap (λ m. m.met) mem))
+            (ap (λ (s : PassState). s.view.memory.met) three.rest ∙ (ap (λ (s : PassState). s.view.memory.met) two ∙ ap (λ m. m.met) mem))
             own-is
-            (ap (λ (s : PassState). s.view.memory.append) three ∙ (ap (λ (s : PassState). s.view.memory.append) two ∙ ap (λ m. m.append) mem))
+            (ap (λ (s : PassState). s.view.memory.append) three.rest ∙ (ap (λ (s : PassState). s.view.memory.append) two ∙ ap (λ m. m.append) mem))
             ends-are;
         place = place ∙ ap length (sym seen-is);
         image = sym (image_of-list (memory_after opening r.view.memory.seen) page c.image size (λ index lt. sym (words index lt))) ∙ ap (λ es. image_of (memory_after opening es) page) (sym seen-is);
-        grants = ap (λ (s : PassState). s.view.grants) three ∙ (ap (λ (s : PassState). s.view.grants) two ∙ won.taken.grants);
+        grants = ap (λ (s : PassState). s.view.grants) three.rest ∙ (ap (λ (s : PassState). s.view.grants) two ∙ won.taken.grants);
         looks = record {
           word = won.won.word;
           given = won.won.given;
           at = won.won.at;
           held = won.won.held;
           before = won.won.before;
-          last_two = ap (λ (s : PassState). s.view.looks.all) three ∙ (ap (λ (s : PassState). s.view.looks.all) two ∙ won.won.last_two);
+          last_two = ap (λ (s : PassState). s.view.looks.all) three.rest ∙ (ap (λ (s : PassState). s.view.looks.all) two ∙ won.won.last_two);
         };
         knows = record {
           legal = subst lawful (sym seen-is) look.legal;
           room = subst (λ (es : List Entry). used es ≤ sizes.log_words) (sym seen-is) look.room;
-          mine = ap (λ (s : PassState). entries_of s.number s.view.memory.seen) three
+          mine = ap (λ (s : PassState). entries_of s.number s.view.memory.seen) three.rest
               ∙ (ap (λ (s : PassState). entries_of s.number r.view.memory.seen) two
               ∙ (ap (λ (o : Role). entries_of (session_number_of o) r.view.memory.seen) (sym role) ∙ (look.mine ∙ (ap (λ m. m.own) mem ∙ sym own-is))));
         };

@@ -1,5 +1,5 @@
 -- A change that was refused a latch, by its search or by the log, and gave up.
-use Rattle.std.proofs.Common.{◌≡◌, inl, inr, ℕ, ◌+◌, ◌≤◌, List, [], ◌∷◌, ◌++◌, length, Option, refl, ap, arith}
+use Rattle.std.proofs.Common.{◌≡◌, inl, inr, ℕ, ◌+◌, ◌≤◌, ◌∙◌, List, [], ◌∷◌, ◌++◌, length, Option, refl, ap, arith}
 use Rattle.ib_map.specs.Keys.{MapKey}
 use Rattle.ib_map.specs.declared.call.Call.{Call}
 use Rattle.ib_map.specs.declared.call.Record.{Record}
@@ -22,7 +22,7 @@ use Rattle.ib_latch.specs.declared.tries.TryFault.TheVariants.{Busy as TryBusy, 
 use Rattle.ib_latch.specs.Refusals.{WasRefusedFor}
 use Rattle.ib_latch.proofs.RefusalLaws.{refused_later}
 use Rattle.ib_mtr.specs.Commits.{HasEnded, HasRead}
-use Rattle.ib_mtr.specs.Mtr.{finished, released_to, started, with_work}
+use Rattle.ib_mtr.specs.Mtr.{IsReleasedTo, finished, started, with_work}
 use Rattle.ib_mtr.specs.NowaitCommits.{IsRefusedByLog}
 use Rattle.ib_cursor.specs.declared.fault.NowaitFault.{NowaitFault}
 use Rattle.ib_cursor.specs.Contention.{fault_on, refused_latch}
@@ -51,7 +51,7 @@ contended-search sizes few more least most f p q so less-s less-sx less-x h =
         mode = v.mode;
         taken = so q.view.memory.seen v.mode (refused_latch f) v.taken;
         refused = v.refused;
-        few = record { least = v.few.least; most = v.few.most };
+        few = record { least = v.few.least; most = v.few.most; waits = v.few.waits };
         grants = let a = v.grants.s in let b = v.grants.sx in let d = v.grants.x in record { s = omega arith; sx = omega arith; x = omega arith };
       };
       grants = record { memo = h.grants.memo; session = h.grants.session };
@@ -86,7 +86,7 @@ contended-log sizes takes most f work p q r went few grants role h taken =
         mode = X;
         taken = log-taken (takes r.view.memory.seen X) f taken;
         refused = log-refused f p.view.looks r.view.looks (refused_later X 0 f p.view.looks q.view.looks r.view.looks r.view.looks least h.refused refl refl);
-        few = record { least = omega arith; most = omega arith };
+        few = record { least = omega arith; most = omega arith; waits = h.waits ∙ few.waits };
         grants = record { s = omega arith; sx = omega arith; x = omega arith };
       };
       grants = record { memo = ap (λ (u : PassState). u.memo) ended.pass; session = ended.session };
@@ -97,7 +97,7 @@ contended-log sizes takes most f work p q r went few grants role h taken =
 pub contended-behind : (sizes : Sizes) (few more : List Entry → Mode → ℕ → Type 0) (least claimed most : Grants) (f : NowaitFault) (p q t u : PassState)
     → ((log : List Entry) (mode : Mode) (l : ℕ) → few log mode l → more log mode l) → claimed.s + least.s ≤ most.s → claimed.sx + least.sx ≤ most.sx → claimed.x + least.x ≤ most.x
     → WentOn p q → AreFewLooks 0 p.view q.view → AreFewGrants claimed p.view q.view → IsRefusal sizes (IsKeptLog sizes.pages) few least f q t
-    → u ≡ released_to 0 (with_work [] t) → u.view.session ≡ idle → IsContended sizes more most f p (finished u)
+    → IsReleasedTo 0 (with_work [] t) u → u.view.session ≡ idle → IsContended sizes more most f p (finished u)
 contended-behind sizes few more least claimed most f p q t u so fits-s fits-sx fits-x went looks grants v given rests =
     let w = refusal_wider sizes (IsKeptLog sizes.pages) few more least f q t so v in
     let a = grants.s in let b = grants.sx in let d = grants.x in let i = w.grants.s in let j = w.grants.sx in let k = w.grants.x in
@@ -111,7 +111,7 @@ contended-behind sizes few more least claimed most f p q t u so fits-s fits-sx f
         mode = r.mode;
         taken = r.taken;
         refused = r.refused;
-        few = record { least = r.few.least; most = r.few.most };
+        few = record { least = r.few.least; most = r.few.most; waits = r.few.waits };
         grants = record { s = r.grants.s; sx = r.grants.sx; x = r.grants.x };
       };
       grants = record { memo = up.grants.memo; session = up.grants.session };
@@ -121,7 +121,7 @@ contended-behind sizes few more least claimed most f p q t u so fits-s fits-sx f
 -- an end that only reads looks at no lock word
 pub few-read : (sizes : Sizes) (place : ℕ) (p q r : PassState) → HasRead sizes (IsKeptLog sizes.pages) q place r → AreFewLooks 0 p.view q.view → AreFewLooks 0 p.view r.view
 few-read sizes place p q r read few =
-    let g = ap total read.ended.grants in let l = read.looks in let a = few.least in let b = few.most in record { least = omega arith; most = omega arith }
+    let g = ap total read.ended.grants in let l = read.looks in let a = few.least in let b = few.most in record { least = omega arith; most = omega arith; waits = read.waits ∙ few.waits }
 
 -- .. so of the leaf alone it was tried at once
 pub read-at-once : (sizes : Sizes) (why : ℕ → PageState → Type 0) (key : MapKey) (call : Call) (result : Option Record) (place : ℕ) (p q r : PassState) → AreFewLooks 0 p.view q.view → HasRead sizes (IsKeptLog sizes.pages) q place r

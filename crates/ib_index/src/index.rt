@@ -145,6 +145,7 @@ impl<S: Sleep> Index<S> {
         ensures rest { IsAtRest self.now pass.new }
         ensures looked_up { IfOk result (λ answer. under_plans self.now HasLookedUp key answer
             pass.old pass.new) }
+        ensures twice { OnOk result (AreFewLooks 0 pass.old.view pass.new.view) }
         ensures contended { IfErr result (λ fault. under_plans self.now IsContended 1 key fault
             pass.old pass.new) }
         ensures vain { IfErr result (λ fault. AreFewLooks (looks_of fault) pass.old.view

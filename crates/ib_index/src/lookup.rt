@@ -6,6 +6,7 @@ ghost use Rattle.ib_rule.specs.Pass.{IsAtRest, PassState};
 ghost use Rattle.ib_rule.specs.Under.{under};
 ghost use Rattle.ib_mtr.specs.Mtr.{IsMtr};
 ghost use Rattle.ib_cursor.specs.Descent.{HasFound};
+ghost use Rattle.ib_cursor.specs.Refusals.{AreFewLooks};
 ghost use Rattle.ib_leaf.specs.Calls.{MayCall};
 ghost use Rattle.ib_index.specs.Lookups.{HasLookedUp};
 
@@ -42,6 +43,8 @@ pub(crate) fn look_up<L: Trees, S: Sleep>(
         → under L.Law mtr.entry.latches.now HasFound 1 key value p mtr.entry.pass.now
         → under L.Law mtr.entry.latches.now HasLookedUp key result p mtr.exit.1.0.now }
     ensures rest { IsAtRest mtr.entry.latches.now mtr.exit.1.0.now }
+    ensures few { (p : PassState) → AreFewLooks 0 p.view mtr.entry.pass.now.view
+        → AreFewLooks 0 p.view mtr.exit.1.0.now.view }
     ensures looks { mtr.exit.1.0.now.view.looks.count
         ≡ mtr.entry.pass.now.view.looks.count }
 {

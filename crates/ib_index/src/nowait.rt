@@ -1,6 +1,6 @@
 //! Lookups that do not wait.
 
-ghost use Rattle.std.specs.Prelude.{◌+◌, ◌*◌, ◌≤◌, IfOk, IfErr};
+ghost use Rattle.std.specs.Prelude.{◌+◌, ◌*◌, ◌≤◌, IfOk, IfErr, OnOk};
 ghost use Rattle.ib_heap.specs.declared.TheConstants.{MOST_LEVEL};
 ghost use Rattle.ib_rule.specs.Pass.{IsAtRest};
 ghost use Rattle.ib_rule.specs.Under.{under};
@@ -28,6 +28,7 @@ pub(crate) fn get_nowait<L: Trees, S: Sleep>(
     ensures rest { IsAtRest latches.now pass.new }
     ensures looked_up { IfOk result (λ answer. under L.Law latches.now HasLookedUp key answer
         pass.old pass.new) }
+    ensures twice { OnOk result (AreFewLooks 0 pass.old.view pass.new.view) }
     ensures contended { IfErr result (λ fault. under L.Law latches.now IsContended 1 key fault
         pass.old pass.new) }
     ensures vain { IfErr result (λ fault. AreFewLooks (looks_of fault) pass.old.view

@@ -37,3 +37,9 @@ pub won_looks : (mode : Mode) (l : ℕ) (v : Level) (p q : PassState) → IsOneT
 won_looks S l v p q tried = let e = ap (λ (r : PassState). r.view.looks.count) tried.1.1 in omega arith
 won_looks Sx l v p q tried = let e = ap (λ (r : PassState). r.view.looks.count) tried.1.1 in omega arith
 won_looks X l v p q tried = let e = ap (λ (r : PassState). r.view.looks.count) tried.1.1 in omega arith
+
+-- .. and makes no step of who waits
+pub won_waits : (mode : Mode) (l : ℕ) (v : Level) (p q : PassState) → IsOneTry mode l v p (Ok tt) q → q.view.looks.waits ≡ p.view.looks.waits
+won_waits S l v p q tried = ap (λ (r : PassState). r.view.looks.waits) tried.1.1
+won_waits Sx l v p q tried = ap (λ (r : PassState). r.view.looks.waits) tried.1.1
+won_waits X l v p q tried = ap (λ (r : PassState). r.view.looks.waits) tried.1.1

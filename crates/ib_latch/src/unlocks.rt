@@ -9,7 +9,7 @@ ghost use Rattle.ib_core.specs.Takings.{given_back};
 ghost use Rattle.ib_rule.specs.Afterwards.{phased};
 ghost use Rattle.ib_rule.specs.Pass.{with_view};
 ghost use Rattle.ib_rule.specs.Turns.{IsInPhase};
-ghost use Rattle.ib_latch.specs.Unlocks.{IsReleased, sx_steps};
+ghost use Rattle.ib_latch.specs.Unlocks.{IsPaidOff, IsReleased, sx_steps};
 
 use crate::latches::Latches;
 use crate::sleep::{Raised, Sleep};
@@ -89,7 +89,7 @@ impl<L: Law, S: Sleep> Latches<L, S> {
     // one load.
     fn pay(&self, pass: &mut Pass, latch: Latch)
         requires owes { IsInPhase self.now latch.0 (OwesLook latch.0) pass.old }
-        ensures { pass.new ≡ with_view pass.old (phased Free pass.old.view) }
+        ensures { IsPaidOff latch.0 pass.old pass.new }
     {
         if self.look(pass, latch) {
             if self.clear(pass, latch) {
@@ -120,7 +120,7 @@ impl<L: Law, S: Sleep> Latches<L, S> {
     // The raise of the generation.
     fn raise(&self, pass: &mut Pass, latch: Latch) -> Raised
         requires owes { IsInPhase self.now latch.0 (OwesRaise latch.0) pass.old }
-        ensures raised { pass.new ≡ with_view pass.old (phased Free pass.old.view) }
+        ensures raised { IsPaidOff latch.0 pass.old pass.new }
         ensures on { result.latch ≡ latch.0 }
     {
         self.space.raise_gen(pass, latch);
@@ -130,7 +130,7 @@ impl<L: Law, S: Sleep> Latches<L, S> {
     // The raise of the ex generation.
     fn raise_ex(&self, pass: &mut Pass, latch: Latch) -> Raised
         requires owes { IsInPhase self.now latch.0 (OwesRaiseEx latch.0) pass.old }
-        ensures raised { pass.new ≡ with_view pass.old (phased Free pass.old.view) }
+        ensures raised { IsPaidOff latch.0 pass.old pass.new }
         ensures on { result.latch ≡ latch.0 }
     {
         self.space.raise_ex_gen(pass, latch);

@@ -13,13 +13,15 @@ use Rattle.ib_core.specs.declared.session.Session.{Session}
 use Rattle.ib_core.specs.Good.{IsProper}
 use Rattle.ib_core.specs.Sessions.{holdings}
 use Rattle.ib_page.specs.Work.{WorkPage}
+use Rattle.ib_rule.specs.declared.looks.Raise.{Raise}
 use Rattle.ib_rule.specs.declared.memory.Knowledge.{Knowledge}
 use Rattle.ib_rule.specs.declared.view.View.{View}
 use Rattle.ib_rule.specs.declared.pass.TheConstants.{MOST_HELD}
 use Rattle.ib_rule.specs.Conditions.{MayGrow}
-use Rattle.ib_rule.specs.Pass.{PassState, IsOf, with_view}
+use Rattle.ib_rule.specs.Pass.{PassState, IsOf, raising_as, with_view}
 use Rattle.ib_rule.specs.Space.{SpaceState}
 use Rattle.ib_rule.specs.Takes.{MayTake, MayTakeMore}
+use Rattle.ib_rule.specs.Views.{with_raises}
 use Rattle.ib_latch.specs.Tries.{HasTakenGrant, IsUnchanged, held_with}
 use Rattle.ib_frames.specs.Reads.{IsLoadedImage}
 use Rattle.ib_mtr.specs.declared.mtr.Mtr.{Mtr}
@@ -101,22 +103,26 @@ granted space p q r mode latch v mtr low same taken proper more =
     } in subst (IsMtr space) (sym (more ∙ ap (λ (q : PassState). with_memo (q.memo ++ (latch, mode) ∷ []) q) same)) after
 
 -- the pages of a latch that was given back are as they were
-pub unchanged_then : (p q r : PassState) (at : ℕ) (g : Latch × Mode) → q ≡ with_view p (released g.1 g.0.0 p.view) → r ≡ with_memo (remove q.memo at) q → IsUnchangedOn g.0.0 p.work → IsUnchangedOn g.0.0 r.work
+pub unchanged_then : (p q r : PassState) (at : ℕ) (g : Latch × Mode) → q ≡ raising_as q (with_view p (released g.1 g.0.0 p.view)) → r ≡ with_memo (remove q.memo at) q → IsUnchangedOn g.0.0 p.work → IsUnchangedOn g.0.0 r.work
 unchanged_then p q r at g unlocked forgotten unchanged =
     subst (IsUnchangedOn g.0.0) (sym (ap (λ (r : PassState). r.work) forgotten ∙ ap (λ (q : PassState). q.work) unlocked)) unchanged
 
+-- a pass that is another one but for raises is so by its own raises
+by_its_own : (q r p : PassState) → r ≡ raising_as q p → r ≡ raising_as r p
+by_its_own q r p is = is ∙ ap (λ (raises : List Raise). with_view p (with_raises raises p.view)) (sym (ap (λ (s : PassState). s.view.looks.raises) is))
+
 -- the grant at a place of the memo was given back, in three steps
-module _ (p q r s : PassState) (at : ℕ) (g : Latch × Mode) (unlocked : q ≡ with_view p (released g.1 g.0.0 p.view)) (forgotten : r ≡ with_memo (remove q.memo at) q)
+module _ (p q r s : PassState) (at : ℕ) (g : Latch × Mode) (unlocked : q ≡ raising_as q (with_view p (released g.1 g.0.0 p.view))) (forgotten : r ≡ with_memo (remove q.memo at) q)
     (left : s ≡ with_work (pages_left g.0.0 r.view.session r.work) r) where
-  pub released_is : s ≡ released_at at g p
+  pub released_is : s ≡ raising_as s (released_at at g p)
   released_is =
-      let third : r ≡ with_memo (remove p.memo at) (with_view p (without_grant g p.view)) = forgotten ∙ ap (λ (q : PassState). with_memo (remove q.memo at) q) unlocked in
-      left ∙ ap (λ (r : PassState). with_work (pages_left g.0.0 r.view.session r.work) r) third
+      let third : r ≡ with_memo (remove p.memo at) (raising_as q (with_view p (without_grant g p.view))) = forgotten ∙ ap (λ (q : PassState). with_memo (remove q.memo at) q) unlocked in
+      by_its_own q s (released_at at g p) (left ∙ ap (λ (r : PassState). with_work (pages_left g.0.0 r.view.session r.work) r) third)
 
   pub released_mtr : (space : SpaceState) → IsMtr space p → slice_get p.memo at ≡ Some g → IsProper q.view.session → IsMtr space s
   released_mtr space mtr there proper =
-      let after = without_grant g p.view in
-      let end : IsMtr space (released_at at g p) = record {
+      let after = with_raises s.view.looks.raises (without_grant g p.view) in
+      let end : IsMtr space (raising_as s (released_at at g p)) = record {
         own = own_with space p after (pages_left g.0.0 after.session p.work) (remove p.memo at) mtr.own mtr.own.closed;
         works = mtr.works;
         free = refl;

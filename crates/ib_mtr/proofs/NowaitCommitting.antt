@@ -16,7 +16,7 @@ use Rattle.ib_latch.specs.Refusals.{WasRefusedFor}
 use Rattle.ib_latch.specs.Tries.{IsUnchanged, looks_of}
 use Rattle.ib_latch.proofs.RefusalLaws.{refused_later}
 use Rattle.ib_mtr.specs.Commits.{HasEnded}
-use Rattle.ib_mtr.specs.Mtr.{finished, released_to, with_work, without_all}
+use Rattle.ib_mtr.specs.Mtr.{IsReleasedTo, finished, with_work, without_all}
 use Rattle.ib_mtr.specs.NowaitCommits.{HasNotCommitted, IsRefusedByLog}
 use Rattle.ib_mtr.specs.declared.commit_nowait.CommitFault.{CommitFault}
 use Rattle.ib_mtr.specs.declared.commit_nowait.CommitFault.TheVariants.{Full, LogRefused}
@@ -27,7 +27,7 @@ pub all_looks : (memo : List (Latch × Mode)) (v : View) → (without_all memo v
 all_looks [] v = refl
 all_looks (g ∷ gs) v = all_looks gs v
 
-pub ended_all : (p q r : PassState) → q ≡ released_to 0 (with_work [] p) → r ≡ finished q → r.view.looks.all ≡ p.view.looks.all
+pub ended_all : (p q r : PassState) → IsReleasedTo 0 (with_work [] p) q → r ≡ finished q → r.view.looks.all ≡ p.view.looks.all
 ended_all p q r given ended = ap (λ (s : PassState). s.view.looks.all) (ended ∙ ap finished given) ∙ all_looks p.memo p.view
 
 -- the log latch was refused, which left the pass p1; then the log's end was looked at, and all was given back

@@ -14,7 +14,7 @@ use Rattle.ib_core.specs.Sessions.{holdings}
 use Rattle.ib_core.specs.Takings.{given_back}
 use Rattle.ib_page.specs.Work.{WorkPage, before_of, changed_of}
 use Rattle.ib_rule.specs.declared.view.View.{View}
-use Rattle.ib_rule.specs.Pass.{PassState, IsOf}
+use Rattle.ib_rule.specs.Pass.{PassState, IsOf, raising_as}
 use Rattle.ib_rule.specs.Space.{SpaceState}
 use Rattle.ib_rule.specs.Views.{left_as, with_looks}
 use Rattle.ib_latch.specs.Tries.{HasTakenGrant}
@@ -100,9 +100,9 @@ IsUnchangedOn l pages = (page : ℕ) → l ≡ page + 2 → changed_of page page
 abbrev pub MayRelease : ℕ → PassState → Type 0
 MayRelease at p = IfSome (slice_get p.memo at) (λ g. IsUnchangedOn g.0.0 p.work)
 
--- .. and it was
+-- .. and it was, with a raise where one was owed
 abbrev pub IsReleasedAt : ℕ → PassState → PassState → Type 0
-IsReleasedAt at p q = IsSomeAnd (slice_get p.memo at) (λ g. q ≡ released_at at g p)
+IsReleasedAt at p q = IsSomeAnd (slice_get p.memo at) (λ g. q ≡ raising_as q (released_at at g p))
 
 -- the view after all grants of a memo were given back, from the newest to the oldest
 abbrev pub without_all : List (Latch × Mode) → View → View
@@ -112,3 +112,7 @@ without_all (g ∷ gs) v = without_grant g (without_all gs v)
 -- the pass after the newest grants of the memo were given back, down to this size of it
 abbrev pub released_to : ℕ → PassState → PassState
 released_to size p = record p { view = without_all (drop size p.memo) p.view; memo = take size p.memo }
+
+-- .. which they were, with the raises that were owed
+abbrev pub IsReleasedTo : ℕ → PassState → PassState → Type 0
+IsReleasedTo size p q = q ≡ raising_as q (released_to size p)

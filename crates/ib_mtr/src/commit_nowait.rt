@@ -32,7 +32,7 @@ impl<'a, L: Law, S: Sleep> Mtr<'a, L, S> {
     /// Commits as `commit` does (`mtr_t::commit`), but the log latch is tried (`mutex_enter_nowait` of the
     /// log's mutex), so that it works for every `Sleep`. Where the try is refused, the log's end is looked
     /// at, nothing is written, and all latches are given back, as `commit_read` does. `LogRefused` tells
-    /// the word of the log latch that refused it. There are two looks at lock words at most.
+    /// the word of the log latch that refused it. There are two looks at lock words at most, and no step of who waits.
     ///
     /// ```
     /// match mtr.commit_nowait(Change::Insert { key, value: 70 }) {
@@ -52,6 +52,7 @@ impl<'a, L: Law, S: Sleep> Mtr<'a, L, S> {
             ≡ self.entry.pass.now.view.looks.count + 2) }
         ensures most { self.exit.1.0.now.view.looks.count
             ≤ self.entry.pass.now.view.looks.count + 2 }
+        ensures waits { self.exit.1.0.now.view.looks.waits ≡ self.entry.pass.now.view.looks.waits }
     {
         let Mtr { latches, pass } = self;
         commit_in_nowait(latches, pass, change)
@@ -72,6 +73,7 @@ fn commit_in_nowait<L: Law, S: Sleep>(
         pass.old fault pass.new) }
     ensures looks { OnOk result (pass.new.view.looks.count ≡ pass.old.view.looks.count + 2) }
     ensures most { pass.new.view.looks.count ≤ pass.old.view.looks.count + 2 }
+    ensures waits { pass.new.view.looks.waits ≡ pass.old.view.looks.waits }
 {
     let laid = lay_out_early(latches, pass, change);
     commit_laid_nowait(latches, pass, change, laid)
@@ -93,6 +95,7 @@ fn commit_laid_nowait<L: Law, S: Sleep>(
         pass.old fault pass.new) }
     ensures looks { OnOk result (pass.new.view.looks.count ≡ pass.old.view.looks.count + 2) }
     ensures most { pass.new.view.looks.count ≤ pass.old.view.looks.count + 2 }
+    ensures waits { pass.new.view.looks.waits ≡ pass.old.view.looks.waits }
 {
     // For the proof: the session's number, which no step changes.
     let _ = pass.number();

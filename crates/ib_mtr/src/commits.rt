@@ -10,7 +10,7 @@ ghost use Rattle.ib_rule.specs.Pass.{with_view};
 ghost use Rattle.ib_rule.specs.Stores.{appending};
 ghost use Rattle.ib_rule.specs.Under.{under, under_lawful};
 ghost use Rattle.ib_mtr.specs.Commits.{HasCommitted, HasRead, IsFull, MayCommit};
-ghost use Rattle.ib_mtr.specs.Mtr.{IsMtr, IsStillMtr, released_to, with_work};
+ghost use Rattle.ib_mtr.specs.Mtr.{IsMtr, IsReleasedTo, IsStillMtr, with_work};
 
 use crate::mtr::Mtr;
 use ib_frames::{LogFull, append_laid, lay_out};
@@ -118,7 +118,7 @@ impl<'a, L: Law, S: Sleep> Mtr<'a, L, S> {
     pub fn give_back(&mut self)
         requires { IsMtr self.old.latches.now (with_work [] self.old.pass.now) }
         ensures still { IsStillMtr self.old self.new }
-        ensures given { self.new.pass.now ≡ released_to 0 (with_work [] self.old.pass.now) }
+        ensures given { IsReleasedTo 0 (with_work [] self.old.pass.now) self.new.pass.now }
         ensures idle { self.new.pass.now.view.session ≡ idle }
     {
         self.pass.work_mut().clear();

@@ -8,11 +8,11 @@ ghost use Rattle.ib_core.specs.declared.phase.Phase.TheVariants.{Free};
 ghost use Rattle.ib_core.specs.Good.{IsProper};
 ghost use Rattle.ib_core.specs.Takings.{holding_too};
 ghost use Rattle.ib_page.specs.Work.{before_of, changed_of};
-ghost use Rattle.ib_rule.specs.Pass.{IsOf, with_view};
+ghost use Rattle.ib_rule.specs.Pass.{IsOf, raising_as, with_view};
 ghost use Rattle.ib_rule.specs.Takes.{MayTake};
 ghost use Rattle.ib_latch.specs.Tries.{IsFirstTry, HasTakenGrant, IsUnchanged, looks_of};
 ghost use Rattle.ib_mtr.specs.Memo.{IsNewest, grants_of};
-ghost use Rattle.ib_mtr.specs.Mtr.{IsMtr, IsReleasedAt, IsStillMtr, IsUnchangedOn, MayRelease, pages_left, released, released_to, with_granted, with_memo, with_work};
+ghost use Rattle.ib_mtr.specs.Mtr.{IsMtr, IsReleasedAt, IsReleasedTo, IsStillMtr, IsUnchangedOn, MayRelease, pages_left, released, with_granted, with_memo, with_work};
 
 use crate::mtr::Mtr;
 use ib_latch::{Latches, Sleep, TryFault};
@@ -109,7 +109,7 @@ impl<'a, L: Law, S: Sleep> Mtr<'a, L, S> {
         requires mtr { IsMtr self.old.latches.now self.old.pass.now }
         requires pages { self.old.pass.now.work ≡ [] }
         ensures still { IsStillMtr self.old self.new }
-        ensures released { self.new.pass.now ≡ released_to 0 self.old.pass.now }
+        ensures released { IsReleasedTo 0 self.old.pass.now self.new.pass.now }
     {
         for at in (0..self.savepoint()).rev() {
             self.release_at(at);
@@ -137,7 +137,8 @@ fn unlock<L: Law, S: Sleep>(latches: &Latches<L, S>, pass: &mut Pass, latch: Lat
     requires latch { latch.0 < latches_of latches.now.sizes }
     requires free { pass.old.view.session.phase ≡ Free }
     requires holds { 0 < grants_of mode latch.0 pass.old.view.session }
-    ensures { pass.new ≡ with_view pass.old (released mode latch.0 pass.old.view) }
+    ensures { pass.new ≡ raising_as pass.new
+        (with_view pass.old (released mode latch.0 pass.old.view)) }
 {
     match mode {
         Mode::S => latches.unlock_s(pass, latch),

@@ -35,7 +35,7 @@ use Rattle.ib_rule.specs.declared.kind.StepKind.TheVariants.{Turn, Try, Recheck,
 use Rattle.ib_rule.specs.declared.view.View.{View}
 use Rattle.ib_rule.specs.Afterwards.{cleared, ex_loaded, flag_loaded, flag_looks, flagged, gen_loaded, granted, in_phase, phased, with_step, with_wait, word_loaded}
 use Rattle.ib_rule.specs.Conditions.{IsArmed, MayLoadExGen, MayLoadFlag, MayLoadGen, MayTry, ex_gen_event, flag_event, gen_event, try_event, word_kind}
-use Rattle.ib_rule.specs.Steps.{looked, one_wait_more, turn_looks, view_after, refuses, wait_looks}
+use Rattle.ib_rule.specs.Steps.{looked, mark_looks, one_raise_more, one_wait_more, turn_looks, view_after, refuses}
 use Rattle.ib_rule.specs.Views.{KnowsHeld, left_as, turned, turned_by, with_grant, with_looks}
 use Rattle.ib_rule.proofs.Gains.{first_held, first_wins, more_claims, more_holds, reserving_held, reserving_wins, too_claims, too_holds}
 use Rattle.ib_rule.proofs.LockSteps.{flagged_for, given_word}
@@ -54,7 +54,7 @@ module _ (v : View) (l n : ℕ) (known : KnowsHeld v) where
       (gen_session v _ l n wish may refl)
       ∙ ap (λ k. with_looks k (phased (gen_loaded l wish n v.session.phase) v)) (waits wish)
     where
-      waits : (wish : Option (Mode × Level)) → wait_looks (gen_event l wish) v.looks ≡ one_wait_more v.looks
+      waits : (wish : Option (Mode × Level)) → mark_looks (word_for (gen_event l wish) v.session) (gen_event l wish) n v.looks ≡ one_wait_more v.looks
       waits None = refl
       waits (Some wish) = refl
 
@@ -68,7 +68,7 @@ module _ (v : View) (l n : ℕ) (known : KnowsHeld v) where
       (ex_gen_session v _ l n may refl)
       ∙ ap (λ k. with_looks k (phased (ex_loaded n v.session.phase) v)) (waits v.session.phase)
     where
-      waits : (p : Phase) → wait_looks (ex_gen_event l p) v.looks ≡ one_wait_more v.looks
+      waits : (p : Phase) → mark_looks (word_for (ex_gen_event l p) v.session) (ex_gen_event l p) n v.looks ≡ one_wait_more v.looks
       waits (Next k u) = refl
       waits p = refl
 
@@ -82,7 +82,7 @@ module _ (v : View) (l n : ℕ) (known : KnowsHeld v) where
       (flag_session v _ l n may refl)
       ∙ ap (λ k. with_looks k (phased (flag_loaded n v.session.phase) v)) (waits v.session.phase)
     where
-      waits : (p : Phase) → wait_looks (flag_event l p) v.looks ≡ flag_looks p v.looks
+      waits : (p : Phase) → mark_looks (word_for (flag_event l p) v.session) (flag_event l p) n v.looks ≡ flag_looks p v.looks
       waits (OwesLook k) = refl
       waits p = refl
 
@@ -96,11 +96,17 @@ module _ (v : View) (l n : ℕ) (known : KnowsHeld v) where
   pub clear_view : v.session.phase ≡ OwesClear l → view_after (Turn (Clear l)) n v ≡ phased (cleared l n) v
   clear_view is = mark_turn (Clear l) n v _ _ known refl (λ z. absurd (cc)) refl (clear_session v _ l n is refl)
 
-  pub raise_view : v.session.phase ≡ OwesRaise l → view_after (Turn (Raise l)) n v ≡ phased Free v
-  raise_view is = mark_turn (Raise l) n v _ _ known refl (off_lock Generation (Raise l) (ap (raise_word) is) (λ z. absurd (cc))) refl (raise_session v _ l n is refl)
+  pub raise_view : v.session.phase ≡ OwesRaise l → view_after (Turn (Raise l)) n v ≡ with_looks (one_raise_more l Generation (n + 1) v.looks) (phased Free v)
+  raise_view is =
+      let on : word_for (Raise l) v.session ≡ Generation = ap raise_word is in
+      mark_turn (Raise l) n v _ _ known refl (off_lock Generation (Raise l) on (λ z. absurd (cc))) refl (raise_session v _ l n is refl)
+      ∙ ap (λ (c : LatchWord). with_looks (one_raise_more l c (n + 1) v.looks) (phased Free v)) on
 
-  pub ex_raise_view : v.session.phase ≡ OwesRaiseEx l → view_after (Turn (Raise l)) n v ≡ phased Free v
-  ex_raise_view is = mark_turn (Raise l) n v _ _ known refl (off_lock ExGeneration (Raise l) (ap (raise_word) is) (λ z. absurd (cc))) refl (ex_raise_session v _ l n is refl)
+  pub ex_raise_view : v.session.phase ≡ OwesRaiseEx l → view_after (Turn (Raise l)) n v ≡ with_looks (one_raise_more l ExGeneration (n + 1) v.looks) (phased Free v)
+  ex_raise_view is =
+      let on : word_for (Raise l) v.session ≡ ExGeneration = ap raise_word is in
+      mark_turn (Raise l) n v _ _ known refl (off_lock ExGeneration (Raise l) on (λ z. absurd (cc))) refl (ex_raise_session v _ l n is refl)
+      ∙ ap (λ (c : LatchWord). with_looks (one_raise_more l c (n + 1) v.looks) (phased Free v)) on
 
   -- a view is itself in its own phase
   same_phase : (p : Phase) → v.session.phase ≡ p → v ≡ phased p v

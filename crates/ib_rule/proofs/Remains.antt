@@ -24,7 +24,7 @@ use Rattle.ib_rule.specs.declared.looks.Looks.{Looks}
 use Rattle.ib_rule.specs.declared.view.View.{View}
 use Rattle.ib_rule.specs.Afterwards.{in_phase, phased}
 use Rattle.ib_rule.specs.Memory.{latch_at}
-use Rattle.ib_rule.specs.Steps.{turn_looks, view_after, wait_looks}
+use Rattle.ib_rule.specs.Steps.{turn_looks, view_after, mark_looks}
 use Rattle.ib_rule.specs.Views.{KnowsHeld, left_as, turned, with_grant, with_looks}
 
 -- nothing is left out of a list of which the test holds everywhere
@@ -83,8 +83,8 @@ pub won_turn : (e : Event) (n : ℕ) (v : View) (a : Session) (mode : Mode) → 
     → turned e n v ≡ record (left_as (latch_of e) a v) { grants = with_grant (Some mode) v.grants }
 won_turn e n v a mode wins is = λ j. record (left_as (latch_of e) (is j) v) { grants = with_grant (wins j) v.grants }
 
--- a step on another word than the lock word counts where it is one of who waits
-pub no_look : (c : LatchWord) (e : Event) (a : Session) (n : ℕ) (k : Looks) → c ≢ Lock → turn_looks c e a n k ≡ wait_looks e k
+-- a step on another word than the lock word counts where it is one of who waits, or a raise
+pub no_look : (c : LatchWord) (e : Event) (a : Session) (n : ℕ) (k : Looks) → c ≢ Lock → turn_looks c e a n k ≡ mark_looks c e n k
 no_look Lock e a n k off = absurd (off refl)
 no_look c e a n k off = refl
 
@@ -93,7 +93,7 @@ pub phase_turn : (e : Event) (n : ℕ) (v : View) (p : Phase) → KnowsHeld v �
 phase_turn e n v p known plain is = plain_turn e n v (in_phase p v.session) plain is ∙ all_remains (latch_of e) (in_phase p v.session) v known (λ h. h) (λ h. h)
 
 -- .. on another word than the lock word
-pub mark_turn : (e : Event) (n : ℕ) (v w : View) (p : Phase) → KnowsHeld v → is_plain e ≡ true → word_for e v.session ≢ Lock → w ≡ view_after (Turn e) n v → w.session ≡ in_phase p v.session → w ≡ with_looks (wait_looks e v.looks) (phased p v)
+pub mark_turn : (e : Event) (n : ℕ) (v w : View) (p : Phase) → KnowsHeld v → is_plain e ≡ true → word_for e v.session ≢ Lock → w ≡ view_after (Turn e) n v → w.session ≡ in_phase p v.session → w ≡ with_looks (mark_looks (word_for e v.session) e n v.looks) (phased p v)
 mark_turn e n v w p known plain off is session =
     is ∙ (λ j. with_looks (no_look (word_for e v.session) e v.session n v.looks off j) (phase_turn e n v p known plain (sym (ap (λ (u : View). u.session) is) ∙ session) j))
 

@@ -16,7 +16,7 @@ use Rattle.ib_rule.specs.declared.memory.Knowledge.{Knowledge}
 use Rattle.ib_rule.specs.declared.view.Role.TheVariants.{Session}
 use Rattle.ib_rule.specs.declared.view.View.{View}
 use Rattle.ib_rule.specs.ScratchHolder.{IsScratchHolder, holder_state}
-use Rattle.ib_rule.specs.Views.{total, KnowsHeld, is_watched}
+use Rattle.ib_rule.specs.Views.{total, with_raises, KnowsHeld, is_watched}
 use Rattle.ib_rule.specs.Space.{SpaceState}
 
 -- a pass: the sizes of its space, its number and view, whether its scratch is in it and free, whether a mini-transaction works in the scratch, on which pages and with which grants, and its words for an entry
@@ -34,6 +34,10 @@ pub record PassState : Type 0 where
 -- the pass with another view
 abbrev pub with_view : PassState → View → PassState
 with_view p v = record p { view = v }
+
+-- .. with the raises of another pass
+abbrev pub raising_as : PassState → PassState → PassState
+raising_as q p = with_view p (with_raises q.view.looks.raises p.view)
 
 -- the pass was drawn from this space
 abbrev pub IsFrom : SpaceState → PassState → Type 0

@@ -8,7 +8,7 @@ use Rattle.ib_core.specs.declared.latch_word.LatchWord.TheVariants.{Lock, Waiter
 use Rattle.ib_core.specs.declared.phase.Phase.{Phase}
 use Rattle.ib_core.specs.declared.phase.Phase.TheVariants.{Flagged}
 use Rattle.ib_core.specs.declared.event.Event.{Event}
-use Rattle.ib_core.specs.declared.event.Event.TheVariants.{Again, Arm, Exarm, Flag, Quit, Ready, Sleep}
+use Rattle.ib_core.specs.declared.event.Event.TheVariants.{Again, Arm, Exarm, Flag, Quit, Raise, Ready, Sleep}
 use Rattle.ib_core.specs.declared.session.Session.{Session}
 use Rattle.ib_core.specs.Responses.{latch_of}
 use Rattle.ib_core.specs.Sessions.{holdings}
@@ -53,7 +53,7 @@ event_at _ a n = None
 
 -- a look more, of a session that holds this on the latch
 abbrev pub looked : ℕ → ℕ → Option ℕ → ℕ → Looks → Looks
-looked l found expected held k = record { count = k.count + 1; steps = k.steps + 1; waits = k.waits; all = record { latch = l; found = found; expected = expected; at = k.steps; held = held } ∷ k.all }
+looked l found expected held k = record k { count = k.count + 1; steps = k.steps + 1; all = record { latch = l; found = found; expected = expected; at = k.steps; held = held } ∷ k.all }
 
 -- a step more on a lock word, that is no look
 abbrev pub stepped_on : Looks → Looks
@@ -63,20 +63,25 @@ stepped_on k = record k { steps = k.steps + 1 }
 abbrev pub one_wait_more : Looks → Looks
 one_wait_more k = record k { waits = k.waits + 1 }
 
--- the events of who waits, as steps on a flag or a generation. What a release owes is none of them
-abbrev pub wait_looks : Event → Looks → Looks
-wait_looks (Arm l mode v) k = one_wait_more k
-wait_looks (Flag l) k = one_wait_more k
-wait_looks (Quit l) k = one_wait_more k
-wait_looks (Sleep l) k = one_wait_more k
-wait_looks (Exarm l) k = one_wait_more k
-wait_looks e k = k
+-- a raise more, of this generation of the latch, which is this from then on
+abbrev pub one_raise_more : ℕ → LatchWord → ℕ → Looks → Looks
+one_raise_more l c now k = record k { raises = record { latch = l; word = c; now = now } ∷ k.raises }
+
+-- the events on a flag or a generation, at the word found: the steps of who waits, and the raise. What else a release owes is no more than the words that it finds ask for
+abbrev pub mark_looks : LatchWord → Event → ℕ → Looks → Looks
+mark_looks c (Arm l mode v) n k = one_wait_more k
+mark_looks c (Flag l) n k = one_wait_more k
+mark_looks c (Quit l) n k = one_wait_more k
+mark_looks c (Sleep l) n k = one_wait_more k
+mark_looks c (Exarm l) n k = one_wait_more k
+mark_looks c (Raise l) n k = one_raise_more l c (n + 1) k
+mark_looks c e n k = k
 
 -- a load of the lock word that is an event is a look all the same
 abbrev pub turn_looks : LatchWord → Event → Session → ℕ → Looks → Looks
 turn_looks Lock (Ready l) a n k = looked l n None (holdings l a) k
 turn_looks Lock e a n k = stepped_on k
-turn_looks c e a n k = wait_looks e k
+turn_looks c e a n k = mark_looks c e n k
 
 abbrev pub looks_after : StepKind → Session → ℕ → Looks → Looks
 looks_after (Turn e) a n k = turn_looks (word_for e a) e a n k

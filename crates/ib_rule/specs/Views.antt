@@ -13,6 +13,7 @@ use Rattle.ib_core.specs.Debts.{wish_of, won}
 use Rattle.ib_logrec.specs.declared.entry.Entry.{Entry}
 use Rattle.ib_rule.specs.declared.looks.Grants.{Grants}
 use Rattle.ib_rule.specs.declared.looks.Looks.{Looks}
+use Rattle.ib_rule.specs.declared.looks.Raise.{Raise}
 use Rattle.ib_rule.specs.declared.memory.Since.{Since}
 use Rattle.ib_rule.specs.declared.memory.Knowledge.{Knowledge}
 use Rattle.ib_rule.specs.declared.view.Ended.{Ended}
@@ -38,6 +39,10 @@ with_role r v = record v { role = r }
 abbrev pub with_looks : Looks → View → View
 with_looks k v = record v { looks = k }
 
+-- .. with these raises
+abbrev pub with_raises : List Raise → View → View
+with_raises rs v = with_looks (record v.looks { raises = rs }) v
+
 abbrev pub with_memory : Knowledge → View → View
 with_memory m v = record v { memory = m }
 
@@ -46,7 +51,7 @@ abbrev pub no_grants : Grants
 no_grants = record { s = 0; sx = 0; x = 0 }
 
 abbrev pub no_looks : Looks
-no_looks = record { count = 0; steps = 0; waits = 0; all = [] }
+no_looks = record { count = 0; steps = 0; waits = 0; all = []; raises = [] }
 
 abbrev pub nothing_seen : Knowledge
 nothing_seen = record { met = []; seen = []; own = []; ends = []; since = []; loaded = []; append = None }

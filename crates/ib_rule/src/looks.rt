@@ -1,5 +1,6 @@
 //! Grants, looks at lock words, and the steps of who waits.
 
+use ib_core::LatchWord;
 use std::collections::LinkedList;
 
 /// Grants by mode. A reservation of X counts as one grant of X.
@@ -33,7 +34,18 @@ pub struct Look {
     pub held: u64,
 }
 
-/// The looks of a session, and how many other steps it made.
+/// A raise of a generation of a latch: what a release owes where somebody may sleep on it.
+#[derive(Clone, Copy)]
+pub struct Raise {
+    /// The latch.
+    pub latch: u32,
+    /// Which of its two generations.
+    pub word: LatchWord,
+    /// The generation from then on.
+    pub now: u64,
+}
+
+/// The looks of a session, how many other steps it made, and its raises.
 pub struct Looks {
     /// How many there were.
     pub count: u64,
@@ -45,4 +57,6 @@ pub struct Looks {
     pub waits: u64,
     /// All looks, the last one first.
     pub all: LinkedList<Look>,
+    /// All raises, the last one first.
+    pub raises: LinkedList<Raise>,
 }

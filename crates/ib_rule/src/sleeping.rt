@@ -6,11 +6,13 @@ ghost use Rattle.ib_levels.specs.declared.level.Level.{Level};
 ghost use Rattle.ib_levels.specs.declared.level.Mode.{Mode};
 ghost use Rattle.ib_layout.specs.Places.{latches_of};
 ghost use Rattle.ib_core.specs.declared.event.Event.TheVariants.{Clear, Flag, Raise};
+ghost use Rattle.ib_core.specs.declared.latch_word.LatchWord.TheVariants.{ExGeneration, Generation};
 ghost use Rattle.ib_core.specs.declared.phase.Phase.TheVariants.{Free, OwesClear, OwesRaise, OwesRaiseEx};
 ghost use Rattle.ib_rule.specs.Pass.{IsOf, with_view};
 ghost use Rattle.ib_rule.specs.Conditions.{IsArmed, MayLoadExGen, MayLoadFlag, MayLoadGen, ex_gen_event, flag_event, gen_event};
 ghost use Rattle.ib_rule.specs.Turns.{IsInPhase, IsTurn};
 ghost use Rattle.ib_rule.specs.Afterwards.{cleared, ex_loaded, flag_loaded, flag_looks, flagged, gen_loaded, phased, with_wait};
+ghost use Rattle.ib_rule.specs.Steps.{one_raise_more};
 ghost use Rattle.ib_rule.specs.Views.{with_looks};
 
 use crate::kind::WordOp;
@@ -106,7 +108,9 @@ impl<L: Law> Space<L> {
     pub fn raise_gen(&self, pass: &mut Pass, latch: Latch) -> u64
         requires owes { IsInPhase self.now latch.0 (OwesRaise latch.0) pass.old }
         ensures turn { IsTurn (Raise latch.0) (result - 1) pass.old pass.new }
-        ensures same { pass.new ≡ with_view pass.old (phased Free pass.old.view) }
+        ensures same { pass.new ≡ with_view pass.old (with_looks
+            (one_raise_more latch.0 Generation result pass.old.view.looks)
+            (phased Free pass.old.view)) }
         ensures raised { 0 < result }
     {
         let event = Event::Raise { latch: latch.0 };
@@ -120,7 +124,9 @@ impl<L: Law> Space<L> {
     pub fn raise_ex_gen(&self, pass: &mut Pass, latch: Latch) -> u64
         requires owes { IsInPhase self.now latch.0 (OwesRaiseEx latch.0) pass.old }
         ensures turn { IsTurn (Raise latch.0) (result - 1) pass.old pass.new }
-        ensures same { pass.new ≡ with_view pass.old (phased Free pass.old.view) }
+        ensures same { pass.new ≡ with_view pass.old (with_looks
+            (one_raise_more latch.0 ExGeneration result pass.old.view.looks)
+            (phased Free pass.old.view)) }
         ensures raised { 0 < result }
     {
         let event = Event::Raise { latch: latch.0 };

@@ -116,6 +116,7 @@ pub fn leave_front<L: Law, S: Sleep>(mtr: &mut Mtr<'_, L, S>, count: usize)
         → HasFront 0 h.leaf h.image mtr.new.pass.now }
     ensures aside { IsAside mtr.old.pass.now mtr.new.pass.now }
     ensures looks { mtr.new.pass.now.view.looks.count ≡ mtr.old.pass.now.view.looks.count }
+    ensures waits { mtr.new.pass.now.view.looks.waits ≡ mtr.old.pass.now.view.looks.waits }
 {
     for _ in 0..count {
         mtr.release_at(0);

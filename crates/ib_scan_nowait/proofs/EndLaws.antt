@@ -57,7 +57,7 @@ contended_scan sizes lawful opening root low high le f out p q t h few looks is 
       to = le;
       none = λ e. refl;
       refused = refused_reader f p.view.looks q.view.looks h.refused;
-      few = record { least = few.least; most = few.most };
+      few = record { least = few.least; most = few.most; waits = few.waits };
       at = inl (record { none = refl; on_path = h.on_path; few = looks });
     })
 
@@ -68,7 +68,7 @@ module _ (sizes : Sizes) (lawful : List Entry → Type 0) (opening : ℕ → ℕ
   end = finished s
 
   pub few_all : AreFewLooks 0 q.view r.view → AreFewLooks 0 p.view end.view
-  few_all looks = few_as 0 p.view r.view end.view gave.count gave.aside.grants (few_both 0 p.view q.view r.view few looks)
+  few_all looks = few_as 0 p.view r.view end.view gave.count gave.waits gave.aside.grants (few_both 0 p.view q.view r.view few looks)
 
   pub scanned_all : HasRunToEnd sizes lawful opening root leaf low high out new q r → HasAll sizes lawful opening root low high out new p end
   scanned_all h = scanned_by sizes lawful opening roots root low high leaf out new p q r s end b gave.aside refl None h
@@ -124,7 +124,7 @@ module _ (sizes : Sizes) (lawful : List Entry → Type 0) (opening : ℕ → ℕ
         to = h.to;
         none = h.none;
         refused = refused_later S (refused_latch f) (try_of f) p.view.looks q.view.looks r.view.looks end.view.looks few.least h.refused gave.all gave.count;
-        few = few_as (looks_of f) p.view r.view end.view gave.count gave.aside.grants (few_both (looks_of f) p.view q.view r.view few h.few);
+        few = few_as (looks_of f) p.view r.view end.view gave.count gave.waits gave.aside.grants (few_both (looks_of f) p.view q.view r.view few h.few);
         at = inr (record {
           to_come = subst (λ es. IsLeafToCome (pages_after opening es) root next (refused_latch f)) (sym gave.aside.seen) h.to_come;
           spare = h.spare;

@@ -5,9 +5,9 @@ use Rattle.ib_levels.specs.declared.level.Mode.TheVariants.{S}
 use Rattle.ib_rule.specs.declared.looks.Looks.{Looks}
 use Rattle.ib_rule.specs.declared.view.View.{View}
 use Rattle.ib_rule.specs.Pass.{PassState}
-use Rattle.ib_rule.specs.Views.{total}
-use Rattle.ib_mtr.specs.Mtr.{released_to, with_work, without_all}
-use Rattle.ib_mtr.proofs.Ending.{IsKeptBy, kept_by_releases}
+use Rattle.ib_rule.specs.Views.{total, with_raises}
+use Rattle.ib_mtr.specs.Mtr.{IsReleasedTo, with_work, without_all}
+use Rattle.ib_mtr.proofs.Ending.{IsKeptBy, kept_by_releases, kept_raising}
 use Rattle.ib_mtr.proofs.NowaitCommitting.{all_looks}
 use Rattle.ib_cursor.specs.declared.fault.NowaitFault.{NowaitFault}
 use Rattle.ib_cursor.specs.declared.fault.NowaitFault.TheVariants.{Busy, Raced}
@@ -20,20 +20,21 @@ pub refused_reader : (f : NowaitFault) (a b : Looks) → WasRefused f a b → Wa
 refused_reader (Busy latch word) a b r = record { count = r.count; low = r.low; at = r.at; before = r.before; is = r.is }
 refused_reader (Raced latch word found) a b r = record { count = r.count; high = r.high; other = r.other; at = r.at; before = r.before; is = r.is }
 
--- no look more, and no grant
-pub few_as : (n : ℕ) (u v w : View) → w.looks.count ≡ v.looks.count → w.grants ≡ v.grants → AreFewLooks n u v → AreFewLooks n u w
-few_as n u v w count grants few = let g = ap total grants in let a = few.least in let b = few.most in record { least = omega arith; most = omega arith }
+-- no look more, no step of who waits, and no grant
+pub few_as : (n : ℕ) (u v w : View) → w.looks.count ≡ v.looks.count → w.looks.waits ≡ v.looks.waits → w.grants ≡ v.grants → AreFewLooks n u v → AreFewLooks n u w
+few_as n u v w count waits grants few = let g = ap total grants in let a = few.least in let b = few.most in record { least = omega arith; most = omega arith; waits = waits ∙ few.waits }
 
 -- all was given up
 pub record HasGivenAll (p q : PassState) : Type 0 where
   pub aside : IsAside p q
   pub all : q.view.looks.all ≡ p.view.looks.all
   pub count : q.view.looks.count ≡ p.view.looks.count
+  pub waits : q.view.looks.waits ≡ p.view.looks.waits
 
-pub given_all : (p q : PassState) → q ≡ released_to 0 (with_work [] p) → HasGivenAll p q
+pub given_all : (p q : PassState) → IsReleasedTo 0 (with_work [] p) q → HasGivenAll p q
 given_all p q is =
-    let view : q.view ≡ without_all p.memo p.view = ap (λ (s : PassState). s.view) is in
-    let kept : IsKeptBy p.view q.view = subst (IsKeptBy p.view) (sym view) (kept_by_releases p.memo p.view) in
+    let view : q.view ≡ with_raises q.view.looks.raises (without_all p.memo p.view) = ap (λ (s : PassState). s.view) is in
+    let kept : IsKeptBy p.view q.view = subst (IsKeptBy p.view) (sym view) (kept_raising q.view.looks.raises p.view (without_all p.memo p.view) (kept_by_releases p.memo p.view)) in
     record {
       aside = record {
         table = ap (λ (s : PassState). s.table) is;
@@ -46,6 +47,7 @@ given_all p q is =
       };
       all = ap (λ (w : View). w.looks.all) view ∙ all_looks p.memo p.view;
       count = kept.looks;
+      waits = kept.waits;
     }
 
 -- what is said of an answer follows from what was said of it

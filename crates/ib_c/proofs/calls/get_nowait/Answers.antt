@@ -13,6 +13,7 @@ returns-in-Ok-clause-looked_up c =
       rest = c.get_nowait.ensures.rest;
       looked_up = c.get_nowait.ensures.looked_up;
       contended = c.get_nowait.ensures.contended;
+      twice = c.get_nowait.ensures.twice;
       vain = c.get_nowait.ensures.vain;
       looks = c.get_nowait.ensures.looks;
     } in

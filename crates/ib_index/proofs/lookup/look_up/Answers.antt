@@ -1,10 +1,11 @@
 -- No entry first seen at the end writes the leaf.
-use Rattle.std.proofs.Common.{◌≡◌, true, subst}
+use Rattle.std.proofs.Common.{◌≡◌, ◌∙◌, true, ap, subst, arith}
 use Rattle.ib_map.proofs.KeyLaws.{rank-lt_end}
 use Rattle.ib_map.specs.Space.{has_pages}
 use Rattle.ib_layout.specs.Geometry.{Sizes}
 use Rattle.ib_logrec.specs.Log.{by_place}
 use Rattle.ib_rule.specs.Pass.{PassState}
+use Rattle.ib_rule.specs.Views.{total}
 use Rattle.ib_rule.specs.declared.view.Role.TheVariants.{Session}
 use Rattle.ib_cursor.proofs.LogLaws.{laws_under}
 use Rattle.ib_cursor.proofs.PageLaws.{has_told}
@@ -22,3 +23,8 @@ returns-clause-looked_up g c = λ p h.
 
 pub returns-clause-looks : goal.returns-clause-looks
 returns-clause-looks g c = c.commit_read-place.ensures.looks
+
+pub returns-clause-few : goal.returns-clause-few
+returns-clause-few g c = λ p few.
+    let end = c.commit_read-place.ensures in let g = ap total end.ended.grants in let l = end.looks in let a = few.least in let b = few.most in
+    record { least = omega arith; most = omega arith; waits = end.waits ∙ few.waits }

@@ -5,6 +5,7 @@ use Rattle.ib_logrec.specs.Log.{by_place}
 use Rattle.ib_rule.specs.Pass.{PassState}
 use Rattle.ib_cursor.specs.Descent.{HasFound}
 use Rattle.ib_cursor.specs.Contention.{IsContended}
+use Rattle.ib_cursor.specs.Refusals.{AreFewLooks}
 use Rattle.ib_index.specs.Lookups.{HasLookedUp}
 use Rattle.ib_index.proofs.LookupLaws.{from_start, contended_start}
 use Rattle.ib_index.proofs.nowait.get_nowait.Goals as goal
@@ -30,3 +31,9 @@ returns-in-Err-clause-contended g c =
     (subst (λ (s : PassState). IsContended sizes (g.L.Law.lawful sizes.pages) (by_place g.L.Law.opening sizes.pages) 1 c.args.key c.in-Err.fault s q) c.start-mtr.ensures.started stopped) in
     subst (IsContended sizes (g.L.Law.lawful sizes.pages) (by_place g.L.Law.opening sizes.pages) 1 c.args.key c.in-Err.fault p) (search rules)
     (subst (IsContended sizes (g.L.Law.lawful sizes.pages) (by_place g.L.Law.opening sizes.pages) 1 c.args.key c.in-Err.fault p) (sym c.finish.ensures.finished) ended)
+
+pub returns-in-Ok-clause-twice : goal.returns-in-Ok-clause-twice
+returns-in-Ok-clause-twice g c =
+    let p : PassState = c.args.pass.now in let q : PassState = c.find_nowait.new.mtr.pass.now in
+    let few : AreFewLooks 0 p.view q.view = subst (λ (s : PassState). AreFewLooks 0 s.view q.view) c.start-mtr.ensures.started c.in-Ok.ensures.twice in
+    let done : AreFewLooks 0 p.view c.look_up.new.mtr.1.0.view = c.look_up.ensures.few p few in search (rules, done)

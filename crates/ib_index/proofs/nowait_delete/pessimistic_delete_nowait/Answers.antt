@@ -116,7 +116,7 @@ pub returns-in-Ok-at_log-clause-twice : goal.returns-in-Ok-at_log-clause-twice
 returns-in-Ok-at_log-clause-twice g c =
     let p : PassState = c.args.pass.now in let q : PassState = c.try_siblings.new.mtr.pass.now in let t : PassState = c.try_space.new.mtr.pass.now in let r : PassState = c.commit_nowait.new.self.1.0 in
     let planned = c.plan_in.ensures.planned in let few = c.in-Ok.ensures.twice in let few-q : AreFewLooks 0 p.view q.view = search (rules, few) in
-    let done : AreFewLooks 0 p.view r.view = told-few c.plan_in.new.mtr.latches.now.sizes (Delete c.args.key) c.commit_nowait.result c.plan_in.new.mtr.pass.now r c.commit_nowait.ensures.committed c.commit_nowait.ensures.not_committed c.in-Ok-at_log.committed c.in-Ok-at_log.ensures.told planned.0 p t planned.1 c.commit_nowait.ensures.most (few_both 0 p.view q.view t.view few-q c.in-Ok-try_space.ensures.twice) in
+    let done : AreFewLooks 0 p.view r.view = told-few c.plan_in.new.mtr.latches.now.sizes (Delete c.args.key) c.commit_nowait.result c.plan_in.new.mtr.pass.now r c.commit_nowait.ensures.committed c.commit_nowait.ensures.not_committed c.in-Ok-at_log.committed c.in-Ok-at_log.ensures.told planned.0 p t planned.1 c.commit_nowait.ensures.most c.commit_nowait.ensures.waits (few_both 0 p.view q.view t.view few-q c.in-Ok-try_space.ensures.twice) in
     search (rules, done)
 
 pub returns-in-Err-clause-contended : goal.returns-in-Err-clause-contended

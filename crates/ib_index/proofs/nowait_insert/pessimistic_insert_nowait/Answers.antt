@@ -209,7 +209,7 @@ returns-in-Ok-at_log-clause-twice g c =
     let pass : c.needed.new.mtr.pass.now ≡ q = ap (λ m. m.now) c.needed.ensures.pass in
     let planned = c.plan_in.ensures.planned in let few = c.in-Ok.ensures.twice in let few-q : AreFewLooks 0 p.view q.view = search (rules, few) in
     let few-t : AreFewLooks 0 q.view t.view = subst (λ (v : PassState). AreFewLooks 0 v.view t.view) pass c.in-Ok-try_fresh.ensures.twice in
-    let done : AreFewLooks 0 p.view r.view = told-few c.plan_in.new.mtr.latches.now.sizes (Insert c.args.key c.args.value) c.commit_nowait.result c.plan_in.new.mtr.pass.now r c.commit_nowait.ensures.committed c.commit_nowait.ensures.not_committed c.in-Ok-at_log.committed c.in-Ok-at_log.ensures.told planned.0 p t planned.1 c.commit_nowait.ensures.most (few_both 0 p.view q.view t.view few-q few-t) in
+    let done : AreFewLooks 0 p.view r.view = told-few c.plan_in.new.mtr.latches.now.sizes (Insert c.args.key c.args.value) c.commit_nowait.result c.plan_in.new.mtr.pass.now r c.commit_nowait.ensures.committed c.commit_nowait.ensures.not_committed c.in-Ok-at_log.committed c.in-Ok-at_log.ensures.told planned.0 p t planned.1 c.commit_nowait.ensures.most c.commit_nowait.ensures.waits (few_both 0 p.view q.view t.view few-q few-t) in
     search (rules, done)
 
 pub returns-in-Err-clause-contended : goal.returns-in-Err-clause-contended

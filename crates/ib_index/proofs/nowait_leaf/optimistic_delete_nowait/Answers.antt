@@ -82,7 +82,7 @@ returns-in-Ok-at_log-clause-tried g c =
     let few = c.in-Ok.ensures.twice in
     let once : HasTriedLeafAtOnce space.sizes (IsShortFor key) key call (Some c.changed.result) p r = record {
       tried = tried space (IsShortFor key) key leaf p q has.reached call (Some c.changed.result) r left;
-      few = told-few c.take_out.new.mtr.latches.now.sizes (Delete key) c.commit_nowait.result c.take_out.new.mtr.pass.now r c.commit_nowait.ensures.committed c.commit_nowait.ensures.not_committed c.in-Ok-at_log.committed c.in-Ok-at_log.ensures.told taken.0 p q taken.1 c.commit_nowait.ensures.most (search (rules, few));
+      few = told-few c.take_out.new.mtr.latches.now.sizes (Delete key) c.commit_nowait.result c.take_out.new.mtr.pass.now r c.commit_nowait.ensures.committed c.commit_nowait.ensures.not_committed c.in-Ok-at_log.committed c.in-Ok-at_log.ensures.told taken.0 p q taken.1 c.commit_nowait.ensures.most c.commit_nowait.ensures.waits (search (rules, few));
     } in
     subst (HasTriedLeafAtOnce space.sizes (IsShortFor key) key call (Some c.changed.result) p) (search rules) once
 

@@ -80,7 +80,7 @@ returns-in-Ok-at_log-clause-tried g c =
     let few = c.in-Ok.ensures.twice in
     let once : HasTriedLeafAtOnce space.sizes (IsFullFor key) key call (Some c.changed.result) p r = record {
       tried = tried space (IsFullFor key) key leaf p q has.reached call (Some c.changed.result) r left;
-      few = told-few c.put_in.new.mtr.latches.now.sizes (Insert key c.args.value) c.commit_nowait.result c.put_in.new.mtr.pass.now r c.commit_nowait.ensures.committed c.commit_nowait.ensures.not_committed c.in-Ok-at_log.committed c.in-Ok-at_log.ensures.told put.0 p q put.1 c.commit_nowait.ensures.most (search (rules, few));
+      few = told-few c.put_in.new.mtr.latches.now.sizes (Insert key c.args.value) c.commit_nowait.result c.put_in.new.mtr.pass.now r c.commit_nowait.ensures.committed c.commit_nowait.ensures.not_committed c.in-Ok-at_log.committed c.in-Ok-at_log.ensures.told put.0 p q put.1 c.commit_nowait.ensures.most c.commit_nowait.ensures.waits (search (rules, few));
     } in
     subst (HasTriedLeafAtOnce space.sizes (IsFullFor key) key call (Some c.changed.result) p) (search rules) once
 

@@ -1,5 +1,5 @@
 -- The commit of a pass whose entry may be laid out already is that of the pass as it was.
-use Rattle.std.proofs.Common.{◌≡◌, ◌+◌, ◌≤◌, ℕ, ap, subst, sym}
+use Rattle.std.proofs.Common.{◌≡◌, ◌+◌, ◌≤◌, ◌∙◌, ℕ, ap, subst, sym}
 use Rattle.std.specs.Prelude.{OnOk}
 use Rattle.ib_logrec.specs.Log.{by_place}
 use Rattle.ib_rule.specs.Pass.{PassState}
@@ -41,3 +41,6 @@ returns-clause-looks g c =
 pub returns-clause-most : goal.returns-clause-most
 returns-clause-most g c =
     subst (λ (n : ℕ). c.commit_laid_nowait.new.pass.view.looks.count ≤ n + 2) (ap (λ (p : PassState). p.view.looks.count) c.lay_out_early-laid.ensures.same) c.commit_laid_nowait.ensures.most
+
+pub returns-clause-waits : goal.returns-clause-waits
+returns-clause-waits g c = c.commit_laid_nowait.ensures.waits ∙ ap (λ (p : PassState). p.view.looks.waits) c.lay_out_early-laid.ensures.same

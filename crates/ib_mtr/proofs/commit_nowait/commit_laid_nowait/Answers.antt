@@ -15,7 +15,7 @@ use Rattle.ib_rule.specs.Pass.{PassState, with_view}
 use Rattle.ib_rule.specs.Stores.{appending}
 use Rattle.ib_rule.specs.Space.{SpaceState}
 use Rattle.ib_latch.specs.Tries.{looks_of}
-use Rattle.ib_latch.proofs.RefusalLaws.{looks_few, refused_looks, won_looks}
+use Rattle.ib_latch.proofs.RefusalLaws.{looks_few, refused_looks, won_looks, won_waits}
 use Rattle.ib_mtr.specs.Commits.{HasCommitted, HasEnded, IsFull}
 use Rattle.ib_mtr.specs.Loads.{HasLooked}
 use Rattle.ib_mtr.specs.Mtr.{with_memo}
@@ -152,3 +152,33 @@ returns-in-Err-result-clause-most g c =
     let ended = ended_looks p3 c.give_back-2.new.self.pass.now c.finish-2.new.self.1.0 b.given e.finished in
     let all : c.finish-2.new.self.1.0.view.looks.count ≡ p.view.looks.count + 2 = ended ∙ (same ∙ (looked ∙ won)) in
     let most : c.finish-2.new.self.1.0.view.looks.count ≤ p.view.looks.count + 2 = omega arith in search rules
+
+pub returns-in-Err-clause-waits : goal.returns-in-Err-clause-waits
+returns-in-Err-clause-waits g c =
+    let p = c.args.pass.now in let p1 = c.try_x_latch.new.self.pass.now in let p2 = c.log_end.new.self.pass.now in
+    let t = c.in-Err.ensures in let l = c.log_end.ensures in let b = c.give_back.ensures in let e = c.finish.ensures in
+    let looked = ap (λ (q : PassState). q.view.looks.waits) l.looked.pass in
+    let ended = ended_waits p2 c.give_back.new.self.pass.now c.finish.new.self.1.0 b.given e.finished in
+    let all : c.finish.new.self.1.0.view.looks.waits ≡ p.view.looks.waits = ended ∙ (looked ∙ t.refused.waits) in search rules
+
+pub returns-in-Ok-result-clause-waits : goal.returns-in-Ok-result-clause-waits
+returns-in-Ok-result-clause-waits g c =
+    let p = c.args.pass.now in let p1 = c.try_x_latch.new.self.pass.now in let p2 = c.log_end-2.new.self.pass.now in let p3 = c.append_entry-result.new.self.pass.now in
+    let x = c.in-Ok.ensures in let l = c.log_end-2.ensures in let a = c.append_entry-result.ensures in let b = c.give_back-2.ensures in let e = c.finish-2.ensures in
+    let won = won_waits X 0 Log p (with_memo p.memo p1) (x.first (on-none 0 (λ h. h.sx + h.x) p.view.session.held c.requires.may.log.none)) in
+    let looked = ap (λ (q : PassState). q.view.looks.waits) l.looked.pass in
+    let ok = subst (λ (r : Result ℕ LogFull). IfOk r (λ place. p3 ≡ record (with_view p2 (appending (entry_for p2 c.args.change p2.work) p2.view)) { words = p3.words })) c.in-Ok-result.is a.ok in
+    let appended = ap (λ (q : PassState). q.view.looks.waits) ok in
+    let ended = ended_waits p3 c.give_back-2.new.self.pass.now c.finish-2.new.self.1.0 b.given e.finished in
+    let all : c.finish-2.new.self.1.0.view.looks.waits ≡ p.view.looks.waits = ended ∙ (appended ∙ (looked ∙ won)) in search rules
+
+pub returns-in-Err-result-clause-waits : goal.returns-in-Err-result-clause-waits
+returns-in-Err-result-clause-waits g c =
+    let p = c.args.pass.now in let p1 = c.try_x_latch.new.self.pass.now in let p2 = c.log_end-2.new.self.pass.now in let p3 = c.append_entry-result.new.self.pass.now in
+    let x = c.in-Ok.ensures in let l = c.log_end-2.ensures in let a = c.append_entry-result.ensures in let b = c.give_back-2.ensures in let e = c.finish-2.ensures in
+    let won = won_waits X 0 Log p (with_memo p.memo p1) (x.first (on-none 0 (λ h. h.sx + h.x) p.view.session.held c.requires.may.log.none)) in
+    let looked = ap (λ (q : PassState). q.view.looks.waits) l.looked.pass in
+    let err = subst (λ (r : Result ℕ LogFull). IfErr r (λ full. (full.used ≡ used p2.view.memory.seen) × (full.cap ≡ c.log_end-2.new.self.latches.now.sizes.log_words) × (c.log_end-2.new.self.latches.now.sizes.log_words < used p2.view.memory.seen + ENTRY_WORDS) × (p3 ≡ p2))) c.in-Err-result.is a.err in
+    let same = ap (λ (q : PassState). q.view.looks.waits) err.3 in
+    let ended = ended_waits p3 c.give_back-2.new.self.pass.now c.finish-2.new.self.1.0 b.given e.finished in
+    let all : c.finish-2.new.self.1.0.view.looks.waits ≡ p.view.looks.waits = ended ∙ (same ∙ (looked ∙ won)) in search rules

@@ -16,7 +16,7 @@ use Rattle.ib_rule.specs.Space.{SpaceState}
 use Rattle.ib_rule.specs.Views.{KnowsHeld}
 use Rattle.ib_mtr.specs.Commits.{HasEnded}
 use Rattle.ib_mtr.specs.Loads.{HasLooked}
-use Rattle.ib_mtr.specs.Mtr.{finished, released_to, with_work}
+use Rattle.ib_mtr.specs.Mtr.{IsReleasedTo, finished, with_work}
 use Rattle.ib_mtr.proofs.Committing.{committed, full, laid_after, may_append}
 use Rattle.ib_mtr.proofs.Ending.{ended_by}
 use Rattle.ib_mtr.proofs.Keeping.{may_take_more}
@@ -59,7 +59,7 @@ of_err (Ok x) so = tt
 of_err (Err e) so = so e refl
 
 -- the end, after what the append left
-ended_after : (o p q r s : PassState) → o ≡ p → q ≡ released_to 0 (with_work [] o) → r ≡ finished q → KnowsHeld r.view → r.view.session ≡ idle → o.view.memory.append ≡ None → s ≡ r
+ended_after : (o p q r s : PassState) → o ≡ p → IsReleasedTo 0 (with_work [] o) q → r ≡ finished q → KnowsHeld r.view → r.view.session ≡ idle → o.view.memory.append ≡ None → s ≡ r
     → HasEnded p p.view.grants p.view.memory.seen p.view.memory.own p.view.memory.ends s
 ended_after o p q r s is given ended known rests closed same =
     subst (λ (p : PassState). HasEnded p p.view.grants p.view.memory.seen p.view.memory.own p.view.memory.ends s) is

@@ -1,7 +1,7 @@
 -- One more of the leaves in front is given up.
 use Rattle.std.proofs.Common.{◌≡◌, ◌+◌, ◌-◌, ◌≤◌, ◌<◌, ◌∙◌, ℕ, suc, subst, arith}
 use Rattle.ib_rule.specs.Pass.{PassState}
-use Rattle.ib_cursor.proofs.GrantLaws.{released-looks}
+use Rattle.ib_cursor.proofs.GrantLaws.{released-looks, released-waits}
 use Rattle.ib_scan.specs.Steps.{HasFront}
 use Rattle.ib_scan.proofs.LeaveLaws.{may_leave, front_there, aside_both, front_step}
 use Rattle.ib_scan.proofs.walk.leave_front.Goals as goal
@@ -28,6 +28,7 @@ loop-preserved g c =
       left = λ k. (front_step n k.leaf k.image p q (subst (λ (m : ℕ). HasFront m k.leaf k.image p) e (c.loop.invariant.left k)) c.release_at.ensures.released).front;
       aside = aside_both c.args.mtr.now.pass.now p q c.loop.invariant.aside step.aside;
       looks = released-looks 0 p q c.release_at.ensures.released ∙ c.loop.invariant.looks;
+      waits = released-waits 0 p q c.release_at.ensures.released ∙ c.loop.invariant.waits;
     }
 
 pub returns-clause-left : goal.returns-clause-left

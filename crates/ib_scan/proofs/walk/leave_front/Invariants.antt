@@ -13,4 +13,5 @@ invariant-loop g l = record {
   left : (h : HasSomeFront l.count l.fn.mtr.pass.now) → HasFront (l.count - l.counter) h.leaf h.image l.mtr.pass.now;
   aside : IsAside l.fn.mtr.pass.now l.mtr.pass.now;
   looks : l.mtr.pass.now.view.looks.count ≡ l.fn.mtr.pass.now.view.looks.count;
+  waits : l.mtr.pass.now.view.looks.waits ≡ l.fn.mtr.pass.now.view.looks.waits;
 }

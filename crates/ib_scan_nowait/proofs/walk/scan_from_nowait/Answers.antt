@@ -66,7 +66,7 @@ returns-then-not-fits-clause-halted g c =
     let front = some_front sizes g.L.Trees.ROOTS (g.L.Law.lawful sizes.pages) (by_place g.L.Law.opening sizes.pages) c.facts_of_trees.ensures.laws 1 c.loop-high.start found.leaf found.passed p q at.along in
     let span = span_read sizes g.L.Trees.ROOTS (g.L.Law.lawful sizes.pages) (by_place g.L.Law.opening sizes.pages) c.facts_of_trees.ensures.laws 1 c.args.first c.loop-high.leaf c.args.low c.loop-high.start c.args.high c.args.out.now c.loop-high.out p0 p i found q at in
     let put = subst (λ (b : Bool). HasPut span b c.loop-high.out c.put-fits.new.out) c.if-not-fits.true (subst (λ (n : ℕ). HasPut (record span { place = n }) c.put-fits.result c.loop-high.out c.put-fits.new.out) c.place-place.ensures (c.put-fits.ensures at.along.last.image l.is)) in
-    let few = few_as 0 p0.view q.view r.view c.leave_front.ensures.looks c.leave_front.ensures.aside.grants (few_both 0 p0.view p.view q.view c.loop-high.invariant.few c.in-Ok.ensures.few) in
+    let few = few_as 0 p0.view q.view r.view c.leave_front.ensures.looks c.leave_front.ensures.waits c.leave_front.ensures.aside.grants (few_both 0 p0.view p.view q.view c.loop-high.invariant.few c.in-Ok.ensures.few) in
     let some : 0 < c.loop-high.out.chunk_room = (let e = c.room.ensures.chunks in let ne = c.if-room-eq0.false in omega arith) in
     subst (λ (o : HeldChunks). HasRunToFull sizes (g.L.Law.lawful sizes.pages) (by_place g.L.Law.opening sizes.pages) g.L.Trees.ROOTS 1 c.args.first c.args.low c.args.high c.loop-high.start c.args.out.now o p0 r) (sym put.0)
     (run_halted sizes g.L.Trees.ROOTS (g.L.Law.lawful sizes.pages) (by_place g.L.Law.opening sizes.pages) c.facts_of_trees.ensures.laws 1 c.args.first c.loop-high.leaf c.args.low c.loop-high.start c.args.high c.args.out.now c.loop-high.out p0 p i c.loop-high.invariant.few found q at r (c.leave_front.ensures.left front) c.leave_front.ensures.aside some put.1 (part_short at.along.last.image c.loop-high.start found.end l.tree) few)
@@ -87,7 +87,7 @@ returns-then-is_same-clause-scanned g c =
 pub returns-then-is_same-clause-few : goal.returns-then-is_same-clause-few
 returns-then-is_same-clause-few g c =
     let p0 : PassState = c.args.mtr.now.pass.now in let p : PassState = c.loop-high.mtr.pass.now in let q : PassState = c.reach_end_nowait.new.mtr.pass.now in let r : PassState = c.leave_front.new.mtr.pass.now in
-    few_as 0 p0.view q.view r.view c.leave_front.ensures.looks c.leave_front.ensures.aside.grants (few_both 0 p0.view p.view q.view c.loop-high.invariant.few c.in-Ok.ensures.few)
+    few_as 0 p0.view q.view r.view c.leave_front.ensures.looks c.leave_front.ensures.waits c.leave_front.ensures.aside.grants (few_both 0 p0.view p.view q.view c.loop-high.invariant.few c.in-Ok.ensures.few)
 
 pub unwrap-start-requires : goal.unwrap-start-requires
 unwrap-start-requires g c =
@@ -117,7 +117,7 @@ loop-high-preserved g c =
     let front = some_front sizes g.L.Trees.ROOTS (g.L.Law.lawful sizes.pages) (by_place g.L.Law.opening sizes.pages) c.facts_of_trees.ensures.laws 1 c.loop-high.start found.leaf found.passed p q at.along in
     let span = span_read sizes g.L.Trees.ROOTS (g.L.Law.lawful sizes.pages) (by_place g.L.Law.opening sizes.pages) c.facts_of_trees.ensures.laws 1 c.args.first c.loop-high.leaf c.args.low c.loop-high.start c.args.high c.args.out.now c.loop-high.out p0 p i found q at in
     let put = subst (λ (b : Bool). HasPut span b c.loop-high.out c.put-fits.new.out) c.if-not-fits.false (subst (λ (n : ℕ). HasPut (record span { place = n }) c.put-fits.result c.loop-high.out c.put-fits.new.out) c.place-place.ensures (c.put-fits.ensures at.along.last.image l.is)) in
-    let few = few_as 0 p0.view q.view r.view c.leave_front.ensures.looks c.leave_front.ensures.aside.grants (few_both 0 p0.view p.view q.view c.loop-high.invariant.few c.in-Ok.ensures.few) in
+    let few = few_as 0 p0.view q.view r.view c.leave_front.ensures.looks c.leave_front.ensures.waits c.leave_front.ensures.aside.grants (few_both 0 p0.view p.view q.view c.loop-high.invariant.few c.in-Ok.ensures.few) in
     let le = ends_within c.loop-high.start c.args.high found.end at.along.last.image at.ends in
     let ne : rank found.end ≢ rank c.args.high = λ e. (let t : c.is_same.result ≡ true = c.is_same.ensures.same.1 e in let f : c.is_same.result ≡ false = c.if-is_same.false in cc) in
     let lt : rank found.end < rank c.args.high = omega arith in

@@ -4,6 +4,7 @@ use Rattle.std.specs.Prelude.{IfSome, IsSomeAnd}
 use Rattle.std.proofs.lemmas.Option.{slice_get-get_or}
 use Rattle.ib_levels.specs.declared.latch.Latch.{Latch}
 use Rattle.ib_levels.specs.declared.level.Mode.{Mode}
+use Rattle.ib_rule.specs.Pass.{raising_as}
 use Rattle.ib_mtr.specs.Mtr.{IsUnchangedOn, released_at}
 use Rattle.ib_mtr.proofs.Grants.{grant_held}
 use Rattle.ib_mtr.proofs.Keeping.{released_is, released_mtr, unchanged_then}
@@ -34,5 +35,5 @@ returns-clause-still g c =
 pub returns-clause-released : goal.returns-clause-released
 returns-clause-released g c =
     let p = c.args.self.now.pass.now in let there = at_place c.memo.result.now p.memo c.args.at _ c.memo.ensures c.requires.at in
-    subst (λ (o : Option (Latch × Mode)). IsSomeAnd o (λ g. c.leave.new.pass ≡ released_at c.args.at g p)) (sym there)
+    subst (λ (o : Option (Latch × Mode)). IsSomeAnd o (λ g. c.leave.new.pass ≡ raising_as c.leave.new.pass (released_at c.args.at g p))) (sym there)
     (released_is p c.unlock.new.pass c.forget_at.new.self c.leave.new.pass c.args.at _ c.unlock.ensures c.forget_at.ensures.fewer c.leave.ensures)
