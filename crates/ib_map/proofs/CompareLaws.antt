@@ -1,7 +1,7 @@
 -- The order of keys is that of their pairs of words.
 use Rattle.std.proofs.Common.{◌≡◌, ℕ, ◌<◌, ◌⊎◌, ◌↔◌, true, arith, inl, inr}
 use Rattle.std.proofs.lemmas.Bool.{cases_lt, cases_eq}
-use Rattle.ib_map.specs.KeyWords.{number_of, is_key_words}
+use Rattle.ib_map.specs.KeyWords.{is_key_words}
 use Rattle.ib_map.specs.Keys.{MapKey, rank, key_in}
 use Rattle.ib_map.proofs.KeyLaws.{AreWords-from, key_second, rank-key_in}
 

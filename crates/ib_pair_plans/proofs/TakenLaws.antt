@@ -1,24 +1,13 @@
 -- Which pages are free once an insert has taken its fresh pages.
-use Rattle.std.proofs.Common.{◌≡◌, ◌≢◌, ℕ, ◌+◌, ◌<◌, ◌≤◌, ◌∙◌, [], ◌∷◌, ◌++◌, zero, suc, inl, inr, List, length, take, drop, None, refl, sym, ap, subst, arith}
-use Rattle.std.proofs.lemmas.Bool.{cases_lt, cases_eq}
+use Rattle.std.proofs.Common.{◌≡◌, ◌≢◌, ℕ, ◌+◌, ◌<◌, ◌≤◌, ◌∙◌, [], ◌∷◌, ◌++◌, zero, suc, inl, inr, List, length, take, drop, refl, sym, ap, subst, arith}
+use Rattle.std.proofs.lemmas.Bool.{cases_eq}
 use Rattle.std.proofs.lemmas.List.{length-drop}
-use Rattle.ib_map.specs.Keys.{MapKey, end_rank, rank}
-use Rattle.ib_map.specs.Pairs.{value_at}
-use Rattle.ib_heap.specs.declared.TheConstants.{MOST_RECORDS}
-use Rattle.ib_walk.specs.Full.{chosen, free_of, free_pages_from, need_of}
-use Rattle.ib_walk.specs.Pages.{PageMemory}
-use Rattle.ib_walk.specs.Search.{child_for}
-use Rattle.ib_walk.specs.Trees.{IsLawful, content_of, height_of}
+use Rattle.ib_walk.specs.Full.{chosen, free_of, free_pages_from}
 use Rattle.ib_walk.proofs.ChoiceLaws.{cond-eq, cond-ne}
 use Rattle.ib_plans.specs.Agreement.{with_bits}
-use Rattle.ib_plans.specs.Insert.{AreEnough, AreFresh, Growth, insert_below, planned_insert, split, raised}
 use Rattle.ib_plans.specs.Marks.{with_bit}
-use Rattle.ib_plans.proofs.InsertLaws.{split_long-long, split_long-short}
-use Rattle.ib_plans.proofs.InsertPlanLaws.{raise_long-long, raise_long-short}
-use Rattle.ib_plans.proofs.NeedLaws.{IsCountedWhole-need, need_of-taken}
 use Rattle.ib_plans.proofs.PageLaws.{with_bit-other, with_bit-own}
 use Rattle.ib_split.proofs.FreeLaws.{free_pages_from-same}
-use Rattle.ib_pair_plans.proofs.InsertApart.{fresh-two}
 
 -- each is above a page
 abbrev IsAbove : ℕ → List ℕ → Type 0

@@ -1,5 +1,5 @@
 -- Clocks begin at 0, and a kept entry raises each by one at most.
-use Rattle.std.proofs.Common.{◌≡◌, ◌≢◌, ℕ, zero, suc, ◌+◌, ◌≤◌, ◌∙◌, ◌⊎◌, Bool, true, false, cond, List, [], ◌∷◌, ◌++◌, length, refl, sym, ap, subst, arith, inl, inr, length-append}
+use Rattle.std.proofs.Common.{◌≡◌, ◌≢◌, ℕ, zero, suc, ◌+◌, ◌≤◌, ◌⊎◌, Bool, true, false, cond, List, [], ◌∷◌, ◌++◌, length, refl, sym, ap, subst, arith, inl, inr, length-append}
 use Rattle.ib_map.specs.Space.{has_pages}
 use Rattle.ib_page.specs.Space.{space_clock_of}
 use Rattle.ib_logrec.specs.declared.entry.Entry.{Entry}

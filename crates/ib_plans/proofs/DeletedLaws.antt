@@ -1,26 +1,26 @@
 -- The steps of a planned delete make of each page what its level says.
 use Rattle.std.specs.Option.{option_or}
 use Rattle.std.specs.Prelude.{◌&&◌, ◌||◌, ◌==◌, nat_lt, nat_le, is_some, IfSome}
-use Rattle.std.proofs.Common.{◌≡◌, ◌≢◌, ℕ, ◌+◌, ◌-◌, ◌<◌, ◌≤◌, ◌∙◌, ◌⊎◌, [], ◌∷◌, ◌++◌, zero, suc, inl, inr, Bool, true, false, cond, eqb, ltb, leb, length, Option, Some, None, refl, sym, ap, subst, arith, append_assoc}
+use Rattle.std.proofs.Common.{◌≡◌, ◌≢◌, ℕ, ◌+◌, ◌-◌, ◌<◌, ◌≤◌, ◌∙◌, ◌⊎◌, [], ◌∷◌, ◌++◌, zero, suc, inl, inr, Bool, true, false, cond, eqb, ltb, length, Option, Some, None, refl, sym, ap, subst, arith, append_assoc}
 use Rattle.std.proofs.lemmas.Bool.{cases_eq, eq-eqb, lt-ltb, ne_eqb}
 use Rattle.std.proofs.lemmas.Bool.Decides.{nat_tests}
 use Rattle.ib_map.specs.Keys.{MapKey, end_rank, rank}
 use Rattle.ib_map.specs.Pairs.{Pairs, first_rank, without}
 use Rattle.ib_heap.specs.declared.TheConstants.{MOST_RECORDS}
 use Rattle.ib_walk.specs.Pages.{Free, PageMemory, PageState, Tree}
-use Rattle.ib_walk.specs.Search.{IsPageFor, child_for, page_below}
+use Rattle.ib_walk.specs.Search.{child_for, page_below}
 use Rattle.ib_walk.specs.Trees.{IsLawful, IsTreeOf, height_of, top_of}
-use Rattle.ib_walk.specs.Walk.{IsNodeAt, IsTree, below}
+use Rattle.ib_walk.specs.Walk.{IsNodeAt, IsTree}
 use Rattle.ib_walk.proofs.ChoiceLaws.{cond-eq, cond-ne}
 use Rattle.ib_walk.proofs.SearchLaws.{AllByRecursion-at, IsPageFor-below, IsTree-below, above}
 use Rattle.ib_walk.proofs.TreeLaws.{IsPageFor-top}
 use Rattle.ib_plans.specs.declared.TheConstants.{FEWEST_RECORDS}
 use Rattle.ib_plans.specs.Changed.{PageChange, state_or, move_or_stays, bit_unless_freed, memory_with, bits_with, touched_by, moves_by}
-use Rattle.ib_plans.specs.Delete.{Shrinkage, delete_below, lift_single, lifted, merge, merge_left, merge_right, merge_short, merged, planned_delete, settled}
-use Rattle.ib_plans.specs.Deleted.{Merge, with_left, with_right, merge_of, freed_key, merge_change, behind_change, page_on, siblings_on, lost_key, left_on, merge_on, merged_below, merged_levels, in_merges, in_page_above, in_leaf_behind, unlifted_change, is_lifted, only_child, lifted_state, delete_change}
-use Rattle.ib_plans.specs.Marks.{mark, untouched, with_bit}
+use Rattle.ib_plans.specs.Delete.{Shrinkage, delete_below, lifted, merge, merge_left, merge_right, merge_short, merged, planned_delete, settled}
+use Rattle.ib_plans.specs.Deleted.{Merge, with_left, with_right, freed_key, merge_change, behind_change, page_on, siblings_on, lost_key, left_on, merge_on, merged_below, merged_levels, in_merges, in_page_above, in_leaf_behind, unlifted_change, only_child, lifted_state, delete_change}
+use Rattle.ib_plans.specs.Marks.{mark}
 use Rattle.ib_plans.specs.Merge.{Siblings, siblings_of, fit_one, first_child, freed_page, joined, lowered}
-use Rattle.ib_plans.specs.Moves.{Move, Stays, Takes, Fills, Frees, unmoved, with_move}
+use Rattle.ib_plans.specs.Moves.{Stays, Takes, Fills, Frees}
 use Rattle.ib_plans.specs.Split.{next_or, with_prev, with_records}
 use Rattle.ib_plans.proofs.MergePageLaws.{merge_pages-other}
 use Rattle.ib_plans.proofs.DeleteLaws.{IsDeletedBelow, IsDeletedBelow-path, PathAbove-delete, sibling-same}

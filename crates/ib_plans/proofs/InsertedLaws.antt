@@ -1,12 +1,12 @@
 -- The steps of a planned insert make of each page what its level says.
 use Rattle.std.specs.Option.{option_or}
 use Rattle.std.specs.Prelude.{◌&&◌, ◌||◌, is_some}
-use Rattle.std.proofs.Common.{◌≡◌, ◌≢◌, ℕ, ◌+◌, ◌-◌, ◌<◌, ◌≤◌, ◌∙◌, ◌⊎◌, [], ◌∷◌, ◌++◌, zero, suc, inl, inr, Bool, true, false, cond, eqb, ltb, List, get_or, drop, length, Option, Some, None, refl, sym, ap, subst, arith}
-use Rattle.std.proofs.lemmas.Bool.{cases_eq, cases_lt, eq-eqb, lt-ltb, ne_eqb}
+use Rattle.std.proofs.Common.{◌≡◌, ◌≢◌, ℕ, ◌+◌, ◌-◌, ◌<◌, ◌≤◌, ◌∙◌, ◌⊎◌, [], ◌∷◌, ◌++◌, zero, suc, inl, inr, true, false, cond, eqb, ltb, List, get_or, drop, length, Option, Some, None, refl, sym, ap, subst, arith}
+use Rattle.std.proofs.lemmas.Bool.{cases_eq, eq-eqb, lt-ltb, ne_eqb}
 use Rattle.ib_map.specs.Keys.{MapKey, end_rank, rank}
 use Rattle.ib_map.specs.Pairs.{put, value_at}
 use Rattle.ib_heap.specs.declared.TheConstants.{MOST_RECORDS}
-use Rattle.ib_walk.specs.Full.{full_run, is_root_full, need_of, run_of}
+use Rattle.ib_walk.specs.Full.{full_run, need_of, run_of}
 use Rattle.ib_walk.specs.Pages.{Free, PageMemory, PageState, Tree}
 use Rattle.ib_walk.specs.Search.{child_for, page_below}
 use Rattle.ib_walk.specs.Trees.{IsLawful, content_of, height_of}
@@ -14,10 +14,10 @@ use Rattle.ib_walk.proofs.ChoiceLaws.{cond-eq, cond-ne}
 use Rattle.ib_walk.proofs.SearchLaws.{above}
 use Rattle.ib_plans.specs.Changed.{PageChange, state_or, move_or_stays, memory_with, touched_by, moves_by}
 use Rattle.ib_plans.specs.Deleted.{page_on}
-use Rattle.ib_plans.specs.Insert.{AreFresh, Growth, first_fresh, insert_below, other_fresh, planned_insert, put_at, raise_long, raised, split, split_long}
-use Rattle.ib_plans.specs.Inserted.{fresh_on, coming_to, with_coming, split_change, in_splits, in_page_above, in_leaf_behind, unraised_change, raise_change, insert_change}
-use Rattle.ib_plans.specs.Marks.{mark, untouched, with_bit}
-use Rattle.ib_plans.specs.Moves.{Move, Stays, Puts, Fills, unmoved, with_move}
+use Rattle.ib_plans.specs.Insert.{AreFresh, Growth, first_fresh, insert_below, other_fresh, planned_insert, raised, split, split_long}
+use Rattle.ib_plans.specs.Inserted.{fresh_on, coming_to, with_coming, in_splits, in_page_above, in_leaf_behind, unraised_change, raise_change, insert_change}
+use Rattle.ib_plans.specs.Marks.{mark, with_bit}
+use Rattle.ib_plans.specs.Moves.{Stays, Puts, Fills, with_move}
 use Rattle.ib_plans.specs.Split.{first_key, lower_half, next_or, raise_page, raised_left, raised_right, raised_root, right_part, split_page, upper_half, with_prev, with_records}
 use Rattle.ib_plans.proofs.DeletedLaws.{mark-more, mark-own, or-true, and-false, path-child, path-level, path-kind, path-some, tall-at}
 use Rattle.ib_plans.proofs.InsertLaws.{IsInsertedBelow, PathAbove-insert, split_long-long, split_long-short}

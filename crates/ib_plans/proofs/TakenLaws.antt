@@ -12,7 +12,7 @@ use Rattle.ib_plans.specs.Agreement.{with_bits}
 use Rattle.ib_plans.specs.Insert.{AreEnough, AreFresh, Growth, insert_below, planned_insert, split, raised}
 use Rattle.ib_plans.proofs.InsertLaws.{split_long-long, split_long-short}
 use Rattle.ib_plans.proofs.InsertPlanLaws.{raise_long-long, raise_long-short}
-use Rattle.ib_plans.proofs.NeedLaws.{IsCountedWhole, IsCountedWhole-need, need_of-taken, run-le}
+use Rattle.ib_plans.proofs.NeedLaws.{IsCountedWhole-need, need_of-taken, run-le}
 
 -- the bits with all fresh pages taken, those that are left with them
 abbrev all_taken : Growth → ℕ → ℕ

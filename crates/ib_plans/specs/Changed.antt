@@ -1,5 +1,5 @@
 -- What a plan makes of each page.
-use Rattle.std.specs.Prelude.{ℕ, Bool, true, false, ◌||◌, ◌&&◌, ◌==◌, Option, Some, None, is_some}
+use Rattle.std.specs.Prelude.{ℕ, Bool, ◌||◌, ◌&&◌, ◌==◌, Option, Some, None, is_some}
 use Rattle.ib_walk.specs.Pages.{PageState, PageMemory}
 use Rattle.ib_plans.specs.Moves.{Move, Stays, Puts, Takes, Fills, Frees}
 

@@ -1,6 +1,6 @@
 -- What a delete makes of each page, by its level. The merges go up from the key's leaf: a page of the path that lost a record and has
 -- few is merged with a page beside it, so that the page above loses one; at last a root that is left with one child takes its records.
-use Rattle.std.specs.Prelude.{ℕ, zero, suc, ◌+◌, ◌-◌, Bool, ◌&&◌, ◌||◌, length, ◌==◌, nat_lt, nat_le, Option, Some, None, is_some, if◌then◌else◌}
+use Rattle.std.specs.Prelude.{ℕ, zero, suc, ◌+◌, ◌-◌, Bool, ◌&&◌, length, ◌==◌, nat_lt, nat_le, Option, Some, None, is_some, if◌then◌else◌}
 use Rattle.std.specs.Option.{option_or}
 use Rattle.ib_map.specs.Keys.{MapKey, least}
 use Rattle.ib_map.specs.Pairs.{Pairs, without}
@@ -9,7 +9,7 @@ use Rattle.ib_plans.specs.declared.TheConstants.{FEWEST_RECORDS}
 use Rattle.ib_walk.specs.Pages.{PageState, PageMemory}
 use Rattle.ib_walk.specs.Trees.{height_of}
 use Rattle.ib_walk.specs.Search.{page_below}
-use Rattle.ib_plans.specs.Moves.{Move, Stays, Takes, Fills, Frees}
+use Rattle.ib_plans.specs.Moves.{Stays, Takes, Fills, Frees}
 use Rattle.ib_plans.specs.Split.{with_records, with_prev, next_or}
 use Rattle.ib_plans.specs.Merge.{Siblings, siblings_of, freed_page, joined, first_child, lowered}
 use Rattle.ib_plans.specs.Changed.{PageChange, state_or}

@@ -1,7 +1,7 @@
 -- What an insert makes of each page, by its level. From the key's leaf up, each full page of the path is split: of its 36 records with
 -- the new one it keeps the first 18, and the fresh page of its level has the others. The first page that is not full gets one record,
 -- and a root that is full is raised.
-use Rattle.std.specs.Prelude.{ℕ, zero, suc, ◌-◌, Bool, ◌==◌, List, slice_index, Option, Some, None, is_some, if◌then◌else◌}
+use Rattle.std.specs.Prelude.{ℕ, zero, suc, ◌==◌, List, slice_index, Option, Some, None, if◌then◌else◌}
 use Rattle.std.specs.Option.{option_or}
 use Rattle.ib_map.specs.Keys.{MapKey}
 use Rattle.ib_map.specs.Pairs.{put}

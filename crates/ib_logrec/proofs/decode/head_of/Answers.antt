@@ -1,5 +1,5 @@
 -- Behind a head that is spelled the words of its writes are all there, or too few.
-use Rattle.std.proofs.Common.{◌≡◌, ◌+◌, ◌-◌, ◌*◌, length, drop, arith}
+use Rattle.std.proofs.Common.{arith}
 use Rattle.std.proofs.lemmas.List.{length-drop}
 use Rattle.ib_logrec.specs.declared.entry.TheConstants.{HEAD_WORDS}
 use Rattle.ib_logrec.proofs.HeadLaws.{no_fault-HeadIsRight, right-spelled, short-spelled}

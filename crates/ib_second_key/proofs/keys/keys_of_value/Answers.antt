@@ -1,5 +1,5 @@
 -- The eight bytes of the value, and seven bytes 255 behind them.
-use Rattle.std.proofs.Common.{◌≡◌, ◌∙◌, ap, sym, List, ℕ, ◌++◌, get_or, ◌∷◌}
+use Rattle.std.proofs.Common.{◌∙◌, ap, sym, List, ℕ, get_or, ◌∷◌}
 use Rattle.std.specs.Prelude.{replicate}
 use Rattle.ib_map.specs.KeyBytes.{key_of_bytes}
 use Rattle.ib_map.proofs.ByteLaws.{bytes-injective}

@@ -1,5 +1,5 @@
 -- The bytes behind the first eight.
-use Rattle.std.proofs.Common.{◌≡◌, ◌∙◌, ap}
+use Rattle.std.proofs.Common.{◌∙◌, ap}
 use Rattle.ib_map.specs.KeyBytes.{bytes_of}
 use Rattle.ib_second_key.proofs.PlacedLaws.{bytes-primary, placed-primary}
 use Rattle.ib_second_key.proofs.keys.primary_key.Goals as goal

@@ -1,5 +1,5 @@
 -- The bytes of the value, and those of the key behind them.
-use Rattle.std.proofs.Common.{◌≡◌, ◌∙◌, ap}
+use Rattle.std.proofs.Common.{◌∙◌, ap}
 use Rattle.ib_map.specs.KeyBytes.{bytes_of}
 use Rattle.ib_second_key.proofs.PlacedLaws.{placed-second}
 use Rattle.ib_second_key.proofs.SecondKeyLaws.{bytes-second}

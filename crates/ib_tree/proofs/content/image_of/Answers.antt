@@ -1,4 +1,3 @@
-use Rattle.std.proofs.Common.{◌∙◌, sym, ap}
 use Rattle.ib_validate.proofs.MemoryLaws.{memory_of-page}
 use Rattle.ib_tree.proofs.content.image_of.Goals as goal
 

@@ -1,4 +1,4 @@
-use Rattle.std.proofs.Common.{◌∙◌, sym, subst, arith, get_or, false}
+use Rattle.std.proofs.Common.{sym, subst, arith, get_or, false}
 use Rattle.std.specs.Prelude.{◌↔◌, ◌≡◌, true, Bool}
 use Rattle.ib_page.specs.Image.{IsFormed}
 use Rattle.ib_page.specs.Memory.{image_at}

@@ -1,5 +1,5 @@
 -- The words of an entry's head are read as that head.
-use Rattle.std.proofs.Common.{Some, ap, ◌∙◌, sym}
+use Rattle.std.proofs.Common.{Some, ap, ◌∙◌}
 use Rattle.ib_logrec.specs.declared.head.Head.{Head}
 use Rattle.ib_logrec.specs.Heads.{head_in, head_of}
 use Rattle.ib_logrec.specs.Grammar.{spells_head}
