@@ -6,13 +6,14 @@ ghost use Rattle.ib_levels.specs.declared.level.Mode.TheVariants.{Sx as ModeSx, 
 ghost use Rattle.ib_levels.specs.Holding.{without_latch};
 ghost use Rattle.ib_layout.specs.Places.{latches_of};
 ghost use Rattle.ib_core.specs.declared.phase.Phase.TheVariants.{Free, OwesClear, OwesLook, OwesRaise};
+ghost use Rattle.ib_core.specs.declared.event.Event.TheVariants.{Clear, Look};
 ghost use Rattle.ib_core.specs.Sessions.{reads, sx_grants, x_grants};
 ghost use Rattle.ib_core.specs.Takings.{given_back};
 ghost use Rattle.ib_rule.specs.Afterwards.{phased};
 ghost use Rattle.ib_rule.specs.Pass.{IsOf, with_view};
 ghost use Rattle.ib_rule.specs.Turns.{IsInPhase};
 ghost use Rattle.ib_latch.specs.Unlocks.{IsPaidOff, IsReleased, sx_steps};
-ghost use Rattle.ib_c.specs.Unlocks.{HasReleasedS, HasReleasedSx, HasReleasedX, IsRefusedRelease, TellsRaise, told_raise};
+ghost use Rattle.ib_c.specs.Unlocks.{HasReleasedS, HasReleasedSx, HasReleasedX, IsPaid, IsRefusedRelease, IsSRaise, IsSxRaise, IsTurnBy, IsXRaise, TellsRaise, told_raise};
 
 use crate::status::Status;
 use crate::table::Table;
@@ -107,7 +108,8 @@ fn give_s(table: &Table, pass: &mut Pass, latch: Latch) -> Raise
     ensures own { IsOf table.now pass.new }
     ensures released { IsReleased 1 latch.0 (without_latch latch.0 pass.old.view.session.held)
         pass.old pass.new }
-    ensures raised { TellsRaise latch.0 pass.old result pass.new }
+    ensures raised { IsSRaise latch.0 pass.old result pass.new }
+    ensures told { TellsRaise latch.0 pass.old result pass.new }
 {
     let space = table.latches().space();
     let word = space.give_s(pass, latch);
@@ -139,7 +141,8 @@ fn give_sx(table: &Table, pass: &mut Pass, latch: Latch) -> Raise
     ensures own { IsOf table.now pass.new }
     ensures released { IsReleased (sx_steps latch.0 pass.old.view.session) latch.0
         (given_back ModeSx latch.0 pass.old.view.session) pass.old pass.new }
-    ensures raised { TellsRaise latch.0 pass.old result pass.new }
+    ensures raised { IsSxRaise latch.0 pass.old result pass.new }
+    ensures told { TellsRaise latch.0 pass.old result pass.new }
 {
     let space = table.latches().space();
     let counts = pass.counts(latch);
@@ -175,7 +178,8 @@ fn give_x(table: &Table, pass: &mut Pass, latch: Latch) -> Raise
     ensures own { IsOf table.now pass.new }
     ensures released { IsReleased 1 latch.0 (given_back ModeX latch.0 pass.old.view.session)
         pass.old pass.new }
-    ensures raised { TellsRaise latch.0 pass.old result pass.new }
+    ensures raised { IsXRaise latch.0 pass.old result pass.new }
+    ensures told { TellsRaise latch.0 pass.old result pass.new }
 {
     let space = table.latches().space();
     if pass.counts(latch).x > 1 {
@@ -191,8 +195,9 @@ fn give_x(table: &Table, pass: &mut Pass, latch: Latch) -> Raise
 fn pay(table: &Table, pass: &mut Pass, latch: Latch) -> Raise
     requires owes { IsInPhase table.now latch.0 (OwesLook latch.0) pass.old }
     ensures own { IsOf table.now pass.new }
-    ensures paid { IsPaidOff latch.0 pass.old pass.new }
-    ensures raised { TellsRaise latch.0 pass.old result pass.new }
+    ensures rest { IsPaidOff latch.0 pass.old pass.new }
+    ensures paid { IsPaid latch.0 pass.old result pass.new }
+    ensures told { TellsRaise latch.0 pass.old result pass.new }
 {
     if !look(table, pass, latch) {
         return Raise::Nothing;
@@ -209,6 +214,7 @@ fn pay(table: &Table, pass: &mut Pass, latch: Latch) -> Raise
 // The look at the waiters flag: whether it is set.
 fn look(table: &Table, pass: &mut Pass, latch: Latch) -> bool
     requires owes { IsInPhase table.now latch.0 (OwesLook latch.0) pass.old }
+    ensures looked { IsTurnBy (Look latch.0) result pass.old pass.new }
     ensures same { pass.new ≡ with_view pass.old
         (phased (if result then OwesClear latch.0 else Free) pass.old.view) }
 {
@@ -219,6 +225,7 @@ fn look(table: &Table, pass: &mut Pass, latch: Latch) -> bool
 // The clearing of the waiters flag: whether it was set.
 fn clear(table: &Table, pass: &mut Pass, latch: Latch) -> bool
     requires owes { IsInPhase table.now latch.0 (OwesClear latch.0) pass.old }
+    ensures cleared { IsTurnBy (Clear latch.0) result pass.old pass.new }
     ensures same { pass.new ≡ with_view pass.old
         (phased (if result then OwesRaise latch.0 else Free) pass.old.view) }
 {

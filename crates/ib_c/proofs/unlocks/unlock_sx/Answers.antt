@@ -11,4 +11,4 @@ returns-in-Err-clause-released c =
 pub returns-in-Ok-clause-released : goal.returns-in-Ok-clause-released
 returns-in-Ok-clause-released c =
     let some = subst (λ (n : ℕ). 0 < n) c.counts-count.ensures.sx c.in-Ok.ensures.ok.2 in
-    (Ok c.give_sx.result, c.told_raise-in-Ok.ensures, (c.in-Ok.ensures.ok.0, c.in-Ok.ensures.ok.1, some, c.give_sx.ensures.released, c.give_sx.ensures.raised))
+    (Ok c.give_sx.result, c.told_raise-in-Ok.ensures, (c.in-Ok.ensures.ok.0, c.in-Ok.ensures.ok.1, some, c.give_sx.ensures.released, c.give_sx.ensures.raised, c.give_sx.ensures.told))

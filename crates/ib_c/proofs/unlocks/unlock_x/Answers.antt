@@ -11,4 +11,4 @@ returns-in-Err-clause-released c =
 pub returns-in-Ok-clause-released : goal.returns-in-Ok-clause-released
 returns-in-Ok-clause-released c =
     let some = subst (λ (n : ℕ). 0 < n) c.counts-count.ensures.x c.in-Ok.ensures.ok.2 in
-    (Ok c.give_x.result, c.told_raise-in-Ok.ensures, (c.in-Ok.ensures.ok.0, c.in-Ok.ensures.ok.1, some, c.give_x.ensures.released, c.give_x.ensures.raised))
+    (Ok c.give_x.result, c.told_raise-in-Ok.ensures, (c.in-Ok.ensures.ok.0, c.in-Ok.ensures.ok.1, some, c.give_x.ensures.released, c.give_x.ensures.raised, c.give_x.ensures.told))
