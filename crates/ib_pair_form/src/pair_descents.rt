@@ -1,6 +1,7 @@
 //! Calls on a pair of trees that reach their leaves by descents.
 
 ghost use Rattle.std.specs.Prelude.{false};
+ghost use Rattle.ib_pair_form.specs.PairCalls.{most_pair_grants};
 
 use crate::shared_pair::SharedPair;
 use ib_map::{Key, OutOfMemory, Record};
@@ -18,6 +19,8 @@ impl Access<SharedPair> for PairDescents {
     type Seat = ();
 
     ghost guesses = { false };
+
+    ghost most = { most_pair_grants };
 
     ghost serves = { λ _ _. Unit {0} };
 

@@ -18,6 +18,10 @@ takes_one guesses call p q most least = record {
   least = λ read. let all = sum_by-cons (least_grants guesses) call [] in let a = least read.0 in omega arith;
 }
 
+-- .. are within their most
+pub within_one : (guesses : Bool) (call : Call) (p q : PassState) → TakesGrants guesses (call ∷ []) p q → total q.view.grants ≤ total p.view.grants + most_grants guesses call
+within_one guesses call p q one = let all = sum_by-cons (most_grants guesses) call [] in let most = one.most in omega arith
+
 -- what the calls of a session may take
 most-grants : (guesses : Bool) (calls : List Call) → sum_by (most_grants guesses) calls ≤ 129 * length calls + most_scan_grants * scan_count calls
 most-grants guesses [] = omega arith

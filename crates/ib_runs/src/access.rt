@@ -1,6 +1,7 @@
 //! How a session's calls reach the leaf of their key.
 
 ghost use Rattle.ib_map.specs.Space.{has_pages};
+ghost use Rattle.ib_map.specs.declared.call.Call.{Call};
 ghost use Rattle.ib_map.specs.declared.call.Call.TheVariants.{Delete as DeleteCall, Get as GetCall, Insert as InsertCall};
 ghost use Rattle.ib_runs.specs.Access.{HasAccessed, MayAccess};
 ghost use Rattle.ib_runs.specs.Shared.{calls_under};
@@ -21,6 +22,9 @@ pub trait Access<S: Shared>: Drop {
 
     // whether a call goes by a guess first
     ghost guesses: { Bool };
+
+    // the most grants that each call takes
+    ghost most: { Call → ℕ };
 
     // it is for spaces of so many pages
     ghost serves: { Self → ℕ → Type 0 };
@@ -60,7 +64,7 @@ pub trait Access<S: Shared>: Drop {
         key: Key,
     ) -> Record
         requires { MayAccess (S.takes (GetCall key)) (sits self.now seat.old) (serves self.now (S.space shared.now).sizes.pages) (S.space shared.now) pass.old }
-        ensures { HasAccessed (calls_under S.law) guesses (sits self.now seat.new) (S.space shared.now) (GetCall key) result pass.old pass.new };
+        ensures { HasAccessed (calls_under S.law) guesses most (sits self.now seat.new) (S.space shared.now) (GetCall key) result pass.old pass.new };
 
     /// Puts a pair in: `Inserted`, or why it was not.
     fn insert<R: Wait>(
@@ -73,7 +77,7 @@ pub trait Access<S: Shared>: Drop {
         value: u64,
     ) -> Record
         requires { MayAccess (S.takes (InsertCall key value)) (sits self.now seat.old) (serves self.now (S.space shared.now).sizes.pages) (S.space shared.now) pass.old }
-        ensures { HasAccessed (calls_under S.law) guesses (sits self.now seat.new) (S.space shared.now) (InsertCall key value) result pass.old pass.new };
+        ensures { HasAccessed (calls_under S.law) guesses most (sits self.now seat.new) (S.space shared.now) (InsertCall key value) result pass.old pass.new };
 
     /// Takes a key out: `Deleted` with its value, or why it was not.
     fn delete<R: Wait>(
@@ -85,5 +89,5 @@ pub trait Access<S: Shared>: Drop {
         key: Key,
     ) -> Record
         requires { MayAccess (S.takes (DeleteCall key)) (sits self.now seat.old) (serves self.now (S.space shared.now).sizes.pages) (S.space shared.now) pass.old }
-        ensures { HasAccessed (calls_under S.law) guesses (sits self.now seat.new) (S.space shared.now) (DeleteCall key) result pass.old pass.new };
+        ensures { HasAccessed (calls_under S.law) guesses most (sits self.now seat.new) (S.space shared.now) (DeleteCall key) result pass.old pass.new };
 }

@@ -1,6 +1,7 @@
 //! Calls that reach their leaf by a descent.
 
 ghost use Rattle.std.specs.Prelude.{ℕ, false};
+ghost use Rattle.ib_runs.specs.Sessions.{most_grants};
 
 use crate::access::Access;
 use ib_index::Index;
@@ -18,6 +19,8 @@ impl Access<Index> for Descents {
     type Seat = ();
 
     ghost guesses = { false };
+
+    ghost most = { most_grants false };
 
     ghost serves = { λ _ _. Unit {0} };
 

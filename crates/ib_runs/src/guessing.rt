@@ -2,6 +2,7 @@
 
 ghost use Rattle.std.specs.Prelude.{◌≡◌, ℕ, true};
 ghost use Rattle.ib_hash.specs.Guesses.{IsPassOf};
+ghost use Rattle.ib_runs.specs.Sessions.{most_grants};
 
 use crate::access::Access;
 use ib_hash::{GuessPass, Guesses, get, try_delete, try_insert};
@@ -17,6 +18,8 @@ impl Access<Index> for Guesses {
     type Seat = GuessPass;
 
     ghost guesses = { true };
+
+    ghost most = { most_grants true };
 
     ghost serves = { λ guesses pages. guesses.pages ≡ pages };
 

@@ -9,5 +9,5 @@ delete-requires-clause-may g c = record { rest = c.requires.rest; room = let roo
 
 pub returns : goal.returns
 returns g c =
-    let few = c.delete.ensures.grants in
-    record { seat = tt; rest = c.delete.ensures.rest; called = c.delete.ensures.called; takes = takes_one false (Delete c.args.key) c.args.pass.now c.delete.new.pass (omega arith) (λ read. absurd cc) }
+    let few = c.delete.ensures.grants in let claims = few.claims in let all = few.all in
+    record { seat = tt; rest = c.delete.ensures.rest; called = c.delete.ensures.called; takes = takes_one false (Delete c.args.key) c.args.pass.now c.delete.new.pass (omega arith) (λ read. absurd cc); within = omega arith; modes = record { reads = λ read. absurd cc; claims = omega arith } }

@@ -11,4 +11,4 @@ pub returns : goal.returns
 returns g c =
     let h = c.get.ensures.looked_up in
     let least = h.least in let most = h.most in let sx = h.sx in let x = h.x in
-    record { seat = tt; rest = c.get.ensures.rest; called = h.called; takes = takes_one false (Get c.args.key) c.args.pass.now c.get.new.pass (omega arith) (λ read. omega arith) }
+    record { seat = tt; rest = c.get.ensures.rest; called = h.called; takes = takes_one false (Get c.args.key) c.args.pass.now c.get.new.pass (omega arith) (λ read. omega arith); within = omega arith; modes = record { reads = λ read. (sx, x); claims = omega arith } }

@@ -9,5 +9,5 @@ insert-requires-clause-may g c = record { rest = c.requires.rest; room = let roo
 
 pub returns : goal.returns
 returns g c =
-    let few = c.insert.ensures.grants in
-    record { seat = tt; rest = c.insert.ensures.rest; called = c.insert.ensures.called; takes = takes_one false (Insert c.args.key c.args.value) c.args.pass.now c.insert.new.pass (omega arith) (λ read. absurd cc) }
+    let few = c.insert.ensures.grants in let claims = few.claims in let all = few.all in
+    record { seat = tt; rest = c.insert.ensures.rest; called = c.insert.ensures.called; takes = takes_one false (Insert c.args.key c.args.value) c.args.pass.now c.insert.new.pass (omega arith) (λ read. absurd cc); within = omega arith; modes = record { reads = λ read. absurd cc; claims = omega arith } }
