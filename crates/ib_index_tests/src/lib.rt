@@ -20,11 +20,7 @@ mod positions;
 #[cfg(test)]
 mod rows;
 #[cfg(test)]
-mod runs;
-#[cfg(test)]
 mod scans;
-#[cfg(test)]
-mod scripts;
 #[cfg(test)]
 mod space;
 #[cfg(test)]

@@ -14,11 +14,6 @@ use std::alloc::Global;
 use std::process::Abort;
 use std::sync::Wait;
 
-// The key of these bytes.
-pub(crate) fn key(rt: &impl Abort, bytes: &[u8]) -> Key {
-    Key::from_bytes(bytes).expect(rt, "it is a key")
-}
-
 // An index on 16 pages, with a log of so many words.
 pub(crate) fn open(rt: &impl Abort, alloc: Global, log_words: u32) -> Index
     ensures { result.sizes.pages ≡ 16 }

@@ -1,6 +1,6 @@
 //! Scripts read, and the first bad line of each kind.
 
-use crate::space::key;
+use crate::key::key;
 use ib_io::{LineKind, ScriptFault};
 use ib_map::{Call, Key};
 use ib_script::{Load, PlainLines, generate, read_script};

@@ -5,7 +5,7 @@ ghost use Rattle.ib_rule.specs.Pass.{IsAtRest};
 ghost use Rattle.ib_rule.specs.Views.{nothing_seen, no_grants};
 ghost use Rattle.ib_script.specs.Script.{IsSmall};
 
-use crate::space::key;
+use crate::key::key;
 use ib_hash::Guesses;
 use ib_index::{Index, SharedSpace};
 use ib_layout::Geometry;
